@@ -1,0 +1,4 @@
+pub mod Clock
+pub mod Counts
+pub mod Sink
+pub mod Site

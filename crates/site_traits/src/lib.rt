@@ -1,0 +1,10 @@
+//! The outside as the manager sees it: six traits, each with what an object of its kind tells and how often it failed.
+#![tactic(auto)]
+
+mod clock;
+mod sink;
+mod site;
+
+pub use clock::Clock;
+pub use sink::{Sink, SinkFailed};
+pub use site::{DiskFailed, Site};
