@@ -2,9 +2,15 @@
 #![tactic(auto)]
 
 mod clock;
+mod courier;
+mod heard;
+mod orchestrator;
 mod sink;
 mod site;
 
 pub use clock::Clock;
+pub use courier::{Courier, PostAnswer};
+pub use heard::{HEARD_MAX, Heard};
+pub use orchestrator::{Call, Orchestrator};
 pub use sink::{Sink, SinkFailed};
 pub use site::{DiskFailed, Site};
