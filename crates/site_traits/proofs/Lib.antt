@@ -1,3 +1,4 @@
+pub mod ClockLemmas
 pub mod DiskLemmas
 pub mod LogLemmas
 pub mod Moments

@@ -1,5 +1,5 @@
 // A record of calls, each with its bytes, for the objects in memory. All its room is taken when it is made.
-ghost use Rattle.std.specs.Prelude.{◌≡◌, ◌≤◌, ◌++◌, ◌∷◌, [], List, ℕ, IsTrue, IfOk, true, false, length};
+ghost use Rattle.std.specs.Prelude.{◌≡◌, ◌≤◌, ◌<◌, ◌++◌, get_or, ◌∷◌, [], List, ℕ, IsTrue, IfOk, true, false, length};
 
 use std::alloc::{AllocError, Global};
 use std::marker::Model;
@@ -47,6 +47,30 @@ impl<T: Copy + Drop> Log<T> {
         let entries = Vec::with_capacity(alloc, calls)?;
         let bytes = Vec::with_capacity(alloc, bytes)?;
         Ok(Log { entries, bytes })
+    }
+
+    /// How many calls are on record.
+    pub fn len(&self) -> usize
+        ensures { result ≡ length self.now }
+    {
+        self.entries.len()
+    }
+
+    /// What call number k was, from 0.
+    pub fn what(&self, k: usize) -> T
+        requires { k < length self.now }
+        ensures { result ≡ (get_or self.now k (result, [])).0 }
+    {
+        self.entries[k].what
+    }
+
+    /// The bytes of call number k, from 0.
+    pub fn bytes_of(&self, k: usize) -> &[u8]
+        requires { k < length self.now }
+        ensures { (what : T) → result.now ≡ (get_or self.now k (what, [])).1 }
+    {
+        let entry = self.entries[k];
+        &self.bytes[entry.from..entry.from + entry.len]
     }
 
     /// Puts a call with these bytes, first and second, on record where there is room for it; else nothing changes.

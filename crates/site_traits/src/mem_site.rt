@@ -1,5 +1,5 @@
 // A site in memory, which tells all.
-ghost use Rattle.std.specs.Prelude.{◌≡◌, ◌≤◌, ◌+◌, ℕ, List, [], map, length, take, drop, IsTrue, IfOk, true, false, vec_capacity};
+ghost use Rattle.std.specs.Prelude.{◌≡◌, ◌≤◌, ◌<◌, ◌+◌, ℕ, List, [], map, get_or, length, take, drop, IsTrue, IfOk, true, false, vec_capacity};
 ghost use Rattle.site_traits.specs.Counts.{Rose};
 ghost use Rattle.site_traits.specs.Disk.{change_of, disk, overlaid, told, stopped_image};
 
@@ -96,6 +96,39 @@ impl MemSite {
             faults: 0,
             log,
         })
+    }
+}
+
+impl MemSite {
+    ghost use Rattle.site_traits.specs.MemSite.{image_of};
+
+    /// The file, as a read gives it.
+    pub fn file(&self) -> &[u8]
+        ensures { result.now ≡ image_of self.now }
+    {
+        &self.file
+    }
+
+    /// How many calls are on record. It is the moment that the site tells.
+    pub fn moment(&self) -> usize
+        ensures { result ≡ length self.now.log }
+    {
+        self.log.len()
+    }
+
+    /// Call number k on record, from 0.
+    pub fn call(&self, k: usize) -> DiskCall
+        requires { k < length self.now.log }
+        ensures { result ≡ (get_or self.now.log k (result, [])).0 }
+    {
+        self.log.what(k)
+    }
+
+    /// How many disk calls failed.
+    pub fn faults(&self) -> u64
+        ensures { result ≡ self.now.faults }
+    {
+        self.faults
     }
 }
 
