@@ -5,3 +5,4 @@ pub mod HeadLemmas
 pub mod HeaderLemmas
 pub mod Records
 pub mod LoadLemmas
+pub mod CreateLemmas

@@ -1,3 +1,4 @@
+pub mod Create
 pub mod File
 pub mod Head
 pub mod Header

@@ -1,0 +1,40 @@
+use Rattle.std.proofs.Common.{◌∙◌, refl, ap, subst, Ok, Err}
+use Rattle.std.proofs.lemmas.Result.{err_from_is_err_and, IfOk-from_err}
+use Rattle.std.specs.Prelude.{Option, []}
+use Rattle.journal_core.specs.declared.create.Stage.{Stage}
+use Rattle.journal_core.specs.Create.{FoundIs, StandsSo}
+use Rattle.journal_core.specs.File.{HasRecords}
+use Rattle.journal_core.proofs.CreateLemmas.{creates_not, creates_taken, creates_steps, not_taken, ok_not_taken}
+use Rattle.journal_core.proofs.journal.Journal.create.Goals as goal
+
+pub returns-in_err-stage-clause-told : goal.returns-in_err-stage-clause-told
+returns-in_err-stage-clause-told g c = λ tells.
+    let err = err_from_is_err_and c.from_residual.result c.from_residual.ensures.1 in
+    creates_not c.args.manager c.from_residual.result (g.S.Site.state c.args.site.now) (g.S.Site.state c.stage_of.new.site) (err.1 ∙ ap Err err.2) (c.stage_of.ensures.told tells)
+
+pub returns-in_default-clause-told : goal.returns-in_default-clause-told
+returns-in_default-clause-told g c = λ tells.
+    let b = g.S.Site.state c.stage_of.new.site in
+    let P : Option Stage → Type 0 = λ v. StandsSo (FoundIs c.args.manager v) b in
+    creates_taken c.args.manager (g.S.Site.state c.args.site.now) b (c.stage_of.ensures.told tells) (subst P c.in_default.is (c.in_ok-stage.ensures.stage tells)).file
+
+pub returns-in_err-proceed-clause-told : goal.returns-in_err-proceed-clause-told
+returns-in_err-proceed-clause-told g c = λ tells.
+    let m = c.args.manager in
+    let r = c.from_residual-in_err-proceed.result in
+    let b = g.S.Site.state c.stage_of.new.site in
+    let d = g.S.Site.state c.proceed.new.site in
+    let P : Option Stage → Type 0 = λ v. StandsSo (FoundIs m v) b in
+    let err = err_from_is_err_and r c.from_residual-in_err-proceed.ensures.1 in
+    creates_steps m c.in-Some.stage r c.proceed.result (g.S.Site.state c.args.site.now) b d (c.stage_of.ensures.told tells)
+    (subst P c.in-Some.is (c.in_ok-stage.ensures.stage tells)) (c.proceed.ensures.told tells) (not_taken r (err.1 ∙ ap Err err.2))
+    (λ h. IfOk-from_err r (λ _. StandsSo (HasRecords m []) d) c.from_residual-in_err-proceed.ensures.0)
+
+pub returns-clause-told : goal.returns-clause-told
+returns-clause-told g c = λ tells.
+    let m = c.args.manager in
+    let b = g.S.Site.state c.stage_of.new.site in
+    let d = g.S.Site.state c.proceed.new.site in
+    let P : Option Stage → Type 0 = λ v. StandsSo (FoundIs m v) b in
+    creates_steps m c.in-Some.stage (Ok tt) (Ok c.in_ok-proceed.field-0) (g.S.Site.state c.args.site.now) b d (c.stage_of.ensures.told tells)
+    (subst P c.in-Some.is (c.in_ok-stage.ensures.stage tells)) (c.in_ok-proceed.ensures.told tells) (ok_not_taken (Ok tt) refl) (λ h. h)

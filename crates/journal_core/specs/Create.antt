@@ -1,0 +1,67 @@
+-- What the making of a journal file does (own rule, docs/JOURNAL.md).
+use Rattle.std.specs.Prelude.{◌≡◌, ◌⊎◌, ◌≤◌, ℕ, List, [], length, take, drop, Option, Some, None, Result, Ok, Err, OnOk}
+use Rattle.site_traits.specs.Site.{Pair, SiteState, LeavesOnly, IsSettled}
+use Rattle.journal_core.specs.declared.create.CreateFault.{CreateFault}
+use Rattle.journal_core.specs.declared.create.CreateFault.TheVariants as fault
+use Rattle.journal_core.specs.declared.create.Stage.{Stage}
+use Rattle.journal_core.specs.declared.create.Stage.TheVariants as stage
+use Rattle.journal_core.specs.File.{HasRecords}
+use Rattle.journal_core.specs.Header.{made, first, IsUnfinished}
+use Rattle.journal_core.specs.Load.{SyncsAndReads}
+
+-- the pair's file is unfinished for this manager, or made for it with no record
+pub record IsMaking (manager : ℕ) (p : Pair) : Type 0 where
+  pub file : IsUnfinished manager p.image ⊎ HasRecords manager [] p.image
+
+-- nothing is pending, and the file is made for this manager with no record
+pub record IsMade (manager : ℕ) (s : SiteState) : Type 0 where
+  pub settled : IsSettled s
+  pub file : HasRecords manager [] s.image
+
+-- a stop now leaves only files that are unfinished for this manager
+pub record MayBeMade (manager : ℕ) (s : SiteState) : Type 0 where
+  pub each : (p : Pair) → s.since s.moment p → IsUnfinished manager p.image
+
+-- The making of a file. `Taken` comes only where the file isn't unfinished for the manager; such a file is as it was
+-- throughout, whatever the answer, and then the answer isn't Ok. A stop within leaves an unfinished file unfinished or
+-- made. From Ok on it is made, and nothing is pending.
+pub record Creates (manager : ℕ) (result : Result (Unit {0}) CreateFault) (a b : SiteState) : Type 0 where
+  pub taken : result ≡ Err fault.Taken → ¬ (IsUnfinished manager a.image)
+  pub kept : ¬ (IsUnfinished manager a.image) → SyncsAndReads a b × ¬ (result ≡ Ok tt)
+  pub any_moment : MayBeMade manager a → LeavesOnly (IsMaking manager) a b
+  pub made : OnOk result (IsMade manager b)
+
+-- the file is all of a made file but its first byte
+pub record IsFilled (manager : ℕ) (image : List ℕ) : Type 0 where
+  pub not_made : ¬ (first image ≡ 86)
+  pub rest : take 32 (drop 1 image) ≡ drop 1 (made manager)
+
+-- the file begins with `v`
+pub record IsBegun (image : List ℕ) : Type 0 where
+  pub some : 1 ≤ length image
+  pub v : first image ≡ 118
+
+-- the file has at most one byte
+pub record IsEmpty (image : List ℕ) : Type 0 where
+  pub short : length image ≤ 1
+
+-- how far the making of the file has come
+abbrev pub StageIs : ℕ → Stage → List ℕ → Type 0
+StageIs manager stage.Empty image = IsEmpty image
+StageIs manager stage.Begun image = IsBegun image
+StageIs manager stage.Filled image = IsFilled manager image
+
+-- the same, or the file isn't unfinished for this manager
+abbrev pub FoundIs : ℕ → Option Stage → List ℕ → Type 0
+FoundIs manager (Some found) image = StageIs manager found image
+FoundIs manager None image = ¬ (IsUnfinished manager image)
+
+-- nothing is pending on the site, and its file is so
+pub record StandsSo (so : List ℕ → Type 0) (s : SiteState) : Type 0 where
+  pub settled : IsSettled s
+  pub file : so s.image
+
+-- a step of the making: a stop within leaves the file unfinished or made, and where it succeeded the file is so
+pub record Steps {T E : Type 0} (manager : ℕ) (so : List ℕ → Type 0) (result : Result T E) (a b : SiteState) : Type 0 where
+  pub any_moment : LeavesOnly (IsMaking manager) a b
+  pub stands : OnOk result (StandsSo so b)
