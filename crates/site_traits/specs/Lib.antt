@@ -1,0 +1,6 @@
+pub mod Answer
+pub mod Clock
+pub mod Counts
+pub mod Peers
+pub mod Sink
+pub mod Site
