@@ -3,6 +3,7 @@
 
 mod clock;
 mod courier;
+mod door;
 mod heard;
 mod orchestrator;
 mod sink;
@@ -10,6 +11,7 @@ mod site;
 
 pub use clock::Clock;
 pub use courier::{Courier, PostAnswer};
+pub use door::{Door, NextAnswer, ReadAnswer, WriteAnswer};
 pub use heard::{HEARD_MAX, Heard};
 pub use orchestrator::{Call, Orchestrator};
 pub use sink::{Sink, SinkFailed};
