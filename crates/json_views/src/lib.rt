@@ -2,7 +2,9 @@
 #![tactic(auto)]
 
 mod body;
+mod instance;
 mod problem;
 
 pub use body::{BodyFault, CreateBody, read_create};
+pub use instance::{created_view, instance_id, instance_path};
 pub use problem::problem_view;
