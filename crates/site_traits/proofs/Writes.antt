@@ -1,7 +1,8 @@
 -- What a write leaves of a file whose front is known: of one that begins behind a byte, and of one of that byte alone.
-use Rattle.std.proofs.Common.{◌≡◌, ◌∙◌, sym, ap, ℕ, ◌+◌, ◌<◌, List, [], ◌∷◌, ◌++◌, length, take, drop, get_or, append_assoc, length-append, refl, arith}
+use Rattle.std.proofs.Common.{Result, Ok, Err, OnOk, ◌≡◌, ◌∙◌, sym, ap, ℕ, ◌+◌, ◌<◌, List, [], ◌∷◌, ◌++◌, length, take, drop, get_or, append_assoc, length-append, refl, arith}
 use Rattle.std.proofs.lemmas.List.{take-append-drop, take_at, drop_at, drop_more, length_push}
-use Rattle.site_traits.specs.Site.{Torn, Holds}
+use Rattle.site_traits.specs.Site.{SiteState, Torn, Holds, OnFile, Writes, Syncs, WritesThrough}
+use Rattle.site_traits.proofs.Moments.{on_file-reads}
 
 -- the byte behind the front goes with it
 pushed : (front tail : List ℕ) (gate : ℕ) → front ++ gate ∷ tail ≡ (front ++ gate ∷ []) ++ tail
@@ -51,3 +52,25 @@ written_gate front tail gate byte new holds =
     ap (drop (k + 1)) (pushed front tail gate) ∙ drop_at (front ++ gate ∷ []) tail (k + 1) (length_push front gate) in
     holds ∙ append_assoc (take k (front ++ gate ∷ tail)) (byte ∷ []) (drop (k + 1) (front ++ gate ∷ tail))
     ∙ ap (λ v. v ++ byte ∷ drop (k + 1) (front ++ gate ∷ tail)) (take_at front (gate ∷ tail) k refl) ∙ ap (λ v. front ++ byte ∷ v) rest
+
+-- nothing written is a torn write
+pub torn-refl : (at n : ℕ) (i : List ℕ) → Torn at n i i
+torn-refl at n i = record { before = refl; after = refl; no_shorter = omega arith; no_longer = omega arith }
+
+-- what holds anyway holds where it succeeded
+on_ok_anyway : {T E P : Type 0} (r : Result T E) → P → OnOk r P
+on_ok_anyway (Ok x) p = p
+on_ok_anyway (Err e) p = tt
+
+-- a write that succeeded, and a sync
+pub written_through : {T E : Type 0} (at : ℕ) (bytes : List ℕ) (r : Result T E) (a b c : SiteState) → OnFile (Torn at (length bytes)) a b → Holds a.image at bytes b.image
+    → Syncs r b c → WritesThrough at bytes r a c
+written_through at bytes r a b c wrote holds syncs = record {
+  on_file = on_file-reads (Torn at (length bytes)) a b c wrote syncs.on_file (torn-refl at (length bytes));
+  holds = on_ok_anyway r (syncs.same ∙ holds);
+  settled = syncs.settled;
+}
+
+-- a write that failed
+pub write_failed : {T E U V : Type 0} (at : ℕ) (bytes : List ℕ) (e : E) (r : Result U V) (a b : SiteState) → Writes at bytes r a b → WritesThrough {T = T} at bytes (Err e) a b
+write_failed at bytes e r a b wrote = record { on_file = wrote.on_file; holds = tt; settled = tt }
