@@ -1,0 +1,3 @@
+mod FieldLemmas
+mod FormLemmas
+pub mod TellLemmas

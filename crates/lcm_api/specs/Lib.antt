@@ -1,0 +1,4 @@
+pub mod Form
+pub mod Fields
+pub mod Response
+pub mod Telling
