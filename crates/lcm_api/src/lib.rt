@@ -3,6 +3,9 @@
 
 mod door;
 mod form;
+mod judge;
+mod listen;
+mod mouth;
 mod outgoing;
 mod reply;
 mod request;
