@@ -1,6 +1,6 @@
 -- How each part of an event is spelled in bytes (own format, docs/EVENTS.md).
 use Rattle.std.specs.Prelude.{ℕ, List, [], ◌∷◌, ◌++◌, Option, Some, None, length}
-use Rattle.std.specs.Int.{to_be_bytes, w16, w32, w64}
+use Rattle.std.specs.Int.{to_be_bytes, w8, w16, w32, w64}
 use Rattle.std.specs.List.{flat_map}
 use Rattle.lcm_events.specs.declared.asks.Aim.{Aim}
 use Rattle.lcm_events.specs.declared.asks.Aim.TheVariants as aims
@@ -64,7 +64,7 @@ many spell xs = u16 (length xs) ++ flat_map spell xs
 
 -- a short list: its length in one byte, then its entries
 abbrev pub few : {A : Type 0} → (A → List ℕ) → List A → List ℕ
-few spell xs = length xs ∷ flat_map spell xs
+few spell xs = to_be_bytes w8 (length xs) ++ flat_map spell xs
 
 -- the name of an attempt
 abbrev pub tag : Tag → List ℕ
