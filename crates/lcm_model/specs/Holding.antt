@@ -84,10 +84,10 @@ resource H i x = option_map (λ y. y.resource) (first (filter is_creation (effec
 abbrev pub place : List Event → ℕ → Def → Option Place
 place H i x = option_and_then (λ y. granted_place H y.tag.occ y.tag.change) (first (filter is_forward_creation (effects H i x)))
 
--- the definitions in the changes of the instance's operations (own rule)
-abbrev pub defs_asked : List Event → ℕ → List Def
-defs_asked H i = flat_map (λ a. map (λ c. c.def) a.changes) (filter (λ a. a.instance == i) (operations H))
+-- the greatest serial of the VDU in the changes of an operation, or 0 (own rule)
+abbrev pub top_in : ℕ → Operation → ℕ
+top_in v a = greatest (map (λ c. c.def.serial) (filter (λ c. c.def.vdu == v) a.changes))
 
--- the greatest serial of the VDU in any change of the instance, or 0 (own rule)
+-- the greatest serial of the VDU in any change of any operation of the instance, or 0 (own rule)
 abbrev pub top : List Event → ℕ → ℕ → ℕ
-top H i v = greatest (map (λ x. x.serial) (filter (λ x. x.vdu == v) (defs_asked H i)))
+top H i v = greatest (map (top_in v) (filter (λ a. a.instance == i) (operations H)))
