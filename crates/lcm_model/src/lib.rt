@@ -4,11 +4,16 @@
 mod actions;
 mod attempts;
 mod grants;
+mod holding;
+mod holdings;
+mod instances;
+mod lives;
 mod moves;
 mod operations;
 mod refusals;
 mod since;
 
 pub use actions::Action;
+pub use holding::Effect;
 pub use moves::{ends, may_follow, works};
 pub use refusals::{Refusal, TaskRefusal};
