@@ -48,3 +48,8 @@ first_some (Some x ∷ lines) = Some x
 abbrev pub same_bool : Bool → Bool → Bool
 same_bool true b = b
 same_bool false b = not b
+
+-- the first of two that is there (own rule)
+abbrev pub otherwise : {A : Type 0} → Option A → Option A → Option A
+otherwise (Some x) y = Some x
+otherwise None y = y

@@ -1,6 +1,6 @@
 //! Attempts: which are open, and the net of a change.
 
-ghost use Rattle.std.specs.Prelude.{◌≡◌, reverse, length};
+ghost use Rattle.std.specs.Prelude.{◌≡◌, ◌≤◌, reverse, length};
 ghost use Rattle.lcm_model.specs.Attempts.{attempts, done_count, is_open, is_settled, is_unsettled, net, open_attempts, open_of};
 ghost use Rattle.lcm_model.specs.Next.{first_open};
 
@@ -99,7 +99,8 @@ pub fn first_open_in(events: &[Event], occ: u64) -> Option<Tag>
 
 /// How many attempts at a change there were.
 pub fn count_attempts(events: &[Event], occ: u64, change: u64) -> u64
-    ensures { result ≡ length (attempts (reverse events.now) occ change) }
+    ensures value { result ≡ length (attempts (reverse events.now) occ change) }
+    ensures bound { result ≤ length events.now }
 {
     let mut count = 0;
     for event in events {

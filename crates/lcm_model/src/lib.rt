@@ -9,9 +9,11 @@ mod holdings;
 mod instances;
 mod lives;
 mod moves;
+mod next;
 mod operations;
 mod refusals;
 mod since;
+mod work;
 
 pub use actions::Action;
 pub use holding::Effect;
