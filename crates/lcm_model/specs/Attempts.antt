@@ -52,9 +52,13 @@ is_of o c t = (t.occ == o) && (t.change == c)
 abbrev pub is_settled : List Event → Tag → Bool
 is_settled H t = list_any (same_tag t) (settled H)
 
+-- an attempt has not ended (own rule)
+unfoldable pub is_unsettled : List Event → Tag → Bool
+is_unsettled H t = not (is_settled H t)
+
 -- the attempts that are open, the latest first: begun and not ended (own rule)
 abbrev pub open_tags : List Event → List Tag
-open_tags H = filter (λ t. not (is_settled H t)) (intents H)
+open_tags H = filter (is_unsettled H) (intents H)
 
 -- the attempts of change c of occurrence o, the latest first (own rule)
 abbrev pub attempts : List Event → ℕ → ℕ → List Tag
@@ -64,9 +68,13 @@ attempts H o c = filter (is_of o c) (intents H)
 abbrev pub open_attempts : List Event → ℕ → ℕ → List Tag
 open_attempts H o c = filter (is_of o c) (open_tags H)
 
+-- the tag is of occurrence o (own rule)
+abbrev pub is_of_occurrence : ℕ → Tag → Bool
+is_of_occurrence o t = t.occ == o
+
 -- the open attempts of occurrence o, the latest first (own rule)
 abbrev pub open_of : List Event → ℕ → List Tag
-open_of H o = filter (λ t. t.occ == o) (open_tags H)
+open_of H o = filter (is_of_occurrence o) (open_tags H)
 
 -- the attempt is open (own rule)
 abbrev pub is_open : List Event → Tag → Bool

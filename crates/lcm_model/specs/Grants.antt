@@ -1,7 +1,7 @@
 -- How far the grant exchange of an occurrence is, and what a grant gives (SOL 003 9.4.2, Grants; 9.5.2.3, Grant).
 use Rattle.std.specs.Fmt.{decimal}
 use Rattle.std.specs.List.{enumerate_from, list_all, list_any}
-use Rattle.std.specs.Prelude.{Bool, List, None, Option, Some, [], false, filter, filter_map, length, map, nat_le, nat_lt, not, option_and_then, slice_get, true, ℕ, ◌&&◌, ◌==◌, ◌||◌, ◌∷◌, ◌++◌, ◌≡◌, ◌≤◌}
+use Rattle.std.specs.Prelude.{Bool, List, None, Option, Some, [], false, filter, filter_map, length, map, nat_le, nat_lt, not, option_and_then, unwrap_or, if◌then◌else◌, slice_get, true, ℕ, ◌&&◌, ◌==◌, ◌||◌, ◌∷◌, ◌++◌, ◌≡◌, ◌≤◌}
 use Rattle.lcm_events.specs.Same.{same_verb, same_name}
 use Rattle.lcm_events.specs.declared.changes.Change.{Change}
 use Rattle.lcm_events.specs.declared.changes.Verb.{Verb}
@@ -74,10 +74,14 @@ location H o = first (filter_map later_at (answers H o))
 abbrev pub same_place : Place → Place → Bool
 same_place a b = same_name a.vim b.vim && same_name a.zone b.zone
 
+-- the places that aren't among those seen or before them: each place once, where it comes first (own rule)
+abbrev pub places_after : List Place → List Place → List Place
+places_after seen [] = []
+places_after seen (p ∷ places) = if list_any (same_place p) seen then places_after seen places else p ∷ places_after (seen ++ p ∷ []) places
+
 -- each place once, where it comes first (own rule)
 abbrev pub distinct_places : List Place → List Place
-distinct_places [] = []
-distinct_places (p ∷ places) = p ∷ filter (λ q. not (same_place p q)) (distinct_places places)
+distinct_places places = places_after [] places
 
 -- two lists of places are equal (own rule)
 abbrev pub same_places : List Place → List Place → Bool
@@ -96,14 +100,18 @@ pub record IsPlacing (places : List Place) (spots : List ℕ) (asked : ℕ) : Ty
   pub in_order : same_places (distinct_places (places_at places spots)) places ≡ true
   pub few : length places ≤ 32
 
--- the place of each change that an event of o gives (SOL 003 9.5.2.3)
-abbrev pub places_in : ℕ → EventKind → Option (List Place)
-places_in o (Granted occ grant places spots) = when (occ == o) (places_at places spots)
-places_in o _ = None
+-- the place of change c by these places and their numbers (SOL 003 9.5.2.3)
+abbrev pub place_at : List Place → List ℕ → ℕ → Option Place
+place_at places spots c = option_and_then (slice_get places) (slice_get spots c)
+
+-- the place of change c that an event of o grants (SOL 003 9.5.2.3)
+abbrev pub grant_in : ℕ → ℕ → EventKind → Option (Option Place)
+grant_in o c (Granted occ grant places spots) = when (occ == o) (place_at places spots c)
+grant_in o c _ = None
 
 -- the place that the grant gave to change c of occurrence o (SOL 003 9.5.2.3)
 abbrev pub granted_place : List Event → ℕ → ℕ → Option Place
-granted_place H o c = option_and_then (λ places. slice_get places c) (first (filter_map (λ e. places_in o e.kind) H))
+granted_place H o c = unwrap_or (first (filter_map (λ e. grant_in o c e.kind) H)) None
 
 -- the identifier of change number k in a grant request and a grant (own rule)
 abbrev pub change_id : ℕ → List ℕ

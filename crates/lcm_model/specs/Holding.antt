@@ -15,17 +15,10 @@ use Rattle.lcm_events.specs.declared.events.EventKind.{EventKind}
 use Rattle.lcm_events.specs.declared.events.EventKind.TheVariants.{Settled}
 use Rattle.lcm_events.specs.declared.events.Operation.{Operation}
 use Rattle.lcm_events.specs.declared.places.Place.{Place}
+use Rattle.lcm_model.specs.declared.holding.Effect.{Effect}
 use Rattle.lcm_model.specs.Words.{first, greatest, told}
 use Rattle.lcm_model.specs.Operations.{operation, operations, verb_done}
 use Rattle.lcm_model.specs.Grants.{granted_place}
-
--- what an attempt that ended as done did, and to which resource of which instance (own rule)
-pub record Effect : Type 0 where
-  pub tag : Tag
-  pub instance : ℕ
-  pub def : Def
-  pub verb : Verb
-  pub resource : List ℕ
 
 -- the effect of a tag at a change of an operation (own rule)
 abbrev pub effect : Tag → List ℕ → Operation → Change → Effect
@@ -37,13 +30,17 @@ effect_done H t (Done name) = option_and_then (λ a. option_map (effect t name a
 effect_done H t _ = None
 
 -- the effect of an event after its past (own rule)
-abbrev pub effect_in : List Event → EventKind → Option Effect
+unfoldable pub effect_in : List Event → EventKind → Option Effect
 effect_in H (Settled t outcome) = effect_done H t outcome
 effect_in H _ = None
 
+-- the effect is on a definition of an instance (own rule)
+abbrev pub is_effect_on : ℕ → Def → Effect → Bool
+is_effect_on i x y = (y.instance == i) && same_def y.def x
+
 -- the effects on a definition of an instance, the latest first (own rule)
 abbrev pub effects : List Event → ℕ → Def → List Effect
-effects H i x = filter (λ y. (y.instance == i) && same_def y.def x) (told effect_in H)
+effects H i x = filter (is_effect_on i x) (told effect_in H)
 
 -- the verb leaves its resource standing (own rule)
 abbrev pub leaves_it : Verb → Bool
@@ -84,10 +81,26 @@ resource H i x = option_map (λ y. y.resource) (first (filter is_creation (effec
 abbrev pub place : List Event → ℕ → Def → Option Place
 place H i x = option_and_then (λ y. granted_place H y.tag.occ y.tag.change) (first (filter is_forward_creation (effects H i x)))
 
--- the definitions in the changes of the instance's operations (own rule)
-abbrev pub defs_asked : List Event → ℕ → List Def
-defs_asked H i = flat_map (λ a. map (λ c. c.def) a.changes) (filter (λ a. a.instance == i) (operations H))
+-- the change is of the VDU (own rule)
+abbrev pub is_of_vdu : ℕ → Change → Bool
+is_of_vdu v c = c.def.vdu == v
 
--- the greatest serial of the VDU in any change of the instance, or 0 (own rule)
+-- the serial that a change names (own rule)
+abbrev pub serial_of : Change → ℕ
+serial_of c = c.def.serial
+
+-- the greatest serial of the VDU in some changes, or 0 (own rule)
+abbrev pub top_of : ℕ → List Change → ℕ
+top_of v xs = greatest (map serial_of (filter (is_of_vdu v) xs))
+
+-- the greatest serial of the VDU in the changes of an operation, or 0 (own rule)
+unfoldable pub top_in : ℕ → Operation → ℕ
+top_in v a = top_of v a.changes
+
+-- the operation is the instance's (own rule)
+abbrev pub is_of_instance : ℕ → Operation → Bool
+is_of_instance i a = a.instance == i
+
+-- the greatest serial of the VDU in any change of any operation of the instance, or 0 (own rule)
 abbrev pub top : List Event → ℕ → ℕ → ℕ
-top H i v = greatest (map (λ x. x.serial) (filter (λ x. x.vdu == v) (defs_asked H i)))
+top H i v = greatest (map (top_in v) (filter (is_of_instance i) (operations H)))

@@ -20,14 +20,11 @@ use Rattle.lcm_model.specs.Holding.{place, resource, runs, stands, top}
 use Rattle.lcm_model.specs.Levels.{no_levels, target}
 use Rattle.lcm_model.specs.Vnfcs.{Inventory, all_defs, links, vdu_numbers}
 
--- the operation that an event moves, and where to, after its past (own rule)
-abbrev pub ended_in : List Event → EventKind → Option (Operation × OpState)
-ended_in H (Moved o to) = option_map (λ a. (a, to)) (operation H o)
-ended_in H _ = None
-
--- how the operations of the instance moved, the latest first (own rule)
-abbrev pub ends : List Event → ℕ → List (Operation × OpState)
-ends H i = filter (λ x. x.0.instance == i) (told ended_in H)
+-- what a question to an ask and the state that its operation moves to gives, where an event moves an operation of the
+-- instance, after the event's past (own rule)
+unfoldable pub moving : {A : Type 0} → (Ask → OpState → Option A) → ℕ → List Event → EventKind → Option A
+moving ask i H (Moved o to) = option_and_then (λ a. if a.instance == i then ask a.ask to else None) (operation H o)
+moving ask i H _ = None
 
 -- whether such a move makes the instance INSTANTIATED or NOT_INSTANTIATED, where it does either (SOL 003 5.4.4, 5.4.8)
 abbrev pub instantiates : Ask → OpState → Option Bool
@@ -38,7 +35,7 @@ instantiates _ _ = None
 
 -- the instance is INSTANTIATED: the last such move made it so (SOL 003 5.5.2.2)
 abbrev pub is_instantiated : List Event → ℕ → Bool
-is_instantiated H i = unwrap_or (first (filter_map (λ x. instantiates x.0.ask x.1) (ends H i))) false
+is_instantiated H i = unwrap_or (first (told (moving instantiates i) H)) false
 
 -- whether such a move starts or stops the instance, where it does either (SOL 003 5.4.4, 5.4.9, 5.4.10)
 abbrev pub starts_or_stops : Ask → OpState → Option Bool
@@ -50,7 +47,7 @@ starts_or_stops _ _ = None
 
 -- the instance is STARTED: the last such move made it so (SOL 003 5.5.2.2)
 abbrev pub is_started : List Event → ℕ → Bool
-is_started H i = unwrap_or (first (filter_map (λ x. starts_or_stops x.0.ask x.1) (ends H i))) false
+is_started H i = unwrap_or (first (told (moving starts_or_stops i) H)) false
 
 -- the ask of such a move, where it sets the levels (own rule)
 abbrev pub sets_levels : Ask → OpState → Option Ask
@@ -67,7 +64,7 @@ levels_from d (ask ∷ earlier) = target d (levels_from d earlier) ask
 
 -- the levels of the instance: those that the asks which set them lead to (SOL 003 5.5.2.2, scaleStatus)
 abbrev pub levels : Vnfd → List Event → ℕ → List ℕ
-levels d H i = levels_from d (filter_map (λ x. sets_levels x.0.ask x.1) (ends H i))
+levels d H i = levels_from d (told (moving sets_levels i) H)
 
 -- what stands of the instance, as a plan asks it (own rule)
 abbrev pub inventory : List Event → ℕ → Inventory

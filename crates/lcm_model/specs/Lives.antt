@@ -76,9 +76,13 @@ is_deleted H i = is_among (filter_map (λ e. deleted_in e.kind) H) i
 abbrev pub is_live : List Event → ℕ → Bool
 is_live H i = is_some (creation H i) && not (is_deleted H i)
 
+-- an instance was not deleted (SOL 003 5.4.3)
+unfoldable pub is_kept : List Event → CreatedInstance → Bool
+is_kept H x = not (is_deleted H x.instance)
+
 -- the instances that are live, the latest first (SOL 003 5.4.2)
 abbrev pub live_instances : List Event → List CreatedInstance
-live_instances H = filter (λ x. not (is_deleted H x.instance)) (creations H)
+live_instances H = filter (is_kept H) (creations H)
 
 -- the descriptor of an instance (SOL 003 5.5.2.2, VnfInstance)
 abbrev pub descriptor : List Event → ℕ → Option Vnfd
@@ -104,6 +108,10 @@ is_unsubscribed H s = is_among (filter_map (λ e. unsubscribed_in e.kind) H) s
 abbrev pub is_subscribed : List Event → ℕ → Bool
 is_subscribed H s = is_some (subscription H s) && not (is_unsubscribed H s)
 
+-- a subscription is the role's and was not ended (SOL 003 5.4.19)
+unfoldable pub is_live_of : List Event → Role → Subscription → Bool
+is_live_of H role x = same_role role x.role && not (is_unsubscribed H x.number)
+
 -- the live subscriptions of a role, the latest first: each role sees its own alone (SOL 003 5.4.18)
 abbrev pub live_subscriptions : List Event → Role → List Subscription
-live_subscriptions H role = filter (λ x. same_role role x.role && not (is_unsubscribed H x.number)) (subscriptions H)
+live_subscriptions H role = filter (is_live_of H role) (subscriptions H)

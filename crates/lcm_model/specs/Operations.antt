@@ -1,6 +1,6 @@
 -- Operations, their changes, and what an attempt at a change does (SOL 003 5.5.2.13, VnfLcmOpOcc).
 use Rattle.std.specs.Option.{option_map_or}
-use Rattle.std.specs.Prelude.{List, None, Option, Some, [], filter, filter_map, find, length, not, slice_get, ℕ, ◌&&◌, ◌==◌}
+use Rattle.std.specs.Prelude.{Bool, List, None, Option, Some, [], filter, filter_map, find, length, not, slice_get, ℕ, ◌&&◌, ◌==◌}
 use Rattle.lcm_events.specs.declared.asks.Ask.{Ask}
 use Rattle.lcm_events.specs.declared.asks.Ask.TheVariants.{Heal, Instantiate, Operate, Scale, ScaleToLevel, Terminate}
 use Rattle.lcm_events.specs.declared.asks.OpKind.{OpKind}
@@ -63,6 +63,14 @@ abbrev pub verb_done : Way → Verb → Verb
 verb_done Forward verb = verb
 verb_done Undo verb = undo verb
 
--- the instance's operations that aren't final (SOL 003 5.6.2)
+-- an operation goes on: its state isn't final (SOL 003 5.6.2)
+unfoldable pub goes_on : List Event → Operation → Bool
+goes_on H a = not (is_final (state H a.occ))
+
+-- the operation is the instance's and goes on (SOL 003 5.6.2)
+abbrev pub is_ongoing : List Event → ℕ → Operation → Bool
+is_ongoing H i a = (a.instance == i) && goes_on H a
+
+-- the instance's operations that go on, the latest first (SOL 003 5.6.2)
 abbrev pub ongoing : List Event → ℕ → List Operation
-ongoing H i = filter (λ a. (a.instance == i) && not (is_final (state H a.occ))) (operations H)
+ongoing H i = filter (is_ongoing H i) (operations H)

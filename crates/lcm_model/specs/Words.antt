@@ -1,6 +1,6 @@
 -- Small words over histories. A history is a list of events, the latest first, so that an event stands before its past.
 use Rattle.std.specs.List.{cons_option, list_any}
-use Rattle.std.specs.Prelude.{Bool, List, None, Option, Some, [], false, max, not, true, ℕ, ◌==◌, ◌∷◌, ◌≡◌, ◌⊎◌}
+use Rattle.std.specs.Prelude.{unwrap_or, Bool, List, None, Option, Some, [], false, max, not, true, ℕ, ◌==◌, ◌∷◌, ◌≡◌, ◌⊎◌}
 use Rattle.lcm_events.specs.declared.events.Event.{Event}
 use Rattle.lcm_events.specs.declared.events.EventKind.{EventKind}
 
@@ -23,11 +23,10 @@ abbrev pub first : {A : Type 0} → List A → Option A
 first [] = None
 first (x ∷ xs) = Some x
 
--- the last entry of a list (own rule)
+-- the last entry of a list: the last of the rest, or else the first (own rule)
 abbrev pub last : {A : Type 0} → List A → Option A
 last [] = None
-last (x ∷ []) = Some x
-last (x ∷ y ∷ ys) = last (y ∷ ys)
+last (x ∷ xs) = Some (unwrap_or (last xs) x)
 
 -- the greatest of some numbers, or 0 (own rule)
 abbrev pub greatest : List ℕ → ℕ
@@ -49,3 +48,8 @@ first_some (Some x ∷ lines) = Some x
 abbrev pub same_bool : Bool → Bool → Bool
 same_bool true b = b
 same_bool false b = not b
+
+-- the first of two that is there (own rule)
+abbrev pub otherwise : {A : Type 0} → Option A → Option A → Option A
+otherwise (Some x) y = Some x
+otherwise None y = y

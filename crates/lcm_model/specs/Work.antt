@@ -1,6 +1,6 @@
 -- When an attempt may begin and when an occurrence may move (SOL 003 5.6.2; phases and windows are own rules).
 use Rattle.std.specs.List.{enumerate_from, list_all}
-use Rattle.std.specs.Prelude.{Bool, List, None, Option, Some, [], false, filter, length, map, nat_lt, not, true, ℕ, ◌&&◌, ◌+◌, ◌<◌, ◌==◌, ◌||◌, ◌≡◌}
+use Rattle.std.specs.Prelude.{Bool, List, None, Option, Some, [], false, length, nat_lt, not, true, ℕ, ◌&&◌, ◌+◌, ◌<◌, ◌==◌, ◌||◌, ◌≡◌}
 use Rattle.lcm_events.specs.declared.attempts.Tag.{Tag}
 use Rattle.lcm_events.specs.declared.attempts.Way.{Way}
 use Rattle.lcm_events.specs.declared.attempts.Way.TheVariants.{Forward, Undo}
@@ -20,14 +20,6 @@ use Rattle.lcm_model.specs.Refusals.{is_terminate}
 -- how many attempts of an occurrence may be open at once (own rule)
 abbrev pub window : ℕ
 window = 1
-
--- the numbers of the occurrence's changes that pass the test (own rule)
-abbrev pub changes_where : (Change → Bool) → List Event → ℕ → List ℕ
-changes_where p H o = map (λ x. x.0) (filter (λ x. p x.1) (enumerate_from 0 (changes H o)))
-
--- each of these changes has this net (own rule)
-abbrev pub have_net : List Event → ℕ → ℕ → List ℕ → Bool
-have_net H o n cs = list_all (λ c. net H o c == n) cs
 
 -- the state in which attempts in this way are made (SOL 003 5.6.2)
 abbrev pub works_in : Way → OpState
@@ -49,11 +41,18 @@ abbrev pub goes_before : Way → ℕ → Change → Bool
 goes_before Forward phase x = nat_lt x.phase phase
 goes_before Undo phase x = nat_lt phase x.phase
 
+-- a change, with its number, is through where it goes before those of this phase (own rule)
+unfoldable pub is_through : List Event → ℕ → Way → ℕ → ℕ × Change → Bool
+is_through H o way phase x = not (goes_before way phase x.1) || (net H o x.0 == net_after way)
+
+-- every change that goes before this phase is through (own rule)
+abbrev pub all_through : List Event → ℕ → Way → ℕ → Bool
+all_through H o way phase = list_all (is_through H o way phase) (enumerate_from 0 (changes H o))
+
 -- it is the turn of a change: it waits for the attempt, and every change that goes before it is through (own rule)
 abbrev pub IsTurnOf : List Event → Tag → Option Change → Type 0
 IsTurnOf H t None = ⊥
-IsTurnOf H t (Some x) =
-    (net H t.occ t.change ≡ net_before t.way) × (have_net H t.occ (net_after t.way) (changes_where (goes_before t.way x.phase) H t.occ) ≡ true)
+IsTurnOf H t (Some x) = (net H t.occ t.change ≡ net_before t.way) × (all_through H t.occ t.way x.phase ≡ true)
 
 -- the attempt may begin (own rule)
 pub record MayBegin (H : List Event) (t : Tag) : Type 0 where
@@ -65,9 +64,13 @@ pub record MayBegin (H : List Event) (t : Tag) : Type 0 where
   pub number : t.attempt ≡ length (attempts H t.occ t.change) + 1
   pub turn : IsTurnOf H t (change_of H t)
 
+-- a change, with its number, has this net (own rule)
+unfoldable pub has_net : List Event → ℕ → ℕ → ℕ × Change → Bool
+has_net H o n x = net H o x.0 == n
+
 -- every change of the occurrence has this net (own rule)
 abbrev pub all_have_net : List Event → ℕ → ℕ → Bool
-all_have_net H o n = have_net H o n (changes_where (λ x. true) H o)
+all_have_net H o n = list_all (has_net H o n) (enumerate_from 0 (changes H o))
 
 -- the work of an occurrence is at rest: no open attempt, no trouble, no cancel (own rule)
 pub record IsQuiet (H : List Event) (o : ℕ) : Type 0 where

@@ -2,7 +2,20 @@
 #![tactic(auto)]
 
 mod actions;
+mod attempts;
+mod grants;
+mod holding;
+mod holdings;
+mod instances;
+mod lives;
+mod moves;
+mod next;
+mod operations;
 mod refusals;
+mod since;
+mod work;
 
 pub use actions::Action;
+pub use holding::Effect;
+pub use moves::{ends, may_follow, works};
 pub use refusals::{Refusal, TaskRefusal};
