@@ -1,2 +1,4 @@
+pub mod DiskLemmas
+pub mod LogLemmas
 pub mod Moments
 pub mod Writes

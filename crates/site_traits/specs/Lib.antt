@@ -1,7 +1,10 @@
 pub mod Answer
 pub mod Clock
 pub mod Counts
+pub mod Disk
 pub mod Door
+pub mod Log
+pub mod MemSite
 pub mod Peers
 pub mod Sink
 pub mod Site
