@@ -13,6 +13,7 @@ mod next;
 mod operations;
 mod refusals;
 mod since;
+mod valid;
 mod work;
 
 pub use actions::Action;
