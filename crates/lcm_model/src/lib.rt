@@ -7,6 +7,7 @@ mod grants;
 mod holding;
 mod holdings;
 mod instances;
+mod levels;
 mod lives;
 mod moves;
 mod next;
