@@ -3,7 +3,7 @@ use Rattle.std.specs.Cmp.Lexicographic.{slice_cmp}
 use Rattle.std.specs.List.{list_all}
 use Rattle.std.specs.Option.{option_map_or}
 use Rattle.std.specs.Ordering.{is_lt, nat_cmp}
-use Rattle.std.specs.Prelude.{Bool, List, [], if◌then◌else◌, length, nat_le, nat_lt, slice_get, true, unwrap_or, zip, ℕ, ◌&&◌, ◌==◌, ◌||◌, ◌∷◌, ◌≡◌, ◌≤◌}
+use Rattle.std.specs.Prelude.{Bool, List, [], if◌then◌else◌, length, map, nat_le, nat_lt, slice_get, true, unwrap_or, zip, ℕ, ◌&&◌, ◌==◌, ◌||◌, ◌∷◌, ◌≡◌, ◌≤◌}
 use Rattle.lcm_events.specs.Same.{kind_number, same_kind}
 use Rattle.lcm_events.specs.declared.changes.Change.{Change}
 use Rattle.lcm_events.specs.declared.changes.Def.{Def}
@@ -68,7 +68,7 @@ is_valid_row d steps row = nat_lt row.vdu (length d.vdus) && (length row.deltas 
 abbrev pub is_valid_aspect : Vnfd → Aspect → Bool
 is_valid_aspect d a =
     is_given a.name && nat_le a.maximum 1000 && is_valid_steps a.maximum a.steps
-    && is_rising (λ r s. nat_lt r.vdu s.vdu) a.rows && list_all (is_valid_row d a.steps) a.rows
+    && is_rising nat_lt (map (λ r. r.vdu) a.rows) && list_all (is_valid_row d a.steps) a.rows
 
 -- the level is valid: its name is given, and its numbers are levels of the descriptor (SOL 001, InstantiationLevels)
 abbrev pub is_valid_level : Vnfd → Level → Bool
@@ -81,12 +81,16 @@ has_valid_counts d =
     && nat_le (length d.ports) 256 && nat_le (length d.aspects) 16 && nat_le (length d.levels) 64
     && nat_lt d.default_level (length d.levels)
 
+-- the names stand in byte order, each once (own rule)
+abbrev pub are_sorted : List (List ℕ) → Bool
+are_sorted names = is_rising is_name_before names
+
 -- the named things of each list stand in the byte order of their names, each name once (own rule)
 abbrev pub has_sorted_names : Vnfd → Bool
 has_sorted_names d =
-    is_rising (λ x y. is_name_before x.name y.name) d.vdus && is_rising (λ x y. is_name_before x.name y.name) d.storages
-    && is_rising is_name_before d.links && is_rising (λ x y. is_name_before x.name y.name) d.ports
-    && is_rising (λ x y. is_name_before x.name y.name) d.aspects && is_rising (λ x y. is_name_before x.name y.name) d.levels
+    are_sorted (map (λ x. x.name) d.vdus) && are_sorted (map (λ x. x.name) d.storages)
+    && are_sorted d.links && are_sorted (map (λ x. x.name) d.ports)
+    && are_sorted (map (λ x. x.name) d.aspects) && are_sorted (map (λ x. x.name) d.levels)
 
 -- the descriptor is valid (own rule over SOL 001)
 pub record IsValid (d : Vnfd) : Type 0 where

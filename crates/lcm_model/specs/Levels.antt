@@ -1,6 +1,8 @@
 -- How many machines a VDU has at given levels, and the levels that an ask aims at (SOL 001, scaling policies).
 use Rattle.std.specs.Option.{option_map_or}
-use Rattle.std.specs.Prelude.{List, None, Option, Some, [], find, if◌then◌else◌, map, option_map, slice_get, sum, sum_by, take, unwrap_or, zip, ℕ, ◌*◌, ◌+◌, ◌-◌, ◌==◌, ◌∷◌}
+use Rattle.std.specs.List.{list_all}
+use Rattle.std.specs.Prelude.{Bool, nat_le, ◌&&◌, min, List, None, Option, Some, [], find, if◌then◌else◌, map, option_map, slice_get, take, unwrap_or, zip, ℕ, ◌*◌, ◌+◌, ◌-◌, ◌==◌, ◌∷◌}
+use Rattle.lcm_model.specs.Words.{total}
 use Rattle.lcm_events.specs.Same.{same_name}
 use Rattle.lcm_events.specs.declared.asks.Aim.{Aim}
 use Rattle.lcm_events.specs.declared.asks.Ask.{Ask}
@@ -16,15 +18,20 @@ use Rattle.lcm_events.specs.declared.asks.ScaleWay.TheVariants.{Out, In}
 -- what the first n steps add: a single delta holds for every step (SOL 001, VduScalingAspectDeltas; ScalingAspects, step_deltas)
 abbrev pub steps_to : ℕ → List ℕ → ℕ
 steps_to n (delta ∷ []) = n * delta
-steps_to n deltas = sum (take n deltas)
+steps_to n deltas = total (take n deltas)
 
--- what an aspect's row adds to the VDU at level n (SOL 001, VduScalingAspectDeltas)
-abbrev pub added_by : ℕ → ℕ → Row → ℕ
-added_by v n row = if row.vdu == v then steps_to n row.deltas else 0
+-- the row of an aspect for the VDU (SOL 001, VduScalingAspectDeltas)
+abbrev pub row_of : ℕ → List Row → Option Row
+row_of v rows = find (λ row. row.vdu == v) rows
+
+-- what a row adds at level n (SOL 001, VduScalingAspectDeltas)
+abbrev pub row_adds : ℕ → Option Row → ℕ
+row_adds n None = 0
+row_adds n (Some row) = steps_to n row.deltas
 
 -- what an aspect adds to the VDU at its level (SOL 001, VduScalingAspectDeltas)
-abbrev pub added : ℕ → Aspect × ℕ → ℕ
-added v a = sum_by (added_by v a.1) a.0.rows
+unfoldable pub added : ℕ → Aspect × ℕ → ℕ
+added v a = row_adds a.1 (row_of v a.0.rows)
 
 -- the machines of the VDU at level 0 of every aspect (SOL 001, VduInitialDelta)
 abbrev pub initial : Vnfd → ℕ → ℕ
@@ -33,7 +40,7 @@ initial d v = option_map_or (λ u. u.initial) (slice_get d.vdus v) 0
 -- the machines of the VDU at these levels: its initial delta and, over all aspects, what the steps up to the level add
 -- (SOL 001, VduInitialDelta, VduScalingAspectDeltas)
 abbrev pub count : Vnfd → ℕ → List ℕ → ℕ
-count d v levels = initial d v + sum_by (added v) (zip d.aspects levels)
+count d v levels = initial d v + total (map (added v) (zip d.aspects levels))
 
 -- the levels of the instantiation level of this name (SOL 001, InstantiationLevels)
 abbrev pub level_of : Vnfd → List ℕ → Option (List ℕ)
@@ -52,16 +59,21 @@ abbrev pub moved_by : ScaleWay → ℕ → ℕ → ℕ
 moved_by Out steps level = level + steps
 moved_by In steps level = level - steps
 
--- the level of each aspect, where that of this name is changed by f and the others are kept (own rule)
+-- the level that is given, whatever it was (SOL 003 5.5.2.6, ScaleVnfToLevelRequest)
+abbrev pub to_level : ℕ → ℕ → ℕ
+to_level level before = level
+
+-- the level of each aspect, where that of this name is changed by f and the others are kept. None is past its aspect's
+-- maximum: an ask that would lead there is refused (own rule)
 abbrev pub at_aspect : List Aspect → List ℕ → (ℕ → ℕ) → List ℕ → List ℕ
 at_aspect [] name f levels = levels
 at_aspect (a ∷ aspects) name f [] = []
-at_aspect (a ∷ aspects) name f (n ∷ levels) = (if same_name a.name name then f n else n) ∷ at_aspect aspects name f levels
+at_aspect (a ∷ aspects) name f (n ∷ levels) = (if same_name a.name name then min (f n) a.maximum else n) ∷ at_aspect aspects name f levels
 
--- the levels, where those of the named aspects are replaced (SOL 003 5.5.2.6, ScaleVnfToLevelRequest)
+-- the levels, where those of the named aspects are replaced (SOL 003 5.5.2.6)
 abbrev pub replaced : Vnfd → List ℕ → List AspectLevel → List ℕ
 replaced d levels [] = levels
-replaced d levels (x ∷ named) = replaced d (at_aspect d.aspects x.aspect (λ n. x.level) levels) named
+replaced d levels (x ∷ named) = replaced d (at_aspect d.aspects x.aspect (to_level x.level) levels) named
 
 -- the levels that SCALE_TO_LEVEL aims at: those of a name, or the present ones with some replaced (SOL 003 5.5.2.6)
 abbrev pub aimed : Vnfd → List ℕ → Aim → List ℕ
@@ -83,3 +95,11 @@ target d levels _ = levels
 -- level 0 of every aspect (own rule)
 abbrev pub no_levels : Vnfd → List ℕ
 no_levels d = map (λ a. 0) d.aspects
+
+-- the deltas of a row are within the limit (own limit)
+abbrev pub has_small_row : Row → Bool
+has_small_row row = list_all (λ n. nat_le n 65535) row.deltas
+
+-- an aspect's maximum and the deltas of its rows are within the limits (own limits)
+unfoldable pub has_small_deltas : Aspect → Bool
+has_small_deltas a = nat_le a.maximum 1000 && list_all has_small_row a.rows

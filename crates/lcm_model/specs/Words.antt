@@ -1,6 +1,6 @@
 -- Small words over histories. A history is a list of events, the latest first, so that an event stands before its past.
 use Rattle.std.specs.List.{cons_option, list_any}
-use Rattle.std.specs.Prelude.{unwrap_or, Bool, List, None, Option, Some, [], false, max, not, true, ℕ, ◌==◌, ◌∷◌, ◌≡◌, ◌⊎◌}
+use Rattle.std.specs.Prelude.{unwrap_or, ◌+◌, Bool, List, None, Option, Some, [], false, max, not, true, ℕ, ◌==◌, ◌∷◌, ◌≡◌, ◌⊎◌}
 use Rattle.lcm_events.specs.declared.events.Event.{Event}
 use Rattle.lcm_events.specs.declared.events.EventKind.{EventKind}
 
@@ -53,3 +53,8 @@ same_bool false b = not b
 abbrev pub otherwise : {A : Type 0} → Option A → Option A → Option A
 otherwise (Some x) y = Some x
 otherwise None y = y
+
+-- the sum of some numbers (own rule)
+abbrev pub total : List ℕ → ℕ
+total [] = 0
+total (n ∷ ns) = n + total ns

@@ -7,12 +7,14 @@ mod grants;
 mod holding;
 mod holdings;
 mod instances;
+mod levels;
 mod lives;
 mod moves;
 mod next;
 mod operations;
 mod refusals;
 mod since;
+mod valid;
 mod work;
 
 pub use actions::Action;
