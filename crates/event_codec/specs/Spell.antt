@@ -153,12 +153,15 @@ aspect a = name a.name ++ (u32 a.maximum ++ (u16 a.steps ++ many row a.rows))
 abbrev pub level : Level → List ℕ
 level l = name l.name ++ flat_map u32 l.numbers
 
+-- the lists of a descriptor
+abbrev pub vnfd_lists : Vnfd → List ℕ
+vnfd_lists v = many vdu v.vdus ++ (many storage v.storages ++ (many name v.links ++ (many port v.ports
+    ++ (many aspect v.aspects ++ (many level v.levels ++ u16 v.default_level)))))
+
 -- a descriptor
 abbrev pub vnfd : Vnfd → List ℕ
 vnfd v = name v.descriptor_id ++ (name v.provider ++ (name v.product_name ++ (name v.software_version
-    ++ (name v.descriptor_version ++ (name v.flavour_id ++ (many vdu v.vdus ++ (many storage v.storages
-    ++ (many name v.links ++ (many port v.ports ++ (many aspect v.aspects ++ (many level v.levels
-    ++ u16 v.default_level)))))))))))
+    ++ (name v.descriptor_version ++ (name v.flavour_id ++ vnfd_lists v)))))
 
 -- the number of the kind of an event
 abbrev pub kind_number : EventKind → ℕ

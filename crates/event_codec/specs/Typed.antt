@@ -60,11 +60,13 @@ TypedAspect a = IsName a.name × IsU32 a.maximum × IsU16 a.steps × AllByRecurs
 abbrev pub TypedLevel : Level → Type 0
 TypedLevel l = IsName l.name × AllByRecursion IsU32 l.numbers
 
+abbrev pub TypedLists : Vnfd → Type 0
+TypedLists v = AllByRecursion TypedVdu v.vdus × AllByRecursion IsStorage v.storages × AllByRecursion IsName v.links
+    × AllByRecursion TypedPort v.ports × AllByRecursion TypedAspect v.aspects × AllByRecursion TypedLevel v.levels × IsU16 v.default_level
+
 abbrev pub TypedVnfd : Vnfd → Type 0
 TypedVnfd v = IsName v.descriptor_id × IsName v.provider × IsName v.product_name × IsName v.software_version
-    × IsName v.descriptor_version × IsName v.flavour_id × AllByRecursion TypedVdu v.vdus × AllByRecursion IsStorage v.storages
-    × AllByRecursion IsName v.links × AllByRecursion TypedPort v.ports × AllByRecursion TypedAspect v.aspects
-    × AllByRecursion TypedLevel v.levels × IsU16 v.default_level
+    × IsName v.descriptor_version × IsName v.flavour_id × TypedLists v
 
 abbrev pub TypedKind : EventKind → Type 0
 TypedKind (events.Onboarded v) = TypedVnfd v

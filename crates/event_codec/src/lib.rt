@@ -6,9 +6,16 @@ mod fault;
 mod input;
 mod kinds;
 mod lists;
+mod numbers;
 mod parts;
 mod reading;
+mod record_buf;
 mod words;
+mod write_lists;
+mod write_parts;
+mod writing;
 
 pub use fault::DecodeFault;
 pub use reading::decode;
+pub use record_buf::{RECORD_MAX, RecordBuf};
+pub use writing::{TooLong, encode};
