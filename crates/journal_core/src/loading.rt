@@ -146,6 +146,13 @@ impl<S: Site> Loading<S> {
         self.manager
     }
 
+    /// How many records were read.
+    pub fn count(&self) -> u64
+        ensures { result ≡ self.now.count }
+    {
+        self.count
+    }
+
     /// Reads the next record, or finds the closed gate behind the last one. It makes one read of at most five bytes, and one
     /// of the record's.
     ///
@@ -156,6 +163,7 @@ impl<S: Site> Loading<S> {
 
         ensures found { S.tells → (rs : List (List ℕ)) → Loads rs self.old (S.state site.old) → Finds rs result self.new (S.state site.new) }
         ensures grown { Grows result self.old self.new }
+        ensures within { self.new.end < 268435456 }
         ensures told { S.tells → Reads (S.state site.old) (S.state site.new) }
         ensures disk { result ≡ Err LoadFault.Disk → Rose (S.counts site.old).disk (S.counts site.new).disk }
         ensures counts { OnlyDisk (S.counts site.old) (S.counts site.new) }

@@ -1,1 +1,2 @@
+pub mod IdentLemmas
 pub mod NameLemmas

@@ -1,2 +1,3 @@
-pub mod Text
+pub mod Ident
 pub mod Moment
+pub mod Text

@@ -2,7 +2,7 @@
 #![tactic(auto)]
 
 mod bytes;
-mod ident;
+mod identifier;
 mod line;
 mod moment;
 mod name;
@@ -10,7 +10,7 @@ mod plain;
 mod text;
 
 pub use bytes::Bytes;
-pub use ident::Kind;
+pub use identifier::{Kind, ident, ident_read, ident_text};
 pub use line::{LINE_MAX, Line, LineFault};
 pub use moment::{MAX_MOMENT, Moment};
 pub use name::{NAME_MAX, Name};

@@ -1,0 +1,9 @@
+pub mod BoundLaws
+pub mod CombinatorLaws
+pub mod KindLaws
+pub mod ListLaws
+pub mod NumberLaws
+pub mod PartLaws
+pub mod Puts
+pub mod TextLaws
+pub mod WordLaws

@@ -1,0 +1,21 @@
+//! Events to bytes and back: each event has one spelling, and nothing else is read as one.
+#![tactic(auto)]
+
+mod descriptor;
+mod fault;
+mod input;
+mod kinds;
+mod lists;
+mod numbers;
+mod parts;
+mod reading;
+mod record_buf;
+mod words;
+mod write_lists;
+mod write_parts;
+mod writing;
+
+pub use fault::DecodeFault;
+pub use reading::decode;
+pub use record_buf::{RECORD_MAX, RecordBuf};
+pub use writing::{TooLong, encode};

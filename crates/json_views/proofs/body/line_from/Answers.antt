@@ -1,0 +1,10 @@
+-- The constructor's two clauses are the test.
+use Rattle.std.proofs.Common.{ap, Err}
+use Rattle.json_views.proofs.TextLemmas.{line_in-some, line_in-none}
+use Rattle.json_views.proofs.body.line_from.Goals as goal
+
+pub returns-in-Ok-clause-ok : goal.returns-in-Ok-clause-ok
+returns-in-Ok-clause-ok c = line_in-some _ _ c.in-Ok.ensures.line
+
+pub returns-in-Err-NotLine-clause-ok : goal.returns-in-Err-NotLine-clause-ok
+returns-in-Err-NotLine-clause-ok c = line_in-none _ (c.in-Err-NotLine.ensures.not_line.0 (ap Err c.in-Err-NotLine.field-0-is))

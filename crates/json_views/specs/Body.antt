@@ -1,0 +1,112 @@
+-- What a request body says. A body is a JSON object; a member that is null is as if absent, and members that aren't asked
+-- for are passed over (SOL 003 5.5.2; RFC 8259).
+use Rattle.std.specs.Prelude.{◌≡◌, ◌==◌, ◌&&◌, not, ℕ, List, [], length, nat_le, nat_lt, codes, Bool, true, false, if◌then◌else◌, Option, Some, None, option_and_then, Result, Ok, Err, is_some}
+use Rattle.std.specs.Option.{option_map_or}
+use Rattle.std.specs.List.{list_all}
+use Rattle.std.specs.Str.{is_utf8}
+use Rattle.serde_json.specs.Data.{Data, null, boolean, number, string, array, object}
+use Rattle.serde_json.specs.Find.{get, as_str, as_object, as_null}
+use Rattle.serde_json.specs.Read.{read}
+use Rattle.json_views.specs.declared.body.BodyFault.{BodyFault}
+use Rattle.json_views.specs.declared.body.BodyFault.TheVariants.{Malformed, Lacks, Wrong, Memory}
+use Rattle.json_views.specs.declared.body.CreateBody.{CreateBody}
+
+-- the value is there, where an object is asked for (RFC 8259 4)
+abbrev pub only_object : Data → Option Data
+only_object d = if is_some (as_object d) then Some d else None
+
+-- the JSON object that the bytes are, where they are one (RFC 8259)
+abbrev pub document : List ℕ → Option Data
+document bytes = if is_utf8 bytes then option_and_then only_object (read bytes) else None
+
+-- the value, unless it is null (own rule)
+abbrev pub not_null : Data → Option Data
+not_null d = if is_some (as_null d) then None else Some d
+
+-- the member of this name, absent where it is null (own rule)
+abbrev pub member_of : List ℕ → Data → Option Data
+member_of name d = option_and_then not_null (get name d)
+
+-- a byte of a short text: no control character (own rule)
+abbrev pub is_plain : ℕ → Bool
+is_plain byte = nat_le 32 byte && not (byte == 127)
+
+-- the bytes are a short text of at most so many bytes (own rule)
+abbrev pub is_short_text : ℕ → List ℕ → Bool
+is_short_text most bytes = nat_le (length bytes) most && is_utf8 bytes && list_all is_plain bytes
+
+-- a member's name: at most 255 visible ASCII bytes and spaces
+abbrev pub is_label : List ℕ → Bool
+is_label text = nat_le (length text) 255 && list_all (λ byte. nat_le 32 byte && nat_lt byte 127) text
+
+-- the text, where it is a name (own rule)
+abbrev pub name_in : List ℕ → Option (List ℕ)
+name_in text = if is_short_text 255 text then Some text else None
+
+-- the text, where it is a name that isn't empty (own rule)
+abbrev pub some_name_in : List ℕ → Option (List ℕ)
+some_name_in text = if nat_le 1 (length text) then name_in text else None
+
+-- the text, where it is a line (own rule)
+abbrev pub line_in : List ℕ → Option (List ℕ)
+line_in text = if is_short_text 2048 text then Some text else None
+
+-- a member that is needed: what `form` takes of its text; missing, or of another form (own rule)
+abbrev pub needed_value : List ℕ → Option (List ℕ) → Result (List ℕ) BodyFault
+needed_value name None = Err (Wrong name)
+needed_value name (Some text) = Ok text
+
+abbrev pub needed_member : (List ℕ → Option (List ℕ)) → List ℕ → Option Data → Result (List ℕ) BodyFault
+needed_member form name None = Err (Lacks name)
+needed_member form name (Some d) = needed_value name (option_and_then form (as_str d))
+
+abbrev pub needed : (List ℕ → Option (List ℕ)) → List ℕ → Data → Result (List ℕ) BodyFault
+needed form name d = needed_member form name (member_of name d)
+
+-- a member that may be absent (own rule)
+abbrev pub optional_value : List ℕ → Option (List ℕ) → Result (Option (List ℕ)) BodyFault
+optional_value name None = Err (Wrong name)
+optional_value name (Some text) = Ok (Some text)
+
+abbrev pub optional_member : (List ℕ → Option (List ℕ)) → List ℕ → Option Data → Result (Option (List ℕ)) BodyFault
+optional_member form name None = Ok None
+optional_member form name (Some d) = optional_value name (option_and_then form (as_str d))
+
+abbrev pub optional : (List ℕ → Option (List ℕ)) → List ℕ → Data → Result (Option (List ℕ)) BodyFault
+optional form name d = optional_member form name (member_of name d)
+
+-- the first of two readings that fails, or what both give
+abbrev pub and_then : {A B : Type 0} → Result A BodyFault → (A → Result B BodyFault) → Result B BodyFault
+and_then (Ok a) next = next a
+and_then (Err fault) next = Err fault
+
+-- a create request's body: the first member that is missing or wrong, in this order, or what it says (SOL 003 5.5.2.3
+-- CreateVnfRequest)
+abbrev pub create_in : Data → Result CreateBody BodyFault
+create_in d =
+    and_then (needed some_name_in (codes "vnfdId") d) (λ vnfd.
+    and_then (optional name_in (codes "vnfInstanceName") d) (λ name.
+    and_then (optional line_in (codes "vnfInstanceDescription") d) (λ text.
+    Ok (record { vnfd = vnfd; name = name; text = text }))))
+
+abbrev pub create_read : Option Data → Result CreateBody BodyFault
+create_read None = Err Malformed
+create_read (Some d) = create_in d
+
+abbrev pub create_of : List ℕ → Result CreateBody BodyFault
+create_of bytes = create_read (document bytes)
+
+-- the answer is what is expected, unless there was no memory for it
+abbrev pub Gives : {A : Type 0} → Result A BodyFault → Result A BodyFault → Type 0
+Gives (Ok a) expected = expected ≡ Ok a
+Gives (Err Malformed) expected = expected ≡ Err Malformed
+Gives (Err (Lacks name)) expected = expected ≡ Err (Lacks name)
+Gives (Err (Wrong name)) expected = expected ≡ Err (Wrong name)
+Gives (Err Memory) expected = Unit {0}
+
+-- the fault is one of reading the bytes as a whole
+abbrev pub IsMalformedOrMemory : BodyFault → Type 0
+IsMalformedOrMemory Malformed = Unit {0}
+IsMalformedOrMemory (Lacks name) = ⊥
+IsMalformedOrMemory (Wrong name) = ⊥
+IsMalformedOrMemory Memory = Unit {0}

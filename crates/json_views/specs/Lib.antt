@@ -1,0 +1,4 @@
+pub mod Body
+pub mod Instance
+pub mod Made
+pub mod Problem

@@ -1,0 +1,5 @@
+mod FieldLemmas
+mod FormLemmas
+mod ListenLemmas
+mod MouthLemmas
+pub mod TellLemmas

@@ -1,0 +1,18 @@
+use Rattle.std.proofs.Common.{◌≡◌, ◌≤◌, ◌-◌, length, take}
+use Rattle.site_traits.specs.Door.{ConnIs, has_read, NoNextFault}
+use Rattle.lcm_api.proofs.ListenLemmas.{HeardSoFar}
+use Rattle.lcm_api.proofs.listen.read_to_end.Given as goal
+
+-- the bytes so far are the connection's next ones
+abbrev pub invariant-loop-at : goal.invariant-loop-at
+invariant-loop-at g l =
+    let start = g.D.Door.state l.fn.door in
+    record {
+      within : l.at ≤ 65537;
+      long : length l.room ≡ 65537;
+      counts : NoNextFault (g.D.Door.counts l.fn.door) (g.D.Door.counts l.door);
+      told : g.D.Door.tells → HeardSoFar l.at l.room start (g.D.Door.state l.door);
+    }
+
+abbrev pub decreases-loop-at : goal.decreases-loop-at
+decreases-loop-at g l = 65537 - l.at

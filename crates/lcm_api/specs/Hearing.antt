@@ -1,0 +1,24 @@
+-- What hearing a connection does.
+use Rattle.std.specs.Prelude.{◌≡◌, ◌≤◌, ℕ, List, length, take, drop, Bool, true, false, if◌then◌else◌, Result, Ok, Err}
+use Rattle.site_traits.specs.Door.{Conn, DoorState, ConnIs, has_read, read_broke}
+use Rattle.lcm_api.specs.Form.{IsRequest, IsNoRequest}
+use Rattle.lcm_api.specs.declared.request.Request.{Request}
+use Rattle.lcm_api.specs.declared.mouth.HearFault.{HearFault}
+use Rattle.lcm_api.specs.declared.mouth.HearFault.TheVariants.{Malformed, Read, Memory}
+
+-- the connection once n bytes more were read, and, where it failed, one read then failed
+abbrev pub heard_of : ℕ → Bool → Conn → Conn
+heard_of n failed c = if failed then read_broke (has_read n c) else has_read n c
+
+-- These bytes of the connection were read: its next ones, up to its end or the 65,537th, or up to where a read failed.
+pub record Hears (bytes : List ℕ) (failed : Bool) (a b : DoorState) : Type 0 where
+  pub conn : ConnIs (heard_of (length bytes) failed a.conn) a b
+  pub front : bytes ≡ take (length bytes) a.conn.left
+  pub whole : failed ≡ false → bytes ≡ take 65537 a.conn.left
+
+-- what is made of the bytes that were read
+abbrev pub Judged : List ℕ → Bool → Result Request HearFault → Type 0
+Judged bytes failed (Ok r) = IsRequest bytes r
+Judged bytes failed (Err Malformed) = IsNoRequest bytes × (failed ≡ false)
+Judged bytes failed (Err Read) = IsNoRequest bytes × (failed ≡ true)
+Judged bytes failed (Err Memory) = Unit {0}

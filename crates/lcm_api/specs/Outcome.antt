@@ -1,0 +1,85 @@
+-- What a request comes to: the reply, and the event that it adds to the history (SOL 003 5.4.2, VNF instances). The order of
+-- the refusals is an own rule.
+use Rattle.std.specs.Prelude.{ℕ, ◌+◌, ◌&&◌, List, [], ◌∷◌, ◌++◌, length, map, reverse, codes, nat_le, nat_lt, if◌then◌else◌, Bool, true, false, Some, None, Result, Ok, Err}
+use Rattle.std.specs.Str.{bytes_eq}
+use Rattle.event_codec.specs.Spell.{spelling}
+use Rattle.journal_core.specs.File.{size}
+use Rattle.lcm_events.specs.declared.events.Event.{Event}
+use Rattle.lcm_events.specs.declared.events.EventKind.TheVariants.{Created}
+use Rattle.lcm_model.specs.Lives.{instances_made, live_instances}
+use Rattle.json_views.specs.Body.{create_of}
+use Rattle.json_views.specs.Instance.{instance_path, created_text}
+use Rattle.json_views.specs.Problem.{problem_text}
+use Rattle.json_views.specs.declared.body.CreateBody.{CreateBody}
+use Rattle.json_views.specs.declared.body.BodyFault.{BodyFault}
+use Rattle.json_views.specs.declared.body.BodyFault.TheVariants.{Malformed, Lacks, Wrong, Memory}
+use Rattle.lcm_api.specs.declared.reply.Reply.{Reply}
+use Rattle.lcm_api.specs.declared.request.Request.{Request}
+
+-- a reply, and the events that the request adds, the latest first
+pub record Outcome : Type 0 where
+  pub reply : Reply
+  pub after : List Event
+
+-- a refusal with this status and this detail (RFC 9457 3)
+unfoldable pub refusal : ℕ → List ℕ → Reply
+refusal status detail = record { status = status; location = None; allow = None; problem = true; body = problem_text status detail; last = false }
+
+-- a refused request adds nothing
+abbrev pub refused : ℕ → List ℕ → Outcome
+refused status detail = record { reply = refusal status detail; after = [] }
+
+-- the refusal of bytes that are no request, after which the connection ends (RFC 9110 15.5.1)
+unfoldable pub malformed : Reply
+malformed = record { status = 400; location = None; allow = None; problem = true; body = problem_text 400 (codes "malformed request"); last = true }
+
+-- a reply that is told without memory: its body is fixed by its status
+abbrev pub bare : ℕ → Reply
+bare status = record { status = status; location = None; allow = None; problem = true; body = []; last = true }
+
+-- the journal failed (RFC 9110 15.6.1)
+abbrev pub faulted : Reply
+faulted = bare 500
+
+-- there is no memory (RFC 9110 15.6.4)
+abbrev pub starved : Reply
+starved = bare 503
+
+-- the event of a create request: the next instance, with what the body says (SOL 003 5.4.2)
+abbrev pub creation : List Event → ℕ → CreateBody → Event
+creation H now body = record { moment = now; kind = Created (instances_made H + 1) body.vnfd body.name body.text }
+
+-- the answer to it: the instance and where it is found (SOL 003 5.4.2, 5.5.2.2)
+unfoldable pub created : ℕ → ℕ → CreateBody → Reply
+created m n body = record { status = 201; location = Some (instance_path m n); allow = None; problem = false; body = created_text m n body; last = false }
+
+-- the bytes of the journal of this history up to its closed gate (own rule)
+unfoldable pub journal_size : List Event → ℕ
+journal_size H = size (map spelling (reverse H))
+
+-- the journal with this event would pass the limit up to which requests are taken (own rule)
+abbrev pub is_full : List Event → Event → Bool
+is_full H e = nat_lt 201326592 (journal_size H + 6 + length (spelling e))
+
+-- a create request whose body says this
+abbrev pub create_outcome : ℕ → List Event → ℕ → CreateBody → Outcome
+create_outcome m H now body =
+    if nat_le 1000 (length (live_instances H)) then refused 507 (codes "too many instances")
+    else (if is_full H (creation H now body) then refused 507 (codes "journal full")
+    else record { reply = created m (instances_made H + 1) body; after = creation H now body ∷ [] })
+
+-- a create request with this body, as it is read
+abbrev pub body_outcome : ℕ → List Event → ℕ → Result CreateBody BodyFault → Outcome
+body_outcome m H now (Ok body) = create_outcome m H now body
+body_outcome m H now (Err Malformed) = refused 400 (codes "malformed JSON")
+body_outcome m H now (Err (Lacks name)) = refused 400 (codes "missing " ++ name)
+body_outcome m H now (Err (Wrong name)) = refused 400 (codes "bad " ++ name)
+body_outcome m H now (Err Memory) = record { reply = starved; after = [] }
+
+-- the request creates an instance (SOL 003 5.4.2.3.1)
+abbrev pub is_create : Request → Bool
+is_create r = bytes_eq r.method (codes "POST") && bytes_eq r.target (codes "/vnflcm/v1/vnf_instances")
+
+-- what a request comes to, after history H of manager m, taken at this moment
+abbrev pub outcome : ℕ → List Event → ℕ → Request → Outcome
+outcome m H now r = if is_create r then body_outcome m H now (create_of r.body) else refused 404 (codes "no such resource")

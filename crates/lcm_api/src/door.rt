@@ -1,0 +1,24 @@
+//! Writing bytes to a connection until the door has taken them.
+ghost use Rattle.std.specs.Prelude.{◌≡◌, ◌≤◌, length};
+ghost use Rattle.lcm_api.specs.Telling.{Tells, TellCause};
+
+use site_traits::{Door, WriteAnswer};
+
+/// A write failed: the door's count of faults rose, and a front of the bytes went out.
+#[derive(Clone, Copy, Debug, PartialEq, Eq)]
+pub struct DoorFailed;
+
+/// Writes the bytes, with as few writes as the door takes.
+pub fn write_all<D: Door>(door: &mut D, bytes: &[u8]) -> Result<(), DoorFailed>
+    ensures told { D.tells → Tells bytes.now result (D.state door.old) (D.state door.new) }
+    ensures cause { TellCause result (D.counts door.old) (D.counts door.new) }
+{
+    let mut at = 0;
+    while at < bytes.len() {
+        match door.write(&bytes[at..]) {
+            WriteAnswer::Took(n) => at += n,
+            WriteAnswer::Failed => return Err(DoorFailed),
+        }
+    }
+    Ok(())
+}

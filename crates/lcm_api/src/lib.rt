@@ -1,0 +1,11 @@
+//! Requests and their replies.
+#![tactic(auto)]
+
+mod door;
+mod form;
+mod judge;
+mod listen;
+mod mouth;
+mod outgoing;
+mod reply;
+mod request;

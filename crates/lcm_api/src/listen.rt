@@ -1,0 +1,48 @@
+//! Reading the bytes of a connection into room that was taken beforehand.
+ghost use Rattle.std.specs.Prelude.{◌≡◌, ◌≤◌, length, take, true};
+ghost use Rattle.site_traits.specs.Counts.{Rose};
+ghost use Rattle.site_traits.specs.Door.{NoNextFault};
+ghost use Rattle.lcm_api.specs.Hearing.{Hears};
+
+use site_traits::{Door, ReadAnswer};
+
+/// How far a reading came.
+#[derive(Clone, Copy)]
+pub struct Reading {
+    /// The bytes that were read.
+    pub count: usize,
+    /// Whether it ended because a read failed.
+    pub failed: bool,
+}
+
+/// Reads to the connection's end, or until the room is full.
+pub fn read_to_end<D: Door>(door: &mut D, room: &mut [u8]) -> Reading
+    requires { length room.old ≡ 65537 }
+    ensures within { result.count ≤ 65537 }
+    ensures told { D.tells → Hears (take result.count room.new) result.failed (D.state door.old) (D.state door.new) }
+    ensures cause { NoNextFault (D.counts door.old) (D.counts door.new) }
+    ensures failed { result.failed ≡ true → Rose (D.counts door.old).faults (D.counts door.new).faults }
+{
+    let mut at = 0;
+    while at < room.len() {
+        match door.read(&mut room[at..]) {
+            ReadAnswer::Got(n) => at += n,
+            ReadAnswer::End => {
+                return Reading {
+                    count: at,
+                    failed: false,
+                };
+            }
+            ReadAnswer::Failed => {
+                return Reading {
+                    count: at,
+                    failed: true,
+                };
+            }
+        }
+    }
+    Reading {
+        count: at,
+        failed: false,
+    }
+}
