@@ -1,12 +1,14 @@
 -- One call more on a file in memory: what the site then tells.
-use Rattle.std.proofs.Common.{◌≡◌, ◌⊎◌, ◌∙◌, sym, ap, subst, inl, inr, ⊎_elim, ℕ, ◌≤◌, ◌<◌, min, List, [], ◌∷◌, ◌++◌, length, take, map, Result, refl, arith}
+use Rattle.std.proofs.Common.{◌≡◌, ◌⊎◌, ◌∙◌, sym, ap, subst, inl, inr, ⊎_elim, ℕ, ◌≤◌, ◌<◌, min, List, [], ◌∷◌, ◌++◌, length, take, map, Result, refl, arith, Bool, if◌then◌else◌, replicate}
 use Rattle.std.specs.Prelude.{leb, true, false}
 use Rattle.std.proofs.lemmas.Bool.Decides.{leb_tells}
-use Rattle.std.proofs.lemmas.List.{take-append-le, take_all, length_push, map_push}
+use Rattle.std.proofs.lemmas.List.{take-append-le, take_all, length_push, map_push, take-map, length-map, length-replicate}
 use Rattle.std.proofs.lemmas.List.Sums.{fold-append}
 use Rattle.site_traits.specs.declared.mem_site.DiskCall.{DiskCall}
 use Rattle.site_traits.specs.Site.{Pair, pair_of, OnFile, Same, Torn, Cut, Reads, Writes, Cuts, Syncs}
-use Rattle.site_traits.specs.Disk.{Change, wrote, cut, synced, kept, change_of, Disk, overlaid, after, Reaches, fresh, disk, LeftSince, told, seen_reached}
+use Rattle.site_traits.specs.Disk.{Change, wrote, cut, synced, kept, change_of, Disk, overlaid, after, Reaches, fresh, disk, LeftSince, told, seen_reached, overlaid_torn, put_over, chosen, chosen_all, stopped_image, Takes}
+use Rattle.site_traits.specs.declared.mem_site.Choice.{Choice}
+use Rattle.site_traits.specs.declared.mem_site.Choice.TheVariants as choice
 use Rattle.site_traits.proofs.Writes.{torn-refl, on_ok_anyway}
 
 -- the disk after one call more
@@ -179,3 +181,47 @@ syncs_told r first log new e is what =
     let cs = map change_of log in
     let P : List Change → Type 0 = λ v. Syncs r (told first cs) (told first v) in
     subst P (sym (changes_push log new e is ∙ ap (λ v. cs ++ v ∷ []) what)) (syncs_push r first cs)
+
+-- bytes over others are one of the ways in which a write may be cut short
+put_torn : (old : List ℕ) (at : ℕ) (bytes : List ℕ) → Torn at (length bytes) old (put_over old at bytes)
+put_torn old at bytes = ⊎_elim
+    (λ (is : (leb at (length old) ≡ true) × (at ≤ length old)).
+    let P : Bool → Type 0 = λ b. Torn at (length bytes) old (if b then overlaid old at bytes else old) in subst P (sym is.0) (overlaid_torn old at bytes is.1))
+    (λ (not : (leb at (length old) ≡ false) × (length old < at)).
+    let P : Bool → Type 0 = λ b. Torn at (length bytes) old (if b then overlaid old at bytes else old) in subst P (sym not.0) (torn-refl at (length bytes) old))
+    (leb_tells at (length old))
+
+-- what a choice makes of a change is one of the ways in which a stop may
+chosen_takes : (ch : Choice) (c : Change) (old : List ℕ) → Takes c old (chosen ch c old)
+chosen_takes choice.Old (wrote at bytes) old = torn-refl at (length bytes) old
+chosen_takes choice.Old (cut to) old = inl refl
+chosen_takes choice.Old synced old = refl
+chosen_takes choice.Old kept old = refl
+chosen_takes choice.New (wrote at bytes) old = put_torn old at bytes
+chosen_takes choice.New (cut to) old = inr refl
+chosen_takes choice.New synced old = refl
+chosen_takes choice.New kept old = refl
+chosen_takes choice.Torn (wrote at bytes) old =
+    let P : ℕ → Type 0 = λ n. Torn at n old (put_over old at (replicate (length bytes) 165)) in subst P (length-replicate (length bytes) 165) (put_torn old at (replicate (length bytes) 165))
+chosen_takes choice.Torn (cut to) old = inr refl
+chosen_takes choice.Torn synced old = refl
+chosen_takes choice.Torn kept old = refl
+
+-- what a choice leaves may be left
+chosen_reached : (ch : Choice) (base : List ℕ) (pending : List Change) → Reaches base pending (chosen_all ch base pending)
+chosen_reached ch base [] = refl
+chosen_reached ch base (c ∷ earlier) = (chosen_all ch base earlier, chosen_reached ch base earlier, chosen_takes ch c (chosen_all ch base earlier))
+
+-- so a stop at that moment may leave it
+pub stopped_allowed : (ch : Choice) (first image : List ℕ) (log : List (DiskCall × List ℕ)) (k : ℕ) → k ≤ length log → image ≡ stopped_image ch first (map change_of (take k log))
+    → LeftSince first (map change_of log) k (pair_of image)
+stopped_allowed ch first image log k le is =
+    let cs = take k (map change_of log) in
+    let same : map change_of (take k log) ≡ cs = sym (take-map change_of k log) in
+    let d = disk first cs in
+    record {
+      moment = k;
+      since = omega arith;
+      has_been = omega (arith, length-map log change_of);
+      reached = (let P : List ℕ → Type 0 = λ v. Reaches d.base d.pending v in subst P (sym (is ∙ ap (stopped_image ch first) same)) (chosen_reached ch d.base d.pending));
+    }

@@ -1,5 +1,5 @@
 -- A file in memory, by the calls that were made on it since it stood as it was at first.
-use Rattle.std.specs.Prelude.{◌≡◌, ◌≤◌, ℕ, ◌+◌, min, List, [], ◌∷◌, ◌++◌, length, take, drop, replicate, fold}
+use Rattle.std.specs.Prelude.{◌≡◌, ◌≤◌, ℕ, ◌+◌, min, List, [], ◌∷◌, ◌++◌, length, take, drop, replicate, fold, if◌then◌else◌, nat_le}
 use Rattle.std.proofs.Common.{arith, subst, refl, inr, ap, sym, ◌∙◌, append_assoc, length-append, length-drop}
 use Rattle.std.proofs.lemmas.List.{take_at, drop_at, take_all, length-take-le}
 use Rattle.site_traits.specs.declared.mem_site.DiskCall.{DiskCall}
@@ -73,7 +73,7 @@ pub left_earlier : (first : List ℕ) (changes : List Change) (t u : ℕ) (p : P
 left_earlier first changes t u p le left = record { moment = left.moment; since = omega (arith, left.since, le); has_been = left.has_been; reached = left.reached }
 
 -- a write that was not cut short is one of the ways in which it may be
-overlaid_torn : (old : List ℕ) (at : ℕ) (bytes : List ℕ) → at ≤ length old → Torn at (length bytes) old (overlaid old at bytes)
+pub overlaid_torn : (old : List ℕ) (at : ℕ) (bytes : List ℕ) → at ≤ length old → Torn at (length bytes) old (overlaid old at bytes)
 overlaid_torn old at bytes le =
     let n = length bytes in
     let front = take at old in
@@ -125,13 +125,17 @@ told first changes = record {
   now = left_now first changes;
 }
 
+-- these bytes at this place of the old ones, where it lies within them
+abbrev pub put_over : List ℕ → ℕ → List ℕ → List ℕ
+put_over old at bytes = if nat_le at (length old) then overlaid old at bytes else old
+
 -- what a choice makes of a change that isn't synced: nothing, the change, or the byte 165 in a written range
 abbrev pub chosen : Choice → Change → List ℕ → List ℕ
 chosen choice.Old change old = old
-chosen choice.New (wrote at bytes) old = overlaid old (min at (length old)) bytes
+chosen choice.New (wrote at bytes) old = put_over old at bytes
 chosen choice.New (cut to) old = take to old
 chosen choice.New other old = old
-chosen choice.Torn (wrote at bytes) old = overlaid old (min at (length old)) (replicate (length bytes) 165)
+chosen choice.Torn (wrote at bytes) old = put_over old at (replicate (length bytes) 165)
 chosen choice.Torn (cut to) old = take to old
 chosen choice.Torn other old = old
 
@@ -143,3 +147,13 @@ chosen_all c base (change ∷ earlier) = chosen c change (chosen_all c base earl
 -- the file that this choice leaves of a stop after these calls
 abbrev pub stopped_image : Choice → List ℕ → List Change → List ℕ
 stopped_image c first changes = chosen_all c (disk first changes).base (disk first changes).pending
+
+-- the change with its place within so many bytes
+abbrev pub clip : ℕ → Change → Change
+clip n (wrote at bytes) = wrote (min at n) bytes
+clip n other = other
+
+-- what the choice leaves after one call more, given what a read gave and what it left before
+abbrev pub left_after : Choice → Change → List ℕ → List ℕ → List ℕ
+left_after c synced seen left = seen
+left_after c other seen left = chosen c (clip (length seen) other) left

@@ -1,7 +1,7 @@
 // A site in memory, which tells all.
-ghost use Rattle.std.specs.Prelude.{◌≡◌, ◌≤◌, ◌<◌, ◌+◌, ℕ, List, [], map, get_or, length, take, drop, IsTrue, IfOk, true, false, vec_capacity};
+ghost use Rattle.std.specs.Prelude.{◌≡◌, ◌≤◌, ◌<◌, ◌+◌, ℕ, List, [], map, get_or, length, take, drop, min, IsTrue, IfOk, OnOk, true, false, vec_capacity};
 ghost use Rattle.site_traits.specs.Counts.{Rose};
-ghost use Rattle.site_traits.specs.Disk.{change_of, disk, overlaid, told, stopped_image};
+ghost use Rattle.site_traits.specs.Disk.{change_of, change_by, disk, overlaid, put_over, chosen, clip, left_after, stopped_image};
 
 use crate::log::{CALLS, Log};
 use crate::site::{DiskFailed, Site};
@@ -100,7 +100,9 @@ impl MemSite {
 }
 
 impl MemSite {
-    ghost use Rattle.site_traits.specs.MemSite.{image_of};
+    ghost use Rattle.site_traits.specs.MemSite.{image_of, IsFresh};
+    ghost use Rattle.site_traits.specs.Site.{pair_of};
+    ghost use Rattle.site_traits.specs.Disk.{LeftSince};
 
     /// The file, as a read gives it.
     pub fn file(&self) -> &[u8]
@@ -124,12 +126,140 @@ impl MemSite {
         self.log.what(k)
     }
 
+    /// A site with the file that this choice leaves of a stop after so many calls. Nothing is pending on it, and no call of
+    /// it is to fail. Its room is that of this site, or as much as the file needs.
+    pub fn stopped(
+        &self,
+        alloc: Global,
+        moment: usize,
+        choice: Choice,
+    ) -> Result<MemSite, AllocError>
+        requires { moment ≤ length self.now.log }
+        ensures image { IfOk result (λ m. IsFresh m (stopped_image choice self.now.first.items (map change_of (take moment self.now.log)))) }
+        ensures allowed { IfOk result (λ m. LeftSince self.now.first.items (map change_of self.now.log) moment (pair_of (image_of m))) }
+    {
+        let left = self.left_by(alloc, moment, choice)?;
+        let plan = SitePlan {
+            bytes: self.file.capacity(),
+            failing: Vec::new(alloc),
+        };
+        MemSite::with_file(alloc, plan, &left)
+    }
+
+    // The file that this choice leaves of a stop after so many calls.
+    fn left_by(&self, alloc: Global, moment: usize, choice: Choice) -> Result<Vec<u8>, AllocError>
+        requires { moment ≤ length self.now.log }
+        ensures { IfOk result (λ left. left.items ≡ stopped_image choice self.now.first.items (map change_of (take moment self.now.log))) }
+    {
+        let mut seen = self.first.to_vec(alloc)?;
+        let mut left = self.first.to_vec(alloc)?;
+        for k in 0..moment {
+            one_call(
+                alloc,
+                &mut seen,
+                &mut left,
+                choice,
+                self.log.what(k),
+                self.log.bytes_of(k),
+            )?;
+        }
+        Ok(left)
+    }
+
     /// How many disk calls failed.
     pub fn faults(&self) -> u64
         ensures { result ≡ self.now.faults }
     {
         self.faults
     }
+}
+
+// One call more on what a read gives and on what a stop leaves by this choice.
+fn one_call(
+    alloc: Global,
+    seen: &mut Vec<u8>,
+    left: &mut Vec<u8>,
+    choice: Choice,
+    call: DiskCall,
+    bytes: &[u8],
+) -> Result<(), AllocError>
+    ensures seen { OnOk result (seen.new.items ≡ chosen Choice.New (clip (length seen.old.items) (change_by call bytes.now)) seen.old.items) }
+    ensures left { OnOk result (left.new.items ≡ left_after choice (change_by call bytes.now) seen.old.items left.old.items) }
+{
+    if let DiskCall::Synced = call {
+        *left = seen.to_vec(alloc)?;
+        return Ok(());
+    }
+    let call = clipped(call, seen.len());
+    chosen_change(alloc, left, choice, call, bytes)?;
+    chosen_change(alloc, seen, Choice::New, call, bytes)
+}
+
+// The call with its place within so many bytes.
+fn clipped(call: DiskCall, len: usize) -> DiskCall
+    ensures { (bytes : List ℕ) → change_by result bytes ≡ clip len (change_by call bytes) }
+{
+    match call {
+        DiskCall::Wrote { at } => DiskCall::Wrote {
+            at: at.min(len as u64),
+        },
+        other => other,
+    }
+}
+
+// Does to the file what this choice makes of this call.
+fn chosen_change(
+    alloc: Global,
+    file: &mut Vec<u8>,
+    choice: Choice,
+    call: DiskCall,
+    bytes: &[u8],
+) -> Result<(), AllocError>
+    ensures { OnOk result (file.new.items ≡ chosen choice (change_by call bytes.now) file.old.items) }
+{
+    match choice {
+        Choice::Old => Ok(()),
+        Choice::New => new_change(file, call, bytes),
+        Choice::Torn => {
+            let torn = vec![in alloc; 165; bytes.len()]?;
+            new_change(file, call, &torn)
+        }
+    }
+}
+
+// Does to the file what this call did.
+fn new_change(file: &mut Vec<u8>, call: DiskCall, bytes: &[u8]) -> Result<(), AllocError>
+    ensures { OnOk result (file.new.items ≡ chosen Choice.New (change_by call bytes.now) file.old.items) }
+{
+    match call {
+        DiskCall::Wrote { at } => put_at(file, at, bytes),
+        DiskCall::Cut { to } => {
+            cut_to(file, to);
+            Ok(())
+        }
+        _ => Ok(()),
+    }
+}
+
+// Puts these bytes at this place, where it lies within the file.
+fn put_at(file: &mut Vec<u8>, at: u64, bytes: &[u8]) -> Result<(), AllocError>
+    ensures { OnOk result (file.new.items ≡ put_over file.old.items at bytes.now) }
+{
+    if at > file.len() as u64 {
+        return Ok(());
+    }
+    let room = bytes.len();
+    file.reserve(room)?;
+    overlay(file, at as usize, bytes);
+    Ok(())
+}
+
+// Cuts the file to this length.
+fn cut_to(file: &mut Vec<u8>, to: u64)
+    ensures { file.new.items ≡ take to file.old.items }
+{
+    let place = to.min(file.len() as u64) as usize;
+    file.truncate(place);
 }
 
 // A copy of these bytes with room for so many.
