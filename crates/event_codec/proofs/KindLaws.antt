@@ -152,6 +152,9 @@ reads_event =
     (λ e h. refl) (λ p h. ap (λ n. n ∷ (spell.u64 p.1.0 ++ fields p.1.1)) (sym h.1.1.0))
     (λ p h. (h.1.0, h.1.1.1)) (λ e h. (kind_below e.kind, (h.0, (refl, h.1))))
 
+same_event : (x y : Event) → Some x ≡ Some y → x ≡ y
+same_event x y h = cc
+
 same_pair : (x y : Event × List ℕ) → Some x ≡ Some y → x ≡ y
 same_pair x y h = cc
 
@@ -197,3 +200,8 @@ pub decode-none : (bytes : List ℕ) (r : Result Event DecodeFault) → GivesWho
 decode-none bytes r h is e is_e same =
     let P : Result Event DecodeFault → Type 0 = λ q. GivesWhole q (whole_event bytes) in
     whole-none bytes (subst P is h) e is_e same
+
+pub decode-again : (bytes : List ℕ) (r : Result Event DecodeFault) → GivesWhole r (whole_event bytes)
+    → (e : Event) → IsEvent e → bytes ≡ spelling e → IfOk r (λ f. f ≡ e)
+decode-again bytes (Ok f) h e is_e same = same_event f e (sym h ∙ whole-again bytes e is_e same)
+decode-again bytes (Err fault) h e is_e same = tt

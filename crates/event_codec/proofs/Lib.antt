@@ -5,5 +5,6 @@ pub mod ListLaws
 pub mod NumberLaws
 pub mod PartLaws
 pub mod Puts
+pub mod Rows
 pub mod TextLaws
 pub mod WordLaws

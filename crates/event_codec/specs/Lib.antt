@@ -1,6 +1,7 @@
 pub mod Combinators
 pub mod Gives
 pub mod Numbers
+pub mod Prefix
 pub mod Readers
 pub mod Spell
 pub mod Typed

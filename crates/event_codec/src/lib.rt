@@ -5,6 +5,7 @@ mod descriptor;
 mod fault;
 mod input;
 mod kinds;
+mod laws;
 mod lists;
 mod numbers;
 mod parts;
@@ -16,6 +17,7 @@ mod write_parts;
 mod writing;
 
 pub use fault::DecodeFault;
+pub use laws::no_spelling_begins_another;
 pub use reading::decode;
 pub use record_buf::{RECORD_MAX, RecordBuf};
 pub use writing::{TooLong, encode};

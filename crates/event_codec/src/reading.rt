@@ -19,6 +19,7 @@ use std::alloc::Global;
 /// Source: own format, docs/EVENTS.md.
 pub fn decode(alloc: Global, bytes: &[u8]) -> Result<Event, DecodeFault>
     ensures found { IfOk result (λ e. IsEvent e × (bytes.now ≡ spelling e)) }
+    ensures again { (e : Seen) → IsEvent e → bytes.now ≡ spelling e → IfOk result (λ f. f ≡ e) }
     ensures none { result ≡ Err DecodeFault.NotEvent → (e : Seen) → IsEvent e → bytes.now ≡ spelling e → ⊥ }
 {
     whole(alloc, bytes)

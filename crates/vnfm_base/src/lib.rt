@@ -7,11 +7,13 @@ mod line;
 mod moment;
 mod name;
 mod plain;
+#[cfg(test)]
+mod tests;
 mod text;
 
 pub use bytes::Bytes;
 pub use identifier::{Kind, ident, ident_read, ident_text};
 pub use line::{LINE_MAX, Line, LineFault};
-pub use moment::{MAX_MOMENT, Moment};
+pub use moment::{MAX_MOMENT, Moment, moment_text};
 pub use name::{NAME_MAX, Name};
 pub use text::{Text, TextFault};
