@@ -14,6 +14,7 @@ mod next;
 mod operations;
 mod refusals;
 mod since;
+mod targets;
 mod valid;
 mod work;
 
