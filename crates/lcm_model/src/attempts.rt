@@ -4,11 +4,7 @@ ghost use Rattle.std.specs.Prelude.{◌≡◌, ◌≤◌, reverse, length};
 ghost use Rattle.lcm_model.specs.Attempts.{attempts, done_count, is_open, is_settled, is_unsettled, net, open_attempts, open_of};
 ghost use Rattle.lcm_model.specs.Next.{first_open};
 
-use lcm_events::Event;
-use lcm_events::EventKind;
-use lcm_events::Outcome;
-use lcm_events::Tag;
-use lcm_events::Way;
+use lcm_events::{Event, EventKind, Outcome, Tag, Way};
 
 /// Whether an attempt has ended.
 pub fn is_settled_in(events: &[Event], tag: &Tag) -> bool
@@ -119,7 +115,11 @@ pub fn count_done(events: &[Event], way: Way, occ: u64, change: u64) -> u64
 {
     let mut count = 0;
     for event in events {
-        if let EventKind::Settled { tag, outcome: Outcome::Done(_) } = &event.kind {
+        if let EventKind::Settled {
+            tag,
+            outcome: Outcome::Done(_),
+        } = &event.kind
+        {
             if tag.occ == occ && tag.change as u64 == change && way == tag.way {
                 count += 1;
             }

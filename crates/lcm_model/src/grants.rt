@@ -3,10 +3,7 @@
 ghost use Rattle.std.specs.Prelude.{◌≡◌, reverse, option_copied};
 ghost use Rattle.lcm_model.specs.Grants.{granted_place, has_ended, is_granted, location, place_at, troubled_tries};
 
-use lcm_events::Event;
-use lcm_events::EventKind;
-use lcm_events::GrantTry;
-use lcm_events::Place;
+use lcm_events::{Event, EventKind, GrantTry, Place};
 use vnfm_base::Line;
 
 /// Whether the occurrence was granted.
@@ -30,7 +27,11 @@ pub fn count_troubled(events: &[Event], occ: u64) -> u64
 {
     let mut count = 0;
     for event in events {
-        if let EventKind::GrantTried { occ: answered, answer: GrantTry::Trouble } = &event.kind {
+        if let EventKind::GrantTried {
+            occ: answered,
+            answer: GrantTry::Trouble,
+        } = &event.kind
+        {
             if *answered == occ {
                 count += 1;
             }
@@ -48,7 +49,10 @@ pub fn has_ended_in(events: &[Event], occ: u64) -> bool
         match &event.kind {
             EventKind::Granted { occ: answered, .. } if *answered == occ => last = true,
             EventKind::Denied { occ: answered } if *answered == occ => last = true,
-            EventKind::GrantTried { occ: answered, answer: GrantTry::NotCovering } if *answered == occ => last = true,
+            EventKind::GrantTried {
+                occ: answered,
+                answer: GrantTry::NotCovering,
+            } if *answered == occ => last = true,
             _ => (),
         }
     }
@@ -61,7 +65,11 @@ pub fn location_in(events: &[Event], occ: u64) -> Option<&Line>
 {
     let mut told = None;
     for event in events {
-        if let EventKind::GrantTried { occ: answered, answer: GrantTry::Later(at) } = &event.kind {
+        if let EventKind::GrantTried {
+            occ: answered,
+            answer: GrantTry::Later(at),
+        } = &event.kind
+        {
             if *answered == occ {
                 told = Some(at);
             }
@@ -84,7 +92,13 @@ pub fn granted_place_in(events: &[Event], occ: u64, change: u16) -> Option<Place
 {
     let mut place = None;
     for event in events {
-        if let EventKind::Granted { occ: answered, places, spots, .. } = &event.kind {
+        if let EventKind::Granted {
+            occ: answered,
+            places,
+            spots,
+            ..
+        } = &event.kind
+        {
             if *answered == occ {
                 place = place_in(places.as_slice(), spots.as_slice(), change);
             }

@@ -4,21 +4,11 @@ ghost use Rattle.std.specs.Prelude.{◌≡◌, reverse, filter, option_map};
 ghost use Rattle.lcm_model.specs.Words.{first};
 ghost use Rattle.lcm_model.specs.Holding.{effect_in, effects, is_creation, is_effect_on, is_forward_creation, leaves_it, leaves_it_running, place, resource, runs, stands, top, top_in, top_of};
 
-use lcm_events::Change;
-use lcm_events::Def;
-use lcm_events::Event;
-use lcm_events::EventKind;
-use lcm_events::Operation;
-use lcm_events::Outcome;
-use lcm_events::Place;
-use lcm_events::Verb;
-use lcm_events::Way;
-use vnfm_base::Name;
-
 use crate::grants::granted_place_in;
 use crate::holding::Effect;
-use crate::operations::operation_in;
-use crate::operations::verb_in_way;
+use crate::operations::{operation_in, verb_in_way};
+use lcm_events::{Change, Def, Event, EventKind, Operation, Outcome, Place, Verb, Way};
+use vnfm_base::Name;
 
 /// The effect of an event after its past.
 #[tactic(auto, unfolding(crate::specs::Holding::effect_in))]

@@ -3,12 +3,8 @@
 ghost use Rattle.std.specs.Prelude.{◌≡◌, reverse};
 ghost use Rattle.lcm_model.specs.Instances.{instantiates, is_instantiated, is_started, moving, starts_or_stops};
 
-use lcm_events::Ask;
-use lcm_events::Event;
-use lcm_events::EventKind;
-use lcm_events::OpState;
-
 use crate::operations::operation_in;
+use lcm_events::{Ask, Event, EventKind, OpState};
 
 /// Whether a move of an operation makes its instance INSTANTIATED or NOT_INSTANTIATED.
 fn instantiates_by(ask: &Ask, to: OpState) -> Option<bool>

@@ -3,11 +3,7 @@
 ghost use Rattle.std.specs.Prelude.{◌≡◌, reverse, option_copied, option_map, length};
 ghost use Rattle.lcm_model.specs.Lives.{creation, creations, descriptor, descriptor_named, descriptors, instances_made, is_deleted, is_kept, is_live, is_live_of, is_subscribed, is_unsubscribed, live_instances, live_subscriptions, subscription, subscriptions_made};
 
-use lcm_events::Event;
-use lcm_events::EventKind;
-use lcm_events::Filter;
-use lcm_events::Role;
-use lcm_events::Vnfd;
+use lcm_events::{Event, EventKind, Filter, Role, Vnfd};
 use vnfm_base::Name;
 
 /// The descriptor of this identifier.
@@ -44,7 +40,12 @@ pub fn vnfd_of(events: &[Event], instance: u64) -> Option<Name>
 {
     let mut found = None;
     for event in events {
-        if let EventKind::Created { instance: made, vnfd, .. } = &event.kind {
+        if let EventKind::Created {
+            instance: made,
+            vnfd,
+            ..
+        } = &event.kind
+        {
             if *made == instance {
                 found = Some(*vnfd);
             }
@@ -59,7 +60,12 @@ pub fn name_of(events: &[Event], instance: u64) -> Option<Option<Name>>
 {
     let mut found = None;
     for event in events {
-        if let EventKind::Created { instance: made, name, .. } = &event.kind {
+        if let EventKind::Created {
+            instance: made,
+            name,
+            ..
+        } = &event.kind
+        {
             if *made == instance {
                 found = Some(*name);
             }
@@ -138,7 +144,12 @@ pub fn filter_of(events: &[Event], number: u64) -> Option<&Filter>
 {
     let mut found = None;
     for event in events {
-        if let EventKind::Subscribed { subscription, filter, .. } = &event.kind {
+        if let EventKind::Subscribed {
+            subscription,
+            filter,
+            ..
+        } = &event.kind
+        {
             if *subscription == number {
                 found = Some(filter);
             }
@@ -191,7 +202,12 @@ pub fn count_live_subscriptions(events: &[Event], role: Role) -> u64
 {
     let mut count = 0;
     for event in events {
-        if let EventKind::Subscribed { subscription, role: own, .. } = &event.kind {
+        if let EventKind::Subscribed {
+            subscription,
+            role: own,
+            ..
+        } = &event.kind
+        {
             let ended = is_unsubscribed_in(events, *subscription);
             if role == *own && !ended {
                 count += 1;

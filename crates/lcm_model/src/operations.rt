@@ -4,18 +4,8 @@ ghost use Rattle.std.specs.Prelude.{◌≡◌, reverse, option_copied, is_some, 
 ghost use Rattle.lcm_model.specs.Words.{first};
 ghost use Rattle.lcm_model.specs.Operations.{change_of, changes, goes_on, kind_of, occurrences_made, ongoing, operation, undo, verb_done};
 
-use lcm_events::Ask;
-use lcm_events::Change;
-use lcm_events::Event;
-use lcm_events::EventKind;
-use lcm_events::OpKind;
-use lcm_events::Operation;
-use lcm_events::Tag;
-use lcm_events::Verb;
-use lcm_events::Way;
-
-use crate::moves::ends;
-use crate::moves::state_after;
+use crate::moves::{ends, state_after};
+use lcm_events::{Ask, Change, Event, EventKind, OpKind, Operation, Tag, Verb, Way};
 
 /// The operation of this number.
 pub fn operation_in(events: &[Event], occ: u64) -> Option<&Operation>
@@ -59,7 +49,9 @@ pub fn changes_in(events: &[Event], occ: u64) -> &[Change]
 pub fn change_in(events: &[Event], tag: &Tag) -> Option<Change>
     ensures { result ≡ change_of (reverse events.now) tag.now }
 {
-    changes_in(events, tag.occ).get(tag.change as usize).copied()
+    changes_in(events, tag.occ)
+        .get(tag.change as usize)
+        .copied()
 }
 
 /// Whether an operation goes on: its state isn't final.

@@ -4,11 +4,7 @@ ghost use Rattle.std.specs.Prelude.{◌≡◌, reverse, is_some};
 ghost use Rattle.lcm_model.specs.Moves.{moved_to};
 ghost use Rattle.lcm_model.specs.Since.{has_call_failed, has_trouble, is_cancelled, is_forced, is_trouble, troubles};
 
-use lcm_events::CancelMode;
-use lcm_events::Event;
-use lcm_events::EventKind;
-use lcm_events::Outcome;
-use lcm_events::Tag;
+use lcm_events::{CancelMode, Event, EventKind, Outcome, Tag};
 
 /// Whether the call that was to begin the attempt has failed.
 pub fn has_call_failed_in(events: &[Event], tag: &Tag) -> bool
@@ -93,7 +89,10 @@ pub fn is_forced_in(events: &[Event], occ: u64) -> bool
     for event in events {
         match &event.kind {
             EventKind::Moved { occ: moved, .. } if *moved == occ => forced = false,
-            EventKind::CancelAsked { occ: asked, mode: CancelMode::Forceful } if *asked == occ => forced = true,
+            EventKind::CancelAsked {
+                occ: asked,
+                mode: CancelMode::Forceful,
+            } if *asked == occ => forced = true,
             _ => (),
         }
     }

@@ -4,12 +4,8 @@ ghost use Rattle.std.specs.Prelude.{◌≡◌, IfOk, length, min, option_copied,
 ghost use Rattle.lcm_events.specs.Same.{same_name};
 ghost use Rattle.lcm_model.specs.Levels.{is_aspect, at_aspect, level_of, moved_by, to_level};
 
-use std::alloc::AllocError;
-use std::alloc::Global;
-
-use lcm_events::Aspect;
-use lcm_events::ScaleWay;
-use lcm_events::Vnfd;
+use lcm_events::{Aspect, ScaleWay, Vnfd};
+use std::alloc::{AllocError, Global};
 use vnfm_base::Name;
 
 /// A level moved out or in by steps, not past its aspect's maximum.
