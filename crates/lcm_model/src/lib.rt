@@ -2,6 +2,7 @@
 #![tactic(auto)]
 
 mod actions;
+mod allowed;
 mod attempts;
 mod grants;
 mod holding;
@@ -19,6 +20,10 @@ mod valid;
 mod work;
 
 pub use actions::Action;
+pub use allowed::{
+    delete_refusal_in, is_asking, is_placing, may_be_moved, may_cancel, may_create, may_delete,
+    may_fail_call, may_grant, may_onboard, may_subscribe, may_try,
+};
 pub use attempts::{
     count_attempts, count_done, count_open, count_open_of_change, first_open_in, is_open_in,
     is_settled_in, is_unsettled_in, net_of,
