@@ -1,5 +1,5 @@
 -- What holds of a valid descriptor.
-use Rattle.std.proofs.Common.{◌≡◌, ℕ, Bool, true, List, length, ◌≤◌, nat_le, ◌&&◌, arith, leb-true}
+use Rattle.std.proofs.Common.{◌≡◌, ℕ, true}
 use Rattle.std.specs.List.{list_all}
 use Rattle.lcm_events.specs.declared.descriptor.Aspect.{Aspect}
 use Rattle.lcm_events.specs.declared.descriptor.Row.{Row}

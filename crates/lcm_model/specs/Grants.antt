@@ -2,7 +2,7 @@
 use Rattle.std.specs.Cmp.Lexicographic.{pointwise}
 use Rattle.std.specs.Fmt.{decimal}
 use Rattle.std.specs.List.{enumerate_from, list_all, list_any}
-use Rattle.std.specs.Prelude.{Bool, List, None, Option, Some, [], false, filter, filter_map, length, map, nat_le, nat_lt, not, option_and_then, unwrap_or, if◌then◌else◌, slice_get, true, ℕ, ◌&&◌, ◌==◌, ◌||◌, ◌∷◌, ◌++◌, ◌≡◌, ◌≤◌}
+use Rattle.std.specs.Prelude.{Bool, List, None, Option, Some, [], false, filter, filter_map, length, map, nat_le, nat_lt, option_and_then, unwrap_or, if◌then◌else◌, slice_get, true, ℕ, ◌&&◌, ◌==◌, ◌||◌, ◌∷◌, ◌++◌, ◌≡◌, ◌≤◌}
 use Rattle.lcm_events.specs.Same.{same_verb, same_name}
 use Rattle.lcm_events.specs.declared.changes.Change.{Change}
 use Rattle.lcm_events.specs.declared.changes.Verb.{Verb}

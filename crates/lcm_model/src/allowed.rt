@@ -12,40 +12,22 @@ ghost use Rattle.lcm_model.specs.Work.{MayMove};
 ghost use Rattle.lcm_model.specs.Notices.{is_small_filter};
 ghost use Rattle.lcm_model.specs.Allowed.{IsAsking, IsNewTry, MayCreate, MayDelete, MayGrant, MayOnboard, MaySubscribe};
 
-use std::alloc::AllocError;
-use std::alloc::Global;
-
-use lcm_events::Event;
-use lcm_events::Filter;
-use lcm_events::GrantTry;
-use lcm_events::OpState;
-use lcm_events::Place;
-use lcm_events::Role;
-use lcm_events::Tag;
-use lcm_events::Vnfd;
-use vnfm_base::Name;
-
 use crate::attempts::is_open_in;
-use crate::grants::has_ended_in;
-use crate::grants::location_in;
+use crate::grants::{has_ended_in, location_in};
 use crate::instances::is_instantiated_in;
-use crate::lives::count_descriptors;
-use crate::lives::count_instances;
-use crate::lives::count_live_instances;
-use crate::lives::count_live_subscriptions;
-use crate::lives::count_subscriptions;
-use crate::lives::descriptor_named_in;
-use crate::lives::is_live_in;
-use crate::moves::state_after;
-use crate::moves::works;
-use crate::operations::changes_in;
-use crate::operations::is_busy;
-use crate::operations::operation_in;
+use crate::lives::{
+    count_descriptors, count_instances, count_live_instances, count_live_subscriptions,
+    count_subscriptions, descriptor_named_in, is_live_in,
+};
+use crate::moves::{state_after, works};
+use crate::operations::{changes_in, is_busy, operation_in};
 use crate::refusals::Refusal;
-use crate::since::has_call_failed_in;
-use crate::since::is_forced_in;
+use crate::since::{has_call_failed_in, is_forced_in};
 use crate::valid::is_valid;
 use crate::work::may_move;
+use lcm_events::{Event, Filter, GrantTry, OpState, Place, Role, Tag, Vnfd};
+use std::alloc::{AllocError, Global};
+use vnfm_base::Name;
 
 /// Whether a descriptor may be onboarded.
 ///
@@ -193,7 +175,14 @@ fn are_spots_known(spots: &[u8], count: usize) -> bool
 }
 
 /// Whether places are named in the order of the first change that has them.
-pub fn is_placing(alloc: Global, places: &[Place], spots: &[u8], asked: usize) -> Result<bool, AllocError>
+///
+/// Source: docs/MODEL.md, "Allowed and legal".
+pub fn is_placing(
+    alloc: Global,
+    places: &[Place],
+    spots: &[u8],
+    asked: usize,
+) -> Result<bool, AllocError>
     ensures { IfOk result (λ yes. IsTrue yes ↔ IsPlacing places.now spots.now asked) }
 {
     let named = places_named(alloc, places, spots)?;
@@ -277,4 +266,32 @@ pub fn may_subscribe(events: &[Event], number: u64, role: Role, filter: &Filter)
     let live = count_live_subscriptions(events, role);
     let small = is_small(filter);
     made < number && number - made == 1 && live < 100 && small
+}
+
+#[cfg(test)]
+mod tests {
+    use super::*;
+    use std::test::Fail;
+
+    #[test]
+    fn places_stand_in_the_order_of_changes(rt: HostRuntime) -> Result<(), Fail> {
+        let alloc = rt.alloc();
+        let none = Name::of(b"").expect(&rt, "a name");
+        let near = Place {
+            vim: Name::of(b"vim1").expect(&rt, "a name"),
+            zone: none,
+        };
+        let far = Place {
+            vim: Name::of(b"vim2").expect(&rt, "a name"),
+            zone: none,
+        };
+        let both = vec![in alloc; near, far]?;
+        assert!(rt; is_placing(alloc, both.as_slice(), &[0, 0, 1, 0], 4)?);
+        assert!(rt; !is_placing(alloc, both.as_slice(), &[1, 0, 1, 0], 4)?);
+        assert!(rt; !is_placing(alloc, both.as_slice(), &[0, 0], 2)?);
+        assert!(rt; !is_placing(alloc, both.as_slice(), &[0, 1], 3)?);
+        assert!(rt; !is_placing(alloc, both.as_slice(), &[0, 2], 2)?);
+        assert!(rt; is_placing(alloc, &[], &[], 0)?);
+        Ok(())
+    }
 }

@@ -7,6 +7,8 @@ use lcm_events::{Event, EventKind, GrantTry, Place};
 use vnfm_base::Line;
 
 /// Whether the occurrence was granted.
+///
+/// Source: docs/MODEL.md, "Grants".
 pub fn is_granted_in(events: &[Event], occ: u64) -> bool
     ensures { result ≡ is_granted (reverse events.now) occ }
 {
@@ -22,6 +24,8 @@ pub fn is_granted_in(events: &[Event], occ: u64) -> bool
 }
 
 /// How many grant tries were in trouble.
+///
+/// Source: docs/MODEL.md, "Grants".
 pub fn count_troubled(events: &[Event], occ: u64) -> u64
     ensures { result ≡ troubled_tries (reverse events.now) occ }
 {
@@ -41,6 +45,8 @@ pub fn count_troubled(events: &[Event], occ: u64) -> u64
 }
 
 /// Whether the exchange has ended.
+///
+/// Source: docs/MODEL.md, "Grants".
 pub fn has_ended_in(events: &[Event], occ: u64) -> bool
     ensures { result ≡ has_ended (reverse events.now) occ }
 {
@@ -60,6 +66,8 @@ pub fn has_ended_in(events: &[Event], occ: u64) -> bool
 }
 
 /// The location at which the grant will be, where one was told.
+///
+/// Source: docs/MODEL.md, "Grants".
 pub fn location_in(events: &[Event], occ: u64) -> Option<&Line>
     ensures { option_copied result ≡ location (reverse events.now) occ }
 {
@@ -79,6 +87,8 @@ pub fn location_in(events: &[Event], occ: u64) -> Option<&Line>
 }
 
 /// The place of a change by these places and their numbers.
+///
+/// Source: docs/MODEL.md, "Grants".
 pub fn place_in(places: &[Place], spots: &[u8], change: u16) -> Option<Place>
     ensures { result ≡ place_at places.now spots.now change }
 {
@@ -87,6 +97,8 @@ pub fn place_in(places: &[Place], spots: &[u8], change: u16) -> Option<Place>
 }
 
 /// The place that the grant gave to a change.
+///
+/// Source: docs/MODEL.md, "Grants".
 pub fn granted_place_in(events: &[Event], occ: u64, change: u16) -> Option<Place>
     ensures { result ≡ granted_place (reverse events.now) occ change }
 {

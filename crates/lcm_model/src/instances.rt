@@ -64,6 +64,8 @@ fn starts_with(past: &[Event], instance: u64, kind: &EventKind) -> Option<bool>
 }
 
 /// Whether the instance is INSTANTIATED.
+///
+/// Source: docs/MODEL.md, "The state of an instance".
 pub fn is_instantiated_in(events: &[Event], instance: u64) -> bool
     ensures { result ≡ is_instantiated (reverse events.now) instance }
 {
@@ -77,6 +79,8 @@ pub fn is_instantiated_in(events: &[Event], instance: u64) -> bool
 }
 
 /// Whether the instance is STARTED.
+///
+/// Source: docs/MODEL.md, "The state of an instance".
 pub fn is_started_in(events: &[Event], instance: u64) -> bool
     ensures { result ≡ is_started (reverse events.now) instance }
 {

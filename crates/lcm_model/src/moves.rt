@@ -50,6 +50,8 @@ pub fn works(state: OpState) -> bool
 }
 
 /// The state that an occurrence is in.
+///
+/// Source: docs/MODEL.md, "States".
 pub fn state_after(events: &[Event], occ: u64) -> OpState
     ensures { result ≡ state (reverse events.now) occ }
 {

@@ -23,6 +23,8 @@ fn is_at_net_in(events: &[Event], occ: u64, net: u64, change: usize) -> bool
 }
 
 /// The least number of a change with this net.
+///
+/// Source: docs/MODEL.md, "The next action".
 #[tactic(auto, using(crate::proofs::ListLaws::range_step))]
 pub fn first_with_net(events: &[Event], occ: u64, net: u64) -> Option<usize>
     ensures value { result ≡ first (with_net (reverse events.now) occ net) }
@@ -38,6 +40,8 @@ pub fn first_with_net(events: &[Event], occ: u64, net: u64) -> Option<usize>
 }
 
 /// The greatest number of a change with this net.
+///
+/// Source: docs/MODEL.md, "The next action".
 #[tactic(auto, using(crate::proofs::ListLaws::range_step))]
 pub fn last_with_net(events: &[Event], occ: u64, net: u64) -> Option<usize>
     ensures value { result ≡ last (with_net (reverse events.now) occ net) }

@@ -8,6 +8,8 @@ use crate::moves::{ends, state_after};
 use lcm_events::{Ask, Change, Event, EventKind, OpKind, Operation, Tag, Verb, Way};
 
 /// The operation of this number.
+///
+/// Source: docs/MODEL.md, "Operations".
 pub fn operation_in(events: &[Event], occ: u64) -> Option<&Operation>
     ensures { option_copied result ≡ operation (reverse events.now) occ }
 {
@@ -23,6 +25,8 @@ pub fn operation_in(events: &[Event], occ: u64) -> Option<&Operation>
 }
 
 /// How many operations were asked for.
+///
+/// Source: docs/MODEL.md, "Operations".
 pub fn count_operations(events: &[Event]) -> u64
     ensures { result ≡ occurrences_made (reverse events.now) }
 {
@@ -36,6 +40,8 @@ pub fn count_operations(events: &[Event]) -> u64
 }
 
 /// The changes of an occurrence, in the order of its plan.
+///
+/// Source: docs/MODEL.md, "Operations".
 pub fn changes_in(events: &[Event], occ: u64) -> &[Change]
     ensures { result.now ≡ changes (reverse events.now) occ }
 {
@@ -46,6 +52,8 @@ pub fn changes_in(events: &[Event], occ: u64) -> &[Change]
 }
 
 /// The change that a tag names.
+///
+/// Source: docs/MODEL.md, "Operations".
 pub fn change_in(events: &[Event], tag: &Tag) -> Option<Change>
     ensures { result ≡ change_of (reverse events.now) tag.now }
 {
@@ -55,6 +63,8 @@ pub fn change_in(events: &[Event], tag: &Tag) -> Option<Change>
 }
 
 /// Whether an operation goes on: its state isn't final.
+///
+/// Source: docs/MODEL.md, "Operations".
 #[tactic(auto, unfolding(crate::specs::Operations::goes_on))]
 pub fn goes_on_in(events: &[Event], operation: &Operation) -> bool
     ensures { result ≡ goes_on (reverse events.now) operation.now }
@@ -63,6 +73,8 @@ pub fn goes_on_in(events: &[Event], operation: &Operation) -> bool
 }
 
 /// Whether the instance has an operation that isn't final.
+///
+/// Source: docs/MODEL.md, "Operations".
 pub fn is_busy(events: &[Event], instance: u64) -> bool
     ensures { result ≡ is_some (first (ongoing (reverse events.now) instance)) }
 {

@@ -7,6 +7,8 @@ ghost use Rattle.lcm_model.specs.Since.{has_call_failed, has_trouble, is_cancell
 use lcm_events::{CancelMode, Event, EventKind, Outcome, Tag};
 
 /// Whether the call that was to begin the attempt has failed.
+///
+/// Source: docs/MODEL.md, "Cancels and trouble".
 pub fn has_call_failed_in(events: &[Event], tag: &Tag) -> bool
     ensures { result ≡ has_call_failed (reverse events.now) tag.now }
 {
@@ -22,6 +24,8 @@ pub fn has_call_failed_in(events: &[Event], tag: &Tag) -> bool
 }
 
 /// Whether an outcome is trouble.
+///
+/// Source: docs/MODEL.md, "Cancels and trouble".
 pub fn is_trouble_in(events: &[Event], tag: &Tag, outcome: &Outcome) -> bool
     ensures { result ≡ is_trouble (reverse events.now) tag.now outcome.now }
 {
@@ -52,6 +56,8 @@ fn moves_occurrence(occ: u64, kind: &EventKind) -> bool
 }
 
 /// Whether there is trouble since the last move.
+///
+/// Source: docs/MODEL.md, "Cancels and trouble".
 pub fn has_trouble_in(events: &[Event], occ: u64) -> bool
     ensures { result ≡ has_trouble (reverse events.now) occ }
 {
@@ -67,6 +73,8 @@ pub fn has_trouble_in(events: &[Event], occ: u64) -> bool
 }
 
 /// Whether a cancel is in force.
+///
+/// Source: docs/MODEL.md, "Cancels and trouble".
 pub fn is_cancelled_in(events: &[Event], occ: u64) -> bool
     ensures { result ≡ is_cancelled (reverse events.now) occ }
 {
@@ -82,6 +90,8 @@ pub fn is_cancelled_in(events: &[Event], occ: u64) -> bool
 }
 
 /// Whether a FORCEFUL cancel is in force.
+///
+/// Source: docs/MODEL.md, "Cancels and trouble".
 pub fn is_forced_in(events: &[Event], occ: u64) -> bool
     ensures { result ≡ is_forced (reverse events.now) occ }
 {

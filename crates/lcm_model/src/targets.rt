@@ -30,6 +30,8 @@ fn stepped_level(aspect: &Aspect, name: &Name, way: ScaleWay, steps: u32, level:
 }
 
 /// The levels, with that of the named aspect moved out or in by steps.
+///
+/// Source: docs/MODEL.md, "Counts and levels".
 pub fn stepped_levels(
     alloc: Global,
     aspects: &[Aspect],
@@ -60,6 +62,8 @@ fn replaced_level(aspect: &Aspect, name: &Name, level: u32, before: u32) -> u32
 }
 
 /// The levels, with that of the named aspect replaced.
+///
+/// Source: docs/MODEL.md, "Counts and levels".
 pub fn replaced_levels(
     alloc: Global,
     aspects: &[Aspect],
@@ -78,6 +82,8 @@ pub fn replaced_levels(
 }
 
 /// The levels of the instantiation level of this name.
+///
+/// Source: docs/MODEL.md, "Counts and levels".
 pub fn level_named<'a>(vnfd: &'a Vnfd, name: &Name) -> Option<&'a [u32]>
     ensures { option_copied result ≡ level_of vnfd.now name.now }
 {
@@ -99,6 +105,8 @@ fn has_name(name: &Name, aspect: &Aspect, level: u32) -> bool
 }
 
 /// The maximum and the level of the aspect of this name.
+///
+/// Source: docs/MODEL.md, "Counts and levels".
 pub fn aspect_of(aspects: &[Aspect], levels: &[u32], name: &Name) -> Option<(u32, u32)>
     requires { length levels.now ≡ length aspects.now }
     ensures { result ≡ option_map (λ a. (a.0.maximum, a.1)) (find (is_aspect name.now) (zip aspects.now levels.now)) }

@@ -120,6 +120,8 @@ fn has_bytes(name: &Name) -> bool
 }
 
 /// Whether these levels are of the descriptor.
+///
+/// Source: docs/MODEL.md, "A valid descriptor".
 pub fn are_levels_in(vnfd: &Vnfd, levels: &[u32]) -> bool
     ensures { result ≡ are_levels_of vnfd.now levels.now }
 {

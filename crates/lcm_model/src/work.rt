@@ -72,6 +72,8 @@ fn is_through_in(
 }
 
 /// Whether every change that goes before this phase is through.
+///
+/// Source: docs/MODEL.md, "When work begins and moves".
 pub fn all_through_in(events: &[Event], occ: u64, way: Way, phase: u8) -> bool
     ensures { result ≡ all_through (reverse events.now) occ way phase }
 {
@@ -92,6 +94,8 @@ fn has_net_in(events: &[Event], occ: u64, net: u64, number: usize, change: &Chan
 }
 
 /// Whether every change of the occurrence has this net.
+///
+/// Source: docs/MODEL.md, "When work begins and moves".
 pub fn all_have_net_in(events: &[Event], occ: u64, net: u64) -> bool
     ensures { result ≡ all_have_net (reverse events.now) occ net }
 {
@@ -141,6 +145,8 @@ pub fn may_begin(events: &[Event], tag: &Tag) -> bool
 }
 
 /// Whether the work of an occurrence is at rest.
+///
+/// Source: docs/MODEL.md, "When work begins and moves".
 pub fn is_quiet(events: &[Event], occ: u64) -> bool
     ensures { IsTrue result ↔ IsQuiet (reverse events.now) occ }
 {
@@ -151,6 +157,8 @@ pub fn is_quiet(events: &[Event], occ: u64) -> bool
 }
 
 /// Whether the work of an occurrence has stopped.
+///
+/// Source: docs/MODEL.md, "When work begins and moves".
 pub fn has_stopped(events: &[Event], occ: u64) -> bool
     ensures { IsTrue result ↔ HasStopped (reverse events.now) occ }
 {
@@ -161,6 +169,8 @@ pub fn has_stopped(events: &[Event], occ: u64) -> bool
 }
 
 /// Whether the exchange gives the occurrence up.
+///
+/// Source: docs/MODEL.md, "When work begins and moves".
 pub fn gives_up_in(events: &[Event], occ: u64) -> bool
     ensures { result ≡ gives_up (reverse events.now) occ }
 {
@@ -172,6 +182,8 @@ pub fn gives_up_in(events: &[Event], occ: u64) -> bool
 }
 
 /// Whether the operation is TERMINATE.
+///
+/// Source: docs/MODEL.md, "When work begins and moves".
 pub fn is_termination_in(events: &[Event], occ: u64) -> bool
     ensures { result ≡ is_termination (operation (reverse events.now) occ) }
 {

@@ -1,5 +1,4 @@
 use Rattle.lcm_model.specs.Grants.{distinct_places, places_after}
-use Rattle.lcm_model.specs.Holding.{place}
 use Rattle.std.proofs.Common.{drop, ◌++◌, ◌≡◌}
 use Rattle.lcm_model.proofs.allowed.each_once.Given as goal
 

@@ -1,4 +1,3 @@
-use Rattle.lcm_model.specs.Fixture.{at}
 use Rattle.lcm_model.specs.Levels.{is_aspect}
 use Rattle.std.proofs.Common.{drop, ◌≡◌}
 use Rattle.std.specs.Prelude.{find, zip}

@@ -1,4 +1,3 @@
-use Rattle.lcm_model.specs.Fixture.{at}
 use Rattle.lcm_model.specs.Levels.{at_aspect, moved_by}
 use Rattle.std.proofs.Common.{drop, ◌++◌, ◌≡◌}
 use Rattle.lcm_model.proofs.targets.stepped_levels.Given as goal
