@@ -1,5 +1,5 @@
 -- Laws of lists and ranges that loops cite.
-use Rattle.std.proofs.Common.{◌≡◌, ℕ, ◌+◌, ◌-◌, ◌<◌, suc, List, [], ◌∷◌, refl, ap, sym, add-one, arith, ◌≤◌, Bool, true, length, drop, map, length-drop, zero, take, get_or, ◌*◌, drop-cons, add_assoc, subst, nat_le, ◌&&◌, false, leb-true}
+use Rattle.std.proofs.Common.{◌≡◌, ℕ, ◌+◌, ◌-◌, ◌<◌, suc, List, [], ◌∷◌, refl, ap, sym, add-one, arith, ◌≤◌, Bool, true, length, drop, map, length-drop, zero, take, get_or, ◌*◌, drop-cons, subst, ◌&&◌, false}
 use Rattle.std.specs.List.{range_with_len, list_all}
 use Rattle.lcm_model.specs.Levels.{steps_to}
 use Rattle.lcm_model.specs.Words.{total}

@@ -1,5 +1,5 @@
 -- What holds of a valid descriptor.
-use Rattle.std.proofs.Common.{◌≡◌, ℕ, Bool, true, List, length, ◌≤◌, nat_le, ◌&&◌, arith, leb-true}
+use Rattle.std.proofs.Common.{◌≡◌, ℕ, true}
 use Rattle.std.specs.List.{list_all}
 use Rattle.lcm_events.specs.declared.descriptor.Aspect.{Aspect}
 use Rattle.lcm_events.specs.declared.descriptor.Row.{Row}
@@ -15,7 +15,7 @@ valid_aspect_small : (d : Vnfd) (a : Aspect) → is_valid_aspect d a ≡ true �
 unfolding has_small_deltas
 valid_aspect_small d a h =
     and_both _ _ (and_back _ _ (and_front _ _ (and_front _ _ (and_front _ _ h))))
-        (list_all_weaker (is_valid_row d a.steps) has_small_row a.rows (valid_row_small d a.steps) (and_back _ _ h))
+    (list_all_weaker (is_valid_row d a.steps) has_small_row a.rows (valid_row_small d a.steps) (and_back _ _ h))
 
 -- the aspects of a valid descriptor have small maxima and deltas
 pub valid_small : (d : Vnfd) → IsValid d → list_all has_small_deltas d.aspects ≡ true

@@ -1,7 +1,8 @@
 -- How far the grant exchange of an occurrence is, and what a grant gives (SOL 003 9.4.2, Grants; 9.5.2.3, Grant).
+use Rattle.std.specs.Cmp.Lexicographic.{pointwise}
 use Rattle.std.specs.Fmt.{decimal}
 use Rattle.std.specs.List.{enumerate_from, list_all, list_any}
-use Rattle.std.specs.Prelude.{Bool, List, None, Option, Some, [], false, filter, filter_map, length, map, nat_le, nat_lt, not, option_and_then, unwrap_or, if◌then◌else◌, slice_get, true, ℕ, ◌&&◌, ◌==◌, ◌||◌, ◌∷◌, ◌++◌, ◌≡◌, ◌≤◌}
+use Rattle.std.specs.Prelude.{Bool, List, None, Option, Some, [], false, filter, filter_map, length, map, nat_le, nat_lt, option_and_then, unwrap_or, if◌then◌else◌, slice_get, true, ℕ, ◌&&◌, ◌==◌, ◌||◌, ◌∷◌, ◌++◌, ◌≡◌, ◌≤◌}
 use Rattle.lcm_events.specs.Same.{same_verb, same_name}
 use Rattle.lcm_events.specs.declared.changes.Change.{Change}
 use Rattle.lcm_events.specs.declared.changes.Verb.{Verb}
@@ -85,9 +86,7 @@ distinct_places places = places_after [] places
 
 -- two lists of places are equal (own rule)
 abbrev pub same_places : List Place → List Place → Bool
-same_places [] [] = true
-same_places (p ∷ ps) (q ∷ qs) = same_place p q && same_places ps qs
-same_places _ _ = false
+same_places a b = pointwise same_place a b
 
 -- the places that these numbers name in a list (own rule)
 abbrev pub places_at : List Place → List ℕ → List Place

@@ -1,6 +1,6 @@
 -- What stands of an instance: the effects of its attempts, the latest first (SOL 003 5.5.3, the resource infos of an instance).
 use Rattle.std.specs.Option.{option_map_or}
-use Rattle.std.specs.Prelude.{Bool, List, None, Option, false, filter, flat_map, map, option_and_then, option_map, slice_get, true, ℕ, ◌&&◌, ◌==◌}
+use Rattle.std.specs.Prelude.{Bool, List, None, Option, false, filter, map, option_and_then, option_map, slice_get, true, ℕ, ◌&&◌, ◌==◌}
 use Rattle.lcm_events.specs.Same.{same_def, same_verb, same_way}
 use Rattle.lcm_events.specs.declared.attempts.Outcome.{Outcome}
 use Rattle.lcm_events.specs.declared.attempts.Outcome.TheVariants.{Done}

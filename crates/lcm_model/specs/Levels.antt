@@ -50,9 +50,13 @@ level_of d name = option_map (λ l. l.numbers) (find (λ l. same_name l.name nam
 abbrev pub default_level : Vnfd → List ℕ
 default_level d = option_map_or (λ l. l.numbers) (slice_get d.levels d.default_level) []
 
+-- the aspect has this name (SOL 001, ScalingAspects)
+unfoldable pub is_aspect : List ℕ → Aspect × ℕ → Bool
+is_aspect name a = same_name a.0.name name
+
 -- the aspect of this name with its level (SOL 001, ScalingAspects)
 abbrev pub aspect_at : Vnfd → List ℕ → List ℕ → Option (Aspect × ℕ)
-aspect_at d levels name = find (λ a. same_name a.0.name name) (zip d.aspects levels)
+aspect_at d levels name = find (is_aspect name) (zip d.aspects levels)
 
 -- a level moved out or in by steps (SOL 003 5.5.2.5, ScaleVnfRequest)
 abbrev pub moved_by : ScaleWay → ℕ → ℕ → ℕ

@@ -4,13 +4,11 @@ ghost use Rattle.std.specs.Prelude.{◌≡◌, ◌≤◌, reverse, length};
 ghost use Rattle.lcm_model.specs.Attempts.{attempts, done_count, is_open, is_settled, is_unsettled, net, open_attempts, open_of};
 ghost use Rattle.lcm_model.specs.Next.{first_open};
 
-use lcm_events::Event;
-use lcm_events::EventKind;
-use lcm_events::Outcome;
-use lcm_events::Tag;
-use lcm_events::Way;
+use lcm_events::{Event, EventKind, Outcome, Tag, Way};
 
 /// Whether an attempt has ended.
+///
+/// Source: docs/MODEL.md, "Attempts and nets".
 pub fn is_settled_in(events: &[Event], tag: &Tag) -> bool
     ensures { result ≡ is_settled (reverse events.now) tag.now }
 {
@@ -26,6 +24,8 @@ pub fn is_settled_in(events: &[Event], tag: &Tag) -> bool
 }
 
 /// Whether an attempt has not ended.
+///
+/// Source: docs/MODEL.md, "Attempts and nets".
 #[tactic(auto, unfolding(crate::specs::Attempts::is_unsettled))]
 pub fn is_unsettled_in(events: &[Event], tag: &Tag) -> bool
     ensures { result ≡ is_unsettled (reverse events.now) tag.now }
@@ -34,6 +34,8 @@ pub fn is_unsettled_in(events: &[Event], tag: &Tag) -> bool
 }
 
 /// Whether an attempt is open.
+///
+/// Source: docs/MODEL.md, "Attempts and nets".
 pub fn is_open_in(events: &[Event], tag: &Tag) -> bool
     ensures { result ≡ is_open (reverse events.now) tag.now }
 {
@@ -50,6 +52,8 @@ pub fn is_open_in(events: &[Event], tag: &Tag) -> bool
 }
 
 /// How many attempts of an occurrence are open.
+///
+/// Source: docs/MODEL.md, "Attempts and nets".
 pub fn count_open(events: &[Event], occ: u64) -> u64
     ensures { result ≡ length (open_of (reverse events.now) occ) }
 {
@@ -66,6 +70,8 @@ pub fn count_open(events: &[Event], occ: u64) -> u64
 }
 
 /// How many attempts of a change are open.
+///
+/// Source: docs/MODEL.md, "Attempts and nets".
 pub fn count_open_of_change(events: &[Event], occ: u64, change: u64) -> u64
     ensures { result ≡ length (open_attempts (reverse events.now) occ change) }
 {
@@ -82,6 +88,8 @@ pub fn count_open_of_change(events: &[Event], occ: u64, change: u64) -> u64
 }
 
 /// The open attempt of an occurrence that began first.
+///
+/// Source: docs/MODEL.md, "Attempts and nets".
 pub fn first_open_in(events: &[Event], occ: u64) -> Option<Tag>
     ensures { result ≡ first_open (reverse events.now) occ }
 {
@@ -98,6 +106,8 @@ pub fn first_open_in(events: &[Event], occ: u64) -> Option<Tag>
 }
 
 /// How many attempts at a change there were.
+///
+/// Source: docs/MODEL.md, "Attempts and nets".
 pub fn count_attempts(events: &[Event], occ: u64, change: u64) -> u64
     ensures value { result ≡ length (attempts (reverse events.now) occ change) }
     ensures bound { result ≤ length events.now }
@@ -114,12 +124,18 @@ pub fn count_attempts(events: &[Event], occ: u64, change: u64) -> u64
 }
 
 /// How many attempts at a change in this way are done.
+///
+/// Source: docs/MODEL.md, "Attempts and nets".
 pub fn count_done(events: &[Event], way: Way, occ: u64, change: u64) -> u64
     ensures { result ≡ done_count way (reverse events.now) occ change }
 {
     let mut count = 0;
     for event in events {
-        if let EventKind::Settled { tag, outcome: Outcome::Done(_) } = &event.kind {
+        if let EventKind::Settled {
+            tag,
+            outcome: Outcome::Done(_),
+        } = &event.kind
+        {
             if tag.occ == occ && tag.change as u64 == change && way == tag.way {
                 count += 1;
             }
@@ -129,6 +145,8 @@ pub fn count_done(events: &[Event], way: Way, occ: u64, change: u64) -> u64
 }
 
 /// The net of a change: how often it was made less how often it was undone.
+///
+/// Source: docs/MODEL.md, "Attempts and nets".
 pub fn net_of(events: &[Event], occ: u64, change: u64) -> u64
     ensures { result ≡ net (reverse events.now) occ change }
 {

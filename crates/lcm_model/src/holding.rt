@@ -1,8 +1,6 @@
 //! What an attempt did to a resource.
 
-use lcm_events::Def;
-use lcm_events::Tag;
-use lcm_events::Verb;
+use lcm_events::{Def, Tag, Verb};
 use vnfm_base::Name;
 
 /// What an attempt that ended as done did, and to which resource of which instance.

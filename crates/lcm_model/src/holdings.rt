@@ -4,23 +4,15 @@ ghost use Rattle.std.specs.Prelude.{◌≡◌, reverse, filter, option_map};
 ghost use Rattle.lcm_model.specs.Words.{first};
 ghost use Rattle.lcm_model.specs.Holding.{effect_in, effects, is_creation, is_effect_on, is_forward_creation, leaves_it, leaves_it_running, place, resource, runs, stands, top, top_in, top_of};
 
-use lcm_events::Change;
-use lcm_events::Def;
-use lcm_events::Event;
-use lcm_events::EventKind;
-use lcm_events::Operation;
-use lcm_events::Outcome;
-use lcm_events::Place;
-use lcm_events::Verb;
-use lcm_events::Way;
-use vnfm_base::Name;
-
 use crate::grants::granted_place_in;
 use crate::holding::Effect;
-use crate::operations::operation_in;
-use crate::operations::verb_in_way;
+use crate::operations::{operation_in, verb_in_way};
+use lcm_events::{Change, Def, Event, EventKind, Operation, Outcome, Place, Verb, Way};
+use vnfm_base::Name;
 
 /// The effect of an event after its past.
+///
+/// Source: docs/MODEL.md, "What stands".
 #[tactic(auto, unfolding(crate::specs::Holding::effect_in))]
 pub fn effect_of(past: &[Event], kind: &EventKind) -> Option<Effect>
     ensures { result ≡ effect_in (reverse past.now) kind.now }
@@ -64,6 +56,8 @@ fn makes_forward(effect: &Effect) -> bool
 }
 
 /// The last effect on a definition of an instance.
+///
+/// Source: docs/MODEL.md, "What stands".
 pub fn last_effect(events: &[Event], instance: u64, def: &Def) -> Option<Effect>
     ensures { result ≡ first (effects (reverse events.now) instance def.now) }
 {
@@ -79,6 +73,8 @@ pub fn last_effect(events: &[Event], instance: u64, def: &Def) -> Option<Effect>
 }
 
 /// The last effect that made a definition of an instance.
+///
+/// Source: docs/MODEL.md, "What stands".
 pub fn last_creation(events: &[Event], instance: u64, def: &Def) -> Option<Effect>
     ensures { result ≡ first (filter is_creation (effects (reverse events.now) instance def.now)) }
 {
@@ -96,6 +92,8 @@ pub fn last_creation(events: &[Event], instance: u64, def: &Def) -> Option<Effec
 }
 
 /// The last effect that made a definition of an instance and wasn't an undo.
+///
+/// Source: docs/MODEL.md, "What stands".
 pub fn last_forward_creation(events: &[Event], instance: u64, def: &Def) -> Option<Effect>
     ensures { result ≡ first (filter is_forward_creation (effects (reverse events.now) instance def.now)) }
 {
@@ -127,6 +125,8 @@ fn leaves_running(verb: Verb) -> bool
 }
 
 /// Whether a definition of the instance stands.
+///
+/// Source: docs/MODEL.md, "What stands".
 pub fn stands_in(events: &[Event], instance: u64, def: &Def) -> bool
     ensures { result ≡ stands (reverse events.now) instance def.now }
 {
@@ -137,6 +137,8 @@ pub fn stands_in(events: &[Event], instance: u64, def: &Def) -> bool
 }
 
 /// Whether a compute of the instance runs.
+///
+/// Source: docs/MODEL.md, "What stands".
 pub fn runs_in(events: &[Event], instance: u64, def: &Def) -> bool
     ensures { result ≡ runs (reverse events.now) instance def.now }
 {
@@ -147,6 +149,8 @@ pub fn runs_in(events: &[Event], instance: u64, def: &Def) -> bool
 }
 
 /// The infrastructure's name of a resource of the instance.
+///
+/// Source: docs/MODEL.md, "What stands".
 pub fn resource_of(events: &[Event], instance: u64, def: &Def) -> Option<Name>
     ensures { result ≡ resource (reverse events.now) instance def.now }
 {
@@ -157,6 +161,8 @@ pub fn resource_of(events: &[Event], instance: u64, def: &Def) -> Option<Name>
 }
 
 /// Where a resource of the instance stands.
+///
+/// Source: docs/MODEL.md, "What stands".
 pub fn place_of(events: &[Event], instance: u64, def: &Def) -> Option<Place>
     ensures { result ≡ place (reverse events.now) instance def.now }
 {
@@ -188,6 +194,8 @@ fn top_of_operation(operation: &Operation, vdu: u16) -> u32
 }
 
 /// The greatest serial of the VDU in any change of the instance, or 0.
+///
+/// Source: docs/MODEL.md, "What stands".
 pub fn top_of_vdu(events: &[Event], instance: u64, vdu: u16) -> u32
     ensures { result ≡ top (reverse events.now) instance vdu }
 {

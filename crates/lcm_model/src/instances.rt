@@ -3,12 +3,8 @@
 ghost use Rattle.std.specs.Prelude.{◌≡◌, reverse};
 ghost use Rattle.lcm_model.specs.Instances.{instantiates, is_instantiated, is_started, moving, starts_or_stops};
 
-use lcm_events::Ask;
-use lcm_events::Event;
-use lcm_events::EventKind;
-use lcm_events::OpState;
-
 use crate::operations::operation_in;
+use lcm_events::{Ask, Event, EventKind, OpState};
 
 /// Whether a move of an operation makes its instance INSTANTIATED or NOT_INSTANTIATED.
 fn instantiates_by(ask: &Ask, to: OpState) -> Option<bool>
@@ -68,6 +64,8 @@ fn starts_with(past: &[Event], instance: u64, kind: &EventKind) -> Option<bool>
 }
 
 /// Whether the instance is INSTANTIATED.
+///
+/// Source: docs/MODEL.md, "The state of an instance".
 pub fn is_instantiated_in(events: &[Event], instance: u64) -> bool
     ensures { result ≡ is_instantiated (reverse events.now) instance }
 {
@@ -81,6 +79,8 @@ pub fn is_instantiated_in(events: &[Event], instance: u64) -> bool
 }
 
 /// Whether the instance is STARTED.
+///
+/// Source: docs/MODEL.md, "The state of an instance".
 pub fn is_started_in(events: &[Event], instance: u64) -> bool
     ensures { result ≡ is_started (reverse events.now) instance }
 {

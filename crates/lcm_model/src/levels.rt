@@ -6,10 +6,7 @@ ghost use Rattle.lcm_model.specs.Words.{total};
 ghost use Rattle.lcm_model.specs.Levels.{added, count, has_small_deltas, has_small_row, initial, moved_by, row_adds, row_of, steps_to};
 ghost use Rattle.lcm_model.specs.Descriptors.{IsValid, are_levels_of, is_valid_row, is_valid_aspect};
 
-use lcm_events::Aspect;
-use lcm_events::Row;
-use lcm_events::ScaleWay;
-use lcm_events::Vnfd;
+use lcm_events::{Aspect, Row, ScaleWay, Vnfd};
 
 /// What the first steps up to a level add.
 #[tactic(auto, using(crate::proofs::ListLaws::steps_one, crate::proofs::ListLaws::steps_many))]

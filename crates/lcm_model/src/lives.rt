@@ -3,14 +3,12 @@
 ghost use Rattle.std.specs.Prelude.{◌≡◌, reverse, option_copied, option_map, length};
 ghost use Rattle.lcm_model.specs.Lives.{creation, creations, descriptor, descriptor_named, descriptors, instances_made, is_deleted, is_kept, is_live, is_live_of, is_subscribed, is_unsubscribed, live_instances, live_subscriptions, subscription, subscriptions_made};
 
-use lcm_events::Event;
-use lcm_events::EventKind;
-use lcm_events::Filter;
-use lcm_events::Role;
-use lcm_events::Vnfd;
+use lcm_events::{Event, EventKind, Filter, Role, Vnfd};
 use vnfm_base::Name;
 
 /// The descriptor of this identifier.
+///
+/// Source: docs/MODEL.md, "Numbers and lives".
 pub fn descriptor_named_in<'a>(events: &'a [Event], id: &Name) -> Option<&'a Vnfd>
     ensures { option_copied result ≡ descriptor_named (reverse events.now) id.now }
 {
@@ -26,6 +24,8 @@ pub fn descriptor_named_in<'a>(events: &'a [Event], id: &Name) -> Option<&'a Vnf
 }
 
 /// How many descriptors were onboarded.
+///
+/// Source: docs/MODEL.md, "Numbers and lives".
 pub fn count_descriptors(events: &[Event]) -> u64
     ensures { result ≡ length (descriptors (reverse events.now)) }
 {
@@ -39,12 +39,19 @@ pub fn count_descriptors(events: &[Event]) -> u64
 }
 
 /// The identifier of the descriptor of an instance that was ever created.
+///
+/// Source: docs/MODEL.md, "Numbers and lives".
 pub fn vnfd_of(events: &[Event], instance: u64) -> Option<Name>
     ensures { result ≡ option_map (λ x. x.vnfd) (creation (reverse events.now) instance) }
 {
     let mut found = None;
     for event in events {
-        if let EventKind::Created { instance: made, vnfd, .. } = &event.kind {
+        if let EventKind::Created {
+            instance: made,
+            vnfd,
+            ..
+        } = &event.kind
+        {
             if *made == instance {
                 found = Some(*vnfd);
             }
@@ -54,12 +61,19 @@ pub fn vnfd_of(events: &[Event], instance: u64) -> Option<Name>
 }
 
 /// The name that an instance that was ever created was given, if it was.
+///
+/// Source: docs/MODEL.md, "Numbers and lives".
 pub fn name_of(events: &[Event], instance: u64) -> Option<Option<Name>>
     ensures { result ≡ option_map (λ x. x.name) (creation (reverse events.now) instance) }
 {
     let mut found = None;
     for event in events {
-        if let EventKind::Created { instance: made, name, .. } = &event.kind {
+        if let EventKind::Created {
+            instance: made,
+            name,
+            ..
+        } = &event.kind
+        {
             if *made == instance {
                 found = Some(*name);
             }
@@ -69,6 +83,8 @@ pub fn name_of(events: &[Event], instance: u64) -> Option<Option<Name>>
 }
 
 /// How many instances were made.
+///
+/// Source: docs/MODEL.md, "Numbers and lives".
 pub fn count_instances(events: &[Event]) -> u64
     ensures { result ≡ instances_made (reverse events.now) }
 {
@@ -82,6 +98,8 @@ pub fn count_instances(events: &[Event]) -> u64
 }
 
 /// Whether an instance was deleted.
+///
+/// Source: docs/MODEL.md, "Numbers and lives".
 pub fn is_deleted_in(events: &[Event], instance: u64) -> bool
     ensures { result ≡ is_deleted (reverse events.now) instance }
 {
@@ -97,6 +115,8 @@ pub fn is_deleted_in(events: &[Event], instance: u64) -> bool
 }
 
 /// Whether an instance is live.
+///
+/// Source: docs/MODEL.md, "Numbers and lives".
 pub fn is_live_in(events: &[Event], instance: u64) -> bool
     ensures { result ≡ is_live (reverse events.now) instance }
 {
@@ -106,6 +126,8 @@ pub fn is_live_in(events: &[Event], instance: u64) -> bool
 }
 
 /// How many instances are live.
+///
+/// Source: docs/MODEL.md, "Numbers and lives".
 #[tactic(auto, unfolding(crate::specs::Lives::is_kept))]
 pub fn count_live_instances(events: &[Event]) -> u64
     ensures { result ≡ length (live_instances (reverse events.now)) }
@@ -123,6 +145,8 @@ pub fn count_live_instances(events: &[Event]) -> u64
 }
 
 /// The descriptor of an instance.
+///
+/// Source: docs/MODEL.md, "Numbers and lives".
 pub fn descriptor_of(events: &[Event], instance: u64) -> Option<&Vnfd>
     ensures { option_copied result ≡ descriptor (reverse events.now) instance }
 {
@@ -133,12 +157,19 @@ pub fn descriptor_of(events: &[Event], instance: u64) -> Option<&Vnfd>
 }
 
 /// The filter of a subscription that was ever made.
+///
+/// Source: docs/MODEL.md, "Numbers and lives".
 pub fn filter_of(events: &[Event], number: u64) -> Option<&Filter>
     ensures { option_copied result ≡ option_map (λ x. x.filter) (subscription (reverse events.now) number) }
 {
     let mut found = None;
     for event in events {
-        if let EventKind::Subscribed { subscription, filter, .. } = &event.kind {
+        if let EventKind::Subscribed {
+            subscription,
+            filter,
+            ..
+        } = &event.kind
+        {
             if *subscription == number {
                 found = Some(filter);
             }
@@ -148,6 +179,8 @@ pub fn filter_of(events: &[Event], number: u64) -> Option<&Filter>
 }
 
 /// How many subscriptions were made.
+///
+/// Source: docs/MODEL.md, "Numbers and lives".
 pub fn count_subscriptions(events: &[Event]) -> u64
     ensures { result ≡ subscriptions_made (reverse events.now) }
 {
@@ -161,6 +194,8 @@ pub fn count_subscriptions(events: &[Event]) -> u64
 }
 
 /// Whether a subscription was ended.
+///
+/// Source: docs/MODEL.md, "Numbers and lives".
 pub fn is_unsubscribed_in(events: &[Event], number: u64) -> bool
     ensures { result ≡ is_unsubscribed (reverse events.now) number }
 {
@@ -176,6 +211,8 @@ pub fn is_unsubscribed_in(events: &[Event], number: u64) -> bool
 }
 
 /// Whether a subscription is live.
+///
+/// Source: docs/MODEL.md, "Numbers and lives".
 pub fn is_subscribed_in(events: &[Event], number: u64) -> bool
     ensures { result ≡ is_subscribed (reverse events.now) number }
 {
@@ -185,13 +222,20 @@ pub fn is_subscribed_in(events: &[Event], number: u64) -> bool
 }
 
 /// How many subscriptions of a role are live.
+///
+/// Source: docs/MODEL.md, "Numbers and lives".
 #[tactic(auto, unfolding(crate::specs::Lives::is_live_of))]
 pub fn count_live_subscriptions(events: &[Event], role: Role) -> u64
     ensures { result ≡ length (live_subscriptions (reverse events.now) role) }
 {
     let mut count = 0;
     for event in events {
-        if let EventKind::Subscribed { subscription, role: own, .. } = &event.kind {
+        if let EventKind::Subscribed {
+            subscription,
+            role: own,
+            ..
+        } = &event.kind
+        {
             let ended = is_unsubscribed_in(events, *subscription);
             if role == *own && !ended {
                 count += 1;

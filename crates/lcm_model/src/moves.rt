@@ -3,9 +3,7 @@
 ghost use Rattle.std.specs.Prelude.{◌≡◌, reverse};
 ghost use Rattle.lcm_model.specs.Moves.{edge, is_active, is_final, state};
 
-use lcm_events::Event;
-use lcm_events::EventKind;
-use lcm_events::OpState;
+use lcm_events::{Event, EventKind, OpState};
 
 /// Whether an occurrence may go from the one state to the other.
 ///
@@ -17,7 +15,10 @@ pub fn may_follow(from: OpState, to: OpState) -> bool
         OpState::Starting => matches!(to, OpState::Processing | OpState::RolledBack),
         OpState::Processing => matches!(to, OpState::Completed | OpState::FailedTemp),
         OpState::FailedTemp => {
-            matches!(to, OpState::Processing | OpState::RollingBack | OpState::Failed)
+            matches!(
+                to,
+                OpState::Processing | OpState::RollingBack | OpState::Failed
+            )
         }
         OpState::RollingBack => matches!(to, OpState::RolledBack | OpState::FailedTemp),
         OpState::Completed | OpState::Failed | OpState::RolledBack => false,
@@ -30,7 +31,10 @@ pub fn may_follow(from: OpState, to: OpState) -> bool
 pub fn ends(state: OpState) -> bool
     ensures { result ≡ is_final state }
 {
-    matches!(state, OpState::Completed | OpState::Failed | OpState::RolledBack)
+    matches!(
+        state,
+        OpState::Completed | OpState::Failed | OpState::RolledBack
+    )
 }
 
 /// Whether the manager works on an occurrence in this state.
@@ -39,10 +43,15 @@ pub fn ends(state: OpState) -> bool
 pub fn works(state: OpState) -> bool
     ensures { result ≡ is_active state }
 {
-    matches!(state, OpState::Starting | OpState::Processing | OpState::RollingBack)
+    matches!(
+        state,
+        OpState::Starting | OpState::Processing | OpState::RollingBack
+    )
 }
 
 /// The state that an occurrence is in.
+///
+/// Source: docs/MODEL.md, "States".
 pub fn state_after(events: &[Event], occ: u64) -> OpState
     ensures { result ≡ state (reverse events.now) occ }
 {

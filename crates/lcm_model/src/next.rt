@@ -5,23 +5,14 @@ ghost use Rattle.lcm_model.specs.Words.{first, last};
 ghost use Rattle.lcm_model.specs.Operations.{changes};
 ghost use Rattle.lcm_model.specs.Next.{HasFewAttempts, begin_of, is_at_net, look_at, new_tag, next_action, next_in, next_while_asking, with_net};
 
-use lcm_events::Event;
-use lcm_events::OpState;
-use lcm_events::Tag;
-use lcm_events::Way;
-
 use crate::actions::Action;
-use crate::attempts::count_attempts;
-use crate::attempts::first_open_in;
-use crate::attempts::net_of;
-use crate::grants::is_granted_in;
-use crate::grants::location_in;
+use crate::attempts::{count_attempts, first_open_in, net_of};
+use crate::grants::{is_granted_in, location_in};
 use crate::moves::state_after;
 use crate::operations::changes_in;
-use crate::since::has_trouble_in;
-use crate::since::is_cancelled_in;
-use crate::since::is_forced_in;
+use crate::since::{has_trouble_in, is_cancelled_in, is_forced_in};
 use crate::work::gives_up_in;
+use lcm_events::{Event, OpState, Tag, Way};
 
 /// Whether a change has this net.
 #[tactic(auto, unfolding(crate::specs::Next::is_at_net))]
@@ -32,6 +23,8 @@ fn is_at_net_in(events: &[Event], occ: u64, net: u64, change: usize) -> bool
 }
 
 /// The least number of a change with this net.
+///
+/// Source: docs/MODEL.md, "The next action".
 #[tactic(auto, using(crate::proofs::ListLaws::range_step))]
 pub fn first_with_net(events: &[Event], occ: u64, net: u64) -> Option<usize>
     ensures value { result ≡ first (with_net (reverse events.now) occ net) }
@@ -47,6 +40,8 @@ pub fn first_with_net(events: &[Event], occ: u64, net: u64) -> Option<usize>
 }
 
 /// The greatest number of a change with this net.
+///
+/// Source: docs/MODEL.md, "The next action".
 #[tactic(auto, using(crate::proofs::ListLaws::range_step))]
 pub fn last_with_net(events: &[Event], occ: u64, net: u64) -> Option<usize>
     ensures value { result ≡ last (with_net (reverse events.now) occ net) }

@@ -4,20 +4,12 @@ ghost use Rattle.std.specs.Prelude.{◌≡◌, reverse, option_copied, is_some, 
 ghost use Rattle.lcm_model.specs.Words.{first};
 ghost use Rattle.lcm_model.specs.Operations.{change_of, changes, goes_on, kind_of, occurrences_made, ongoing, operation, undo, verb_done};
 
-use lcm_events::Ask;
-use lcm_events::Change;
-use lcm_events::Event;
-use lcm_events::EventKind;
-use lcm_events::OpKind;
-use lcm_events::Operation;
-use lcm_events::Tag;
-use lcm_events::Verb;
-use lcm_events::Way;
-
-use crate::moves::ends;
-use crate::moves::state_after;
+use crate::moves::{ends, state_after};
+use lcm_events::{Ask, Change, Event, EventKind, OpKind, Operation, Tag, Verb, Way};
 
 /// The operation of this number.
+///
+/// Source: docs/MODEL.md, "Operations".
 pub fn operation_in(events: &[Event], occ: u64) -> Option<&Operation>
     ensures { option_copied result ≡ operation (reverse events.now) occ }
 {
@@ -33,6 +25,8 @@ pub fn operation_in(events: &[Event], occ: u64) -> Option<&Operation>
 }
 
 /// How many operations were asked for.
+///
+/// Source: docs/MODEL.md, "Operations".
 pub fn count_operations(events: &[Event]) -> u64
     ensures { result ≡ occurrences_made (reverse events.now) }
 {
@@ -46,6 +40,8 @@ pub fn count_operations(events: &[Event]) -> u64
 }
 
 /// The changes of an occurrence, in the order of its plan.
+///
+/// Source: docs/MODEL.md, "Operations".
 pub fn changes_in(events: &[Event], occ: u64) -> &[Change]
     ensures { result.now ≡ changes (reverse events.now) occ }
 {
@@ -56,13 +52,19 @@ pub fn changes_in(events: &[Event], occ: u64) -> &[Change]
 }
 
 /// The change that a tag names.
+///
+/// Source: docs/MODEL.md, "Operations".
 pub fn change_in(events: &[Event], tag: &Tag) -> Option<Change>
     ensures { result ≡ change_of (reverse events.now) tag.now }
 {
-    changes_in(events, tag.occ).get(tag.change as usize).copied()
+    changes_in(events, tag.occ)
+        .get(tag.change as usize)
+        .copied()
 }
 
 /// Whether an operation goes on: its state isn't final.
+///
+/// Source: docs/MODEL.md, "Operations".
 #[tactic(auto, unfolding(crate::specs::Operations::goes_on))]
 pub fn goes_on_in(events: &[Event], operation: &Operation) -> bool
     ensures { result ≡ goes_on (reverse events.now) operation.now }
@@ -71,6 +73,8 @@ pub fn goes_on_in(events: &[Event], operation: &Operation) -> bool
 }
 
 /// Whether the instance has an operation that isn't final.
+///
+/// Source: docs/MODEL.md, "Operations".
 pub fn is_busy(events: &[Event], instance: u64) -> bool
     ensures { result ≡ is_some (first (ongoing (reverse events.now) instance)) }
 {

@@ -4,13 +4,11 @@ ghost use Rattle.std.specs.Prelude.{◌≡◌, reverse, is_some};
 ghost use Rattle.lcm_model.specs.Moves.{moved_to};
 ghost use Rattle.lcm_model.specs.Since.{has_call_failed, has_trouble, is_cancelled, is_forced, is_trouble, troubles};
 
-use lcm_events::CancelMode;
-use lcm_events::Event;
-use lcm_events::EventKind;
-use lcm_events::Outcome;
-use lcm_events::Tag;
+use lcm_events::{CancelMode, Event, EventKind, Outcome, Tag};
 
 /// Whether the call that was to begin the attempt has failed.
+///
+/// Source: docs/MODEL.md, "Cancels and trouble".
 pub fn has_call_failed_in(events: &[Event], tag: &Tag) -> bool
     ensures { result ≡ has_call_failed (reverse events.now) tag.now }
 {
@@ -26,6 +24,8 @@ pub fn has_call_failed_in(events: &[Event], tag: &Tag) -> bool
 }
 
 /// Whether an outcome is trouble.
+///
+/// Source: docs/MODEL.md, "Cancels and trouble".
 pub fn is_trouble_in(events: &[Event], tag: &Tag, outcome: &Outcome) -> bool
     ensures { result ≡ is_trouble (reverse events.now) tag.now outcome.now }
 {
@@ -56,6 +56,8 @@ fn moves_occurrence(occ: u64, kind: &EventKind) -> bool
 }
 
 /// Whether there is trouble since the last move.
+///
+/// Source: docs/MODEL.md, "Cancels and trouble".
 pub fn has_trouble_in(events: &[Event], occ: u64) -> bool
     ensures { result ≡ has_trouble (reverse events.now) occ }
 {
@@ -71,6 +73,8 @@ pub fn has_trouble_in(events: &[Event], occ: u64) -> bool
 }
 
 /// Whether a cancel is in force.
+///
+/// Source: docs/MODEL.md, "Cancels and trouble".
 pub fn is_cancelled_in(events: &[Event], occ: u64) -> bool
     ensures { result ≡ is_cancelled (reverse events.now) occ }
 {
@@ -86,6 +90,8 @@ pub fn is_cancelled_in(events: &[Event], occ: u64) -> bool
 }
 
 /// Whether a FORCEFUL cancel is in force.
+///
+/// Source: docs/MODEL.md, "Cancels and trouble".
 pub fn is_forced_in(events: &[Event], occ: u64) -> bool
     ensures { result ≡ is_forced (reverse events.now) occ }
 {
@@ -93,7 +99,10 @@ pub fn is_forced_in(events: &[Event], occ: u64) -> bool
     for event in events {
         match &event.kind {
             EventKind::Moved { occ: moved, .. } if *moved == occ => forced = false,
-            EventKind::CancelAsked { occ: asked, mode: CancelMode::Forceful } if *asked == occ => forced = true,
+            EventKind::CancelAsked {
+                occ: asked,
+                mode: CancelMode::Forceful,
+            } if *asked == occ => forced = true,
             _ => (),
         }
     }

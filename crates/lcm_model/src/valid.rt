@@ -4,13 +4,7 @@ ghost use Rattle.std.specs.Prelude.{◌≡◌, ◌↔◌, ℕ, List, IsTrue, map
 ghost use Rattle.std.specs.List.{list_all};
 ghost use Rattle.lcm_model.specs.Descriptors.{IsValid, are_levels_of, are_sorted, has_sorted_names, has_valid_counts, is_given, is_name_before, is_rising, is_valid_aspect, is_valid_level, is_valid_maximum, is_valid_port, is_valid_row, is_valid_steps, is_valid_storage, is_valid_vdu};
 
-use lcm_events::Aspect;
-use lcm_events::Level;
-use lcm_events::Port;
-use lcm_events::Row;
-use lcm_events::Storage;
-use lcm_events::Vdu;
-use lcm_events::Vnfd;
+use lcm_events::{Aspect, Level, Port, Row, Storage, Vdu, Vnfd};
 use vnfm_base::Name;
 
 /// Bytes of the largest memory and of the largest storage, 2 ^ 60.
@@ -126,6 +120,8 @@ fn has_bytes(name: &Name) -> bool
 }
 
 /// Whether these levels are of the descriptor.
+///
+/// Source: docs/MODEL.md, "A valid descriptor".
 pub fn are_levels_in(vnfd: &Vnfd, levels: &[u32]) -> bool
     ensures { result ≡ are_levels_of vnfd.now levels.now }
 {
@@ -139,7 +135,10 @@ pub fn are_levels_in(vnfd: &Vnfd, levels: &[u32]) -> bool
 fn are_within(aspects: &[Aspect], levels: &[u32]) -> bool
     ensures { result ≡ list_all (λ x. nat_le x.1 x.0.maximum) (zip aspects.now levels.now) }
 {
-    aspects.iter().zip(levels.iter()).all(|(aspect, level)| *level <= aspect.maximum)
+    aspects
+        .iter()
+        .zip(levels.iter())
+        .all(|(aspect, level)| *level <= aspect.maximum)
 }
 
 /// Whether each number names an entry of a list of this length.

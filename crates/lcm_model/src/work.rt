@@ -7,26 +7,12 @@ ghost use Rattle.lcm_model.specs.Grants.{is_granted};
 ghost use Rattle.lcm_model.specs.Work.{HasStopped, IsQuiet, IsTurnOf, MayBegin, MayMove, all_have_net, all_through, gives_up, goes_before, has_net, is_termination, is_through, net_after, net_before, works_in};
 ghost use Rattle.lcm_model.specs.Operations.{change_of};
 
-use lcm_events::Ask;
-use lcm_events::Change;
-use lcm_events::Event;
-use lcm_events::OpState;
-use lcm_events::Tag;
-use lcm_events::Way;
-
-use crate::attempts::count_attempts;
-use crate::attempts::count_open;
-use crate::attempts::count_open_of_change;
-use crate::attempts::net_of;
-use crate::grants::has_ended_in;
-use crate::grants::is_granted_in;
+use crate::attempts::{count_attempts, count_open, count_open_of_change, net_of};
+use crate::grants::{has_ended_in, is_granted_in};
 use crate::moves::state_after;
-use crate::operations::change_in;
-use crate::operations::changes_in;
-use crate::operations::operation_in;
-use crate::since::has_trouble_in;
-use crate::since::is_cancelled_in;
-use crate::since::is_forced_in;
+use crate::operations::{change_in, changes_in, operation_in};
+use crate::since::{has_trouble_in, is_cancelled_in, is_forced_in};
+use lcm_events::{Ask, Change, Event, OpState, Tag, Way};
 
 /// The state in which attempts in this way are made.
 fn state_of_work(way: Way) -> OpState
@@ -70,7 +56,14 @@ fn is_before_phase(way: Way, phase: u8, change: &Change) -> bool
 
 /// Whether a change is through where it goes before those of this phase.
 #[tactic(auto, unfolding(crate::specs::Work::is_through))]
-fn is_through_in(events: &[Event], occ: u64, way: Way, phase: u8, number: usize, change: &Change) -> bool
+fn is_through_in(
+    events: &[Event],
+    occ: u64,
+    way: Way,
+    phase: u8,
+    number: usize,
+    change: &Change,
+) -> bool
     ensures { result ≡ is_through (reverse events.now) occ way phase (number, change.now) }
 {
     let net = net_of(events, occ, number as u64);
@@ -79,6 +72,8 @@ fn is_through_in(events: &[Event], occ: u64, way: Way, phase: u8, number: usize,
 }
 
 /// Whether every change that goes before this phase is through.
+///
+/// Source: docs/MODEL.md, "When work begins and moves".
 pub fn all_through_in(events: &[Event], occ: u64, way: Way, phase: u8) -> bool
     ensures { result ≡ all_through (reverse events.now) occ way phase }
 {
@@ -99,6 +94,8 @@ fn has_net_in(events: &[Event], occ: u64, net: u64, number: usize, change: &Chan
 }
 
 /// Whether every change of the occurrence has this net.
+///
+/// Source: docs/MODEL.md, "When work begins and moves".
 pub fn all_have_net_in(events: &[Event], occ: u64, net: u64) -> bool
     ensures { result ≡ all_have_net (reverse events.now) occ net }
 {
@@ -148,6 +145,8 @@ pub fn may_begin(events: &[Event], tag: &Tag) -> bool
 }
 
 /// Whether the work of an occurrence is at rest.
+///
+/// Source: docs/MODEL.md, "When work begins and moves".
 pub fn is_quiet(events: &[Event], occ: u64) -> bool
     ensures { IsTrue result ↔ IsQuiet (reverse events.now) occ }
 {
@@ -158,6 +157,8 @@ pub fn is_quiet(events: &[Event], occ: u64) -> bool
 }
 
 /// Whether the work of an occurrence has stopped.
+///
+/// Source: docs/MODEL.md, "When work begins and moves".
 pub fn has_stopped(events: &[Event], occ: u64) -> bool
     ensures { IsTrue result ↔ HasStopped (reverse events.now) occ }
 {
@@ -168,6 +169,8 @@ pub fn has_stopped(events: &[Event], occ: u64) -> bool
 }
 
 /// Whether the exchange gives the occurrence up.
+///
+/// Source: docs/MODEL.md, "When work begins and moves".
 pub fn gives_up_in(events: &[Event], occ: u64) -> bool
     ensures { result ≡ gives_up (reverse events.now) occ }
 {
@@ -179,6 +182,8 @@ pub fn gives_up_in(events: &[Event], occ: u64) -> bool
 }
 
 /// Whether the operation is TERMINATE.
+///
+/// Source: docs/MODEL.md, "When work begins and moves".
 pub fn is_termination_in(events: &[Event], occ: u64) -> bool
     ensures { result ≡ is_termination (operation (reverse events.now) occ) }
 {
@@ -217,7 +222,9 @@ pub fn may_move(events: &[Event], occ: u64, from: OpState, to: OpState) -> bool
         (OpState::Starting, OpState::RolledBack) => gives_up_in(events, occ),
         (OpState::Processing, OpState::Completed) => may_end(events, occ, 1),
         (OpState::RollingBack, OpState::RolledBack) => may_end(events, occ, 0),
-        (OpState::Processing | OpState::RollingBack, OpState::FailedTemp) => has_stopped(events, occ),
+        (OpState::Processing | OpState::RollingBack, OpState::FailedTemp) => has_stopped(
+            events, occ,
+        ),
         (OpState::FailedTemp, OpState::RollingBack) => !is_termination_in(events, occ),
         (OpState::FailedTemp, OpState::Processing | OpState::Failed) => true,
         _ => false,

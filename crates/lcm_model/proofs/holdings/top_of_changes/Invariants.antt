@@ -1,5 +1,4 @@
 use Rattle.lcm_model.specs.Holding.{top_of}
-use Rattle.lcm_model.specs.Plans.{change}
 use Rattle.std.proofs.Common.{drop, max, ◌≡◌}
 use Rattle.lcm_model.proofs.holdings.top_of_changes.Given as goal
 

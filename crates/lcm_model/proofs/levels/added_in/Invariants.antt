@@ -1,4 +1,3 @@
-use Rattle.lcm_model.specs.Fixture.{at}
 use Rattle.lcm_model.specs.Levels.{added, has_small_deltas}
 use Rattle.lcm_model.specs.Words.{total}
 use Rattle.std.proofs.Common.{drop, true, ◌*◌, ◌+◌, ◌≡◌, ◌≤◌}

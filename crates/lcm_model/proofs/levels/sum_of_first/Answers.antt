@@ -1,4 +1,4 @@
-use Rattle.std.proofs.Common.{ℕ, ◌≡◌, ◌≤◌, ◌<◌, arith, rules, nat_le, true, get_or}
+use Rattle.std.proofs.Common.{ℕ, ◌≡◌, arith, nat_le, true, get_or}
 use Rattle.std.proofs.lemmas.Grind.{common_steps}
 use Rattle.lcm_model.proofs.ListLaws.{sum_step, small_here, small_next}
 use Rattle.lcm_model.proofs.levels.sum_of_first.Goals as goal

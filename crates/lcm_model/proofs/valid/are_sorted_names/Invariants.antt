@@ -1,5 +1,4 @@
 use Rattle.lcm_model.specs.Descriptors.{are_sorted, is_name_before, is_rising}
-use Rattle.lcm_model.specs.Fixture.{at}
 use Rattle.std.proofs.Common.{drop, ◌-◌, ◌≡◌}
 use Rattle.std.specs.Prelude.{map}
 use Rattle.lcm_model.proofs.valid.are_sorted_names.Given as goal
