@@ -1,0 +1,76 @@
+use Rattle.std.proofs.Common.{◌≡◌, ◌∙◌, ap, ◌+◌, ◌≤◌, take, length, arith}
+use Rattle.std.proofs.lemmas.List.{take_at}
+use Rattle.journal_core.specs.File.{piece, IsRecord}
+use Rattle.journal_core.specs.Journal.{Ledger}
+use Rattle.journal_core.proofs.Records.{has_length, ready_has, records_of}
+use Rattle.journal_core.proofs.Appending.{first_moments, first_ready, second_moments, second_has, stands_more, appends_not}
+use Rattle.journal_core.proofs.journal.Journal.append.Goals as goal
+
+pub write_through-requires : goal.write_through-requires
+write_through-requires g c = λ tells.
+    let stands = c.requires.stands tells in
+    let long = has_length _ _ _ stands.file in
+    let end : c.self.inside.end ≡ c.args.self.now.end = ap (λ (v : Ledger). v.end) c.self.view_is in
+    omega (arith, stands.end)
+
+pub write_through-requires-2 : goal.write_through-requires-2
+write_through-requires-2 g c = λ tells.
+    let stands = c.requires.stands tells in
+    let j = c.args.self.now in
+    let a = g.S.Site.state c.args.site.now in
+    let b = g.S.Site.state c.write_through.new.site in
+    let end : c.self.inside.end ≡ j.end = ap (λ (v : Ledger). v.end) c.self.view_is in
+    let whole : take c.frame-total.result c.deref.result.now ≡ piece c.args.bytes.now =
+    ap (take c.frame-total.result) (c.deref.ensures.value ∙ take_at c.frame-total.new.buffer _ _ (omega arith)) ∙ c.frame-total.ensures.framed in
+    let ready = first_ready c.args.bytes.now _ _ j a b stands (ap (λ v. v + 1) end) whole (c.in_ok-write_through.ensures.told tells).holds in
+    let long = has_length _ _ _ (ready_has _ _ _ _ ready) in
+    omega (arith, stands.end)
+
+pub returns-in_err-write_through-clause-told : goal.returns-in_err-write_through-clause-told
+returns-in_err-write_through-clause-told g c = λ tells.
+    let stands = c.requires.stands tells in
+    let j = c.args.self.now in
+    let end : c.self.inside.end ≡ j.end = ap (λ (v : Ledger). v.end) c.self.view_is in
+    appends_not c.args.bytes.now _ j _ _ _ c.from_residual.ensures.0
+    (first_moments c.args.bytes.now _ _ _ j _ _ stands (ap (λ v. v + 1) end) (c.in_err-write_through.ensures.told tells))
+
+pub returns-in_err-write_through-2-clause-told : goal.returns-in_err-write_through-2-clause-told
+returns-in_err-write_through-2-clause-told g c = λ tells.
+    let stands = c.requires.stands tells in
+    let j = c.args.self.now in
+    let a = g.S.Site.state c.args.site.now in
+    let b = g.S.Site.state c.write_through.new.site in
+    let first = c.in_ok-write_through.ensures.told tells in
+    let end : c.self.inside.end ≡ j.end = ap (λ (v : Ledger). v.end) c.self.view_is in
+    let whole : take c.frame-total.result c.deref.result.now ≡ piece c.args.bytes.now =
+    ap (take c.frame-total.result) (c.deref.ensures.value ∙ take_at c.frame-total.new.buffer _ _ (omega arith)) ∙ c.frame-total.ensures.framed in
+    let one : IsRecord c.args.bytes.now = record { some = c.requires.some; fits = c.requires.fits } in
+    let ready = first_ready c.args.bytes.now _ _ j a b stands (ap (λ v. v + 1) end) whole first.holds in
+    appends_not c.args.bytes.now _ j _ _ _ c.from_residual-in_err-write_through-2.ensures.0
+    (second_moments c.args.bytes.now _ _ j a b _ (first_moments c.args.bytes.now _ _ _ j a b stands (ap (λ v. v + 1) end) first)
+    stands first.settled ready one end (omega arith) (c.in_err-write_through-2.ensures.told tells))
+
+pub returns-clause-told : goal.returns-clause-told
+returns-clause-told g c = λ tells.
+    let stands = c.requires.stands tells in
+    let j = c.args.self.now in
+    let a = g.S.Site.state c.args.site.now in
+    let b = g.S.Site.state c.write_through.new.site in
+    let d = g.S.Site.state c.write_through-2.new.site in
+    let first = c.in_ok-write_through.ensures.told tells in
+    let second = c.in_ok-write_through-2.ensures.told tells in
+    let end : c.self.inside.end ≡ j.end = ap (λ (v : Ledger). v.end) c.self.view_is in
+    let count : c.self.inside.count ≡ j.count = ap (λ (v : Ledger). v.count) c.self.view_is in
+    let manager : c.self.inside.manager ≡ j.manager = ap (λ (v : Ledger). v.manager) c.self.view_is in
+    let whole : take c.frame-total.result c.deref.result.now ≡ piece c.args.bytes.now =
+    ap (take c.frame-total.result) (c.deref.ensures.value ∙ take_at c.frame-total.new.buffer _ _ (omega arith)) ∙ c.frame-total.ensures.framed in
+    let one : IsRecord c.args.bytes.now = record { some = c.requires.some; fits = c.requires.fits } in
+    let room : j.end + 6 + length c.args.bytes.now ≤ 268435456 = omega arith in
+    let ready = first_ready c.args.bytes.now _ _ j a b stands (ap (λ v. v + 1) end) whole first.holds in
+    let has = second_has c.args.bytes.now _ j a b d stands ready one end room second.holds in
+    record {
+      any_moment = second_moments c.args.bytes.now _ _ j a b d (first_moments c.args.bytes.now _ _ _ j a b stands (ap (λ v. v + 1) end) first)
+          stands first.settled ready one end room second;
+      stands = stands_more c.args.bytes.now j _ a d stands second.settled has manager (omega arith) (omega arith);
+      added = records_of _ _ _ has;
+    }

@@ -1,0 +1,139 @@
+// The journal of one manager. A closed gate stands behind the last record, on the disk before anything is written behind it.
+ghost use Rattle.std.specs.Prelude.{◌≡◌, ◌≤◌, ◌<◌, ◌↔◌, ◌+◌, ℕ, IsTrue, true, false, take, length, OnOk};
+ghost use Rattle.site_traits.specs.Counts.{Rose, OnlyDisk};
+ghost use Rattle.journal_core.specs.File.{piece};
+ghost use Rattle.journal_core.specs.Journal.{Stands, Appends};
+
+use crate::through::write_through;
+use site_traits::{DiskFailed, Site};
+use std::marker::{Model, PhantomData};
+
+/// Bytes of the largest file. The closed gate stands before this place.
+pub const MAX_FILE: u64 = 268_435_456;
+
+/// Bytes of a record's content. The largest plan fits.
+pub const MAX_RECORD: usize = 65_536;
+
+// Bytes of the first write of the largest append: a length, the content and a closed gate.
+const ROOM: usize = 65_541;
+
+/// The journal of one manager. It never owns the site of its file, which is lent to each call.
+///
+/// A contract sees whose it is, how many records it has, where its closed gate stands and whether it is closed.
+#[derive(Drop)]
+pub struct Journal<S: Site> {
+    manager: u32,
+    count: u64,
+    end: u64,
+    closed: bool,
+    buffer: Vec<u8>,
+    of: PhantomData<S>,
+}
+
+impl<S: Site> Model for Journal<S> {
+    ghost use Rattle.std.specs.Prelude.{◌≡◌, ◌≤◌, ◌<◌, length};
+    ghost use Rattle.journal_core.specs.Journal.{Ledger};
+
+    ghost Value = { Ledger };
+
+    ghost view = { λ j. record { manager = j.manager; count = j.count; end = j.end; closed = j.closed } };
+
+    ghost invariant = { λ j. (length j.buffer.items ≡ 65541) × (j.end < 268435456) × (j.count ≤ j.end) };
+}
+
+/// Why a record could not be appended.
+#[derive(Debug, Drop)]
+pub enum AppendFault {
+    /// Behind the closed gate at `end` the file has no room for `more` bytes of content. Nothing has changed.
+    Full {
+        /// The place of the closed gate.
+        end: u64,
+        /// The bytes that were to be appended.
+        more: u32,
+    },
+    /// A disk call failed. The journal is closed: whether it has the record is known once it is loaded again.
+    Disk,
+}
+
+impl From<DiskFailed> for AppendFault {
+    ghost use Rattle.journal_core.specs.declared.journal.AppendFault.TheVariants.{Disk};
+
+    ghost from_gives = { λ _ e. e ≡ Disk };
+
+    fn from(_: DiskFailed) -> Self {
+        AppendFault::Disk
+    }
+}
+
+impl<S: Site> Journal<S> {
+    /// The number of the manager whose journal it is.
+    pub fn manager(&self) -> u32
+        ensures { result ≡ self.now.manager }
+    {
+        self.manager
+    }
+
+    /// How many records it has.
+    pub fn count(&self) -> u64
+        ensures { result ≡ self.now.count }
+    {
+        self.count
+    }
+
+    /// Whether a record of `more` bytes and the closed gate behind it end at or before place `limit` of the file.
+    pub fn fits(&self, more: usize, limit: u64) -> bool
+        ensures { IsTrue result ↔ (self.now.end + 6 + more ≤ limit) }
+    {
+        limit >= self.end + 6 && more as u64 <= limit - (self.end + 6)
+    }
+
+    /// Adds a record of these bytes. It makes two writes and two syncs, reads nothing and takes no memory.
+    ///
+    /// Refusals, in this order: `Full {end, more}` (bytes), after which nothing has changed; `Disk`.
+    /// After `Disk`: the journal is closed; load it again.
+    /// Source: own format, docs/JOURNAL.md.
+    pub fn append(&mut self, site: &mut S, bytes: &[u8]) -> Result<(), AppendFault>
+        requires some { 1 ≤ length bytes.now }
+        requires fits { length bytes.now ≤ 65536 }
+        requires usable { self.old.closed ≡ false }
+        requires stands { S.tells → Stands (S.state site.old) self.old }
+
+        ensures manager { self.new.manager ≡ self.old.manager }
+        ensures grown { OnOk result ((self.new.count ≡ self.old.count + 1) × (self.new.end ≡ self.old.end + 5 + length bytes.now) × (self.new.closed ≡ false)) }
+        ensures told { S.tells → Appends bytes.now result self.old self.new (S.state site.old) (S.state site.new) }
+        ensures full { 268435456 < self.old.end + 6 + length bytes.now → result ≡ Err (AppendFault.Full self.old.end (length bytes.now)) }
+        ensures only_full { (end more : ℕ) → result ≡ Err (AppendFault.Full end more) → (268435456 < self.old.end + 6 + length bytes.now) × (self.new ≡ self.old) × (site.new ≡ site.old) }
+        ensures disk { result ≡ Err AppendFault.Disk → Rose (S.counts site.old).disk (S.counts site.new).disk }
+        ensures closed { result ≡ Err AppendFault.Disk → self.new.closed ≡ true }
+        ensures counts { OnlyDisk (S.counts site.old) (S.counts site.new) }
+    {
+        if self.end + 6 + bytes.len() as u64 > MAX_FILE {
+            return Err(AppendFault::Full {
+                end: self.end,
+                more: bytes.len() as u32,
+            });
+        }
+        let total = frame(&mut self.buffer, bytes);
+        self.closed = true;
+        write_through(site, self.end + 1, &self.buffer[..total])?;
+        write_through(site, self.end, &[1])?;
+        self.closed = false;
+        self.end += total as u64;
+        self.count += 1;
+        Ok(())
+    }
+}
+
+// Puts what is written behind a closed gate to the front of the buffer, and gives the number of its bytes.
+fn frame(buffer: &mut [u8], bytes: &[u8]) -> usize
+    requires room { length bytes.now + 5 ≤ length buffer.old }
+    requires fits { length bytes.now ≤ 65536 }
+    ensures total { result ≡ length bytes.now + 5 }
+    ensures framed { take result buffer.new ≡ piece bytes.now }
+{
+    let n = bytes.len();
+    buffer[..4].copy_from_slice(&(n as u32).to_be_bytes());
+    buffer[4..n + 4].copy_from_slice(bytes);
+    buffer[n + 4] = 0;
+    n + 5
+}

@@ -1,0 +1,109 @@
+-- How a run of calls of a site goes on: what a stop since its start may leave.
+use Rattle.std.proofs.Common.{◌≡◌, ◌∙◌, sym, subst, ℕ, List, inl, inr, ⊎_elim, refl, arith}
+use Rattle.site_traits.specs.Site.{Pair, SiteState, Passes, LeavesOnly, Same, FileStep, OnFile, Reads}
+
+-- no call
+pub passes-refl : (step : Pair → Pair → Type 0) (a : SiteState) → ((p : Pair) → step p p) → Passes step a a
+passes-refl step a stays = record {
+  later = omega arith;
+  during = λ p left. (p, left, stays p);
+  nothing_else = λ t p le left. inl left;
+  keeps = λ t p le left. left;
+}
+
+-- two calls with these steps are one with the step that they make together
+pub passes-then : (f g h : Pair → Pair → Type 0) (a b c : SiteState) → Passes f a b → Passes g b c
+    → ((p : Pair) → g p p) → ((p : Pair) → f p p) → ((p q r : Pair) → f p q → g q r → h p r) → Passes h a c
+passes-then f g h a b c ab bc g_stays f_stays joins =
+    let a_b = ab.later in
+    let b_c = bc.later in
+    record {
+      later = omega arith;
+      during = λ p left. ⊎_elim
+          (λ (mid : b.since a.moment p). let from = ab.during p mid in (from.0, from.1, joins from.0 p p from.2 (g_stays p)))
+          (λ (end : c.since b.moment p).
+          let mid = bc.during p end in
+          let from = ab.during mid.0 (b.earlier a.moment b.moment mid.0 a_b mid.1) in
+          (from.0, from.1, joins from.0 mid.0 p from.2 mid.2))
+          (bc.nothing_else a.moment p a_b left);
+      nothing_else = λ t p le left. ⊎_elim
+          (λ (mid : b.since t p). ⊎_elim (λ (first : a.since t p). inl first) (λ (second : b.since a.moment p). inr (bc.keeps a.moment p a_b second)) (ab.nothing_else t p le mid))
+          (λ (end : c.since b.moment p). inr (c.earlier a.moment b.moment p a_b end))
+          (bc.nothing_else t p (omega arith) left);
+      keeps = λ t p le left. bc.keeps t p (omega arith) (ab.keeps t p le left);
+    }
+
+-- a run that leaves only what has P says so of each pair that a stop now may leave
+pub is_since : (P : Pair → Type 0) (a b : SiteState) → LeavesOnly P a b → (p : Pair) → b.since b.moment p → P p
+is_since P a b run p left = let le = run.later in run.each p (b.earlier a.moment b.moment p le left)
+
+-- before the first call
+pub started : (P : Pair → Type 0) (a : SiteState) → ((p : Pair) → a.since a.moment p → P p) → LeavesOnly P a a
+started P a here = record { later = omega arith; each = here; before = λ t p le left. inl left }
+
+-- one call more
+pub goes_on : (P : Pair → Type 0) (step : Pair → Pair → Type 0) (a b c : SiteState) → LeavesOnly P a b → Passes step b c
+    → ((q p : Pair) → b.since b.moment q → step q p → P p) → LeavesOnly P a c
+goes_on P step a b c so_far call leads =
+    let during : (p : Pair) → c.since b.moment p → P p = λ p left. let from = call.during p left in leads from.0 p from.1 from.2 in
+    let ab = so_far.later in
+    let bc = call.later in
+    record {
+      later = omega arith;
+      each = λ p left. ⊎_elim (so_far.each p) (during p) (call.nothing_else a.moment p ab left);
+      before = λ t p le left. ⊎_elim (so_far.before t p le) (λ (now : c.since b.moment p). inr (during p now)) (call.nothing_else t p (omega arith) left);
+    }
+
+-- one run more
+pub followed : (P Q : Pair → Type 0) (a b c : SiteState) → LeavesOnly P a b → LeavesOnly Q b c → ((p : Pair) → Q p → P p) → LeavesOnly P a c
+followed P Q a b c first second leads =
+    let ab = first.later in
+    let bc = second.later in
+    record {
+      later = omega arith;
+      each = λ p left. ⊎_elim (first.each p) (leads p) (second.before a.moment p ab left);
+      before = λ t p le left. ⊎_elim (first.before t p le) (λ (now : Q p). inr (leads p now)) (second.before t p (omega arith) left);
+    }
+
+-- what leaves only pairs with Q leaves only pairs with what Q leads to
+pub weakened : (P Q : Pair → Type 0) (a b : SiteState) → LeavesOnly Q a b → ((p : Pair) → Q p → P p) → LeavesOnly P a b
+weakened P Q a b run leads = record {
+  later = run.later;
+  each = λ p left. leads p (run.each p left);
+  before = λ t p le left. ⊎_elim (λ (old : a.since t p). inl old) (λ (now : Q p). inr (leads p now)) (run.before t p le left);
+}
+
+pub on_file-refl : (step : List ℕ → List ℕ → Type 0) (a : SiteState) → ((i : List ℕ) → step i i) → OnFile step a a
+on_file-refl step a stays = record { passes = passes-refl (FileStep step) a (λ p. record { image = stays p.image }) }
+
+-- two calls on the file
+pub on_file-then : (f g h : List ℕ → List ℕ → Type 0) (a b c : SiteState) → OnFile f a b → OnFile g b c
+    → ((i : List ℕ) → g i i) → ((i : List ℕ) → f i i) → ((i j k : List ℕ) → f i j → g j k → h i k) → OnFile h a c
+on_file-then f g h a b c ab bc g_stays f_stays joins = record {
+  passes = passes-then (FileStep f) (FileStep g) (FileStep h) a b c ab.passes bc.passes
+      (λ p. record { image = g_stays p.image })
+      (λ p. record { image = f_stays p.image })
+      (λ p q r pq qr. record { image = joins p.image q.image r.image pq.image qr.image });
+}
+
+-- a call on the file and one that only reads or syncs
+pub on_file-reads : (step : List ℕ → List ℕ → Type 0) (a b c : SiteState) → OnFile step a b → OnFile Same b c → ((i : List ℕ) → step i i) → OnFile step a c
+on_file-reads step a b c ab bc stays =
+    on_file-then step Same step a b c ab bc (λ i. refl) stays (λ i j k ij jk. let P : List ℕ → Type 0 = λ v. step i v in subst P (sym jk) ij)
+
+pub reads-refl : (a : SiteState) → Reads a a
+reads-refl a = record { on_file = on_file-refl Same a (λ i. refl); same = refl; settled = λ settled. settled }
+
+-- two calls that only read the file
+pub reads-then : (a b c : SiteState) → Reads a b → Reads b c → Reads a c
+reads-then a b c ab bc = record {
+  on_file = on_file-reads Same a b c ab.on_file bc.on_file (λ i. refl);
+  same = bc.same ∙ ab.same;
+  settled = λ settled. bc.settled (ab.settled settled);
+}
+
+-- a call that only reads leaves only what a stop before it might have left
+pub reads-keep : (P : Pair → Type 0) (a b c : SiteState) → LeavesOnly P a b → OnFile Same b c → ((q p : Pair) → q.image ≡ p.image → P q → P p) → LeavesOnly P a c
+reads-keep P a b c so_far call same =
+    goes_on P (FileStep Same) a b c so_far call.passes
+    (λ q p left step. same q p (sym step.image) (is_since P a b so_far q left))

@@ -1,0 +1,76 @@
+// Where connections come in.
+ghost use Rattle.std.specs.Prelude.{◌≡◌, ◌≤◌, length};
+ghost use Rattle.site_traits.specs.Door.{DoorState, DoorCounts, Nexts, ReadsIn, WritesOut, HangsUp, IsAmount, IsTaken, NextCause, ReadCause, WriteCause, NoNextFault};
+
+use lcm_events::Role;
+
+/// What came of waiting for a connection.
+#[derive(Clone, Copy, Debug, PartialEq, Eq)]
+pub enum NextAnswer {
+    /// A connection of this role is at hand.
+    Came(Role),
+    /// None came this time.
+    Nobody,
+    /// None will come any more.
+    Ended,
+    /// The door failed. Its count of faults rose, and that of `next` faults too.
+    Failed,
+}
+
+/// What came of a read.
+#[derive(Clone, Copy, Debug, PartialEq, Eq)]
+pub enum ReadAnswer {
+    /// So many bytes, at least one, stand at the front of the piece.
+    Got(usize),
+    /// No byte is left.
+    End,
+    /// The read failed. The door's count of faults rose.
+    Failed,
+}
+
+/// What came of a write.
+#[derive(Clone, Copy, Debug, PartialEq, Eq)]
+pub enum WriteAnswer {
+    /// So many bytes, at least one, went out.
+    Took(usize),
+    /// The write failed, and no byte of it went out. The door's count of faults rose.
+    Failed,
+}
+
+/// Where connections come in, one at a time.
+///
+/// Source: own rule.
+pub trait Door {
+    /// Whether doors of this kind tell their content. Clauses on content hold where they do.
+    ghost tells: { Type 0 };
+
+    /// What the door tells.
+    ghost state: { Self → DoorState };
+
+    /// How often its calls failed, told or not.
+    ghost counts: { Self → DoorCounts };
+
+    /// Waits for the next connection, which is then at hand. Where none comes, the last one stays at hand.
+    fn next(&mut self) -> NextAnswer
+        ensures told { tells → Nexts result (state self.old) (state self.new) }
+        ensures cause { NextCause result (counts self.old) (counts self.new) };
+
+    /// Reads the next bytes of the connection to the front of `into`.
+    fn read(&mut self, into: &mut [u8]) -> ReadAnswer
+        requires { 1 ≤ length into.old }
+        ensures amount { IsAmount result (length into.old) }
+        ensures told { tells → ReadsIn into.old into.new result (state self.old) (state self.new) }
+        ensures cause { ReadCause result (counts self.old) (counts self.new) };
+
+    /// Writes the first of these bytes to the connection.
+    fn write(&mut self, bytes: &[u8]) -> WriteAnswer
+        requires { 1 ≤ length bytes.now }
+        ensures amount { IsTaken result (length bytes.now) }
+        ensures told { tells → WritesOut bytes.now result (state self.old) (state self.new) }
+        ensures cause { WriteCause result (counts self.old) (counts self.new) };
+
+    /// Ends the connection.
+    fn hang_up(&mut self)
+        ensures told { tells → HangsUp (state self.old) (state self.new) }
+        ensures cause { NoNextFault (counts self.old) (counts self.new) };
+}

@@ -1,0 +1,54 @@
+// The journal's file: what each call does to it, and what a stop may leave.
+ghost use Rattle.std.specs.Prelude.{◌≡◌, ◌≤◌, ◌+◌, ℕ, length, take, drop, OnOk, IfOk};
+ghost use Rattle.site_traits.specs.Counts.{SiteCounts, DiskCause};
+ghost use Rattle.site_traits.specs.Site.{SiteState, Reads, Writes, Cuts, Syncs};
+
+/// A disk call failed. The site's count of disk faults rose in that call, or stands at its greatest value.
+#[derive(Clone, Copy, Debug, PartialEq, Eq, Drop)]
+pub struct DiskFailed;
+
+/// The journal's file.
+///
+/// Between two calls a site does not change. A stop may come at any moment, in a call too: `state` says what it may leave.
+/// Source: own rule.
+pub trait Site {
+    /// Whether sites of this kind tell their content. Clauses on content hold where they do.
+    ghost tells: { Type 0 };
+
+    /// What the site tells.
+    ghost state: { Self → SiteState };
+
+    /// How often its calls failed, told or not.
+    ghost counts: { Self → SiteCounts };
+
+    /// The file's length in bytes.
+    fn length(&mut self) -> Result<u64, DiskFailed>
+        ensures length { tells → IfOk result (λ n. n ≡ length (state self.old).image) }
+        ensures told { tells → Reads (state self.old) (state self.new) }
+        ensures cause { DiskCause (counts self.old) (counts self.new) result };
+
+    /// Fills `into` with the bytes from `at` on, all of which lie in the file.
+    fn read_at(&mut self, at: u64, into: &mut [u8]) -> Result<(), DiskFailed>
+        requires { tells → at + length into.old ≤ length (state self.old).image }
+        ensures bytes { tells → OnOk result (into.new ≡ take (length into.old) (drop at (state self.old).image)) }
+        ensures told { tells → Reads (state self.old) (state self.new) }
+        ensures cause { DiskCause (counts self.old) (counts self.new) result };
+
+    /// Writes over what is there and past the end, from a place at or before the end. Until the next sync a stop may
+    /// leave any bytes in that range and past the old end.
+    fn write_at(&mut self, at: u64, bytes: &[u8]) -> Result<(), DiskFailed>
+        requires { tells → at ≤ length (state self.old).image }
+        ensures told { tells → Writes at bytes.now result (state self.old) (state self.new) }
+        ensures cause { DiskCause (counts self.old) (counts self.new) result };
+
+    /// Cuts the file to a length that it has. Until the next sync a stop may leave the old length or the new one.
+    fn cut(&mut self, to: u64) -> Result<(), DiskFailed>
+        requires { tells → to ≤ length (state self.old).image }
+        ensures told { tells → Cuts to result (state self.old) (state self.new) }
+        ensures cause { DiskCause (counts self.old) (counts self.new) result };
+
+    /// After it succeeded, a stop leaves what a read gives.
+    fn sync(&mut self) -> Result<(), DiskFailed>
+        ensures told { tells → Syncs result (state self.old) (state self.new) }
+        ensures cause { DiskCause (counts self.old) (counts self.new) result };
+}
