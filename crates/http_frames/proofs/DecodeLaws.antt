@@ -25,12 +25,12 @@ content_of-push : (cs : List Chunk) (c : Chunk) → content_of (cs ++ c ∷ []) 
 content_of-push [] c = append-nil c.content
 content_of-push (k ∷ cs) c = ap (λ x. k.content ++ x) (content_of-push cs c) ∙ sym (append_assoc k.content (content_of cs) c.content)
 
-chunks_grow : (bytes more : List ℕ) (cs : List Chunk) (left : List ℕ) → Chunks bytes cs left → Chunks (bytes ++ more) cs (left ++ more)
+pub chunks_grow : (bytes more : List ℕ) (cs : List Chunk) (left : List ℕ) → Chunks bytes cs left → Chunks (bytes ++ more) cs (left ++ more)
 chunks_grow bytes more [] left passed = ap (λ x. x ++ more) passed
 chunks_grow bytes more (k ∷ cs) left passed =
     (passed.0, (passed.1.0 ++ more, ap (λ x. x ++ more) passed.1.1 ∙ append_assoc (print_chunk k) passed.1.0 more, chunks_grow passed.1.0 more cs left passed.1.2))
 
-lines_grow : (bytes more : List ℕ) (ls : List (List ℕ)) (left : List ℕ) → Lines bytes ls left → Lines (bytes ++ more) ls (left ++ more)
+pub lines_grow : (bytes more : List ℕ) (ls : List (List ℕ)) (left : List ℕ) → Lines bytes ls left → Lines (bytes ++ more) ls (left ++ more)
 lines_grow bytes more [] left passed = ap (λ x. x ++ more) passed
 lines_grow bytes more (k ∷ ls) left passed =
     (passed.0, passed.1, (passed.2.0 ++ more, ap (λ x. x ++ more) passed.2.1 ∙ append_assoc k (10 ∷ passed.2.0) more, lines_grow passed.2.0 more ls left passed.2.2))

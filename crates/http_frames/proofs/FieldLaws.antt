@@ -18,7 +18,7 @@ use Rattle.httparse.specs.declared.spans.HeaderSpan.{HeaderSpan}
 use Rattle.httparse.specs.Spans.{span_bytes, IsWithin}
 use Rattle.http_frames.specs.declared.TheConstants.{BODY_BYTES}
 use Rattle.http_frames.specs.declared.framing.Frame.{Frame}
-use Rattle.http_frames.specs.declared.framing.Frame.TheVariants.{NoBody, Sized, TooLong, Broken}
+use Rattle.http_frames.specs.declared.framing.Frame.TheVariants.{NoBody, Sized, Chunked, TooLong, Broken}
 use Rattle.http_frames.specs.declared.framing.Values.{Values}
 use Rattle.http_frames.specs.declared.framing.Values.TheVariants.{Absent, Once, Several}
 use Rattle.http_frames.specs.Answers.{HoldsValues}
@@ -238,3 +238,49 @@ no_length_of_none value none = let lt : nat_lt 0 (length value) ≡ false = grin
 pub announced_broken : (value : List ℕ) → is_length value ≡ false → announced value ≡ Broken
 unfolding announced
 announced_broken value is = ap (λ t. cond t (sized (digits_value 10 value)) Broken) is
+
+-- an announced length is within the limit
+cond_fits : (t : Bool) (v n : ℕ) → cond t (sized v) Broken ≡ Sized n → n ≤ BODY_BYTES
+cond_fits false v n e = absurd (broken_unsized n e)
+  where
+    broken_unsized : (n : ℕ) → Broken ≡ Sized n → ⊥
+    broken_unsized n e = cc
+cond_fits true v n e = at (nat_le v BODY_BYTES) refl e
+  where
+    at : (t : Bool) → nat_le v BODY_BYTES ≡ t → cond t (Sized v) TooLong ≡ Sized n → n ≤ BODY_BYTES
+    at true is e = let same : v ≡ n = cc in let within : v ≤ BODY_BYTES = grind (arith, nat_tests) in omega arith
+    at false is e = absurd (long_unsized n e)
+      where
+        long_unsized : (n : ℕ) → TooLong ≡ Sized n → ⊥
+        long_unsized n e = cc
+
+announced_fits : (value : List ℕ) (n : ℕ) → announced value ≡ Sized n → n ≤ BODY_BYTES
+unfolding announced
+announced_fits value n e = cond_fits (is_length value) (digits_value 10 value) n e
+
+coded_unsized : (value : List ℕ) (n : ℕ) → coded value ≡ Sized n → ⊥
+unfolding coded
+coded_unsized value n e = at (is_same_word value (codes "chunked")) e
+  where
+    at : (t : Bool) → cond t Chunked Broken ≡ Sized n → ⊥
+    at true e = cc
+    at false e = cc
+
+no_body_unsized : (n : ℕ) → NoBody ≡ Sized n → ⊥
+no_body_unsized n e = cc
+
+broken_unsized : (n : ℕ) → Broken ≡ Sized n → ⊥
+broken_unsized n e = cc
+
+framed_fits : (ls cs : List (List ℕ)) (n : ℕ) → framed ls cs ≡ Sized n → n ≤ BODY_BYTES
+unfolding framed
+framed_fits [] [] n e = absurd (no_body_unsized n e)
+framed_fits (l ∷ []) [] n e = announced_fits l n e
+framed_fits [] (c ∷ []) n e = absurd (coded_unsized c n e)
+framed_fits [] (c ∷ d ∷ cs) n e = absurd (broken_unsized n e)
+framed_fits (l ∷ []) (c ∷ cs) n e = absurd (broken_unsized n e)
+framed_fits (l ∷ k ∷ ls) cs n e = absurd (broken_unsized n e)
+
+pub sized_fits : (fields : List (List ℕ × List ℕ)) (n : ℕ) → frame_of_fields fields ≡ Sized n → n ≤ BODY_BYTES
+unfolding frame_of_fields
+sized_fits fields n e = framed_fits _ _ n e

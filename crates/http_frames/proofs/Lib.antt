@@ -6,3 +6,4 @@ pub mod MessageLaws
 pub mod FieldLaws
 pub mod HeadLaws
 pub mod DecodeLaws
+pub mod GrowLaws
