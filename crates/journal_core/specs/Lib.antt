@@ -1,2 +1,6 @@
 pub mod File
+pub mod Head
+pub mod Header
 pub mod Journal
+pub mod Judged
+pub mod Load

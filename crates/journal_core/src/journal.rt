@@ -15,7 +15,7 @@ pub const MAX_FILE: u64 = 268_435_456;
 pub const MAX_RECORD: usize = 65_536;
 
 // Bytes of the first write of the largest append: a length, the content and a closed gate.
-const ROOM: usize = 65_541;
+pub const ROOM: usize = 65_541;
 
 /// The journal of one manager. It never owns the site of its file, which is lent to each call.
 ///
@@ -66,6 +66,23 @@ impl From<DiskFailed> for AppendFault {
 }
 
 impl<S: Site> Journal<S> {
+    /// The journal of so many records, whose closed gate stands at `end`, with its buffer.
+    pub fn of(manager: u32, count: u64, end: u64, buffer: Vec<u8>) -> Journal<S>
+        requires room { length buffer.items ≡ 65541 }
+        requires small { end < 268435456 }
+        requires few { count ≤ end }
+        ensures { result ≡ record { manager = manager; count = count; end = end; closed = false } }
+    {
+        Journal {
+            manager,
+            count,
+            end,
+            closed: false,
+            buffer,
+            of: PhantomData,
+        }
+    }
+
     /// The number of the manager whose journal it is.
     pub fn manager(&self) -> u32
         ensures { result ≡ self.now.manager }

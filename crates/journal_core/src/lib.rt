@@ -1,7 +1,11 @@
 //! The journal: records behind gates in one file, each on the disk before it counts.
 #![tactic(auto)]
 
+mod head;
+mod header;
 mod journal;
+mod loading;
 mod through;
 
-pub use journal::{AppendFault, Journal};
+pub use journal::{AppendFault, Journal, MAX_FILE, MAX_RECORD};
+pub use loading::{Found, LoadFault, Loading};

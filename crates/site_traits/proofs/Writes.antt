@@ -58,7 +58,7 @@ pub torn-refl : (at n : ℕ) (i : List ℕ) → Torn at n i i
 torn-refl at n i = record { before = refl; after = refl; no_shorter = omega arith; no_longer = omega arith }
 
 -- what holds anyway holds where it succeeded
-on_ok_anyway : {T E P : Type 0} (r : Result T E) → P → OnOk r P
+pub on_ok_anyway : {T E P : Type 0} (r : Result T E) → P → OnOk r P
 on_ok_anyway (Ok x) p = p
 on_ok_anyway (Err e) p = tt
 

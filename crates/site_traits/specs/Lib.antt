@@ -1,7 +1,14 @@
 pub mod Answer
 pub mod Clock
 pub mod Counts
+pub mod Disk
 pub mod Door
+pub mod Log
+pub mod MemConn
+pub mod MemDoor
+pub mod MemSink
+pub mod MemSite
 pub mod Peers
+pub mod SetClock
 pub mod Sink
 pub mod Site

@@ -1,0 +1,50 @@
+-- What the first bytes at the place of a gate say of what stands there.
+use Rattle.std.proofs.Common.{◌≡◌, ◌∙◌, min, sym, ap, subst, inl, inr, ℕ, ◌+◌, ◌≤◌, ◌<◌, List, [], ◌∷◌, ◌++◌, length, take, drop, get_or, refl, arith}
+use Rattle.std.specs.Int.{w32, from_be_bytes}
+use Rattle.std.proofs.lemmas.List.{take-take, take_at, take_min, length-take}
+use Rattle.journal_core.specs.Head.{number, IsOpen, IsBroken, EndsWithin}
+use Rattle.journal_core.proofs.HeaderLemmas.{four_at, below_drop}
+
+-- five bytes in front of a body: its number is theirs
+pub number_of : (bytes body : List ℕ) (gate n : ℕ) → bytes ≡ gate ∷ take 4 body → 5 ≤ length bytes
+    → n ≡ from_be_bytes w32 (get_or bytes 1 0 ∷ get_or bytes 2 0 ∷ get_or bytes 3 0 ∷ get_or bytes 4 0 ∷ []) → n ≡ number body
+unfolding number
+number_of bytes body gate n is long size =
+    size ∙ ap (from_be_bytes w32) (sym (four_at 1 bytes (omega arith)) ∙ ap (λ v. take 4 (drop 1 v)) is ∙ take-take 4 4 body (omega arith))
+
+-- an open gate in front of a record
+pub head_open : (end len n : ℕ) (bytes rest : List ℕ) → bytes ≡ take 5 rest → end + length rest ≡ len → get_or bytes 0 0 ≡ 1 → 5 ≤ length bytes → ((i : ℕ) → get_or bytes i 0 < 256)
+    → n ≡ from_be_bytes w32 (get_or bytes 1 0 ∷ get_or bytes 2 0 ∷ get_or bytes 3 0 ∷ get_or bytes 4 0 ∷ []) → EndsWithin end len n → IsOpen end n rest
+head_open end len n bytes [] is whole gate long small size ends = absurd (omega (arith, ap length is))
+head_open end len n bytes (g ∷ body) is whole gate long small size ends =
+    let n_is = number_of bytes body g n is long size in
+    let is_open : g ≡ 1 = sym (ap (λ v. get_or v 0 0) is) ∙ gate in
+    record {
+      body = body;
+      is = ap (λ v. v ∷ body) is_open;
+      good = record { whole = omega (arith, n_is, ends.whole); some = omega (arith, n_is, ends.some); fits = omega (arith, n_is, ends.fits); small = omega (arith, n_is, ends.small) };
+      size = sym n_is;
+      bytes_are = λ i. let P : List ℕ → Type 0 = λ v. get_or v i 0 < 256 in subst P (ap (drop 1) is) (below_drop 1 bytes small i);
+    }
+
+-- an open gate with no record behind it
+pub head_broken : (end len n : ℕ) (bytes rest : List ℕ) → bytes ≡ take 5 rest → end + length rest ≡ len → get_or bytes 0 0 ≡ 1 → 5 ≤ length bytes
+    → n ≡ from_be_bytes w32 (get_or bytes 1 0 ∷ get_or bytes 2 0 ∷ get_or bytes 3 0 ∷ get_or bytes 4 0 ∷ []) → (EndsWithin end len n → ⊥) → IsBroken end rest
+head_broken end len n bytes [] is whole gate long size not = inl refl
+head_broken end len n bytes (g ∷ body) is whole gate long size not =
+    let n_is = number_of bytes body g n is long size in
+    let is_open : g ≡ 1 = sym (ap (λ v. get_or v 0 0) is) ∙ gate in
+    inr (
+      body,
+      ap (λ v. v ∷ body) is_open,
+      λ good. not (record { some = omega (arith, n_is, good.some); fits = omega (arith, n_is, good.fits); whole = omega (arith, n_is, good.whole); small = omega (arith, n_is, good.small) }),
+    )
+
+-- what a read to the front of an array gives: the first bytes from a place on, as many as the array holds or as there are
+pub read_front : (held most : ℕ) (put zeros rest : List ℕ) → put ≡ take (length (take held zeros)) rest → held ≤ length zeros → held ≡ min most (length rest)
+    → take held (put ++ drop held zeros) ≡ take most rest
+read_front held most put zeros rest is room many =
+    let e : length (take held zeros) ≡ held = (let t = length-take held zeros in omega arith) in
+    let put_is : put ≡ take held rest = is ∙ ap (λ v. take v rest) e in
+    let long : length put ≡ held = ap length put_is ∙ (let t = length-take held rest in omega arith) in
+    take_at put (drop held zeros) held long ∙ put_is ∙ ap (λ v. take v rest) many ∙ take_min most rest

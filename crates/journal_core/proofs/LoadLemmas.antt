@@ -1,0 +1,155 @@
+-- The steps of a loading: one record more, the end, and what a read keeps.
+use Rattle.std.proofs.Common.{Result, Err, ◌≡◌, ◌∙◌, sym, ap, subst, ℕ, ◌+◌, List, [], ◌∷◌, ◌++◌, length, take, drop, append_assoc, length-take, length-drop, refl, arith}
+use Rattle.std.specs.Int.{w32, to_be_bytes}
+use Rattle.std.proofs.lemmas.Nat.{be_bytes_4}
+use Rattle.std.proofs.lemmas.List.{take-append-drop, drop-drop, length_push, append-nil}
+use Rattle.std.proofs.lemmas.List.Elements.{All-push}
+use Rattle.site_traits.specs.Site.{SiteState, IsSettled, Same, Syncs, Reads}
+use Rattle.site_traits.proofs.Moments.{on_file-reads, reads-then}
+use Rattle.journal_core.specs.File.{header, framed, blocks, size, IsRecord, HasRecords}
+use Rattle.journal_core.specs.Header.{HasHeader}
+use Rattle.journal_core.specs.Head.{number, IsClosed, IsOpen, BeginsWith}
+use Rattle.journal_core.specs.Load.{Progress, Loads, LoadsAll, SyncsAndReads, Finds, Loaded}
+use Rattle.journal_core.specs.declared.loading.LoadFault.{LoadFault}
+use Rattle.journal_core.specs.declared.loading.LoadFault.TheVariants as fault
+use Rattle.site_traits.specs.Counts.{SiteCounts, OnlyDisk}
+use Rattle.journal_core.proofs.Records.{blocks_push, size_push, records_of, has_its_records}
+
+-- a read keeps what was read so far, and so does a change of the last record and of whether the end was found
+pub loads_kept : (rs : List (List ℕ)) (l k : Progress) (a b : SiteState) → Loads rs l a → Reads a b → k.manager ≡ l.manager → k.count ≡ l.count → k.end ≡ l.end → k.len ≡ l.len
+    → Loads rs k b
+loads_kept rs l k a b loads reads manager count end len =
+    let same = reads.same in
+    record {
+      settled = reads.settled loads.settled;
+      header = (let P : List ℕ → Type 0 = λ v. HasHeader k.manager v in let Q : ℕ → Type 0 = λ v. HasHeader v a.image in subst P (sym same) (subst Q (sym manager) loads.header));
+      begins = (let P : List ℕ → Type 0 = λ v. BeginsWith k.manager rs (drop k.end v) v in
+          let Q : ℕ → Type 0 = λ v. BeginsWith v rs (drop k.end a.image) a.image in
+          let R : ℕ → Type 0 = λ v. BeginsWith l.manager rs (drop v a.image) a.image in
+          subst P (sym same) (subst Q (sym manager) (subst R (sym end) loads.begins)));
+      count = count ∙ loads.count;
+      end = end ∙ loads.end;
+      len = len ∙ loads.len ∙ ap length (sym same);
+    }
+
+-- the bytes of a record behind an open gate, and what stands behind them
+pub open_splits : (end n : ℕ) (bytes rest : List ℕ) → IsOpen end n rest → bytes ≡ take n (drop 5 rest) → (IsRecord bytes) × (length bytes ≡ n) × (rest ≡ framed bytes ++ drop (5 + n) rest)
+unfolding framed number
+open_splits end n bytes rest open_gate is =
+    let body = open_gate.body in
+    let behind : drop 5 rest ≡ drop 4 body = ap (drop 5) open_gate.is in
+    let fits = open_gate.good.fits in
+    let some = open_gate.good.some in
+    let whole = open_gate.good.whole in
+    let n_is : number body ≡ n = open_gate.size in
+    let bytes_are : bytes ≡ take n (drop 4 body) = is ∙ ap (take n) behind in
+    let many : length bytes ≡ n = ap length bytes_are ∙ (let t = length-take n (drop 4 body) in let d = length-drop 4 body in omega arith) in
+    let four : length (take 4 body) ≡ 4 = (let t = length-take 4 body in omega arith) in
+    let number_bytes : to_be_bytes w32 n ≡ take 4 body = be_bytes_4 (take 4 body) n four open_gate.bytes_are (sym n_is) in
+    let body_is : body ≡ to_be_bytes w32 (length bytes) ++ (bytes ++ drop (4 + n) body) =
+    sym (take-append-drop 4 body)
+    ∙ ap (λ v. v ++ drop 4 body) (sym number_bytes ∙ ap (to_be_bytes w32) (sym many))
+    ∙ ap (λ v. to_be_bytes w32 (length bytes) ++ v) (sym (take-append-drop n (drop 4 body)) ∙ ap (λ v. v ++ drop n (drop 4 body)) (sym bytes_are) ∙ ap (λ v. bytes ++ v) (drop-drop n 4 body)) in
+    let after : drop (5 + n) rest ≡ drop (4 + n) body = sym (drop-drop n 5 rest) ∙ ap (drop n) behind ∙ drop-drop n 4 body in (
+      record { some = omega arith; fits = omega arith },
+      many,
+      open_gate.is ∙ ap (λ v. 1 ∷ v) body_is ∙ ap (λ v. 1 ∷ (to_be_bytes w32 (length bytes) ++ (bytes ++ v))) (sym after)
+          ∙ ap (λ v. 1 ∷ v) (sym (append_assoc (to_be_bytes w32 (length bytes)) bytes (drop (5 + n) rest))),
+    )
+
+-- one record more
+pub loads_more : (rs : List (List ℕ)) (l k : Progress) (n : ℕ) (a b : SiteState) → Loads rs l a → Reads a b → IsOpen l.end n (drop l.end a.image)
+    → k.record_bytes ≡ take n (drop (l.end + 5) a.image) → k.manager ≡ l.manager → k.count ≡ l.count + 1 → k.end ≡ l.end + (5 + n) → k.len ≡ l.len
+    → Loads (rs ++ k.record_bytes ∷ []) k b
+loads_more rs l k n a b loads reads open_gate is manager count end len =
+    let bytes = k.record_bytes in
+    let m = l.manager in
+    let rest = drop l.end a.image in
+    let parts = open_splits l.end n bytes rest open_gate (is ∙ ap (take n) (sym (drop-drop 5 l.end a.image))) in
+    let begins = loads.begins in
+    let small = open_gate.good.small in
+    let n_is = open_gate.size in
+    let grown = size_push rs bytes in
+    let whole : a.image ≡ header m ++ blocks (rs ++ bytes ∷ []) ++ drop k.end a.image =
+    begins.is ∙ ap (λ v. header m ++ blocks rs ++ v) (parts.2 ∙ ap (λ v. framed bytes ++ v) (drop-drop (5 + n) l.end a.image ∙ ap (λ v. drop v a.image) (sym end)))
+    ∙ sym (append_assoc (header m ++ blocks rs) (framed bytes) (drop k.end a.image))
+    ∙ ap (λ v. v ++ drop k.end a.image) (append_assoc (header m) (blocks rs) (framed bytes) ∙ ap (λ v. header m ++ v) (sym (blocks_push rs bytes))) in
+    let mid : Progress = record k { manager = l.manager } in
+    let more : Loads (rs ++ bytes ∷ []) mid a = record {
+      settled = loads.settled;
+      header = loads.header;
+      begins = record { is = whole; each = All-push IsRecord rs bytes begins.each parts.0; small = (let e = loads.end in omega (arith, parts.1)) };
+      count = count ∙ (let c = loads.count in omega (arith, length_push rs bytes));
+      end = (let e = loads.end in omega (arith, parts.1));
+      len = len ∙ loads.len;
+    } in
+    loads_kept (rs ++ bytes ∷ []) mid k a b more reads manager refl refl refl
+
+-- the closed gate behind the records
+pub loads_end : (rs : List (List ℕ)) (l k : Progress) (a b : SiteState) → Loads rs l a → Reads a b → IsClosed (drop l.end a.image)
+    → k.manager ≡ l.manager → k.count ≡ l.count → k.end ≡ l.end → k.len ≡ l.len → LoadsAll rs k b
+loads_end rs l k a b loads reads closed manager count end len =
+    let kept = loads_kept rs l k a b loads reads manager count end len in
+    let rest : drop k.end b.image ≡ closed.gate ∷ closed.tail = ap (λ v. drop v b.image) end ∙ ap (drop l.end) reads.same ∙ closed.is in
+    let has : HasRecords k.manager rs b.image = record {
+      gate = closed.gate;
+      tail = closed.tail;
+      is = kept.begins.is ∙ ap (λ v. header k.manager ++ blocks rs ++ v) rest;
+      closed = closed.closed;
+      each = kept.begins.each;
+      small = kept.begins.small;
+    } in
+    let is = records_of k.manager rs b.image has in
+    record {
+      loads = kept;
+      records = is;
+      stands = record {
+        settled = kept.settled;
+        file = has_its_records k.manager rs b.image has;
+        count = kept.count ∙ ap length (sym is);
+        end = kept.end ∙ ap size (sym is);
+      };
+    }
+
+-- a sync and two reads
+pub syncs_and_reads : {T E : Type 0} (r : Result T E) (a b c d : SiteState) → Syncs r a b → Reads b c → Reads c d → SyncsAndReads a d
+syncs_and_reads r a b c d sync first second = record {
+  on_file = on_file-reads Same a b d sync.on_file (reads-then b c d first second).on_file (λ i. refl);
+  same = (reads-then b c d first second).same ∙ sync.same;
+}
+
+-- a file with a header, before its first record is read
+pub loads_none : (l : Progress) (s : SiteState) → IsSettled s → HasHeader l.manager s.image → l.count ≡ 0 → l.end ≡ 32 → l.len ≡ length s.image → Loads [] l s
+loads_none l s settled has count end len = record {
+  settled = settled;
+  header = has;
+  begins = record {
+    is = sym (take-append-drop 32 s.image) ∙ ap (λ v. v ++ drop 32 s.image) (has.front ∙ sym (append-nil (header l.manager))) ∙ ap (λ v. header l.manager ++ [] ++ drop v s.image) (sym end);
+    each = λ k d lt. absurd (omega arith);
+    small = omega arith;
+  };
+  count = count;
+  end = end;
+  len = len;
+}
+
+-- a read more
+pub syncs_then_reads : (a b c : SiteState) → SyncsAndReads a b → Reads b c → SyncsAndReads a c
+syncs_then_reads a b c first second = record {
+  on_file = on_file-reads Same a b c first.on_file second.on_file (λ i. refl);
+  same = second.same ∙ first.same;
+}
+
+pub only_disk-trans : (a b c : SiteCounts) → OnlyDisk a b → OnlyDisk b c → OnlyDisk a c
+only_disk-trans a b c ab bc = record { disk = (let x = ab.disk in let y = bc.disk in omega arith); vim = bc.vim ∙ ab.vim; look = bc.look ∙ ab.look; refusals = bc.refusals ∙ ab.refusals }
+
+-- why a step found none is why there is no journal
+pub failed_load : (rs : List (List ℕ)) (e : LoadFault) (l k : Progress) (a b : SiteState) → Loads rs l a → Reads a b → k.manager ≡ l.manager → Finds rs (Err e) k b → Loaded (Err e) b
+failed_load rs fault.Unmade l k a b loads reads same finds = absurd finds
+failed_load rs (fault.Foreign place) l k a b loads reads same finds = absurd finds
+failed_load rs (fault.Broken n) l k a b loads reads same finds =
+    let P : List ℕ → Type 0 = λ v. HasHeader k.manager v in
+    let Q : ℕ → Type 0 = λ v. HasHeader v a.image in
+    (k.manager, subst P (sym reads.same) (subst Q (sym same) loads.header), finds.0)
+failed_load rs fault.Disk l k a b loads reads same finds = tt
+failed_load rs fault.Memory l k a b loads reads same finds = absurd finds

@@ -1,0 +1,15 @@
+use Rattle.std.proofs.Common.{◌-◌, ℕ, List}
+use Rattle.site_traits.specs.Counts.{OnlyDisk}
+use Rattle.journal_core.specs.Load.{Loads, SyncsAndReads}
+use Rattle.journal_core.proofs.journal.Journal.load.Given as goal
+
+-- the records read so far are those that the file begins with
+abbrev pub invariant-loop-loading : goal.invariant-loop-loading
+invariant-loop-loading g l = record {
+  loads : g.S.Site.tells → (rs : List (List ℕ)) × Loads rs l.loading (g.S.Site.state l.site);
+  told : g.S.Site.tells → SyncsAndReads (g.S.Site.state l.fn.site) (g.S.Site.state l.site);
+  counts : OnlyDisk (g.S.Site.counts l.fn.site) (g.S.Site.counts l.site);
+}
+
+abbrev pub decreases-loop-loading : goal.decreases-loop-loading
+decreases-loop-loading g l = 268435456 - l.loading.end

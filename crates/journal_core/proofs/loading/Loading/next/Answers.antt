@@ -1,0 +1,38 @@
+use Rattle.std.proofs.Common.{◌≡◌, ◌∙◌, ◌+◌, sym, ap, subst, refl, take, drop, length, ◌++◌, arith, true, false}
+use Rattle.std.proofs.lemmas.List.{take_at}
+use Rattle.journal_core.specs.declared.head.Head.{Head}
+use Rattle.journal_core.specs.Head.{HeadIs}
+use Rattle.journal_core.specs.Load.{Progress, Loads}
+use Rattle.journal_core.proofs.LoadLemmas.{loads_more, loads_end}
+use Rattle.site_traits.proofs.Moments.{reads-then}
+use Rattle.journal_core.proofs.loading.Loading.next.Goals as goal
+
+pub returns-in-Closed-clause-found : goal.returns-in-Closed-clause-found
+returns-in-Closed-clause-found g c = λ tells rs loads.
+    let i = c.self.inside in
+    let a = g.S.Site.state c.args.site.now in
+    let l : Progress = record { manager = i.manager; count = i.count; end = i.end; len = i.len; record_bytes = take i.size i.buffer.items; ended = i.ended } in
+    let k : Progress = record l { ended = true } in
+    let P : Progress → Type 0 = λ v. Loads rs v a in
+    let Q : Head → Type 0 = λ v. HeadIs i.end (drop i.end a.image) v in
+    loads_end rs l k a (g.S.Site.state c.head_at.new.site) (subst P (sym c.self.view_is) loads) (c.in_ok-head_at.ensures.told tells)
+    (subst Q c.in-Closed.is (c.in_ok-head_at.ensures.head tells)) refl refl refl refl
+
+pub returns-in_ok-bytes_at-in-Open-clause-found : goal.returns-in_ok-bytes_at-in-Open-clause-found
+returns-in_ok-bytes_at-in-Open-clause-found g c = λ tells rs loads.
+    let i = c.self.inside in
+    let n = c.in-Open.size in
+    let a = g.S.Site.state c.args.site.now in
+    let mid = g.S.Site.state c.head_at.new.site in
+    let buffer = take i.buffer.len (c.bytes_at.new.buffer ++ drop (length c.bytes_at.new.buffer) i.buffer.items) in
+    let l : Progress = record { manager = i.manager; count = i.count; end = i.end; len = i.len; record_bytes = take i.size i.buffer.items; ended = i.ended } in
+    let k : Progress = record { manager = i.manager; count = i.count + 1; end = i.end + (5 + n); len = i.len; record_bytes = take n buffer; ended = false } in
+    let P : Progress → Type 0 = λ v. Loads rs v a in
+    let Q : Head → Type 0 = λ v. HeadIs i.end (drop i.end a.image) v in
+    let head = c.in_ok-head_at.ensures.told tells in
+    let read = c.in_ok-bytes_at-in-Open.ensures.told tells in
+    let whole : buffer ≡ c.bytes_at.new.buffer = take_at c.bytes_at.new.buffer _ _ (omega arith) in
+    let bytes : take n buffer ≡ take n (drop (i.end + 5) a.image) =
+    ap (take n) whole ∙ c.in_ok-bytes_at-in-Open.ensures.bytes tells ∙ ap (λ v. take n (drop (i.end + 5) v)) head.same in
+    loads_more rs l k n a (g.S.Site.state c.bytes_at.new.site) (subst P (sym c.self.view_is) loads) (reads-then a mid (g.S.Site.state c.bytes_at.new.site) head read)
+    (subst Q c.in-Open.is (c.in_ok-head_at.ensures.head tells)) bytes refl refl refl refl

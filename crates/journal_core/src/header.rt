@@ -1,0 +1,114 @@
+// The header of a journal file.
+ghost use Rattle.std.specs.Prelude.{◌≡◌, ◌⊎◌, ◌≤◌, ◌<◌, ◌↔◌, ℕ, IsTrue, length, take, drop, get_or, MatchOption};
+ghost use Rattle.std.specs.Int.{w32, from_be_bytes};
+ghost use Rattle.journal_core.specs.File.{header};
+ghost use Rattle.journal_core.specs.Header.{made, MayStand, DiffersAt, HasHeader};
+ghost use Rattle.journal_core.specs.Judged.{Judged, LongEnough};
+
+/// Bytes of the header, in front of the first gate.
+pub const HEADER_SIZE: usize = 32;
+
+/// Bytes of a made file with no record.
+pub const MADE_SIZE: usize = 33;
+
+/// The bytes of a header whose manager has the number 0.
+pub const HEADER: [u8; 32] = [
+    86, 78, 70, 77, 45, 76, 67, 77, 1, 0, 0, 0, 0, 0, 0, 0, 0, 0, 0, 0, 0, 0, 0, 0, 0, 0, 0, 0, 0,
+    0, 0, 0,
+];
+
+/// What the first bytes of a file say of its header.
+#[derive(Clone, Copy, Debug)]
+pub enum Verdict {
+    /// The header of the manager of this number.
+    Made(u32),
+    /// The file is unfinished.
+    Unmade,
+    /// It differs first at this place from every header.
+    Foreign(u64),
+}
+
+/// What the first 33 bytes of a file, or all where it has fewer, say of its header.
+pub fn judge(front: &[u8]) -> Verdict
+    requires { length front.now ≤ 33 }
+    ensures judged { Judged front.now result }
+    ensures long { LongEnough (length front.now) result }
+{
+    if front.len() < 2 || front[0] == b'v' {
+        return Verdict::Unmade;
+    }
+    if front[0] != b'V' {
+        return if is_rest_of_made(front) {
+            Verdict::Unmade
+        } else {
+            Verdict::Foreign(0)
+        };
+    }
+    match difference(front) {
+        Some(place) => Verdict::Foreign(place),
+        None => Verdict::Made(manager_of(front)),
+    }
+}
+
+// The number of the manager whose header these bytes begin with.
+fn manager_of(front: &[u8]) -> u32
+    requires { (k : ℕ) → k < 32 → MayStand k front.now }
+    ensures { HasHeader result front.now }
+{
+    number_at(front)
+}
+
+// The number in bytes 9 to 12.
+fn number_at(front: &[u8]) -> u32
+    requires { 13 ≤ length front.now }
+    ensures { result ≡ from_be_bytes w32 (take 4 (drop 9 front.now)) }
+{
+    u32::from_be_bytes([front[9], front[10], front[11], front[12]])
+}
+
+// Whether bytes 1 to 32 are those of a made file with no record.
+fn is_rest_of_made(front: &[u8]) -> bool
+    requires { length front.now ≤ 33 }
+    ensures { IsTrue result ↔ ((m : ℕ) × (take 32 (drop 1 front.now) ≡ drop 1 (made m))) }
+{
+    if front.len() != 33 {
+        return false;
+    }
+    if front[1..9] != HEADER[1..9] {
+        return false;
+    }
+    front[13..33] == [0u8; 20]
+}
+
+// The first place of a header at which these bytes have none that may stand there.
+fn difference(front: &[u8]) -> Option<u64>
+    ensures { MatchOption result ((k : ℕ) → k < 32 → MayStand k front.now) (λ place. DiffersAt place front.now) }
+{
+    for place in 0..32usize {
+        if !stands(front, place) {
+            return Some(place as u64);
+        }
+    }
+    None
+}
+
+// Whether these bytes have one at this place that a header may have there.
+fn stands(front: &[u8], place: usize) -> bool
+    requires { place < 32 }
+    ensures { IsTrue result ↔ MayStand place front.now }
+{
+    if place >= front.len() {
+        return false;
+    }
+    if is_of_number(place) {
+        return true;
+    }
+    front[place] == HEADER[place]
+}
+
+// Whether a byte of the manager's number stands at this place.
+fn is_of_number(place: usize) -> bool
+    ensures { IsTrue result ↔ ((9 ≤ place) × (place ≤ 12)) }
+{
+    9 <= place && place <= 12
+}

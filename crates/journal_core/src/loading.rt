@@ -1,0 +1,221 @@
+// The loading of a journal: its records are read in order, one at a time, in a single walk over the file.
+ghost use Rattle.std.specs.Prelude.{◌≡◌, ◌≤◌, ◌<◌, ◌+◌, List, ℕ, true, false, IfOk, length, Result};
+ghost use Rattle.site_traits.specs.Counts.{Rose, OnlyDisk, DiskCause};
+ghost use Rattle.site_traits.specs.Site.{Reads};
+ghost use Rattle.journal_core.specs.Judged.{Judged, LongEnough, FrontIs};
+ghost use Rattle.journal_core.specs.Load.{Loads, Opened, IsBegun, Finds, Grows, ledger_of, Loaded, SyncsAndReads};
+
+use crate::head::{Head, head_at};
+use crate::header::{Verdict, judge};
+use crate::journal::{Journal, ROOM};
+use crate::through::bytes_at;
+use site_traits::{DiskFailed, Site};
+use std::alloc::{AllocError, Global};
+use std::marker::{Model, PhantomData};
+
+/// Why a journal could not be loaded. Each but `Disk` and `Memory` comes exactly where the file's bytes say so.
+#[derive(Debug, Drop)]
+pub enum LoadFault {
+    /// The file is unfinished: at most one byte long, or beginning with `v`, or all of a made file but its first byte.
+    Unmade,
+    /// The file isn't unfinished, and differs first at this place, from 0, from the header of every journal.
+    Foreign(u64),
+    /// Record n, from 1, is the first behind an open gate that is none, or the file ends where its gate would stand.
+    Broken(u64),
+    /// A disk call failed.
+    Disk,
+    /// There is no memory.
+    Memory,
+}
+
+impl From<DiskFailed> for LoadFault {
+    ghost use Rattle.journal_core.specs.declared.loading.LoadFault.TheVariants.{Disk};
+
+    ghost from_gives = { λ _ e. e ≡ Disk };
+
+    fn from(_: DiskFailed) -> Self {
+        LoadFault::Disk
+    }
+}
+
+impl From<AllocError> for LoadFault {
+    ghost use Rattle.journal_core.specs.declared.loading.LoadFault.TheVariants.{Memory};
+
+    ghost from_gives = { λ _ e. e ≡ Memory };
+
+    fn from(_: AllocError) -> Self {
+        LoadFault::Memory
+    }
+}
+
+/// What a step of a loading found.
+#[derive(Clone, Copy, Debug, PartialEq, Eq)]
+pub enum Found {
+    /// One record more.
+    Record,
+    /// The closed gate behind the last record.
+    End,
+}
+
+/// A journal that is being loaded. A caller judges each record as it is read, and goes on to the end, since a file that is
+/// broken anywhere is no journal.
+#[derive(Drop)]
+pub struct Loading<S: Site> {
+    manager: u32,
+    count: u64,
+    end: u64,
+    len: u64,
+    size: usize,
+    ended: bool,
+    buffer: Vec<u8>,
+    of: PhantomData<S>,
+}
+
+impl<S: Site> Model for Loading<S> {
+    ghost use Rattle.std.specs.Prelude.{◌≡◌, ◌≤◌, ◌<◌, take, length};
+    ghost use Rattle.journal_core.specs.Judged.{Judged, LongEnough, FrontIs};
+    ghost use Rattle.journal_core.specs.Load.{Progress};
+
+    ghost Value = { Progress };
+
+    ghost view = { λ l. record { manager = l.manager; count = l.count; end = l.end; len = l.len; record_bytes = take l.size l.buffer.items; ended = l.ended } };
+
+    ghost invariant = { λ l. (length l.buffer.items ≡ 65541) × (l.end < 268435456) × (l.count ≤ l.end) × (l.end ≤ l.len) × (l.size ≤ 65536) };
+}
+
+impl<S: Site> Journal<S> {
+    /// Begins to load the journal of a site's file. What was pending is on the disk first.
+    ///
+    /// Refusals, in this order: `Unmade`, `Foreign(place)`; `Disk`; `Memory`. `Broken` never comes here.
+    /// Source: own format, docs/JOURNAL.md.
+    pub fn open(alloc: Global, site: &mut S) -> Result<Loading<S>, LoadFault>
+        ensures opened { S.tells → Opened result (S.state site.new) }
+        ensures begun { IfOk result IsBegun }
+        ensures told { S.tells → SyncsAndReads (S.state site.old) (S.state site.new) }
+        ensures disk { result ≡ Err LoadFault.Disk → Rose (S.counts site.old).disk (S.counts site.new).disk }
+        ensures counts { OnlyDisk (S.counts site.old) (S.counts site.new) }
+    {
+        let (len, verdict) = front_of(site)?;
+        match verdict {
+            Verdict::Unmade => Err(LoadFault::Unmade),
+            Verdict::Foreign(place) => Err(LoadFault::Foreign(place)),
+            Verdict::Made(manager) => {
+                let buffer = vec![in alloc; 0; ROOM]?;
+                Ok(Loading {
+                    manager,
+                    count: 0,
+                    end: 32,
+                    len,
+                    size: 0,
+                    ended: false,
+                    buffer,
+                    of: PhantomData,
+                })
+            }
+        }
+    }
+}
+
+impl<S: Site> Journal<S> {
+    /// The journal of a site's file. What was pending is on the disk first. It reads each record once, and holds one at a time.
+    ///
+    /// Refusals, in this order: `Unmade`, `Foreign(place)`, `Broken(n)`; `Disk`; `Memory`.
+    /// Source: own format, docs/JOURNAL.md.
+    pub fn load(alloc: Global, site: &mut S) -> Result<Journal<S>, LoadFault>
+        ensures loaded { S.tells → Loaded result (S.state site.new) }
+        ensures usable { IfOk result (λ j. j.closed ≡ false) }
+        ensures told { S.tells → SyncsAndReads (S.state site.old) (S.state site.new) }
+        ensures disk { result ≡ Err LoadFault.Disk → Rose (S.counts site.old).disk (S.counts site.new).disk }
+        ensures counts { OnlyDisk (S.counts site.old) (S.counts site.new) }
+    {
+        let mut loading = Journal::open(alloc, site)?;
+        loop {
+            match loading.next(site)? {
+                Found::Record => {}
+                Found::End => return Ok(loading.finish()),
+            }
+        }
+    }
+}
+
+impl<S: Site> Loading<S> {
+    /// The number of the manager whose journal it is.
+    pub fn manager(&self) -> u32
+        ensures { result ≡ self.now.manager }
+    {
+        self.manager
+    }
+
+    /// Reads the next record, or finds the closed gate behind the last one. It makes one read of at most five bytes, and one
+    /// of the record's.
+    ///
+    /// Refusals, in this order: `Broken(n)`, with n one more than the records read; `Disk`. No other comes here.
+    /// Source: own format, docs/JOURNAL.md.
+    pub fn next(&mut self, site: &mut S) -> Result<Found, LoadFault>
+        requires loads { S.tells → (rs : List (List ℕ)) × Loads rs self.old (S.state site.old) }
+
+        ensures found { S.tells → (rs : List (List ℕ)) → Loads rs self.old (S.state site.old) → Finds rs result self.new (S.state site.new) }
+        ensures grown { Grows result self.old self.new }
+        ensures told { S.tells → Reads (S.state site.old) (S.state site.new) }
+        ensures disk { result ≡ Err LoadFault.Disk → Rose (S.counts site.old).disk (S.counts site.new).disk }
+        ensures counts { OnlyDisk (S.counts site.old) (S.counts site.new) }
+    {
+        match head_at(site, self.end, self.len)? {
+            Head::Closed => {
+                self.ended = true;
+                Ok(Found::End)
+            }
+            Head::Broken => Err(LoadFault::Broken(self.count + 1)),
+            Head::Open(size) => {
+                bytes_at(site, self.end + 5, size as usize, &mut self.buffer)?;
+                self.size = size as usize;
+                self.end += 5 + size as u64;
+                self.count += 1;
+                self.ended = false;
+                Ok(Found::Record)
+            }
+        }
+    }
+
+    /// The bytes of the last record read.
+    pub fn record_bytes(&self) -> &[u8]
+        ensures { result.now ≡ self.now.record_bytes }
+    {
+        &self.buffer[..self.size]
+    }
+
+    /// The journal, once the closed gate was found. It takes no memory.
+    pub fn finish(self) -> Journal<S>
+        requires { self.ended ≡ true }
+        ensures { result ≡ ledger_of self }
+    {
+        Journal::of(self.manager, self.count, self.end, self.buffer)
+    }
+}
+
+// Syncs, and gives the length of the site's file and what it says of its header.
+fn front_of<S: Site>(site: &mut S) -> Result<(u64, Verdict), DiskFailed>
+    ensures front { S.tells → IfOk result (λ front. FrontIs front.0 front.1 (S.state site.new)) }
+    ensures enough { IfOk result (λ front. LongEnough front.0 front.1) }
+    ensures told { S.tells → SyncsAndReads (S.state site.old) (S.state site.new) }
+    ensures cause { DiskCause (S.counts site.old) (S.counts site.new) result }
+{
+    site.sync()?;
+    let len = site.length()?;
+    let verdict = header_at(site, len)?;
+    Ok((len, verdict))
+}
+
+// What the site's file, which has `len` bytes, says of its header.
+fn header_at<S: Site>(site: &mut S, len: u64) -> Result<Verdict, DiskFailed>
+    requires long { S.tells → len ≡ length (S.state site.old).image }
+    ensures judged { S.tells → IfOk result (Judged (S.state site.old).image) }
+    ensures enough { IfOk result (LongEnough len) }
+    ensures told { S.tells → Reads (S.state site.old) (S.state site.new) }
+    ensures cause { DiskCause (S.counts site.old) (S.counts site.new) result }
+{
+    let mut bytes = [0u8; 33];
+    let held = if len < 33 { len as usize } else { 33 };
+    site.read_at(0, &mut bytes[..held])?;
+    Ok(judge(&bytes[..held]))
+}

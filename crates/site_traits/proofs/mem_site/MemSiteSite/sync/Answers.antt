@@ -1,0 +1,6 @@
+use Rattle.std.proofs.Common.{refl}
+use Rattle.site_traits.proofs.DiskLemmas.{syncs_told}
+use Rattle.site_traits.proofs.mem_site.MemSiteSite.sync.Goals as goal
+
+pub returns-clause-told : goal.returns-clause-told
+returns-clause-told c = λ tells. syncs_told _ c.args.self.now.first.items c.args.self.now.log c.push.new.self _ (c.push.ensures.put c.if-not-push.false) refl
