@@ -18,6 +18,10 @@ pub record IntakeState : Type 0 where
 abbrev pub state_of : DoorState → DoorCounts → List ℕ → IntakeState
 state_of door counts held = record { door = door; counts = counts; held = held }
 
+-- the state once the door is this one
+abbrev pub with_door : {D : Type 0} → (D → DoorState) → (D → DoorCounts) → IntakeState → D → IntakeState
+with_door state counts i door = record { door = state door; counts = counts door; held = i.held }
+
 -- the door read these bytes, and nothing else happened at it but that a read may have failed (own rule)
 pub record OnlyReads (read : List ℕ) (a b : DoorState) : Type 0 where
   pub answers : b.answers ≡ a.answers

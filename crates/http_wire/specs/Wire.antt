@@ -3,7 +3,7 @@ use Rattle.std.specs.Prelude.{◌≡◌, ◌≤◌, ◌+◌, ◌==◌, ◌||◌,
 use Rattle.http_frames.specs.declared.TheConstants.{CHUNKED_BYTES}
 use Rattle.httparse.specs.Spans.{span_bytes}
 use Rattle.site_traits.specs.Counts.{Rose}
-use Rattle.site_traits.specs.Door.{NoNextFault}
+use Rattle.site_traits.specs.Door.{DoorState, DoorCounts, NoNextFault}
 use Rattle.http_frames.specs.declared.head.HeadParts.{HeadParts}
 use Rattle.http_frames.specs.Framing.{fields_of, media, closes}
 use Rattle.http_frames.specs.Heads.{HasHead, frame_as}
@@ -16,13 +16,17 @@ use Rattle.http_wire.specs.declared.request.Taken.TheVariants as taken
 use Rattle.http_wire.specs.declared.request.WireFault.{WireFault}
 use Rattle.http_wire.specs.declared.request.WireFault.TheVariants as fault
 use Rattle.http_wire.specs.declared.take.Whole.{Whole}
-use Rattle.http_wire.specs.Intake.{IntakeState, OnlyReads}
+use Rattle.http_wire.specs.Intake.{with_door, IntakeState, OnlyReads}
 
 -- what the intake holds, the number of requests of this connection so far, and whether the last of them was its last
 pub record WireState : Type 0 where
   pub intake : IntakeState
   pub taken : ℕ
   pub ended : Bool
+
+-- the state once the door is this one
+abbrev pub over_door : {D : Type 0} → (D → DoorState) → (D → DoorCounts) → WireState → D → WireState
+over_door state counts w door = record w { intake = with_door state counts w.intake door }
 
 -- the bytes of the connection that belong to no request yet: those that were read, and those that are not read yet
 abbrev pub bytes_of : IntakeState → List ℕ

@@ -1,7 +1,9 @@
 //! Holds the bytes that were read from a door and not yet passed.
 ghost use Rattle.std.specs.Prelude.{◌≡◌, ◌≤◌, ◌<◌, length, drop, [], IfOk, vec_len, ◌+◌};
 ghost use Rattle.std.specs.Vec.{vec_capacity};
-ghost use Rattle.http_wire.specs.Intake.{state_of, TakesIn, CameIs, StopIs};
+ghost use Rattle.std.specs.Borrow.{Lends, sem};
+ghost use Rattle.http_wire.specs.contracts.intake.Intake.{the_row};
+ghost use Rattle.http_wire.specs.Intake.{with_door, state_of, TakesIn, CameIs, StopIs};
 
 use memchr::memchr;
 use site_traits::{Door, ReadAnswer};
@@ -79,6 +81,15 @@ impl<D: Door> Intake<D> {
         ensures counts { D.counts result.now ≡ self.now.counts }
     {
         &self.door
+    }
+
+    /// The door, to do something else with it than read.
+    pub fn door_mut(&mut self) -> &mut D
+        ensures* writes_back { sem 𝓛 (Lends (the_row D.row D.Door) D.row self.entry result (with_door D.state D.counts self.old)) }
+        ensures state { D.state result.now ≡ self.old.door }
+        ensures counts { D.counts result.now ≡ self.old.counts }
+    {
+        &mut self.door
     }
 
     /// The bytes that were read and not yet passed.

@@ -11,3 +11,6 @@ pub use wire::Wire;
 
 /// Requests of one connection. The last of them is the connection's last.
 pub const CONNECTION_REQUESTS: u32 = 65_536;
+
+#[cfg(test)]
+mod tests;

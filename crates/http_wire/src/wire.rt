@@ -1,6 +1,8 @@
 //! A connection's requests, one by one.
 ghost use Rattle.std.specs.Prelude.{◌≡◌, [], IfOk, false};
-ghost use Rattle.http_wire.specs.Wire.{TakenIs, OnlyTakesIn};
+ghost use Rattle.std.specs.Borrow.{Lends, sem};
+ghost use Rattle.http_wire.specs.contracts.wire.Wire.{the_row};
+ghost use Rattle.http_wire.specs.Wire.{over_door, TakenIs, OnlyTakesIn};
 
 use crate::CONNECTION_REQUESTS;
 use crate::intake::Intake;
@@ -67,6 +69,15 @@ impl<D: Door> Wire<D> {
         ensures counts { D.counts result.now ≡ self.now.intake.counts }
     {
         self.intake.door()
+    }
+
+    /// The door, to wait for a connection, to write, or to hang up. What is read from it here is lost to the wire.
+    pub fn door_mut(&mut self) -> &mut D
+        ensures* writes_back { sem 𝓛 (Lends (the_row D.row D.Door) D.row self.entry result (over_door D.state D.counts self.old)) }
+        ensures state { D.state result.now ≡ self.old.intake.door }
+        ensures counts { D.counts result.now ≡ self.old.intake.counts }
+    {
+        self.intake.door_mut()
     }
 
     /// Begins a connection: no byte is held, and no request was taken.
