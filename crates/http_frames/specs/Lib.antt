@@ -1,0 +1,6 @@
+pub mod Framing
+pub mod Chunks
+pub mod Messages
+pub mod Answers
+pub mod Heads
+pub mod Steps

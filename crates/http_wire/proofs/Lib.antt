@@ -1,0 +1,3 @@
+pub mod IntakeLaws
+pub mod Loops
+pub mod TakeLaws

@@ -1,0 +1,53 @@
+-- What an intake holds, and what reading does to it.
+use Rattle.std.specs.Prelude.{◌≡◌, ◌<◌, ◌≤◌, ℕ, Bool, false, List, [], ◌++◌, length, Result, Ok, Err}
+use Rattle.std.specs.declared.alloc.AllocError.{AllocError}
+use Rattle.site_traits.specs.Counts.{Rose}
+use Rattle.site_traits.specs.Door.{DoorState, DoorCounts, NoNextFault}
+use Rattle.http_wire.specs.declared.intake.Came.{Came}
+use Rattle.http_wire.specs.declared.intake.Came.TheVariants as came
+use Rattle.http_wire.specs.declared.intake.Stop.{Stop}
+use Rattle.http_wire.specs.declared.intake.Stop.TheVariants as stop
+
+-- what the door tells, its counts of faults, and the bytes that were read and not yet passed
+pub record IntakeState : Type 0 where
+  pub door : DoorState
+  pub counts : DoorCounts
+  pub held : List ℕ
+
+-- the state that has these parts
+abbrev pub state_of : DoorState → DoorCounts → List ℕ → IntakeState
+state_of door counts held = record { door = door; counts = counts; held = held }
+
+-- the state once the door is this one
+abbrev pub with_door : {D : Type 0} → (D → DoorState) → (D → DoorCounts) → IntakeState → D → IntakeState
+with_door state counts i door = record { door = state door; counts = counts door; held = i.held }
+
+-- the door read these bytes, and nothing else happened at it but that a read may have failed (own rule)
+pub record OnlyReads (read : List ℕ) (a b : DoorState) : Type 0 where
+  pub answers : b.answers ≡ a.answers
+  pub past : b.past ≡ a.past
+  pub bytes : b.conn.bytes ≡ a.conn.bytes
+  pub left : a.conn.left ≡ read ++ b.conn.left
+  pub out : b.conn.out ≡ a.conn.out
+  pub write_failed : b.conn.write_failed ≡ a.conn.write_failed
+  pub hung_up : b.conn.hung_up ≡ a.conn.hung_up
+
+-- some bytes were read and stand behind those that were held (own rule)
+pub record TakesIn (tells : Type 0) (a b : IntakeState) : Type 0 where
+  pub more : List ℕ
+  pub held : b.held ≡ a.held ++ more
+  pub door : tells → OnlyReads more a.door b.door
+  pub counts : NoNextFault a.counts b.counts
+
+-- what one read brought, by its answer
+abbrev pub CameIs : Type 0 → Result Came AllocError → IntakeState → IntakeState → Type 0
+CameIs tells (Ok (came.Bytes line_feed)) a b = length a.held < length b.held
+CameIs tells (Ok came.End) a b = (b.held ≡ a.held) × (tells → b.door.conn.left ≡ [])
+CameIs tells (Ok came.Failed) a b = (b.held ≡ a.held) × Rose a.counts.faults b.counts.faults
+CameIs tells (Err e) a b = b.held ≡ a.held
+
+-- why reading on stopped, by its answer, where so many bytes were due
+abbrev pub StopIs : Type 0 → ℕ → Bool → IntakeState → IntakeState → Stop → Type 0
+StopIs tells due line a b stop.Going = (length a.held < due → length a.held < length b.held) × (line ≡ false → due ≤ length b.held)
+StopIs tells due line a b stop.Ended = (tells → b.door.conn.left ≡ []) × (length b.held < due)
+StopIs tells due line a b stop.Failed = Rose a.counts.faults b.counts.faults × (length b.held < due)

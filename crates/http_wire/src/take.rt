@@ -1,0 +1,240 @@
+//! Takes the head and the body of a request out of an intake, reading no more than they need.
+ghost use Rattle.std.specs.Prelude.{◌≡◌, ◌≤◌, ◌+◌, length, take, IfOk, option_map};
+ghost use Rattle.httparse.specs.Spans.{span_bytes};
+ghost use Rattle.http_frames.specs.declared.head.Body.TheVariants as bodies;
+ghost use Rattle.http_frames.specs.Heads.{HasHead};
+ghost use Rattle.http_frames.specs.Steps.{HasDecoded, VerdictIs};
+ghost use Rattle.http_wire.specs.Intake.{TakesIn};
+ghost use Rattle.http_wire.specs.Wire.{OnlyTakesIn, RequestCame, HeadCame, SizedCame, BodyCame, HasParts, window};
+
+use crate::intake::{Intake, Stop};
+use crate::request::{Request, WireFault};
+use http::Method;
+use http_frames::chunks::{Decoder, Verdict, rest};
+use http_frames::head::{Body, Head, HeadParts, read_head};
+use http_frames::{CHUNKED_BYTES, FIELD_ROOM, HEAD_BYTES};
+use httparse::spans::HeaderSpan;
+use site_traits::Door;
+use std::alloc::{AllocError, Global};
+use vnfm_base::{Bytes, Text};
+
+/// A body, and where its framing ends in the bytes that are held.
+#[derive(Drop)]
+pub struct Whole {
+    pub body: Vec<u8>,
+    pub end: usize,
+}
+
+/// Takes the first request out of the bytes of the connection, reading on as far as it needs. `at_last` is whether it is the
+/// connection's last one whatever it says.
+pub fn take<D: Door>(
+    alloc: Global,
+    intake: &mut Intake<D>,
+    room: &mut [HeaderSpan],
+    at_last: bool,
+) -> Result<Option<Request>, WireFault>
+    requires { FIELD_ROOM ≤ length room.old }
+    ensures reads { OnlyTakesIn D.tells intake.old intake.new }
+    ensures came { RequestCame D.tells at_last intake.old intake.new result }
+{
+    let head = match take_head(intake, room) {
+        Ok(Some(head)) => head,
+        Ok(None) => return Ok(None),
+        Err(fault) => return Err(fault),
+    };
+    let whole = match take_body(alloc, intake, head) {
+        Ok(whole) => whole,
+        Err(fault) => return Err(fault),
+    };
+    let request = match request_of(alloc, intake.held(), head, whole.body, at_last) {
+        Ok(request) => request,
+        Err(_) => return Err(WireFault::Memory),
+    };
+    intake.pass(whole.end);
+    Ok(Some(request))
+}
+
+/// The head at the front of the bytes, or `None` where there is no byte.
+///
+/// It is looked for where a line feed came or the bytes that are held have doubled, and where no more can be read.
+fn take_head<D: Door>(
+    intake: &mut Intake<D>,
+    room: &mut [HeaderSpan],
+) -> Result<Option<HeadParts>, WireFault>
+    requires { FIELD_ROOM ≤ length room.old }
+    ensures takes { TakesIn D.tells intake.old intake.new }
+    ensures came { HeadCame D.tells intake.old intake.new result }
+{
+    let mut stop = Stop::Going;
+    'looks: loop {
+        match read_head(intake.held(), room) {
+            Head::Whole(head) => return Ok(Some(head)),
+            Head::Malformed => return Err(WireFault::Malformed),
+            Head::TooLarge => return Err(WireFault::TooLarge),
+            Head::More => {}
+        }
+        let held = intake.held().len();
+        match stop {
+            Stop::Going => {}
+            Stop::Ended if held == 0 => return Ok(None),
+            Stop::Ended => return Err(WireFault::Unfinished),
+            Stop::Failed => return Err(WireFault::Read),
+        }
+        stop = match intake.read_on((2 * held + 1).min(HEAD_BYTES + 1), true) {
+            Ok(stop) => stop,
+            Err(_) => return Err(WireFault::Memory),
+        };
+    }
+}
+
+/// The body of the request whose head stands at the front of the bytes.
+fn take_body<D: Door>(
+    alloc: Global,
+    intake: &mut Intake<D>,
+    head: HeadParts,
+) -> Result<Whole, WireFault>
+    requires { HasHead intake.old.held head }
+    ensures takes { TakesIn D.tells intake.old intake.new }
+    ensures head { HasHead intake.new.held head }
+    ensures came { BodyCame D.tells intake.old intake.new head result }
+{
+    match head.body {
+        Body::Empty => Ok(Whole {
+            body: Vec::new(alloc),
+            end: head.len,
+        }),
+        Body::Sized(length) => {
+            let end = match take_sized(intake, head, length) {
+                Ok(end) => end,
+                Err(fault) => return Err(fault),
+            };
+            match Vec::from_slice(alloc, &intake.held()[head.len..end]) {
+                Ok(body) => Ok(Whole { body, end }),
+                Err(_) => Err(WireFault::Memory),
+            }
+        }
+        Body::Chunked => take_chunked(alloc, intake, head),
+    }
+}
+
+/// Reads on until a body of this length is held. Answers where it ends.
+fn take_sized<D: Door>(
+    intake: &mut Intake<D>,
+    head: HeadParts,
+    length: usize,
+) -> Result<usize, WireFault>
+    requires head { HasHead intake.old.held head }
+    requires sized { head.body ≡ bodies.Sized length }
+    ensures takes { TakesIn D.tells intake.old intake.new }
+    ensures came { SizedCame D.tells intake.old intake.new (head.len + length) result }
+{
+    let end = head.len + length;
+    match intake.read_on(end, false) {
+        Ok(Stop::Going) => Ok(end),
+        Ok(Stop::Ended) => Err(WireFault::Unfinished),
+        Ok(Stop::Failed) => Err(WireFault::Read),
+        Err(_) => Err(WireFault::Memory),
+    }
+}
+
+/// Reads on until a chunked body is whole.
+fn take_chunked<D: Door>(
+    alloc: Global,
+    intake: &mut Intake<D>,
+    head: HeadParts,
+) -> Result<Whole, WireFault>
+    requires head { HasHead intake.old.held head }
+    requires chunked { head.body ≡ bodies.Chunked }
+    ensures takes { TakesIn D.tells intake.old intake.new }
+    ensures came { BodyCame D.tells intake.old intake.new head result }
+{
+    let mut decoder = Decoder::new(alloc);
+    let mut stop = Stop::Going;
+    'looks: loop {
+        let held = intake.held();
+        let behind = held.len() - head.len;
+        let (due, line) = match decode_held(&mut decoder, held, head) {
+            Ok(Verdict::Whole(n)) => return Ok(Whole {
+                body: decoder.body,
+                end: head.len + n,
+            }),
+            Ok(Verdict::More { due, line }) => (due, line),
+            Ok(Verdict::Malformed) => return Err(WireFault::Malformed),
+            Ok(Verdict::TooLarge) => return Err(WireFault::TooLarge),
+            Err(_) => return Err(WireFault::Memory),
+        };
+        if behind > CHUNKED_BYTES {
+            return Err(WireFault::TooLarge);
+        }
+        match stop {
+            Stop::Going => {}
+            Stop::Ended => return Err(WireFault::Unfinished),
+            Stop::Failed => return Err(WireFault::Read),
+        }
+        stop = match intake.read_on(head.len + due.max(behind + 1).min(CHUNKED_BYTES + 1), line) {
+            Ok(stop) => stop,
+            Err(_) => return Err(WireFault::Memory),
+        };
+    }
+}
+
+/// Goes on with a chunked body in the bytes that are held.
+fn decode_held(decoder: &mut Decoder, held: &[u8], head: HeadParts) -> Result<Verdict, AllocError>
+    requires head { HasHead held.now head }
+    requires decoded { HasDecoded (window held.now head) decoder.old }
+    ensures kept { HasDecoded (window held.now head) decoder.new }
+    ensures verdict { IfOk result (VerdictIs (window held.now head) decoder.new.body.items) }
+{
+    let tail = rest(held, head.len);
+    decoder.decode(front(tail))
+}
+
+/// The bytes as far as a chunked body may go.
+fn front(tail: &[u8]) -> &[u8]
+    ensures { result.now ≡ take CHUNKED_BYTES tail.now }
+{
+    &tail[..tail.len().min(CHUNKED_BYTES)]
+}
+
+/// The request of these parts of the bytes that are held.
+fn request_of(
+    alloc: Global,
+    held: &[u8],
+    head: HeadParts,
+    body: Vec<u8>,
+    at_last: bool,
+) -> Result<Request, AllocError>
+    requires { HasHead held.now head }
+    ensures { IfOk result (HasParts held.now head body.items at_last) }
+{
+    let method = match Method::from_bytes(alloc, head.method.of(held)) {
+        Ok(method) => method,
+        Err(_) => return Err(AllocError),
+    };
+    let target = match Text::of(alloc, head.target.of(held)) {
+        Ok(target) => target,
+        Err(_) => return Err(AllocError),
+    };
+    let media = media_of(alloc, held, head)?;
+    Ok(Request {
+        method,
+        target,
+        media,
+        body: Bytes::of_vec(body),
+        last: head.closes | at_last,
+    })
+}
+
+/// The value of the first Content-Type field, if there is one.
+fn media_of(alloc: Global, held: &[u8], head: HeadParts) -> Result<Option<Bytes>, AllocError>
+    requires { HasHead held.now head }
+    ensures { IfOk result (λ media. media ≡ option_map (span_bytes held.now) head.media) }
+{
+    match head.media {
+        None => Ok(None),
+        Some(place) => {
+            let media = Bytes::of(alloc, place.of(held))?;
+            Ok(Some(media))
+        }
+    }
+}
