@@ -92,7 +92,8 @@ impl<S: Site> Journal<S> {
 
     /// How many records it has.
     pub fn count(&self) -> u64
-        ensures { result ≡ self.now.count }
+        ensures value { result ≡ self.now.count }
+        ensures small { self.now.count < 268435456 }
     {
         self.count
     }

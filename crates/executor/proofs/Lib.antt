@@ -1,0 +1,3 @@
+mod JudgeLemmas
+mod ManagerLemmas
+mod SpellingLemmas

@@ -1,0 +1,12 @@
+-- Opening syncs and reads, and judging only reads.
+use Rattle.executor.proofs.ManagerLemmas.{syncs_then}
+use Rattle.executor.proofs.manager.Manager.load.Goals as goal
+
+pub returns-in-Some-clause-told : goal.returns-in-Some-clause-told
+returns-in-Some-clause-told g c = λ tells. syncs_then _ _ _ (c.open.ensures.told tells) (c.judge_all.ensures.told tells).reads
+
+pub returns-in_err-record-clause-told : goal.returns-in_err-record-clause-told
+returns-in_err-record-clause-told g c = λ tells. syncs_then _ _ _ (c.open.ensures.told tells) (c.judge_all.ensures.told tells).reads
+
+pub returns-clause-told : goal.returns-clause-told
+returns-clause-told g c = λ tells. syncs_then _ _ _ (c.open.ensures.told tells) (c.judge_all.ensures.told tells).reads

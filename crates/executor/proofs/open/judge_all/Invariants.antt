@@ -1,0 +1,21 @@
+use Rattle.std.proofs.Common.{◌≡◌, ◌<◌, ◌-◌, true}
+use Rattle.site_traits.specs.Counts.{OnlyDisk}
+use Rattle.site_traits.specs.Site.{Reads}
+use Rattle.executor.specs.Loading.{IsJudged, JudgesSoFar}
+use Rattle.executor.proofs.open.judge_all.Given as goal
+
+-- the records so far were judged
+abbrev pub invariant-loop-judged : goal.invariant-loop-judged
+invariant-loop-judged g l =
+    let start = g.S.Site.state l.fn.site in
+    record {
+      judged : IsJudged l.judged l.loading;
+      manager : l.loading.manager ≡ l.fn.loading.manager;
+      within : l.loading.end < 268435456;
+      counts : OnlyDisk (g.S.Site.counts l.fn.site) (g.S.Site.counts l.site);
+      so_far : g.S.Site.tells → JudgesSoFar l.judged l.loading (g.S.Site.state l.site);
+      reads : g.S.Site.tells → Reads start (g.S.Site.state l.site);
+    }
+
+abbrev pub decreases-loop-judged : goal.decreases-loop-judged
+decreases-loop-judged g l = 268435456 - l.loading.end

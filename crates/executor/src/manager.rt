@@ -1,0 +1,293 @@
+//! The manager: its journal, and the history of the events in it. What is acknowledged is on the disk before it is in the
+//! history.
+ghost use Rattle.std.specs.Prelude.{◌≡◌, ◌≢◌, ◌≤◌, ◌<◌, ◌∷◌, ◌++◌, ◌↔◌, ◌+◌, ℕ, List, [], length, reverse, IfOk, OnOk, OnErr, IsTrue, false, true};
+ghost use Rattle.event_codec.specs.Spell.{spelling};
+ghost use Rattle.event_codec.specs.Valid.{IsEvent};
+ghost use Rattle.event_codec.specs.Typed.{TypedEvent};
+ghost use Rattle.journal_core.specs.Load.{SyncsAndReads};
+ghost use Rattle.executor.specs.Open.{Opens};
+ghost use Rattle.executor.specs.Faults.{work_fault};
+ghost use Rattle.lcm_events.specs.declared.events.Event.{Event};
+ghost use Rattle.lcm_model.specs.Allowed.{IsAllowed};
+ghost use Rattle.vnfm_base.specs.Ident.{IsIdentNumber};
+ghost use Rattle.lcm_model.specs.Lives.{instances_made, live_instances};
+ghost use Rattle.site_traits.specs.Counts.{Rose, OnlyDisk};
+ghost use Rattle.executor.specs.Managed.{Managed, IsKept, StandsFor, Commits, is_settled};
+
+use crate::open::judge_all;
+use event_codec::{RecordBuf, decode, encode};
+use journal_core::{AppendFault, Journal, LoadFault};
+use lcm_events::Event;
+use lcm_model::{count_instances, count_live_instances};
+use site_traits::Site;
+use std::alloc::{AllocError, Global};
+use std::marker::Model;
+use thiserror::Error;
+
+/// The manager of one journal. It never owns the site of its file, which is lent to each call.
+///
+/// A contract sees its journal's ledger and its history, the latest event first.
+#[derive(Drop)]
+pub struct Manager<S: Site> {
+    journal: Journal<S>,
+    events: Vec<Event>,
+    record: RecordBuf,
+}
+
+impl<S: Site> Model for Manager<S> {
+    ghost use Rattle.std.specs.Prelude.{reverse};
+    ghost use Rattle.executor.specs.Managed.{Managed, IsKept};
+
+    ghost Value = { Managed };
+
+    ghost view = { λ m. record { ledger = m.journal; history = reverse m.events.items } };
+
+    ghost invariant = { λ m. IsKept m.journal (reverse m.events.items) };
+}
+
+/// Why a journal wasn't opened.
+#[derive(Debug, Drop, Error)]
+pub enum OpenFault {
+    /// The file is unfinished.
+    #[error("no journal")]
+    Unmade,
+    /// The file's header differs first at this place, in bytes from 0.
+    #[error("not a journal: byte {0}")]
+    Foreign(u64),
+    /// Record n, from 1, is broken, is no event, or isn't allowed after those before it.
+    #[error("bad record {0}")]
+    BadRecord(u64),
+    /// A disk call failed.
+    #[error("site fault")]
+    Disk,
+    /// There is no memory.
+    #[error("no memory")]
+    Memory,
+}
+
+/// Why an event wasn't recorded.
+#[derive(Debug, Drop, Error)]
+pub enum WorkFault {
+    /// A disk call failed. The manager is closed: whether the event was recorded is known once the journal is loaded again.
+    #[error("site fault")]
+    Disk,
+    /// Behind the closed gate at `end` the file has no room for `more` bytes. Nothing has changed.
+    #[error("journal full: {end} + {more} bytes")]
+    Full {
+        /// The place of the closed gate.
+        end: u64,
+        /// The bytes of the event's spelling.
+        more: u32,
+    },
+    /// There is no memory. Nothing has changed.
+    #[error("no memory")]
+    Memory,
+}
+
+/// The number after so many, of which there are no more than records.
+fn after(made: u64, records: u64) -> u64
+    requires within { made ≤ records }
+    requires few { records < 268435456 }
+    ensures number { result ≡ made + 1 }
+    ensures identifier { IsIdentNumber result }
+{
+    made + 1
+}
+
+/// Puts the event's spelling into the record.
+fn spell(record: &mut RecordBuf, e: &Event)
+    requires rules { TypedEvent e.now → IsEvent e.now }
+    requires fits { IsEvent e.now → length (spelling e.now) ≤ 65536 }
+    ensures event { IsEvent e.now }
+    ensures spelled { record.new.kept ≡ spelling e.now }
+    ensures some { 1 ≤ length record.new.kept }
+{
+    match encode(e, record) {
+        Ok(()) => {}
+        Err(_) => unreachable!(),
+    }
+}
+
+/// Puts the event that is spelled so behind the others.
+fn put_copy(alloc: Global, events: &mut Vec<Event>, bytes: &[u8]) -> Result<(), AllocError>
+    ensures ok { (e : Event) → IsEvent e → bytes.now ≡ spelling e → OnOk result (events.new.items ≡ events.old.items ++ e ∷ []) }
+    ensures err { OnErr result (events.new.items ≡ events.old.items) }
+{
+    match decode(alloc, bytes) {
+        Ok(event) => Ok(events.push(event)?),
+        Err(_) => Err(AllocError),
+    }
+}
+
+/// Takes the last event away.
+fn take_back(events: &mut Vec<Event>)
+    ensures { (front : List Event) (e : Event) → events.old.items ≡ front ++ e ∷ [] → events.new.items ≡ front }
+{
+    let kept = events.len().saturating_sub(1);
+    events.truncate(kept);
+}
+
+fn work_fault(fault: AppendFault) -> WorkFault
+    ensures { result ≡ work_fault fault }
+{
+    match fault {
+        AppendFault::Full { end, more } => WorkFault::Full { end, more },
+        AppendFault::Disk => WorkFault::Disk,
+    }
+}
+
+impl<S: Site> Manager<S> {
+    /// Opens the journal of a site's file, and judges each record once, in order.
+    ///
+    /// Refusals: `Unmade` and `Foreign` by the header; `BadRecord(n)` where the file is broken at record n, or, where it is
+    /// broken nowhere, that record is the first that is no event or isn't allowed after those before it; `Disk`; `Memory`.
+    /// After Ok nothing is pending on the site. The file is as it was, whatever the answer.
+    /// Source: own format, docs/JOURNAL.md and docs/EVENTS.md.
+    pub fn load(alloc: Global, site: &mut S) -> Result<Manager<S>, OpenFault>
+        ensures opens { S.tells → Opens result (S.state site.new) }
+        ensures usable { IfOk result (λ m. (m.ledger.closed ≡ false) × IsKept m.ledger m.history) }
+        ensures told { S.tells → SyncsAndReads (S.state site.old) (S.state site.new) }
+        ensures disk { result ≡ Err OpenFault.Disk → Rose (S.counts site.old).disk (S.counts site.new).disk }
+        ensures counts { OnlyDisk (S.counts site.old) (S.counts site.new) }
+    {
+        let mut loading = Journal::open(alloc, site)?;
+        let judged = judge_all(alloc, &mut loading, site)?;
+        if let Some(n) = judged.bad {
+            return Err(OpenFault::BadRecord(n));
+        }
+        let record = RecordBuf::new(alloc)?;
+        Ok(Manager {
+            journal: loading.finish(),
+            events: judged.events,
+            record,
+        })
+    }
+
+    /// Records an event: it is on the disk before it is in the history.
+    ///
+    /// Conditions: the event is allowed after the history, and isn't a Settled; its spelling has at most 65,536 bytes; the
+    /// manager isn't closed.
+    /// Refusals, in this order: `Memory`; `Full {end, more}` (bytes). After these all is as before. `Disk`, after which the
+    /// manager is closed: load it again.
+    pub fn commit(&mut self, alloc: Global, site: &mut S, e: &Event) -> Result<(), WorkFault>
+        requires usable { self.old.ledger.closed ≡ false }
+        requires rules { TypedEvent e.now → IsEvent e.now }
+        requires fits { IsEvent e.now → length (spelling e.now) ≤ 65536 }
+        requires allowed { IsAllowed self.old.ledger.manager self.old.history e.now.kind }
+        requires unsettled { is_settled e.now.kind ≡ false }
+        requires stands { S.tells → StandsFor self.old (S.state site.old) }
+        ensures ok { OnOk result ((self.new.history ≡ e.now ∷ self.old.history) × (self.new.ledger.closed ≡ false)) }
+        ensures manager { self.new.ledger.manager ≡ self.old.ledger.manager }
+        ensures refused { result ≢ Err WorkFault.Disk → OnErr result (self.new ≡ self.old) }
+        ensures told { S.tells → Commits e.now result self.old self.new (S.state site.old) (S.state site.new) }
+        ensures full { (end more : ℕ) → result ≡ Err (WorkFault.Full end more)
+            → (end ≡ self.old.ledger.end) × (more ≡ length (spelling e.now)) × (268435456 < end + 6 + more) }
+        ensures disk { result ≡ Err WorkFault.Disk → Rose (S.counts site.old).disk (S.counts site.new).disk }
+        ensures closed { result ≡ Err WorkFault.Disk → self.new.ledger.closed ≡ true }
+        ensures counts { OnlyDisk (S.counts site.old) (S.counts site.new) }
+    {
+        spell(&mut self.record, e);
+        if put_copy(alloc, &mut self.events, self.record.as_slice()).is_err() {
+            return Err(WorkFault::Memory);
+        }
+        match self.journal.append(site, self.record.as_slice()) {
+            Ok(()) => Ok(()),
+            Err(fault) => {
+                take_back(&mut self.events);
+                Err(work_fault(fault))
+            }
+        }
+    }
+
+    /// The number of the manager.
+    pub fn number(&self) -> u32
+        ensures { result ≡ self.now.ledger.manager }
+    {
+        self.journal.manager()
+    }
+
+    /// How many events the history has. Condition: the manager isn't closed.
+    pub fn records(&self) -> u64
+        requires { self.now.ledger.closed ≡ false }
+        ensures { result ≡ length self.now.history }
+    {
+        self.journal.count()
+    }
+
+    /// How many bytes the event's spelling has. It takes no memory.
+    ///
+    /// Condition: the spelling has at most 65,536 bytes.
+    pub fn length_of(&mut self, e: &Event) -> usize
+        requires rules { TypedEvent e.now → IsEvent e.now }
+        requires fits { IsEvent e.now → length (spelling e.now) ≤ 65536 }
+        ensures length { result ≡ length (spelling e.now) }
+        ensures kept { self.new ≡ self.old }
+    {
+        spell(&mut self.record, e);
+        self.record.as_slice().len()
+    }
+
+    /// How many instances were made.
+    ///
+    /// Source: SOL 003 5.4.2 (VNF instances).
+    pub fn instances_made(&self) -> u64
+        ensures { result ≡ instances_made self.now.history }
+    {
+        count_instances(self.events.as_slice())
+    }
+
+    /// The number of the next instance. Condition: the manager isn't closed.
+    ///
+    /// Source: SOL 003 5.4.2 (VNF instances).
+    pub fn next_instance(&self) -> u64
+        requires { self.now.ledger.closed ≡ false }
+        ensures number { result ≡ instances_made self.now.history + 1 }
+        ensures identifier { IsIdentNumber result }
+    {
+        let records = self.journal.count();
+        let made = count_instances(self.events.as_slice());
+        after(made, records)
+    }
+
+    /// How many instances are live.
+    ///
+    /// Source: SOL 003 5.4.2 (VNF instances).
+    pub fn live_instances(&self) -> u64
+        ensures { result ≡ length (live_instances self.now.history) }
+    {
+        count_live_instances(self.events.as_slice())
+    }
+
+    /// Whether the journal with a record of `more` bytes and its closed gate ends at or before byte `limit` of the file.
+    pub fn fits(&self, more: usize, limit: u64) -> bool
+        ensures { IsTrue result ↔ (self.now.ledger.end + 6 + more ≤ limit) }
+    {
+        self.journal.fits(more, limit)
+    }
+}
+
+impl From<LoadFault> for OpenFault {
+    ghost use Rattle.executor.specs.Faults.{opened_fault};
+
+    ghost from_gives = { λ fault e. e ≡ opened_fault fault };
+
+    fn from(fault: LoadFault) -> OpenFault {
+        match fault {
+            LoadFault::Unmade => OpenFault::Unmade,
+            LoadFault::Foreign(place) => OpenFault::Foreign(place),
+            LoadFault::Broken(n) => OpenFault::BadRecord(n),
+            LoadFault::Disk => OpenFault::Disk,
+            LoadFault::Memory => OpenFault::Memory,
+        }
+    }
+}
+
+impl From<AllocError> for OpenFault {
+    ghost use Rattle.executor.specs.declared.manager.OpenFault.TheVariants.{Memory};
+
+    ghost from_gives = { λ _ e. e ≡ Memory };
+
+    fn from(_: AllocError) -> OpenFault {
+        OpenFault::Memory
+    }
+}
