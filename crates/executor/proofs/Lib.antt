@@ -1,3 +1,3 @@
 mod JudgeLemmas
-mod ManagerLemmas
+pub mod ManagerLemmas
 mod SpellingLemmas

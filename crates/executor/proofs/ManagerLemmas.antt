@@ -54,9 +54,10 @@ kept_more l k H e kept usable manager count end event allowed = record {
 }
 
 -- a stop leaves the history, or it and the event
-leaves_event : (m : Managed) (e : Event) (a : SiteState) (p : Pair) → StandsFor m a → AllByRecursion IsEvent m.history → IsEvent e
+leaves_event : (m : Managed) (e : Event) (a : SiteState) (p : Pair) → StandsFor m a → IsEvent e
     → journal.HasOrAdds m.ledger.manager (spelling e) a p → HasOrAdds m.ledger.manager m.history e p
-leaves_event m e a p stands events event left =
+leaves_event m e a p stands event left =
+    let events = stands.events in
     let R : List (List ℕ) → Type 0 = λ rs. HasRecords m.ledger.manager rs p.image in
     record {
       file = ⊎_elim
@@ -67,15 +68,16 @@ leaves_event m e a p stands events event left =
     }
 
 -- what an append does, as a commit
-pub commit_moments : (m : Managed) (e : Event) (a b : SiteState) → StandsFor m a → AllByRecursion IsEvent m.history → IsEvent e
+pub commit_moments : (m : Managed) (e : Event) (a b : SiteState) → StandsFor m a → IsEvent e
     → LeavesOnly (journal.HasOrAdds m.ledger.manager (spelling e) a) a b → LeavesOnly (HasOrAdds m.ledger.manager m.history e) a b
-commit_moments m e a b stands events event run =
-    weakened (HasOrAdds m.ledger.manager m.history e) (journal.HasOrAdds m.ledger.manager (spelling e) a) a b run (λ p left. leaves_event m e a p stands events event left)
+commit_moments m e a b stands event run =
+    weakened (HasOrAdds m.ledger.manager m.history e) (journal.HasOrAdds m.ledger.manager (spelling e) a) a b run (λ p left. leaves_event m e a p stands event left)
 
-pub commit_stands : (m : Managed) (k : Ledger) (e : Event) (a b : SiteState) → StandsFor m a → Stands b k → records b.image ≡ records a.image ++ spelling e ∷ []
+pub commit_stands : (m : Managed) (k : Ledger) (e : Event) (a b : SiteState) → IsEvent e → StandsFor m a → Stands b k → records b.image ≡ records a.image ++ spelling e ∷ []
     → StandsFor (record { ledger = k; history = e ∷ m.history }) b
-commit_stands m k e a b stands now added = record {
+commit_stands m k e a b event stands now added = record {
   journal = now;
+  events = (event, stands.events);
   records = added ∙ ap (λ rs. rs ++ spelling e ∷ []) stands.records ∙ sym (spellings-cons e m.history);
 }
 
@@ -108,3 +110,11 @@ filter_map-short {Y = Y} h (x ∷ xs) = of (h x) refl (filter_map-short h xs) wh
 -- no more instances were made than events happened
 pub made_within : (H : List Event) → instances_made H ≤ length H
 made_within H = filter_map-short (λ (e : Event). created_in e.kind) H
+
+-- whatever a stop leaves now has the manager's history
+pub stands_everywhere : (m : Managed) (s : SiteState) → StandsFor m s → (p : Pair) → s.since s.moment p → HasHistory m.ledger.manager m.history p.image
+stands_everywhere m s stands p left =
+    let R : List (List ℕ) → Type 0 = λ rs. HasRecords m.ledger.manager rs s.image in
+    let here : HasHistory m.ledger.manager m.history s.image = record { file = subst R stands.records stands.journal.file; events = stands.events } in
+    let Q : List ℕ → Type 0 = λ image. HasHistory m.ledger.manager m.history image in
+    subst Q (sym (stands.journal.settled.image p left)) here

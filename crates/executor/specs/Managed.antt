@@ -29,6 +29,7 @@ pub record IsKept (ledger : Ledger) (history : List Event) : Type 0 where
 pub record StandsFor (m : Managed) (s : SiteState) : Type 0 where
   pub journal : Stands s m.ledger
   pub records : records s.image ≡ spellings m.history
+  pub events : AllByRecursion IsEvent m.history
 
 -- the event is no Settled, which only an act records
 abbrev pub is_settled : EventKind → Bool

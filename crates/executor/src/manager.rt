@@ -7,6 +7,8 @@ ghost use Rattle.event_codec.specs.Typed.{TypedEvent};
 ghost use Rattle.journal_core.specs.Load.{SyncsAndReads};
 ghost use Rattle.executor.specs.Open.{Opens};
 ghost use Rattle.executor.specs.Faults.{work_fault};
+ghost use Rattle.executor.specs.History.{spellings};
+ghost use Rattle.journal_core.specs.File.{size};
 ghost use Rattle.lcm_events.specs.declared.events.Event.{Event};
 ghost use Rattle.lcm_model.specs.Allowed.{IsAllowed};
 ghost use Rattle.vnfm_base.specs.Ident.{IsIdentNumber};
@@ -260,7 +262,8 @@ impl<S: Site> Manager<S> {
 
     /// Whether the journal with a record of `more` bytes and its closed gate ends at or before byte `limit` of the file.
     pub fn fits(&self, more: usize, limit: u64) -> bool
-        ensures { IsTrue result ↔ (self.now.ledger.end + 6 + more ≤ limit) }
+        ensures fits { IsTrue result ↔ (self.now.ledger.end + 6 + more ≤ limit) }
+        ensures size { self.now.ledger.closed ≡ false → self.now.ledger.end ≡ size (spellings self.now.history) }
     {
         self.journal.fits(more, limit)
     }

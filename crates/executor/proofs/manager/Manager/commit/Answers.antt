@@ -23,8 +23,8 @@ returns-in-Ok-clause-told g c = λ tells.
     let stands = rw (← c.self.view_is) at (c.requires.stands tells) in
     let appended = rw bytes at (c.in-Ok.ensures.told tells) in
     rw (← c.self.view_is) (record {
-      any_moment = commit_moments m c.args.e.now _ _ stands c.self.invariant.events c.spell.ensures.event appended.any_moment;
-      stands = λ _. rw (items, reverse-push) (commit_stands m c.append.new.self c.args.e.now _ _ stands appended.stands appended.added);
+      any_moment = commit_moments m c.args.e.now _ _ stands c.spell.ensures.event appended.any_moment;
+      stands = λ _. rw (items, reverse-push) (commit_stands m c.append.new.self c.args.e.now _ _ c.spell.ensures.event stands appended.stands appended.added);
     })
 
 pub returns-in-Err-clause-told : goal.returns-in-Err-clause-told
@@ -36,7 +36,7 @@ returns-in-Err-clause-told g c = λ tells.
     let stands = rw (← c.self.view_is) at (c.requires.stands tells) in
     let appended = rw bytes at (c.in-Err.ensures.told tells) in
     rw (← c.self.view_is) (record {
-      any_moment = commit_moments m c.args.e.now _ _ stands c.self.invariant.events c.spell.ensures.event appended.any_moment;
+      any_moment = commit_moments m c.args.e.now _ _ stands c.spell.ensures.event appended.any_moment;
       stands = λ other. full_of c.in-Err.fault _ (rw c.work_fault.ensures at other) (λ end more is.
           let kept = c.in-Err.ensures.only_full end more (ap Err is) in
           rw (back, kept.1, kept.2) stands);
