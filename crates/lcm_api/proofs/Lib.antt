@@ -2,4 +2,5 @@ mod FieldLemmas
 mod FormLemmas
 mod ListenLemmas
 mod MouthLemmas
+mod StepLemmas
 pub mod TellLemmas

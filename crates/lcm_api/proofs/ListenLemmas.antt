@@ -27,7 +27,7 @@ heard_all n room a b c within long so_far none same =
     let left : drop n a.conn.left ≡ [] = ap (λ (k : Conn). k.left) (sym so_far.conn.conn) ∙ none in
     let size : length a.conn.left - n ≡ 0 = sym (length-drop n a.conn.left) ∙ ap length left in
     let all : take n a.conn.left ≡ take 65537 a.conn.left =
-        take_all n a.conn.left (omega arith) ∙ sym (take_all 65537 a.conn.left (omega (arith, so_far.within))) in
+    take_all n a.conn.left (omega arith) ∙ sym (take_all 65537 a.conn.left (omega (arith, so_far.within))) in
     rw same (hears_front n room a b within long so_far all)
 
 -- the room is full

@@ -1,3 +1,4 @@
+pub mod Answering
 pub mod Form
 pub mod Fields
 pub mod Hearing
@@ -5,4 +6,5 @@ pub mod Judging
 pub mod Mouth
 pub mod Outcome
 pub mod Response
+pub mod Steps
 pub mod Telling

@@ -1,6 +1,7 @@
 //! Requests and their replies.
 #![tactic(auto)]
 
+mod answer;
 mod door;
 mod form;
 mod judge;

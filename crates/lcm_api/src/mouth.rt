@@ -114,7 +114,12 @@ impl<D: Door> Mouth<D> {
     {
         self.hand = None;
         self.role = role;
-        match listen(alloc, &mut self.door, self.heard.as_mut_slice(), self.spans.as_mut_slice()) {
+        match listen(
+            alloc,
+            &mut self.door,
+            self.heard.as_mut_slice(),
+            self.spans.as_mut_slice(),
+        ) {
             Ok(request) => {
                 self.hand = Some(request);
                 Ok(())

@@ -1,0 +1,111 @@
+-- What a create request comes to, by the numbers of the history.
+use Rattle.std.proofs.Common.{◌≡◌, ◌≤◌, ◌<◌, ◌+◌, ℕ, List, [], ◌∷◌, length, Option, Some, None, arith, refl, ap, ◌∙◌, sym, codes, ◌++◌, inl}
+use Rattle.site_traits.specs.Site.{SiteState, LeavesOnly}
+use Rattle.site_traits.proofs.Moments.{started}
+use Rattle.executor.specs.Managed.{Managed, StandsFor}
+use Rattle.executor.proofs.ManagerLemmas.{stands_everywhere}
+use Rattle.lcm_api.specs.Answering.{HasOr}
+use Rattle.std.proofs.lemmas.Bool.{lt-leb, le-leb, lt-ltb, le-ltb}
+use Rattle.std.proofs.lemmas.List.{length-append}
+use Rattle.event_codec.specs.Spell as spell
+use Rattle.event_codec.specs.Spell.{spelling, u64, u16}
+use Rattle.event_codec.specs.Valid.{IsEvent, Optionally}
+use Rattle.vnfm_base.specs.Text.{IsName, IsLine}
+use Rattle.json_views.specs.declared.body.CreateBody.{CreateBody}
+use Rattle.lcm_events.specs.declared.events.Event.{Event}
+use Rattle.lcm_model.specs.Lives.{instances_made, live_instances}
+use Rattle.lcm_api.specs.Outcome.{Outcome, create_outcome, creation, created, refused, refusal, journal_size}
+use Rattle.lcm_api.specs.Steps.{IsStep, MayCreateNow}
+use Rattle.lcm_api.specs.declared.reply.Reply.{Reply}
+use Rattle.lcm_api.specs.declared.answer.Step.TheVariants.{Refused, Creates}
+use Rattle.executor.specs.History.{spellings}
+use Rattle.journal_core.specs.File.{size}
+
+length-u64 : (n : ℕ) → length (u64 n) ≡ 8
+unfolding u64
+length-u64 n = refl
+
+length-u16 : (n : ℕ) → length (u16 n) ≡ 2
+unfolding u16
+length-u16 n = refl
+
+short_name : (o : Option (List ℕ)) → Optionally IsName o → length (spell.optional spell.name o) ≤ 257
+short_name None h = omega arith
+short_name (Some text) h = let k : length text ≤ 255 = h.short in omega arith
+
+short_line : (o : Option (List ℕ)) → Optionally IsLine o → length (spell.optional spell.line o) ≤ 2051
+short_line None h = omega arith
+short_line (Some text) h = let k : length text ≤ 2048 = h.short in omega (arith, length-append (u16 (length text)) text, length-u16 (length text))
+
+fields_short : (n : ℕ) (v : List ℕ) (o : Option (List ℕ)) (t : Option (List ℕ)) → length v ≤ 255 → length (spell.optional spell.name o) ≤ 257
+    → length (spell.optional spell.line t) ≤ 2051 → length (u64 n ++ (spell.name v ++ (spell.optional spell.name o ++ spell.optional spell.line t))) ≤ 2600
+fields_short n v o t short name text =
+    let a = length-append (u64 n) (spell.name v ++ (spell.optional spell.name o ++ spell.optional spell.line t)) in
+    let b = length-append (spell.name v) (spell.optional spell.name o ++ spell.optional spell.line t) in
+    let c = length-append (spell.optional spell.name o) (spell.optional spell.line t) in
+    omega (arith, a, b, c, length-u64 n)
+
+-- a creation's spelling fits a record
+pub creation_fits : (H : List Event) (now : ℕ) (body : CreateBody) → IsEvent (creation H now body) → length (spelling (creation H now body)) ≤ 65536
+unfolding spelling
+creation_fits H now body is =
+    let vnfd : length body.vnfd ≤ 255 = is.1.1.short in
+    let short = fields_short (instances_made H + 1) body.vnfd body.name body.text vnfd (short_name body.name is.1.2) (short_line body.text is.1.3) in
+    let all = length-append (u64 now) (u64 (instances_made H + 1) ++ (spell.name body.vnfd ++ (spell.optional spell.name body.name ++ spell.optional spell.line body.text))) in
+    omega (arith, all, short, length-u64 now)
+
+-- where nothing changes, a stop leaves the history
+pub leaves_history : (m : Managed) (added : List Event) (s : SiteState) → StandsFor m s → LeavesOnly (HasOr m.ledger.manager m.history added) s s
+leaves_history m added s stands = started (HasOr m.ledger.manager m.history added) s (λ p left. record { file = inl (stands_everywhere m s stands p left) })
+
+-- there is no room for one instance more
+pub crowded_outcome : (m : ℕ) (H : List Event) (now : ℕ) (body : CreateBody) → 1000 ≤ length (live_instances H)
+    → create_outcome m H now body ≡ refused 507 (codes "too many instances")
+crowded_outcome m H now body crowded = rw (le-leb 1000 (length (live_instances H)) crowded) refl
+
+-- there is no room for one record more
+pub full_outcome : (m : ℕ) (H : List Event) (now : ℕ) (body : CreateBody) → length (live_instances H) < 1000
+    → 201326592 < journal_size H + 6 + length (spelling (creation H now body)) → create_outcome m H now body ≡ refused 507 (codes "journal full")
+full_outcome m H now body room full =
+    rw (lt-leb 1000 (length (live_instances H)) room, lt-ltb 201326592 (journal_size H + 6 + length (spelling (creation H now body))) full) refl
+
+-- the instance is created
+pub room_outcome : (m : ℕ) (H : List Event) (now : ℕ) (body : CreateBody) → length (live_instances H) < 1000
+    → journal_size H + 6 + length (spelling (creation H now body)) ≤ 201326592
+    → create_outcome m H now body ≡ record { reply = created m (instances_made H + 1) body; after = creation H now body ∷ [] }
+room_outcome m H now body room fits =
+    rw (lt-leb 1000 (length (live_instances H)) room, le-ltb 201326592 (journal_size H + 6 + length (spelling (creation H now body))) fits) refl
+
+size_is : (H : List Event) → journal_size H ≡ size (spellings H)
+unfolding journal_size
+size_is H = refl
+
+-- the event may be recorded now
+may_create_now : (m : Managed) (now : ℕ) (body : CreateBody) → length (live_instances m.history) < 1000
+    → m.ledger.end + 6 + length (spelling (creation m.history now body)) ≤ 201326592 → MayCreateNow m (creation m.history now body)
+may_create_now m now body room fits = record {
+  rules = λ typed. typed;
+  fits = creation_fits m.history now body;
+  allowed = record { number = refl; room = room };
+  unsettled = refl;
+  room = fits;
+}
+
+-- the request creates the instance
+pub step_creates : (m : Managed) (now : ℕ) (body : CreateBody) (reply : Reply) (event : Event) → m.ledger.end ≡ size (spellings m.history)
+    → length (live_instances m.history) < 1000 → m.ledger.end + 6 + length (spelling event) ≤ 201326592 → event ≡ creation m.history now body
+    → reply ≡ created m.ledger.manager (instances_made m.history + 1) body → IsStep (create_outcome m.ledger.manager m.history now body) m (Creates event reply)
+step_creates m now body reply event end room fits event_is reply_is =
+    rw (event_is, reply_is)
+    (let within : m.ledger.end + 6 + length (spelling (creation m.history now body)) ≤ 201326592 = rw event_is at fits in
+    let full : journal_size m.history + 6 + length (spelling (creation m.history now body)) ≤ 201326592 = rw (size_is m.history, ← end) within in
+    (room_outcome m.ledger.manager m.history now body room full, may_create_now m now body room within))
+
+-- the request finds the journal full
+pub step_full : (m : Managed) (now : ℕ) (body : CreateBody) (reply : Reply) (event : Event) → m.ledger.end ≡ size (spellings m.history)
+    → length (live_instances m.history) < 1000 → 201326592 < m.ledger.end + 6 + length (spelling event) → event ≡ creation m.history now body
+    → reply ≡ refusal 507 (codes "journal full") → IsStep (create_outcome m.ledger.manager m.history now body) m (Refused reply)
+step_full m now body reply event end room over event_is reply_is =
+    rw reply_is
+    (let beyond : 201326592 < m.ledger.end + 6 + length (spelling (creation m.history now body)) = rw event_is at over in
+    full_outcome m.ledger.manager m.history now body room (rw (size_is m.history, ← end) beyond))

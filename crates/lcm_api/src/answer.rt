@@ -1,0 +1,166 @@
+//! Answering one request: its reply, and at most one event, which is on the disk before the reply is given.
+ghost use Rattle.std.specs.Prelude.{◌≡◌, ◌≢◌, ◌≤◌, ◌<◌, ◌+◌, ◌∷◌, ℕ, List, [], IfOk, OnOk, OnErr, Some, None, false, true};
+ghost use Rattle.event_codec.specs.Spell.{spelling};
+ghost use Rattle.event_codec.specs.Valid.{IsEvent};
+ghost use Rattle.event_codec.specs.Typed.{TypedEvent};
+ghost use Rattle.lcm_events.specs.declared.events.Event.{Event};
+ghost use Rattle.site_traits.specs.Counts.{Rose, OnlyDisk};
+ghost use Rattle.executor.specs.Managed.{Managed, StandsFor};
+ghost use Rattle.lcm_api.specs.Answering.{Answers, Leads};
+ghost use Rattle.lcm_api.specs.Steps.{IsStep, MayCreateNow};
+ghost use Rattle.lcm_events.specs.declared.events.EventKind.TheVariants.{Created};
+ghost use Rattle.lcm_api.specs.Outcome.{outcome, create_outcome, creation, is_full, refusal};
+
+use crate::judge::{Verdict, created, judge, refusal};
+use crate::reply::Reply;
+use crate::request::Request;
+use executor::{Manager, WorkFault};
+use json_views::CreateBody;
+use lcm_events::{Event, EventKind};
+use site_traits::Site;
+use std::alloc::{AllocError, Global};
+use thiserror::Error;
+use vnfm_base::Moment;
+
+/// Instances that may be live at one time.
+pub const MAX_INSTANCES: u64 = 1_000;
+
+/// Bytes of the journal up to which requests are taken. What works on behind them has the rest.
+pub const MAX_REQUESTED: u64 = 201_326_592;
+
+/// Why a request wasn't answered.
+#[derive(Debug, Drop, Error)]
+pub enum ApiFault {
+    /// A disk call failed: 500 is told. Whether the event is kept is known once the journal is loaded again.
+    #[error("journal fault")]
+    Disk,
+    /// There is no memory: 503 is told. Nothing has changed.
+    #[error("no memory")]
+    Memory,
+}
+
+/// What a create request comes to: a refusal, or the event and the reply that acknowledges it.
+#[derive(Drop)]
+enum Step {
+    Refused(Reply),
+    Creates(Event, Reply),
+}
+
+/// Answers a request taken at this moment.
+///
+/// Refusals of the request are replies. Refusals of the call: `Memory`, after which nothing has changed; `Disk`, after which
+/// the manager is closed.
+/// Source: SOL 003 5.4.2 (VNF instances).
+pub fn answer<S: Site>(
+    alloc: Global,
+    manager: &mut Manager<S>,
+    site: &mut S,
+    request: &Request,
+    now: Moment,
+) -> Result<Reply, ApiFault>
+    requires usable { manager.old.ledger.closed ≡ false }
+    requires stands { S.tells → StandsFor manager.old (S.state site.old) }
+    ensures leads { Leads (outcome manager.old.ledger.manager manager.old.history now request.now) result manager.old manager.new }
+    ensures number { manager.new.ledger.manager ≡ manager.old.ledger.manager }
+    ensures told { S.tells → Answers (outcome manager.old.ledger.manager manager.old.history now request.now) result manager.old manager.new (S.state site.old) (S.state site.new) }
+    ensures disk { result ≡ Err ApiFault.Disk → Rose (S.counts site.old).disk (S.counts site.new).disk }
+    ensures counts { OnlyDisk (S.counts site.old) (S.counts site.new) }
+{
+    match judge(alloc, request) {
+        Ok(Verdict::Refused(reply)) => Ok(reply),
+        Ok(Verdict::Create(body)) => create(alloc, manager, site, body, now),
+        Err(_) => Err(ApiFault::Memory),
+    }
+}
+
+/// Answers a create request with this body.
+fn create<S: Site>(
+    alloc: Global,
+    manager: &mut Manager<S>,
+    site: &mut S,
+    body: CreateBody,
+    now: Moment,
+) -> Result<Reply, ApiFault>
+    requires usable { manager.old.ledger.closed ≡ false }
+    requires stands { S.tells → StandsFor manager.old (S.state site.old) }
+    ensures leads { Leads (create_outcome manager.old.ledger.manager manager.old.history now body) result manager.old manager.new }
+    ensures number { manager.new.ledger.manager ≡ manager.old.ledger.manager }
+    ensures told { S.tells → Answers (create_outcome manager.old.ledger.manager manager.old.history now body) result manager.old manager.new (S.state site.old) (S.state site.new) }
+    ensures disk { result ≡ Err ApiFault.Disk → Rose (S.counts site.old).disk (S.counts site.new).disk }
+    ensures counts { OnlyDisk (S.counts site.old) (S.counts site.new) }
+{
+    match prepare(alloc, manager, body, now) {
+        Ok(Step::Refused(reply)) => Ok(reply),
+        Ok(Step::Creates(event, reply)) => {
+            let answer = record(alloc, manager, site, &event, reply);
+            drop(event);
+            answer
+        }
+        Err(_) => Err(ApiFault::Memory),
+    }
+}
+
+/// What a create request with this body comes to. All memory is taken here.
+fn prepare<S: Site>(
+    alloc: Global,
+    manager: &mut Manager<S>,
+    body: CreateBody,
+    now: Moment,
+) -> Result<Step, AllocError>
+    requires usable { manager.old.ledger.closed ≡ false }
+    ensures kept { manager.new ≡ manager.old }
+    ensures step { IfOk result (IsStep (create_outcome manager.old.ledger.manager manager.old.history now body) manager.old) }
+{
+    if manager.live_instances() >= MAX_INSTANCES {
+        return Ok(Step::Refused(refusal(alloc, 507, "too many instances")?));
+    }
+    let n = manager.next_instance();
+    let reply = created(alloc, manager.number(), n, &body)?;
+    let event = creation(n, now, body);
+    let more = manager.length_of(&event);
+    if !manager.fits(more, MAX_REQUESTED) {
+        drop(event);
+        return Ok(Step::Refused(refusal(alloc, 507, "journal full")?));
+    }
+    Ok(Step::Creates(event, reply))
+}
+
+/// The event that an instance was created.
+fn creation(instance: u64, moment: Moment, body: CreateBody) -> Event
+    ensures { result ≡ record { moment = moment; kind = Created instance body.vnfd body.name body.text } }
+{
+    Event {
+        moment,
+        kind: EventKind::Created {
+            instance,
+            vnfd: body.vnfd,
+            name: body.name,
+            text: body.text,
+        },
+    }
+}
+
+/// Records the event, and then gives the reply.
+fn record<S: Site>(
+    alloc: Global,
+    manager: &mut Manager<S>,
+    site: &mut S,
+    event: &Event,
+    reply: Reply,
+) -> Result<Reply, ApiFault>
+    requires usable { manager.old.ledger.closed ≡ false }
+    requires stands { S.tells → StandsFor manager.old (S.state site.old) }
+    requires creates { MayCreateNow manager.old event.now }
+    ensures leads { Leads (record { reply = reply; after = event.now ∷ [] }) result manager.old manager.new }
+    ensures number { manager.new.ledger.manager ≡ manager.old.ledger.manager }
+    ensures told { S.tells → Answers (record { reply = reply; after = event.now ∷ [] }) result manager.old manager.new (S.state site.old) (S.state site.new) }
+    ensures disk { result ≡ Err ApiFault.Disk → Rose (S.counts site.old).disk (S.counts site.new).disk }
+    ensures counts { OnlyDisk (S.counts site.old) (S.counts site.new) }
+{
+    match manager.commit(alloc, site, event) {
+        Ok(()) => Ok(reply),
+        Err(WorkFault::Disk) => Err(ApiFault::Disk),
+        Err(WorkFault::Full { .. }) => Err(ApiFault::Memory),
+        Err(WorkFault::Memory) => Err(ApiFault::Memory),
+    }
+}
