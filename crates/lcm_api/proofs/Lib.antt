@@ -2,5 +2,6 @@ mod FieldLemmas
 mod FormLemmas
 mod ListenLemmas
 mod MouthLemmas
+mod ServeLemmas
 mod StepLemmas
 pub mod TellLemmas

@@ -6,5 +6,6 @@ pub mod Judging
 pub mod Mouth
 pub mod Outcome
 pub mod Response
+pub mod Serving
 pub mod Steps
 pub mod Telling

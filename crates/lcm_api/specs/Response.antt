@@ -1,7 +1,6 @@
 -- The bytes of an answer (RFC 9112 4 Status Line, 5 Field Syntax; RFC 9110 8.3 Content-Type, 10.2.1 Allow, 10.2.2 Location).
 use Rattle.std.specs.Prelude.{ℕ, ◌==◌, List, [], ◌∷◌, ◌++◌, length, codes, decimal, if◌then◌else◌, Option, Some, None, Bool}
 use Rattle.std.specs.Option.{option_map_or}
-use Rattle.json_views.specs.Problem.{problem_text}
 use Rattle.lcm_api.specs.declared.reply.Reply.{Reply}
 
 -- the reason of a status (RFC 9110 15 Status Codes)
@@ -50,11 +49,11 @@ content_fields status problem size =
     else (if size == 0 then field (codes "Content-Length") (decimal size)
     else field (codes "Content-Type") (media_type problem) ++ field (codes "Content-Length") (decimal size))
 
--- the body that is told: that of 500 and of 503 is fixed, so that they can be told without memory
+-- the body that is told (RFC 9457 3): that of 500 and of 503 is fixed, so that they can be told without memory
 unfoldable pub body_told : Reply → List ℕ
 body_told r =
-    if r.status == 500 then problem_text 500 (codes "journal fault")
-    else (if r.status == 503 then problem_text 503 (codes "no memory") else r.body)
+    if r.status == 500 then codes "{\"detail\":\"journal fault\",\"status\":500}"
+    else (if r.status == 503 then codes "{\"detail\":\"no memory\",\"status\":503}" else r.body)
 
 -- the head of a reply with a body of this length: status line, Location, Allow, the lines on the body, an empty line
 unfoldable pub head_text : Reply → ℕ → List ℕ

@@ -10,3 +10,12 @@ mod mouth;
 mod outgoing;
 mod reply;
 mod request;
+mod session;
+mod tell;
+
+pub use answer::{ApiFault, MAX_INSTANCES, MAX_REQUESTED};
+pub use door::DoorFailed;
+pub use mouth::{HearFault, Mouth};
+pub use reply::Reply;
+pub use request::Request;
+pub use session::answer_session;

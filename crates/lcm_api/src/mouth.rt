@@ -1,16 +1,23 @@
 //! The mouth: a door, the request in hand, and the one call that writes to the door.
-ghost use Rattle.std.specs.Prelude.{◌≡◌, ◌≤◌, length, IfOk, Some, None, is_some, true, false};
+ghost use Rattle.std.specs.Prelude.{◌≡◌, ◌≤◌, ◌<◌, length, IfOk, Some, None, is_some, true, false};
 ghost use Rattle.site_traits.specs.Counts.{Rose};
 ghost use Rattle.site_traits.specs.Door.{fresh, Nexts, ReadsIn, HangsUp, IsAmount, NextCause, ReadCause, NoNextFault};
+ghost use Rattle.lcm_api.specs.Answering.{IsAcknowledged, IsEverywhere};
 ghost use Rattle.lcm_api.specs.Mouth.{KeepsHand, Heard, Listens};
+ghost use Rattle.lcm_api.specs.Response.{text};
+ghost use Rattle.lcm_api.specs.Telling.{Tells, TellCause};
 
+use crate::door::DoorFailed;
 use crate::form::{FormFault, MAX_FIELDS, MAX_REQUEST, read_request};
 use crate::listen::read_to_end;
 use crate::outgoing::Outgoing;
+use crate::reply::Reply;
 use crate::request::Request;
+use crate::tell::tell_reply;
+use executor::Manager;
 use httparse::spans::{EMPTY_HEADER_SPAN, HeaderSpan};
 use lcm_events::Role;
-use site_traits::{Door, NextAnswer, ReadAnswer};
+use site_traits::{Door, NextAnswer, ReadAnswer, Site};
 use std::alloc::{AllocError, Global};
 use std::marker::Model;
 use thiserror::Error;
@@ -126,6 +133,28 @@ impl<D: Door> Mouth<D> {
             }
             Err(fault) => Err(fault),
         }
+    }
+
+    /// Tells a reply to the connection, with one write for every reply of at most 65,536 bytes.
+    ///
+    /// Conditions of a reply below 400: it is the outcome of the request in hand, and its events end the manager's history,
+    /// which every stop leaves.
+    /// Refusal: `DoorFailed` where a write failed: the door's count of faults rose, and a front of the bytes went out.
+    /// Source: RFC 9112 4, 5, 6.2.
+    pub fn tell<S: Site>(
+        &mut self,
+        manager: &Manager<S>,
+        site: &S,
+        reply: &Reply,
+    ) -> Result<(), DoorFailed>
+        requires usable { reply.now.status < 400 → manager.now.ledger.closed ≡ false }
+        requires acknowledged { reply.now.status < 400 → IsAcknowledged manager.now self.old.hand reply.now }
+        requires everywhere { S.tells → reply.now.status < 400 → IsEverywhere manager.now (S.state site.now) }
+        ensures told { D.tells → Tells (text reply.now) result self.old.door self.new.door }
+        ensures cause { TellCause result self.old.counts self.new.counts }
+        ensures kept { KeepsHand self.old self.new }
+    {
+        tell_reply(&mut self.door, &mut self.outgoing, reply)
     }
 
     /// The request in hand. Condition: one is in hand.

@@ -1,0 +1,43 @@
+-- A request is judged and its reply told; without one there is nothing to ask the manager.
+use Rattle.std.proofs.Common.{Ok, Err, refl}
+use Rattle.lcm_api.specs.Serving.{judged, refused}
+use Rattle.lcm_api.proofs.ServeLemmas.{heard_hand, unasked}
+use Rattle.lcm_api.proofs.StepLemmas.{leaves_history}
+use Rattle.lcm_api.proofs.session.answer_session.Goals as goal
+
+pub returns-in-Ok-clause-served : goal.returns-in-Ok-clause-served
+returns-in-Ok-clause-served g c =
+    let found = heard_hand _ _ _ _ c.in-Ok.ensures.heard in
+    let response = c.respond-result.ensures.responds found.0 found.1 in
+    record {
+      serving = judged found.0 response.now;
+      managed = response.managed;
+      site = response.site;
+      door = record {
+        heard_as = Ok c.in-Ok.field-0;
+        between = c.hear.new.self;
+        heard = c.in-Ok.ensures.heard;
+        is = found.1;
+        told_door = c.respond-result.new.mouth.door;
+        told = response.door;
+        gone = c.hang_up.ensures.told;
+      };
+      clock = response.clock;
+    }
+
+pub returns-in-Err-clause-served : goal.returns-in-Err-clause-served
+returns-in-Err-clause-served g c = record {
+  serving = refused c.in-Err.fault;
+  managed = unasked c.reject-result.result c.args.manager.now c.reject-result.ensures.disk c.requires.usable;
+  site = λ tells. record { any_moment = leaves_history _ _ _ (c.requires.stands tells); stands = λ other. c.requires.stands tells };
+  door = record {
+    heard_as = Err c.in-Err.fault;
+    between = c.hear.new.self;
+    heard = c.in-Err.ensures.heard;
+    is = refl;
+    told_door = c.reject-result.new.mouth.door;
+    told = c.reject-result.ensures.told;
+    gone = c.hang_up-in-Err.ensures.told;
+  };
+  clock = λ tells. refl;
+}

@@ -1,0 +1,47 @@
+//! Telling a reply: its head and the front of its body in one write, and the rest of a longer body behind it.
+ghost use Rattle.std.specs.Prelude.{◌≡◌, ◌++◌, length};
+ghost use Rattle.lcm_api.specs.Response.{body_told, head_text, text};
+ghost use Rattle.lcm_api.specs.Telling.{Tells, TellCause};
+
+use crate::door::{DoorFailed, write_all};
+use crate::outgoing::Outgoing;
+use crate::reply::Reply;
+use site_traits::Door;
+
+/// Writes the bytes of a reply, which are put together in this room.
+pub fn tell_reply<D: Door>(
+    door: &mut D,
+    outgoing: &mut Outgoing,
+    reply: &Reply,
+) -> Result<(), DoorFailed>
+    ensures told { D.tells → Tells (text reply.now) result (D.state door.old) (D.state door.new) }
+    ensures cause { TellCause result (D.counts door.old) (D.counts door.new) }
+{
+    let body = body_told(reply);
+    outgoing.set_head(reply, body.len());
+    let rest = outgoing.put_front(body);
+    write_both(door, outgoing.as_slice(), rest)
+}
+
+/// Writes these bytes, and then those.
+fn write_both<D: Door>(door: &mut D, first: &[u8], rest: &[u8]) -> Result<(), DoorFailed>
+    ensures told { D.tells → Tells (first.now ++ rest.now) result (D.state door.old) (D.state door.new) }
+    ensures cause { TellCause result (D.counts door.old) (D.counts door.new) }
+{
+    match write_all(door, first) {
+        Ok(()) => write_all(door, rest),
+        Err(DoorFailed) => Err(DoorFailed),
+    }
+}
+
+/// The body that is told.
+#[tactic(auto, unfolding(crate::specs::Response::body_told))]
+fn body_told(reply: &Reply) -> &[u8]
+    ensures { result.now ≡ body_told reply.now }
+{
+    match reply.status {
+        500 => b"{\"detail\":\"journal fault\",\"status\":500}",
+        503 => b"{\"detail\":\"no memory\",\"status\":503}",
+        _ => reply.body.as_slice(),
+    }
+}
