@@ -19,3 +19,6 @@ pub use mouth::{HearFault, Mouth};
 pub use reply::Reply;
 pub use request::Request;
 pub use session::answer_session;
+
+#[cfg(test)]
+mod tests;
