@@ -1,2 +1,5 @@
 pub mod Histories
+pub mod Lists
 pub mod PathLaws
+pub mod NumberLaws
+pub mod OngoingLaws

@@ -1,2 +1,4 @@
 pub mod Beginnings
 pub mod Paths
+pub mod Numbering
+pub mod Operating
