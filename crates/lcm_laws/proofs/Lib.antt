@@ -3,3 +3,5 @@ pub mod Lists
 pub mod PathLaws
 pub mod NumberLaws
 pub mod OngoingLaws
+pub mod NetLaws
+pub mod EndLaws

@@ -2,3 +2,4 @@ pub mod Beginnings
 pub mod Paths
 pub mod Numbering
 pub mod Operating
+pub mod Nets

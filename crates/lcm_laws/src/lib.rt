@@ -3,10 +3,15 @@
 
 mod beginnings;
 mod moves;
+mod nets;
 mod operations;
 
 pub use beginnings::{beginnings_are_legal, each_event_was_allowed};
 pub use moves::moves_are_paths;
+pub use nets::{
+    completed_is_made, nets_are_zero_or_one, one_attempt_is_open, open_attempts_fit_nets,
+    open_attempts_fit_states, rolled_back_is_undone,
+};
 pub use operations::{
     numbers_run_from_one, one_operation_goes_on, operations_are_found, operations_stay_found,
 };
