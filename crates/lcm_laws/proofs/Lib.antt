@@ -5,3 +5,7 @@ pub mod NumberLaws
 pub mod OngoingLaws
 pub mod NetLaws
 pub mod EndLaws
+pub mod Members
+pub mod PlanMembers
+pub mod PlanOrder
+pub mod PlanHistory

@@ -3,3 +3,4 @@ pub mod Paths
 pub mod Numbering
 pub mod Operating
 pub mod Nets
+pub mod Planning
