@@ -9,3 +9,4 @@ pub mod Members
 pub mod PlanMembers
 pub mod PlanOrder
 pub mod PlanHistory
+pub mod StandLaws

@@ -97,7 +97,7 @@ found_exactly m H legal o = (
   λ within. within_found (λ a. a.occ) (operations H) o (operations_counted m H legal) within.0 within.1,
 )
 
-find-skips : {A : Type 0} → (f : A → ℕ) (b : A) (xs : List A) (n : ℕ) (a : A) → f b ≡ length xs + 1 → IsCounted f xs
+pub find-skips : {A : Type 0} → (f : A → ℕ) (b : A) (xs : List A) (n : ℕ) (a : A) → f b ≡ length xs + 1 → IsCounted f xs
     → find (λ x. f x == n) xs ≡ Some a → find (λ x. f x == n) (b ∷ xs) ≡ Some a
 find-skips f b xs n a number h e = by_test (f b == n)
     (λ same.

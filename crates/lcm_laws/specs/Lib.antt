@@ -4,3 +4,4 @@ pub mod Numbering
 pub mod Operating
 pub mod Nets
 pub mod Planning
+pub mod Standing

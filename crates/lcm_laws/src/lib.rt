@@ -6,6 +6,7 @@ mod moves;
 mod nets;
 mod operations;
 mod plans;
+mod standing;
 
 pub use beginnings::{beginnings_are_legal, each_event_was_allowed};
 pub use moves::moves_are_paths;
@@ -17,3 +18,4 @@ pub use operations::{
     numbers_run_from_one, one_operation_goes_on, operations_are_found, operations_stay_found,
 };
 pub use plans::{operations_have_plans, plans_are_distinct, plans_are_exact, plans_are_sorted};
+pub use standing::what_stands_is_of_the_descriptor;
