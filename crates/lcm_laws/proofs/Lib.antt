@@ -10,3 +10,5 @@ pub mod PlanMembers
 pub mod PlanOrder
 pub mod PlanHistory
 pub mod StandLaws
+pub mod FreshLaws
+pub mod NextLaws

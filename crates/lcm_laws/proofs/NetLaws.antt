@@ -107,7 +107,7 @@ sole (x ∷ []) t made undone h e = by_test (same_tag t x)
     (λ other. let fails : false ≡ true = rw other at e in cc)
 sole (x ∷ y ∷ ts) t made undone h e = absurd h
 
-is_of-own : (t : Tag) → is_of t.occ t.change t ≡ true
+pub is_of-own : (t : Tag) → is_of t.occ t.change t ≡ true
 is_of-own t = and_true (t.occ == t.occ) (t.change == t.change) (eq-refl t.occ) (eq-refl t.change)
 
 -- an open attempt is among those of its change

@@ -123,7 +123,7 @@ new_by_rises p (Terminate mode timeout) v = tt
 new_by_rises p _ v = rises_range _ _
 
 -- the first change stands before the second
-abbrev Before : Change → Change → Type 0
+abbrev pub Before : Change → Change → Type 0
 Before x y = is_before (key x) (key y) ≡ true
 
 or_right : (a b : Bool) → b ≡ true → (a || b) ≡ true

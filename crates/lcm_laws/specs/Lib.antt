@@ -5,3 +5,4 @@ pub mod Operating
 pub mod Nets
 pub mod Planning
 pub mod Standing
+pub mod Acting

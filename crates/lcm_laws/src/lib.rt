@@ -1,6 +1,7 @@
 //! What holds in every legal history: each law is the contract of a call that does nothing.
 #![tactic(auto)]
 
+mod acting;
 mod beginnings;
 mod moves;
 mod nets;
@@ -8,6 +9,7 @@ mod operations;
 mod plans;
 mod standing;
 
+pub use acting::{active_occurrences_act, next_actions_are_allowed};
 pub use beginnings::{beginnings_are_legal, each_event_was_allowed};
 pub use moves::moves_are_paths;
 pub use nets::{
