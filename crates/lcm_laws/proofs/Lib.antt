@@ -12,3 +12,6 @@ pub mod PlanHistory
 pub mod StandLaws
 pub mod FreshLaws
 pub mod NextLaws
+pub mod SettledLaws
+pub mod AskLaws
+pub mod HoldLaws

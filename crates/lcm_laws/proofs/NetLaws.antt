@@ -30,7 +30,7 @@ abbrev pub FitsAfter : List Event → ℕ → ℕ → Type 0
 FitsAfter H o c = Fits (open_attempts H o c) (done_count Forward H o c) (done_count Undo H o c)
 
 -- an attempt that ends
-abbrev another : Tag → Tag → Bool
+abbrev pub another : Tag → Tag → Bool
 another t x = not (same_tag x t)
 
 settled_filter : (b c : Bool) → not (b || c) ≡ (not b && not c)
@@ -45,7 +45,7 @@ open_tags-settled H time t out =
     filter_both (another t) (is_unsettled H) (is_unsettled (event time (Settled t out) ∷ H)) (intents H)
     (λ x. settled_filter (same_tag x t) (is_settled H x))
 
-open_attempts-settled : (H : List Event) (time : ℕ) (t : Tag) (out : Outcome) (o c : ℕ)
+pub open_attempts-settled : (H : List Event) (time : ℕ) (t : Tag) (out : Outcome) (o c : ℕ)
     → open_attempts (event time (Settled t out) ∷ H) o c ≡ filter (another t) (open_attempts H o c)
 open_attempts-settled H time t out o c =
     ap (λ (ts : List Tag). filter (is_of o c) ts) (open_tags-settled H time t out) ∙ filter_swap (is_of o c) (another t) (open_tags H)
@@ -116,10 +116,10 @@ open_own H t h =
     any_filter (same_tag t) (is_of t.occ t.change) (open_tags H)
     (λ x same. let is : t ≡ x = same_tag-true t x same in subst (λ (y : Tag). is_of t.occ t.change y ≡ true) is (is_of-own t)) h
 
-is_of-occ : (o c : ℕ) (t : Tag) → is_of o c t ≡ true → t.occ ≡ o
+pub is_of-occ : (o c : ℕ) (t : Tag) → is_of o c t ≡ true → t.occ ≡ o
 is_of-occ o c t h = eqb-true t.occ o (and_left (t.occ == o) (t.change == c) h)
 
-is_of-change : (o c : ℕ) (t : Tag) → is_of o c t ≡ true → t.change ≡ c
+pub is_of-change : (o c : ℕ) (t : Tag) → is_of o c t ≡ true → t.change ≡ c
 is_of-change o c t h = eqb-true t.change c (and_right (t.occ == o) (t.change == c) h)
 
 -- what is said of the change of a tag, said of its numbers
@@ -158,7 +158,7 @@ filter_cond : {A : Type 0} → (p : A → Bool) (x : A) (b : Bool) (xs : List A)
 filter_cond p x true xs e none = rw (e, none) refl
 filter_cond p x false xs e none = none
 
-filter_cond_other : {A : Type 0} → (p : A → Bool) (x : A) (b : Bool) (xs : List A) → p x ≡ false → filter p (cond b (x ∷ xs) xs) ≡ filter p xs
+pub filter_cond_other : {A : Type 0} → (p : A → Bool) (x : A) (b : Bool) (xs : List A) → p x ≡ false → filter p (cond b (x ∷ xs) xs) ≡ filter p xs
 filter_cond_other p x true xs e = rw e refl
 filter_cond_other p x false xs e = refl
 

@@ -31,7 +31,7 @@ edge-goes_on RolledBack to e = cc
 edge-goes_on _ to e = refl
 
 -- what goes on after a move went on before it
-goes_on-before : (H : List Event) (t occ : ℕ) (to : OpState) (a : Operation) → MayMove H occ (state H occ) to
+pub goes_on-before : (H : List Event) (t occ : ℕ) (to : OpState) (a : Operation) → MayMove H occ (state H occ) to
     → goes_on (event t (Moved occ to) ∷ H) a ≡ true → goes_on H a ≡ true
 unfolding goes_on
 goes_on-before H t occ to a may h = by_test (occ == a.occ)
