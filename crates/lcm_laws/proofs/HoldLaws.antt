@@ -122,7 +122,7 @@ after_same H time u name i x a k eff at same =
     let here : (a.instance == i) ≡ true = eq-eqb a.instance i at in
     stands-done H time u (Done name) i x (effect u name a k) eff ∙ rw (here, same) refl
 
-after_other : (H : List Event) (time : ℕ) (u : Tag) (name : List ℕ) (i : ℕ) (x : Def) (a : Operation) (k : Change)
+pub after_other : (H : List Event) (time : ℕ) (u : Tag) (name : List ℕ) (i : ℕ) (x : Def) (a : Operation) (k : Change)
     → effect_in H (Settled u (Done name)) ≡ Some (effect u name a k) → same_def k.def x ≡ false
     → stands (event time (Settled u (Done name)) ∷ H) i x ≡ stands H i x
 after_other H time u name i x a k eff differ =
@@ -227,7 +227,7 @@ settled_here m H time u out i a ask legal opened found at way h = elim (what_is_
 ]
 
 -- an attempt of another instance leaves what stands
-stands_elsewhere : (H : List Event) (time : ℕ) (u : Tag) (out : Outcome) (i : ℕ) (x : Def) (a : Operation) → operation H u.occ ≡ Some a → (a.instance == i) ≡ false
+pub stands_elsewhere : (H : List Event) (time : ℕ) (u : Tag) (out : Outcome) (i : ℕ) (x : Def) (a : Operation) → operation H u.occ ≡ Some a → (a.instance == i) ≡ false
     → stands (event time (Settled u out) ∷ H) i x ≡ stands H i x
 stands_elsewhere H time u out i x a found other = elim (what_is_done H time u out a found) [
   | inl nothing ↦ stands-nothing H time u out i x nothing.0
@@ -357,7 +357,7 @@ some_value : {A : Type 0} → (o : Option A) → is_some o ≡ true → (a : A) 
 some_value None e = cc
 some_value (Some a) e = (a, refl)
 
-moved_from : (H : List Event) (occ : ℕ) (to : OpState) → MayMove H occ (state H occ) to → is_final (state H occ) ≡ false
+pub moved_from : (H : List Event) (occ : ℕ) (to : OpState) → MayMove H occ (state H occ) to → is_final (state H occ) ≡ false
 moved_from H occ to may = edge-goes_on (state H occ) to (may_move-edge H occ (state H occ) to may)
 
 moved_kept : (H : List Event) (time occ : ℕ) (to : OpState) (i o : ℕ) (a : Operation)
@@ -461,7 +461,7 @@ idle_before m H time occ to i a legal found away none =
     subst (λ (xs : List Operation). IsIn b xs) none
     (in_filter (is_ongoing (event time (Moved occ to) ∷ H) i) b (operations H) from.0 (and_true (b.instance == i) (goes_on (event time (Moved occ to) ∷ H) b) ours still)))
 
-stands_moved : (H : List Event) (time occ : ℕ) (to : OpState) (i : ℕ) (x : Def) → stands (event time (Moved occ to) ∷ H) i x ≡ stands H i x
+pub stands_moved : (H : List Event) (time occ : ℕ) (to : OpState) (i : ℕ) (x : Def) → stands (event time (Moved occ to) ∷ H) i x ≡ stands H i x
 unfolding effect_in
 stands_moved H time occ to i x = refl
 

@@ -15,3 +15,4 @@ pub mod NextLaws
 pub mod SettledLaws
 pub mod AskLaws
 pub mod HoldLaws
+pub mod BoundLaws

@@ -48,7 +48,7 @@ ports_rise d v =
     rises_map Placed Less (λ x. x.0) (filter (λ x. x.1.vdu == v) (enumerate_from 0 d.ports)) (λ a b ha hb less. less)
     (rises_filter Placed (λ x. x.1.vdu == v) (enumerate_from 0 d.ports) (places_rise 0 d.ports))
 
-items_rise : (d : Vnfd) (kind : DefKind) (v : ℕ) → IsValid d → Rises Less (items d kind v)
+pub items_rise : (d : Vnfd) (kind : DefKind) (v : ℕ) → IsValid d → Rises Less (items d kind v)
 items_rise d Compute v valid = (λ y h. absurd h, tt)
 items_rise d Storage v valid = storages_rise d d.vdus v valid.vdus
 items_rise d Port v valid = ports_rise d v
@@ -241,7 +241,7 @@ ports_ordered p valid =
     join 5 6 (removed p Port) (from_computes p) (omega arith) (removed_group p Port 5 valid refl) computes
 
 -- no ask both starts and stops
-one_way : (ask : Ask) → starts ask ≡ true → stops ask ≡ false
+pub one_way : (ask : Ask) → starts ask ≡ true → stops ask ≡ false
 one_way (Heal cause named) e = refl
 one_way (Operate started stop) e = rw e refl
 one_way (Instantiate flavour level) e = refl
@@ -283,7 +283,7 @@ rises-in_order (x ∷ xs) h = (before_all x xs h.0, rises-in_order xs h.1)
 pub plan_sorted : (p : Case) → IsValid p.vnfd → AreInOrder (plan p)
 plan_sorted p valid = rises-in_order (plan p) (plan_rises p valid)
 
-not_before : (ks : List ℕ) → is_before ks ks ≡ true → ⊥
+pub not_before : (ks : List ℕ) → is_before ks ks ≡ true → ⊥
 not_before [] e = cc
 not_before (k ∷ ks) e =
     let not_less : ltb k k ≡ false = le-ltb k k (omega arith) in

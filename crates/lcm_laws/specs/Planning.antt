@@ -1,5 +1,5 @@
 -- The changes of an operation are exactly what is planned, in order (own rule).
-use Rattle.std.specs.Prelude.{List, Some, [], ℕ, ◌++◌, ◌↔◌, ◌∷◌, ◌≡◌}
+use Rattle.std.specs.Prelude.{List, Some, [], length, ℕ, ◌++◌, ◌↔◌, ◌∷◌, ◌≡◌, ◌≤◌}
 use Rattle.lcm_events.specs.declared.changes.Change.{Change}
 use Rattle.lcm_events.specs.declared.descriptor.Vnfd.{Vnfd}
 use Rattle.lcm_events.specs.declared.events.Event.{Event}
@@ -8,6 +8,7 @@ use Rattle.lcm_events.specs.declared.events.Operation.{Operation}
 use Rattle.lcm_model.specs.Allowed.{IsLegal}
 use Rattle.lcm_model.specs.Descriptors.{IsValid}
 use Rattle.lcm_model.specs.Lives.{descriptor}
+use Rattle.lcm_model.specs.Operations.{operations}
 use Rattle.lcm_model.specs.Planned.{AreInOrder, IsPlan, IsPlanned}
 use Rattle.lcm_model.specs.Plans.{Case, plan}
 use Rattle.lcm_model.specs.Refusals.{case_in, situation}
@@ -40,3 +41,7 @@ abbrev pub OperationsHavePlans : Type 0
 OperationsHavePlans =
     (m : ℕ) (H later : List Event) (time : ℕ) (a : Operation)
     → IsLegal m (later ++ record { moment = time; kind = Asked a } ∷ H) → HasPlan H a
+
+-- in a legal history no operation has more than 5,000 changes (own limit)
+abbrev pub PlansAreSmall : Type 0
+PlansAreSmall = (m : ℕ) (H : List Event) → IsLegal m H → (a : Operation) → IsIn a (operations H) → length a.changes ≤ 5000

@@ -19,7 +19,9 @@ pub use nets::{
 pub use operations::{
     numbers_run_from_one, one_operation_goes_on, operations_are_found, operations_stay_found,
 };
-pub use plans::{operations_have_plans, plans_are_distinct, plans_are_exact, plans_are_sorted};
+pub use plans::{
+    operations_have_plans, plans_are_distinct, plans_are_exact, plans_are_small, plans_are_sorted,
+};
 pub use standing::{
     deleted_instances_hold_nothing, idle_instances_hold_nothing, what_stands_is_of_the_descriptor,
 };

@@ -1,6 +1,6 @@
 //! The changes of an operation are exactly what is planned, in order.
 
-ghost use Rattle.lcm_laws.specs.Planning.{OperationsHavePlans, PlansAreDistinct, PlansAreExact, PlansAreSorted};
+ghost use Rattle.lcm_laws.specs.Planning.{OperationsHavePlans, PlansAreDistinct, PlansAreExact, PlansAreSmall, PlansAreSorted};
 
 /// A change is in the plan exactly where it is planned.
 ///
@@ -28,4 +28,11 @@ pub fn plans_are_distinct()
 /// Source: own rule.
 pub fn operations_have_plans()
     ensures { OperationsHavePlans }
+{}
+
+/// No operation has more than 5,000 changes.
+///
+/// Source: own limit.
+pub fn plans_are_small()
+    ensures { PlansAreSmall }
 {}
