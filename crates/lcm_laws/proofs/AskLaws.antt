@@ -3,7 +3,7 @@ use Rattle.std.proofs.Common.{◌≡◌, ◌≤◌, ◌<◌, ◌+◌, ◌&&◌, 
 use Rattle.lcm_events.specs.Same.{same_tag}
 use Rattle.lcm_events.proofs.SameLaws.{def_ext, same_tag-refl}
 use Rattle.lcm_model.specs.declared.holding.Effect.{Effect}
-use Rattle.std.specs.List.{list_any, range_with_len}
+use Rattle.std.specs.List.{range_with_len}
 use Rattle.std.specs.Option.{option_map_or}
 use Rattle.std.specs.Prelude.{option_map}
 use Rattle.lcm_events.specs.declared.asks.Ask.{Ask}
@@ -37,7 +37,7 @@ use Rattle.lcm_model.specs.Allowed.{IsAllowed, IsLegal, IsPlanOf}
 use Rattle.lcm_model.specs.Lives.{descriptor}
 use Rattle.lcm_laws.specs.Standing.{IsOfInstance}
 use Rattle.lcm_laws.proofs.Lists.{and_left, and_right, by_test, none_of-front, none_of-rest, not-false, when-none}
-use Rattle.lcm_laws.proofs.Members.{among_in, in_filter, in_map, in_range, of_filter}
+use Rattle.lcm_laws.proofs.Members.{any_in, in_get, among_in, in_filter, in_map, in_range, of_filter}
 use Rattle.lcm_laws.proofs.EndLaws.{open_state, starting_untouched, unasked_starting}
 use Rattle.lcm_laws.proofs.NumberLaws.{found_within, operations_counted}
 use Rattle.lcm_laws.proofs.OngoingLaws.{asked_idle}
@@ -100,21 +100,6 @@ by_ask_kept H H' i o a (Terminate mode timeout) stand nets waits inst h = record
 by_ask_kept H H' i o a _ stand nets waits inst h = inst ∙ h
 
 -- when an operation is asked for
-in_get : {A : Type 0} → (x : A) (xs : List A) → IsIn x xs → (n : ℕ) × (slice_get xs n ≡ Some x)
-in_get x [] h = absurd h
-in_get x (y ∷ xs) (inl e) = (0, ap Some e)
-in_get x (y ∷ xs) (inr h) = let rest = in_get x xs h in (suc rest.0, rest.1)
-
-pub get_in : {A : Type 0} → (x : A) (xs : List A) (n : ℕ) → slice_get xs n ≡ Some x → IsIn x xs
-get_in x [] n e = cc
-get_in x (y ∷ xs) zero e = inl cc
-get_in x (y ∷ xs) (suc n) e = inr (get_in x xs n e)
-
-any_in : {A : Type 0} → (p : A → Bool) (x : A) (xs : List A) → IsIn x xs → p x ≡ true → list_any p xs ≡ true
-any_in p x [] h e = absurd h
-any_in {A} p x (y ∷ xs) (inl is) e = let passes : p y ≡ true = subst (λ (z : A). p z ≡ true) (sym is) e in rw passes refl
-any_in p x (y ∷ xs) (inr h) e = let rest : list_any p xs ≡ true = any_in p x xs h e in by_test (p y) (λ a. rw a refl) (λ b. rw b rest)
-
 instantiation : (d : Vnfd) (now : Situation) (ask : Ask) → ask_refusal d now ask ≡ None → instantiation_refusal ask now.instantiated ≡ None
 instantiation d now ask e =
     let state : state_refusal d now ask ≡ None = none_of-front _ _ (none_of-rest (content_refusal d ask) _ e) in
@@ -169,13 +154,13 @@ takes_links (ScaleToLevel aim) e = cc
 takes_links (Heal cause named) e = cc
 takes_links (Operate started stop) e = cc
 
-item_in : (d : Vnfd) (kind : DefKind) (x : Def) → x.kind ≡ kind → IsIn x.item (items d kind x.vdu) → IsIn x (defs d kind x.vdu x.serial)
+pub item_in : (d : Vnfd) (kind : DefKind) (x : Def) → x.kind ≡ kind → IsIn x.item (items d kind x.vdu) → IsIn x (defs d kind x.vdu x.serial)
 item_in d kind x is h =
     let made : IsIn (def_of kind x.vdu x.serial x.item) (defs d kind x.vdu x.serial) = in_map (def_of kind x.vdu x.serial) x.item (items d kind x.vdu) h in
     let same : def_of kind x.vdu x.serial x.item ≡ x = def_ext (sym is) refl refl refl in
     subst (λ (y : Def). IsIn y (defs d kind x.vdu x.serial)) same made
 
-serial_in : (s n : ℕ) → 0 < s → s ≤ n → IsIn s (range_with_len 1 n)
+pub serial_in : (s n : ℕ) → 0 < s → s ≤ n → IsIn s (range_with_len 1 n)
 serial_in s n above low = in_range s 1 n (omega (arith, above)) (omega (arith, low))
 
 -- what stands of a machine is removed

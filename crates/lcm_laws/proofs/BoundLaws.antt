@@ -38,8 +38,8 @@ use Rattle.lcm_model.specs.Allowed.{IsAllowed, IsLegal, IsPlanOf}
 use Rattle.lcm_laws.specs.Standing.{IsOfInstance}
 use Rattle.lcm_laws.proofs.Histories.{event, legal_induction}
 use Rattle.lcm_laws.proofs.Lists.{and_left, and_right, by_test, none_of-front, none_of-rest, when-none}
-use Rattle.lcm_laws.proofs.Members.{Less, Rises, among_in, in_back, in_filter, in_either, in_flat_map, in_front, in_map, in_range, of_filter, of_flat_map, of_map, of_range, rises_append, rises_filter, rises_flat_map, rises_map, rises_range}
-use Rattle.lcm_laws.proofs.AskLaws.{get_in, runs-stands}
+use Rattle.lcm_laws.proofs.Members.{get_in, Less, Rises, among_in, in_back, in_filter, in_either, in_flat_map, in_front, in_map, in_range, of_filter, of_flat_map, of_map, of_range, rises_append, rises_filter, rises_flat_map, rises_map, rises_range}
+use Rattle.lcm_laws.proofs.AskLaws.{item_in, runs-stands, serial_in}
 use Rattle.lcm_laws.proofs.HoldLaws.{after_other, moved_from, stands_elsewhere, stands_moved}
 use Rattle.lcm_laws.proofs.OngoingLaws.{asked_idle, state-moved}
 use Rattle.lcm_laws.proofs.PlanHistory.{descriptor_valid}
@@ -136,15 +136,6 @@ up_to_differ d top valid =
     not_link x.kind (all_parts d from.0 machine.0 x machine.2).0 (ap (λ (z : Def). z.kind) e ∙ link_is d y hy))
 
 -- a definition of the descriptor with a serial up to the greatest is among them
-item_in : (d : Vnfd) (kind : DefKind) (x : Def) → x.kind ≡ kind → IsIn x.item (items d kind x.vdu) → IsIn x (defs d kind x.vdu x.serial)
-item_in d kind x is h =
-    let made : IsIn (def_of kind x.vdu x.serial x.item) (defs d kind x.vdu x.serial) = in_map (def_of kind x.vdu x.serial) x.item (items d kind x.vdu) h in
-    let same : def_of kind x.vdu x.serial x.item ≡ x = def_ext (sym is) refl refl refl in
-    subst (λ (y : Def). IsIn y (defs d kind x.vdu x.serial)) same made
-
-serial_in : (s n : ℕ) → 0 < s → s ≤ n → IsIn s (range_with_len 1 n)
-serial_in s n above low = in_range s 1 n (omega (arith, above)) (omega (arith, low))
-
 vdu_in : (v n : ℕ) → v < n → IsIn v (range_with_len 0 n)
 vdu_in v n h = in_range v 0 n (omega arith) (omega (arith, h))
 

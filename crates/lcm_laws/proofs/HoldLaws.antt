@@ -33,8 +33,8 @@ use Rattle.lcm_model.specs.Work.{IsTurnOf, MayMove, all_through, is_termination,
 use Rattle.lcm_model.specs.Allowed.{IsAllowed, IsLegal}
 use Rattle.lcm_laws.proofs.Histories.{event, legal_induction}
 use Rattle.lcm_laws.proofs.Lists.{and_left, and_right, and_true, by_test, filter_shorter, first-none, none_of-front, none_of-rest, not-true, when-none}
-use Rattle.lcm_laws.proofs.Members.{in_filter, of_filter}
-use Rattle.lcm_laws.proofs.AskLaws.{ByAsk, HasChange, IsBuilding, IsTearing, NetsStay, Paired, Waits, asked_holds, by_ask_kept, get_in}
+use Rattle.lcm_laws.proofs.Members.{get_in, get_within, in_filter, of_filter}
+use Rattle.lcm_laws.proofs.AskLaws.{ByAsk, HasChange, IsBuilding, IsTearing, NetsStay, Paired, Waits, asked_holds, by_ask_kept}
 use Rattle.lcm_laws.proofs.EndLaws.{asked_for, completed_made, open_state, rolled_back_undone}
 use Rattle.lcm_laws.proofs.NetLaws.{another, filter_cond_other, is_of-change, is_of-occ, open_attempts-settled, open_fits, open_own}
 use Rattle.lcm_laws.proofs.NumberLaws.{operation-next, operations_counted}
@@ -386,11 +386,6 @@ moved_going m H time occ to i legal allowed h o a found at goes = by_test (occ =
     let clash : (occ == o) ≡ true = eq-eqb occ o one in cc)
     (λ not_ours. not_ours) in
     moved_kept H time occ to i o a (inst_none H time occ to i (moving_away H occ to i mover.0 mover.1 away)) (h o a found at before))
-
-get_within : (x : Change) (xs : List Change) (n : ℕ) → slice_get xs n ≡ Some x → n < length xs
-get_within x [] n e = cc
-get_within x (y ∷ xs) zero e = omega arith
-get_within x (y ∷ xs) (suc n) e = let h = get_within x xs n e in omega (arith, h)
 
 within_changes : (H : List Event) (o c : ℕ) (a : Operation) (k : Change) → operation H o ≡ Some a → slice_get a.changes c ≡ Some k → c < length (changes H o)
 within_changes H o c a k found e = subst (λ (xs : List Change). c < length xs) (sym (changes_of H o a found)) (get_within k a.changes c e)

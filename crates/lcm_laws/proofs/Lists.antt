@@ -40,6 +40,10 @@ pub when-none : {A : Type 0} → (b : Bool) (x : A) → when b x ≡ None → b 
 when-none true x e = cc
 when-none false x e = refl
 
+pub first-nil : {A : Type 0} → (xs : List A) → first xs ≡ None → xs ≡ []
+first-nil [] e = refl
+first-nil (x ∷ xs) e = cc
+
 pub first-none : {A : Type 0} → (xs : List A) → is_some (first xs) ≡ false → xs ≡ []
 first-none [] e = refl
 first-none (x ∷ xs) e = cc

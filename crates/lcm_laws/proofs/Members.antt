@@ -1,6 +1,6 @@
 -- What is in a list, and lists in which each entry stands before the later ones.
-use Rattle.std.proofs.Common.{◌≡◌, ◌≤◌, ◌<◌, ◌+◌, ◌++◌, ◌||◌, ◌==◌, ℕ, List, [], ◌∷◌, Bool, true, false, cond, refl, ap, sym, subst, map, filter, flat_map, take, arith, zero, suc, ◌⊎◌, inl, inr, if◌then◌else◌, ltb-true, eqb-true, eq-eqb, false-eqb, ltb}
-use Rattle.std.specs.List.{range_with_len}
+use Rattle.std.proofs.Common.{length, Some, slice_get, ◌≡◌, ◌≤◌, ◌<◌, ◌+◌, ◌++◌, ◌||◌, ◌==◌, ℕ, List, [], ◌∷◌, Bool, true, false, cond, refl, ap, sym, subst, map, filter, flat_map, take, arith, zero, suc, ◌⊎◌, inl, inr, if◌then◌else◌, ltb-true, eqb-true, eq-eqb, false-eqb, ltb}
+use Rattle.std.specs.List.{list_any, range_with_len}
 use Rattle.lcm_model.specs.Words.{IsIn, is_among}
 use Rattle.lcm_model.specs.Descriptors.{is_rising}
 use Rattle.lcm_laws.proofs.Lists.{by_test, and_left, and_right}
@@ -178,3 +178,25 @@ pub in_among : (ns : List ℕ) (n : ℕ) → IsIn n ns → is_among ns n ≡ tru
 in_among [] n h = absurd h
 in_among (k ∷ ns) n (inl e) = let same : (k == n) ≡ true = eq-eqb k n e in rw same refl
 in_among (k ∷ ns) n (inr h) = let rest : is_among ns n ≡ true = in_among ns n h in by_test (k == n) (λ same. rw same refl) (λ other. rw other rest)
+
+-- an entry that passes a test
+pub any_in : {A : Type 0} → (p : A → Bool) (x : A) (xs : List A) → IsIn x xs → p x ≡ true → list_any p xs ≡ true
+any_in p x [] h e = absurd h
+any_in {A} p x (y ∷ xs) (inl is) e = let passes : p y ≡ true = subst (λ (z : A). p z ≡ true) (sym is) e in rw passes refl
+any_in p x (y ∷ xs) (inr h) e = let rest : list_any p xs ≡ true = any_in p x xs h e in by_test (p y) (λ a. rw a refl) (λ b. rw b rest)
+
+-- an entry by its number
+pub get_in : {A : Type 0} → (x : A) (xs : List A) (n : ℕ) → slice_get xs n ≡ Some x → IsIn x xs
+get_in x [] n e = cc
+get_in x (y ∷ xs) zero e = inl cc
+get_in x (y ∷ xs) (suc n) e = inr (get_in x xs n e)
+
+pub in_get : {A : Type 0} → (x : A) (xs : List A) → IsIn x xs → (n : ℕ) × (slice_get xs n ≡ Some x)
+in_get x [] h = absurd h
+in_get x (y ∷ xs) (inl e) = (0, ap Some e)
+in_get x (y ∷ xs) (inr h) = let rest = in_get x xs h in (suc rest.0, rest.1)
+
+pub get_within : {A : Type 0} → (x : A) (xs : List A) (n : ℕ) → slice_get xs n ≡ Some x → n < length xs
+get_within x [] n e = cc
+get_within x (y ∷ xs) zero e = omega arith
+get_within x (y ∷ xs) (suc n) e = let h = get_within x xs n e in omega (arith, h)

@@ -1,6 +1,6 @@
 -- The events of the next action are allowed.
 use Rattle.std.proofs.Common.{◌≡◌, ◌≤◌, ◌<◌, ◌+◌, ◌&&◌, ◌||◌, ◌==◌, ◌∙◌, ℕ, List, [], ◌∷◌, Bool, true, false, not, Option, None, Some, is_some, refl, ap, sym, subst, length, arith, zero, suc, inl, inr, ◌⊎◌, ltb, ltb-true, eqb-true, eq-eqb, false-eqb, slice_get, unwrap_or, ◌≢◌}
-use Rattle.std.specs.List.{enumerate_from, list_all, list_any, range_with_len}
+use Rattle.std.specs.List.{enumerate_from, list_all, range_with_len}
 use Rattle.std.specs.Option.{option_map_or}
 use Rattle.std.specs.Prelude.{option_map}
 use Rattle.lcm_events.specs.Same.{same_tag}
@@ -32,8 +32,8 @@ use Rattle.lcm_model.specs.Lives.{descriptor}
 use Rattle.lcm_model.specs.Next.{Answer, BeginFailed, BeginRefused, BeginTaken, GrantCame, GrantDenied, GrantLater, GrantMissesSome, GrantTrouble, LookedAborted, LookedAbsent, LookedBroken, LookedDone, appended, begin_of, beginning, first_open, granting, is_at_net, look_at, looking, new_tag, next_action, next_at_work, next_in, next_while_asking, polling, with_net}
 use Rattle.lcm_laws.specs.Acting.{IsAnswer, with_events}
 use Rattle.lcm_laws.proofs.Histories.{event, legal_induction}
-use Rattle.lcm_laws.proofs.Lists.{and_left, and_true, by_test}
-use Rattle.lcm_laws.proofs.Members.{Less, Rises, in_filter, in_range, of_filter, of_range, rises_filter, rises_range}
+use Rattle.lcm_laws.proofs.Lists.{first-nil, and_left, and_true, by_test}
+use Rattle.lcm_laws.proofs.Members.{any_in, get_in, get_within, Less, Rises, in_filter, in_range, of_filter, of_range, rises_filter, rises_range}
 use Rattle.lcm_laws.proofs.FreshLaws.{fresh_open, fresh_unfailed}
 use Rattle.lcm_laws.proofs.NetLaws.{made_at_most_once}
 use Rattle.lcm_laws.proofs.PlanHistory.{descriptor_valid, found_in}
@@ -143,11 +143,6 @@ fine_starting m H o now answer action legal asked is good e = give_up (pick_when
   give_up (inr h) = grant h.0 (pick_when (is_granted H o) (MoveTo Processing) action _ h.1)
 
 -- look
-any_in : {A : Type 0} → (p : A → Bool) (x : A) (xs : List A) → IsIn x xs → p x ≡ true → list_any p xs ≡ true
-any_in p x [] h e = absurd h
-any_in {A} p x (y ∷ xs) (inl is) e = let passes : p y ≡ true = subst (λ (z : A). p z ≡ true) (sym is) e in rw passes refl
-any_in p x (y ∷ xs) (inr h) e = let rest : list_any p xs ≡ true = any_in p x xs h e in by_test (p y) (λ a. rw a refl) (λ b. rw b rest)
-
 last_in : {A : Type 0} → (x : A) (xs : List A) → last xs ≡ Some x → IsIn x xs
 last_in x [] e = cc
 last_in x (y ∷ xs) e = onward (last xs) refl (λ h. last_in x xs h) e where
@@ -162,10 +157,6 @@ last-none (x ∷ xs) e = cc
 first_in : {A : Type 0} → (x : A) (xs : List A) → first xs ≡ Some x → IsIn x xs
 first_in x [] e = cc
 first_in x (y ∷ xs) e = inl cc
-
-first-nothing : {A : Type 0} → (xs : List A) → first xs ≡ None → xs ≡ []
-first-nothing [] e = refl
-first-nothing (x ∷ xs) e = cc
 
 legal_looking : (m : ℕ) (H : List Event) (now : ℕ) (t : Tag) (answer : Answer) → IsLegal m H → is_open H t ≡ true → IsLegal m (with_events now (looking t answer) H)
 legal_looking m H now t (LookedDone name) legal h = (h, legal)
@@ -209,16 +200,11 @@ changes_rise m H o legal = rise (operation H o) refl where
   rise (Some a) is = sorted m H legal a (found_in (λ b. b.occ == o) (operations H) a is)
 
 -- of two entries the one further on comes later
-get_in_rest : {A : Type 0} → (x : A) (xs : List A) (n : ℕ) → slice_get xs n ≡ Some x → IsIn x xs
-get_in_rest x [] n e = cc
-get_in_rest x (y ∷ xs) zero e = inl cc
-get_in_rest x (y ∷ xs) (suc n) e = inr (get_in_rest x xs n e)
-
 rises_get : {A : Type 0} → (R : A → A → Type 0) (xs : List A) (i j : ℕ) (x y : A) → Rises R xs → slice_get xs i ≡ Some x → slice_get xs j ≡ Some y → i < j → R x y
 rises_get R [] i j x y h ex ey less = cc
 rises_get R (z ∷ xs) i zero x y h ex ey less = absurd (omega (arith, less))
 rises_get {A} R (z ∷ xs) zero (suc j) x y h ex ey less =
-    let is : z ≡ x = cc in subst (λ (w : A). R w y) is (h.0 y (get_in_rest y xs j ey))
+    let is : z ≡ x = cc in subst (λ (w : A). R w y) is (h.0 y (get_in y xs j ey))
 rises_get R (z ∷ xs) (suc i) (suc j) x y h ex ey less = rises_get R xs i j x y h.1 ex ey (omega (arith, less))
 
 before_phase : (x y : Change) → Before x y → x.phase ≤ y.phase
@@ -238,11 +224,6 @@ all_placed {A} p k (x ∷ xs) f =
     and_true (p (k, x)) (list_all p (enumerate_from (k + 1) xs)) here
     (all_placed p (k + 1) xs (λ j y e.
     let same : k + suc j ≡ (k + 1) + j = omega arith in subst (λ (n : ℕ). p (n, y) ≡ true) same (f (suc j) y e)))
-
-get_within : {A : Type 0} → (x : A) (xs : List A) (n : ℕ) → slice_get xs n ≡ Some x → n < length xs
-get_within x [] n e = cc
-get_within x (y ∷ xs) zero e = omega arith
-get_within x (y ∷ xs) (suc n) e = let h = get_within x xs n e in omega (arith, h)
 
 get_missing : {A : Type 0} → (xs : List A) (n : ℕ) → n < length xs → slice_get xs n ≡ None → ⊥
 get_missing [] n h e = absurd (omega (arith, h))
@@ -416,7 +397,7 @@ chosen_is H o Forward c e = (first_in c (with_net H o 0) e, λ j h. first_least 
 chosen_is H o Undo c e = (last_in c (with_net H o 1) e, λ j h. last_greatest c (with_net H o 1) (with_net_rises H o 1) e j h)
 
 chosen_none : (w : Way) (ns : List ℕ) → choice w ns ≡ None → ns ≡ []
-chosen_none Forward ns e = first-nothing ns e
+chosen_none Forward ns e = first-nil ns e
 chosen_none Undo ns e = last-none ns e
 
 -- what is done at work in either way

@@ -1,5 +1,5 @@
 -- What stands of an instance is of its descriptor.
-use Rattle.std.proofs.Common.{◌≡◌, ◌≤◌, ◌+◌, ◌&&◌, ◌==◌, ◌∙◌, ℕ, List, [], ◌∷◌, true, false, not, Option, None, Some, refl, ap, sym, subst, length, map, filter, find, arith, zero, suc, ◌⊎◌, inl, inr, ltb, lt-ltb, eqb-true, eq-eqb, slice_get}
+use Rattle.std.proofs.Common.{◌≡◌, ◌≤◌, ◌+◌, ◌&&◌, ◌==◌, ◌∙◌, ℕ, List, [], ◌∷◌, true, false, not, Option, None, Some, refl, ap, sym, subst, length, map, filter, find, arith, ◌⊎◌, inl, inr, ltb, lt-ltb, eqb-true, eq-eqb, slice_get}
 use Rattle.std.specs.List.{cons_option, range_with_len}
 use Rattle.std.specs.Option.{option_map_or}
 use Rattle.std.specs.Prelude.{option_and_then, option_map}
@@ -34,7 +34,7 @@ use Rattle.lcm_model.specs.Allowed.{IsAllowed, IsLegal, IsPlanOf}
 use Rattle.lcm_laws.specs.Standing.{IsOfInstance}
 use Rattle.lcm_laws.proofs.Histories.{event, legal_induction}
 use Rattle.lcm_laws.proofs.Lists.{and_left, and_right, and_true, by_test}
-use Rattle.lcm_laws.proofs.Members.{in_among, in_filter, in_map, in_take, of_filter, of_map, of_range}
+use Rattle.lcm_laws.proofs.Members.{get_in, in_among, in_filter, in_map, in_take, of_filter, of_map, of_range}
 use Rattle.lcm_laws.proofs.NumberLaws.{find-skips, instances_counted}
 use Rattle.lcm_laws.proofs.PlanHistory.{found_in}
 use Rattle.lcm_laws.proofs.PlanMembers.{OfMachine, in_plan-planned, of_all}
@@ -48,11 +48,6 @@ of_cons y (Some x) xs (inr h) = inr h
 pub in_cons : {A : Type 0} → (y : A) (o : Option A) (xs : List A) → IsIn y xs → IsIn y (cons_option o xs)
 in_cons y None xs h = h
 in_cons y (Some x) xs h = inr h
-
-pub get_in : {A : Type 0} → (x : A) (xs : List A) (n : ℕ) → slice_get xs n ≡ Some x → IsIn x xs
-get_in x [] n e = cc
-get_in x (y ∷ xs) zero e = inl cc
-get_in x (y ∷ xs) (suc n) e = inr (get_in x xs n e)
 
 -- the change and the operation that an effect is of
 abbrev pub EffectFrom : List Event → Effect → Type 0
