@@ -1,0 +1,466 @@
+-- The events of the next action are allowed.
+use Rattle.std.proofs.Common.{◌≡◌, ◌≤◌, ◌<◌, ◌+◌, ◌&&◌, ◌||◌, ◌==◌, ◌∙◌, ℕ, List, [], ◌∷◌, Bool, true, false, not, Option, None, Some, is_some, refl, ap, sym, subst, length, arith, zero, suc, inl, inr, ◌⊎◌, ltb, ltb-true, eqb-true, eq-eqb, false-eqb, slice_get, unwrap_or, ◌≢◌}
+use Rattle.std.specs.List.{enumerate_from, list_all, range_with_len}
+use Rattle.std.specs.Option.{option_map_or}
+use Rattle.std.specs.Prelude.{option_map}
+use Rattle.lcm_events.specs.Same.{same_tag}
+use Rattle.lcm_events.proofs.SameLaws.{same_tag-refl}
+use Rattle.lcm_events.specs.declared.attempts.Tag.{Tag}
+use Rattle.lcm_events.specs.declared.attempts.Way.{Way}
+use Rattle.lcm_events.specs.declared.attempts.Way.TheVariants.{Forward, Undo}
+use Rattle.lcm_events.specs.declared.changes.Change.{Change}
+use Rattle.lcm_events.specs.declared.descriptor.Vnfd.{Vnfd}
+use Rattle.lcm_events.specs.declared.events.Event.{Event}
+use Rattle.lcm_events.specs.declared.events.EventKind.{EventKind}
+use Rattle.lcm_events.specs.declared.events.EventKind.TheVariants.{Asked}
+use Rattle.lcm_events.specs.declared.events.Operation.{Operation}
+use Rattle.lcm_events.specs.declared.states.OpState.{OpState}
+use Rattle.lcm_events.specs.declared.states.OpState.TheVariants.{Completed, FailedTemp, Processing, RolledBack, RollingBack, Starting}
+use Rattle.lcm_model.specs.declared.actions.Action.{Action}
+use Rattle.lcm_model.specs.declared.actions.Action.TheVariants.{AskForGrant, MoveTo, Poll}
+use Rattle.lcm_model.specs.Words.{IsIn, first, first_some, last, when}
+use Rattle.lcm_model.specs.Moves.{is_active, state}
+use Rattle.lcm_model.specs.Attempts.{is_of, is_of_occurrence, is_open, net, open_attempts, open_of, open_tags}
+use Rattle.lcm_model.specs.Operations.{changes, operation, operations}
+use Rattle.lcm_model.specs.Grants.{has_ended, is_granted, location}
+use Rattle.lcm_model.specs.Since.{has_trouble, is_cancelled, is_forced}
+use Rattle.lcm_model.specs.Planned.{is_before}
+use Rattle.lcm_model.specs.Refusals.{case_in, situation}
+use Rattle.lcm_model.specs.Work.{HasStopped, IsQuiet, IsTurnOf, MayBegin, MayMove, all_have_net, all_through, gives_up, goes_before, has_net, is_through, net_after, net_before, works_in}
+use Rattle.lcm_model.specs.Allowed.{IsAllowed, IsAsking, IsLegal, IsPlanOf}
+use Rattle.lcm_model.specs.Lives.{descriptor}
+use Rattle.lcm_model.specs.Next.{Answer, BeginFailed, BeginRefused, BeginTaken, GrantCame, GrantDenied, GrantLater, GrantMissesSome, GrantTrouble, LookedAborted, LookedAbsent, LookedBroken, LookedDone, appended, begin_of, beginning, first_open, granting, is_at_net, look_at, looking, new_tag, next_action, next_at_work, next_in, next_while_asking, polling, with_net}
+use Rattle.lcm_laws.specs.Acting.{IsAnswer, with_events}
+use Rattle.lcm_laws.proofs.Histories.{event, legal_induction}
+use Rattle.lcm_laws.proofs.Lists.{first-nil, and_left, and_true, by_test}
+use Rattle.lcm_laws.proofs.Members.{any_in, get_in, get_within, Less, Rises, in_filter, in_range, of_filter, of_range, rises_filter, rises_range}
+use Rattle.lcm_laws.proofs.FreshLaws.{fresh_open, fresh_unfailed}
+use Rattle.lcm_laws.proofs.NetLaws.{made_at_most_once}
+use Rattle.lcm_laws.proofs.PlanHistory.{descriptor_valid, found_in}
+use Rattle.lcm_laws.proofs.PlanOrder.{Before, plan_rises}
+
+-- the first line of a table that applies
+pick_when : {A : Type 0} → (b : Bool) (x y : A) (lines : List (Option A)) → first_some (when b x ∷ lines) ≡ Some y
+    → ((b ≡ true) × (x ≡ y)) ⊎ ((b ≡ false) × (first_some lines ≡ Some y))
+pick_when true x y lines e = inl (refl, cc)
+pick_when false x y lines e = inr (refl, e)
+
+pick_map : {A B : Type 0} → (f : A → B) (o : Option A) (y : B) (lines : List (Option B)) → first_some (option_map f o ∷ lines) ≡ Some y
+    → ((z : A) × (o ≡ Some z) × (f z ≡ y)) ⊎ ((o ≡ None) × (first_some lines ≡ Some y))
+pick_map f (Some z) y lines e = inl (z, refl, cc)
+pick_map f None y lines e = inr (refl, e)
+
+or_left_false : (a b : Bool) → (a || b) ≡ false → a ≡ false
+or_left_false true b e = e
+or_left_false false b e = refl
+
+or_right_false : (a b : Bool) → (a || b) ≡ false → b ≡ false
+or_right_false true b e = cc
+or_right_false false b e = e
+
+not_both : (a b : Bool) → (a && b) ≡ false → b ≡ true → a ≡ false
+not_both true b e h = cc
+not_both false b e h = refl
+
+not_both_second : (a b : Bool) → (a && b) ≡ false → a ≡ true → b ≡ false
+not_both_second true b e h = e
+not_both_second false b e h = cc
+
+-- ask, and poll
+is_asking : (H : List Event) (o : ℕ) → is_some (operation H o) ≡ true → state H o ≡ Starting → gives_up H o ≡ false → is_granted H o ≡ false → IsAsking H o
+is_asking H o asked starting stays ungranted = record {
+  asked = asked;
+  starting = starting;
+  goes_on =
+      not_both (has_ended H o) (not (is_granted H o))
+      (or_right_false (is_forced H o) (has_ended H o && not (is_granted H o))
+      (or_left_false (is_forced H o || (has_ended H o && not (is_granted H o))) (is_granted H o && is_cancelled H o) stays))
+      (rw ungranted refl);
+  not_forced =
+      or_left_false (is_forced H o) (has_ended H o && not (is_granted H o))
+      (or_left_false (is_forced H o || (has_ended H o && not (is_granted H o))) (is_granted H o && is_cancelled H o) stays);
+}
+
+legal_granting : (m : ℕ) (H : List Event) (o now : ℕ) (answer : Answer) → IsLegal m H → IsAsking H o → location H o ≡ None → IsAnswer H o answer
+    → IsLegal m (with_events now (granting o answer) H)
+legal_granting m H o now (GrantCame grant places spots) legal asking none answer =
+    (record { asking = asking; named = answer.0; placed = answer.1 }, legal)
+legal_granting m H o now GrantMissesSome legal asking none answer = ((asking, tt), legal)
+legal_granting m H o now GrantDenied legal asking none answer = (asking, legal)
+legal_granting m H o now GrantTrouble legal asking none answer = ((asking, tt), legal)
+legal_granting m H o now (GrantLater (Some at)) legal asking none answer = ((asking, none), legal)
+legal_granting m H o now _ legal asking none answer = legal
+
+legal_polling : (m : ℕ) (H : List Event) (o now : ℕ) (answer : Answer) → IsLegal m H → IsAsking H o → IsAnswer H o answer
+    → IsLegal m (with_events now (polling o answer) H)
+legal_polling m H o now (GrantCame grant places spots) legal asking answer =
+    (record { asking = asking; named = answer.0; placed = answer.1 }, legal)
+legal_polling m H o now GrantMissesSome legal asking answer = ((asking, tt), legal)
+legal_polling m H o now GrantDenied legal asking answer = (asking, legal)
+legal_polling m H o now GrantTrouble legal asking answer = ((asking, tt), legal)
+legal_polling m H o now _ legal asking answer = legal
+
+-- what the law says of an action
+abbrev IsFine : ℕ → List Event → ℕ → ℕ → Answer → Action → Type 0
+IsFine m H o now answer action = IsLegal m (with_events now (appended o action answer) H)
+
+may_move_in : (H : List Event) (o : ℕ) (from to : OpState) → state H o ≡ from → MayMove H o from to → MayMove H o (state H o) to
+may_move_in H o from to is may = subst (λ (s : OpState). MayMove H o s to) (sym is) may
+
+fine_move : (m : ℕ) (H : List Event) (o now : ℕ) (answer : Answer) (from to : OpState) → IsLegal m H → is_some (operation H o) ≡ true
+    → state H o ≡ from → MayMove H o from to → IsFine m H o now answer (MoveTo to)
+fine_move m H o now answer from to legal asked is may = ((asked, may_move_in H o from to is may), legal)
+
+none_known : {A : Type 0} → (o : Option A) → is_some o ≡ false → o ≡ None
+none_known None e = refl
+none_known (Some x) e = cc
+
+fine_starting : (m : ℕ) (H : List Event) (o now : ℕ) (answer : Answer) (action : Action) → IsLegal m H → is_some (operation H o) ≡ true
+    → state H o ≡ Starting → IsAnswer H o answer → next_while_asking H o ≡ Some action → IsFine m H o now answer action
+fine_starting m H o now answer action legal asked is good e = give_up (pick_when (gives_up H o) (MoveTo RolledBack) action _ e) where
+  ask : gives_up H o ≡ false → is_granted H o ≡ false → ((is_some (location H o) ≡ true) × (Poll ≡ action))
+      ⊎ ((is_some (location H o) ≡ false) × (first_some (Some AskForGrant ∷ []) ≡ Some action)) → IsFine m H o now answer action
+  ask stays ungranted (inl h) =
+      subst (λ (a : Action). IsFine m H o now answer a) h.1 (legal_polling m H o now answer legal (is_asking H o asked is stays ungranted) good)
+  ask stays ungranted (inr h) =
+      let same : AskForGrant ≡ action = cc in
+      subst (λ (a : Action). IsFine m H o now answer a) same
+      (legal_granting m H o now answer legal (is_asking H o asked is stays ungranted) (none_known (location H o) h.0) good)
+
+  grant : gives_up H o ≡ false → ((is_granted H o ≡ true) × (MoveTo Processing ≡ action))
+      ⊎ ((is_granted H o ≡ false) × (first_some (when (is_some (location H o)) Poll ∷ Some AskForGrant ∷ []) ≡ Some action)) → IsFine m H o now answer action
+  grant stays (inl h) =
+      let uncancelled : is_cancelled H o ≡ false =
+      not_both_second (is_granted H o) (is_cancelled H o)
+      (or_right_false (is_forced H o || (has_ended H o && not (is_granted H o))) (is_granted H o && is_cancelled H o) stays) h.0 in
+      subst (λ (a : Action). IsFine m H o now answer a) h.1 (fine_move m H o now answer Starting Processing legal asked is (h.0, uncancelled))
+  grant stays (inr h) = ask stays h.0 (pick_when (is_some (location H o)) Poll action _ h.1)
+
+  give_up : ((gives_up H o ≡ true) × (MoveTo RolledBack ≡ action))
+      ⊎ ((gives_up H o ≡ false) × (first_some (when (is_granted H o) (MoveTo Processing) ∷ when (is_some (location H o)) Poll ∷ Some AskForGrant ∷ []) ≡ Some action))
+      → IsFine m H o now answer action
+  give_up (inl h) = subst (λ (a : Action). IsFine m H o now answer a) h.1 (fine_move m H o now answer Starting RolledBack legal asked is h.0)
+  give_up (inr h) = grant h.0 (pick_when (is_granted H o) (MoveTo Processing) action _ h.1)
+
+-- look
+last_in : {A : Type 0} → (x : A) (xs : List A) → last xs ≡ Some x → IsIn x xs
+last_in x [] e = cc
+last_in x (y ∷ xs) e = onward (last xs) refl (λ h. last_in x xs h) e where
+  onward : (o : Option _) → last xs ≡ o → (last xs ≡ Some x → IsIn x xs) → Some (unwrap_or o y) ≡ Some x → IsIn x (y ∷ xs)
+  onward None is rest e = inl cc
+  onward (Some z) is rest e = let same : z ≡ x = cc in inr (rest (is ∙ ap Some same))
+
+last-none : {A : Type 0} → (xs : List A) → last xs ≡ None → xs ≡ []
+last-none [] e = refl
+last-none (x ∷ xs) e = cc
+
+first_in : {A : Type 0} → (x : A) (xs : List A) → first xs ≡ Some x → IsIn x xs
+first_in x [] e = cc
+first_in x (y ∷ xs) e = inl cc
+
+legal_looking : (m : ℕ) (H : List Event) (now : ℕ) (t : Tag) (answer : Answer) → IsLegal m H → is_open H t ≡ true → IsLegal m (with_events now (looking t answer) H)
+legal_looking m H now t (LookedDone name) legal h = (h, legal)
+legal_looking m H now t (LookedBroken code) legal h = (h, legal)
+legal_looking m H now t LookedAborted legal h = (h, legal)
+legal_looking m H now t LookedAbsent legal h = (h, legal)
+legal_looking m H now t _ legal h = legal
+
+fine_look : (m : ℕ) (H : List Event) (o now : ℕ) (t : Tag) (answer : Answer) (force : Bool) → IsLegal m H → is_open H t ≡ true
+    → IsFine m H o now answer (look_at force t)
+fine_look m H o now t answer true legal h = legal_looking m H now t answer legal h
+fine_look m H o now t answer false legal h = legal_looking m H now t answer legal h
+
+first_open-open : (H : List Event) (o : ℕ) (t : Tag) → first_open H o ≡ Some t → is_open H t ≡ true
+first_open-open H o t e =
+    any_in (same_tag t) t (open_tags H) (of_filter (is_of_occurrence o) t (open_tags H) (last_in t (open_of H o) e)).0 (same_tag-refl t)
+
+-- the changes of an operation are in order
+abbrev Sorted : List Event → Type 0
+Sorted H = (a : Operation) → IsIn a (operations H) → Rises Before a.changes
+
+asked_sorted : (m : ℕ) (H : List Event) (a : Operation) → IsLegal m H → (d : Option Vnfd) → descriptor H a.instance ≡ d → IsPlanOf H a d → Rises Before a.changes
+asked_sorted m H a legal None is h = absurd h
+asked_sorted m H a legal (Some d) is h =
+    subst (λ (xs : List Change). Rises Before xs) (sym h.1)
+    (plan_rises (case_in d (situation d H a.instance) a.ask) (descriptor_valid m H a.instance d legal is))
+
+sorted_step : (m : ℕ) (H : List Event) (time : ℕ) (k : EventKind) → IsLegal m H → IsAllowed m H k → Sorted H → Sorted (event time k ∷ H)
+sorted_step m H time (Asked b) legal allowed h a (inl e) =
+    subst (λ (z : Operation). Rises Before z.changes) e (asked_sorted m H b legal (descriptor H b.instance) refl allowed.planned)
+sorted_step m H time (Asked b) legal allowed h a (inr g) = h a g
+sorted_step m H time _ legal allowed h a g = h a g
+
+sorted : (m : ℕ) (H : List Event) → IsLegal m H → Sorted H
+sorted m H legal = legal_induction m Sorted (λ a h. absurd h) (λ H time k legal allowed h. sorted_step m H time k legal allowed h) H legal
+
+changes_rise : (m : ℕ) (H : List Event) (o : ℕ) → IsLegal m H → Rises Before (changes H o)
+changes_rise m H o legal = rise (operation H o) refl where
+  rise : (a : Option Operation) → operation H o ≡ a → Rises Before (option_map_or (λ a. a.changes) a [])
+  rise None is = tt
+  rise (Some a) is = sorted m H legal a (found_in (λ b. b.occ == o) (operations H) a is)
+
+-- of two entries the one further on comes later
+rises_get : {A : Type 0} → (R : A → A → Type 0) (xs : List A) (i j : ℕ) (x y : A) → Rises R xs → slice_get xs i ≡ Some x → slice_get xs j ≡ Some y → i < j → R x y
+rises_get R [] i j x y h ex ey less = cc
+rises_get R (z ∷ xs) i zero x y h ex ey less = absurd (omega (arith, less))
+rises_get {A} R (z ∷ xs) zero (suc j) x y h ex ey less =
+    let is : z ≡ x = cc in subst (λ (w : A). R w y) is (h.0 y (get_in y xs j ey))
+rises_get R (z ∷ xs) (suc i) (suc j) x y h ex ey less = rises_get R xs i j x y h.1 ex ey (omega (arith, less))
+
+before_phase : (x y : Change) → Before x y → x.phase ≤ y.phase
+before_phase x y h = by_test (ltb x.phase y.phase)
+    (λ less. let n = ltb-true x.phase y.phase less in omega (arith, n))
+    (λ other.
+    let rest : ((x.phase == y.phase) && is_before (x.def.vdu ∷ x.def.serial ∷ x.def.item ∷ []) (y.def.vdu ∷ y.def.serial ∷ y.def.item ∷ [])) ≡ true =
+    subst (λ (b : Bool). (b || ((x.phase == y.phase) && is_before (x.def.vdu ∷ x.def.serial ∷ x.def.item ∷ []) (y.def.vdu ∷ y.def.serial ∷ y.def.item ∷ []))) ≡ true) other h in
+    let same = eqb-true x.phase y.phase (and_left (x.phase == y.phase) _ rest) in omega (arith, same))
+
+-- a test of entries with their places that each passes
+all_placed : {A : Type 0} → (p : ℕ × A → Bool) (k : ℕ) (xs : List A) → ((j : ℕ) (y : A) → slice_get xs j ≡ Some y → p (k + j, y) ≡ true)
+    → list_all p (enumerate_from k xs) ≡ true
+all_placed p k [] f = refl
+all_placed {A} p k (x ∷ xs) f =
+    let here : p (k, x) ≡ true = (let same : k + 0 ≡ k = omega arith in subst (λ (n : ℕ). p (n, x) ≡ true) same (f 0 x refl)) in
+    and_true (p (k, x)) (list_all p (enumerate_from (k + 1) xs)) here
+    (all_placed p (k + 1) xs (λ j y e.
+    let same : k + suc j ≡ (k + 1) + j = omega arith in subst (λ (n : ℕ). p (n, y) ≡ true) same (f (suc j) y e)))
+
+get_missing : {A : Type 0} → (xs : List A) (n : ℕ) → n < length xs → slice_get xs n ≡ None → ⊥
+get_missing [] n h e = absurd (omega (arith, h))
+get_missing (y ∷ xs) zero h e = cc
+get_missing (y ∷ xs) (suc n) h e = get_missing xs n (omega (arith, h)) e
+
+-- the first of rising numbers is the least, the last one the greatest
+first_least : (c : ℕ) (xs : List ℕ) → Rises Less xs → first xs ≡ Some c → (j : ℕ) → IsIn j xs → c ≤ j
+first_least c [] h e j g = absurd g
+first_least c (x ∷ xs) h e j (inl is) = let same : x ≡ c = cc in omega (arith, same, is)
+first_least c (x ∷ xs) h e j (inr g) = let same : x ≡ c = cc in let less = h.0 j g in omega (arith, same, less)
+
+last_greatest : (c : ℕ) (xs : List ℕ) → Rises Less xs → last xs ≡ Some c → (j : ℕ) → IsIn j xs → j ≤ c
+last_greatest c [] h e j g = absurd g
+last_greatest c (x ∷ xs) h e j (inl is) = onward (last_in c (x ∷ xs) e) where
+  onward : IsIn c (x ∷ xs) → j ≤ c
+  onward (inl same) = omega (arith, same, is)
+  onward (inr there) = let less = h.0 c there in omega (arith, less, is)
+last_greatest c (x ∷ xs) h e j (inr g) = onward (last xs) refl (λ f. last_greatest c xs h.1 f j g) e where
+  onward : (o : Option ℕ) → last xs ≡ o → (last xs ≡ Some c → j ≤ c) → Some (unwrap_or o x) ≡ Some c → j ≤ c
+  onward None is rest e =
+      let empty : xs ≡ [] = last-none xs is in absurd (subst (λ (ys : List ℕ). IsIn j ys) empty g)
+  onward (Some z) is rest e = let same : z ≡ c = cc in rest (is ∙ ap Some same)
+
+with_net_rises : (H : List Event) (o n : ℕ) → Rises Less (with_net H o n)
+with_net_rises H o n = rises_filter Less (is_at_net H o n) (range_with_len 0 (length (changes H o))) (rises_range 0 (length (changes H o)))
+
+in_with_net : (H : List Event) (o n j : ℕ) → j < length (changes H o) → net H o j ≡ n → IsIn j (with_net H o n)
+unfolding is_at_net
+in_with_net H o n j within is =
+    in_filter (is_at_net H o n) j (range_with_len 0 (length (changes H o))) (in_range j 0 (length (changes H o)) (omega arith) (omega (arith, within)))
+    (eq-eqb (net H o j) n is)
+
+of_with_net : (H : List Event) (o n j : ℕ) → IsIn j (with_net H o n) → (j < length (changes H o)) × (net H o j ≡ n)
+unfolding is_at_net
+of_with_net H o n j h =
+    let from = of_filter (is_at_net H o n) j (range_with_len 0 (length (changes H o))) h in
+    let range = of_range j 0 (length (changes H o)) from.0 in
+    (omega (arith, range.1), eqb-true (net H o j) n from.1)
+
+-- a net that isn't what it was before an attempt is what it is after it
+other_net : (w : Way) (n : ℕ) → n ≤ 1 → (n ≡ net_before w → ⊥) → n ≡ net_after w
+other_net Forward zero few not_before = absurd (not_before refl)
+other_net Forward (suc n) few not_before = omega (arith, few)
+other_net Undo n few not_before = by_test (n == 1)
+    (λ same. absurd (not_before (eqb-true n 1 same)))
+    (λ other. let differ : n ≢ 1 = false-eqb n 1 (sym other) in omega (arith, few, differ))
+
+-- every change that goes before the chosen one stands on its right side of it
+abbrev Chosen : Way → ℕ → ℕ → Type 0
+Chosen Forward c j = c ≤ j
+Chosen Undo c j = j ≤ c
+
+before_chosen : (w : Way) (xs : List Change) (c j : ℕ) (x y : Change) → Rises Before xs → slice_get xs c ≡ Some x → slice_get xs j ≡ Some y
+    → goes_before w x.phase y ≡ true → Chosen w c j → ⊥
+before_chosen Forward xs c j x y h ex ey goes chosen = by_test (c == j)
+    (λ same.
+    let is : c ≡ j = eqb-true c j same in
+    let one : Some x ≡ Some y = sym ex ∙ (ap (λ (n : ℕ). slice_get xs n) is ∙ ey) in
+    let equal : x ≡ y = cc in
+    let less = ltb-true y.phase x.phase goes in
+    let phases : x.phase ≡ y.phase = ap (λ (z : Change). z.phase) equal in absurd (omega (arith, less, phases)))
+    (λ other.
+    let differ : c ≢ j = false-eqb c j (sym other) in
+    let lower = before_phase x y (rises_get Before xs c j x y h ex ey (omega (arith, chosen, differ))) in
+    let less = ltb-true y.phase x.phase goes in absurd (omega (arith, less, lower)))
+before_chosen Undo xs c j x y h ex ey goes chosen = by_test (c == j)
+    (λ same.
+    let is : c ≡ j = eqb-true c j same in
+    let one : Some x ≡ Some y = sym ex ∙ (ap (λ (n : ℕ). slice_get xs n) is ∙ ey) in
+    let equal : x ≡ y = cc in
+    let less = ltb-true x.phase y.phase goes in
+    let phases : x.phase ≡ y.phase = ap (λ (z : Change). z.phase) equal in absurd (omega (arith, less, phases)))
+    (λ other.
+    let differ : c ≢ j = false-eqb c j (sym other) in
+    let lower = before_phase y x (rises_get Before xs j c y x h ey ex (omega (arith, chosen, differ))) in
+    let less = ltb-true x.phase y.phase goes in absurd (omega (arith, less, lower)))
+
+-- the chosen change is the least, or the greatest, that waits
+abbrev IsChosen : List Event → ℕ → Way → ℕ → Type 0
+IsChosen H o w c = IsIn c (with_net H o (net_before w)) × ((j : ℕ) → IsIn j (with_net H o (net_before w)) → Chosen w c j)
+
+or_true_right : (a b : Bool) → b ≡ true → (a || b) ≡ true
+or_true_right true b e = refl
+or_true_right false b e = e
+
+through : (m : ℕ) (H : List Event) (o : ℕ) (w : Way) (c : ℕ) (x : Change) → IsLegal m H → IsChosen H o w c → slice_get (changes H o) c ≡ Some x
+    → all_through H o w x.phase ≡ true
+unfolding is_through
+through m H o w c x legal chosen is =
+    all_placed (is_through H o w x.phase) 0 (changes H o) (λ j y e. by_test (goes_before w x.phase y)
+    (λ goes.
+    let shift : 0 + j ≡ j = omega arith in
+    let after : net H o j ≡ net_after w =
+    other_net w (net H o j) (made_at_most_once m H legal o j).net (λ waits.
+    before_chosen w (changes H o) c j x y (changes_rise m H o legal) is e goes
+    (chosen.1 j (in_with_net H o (net_before w) j (get_within y (changes H o) j e) waits))) in
+    rw shift (or_true_right (not (goes_before w x.phase y)) (net H o j == net_after w) (eq-eqb (net H o j) (net_after w) after)))
+    (λ stays. rw stays refl))
+
+turn_of : (m : ℕ) (H : List Event) (o : ℕ) (w : Way) (c : ℕ) → IsLegal m H → IsChosen H o w c → (x : Option Change) → slice_get (changes H o) c ≡ x
+    → IsTurnOf H (new_tag H o w c) x
+turn_of m H o w c legal chosen None is = get_missing (changes H o) c (of_with_net H o (net_before w) c chosen.0).0 is
+turn_of m H o w c legal chosen (Some x) is = ((of_with_net H o (net_before w) c chosen.0).1, through m H o w c x legal chosen is)
+
+none_of_change : (H : List Event) (o c : ℕ) → open_of H o ≡ [] → open_attempts H o c ≡ []
+none_of_change H o c none = empty (open_attempts H o c) (λ t h.
+    let from = of_filter (is_of o c) t (open_tags H) h in
+    absurd (subst (λ (ts : List Tag). IsIn t ts) none
+    (in_filter (is_of_occurrence o) t (open_tags H) from.0 (and_left (t.occ == o) (t.change == c) from.1)))) where
+      empty : (ts : List Tag) → ((t : Tag) → IsIn t ts → ⊥) → ts ≡ []
+      empty [] f = refl
+      empty (t ∷ ts) f = absurd (f t (inl refl))
+
+may_begin : (m : ℕ) (H : List Event) (o : ℕ) (w : Way) (c : ℕ) → IsLegal m H → state H o ≡ works_in w → open_of H o ≡ []
+    → (has_trouble H o || is_cancelled H o) ≡ false → IsChosen H o w c → MayBegin H (new_tag H o w c)
+may_begin m H o w c legal works none quiet chosen = record {
+  works = works;
+  no_trouble = or_left_false (has_trouble H o) (is_cancelled H o) quiet;
+  no_cancel = or_right_false (has_trouble H o) (is_cancelled H o) quiet;
+  room = (let n : length (open_of H o) ≡ 0 = ap length none in omega (arith, n));
+  none_open = none_of_change H o c none;
+  number = refl;
+  turn = turn_of m H o w c legal chosen (slice_get (changes H o) c) refl;
+}
+
+legal_beginning : (m : ℕ) (H : List Event) (now : ℕ) (t : Tag) (answer : Answer) → IsLegal m H → MayBegin H t → IsLegal m (with_events now (beginning t answer) H)
+legal_beginning m H now t BeginTaken legal may = (may, legal)
+legal_beginning m H now t (BeginRefused code) legal may = (fresh_open m H now legal t may.number, (may, legal))
+legal_beginning m H now t BeginFailed legal may = ((fresh_open m H now legal t may.number, fresh_unfailed m H legal t may.number), (may, legal))
+legal_beginning m H now t _ legal may = legal
+
+quiet_now : (H : List Event) (o : ℕ) → open_of H o ≡ [] → (has_trouble H o || is_cancelled H o) ≡ false → IsQuiet H o
+quiet_now H o none quiet = record {
+  none_open = none;
+  no_trouble = or_left_false (has_trouble H o) (is_cancelled H o) quiet;
+  no_cancel = or_right_false (has_trouble H o) (is_cancelled H o) quiet;
+}
+
+all_after : (m : ℕ) (H : List Event) (o : ℕ) (w : Way) → IsLegal m H → with_net H o (net_before w) ≡ [] → all_have_net H o (net_after w) ≡ true
+unfolding has_net
+all_after m H o w legal none =
+    all_placed (has_net H o (net_after w)) 0 (changes H o) (λ j y e.
+    let shift : 0 + j ≡ j = omega arith in
+    let after : net H o j ≡ net_after w =
+    other_net w (net H o j) (made_at_most_once m H legal o j).net (λ waits.
+    absurd (subst (λ (ns : List ℕ). IsIn j ns) none (in_with_net H o (net_before w) j (get_within y (changes H o) j e) waits))) in
+    rw shift (eq-eqb (net H o j) (net_after w) after))
+
+-- where the work of an occurrence ends
+abbrev end_of : Way → OpState
+end_of Forward = Completed
+end_of Undo = RolledBack
+
+may_end : (m : ℕ) (H : List Event) (o : ℕ) (w : Way) → IsLegal m H → open_of H o ≡ [] → (has_trouble H o || is_cancelled H o) ≡ false
+    → with_net H o (net_before w) ≡ [] → MayMove H o (works_in w) (end_of w)
+may_end m H o Forward legal none quiet done = (quiet_now H o none quiet, all_after m H o Forward legal done)
+may_end m H o Undo legal none quiet done = (quiet_now H o none quiet, all_after m H o Undo legal done)
+
+may_stop : (H : List Event) (o : ℕ) (w : Way) → HasStopped H o → MayMove H o (works_in w) FailedTemp
+may_stop H o Forward h = h
+may_stop H o Undo h = h
+
+-- the number of the change that is chosen
+abbrev choice : Way → List ℕ → Option ℕ
+choice Forward ns = first ns
+choice Undo ns = last ns
+
+chosen_is : (H : List Event) (o : ℕ) (w : Way) (c : ℕ) → choice w (with_net H o (net_before w)) ≡ Some c → IsChosen H o w c
+chosen_is H o Forward c e = (first_in c (with_net H o 0) e, λ j h. first_least c (with_net H o 0) (with_net_rises H o 0) e j h)
+chosen_is H o Undo c e = (last_in c (with_net H o 1) e, λ j h. last_greatest c (with_net H o 1) (with_net_rises H o 1) e j h)
+
+chosen_none : (w : Way) (ns : List ℕ) → choice w ns ≡ None → ns ≡ []
+chosen_none Forward ns e = first-nil ns e
+chosen_none Undo ns e = last-none ns e
+
+-- what is done at work in either way
+abbrev work_lines : List Event → ℕ → Way → List (Option Action)
+work_lines H o w = option_map (begin_of H o w) (choice w (with_net H o (net_before w))) ∷ Some (MoveTo (end_of w)) ∷ []
+
+fine_work : (m : ℕ) (H : List Event) (o now : ℕ) (answer : Answer) (action : Action) (w : Way) → IsLegal m H → is_some (operation H o) ≡ true
+    → state H o ≡ works_in w → next_at_work H o (work_lines H o w) ≡ Some action → IsFine m H o now answer action
+fine_work m H o now answer action w legal asked is e = look (pick_map (look_at (is_forced H o)) (first_open H o) action _ e) where
+  begin : open_of H o ≡ [] → (has_trouble H o || is_cancelled H o) ≡ false
+      → ((c : ℕ) × (choice w (with_net H o (net_before w)) ≡ Some c) × (begin_of H o w c ≡ action))
+      ⊎ ((choice w (with_net H o (net_before w)) ≡ None) × (first_some (Some (MoveTo (end_of w)) ∷ []) ≡ Some action)) → IsFine m H o now answer action
+  begin none quiet (inl h) =
+      subst (λ (a : Action). IsFine m H o now answer a) h.2
+      (legal_beginning m H now (new_tag H o w h.0) answer legal (may_begin m H o w h.0 legal is none quiet (chosen_is H o w h.0 h.1)))
+  begin none quiet (inr h) =
+      let same : MoveTo (end_of w) ≡ action = cc in
+      subst (λ (a : Action). IsFine m H o now answer a) same
+      (fine_move m H o now answer (works_in w) (end_of w) legal asked is (may_end m H o w legal none quiet (chosen_none w (with_net H o (net_before w)) h.0)))
+
+  stop : open_of H o ≡ [] → (((has_trouble H o || is_cancelled H o) ≡ true) × (MoveTo FailedTemp ≡ action))
+      ⊎ (((has_trouble H o || is_cancelled H o) ≡ false) × (first_some (work_lines H o w) ≡ Some action)) → IsFine m H o now answer action
+  stop none (inl h) =
+      subst (λ (a : Action). IsFine m H o now answer a) h.1
+      (fine_move m H o now answer (works_in w) FailedTemp legal asked is (may_stop H o w (record { none_open = none; cause = h.0 })))
+  stop none (inr h) = begin none h.0 (pick_map (begin_of H o w) (choice w (with_net H o (net_before w))) action _ h.1)
+
+  look : ((t : Tag) × (first_open H o ≡ Some t) × (look_at (is_forced H o) t ≡ action))
+      ⊎ ((first_open H o ≡ None) × (first_some (when (has_trouble H o || is_cancelled H o) (MoveTo FailedTemp) ∷ work_lines H o w) ≡ Some action))
+      → IsFine m H o now answer action
+  look (inl h) =
+      subst (λ (a : Action). IsFine m H o now answer a) h.2 (fine_look m H o now h.0 answer (is_forced H o) legal (first_open-open H o h.0 h.1))
+  look (inr h) =
+      stop (last-none (open_of H o) h.0) (pick_when (has_trouble H o || is_cancelled H o) (MoveTo FailedTemp) action _ h.1)
+
+fine_in : (m : ℕ) (H : List Event) (o now : ℕ) (answer : Answer) (action : Action) (s : OpState) → IsLegal m H → is_some (operation H o) ≡ true
+    → IsAnswer H o answer → state H o ≡ s → next_in s H o ≡ Some action → IsFine m H o now answer action
+fine_in m H o now answer action Starting legal asked good is e = fine_starting m H o now answer action legal asked is good e
+fine_in m H o now answer action Processing legal asked good is e = fine_work m H o now answer action Forward legal asked is e
+fine_in m H o now answer action RollingBack legal asked good is e = fine_work m H o now answer action Undo legal asked is e
+fine_in m H o now answer action _ legal asked good is e = cc
+
+-- the events of the next action are allowed
+pub next_legal : (m : ℕ) (H : List Event) → IsLegal m H → (o now : ℕ) (action : Action) (answer : Answer) → is_some (operation H o) ≡ true
+    → next_action H o ≡ Some action → IsAnswer H o answer → IsLegal m (with_events now (appended o action answer) H)
+next_legal m H legal o now action answer asked e good = fine_in m H o now answer action (state H o) legal asked good refl e
+
+some_line : {A : Type 0} → (o : Option A) (lines : List (Option A)) → is_some (first_some lines) ≡ true → is_some (first_some (o ∷ lines)) ≡ true
+some_line None lines h = h
+some_line (Some x) lines h = refl
+
+active_acts_in : (H : List Event) (o : ℕ) (s : OpState) → is_some (next_in s H o) ≡ is_active s
+active_acts_in H o Starting = some_line (when (gives_up H o) (MoveTo RolledBack)) _ (some_line (when (is_granted H o) (MoveTo Processing)) _ (some_line (when (is_some (location H o)) Poll) _ refl))
+active_acts_in H o Processing =
+    some_line (option_map (look_at (is_forced H o)) (first_open H o)) _
+    (some_line (when (has_trouble H o || is_cancelled H o) (MoveTo FailedTemp)) _
+    (some_line (option_map (begin_of H o Forward) (first (with_net H o 0))) _ refl))
+active_acts_in H o RollingBack =
+    some_line (option_map (look_at (is_forced H o)) (first_open H o)) _
+    (some_line (when (has_trouble H o || is_cancelled H o) (MoveTo FailedTemp)) _
+    (some_line (option_map (begin_of H o Undo) (last (with_net H o 1))) _ refl))
+active_acts_in H o _ = refl
+
+-- an active occurrence has a next action
+pub active_acts : (H : List Event) (o : ℕ) → is_some (next_action H o) ≡ is_active (state H o)
+active_acts H o = active_acts_in H o (state H o)

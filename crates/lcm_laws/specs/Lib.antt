@@ -1,0 +1,8 @@
+pub mod Beginnings
+pub mod Paths
+pub mod Numbering
+pub mod Operating
+pub mod Nets
+pub mod Planning
+pub mod Standing
+pub mod Acting

@@ -1,0 +1,47 @@
+-- The changes of an operation are exactly what is planned, in order (own rule).
+use Rattle.std.specs.Prelude.{List, Some, [], length, ℕ, ◌++◌, ◌↔◌, ◌∷◌, ◌≡◌, ◌≤◌}
+use Rattle.lcm_events.specs.declared.changes.Change.{Change}
+use Rattle.lcm_events.specs.declared.descriptor.Vnfd.{Vnfd}
+use Rattle.lcm_events.specs.declared.events.Event.{Event}
+use Rattle.lcm_events.specs.declared.events.EventKind.TheVariants.{Asked}
+use Rattle.lcm_events.specs.declared.events.Operation.{Operation}
+use Rattle.lcm_model.specs.Allowed.{IsLegal}
+use Rattle.lcm_model.specs.Descriptors.{IsValid}
+use Rattle.lcm_model.specs.Lives.{descriptor}
+use Rattle.lcm_model.specs.Operations.{operations}
+use Rattle.lcm_model.specs.Planned.{AreInOrder, IsPlan, IsPlanned}
+use Rattle.lcm_model.specs.Plans.{Case, plan}
+use Rattle.lcm_model.specs.Refusals.{case_in, situation}
+use Rattle.lcm_model.specs.Words.{IsIn}
+
+-- a change is in the plan exactly where it is planned (own rule)
+abbrev pub PlansAreExact : Type 0
+PlansAreExact = (p : Case) (x : Change) → IsIn x (plan p) ↔ IsPlanned p x
+
+-- the plan over a valid descriptor is sorted (own rule)
+abbrev pub PlansAreSorted : Type 0
+PlansAreSorted = (p : Case) → IsValid p.vnfd → AreInOrder (plan p)
+
+-- no two of these changes are equal (own rule)
+abbrev pub AreDistinct : List Change → Type 0
+AreDistinct [] = Unit {0}
+AreDistinct (x ∷ xs) = (IsIn x xs → ⊥) × AreDistinct xs
+
+-- no two changes of the plan over a valid descriptor are equal (own rule)
+abbrev pub PlansAreDistinct : Type 0
+PlansAreDistinct = (p : Case) → IsValid p.vnfd → AreDistinct (plan p)
+
+-- the operation was asked for after this history over a valid descriptor, with exactly its plan (own rule)
+abbrev pub HasPlan : List Event → Operation → Type 0
+HasPlan H a =
+    (d : Vnfd) × (descriptor H a.instance ≡ Some d) × IsValid d × IsPlan (case_in d (situation d H a.instance) a.ask) a.changes
+
+-- in a legal history each operation has the changes that were planned when it was asked for (own rule)
+abbrev pub OperationsHavePlans : Type 0
+OperationsHavePlans =
+    (m : ℕ) (H later : List Event) (time : ℕ) (a : Operation)
+    → IsLegal m (later ++ record { moment = time; kind = Asked a } ∷ H) → HasPlan H a
+
+-- in a legal history no operation has more than 5,000 changes (own limit)
+abbrev pub PlansAreSmall : Type 0
+PlansAreSmall = (m : ℕ) (H : List Event) → IsLegal m H → (a : Operation) → IsIn a (operations H) → length a.changes ≤ 5000

@@ -1,0 +1,38 @@
+//! The changes of an operation are exactly what is planned, in order.
+
+ghost use Rattle.lcm_laws.specs.Planning.{OperationsHavePlans, PlansAreDistinct, PlansAreExact, PlansAreSmall, PlansAreSorted};
+
+/// A change is in the plan exactly where it is planned.
+///
+/// Source: own rule.
+pub fn plans_are_exact()
+    ensures { PlansAreExact }
+{}
+
+/// A plan over a valid descriptor is sorted by phase, VDU, serial and item.
+///
+/// Source: own rule.
+pub fn plans_are_sorted()
+    ensures { PlansAreSorted }
+{}
+
+/// No two changes of a plan over a valid descriptor are equal.
+///
+/// Source: own rule.
+pub fn plans_are_distinct()
+    ensures { PlansAreDistinct }
+{}
+
+/// Each operation has exactly the changes that were planned when it was asked for, in order.
+///
+/// Source: own rule.
+pub fn operations_have_plans()
+    ensures { OperationsHavePlans }
+{}
+
+/// No operation has more than 5,000 changes.
+///
+/// Source: own limit.
+pub fn plans_are_small()
+    ensures { PlansAreSmall }
+{}

@@ -1,0 +1,24 @@
+//! What stands of an instance.
+
+ghost use Rattle.lcm_laws.specs.Standing.{DeletedInstancesHoldNothing, IdleInstancesHoldNothing, WhatStandsIsOfTheDescriptor};
+
+/// What stands of an instance is of its descriptor, with a serial up to the greatest.
+///
+/// Source: own rule.
+pub fn what_stands_is_of_the_descriptor()
+    ensures { WhatStandsIsOfTheDescriptor }
+{}
+
+/// An instance that is NOT_INSTANTIATED without an operation that goes on holds nothing.
+///
+/// Source: SOL 003 5.5.2.2 (VnfInstance, instantiationState).
+pub fn idle_instances_hold_nothing()
+    ensures { IdleInstancesHoldNothing }
+{}
+
+/// A deleted instance holds nothing.
+///
+/// Source: SOL 003 5.4.3 (Individual VNF instance).
+pub fn deleted_instances_hold_nothing()
+    ensures { DeletedInstancesHoldNothing }
+{}
