@@ -101,7 +101,7 @@ pub(crate) fn push_defs(
 
 /// Puts the definitions of a machine last: its storages, its compute, its ports.
 ///
-/// Source: docs/MODEL.md, "Machines".
+/// Source: docs/MODEL.md, "Machines, whole and partial".
 pub fn push_machine(
     list: &mut Vec<Def>,
     vnfd: &Vnfd,
@@ -203,7 +203,7 @@ fn one_stands(events: &[Event], instance: u64, defs: &[Def]) -> bool
 
 /// Whether all definitions of a machine stand.
 ///
-/// Source: docs/MODEL.md, "Machines".
+/// Source: docs/MODEL.md, "Machines, whole and partial".
 pub fn is_whole_in(
     alloc: Global,
     vnfd: &Vnfd,
@@ -221,7 +221,7 @@ pub fn is_whole_in(
 
 /// Whether some definition of a machine stands.
 ///
-/// Source: docs/MODEL.md, "Machines".
+/// Source: docs/MODEL.md, "Machines, whole and partial".
 pub fn is_there_in(
     alloc: Global,
     vnfd: &Vnfd,
@@ -239,7 +239,7 @@ pub fn is_there_in(
 
 /// Whether some but not all definitions of a machine stand.
 ///
-/// Source: docs/MODEL.md, "Machines".
+/// Source: docs/MODEL.md, "Machines, whole and partial".
 pub fn is_partial_in(
     alloc: Global,
     vnfd: &Vnfd,
@@ -258,7 +258,7 @@ pub fn is_partial_in(
 
 /// The serials of a VDU of which something stands, rising.
 ///
-/// Source: docs/MODEL.md, "Machines".
+/// Source: docs/MODEL.md, "Machines, whole and partial".
 pub fn there_in(
     alloc: Global,
     vnfd: &Vnfd,
@@ -353,7 +353,7 @@ fn all_links_stand(vnfd: &Vnfd, events: &[Event], instance: u64) -> bool
 
 /// Whether the instance is in step at these levels: each VDU is, and every link stands.
 ///
-/// Source: docs/MODEL.md, "Machines".
+/// Source: docs/MODEL.md, "Machines, whole and partial".
 pub fn is_in_step_in(
     alloc: Global,
     vnfd: &Vnfd,
