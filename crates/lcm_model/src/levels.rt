@@ -106,7 +106,8 @@ fn added_in(vdu: u16, aspects: &[Aspect], levels: &[u32]) -> u32
 pub fn count_in(vnfd: &Vnfd, vdu: u16, levels: &[u32]) -> u32
     requires valid { IsValid vnfd.now }
     requires levels { are_levels_of vnfd.now levels.now ≡ true }
-    ensures { result ≡ count vnfd.now vdu levels.now }
+    ensures value { result ≡ count vnfd.now vdu levels.now }
+    ensures bound { result ≤ 1048625535 }
 {
     initial_of(vnfd, vdu) + added_in(vdu, vnfd.aspects.as_slice(), levels)
 }

@@ -1,0 +1,13 @@
+use Rattle.std.proofs.Common.{reverse, sym, subst}
+use Rattle.std.specs.Prelude.{IsTrue, ◌↔◌}
+use Rattle.lcm_events.specs.declared.events.EventKind.{EventKind}
+use Rattle.lcm_judge.proofs.HistoryLaws.{legal_valid}
+use Rattle.lcm_model.specs.Allowed.{IsAllowed}
+use Rattle.lcm_judge.proofs.judge.is_allowed.Goals as goal
+
+pub may_ask-requires-clause-valid : goal.may_ask-requires-clause-valid
+may_ask-requires-clause-valid c = legal_valid c.args.manager (reverse c.args.events.now) c.requires.legal
+
+pub returns-in-Posted : goal.returns-in-Posted
+returns-in-Posted c =
+    subst (λ (k : EventKind). IsTrue c.may_post.result ↔ IsAllowed c.args.manager (reverse c.args.events.now) k) (sym c.in-Posted.is) c.may_post.ensures

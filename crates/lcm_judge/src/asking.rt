@@ -1,0 +1,128 @@
+//! Whether an operation may be asked for.
+
+ghost use Rattle.std.specs.Prelude.{◌≡◌, ◌↔◌, IfOk, IfSome, IsTrue, None, Some, option_copied, reverse};
+ghost use Rattle.std.specs.Cmp.Lexicographic.{pointwise};
+ghost use Rattle.lcm_events.specs.Same.{same_change};
+ghost use Rattle.lcm_judge.specs.Judged.{HasValidDescriptors};
+ghost use Rattle.lcm_model.specs.Allowed.{IsPlanOf, MayAsk};
+ghost use Rattle.lcm_model.specs.Descriptors.{IsValid};
+ghost use Rattle.lcm_model.specs.Lives.{descriptor};
+ghost use Rattle.lcm_model.specs.Plans.{plan};
+ghost use Rattle.lcm_model.specs.Refusals.{ask_refusal, case_in, situation};
+ghost use Rattle.lcm_plans.specs.Cases.{HasSmallSerials};
+
+use lcm_events::{Change, Event, Operation, Vnfd};
+use lcm_model::{count_operations, descriptor_of, is_live_in};
+use lcm_plans::{ask_refusal_in, plan_of_ask};
+use std::alloc::{AllocError, Global};
+
+/// Whether two changes are the same.
+fn is_same(a: &Change, b: &Change) -> bool
+    ensures { result ≡ same_change a.now b.now }
+{
+    *a == *b
+}
+
+/// Whether two lists have the same changes.
+#[tactic(auto, using(crate::proofs::ChangeLaws::other_length))]
+fn are_equal(a: &[Change], b: &[Change]) -> bool
+    ensures { result ≡ pointwise same_change a.now b.now }
+{
+    if a.len() != b.len() {
+        return false;
+    }
+    for (at, change) in a.iter().enumerate() {
+        if !is_same(change, &b[at]) {
+            return false;
+        }
+    }
+    true
+}
+
+/// Whether two lists of changes are equal.
+fn are_same(a: &[Change], b: &[Change]) -> bool
+    ensures { IsTrue result ↔ (a.now ≡ b.now) }
+{
+    are_equal(a, b)
+}
+
+/// Whether an ask isn't refused.
+fn is_accepted(
+    alloc: Global,
+    vnfd: &Vnfd,
+    events: &[Event],
+    operation: &Operation,
+) -> Result<bool, AllocError>
+    requires valid { IsValid vnfd.now }
+    requires serials { HasSmallSerials (reverse events.now) operation.now.instance }
+    ensures { IfOk result (λ yes. IsTrue yes ↔ (ask_refusal vnfd.now (situation vnfd.now (reverse events.now) operation.now.instance) operation.now.ask ≡ None)) }
+{
+    let refusal = ask_refusal_in(alloc, vnfd, events, operation.instance, &operation.ask)?;
+    Ok(refusal.is_none())
+}
+
+/// Whether the operation's changes are its plan.
+fn has_plan(
+    alloc: Global,
+    vnfd: &Vnfd,
+    events: &[Event],
+    operation: &Operation,
+) -> Result<bool, AllocError>
+    requires valid { IsValid vnfd.now }
+    requires serials { HasSmallSerials (reverse events.now) operation.now.instance }
+    ensures { IfOk result (λ yes. IsTrue yes ↔ (operation.now.changes ≡ plan (case_in vnfd.now (situation vnfd.now (reverse events.now) operation.now.instance) operation.now.ask))) }
+{
+    let plan = plan_of_ask(alloc, vnfd, events, operation.instance, &operation.ask)?;
+    Ok(are_same(operation.changes.as_slice(), plan.as_slice()))
+}
+
+/// Whether an ask isn't refused, and the operation's changes are its plan.
+fn is_plan_of(
+    alloc: Global,
+    vnfd: &Vnfd,
+    events: &[Event],
+    operation: &Operation,
+) -> Result<bool, AllocError>
+    requires valid { IsValid vnfd.now }
+    requires serials { HasSmallSerials (reverse events.now) operation.now.instance }
+    ensures { IfOk result (λ yes. IsTrue yes ↔ IsPlanOf (reverse events.now) operation.now (Some vnfd.now)) }
+{
+    let accepted = is_accepted(alloc, vnfd, events, operation)?;
+    let planned = has_plan(alloc, vnfd, events, operation)?;
+    Ok(accepted && planned)
+}
+
+/// The descriptor of an instance, which is valid.
+fn valid_descriptor_of(events: &[Event], instance: u64) -> Option<&Vnfd>
+    requires { HasValidDescriptors (reverse events.now) }
+    ensures value { option_copied result ≡ descriptor (reverse events.now) instance }
+    ensures valid { IfSome result (λ d. IsValid d.now) }
+{
+    descriptor_of(events, instance)
+}
+
+/// Whether an operation is accepted with its plan.
+fn is_planned(alloc: Global, events: &[Event], operation: &Operation) -> Result<bool, AllocError>
+    requires valid { HasValidDescriptors (reverse events.now) }
+    requires serials { HasSmallSerials (reverse events.now) operation.now.instance }
+    ensures { IfOk result (λ yes. IsTrue yes ↔ IsPlanOf (reverse events.now) operation.now (descriptor (reverse events.now) operation.now.instance)) }
+{
+    match valid_descriptor_of(events, operation.instance) {
+        Some(vnfd) => is_plan_of(alloc, vnfd, events, operation),
+        None => Ok(false),
+    }
+}
+
+/// Whether an operation may be asked for.
+///
+/// Source: SOL 003 5.4.4 to 5.4.10 (the tasks of an individual VNF instance).
+pub fn may_ask(alloc: Global, events: &[Event], operation: &Operation) -> Result<bool, AllocError>
+    requires valid { HasValidDescriptors (reverse events.now) }
+    requires serials { HasSmallSerials (reverse events.now) operation.now.instance }
+    ensures { IfOk result (λ yes. IsTrue yes ↔ MayAsk (reverse events.now) operation.now) }
+{
+    let made = count_operations(events);
+    let live = is_live_in(events, operation.instance);
+    let planned = is_planned(alloc, events, operation)?;
+    Ok(made < operation.occ && operation.occ - made == 1 && live && planned)
+}

@@ -1,0 +1,166 @@
+//! Whether a filter lets a notice through.
+
+ghost use Rattle.std.specs.Prelude.{◌≡◌, ◌==◌};
+ghost use Rattle.lcm_events.specs.Same.{same_name, same_state};
+ghost use Rattle.lcm_judge.specs.Facts.{facts_in};
+ghost use Rattle.lcm_model.specs.Notices.{admits, admits_given, admits_if_given, instance_text, is_type_of, matches, notice_number};
+ghost use Rattle.std.specs.List.{list_any};
+ghost use Rattle.vnfm_base.specs.Ident.{IsIdentNumber};
+
+use crate::notices::Facts;
+use lcm_events::{Filter, NoticeKind, OpKind, OpState, OperationType};
+use vnfm_base::{Kind, Name, ident, ident_text};
+
+/// Whether one of the names is this one.
+fn is_named(names: &[Name], name: &Name) -> bool
+    ensures { result ≡ list_any (same_name name.now) names.now }
+{
+    for other in names {
+        if *name == *other {
+            return true;
+        }
+    }
+    false
+}
+
+/// Whether a list of names admits this one.
+#[tactic(auto, using(crate::proofs::AdmitLaws::admits_by))]
+fn admits_name(names: &[Name], name: &Name) -> bool
+    ensures { result ≡ admits names.now (same_name name.now) }
+{
+    let named = is_named(names, name);
+    names.len() == 0 || named
+}
+
+/// Whether one of the texts is this one.
+fn is_text(texts: &[Name], text: &[u8]) -> bool
+    ensures { result ≡ list_any (same_name text.now) texts.now }
+{
+    for other in texts {
+        if text == other.as_bytes() {
+            return true;
+        }
+    }
+    false
+}
+
+/// Whether a list of the texts of instances' identifiers admits the instance.
+#[tactic(auto, using(crate::proofs::AdmitLaws::admits_by))]
+fn admits_instance(texts: &[Name], manager: u32, instance: u64) -> bool
+    requires { IsIdentNumber instance }
+    ensures { result ≡ admits texts.now (same_name (instance_text manager instance)) }
+{
+    let text = ident_text(&ident(manager, Kind::Instance, instance));
+    let named = is_text(texts, &text);
+    texts.len() == 0 || named
+}
+
+/// Whether a list of names admits one that may be absent.
+#[tactic(auto, using(crate::proofs::AdmitLaws::admits_none))]
+fn admits_name_given(names: &[Name], name: &Option<Name>) -> bool
+    ensures { result ≡ admits_given names.now same_name name.now }
+{
+    match name {
+        Some(name) => admits_name(names, name),
+        None => names.len() == 0,
+    }
+}
+
+/// Whether one of the kinds is this one.
+fn is_kind(kinds: &[NoticeKind], which: NoticeKind) -> bool
+    ensures { result ≡ list_any (λ k. notice_number which == notice_number k) kinds.now }
+{
+    for kind in kinds {
+        if which == *kind {
+            return true;
+        }
+    }
+    false
+}
+
+/// Whether a list of kinds of notices admits this one.
+#[tactic(auto, using(crate::proofs::AdmitLaws::admits_by))]
+fn admits_kind(kinds: &[NoticeKind], which: NoticeKind) -> bool
+    ensures { result ≡ admits kinds.now (λ k. notice_number which == notice_number k) }
+{
+    let named = is_kind(kinds, which);
+    kinds.len() == 0 || named
+}
+
+/// Whether the operation type that a filter names is that of the operation.
+fn is_type(op: OpKind, kind: &OperationType) -> bool
+    ensures { result ≡ is_type_of op kind.now }
+{
+    match kind {
+        OperationType::Of(named) => op == *named,
+        OperationType::ChangeExtConn | OperationType::ModifyInfo => false,
+    }
+}
+
+/// Whether one of the operation types is that of the operation.
+fn is_one_type(kinds: &[OperationType], op: OpKind) -> bool
+    ensures { result ≡ list_any (is_type_of op) kinds.now }
+{
+    for kind in kinds {
+        if is_type(op, kind) {
+            return true;
+        }
+    }
+    false
+}
+
+/// Whether a list of operation types asks nothing of the notice or admits its operation.
+#[tactic(auto, using(crate::proofs::AdmitLaws::admits_by))]
+fn admits_type(kinds: &[OperationType], op: Option<OpKind>) -> bool
+    ensures { result ≡ admits_if_given kinds.now is_type_of op }
+{
+    match op {
+        Some(op) => {
+            let named = is_one_type(kinds, op);
+            kinds.len() == 0 || named
+        }
+        None => true,
+    }
+}
+
+/// Whether one of the states is this one.
+fn is_state(states: &[OpState], state: OpState) -> bool
+    ensures { result ≡ list_any (same_state state) states.now }
+{
+    for other in states {
+        if state == *other {
+            return true;
+        }
+    }
+    false
+}
+
+/// Whether a list of states asks nothing of the notice or admits its state.
+#[tactic(auto, using(crate::proofs::AdmitLaws::admits_by))]
+fn admits_state(states: &[OpState], state: Option<OpState>) -> bool
+    ensures { result ≡ admits_if_given states.now same_state state }
+{
+    match state {
+        Some(state) => {
+            let named = is_state(states, state);
+            states.len() == 0 || named
+        }
+        None => true,
+    }
+}
+
+/// Whether the filter lets the notice through: each of its lists does.
+///
+/// Source: SOL 003 5.5.3 (LifecycleChangeNotificationsFilter).
+pub fn matches_in(manager: u32, filter: &Filter, facts: &Facts) -> bool
+    requires { IsIdentNumber facts.now.instance }
+    ensures { result ≡ matches manager filter.now (facts_in facts.now) }
+{
+    let vnfds = admits_name(filter.vnfds.as_slice(), &facts.vnfd);
+    let instances = admits_instance(filter.instances.as_slice(), manager, facts.instance);
+    let names = admits_name_given(filter.names.as_slice(), &facts.name);
+    let kinds = admits_kind(filter.notices.as_slice(), facts.which);
+    let types = admits_type(filter.operations.as_slice(), facts.op);
+    let states = admits_state(filter.states.as_slice(), facts.state);
+    vnfds && instances && names && kinds && types && states
+}

@@ -1,0 +1,77 @@
+//! Events that are judged after an empty history.
+
+use crate::{is_allowed, is_legal};
+use lcm_events::{CancelMode, EventKind, Level, Listed, OpState, Vnfd};
+use std::alloc::Global;
+use std::process::Abort;
+use std::test::Fail;
+use vnfm_base::Name;
+
+fn name(rt: &impl Abort, text: &str) -> Name {
+    Name::of(text.as_bytes()).expect(rt, "a name")
+}
+
+/// A descriptor of nothing but a level.
+fn empty(rt: &impl Abort, alloc: Global) -> Result<Vnfd, Fail> {
+    let none = name(rt, "");
+    let level = Level {
+        name: name(rt, "only"),
+        numbers: Listed::new(alloc),
+    };
+    Ok(Vnfd {
+        descriptor_id: name(rt, "vnfd-3"),
+        provider: none,
+        product_name: none,
+        software_version: none,
+        descriptor_version: none,
+        flavour_id: name(rt, "simple"),
+        vdus: Listed::new(alloc),
+        storages: Listed::new(alloc),
+        links: Listed::new(alloc),
+        ports: Listed::new(alloc),
+        aspects: Listed::new(alloc),
+        levels: Listed::of(vec![in alloc; level]?),
+        default_level: 0,
+    })
+}
+
+fn created(rt: &impl Abort, instance: u64) -> EventKind {
+    EventKind::Created {
+        instance,
+        vnfd: name(rt, "vnfd-3"),
+        name: None,
+        text: None,
+    }
+}
+
+#[test]
+fn events_are_judged_after_nothing(rt: HostRuntime) -> Result<(), Fail> {
+    let alloc = rt.alloc();
+    let kinds = vec![in alloc;
+        (EventKind::Onboarded(empty(&rt, alloc)?), true),
+        (created(&rt, 1), true),
+        (created(&rt, 2), false),
+        (EventKind::Deleted { instance: 1 }, false),
+        (EventKind::Denied { occ: 1 }, false),
+        (
+            EventKind::Moved {
+                occ: 1,
+                to: OpState::Processing
+            },
+            false
+        ),
+        (
+            EventKind::CancelAsked {
+                occ: 1,
+                mode: CancelMode::Graceful
+            },
+            false
+        ),
+        (EventKind::Unsubscribed { subscription: 1 }, false),
+    ]?;
+    assert!(rt; is_legal(alloc, 1, &[])?);
+    for (kind, allowed) in kinds.as_slice() {
+        assert_eq!(rt; is_allowed(alloc, 1, &[], kind)?, *allowed);
+    }
+    Ok(())
+}
