@@ -62,7 +62,7 @@ front_of_chunk_not_bad c mid q r is e (no_end line content after reads some size
     wrong (begins_of after r mid contents.1)
 
 -- a front with a bad chunk passes the first chunk
-bad_passes : (c : Chunk) (mid q r : List ℕ) (cs : List Chunk) (left : List ℕ) → IsChunk c → print_chunk c ++ mid ≡ q ++ r
+pub bad_passes : (c : Chunk) (mid q r : List ℕ) (cs : List Chunk) (left : List ℕ) → IsChunk c → print_chunk c ++ mid ≡ q ++ r
     → Chunks q cs left → IsBadChunk left → (m : List ℕ) × (q ≡ print_chunk c ++ m) × (mid ≡ m ++ r) × HasBadChunk m
 bad_passes c mid q r [] left is e passed bad =
     absurd (front_of_chunk_not_bad c mid q r is e (subst IsBadChunk (sym passed) bad))
@@ -75,7 +75,7 @@ bad_passes c mid q r (d ∷ cs) left is e passed bad =
     )
 
 -- a front with too much content passes the first chunk, where that isn't too much
-much_passes : (taken : ℕ) (c : Chunk) (mid q r : List ℕ) (cs : List Chunk) (left : List ℕ) (line : ChunkLine) (more : List ℕ)
+pub much_passes : (taken : ℕ) (c : Chunk) (mid q r : List ℕ) (cs : List Chunk) (left : List ℕ) (line : ChunkLine) (more : List ℕ)
     → IsChunk c → taken + chunk_size c.line ≤ BODY_BYTES → print_chunk c ++ mid ≡ q ++ r
     → Chunks q cs left → ReadsChunkLine left line more → BODY_BYTES < taken + length (content_of cs) + chunk_size line
     → (m : List ℕ) × (q ≡ print_chunk c ++ m) × (mid ≡ m ++ r) × HasMuch (taken + chunk_size c.line) m

@@ -7,3 +7,4 @@ pub mod FieldLaws
 pub mod HeadLaws
 pub mod DecodeLaws
 pub mod GrowLaws
+pub mod BeginningLaws

@@ -227,7 +227,7 @@ much_line taken whole l t reads over =
 
 -- ---- the last size line
 
-no_bad_at_last : (whole q r : List ℕ) (l : ChunkLine) (t : List ℕ) (cs : List Chunk) (left : List ℕ)
+pub no_bad_at_last : (whole q r : List ℕ) (l : ChunkLine) (t : List ℕ) (cs : List Chunk) (left : List ℕ)
     → ReadsChunkLine whole l t → chunk_size l ≡ 0 → whole ≡ q ++ r → Chunks q cs left → IsBadChunk left → ⊥
 no_bad_at_last whole q r l t [] left reads zero e passed (no_line never) =
     never r l t (subst (λ (b : List ℕ). ReadsChunkLine b l t) (e ∙ ap (λ x. x ++ r) passed) reads)
@@ -242,7 +242,7 @@ no_bad_at_last whole q r l t (c ∷ cs) left reads zero e passed bad =
     let some = passed.0.some in
     absurd (omega arith)
 
-no_much_at_last : (taken : ℕ) (whole q r : List ℕ) (l : ChunkLine) (t : List ℕ) (cs : List Chunk) (left : List ℕ) (line : ChunkLine) (more : List ℕ)
+pub no_much_at_last : (taken : ℕ) (whole q r : List ℕ) (l : ChunkLine) (t : List ℕ) (cs : List Chunk) (left : List ℕ) (line : ChunkLine) (more : List ℕ)
     → ReadsChunkLine whole l t → chunk_size l ≡ 0 → taken ≤ BODY_BYTES
     → whole ≡ q ++ r → Chunks q cs left → ReadsChunkLine left line more → BODY_BYTES < taken + length (content_of cs) + chunk_size line → ⊥
 no_much_at_last taken whole q r l t [] left line more reads zero fits e passed at over =

@@ -1,3 +1,4 @@
+pub mod Beginnings
 pub mod Framing
 pub mod Chunks
 pub mod Messages

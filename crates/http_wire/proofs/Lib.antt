@@ -1,3 +1,4 @@
 pub mod IntakeLaws
 pub mod Loops
 pub mod TakeLaws
+pub mod ExactLaws

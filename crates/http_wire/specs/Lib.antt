@@ -1,2 +1,3 @@
 pub mod Intake
 pub mod Wire
+pub mod Exact

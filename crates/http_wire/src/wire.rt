@@ -2,7 +2,8 @@
 ghost use Rattle.std.specs.Prelude.{◌≡◌, [], IfOk, false};
 ghost use Rattle.std.specs.Borrow.{Lends, sem};
 ghost use Rattle.http_wire.specs.contracts.wire.Wire.{the_row};
-ghost use Rattle.http_wire.specs.Wire.{over_door, TakenIs, OnlyTakesIn};
+ghost use Rattle.http_wire.specs.Exact.{IsExact};
+ghost use Rattle.http_wire.specs.Wire.{over_door, bytes_of, TakenIs, OnlyTakesIn};
 
 use crate::CONNECTION_REQUESTS;
 use crate::intake::Intake;
@@ -97,6 +98,7 @@ impl<D: Door> Wire<D> {
     pub fn take_request(&mut self, alloc: Global) -> Result<Taken, WireFault>
         ensures reads { OnlyTakesIn D.tells self.old.intake self.new.intake }
         ensures taken { TakenIs D.tells self.old self.new result }
+        ensures exact { D.tells → self.old.ended ≡ false → IsExact (bytes_of self.old.intake) result }
     {
         if self.ended {
             return Ok(Taken::End);

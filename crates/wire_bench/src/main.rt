@@ -1,0 +1,82 @@
+//! Takes the requests of one connection, which come in pieces of one size.
+//!
+//! `wire_bench [FRAMING SIZE REQUESTS PIECE [times]]`: the framing is `sized` or `chunked`, for bodies of so many bytes, or
+//! `bare`, for heads of about so many bytes without a body. It prints how many bytes came in, how many requests were taken,
+//! and the bytes and the digest of their bodies, and with `times` the nanoseconds of processor time that taking them took.
+#![tactic(auto)]
+
+mod door;
+mod requests;
+mod words;
+
+use crate::door::PieceDoor;
+use crate::requests::connection;
+use crate::words::Words;
+use anyhow::{Context, Result};
+use http_wire::{Taken, Wire};
+use sha2::{Digest, Sha256};
+use std::alloc::AllocGlobal;
+use std::env::Env;
+use std::io::Print;
+use std::time::{CpuClock, Duration};
+
+/// What was taken of a connection, and how much processor time that took.
+#[derive(Drop)]
+struct Totals {
+    requests: u32,
+    bytes: u64,
+    digest: Sha256,
+    taking: Duration,
+}
+
+/// Takes all requests of the wire's connection, which has at most so many.
+fn take_all(
+    rt: &(impl CpuClock + AllocGlobal),
+    wire: &mut Wire<PieceDoor>,
+    most: u32,
+) -> Result<Totals> {
+    let mut totals = Totals {
+        requests: 0,
+        bytes: 0,
+        digest: Sha256::new(),
+        taking: Duration::ZERO,
+    };
+    for _ in 0..most {
+        let begun = rt.process_cpu_time()?;
+        let taken = wire.take_request(rt.alloc())?;
+        let ended = rt.process_cpu_time()?;
+        totals.taking = totals.taking.saturating_add(ended.saturating_sub(begun));
+        let Taken::Request(request) = taken else {
+            break;
+        };
+        totals.requests = totals.requests.saturating_add(1);
+        totals.bytes = totals.bytes.saturating_add(request.body.len() as u64);
+        totals.digest.update(request.body.as_slice());
+    }
+    Ok(totals)
+}
+
+/// Measures what the words of the command line say.
+fn run(rt: &(impl Env + CpuClock + Print + AllocGlobal)) -> Result<()> {
+    let words = Words::read(rt)?;
+    let bytes = connection(rt.alloc(), words.framing, words.size, words.requests)?;
+    println!(rt; "bytes in {}", bytes.len())?;
+    let door = PieceDoor::new(bytes, words.piece).context("a piece has no byte")?;
+    let mut wire = Wire::new(rt.alloc(), door)?;
+    let totals = take_all(rt, &mut wire, words.requests)?;
+    println!(rt; "requests {}", totals.requests)?;
+    println!(rt; "bytes of bodies {}", totals.bytes)?;
+    print!(rt; "sha256 ")?;
+    for byte in totals.digest.finalize() {
+        print!(rt; "{byte:02x}")?;
+    }
+    println!(rt;)?;
+    if words.times {
+        println!(rt; "taking {} ns", totals.taking.as_nanos())?;
+    }
+    Ok(())
+}
+
+fn main(rt: HostRuntime) -> Result<()> {
+    run(&rt)
+}
