@@ -70,7 +70,7 @@ no_bad m n (h ∷ H) before bytes rest is also follow same none = ⊎_elim
     none h is.0 (sym parts.1) (follows_any m n before h.kind (subst P past follow.0)))
     (λ (some : (front : List (List ℕ)) × (last : List ℕ) × (rest ≡ front ++ last ∷ [])).
     let parts = same_from_push (spellings H) (spellings before ++ bytes ∷ some.0) (spelling h) some.1
-        (sym (spellings-cons h H) ∙ same ∙ ap (λ (t : List (List ℕ)). spellings before ++ bytes ∷ t) some.2 ∙ sym (append_assoc (spellings before) (bytes ∷ some.0) (some.1 ∷ []))) in
+    (sym (spellings-cons h H) ∙ same ∙ ap (λ (t : List (List ℕ)). spellings before ++ bytes ∷ t) some.2 ∙ sym (append_assoc (spellings before) (bytes ∷ some.0) (some.1 ∷ []))) in
     no_bad m n H before bytes some.0 is.1 also follow.1 parts.0 none)
     (last_of rest)
 

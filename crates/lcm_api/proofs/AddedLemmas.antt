@@ -21,12 +21,13 @@ create_follows : (m : ℕ) (H : List Event) (now : ℕ) (body : CreateBody) → 
 create_follows m H now body follows = of (nat_le 1000 (length (live_instances H))) refl where
   room : Outcome
   room = record { reply = created m (instances_made H + 1) body; after = creation H now body ∷ [] }
+
   of : (b : Bool) → nat_le 1000 (length (live_instances H)) ≡ b
       → AddsOn m H (if b then refused 507 (codes "too many instances") else (if is_full H (creation H now body) then refused 507 (codes "journal full") else room))
   of true is = follows
   of false is =
       elim (is_full H (creation H now body)) as (λ full. AddsOn m H (if full then refused 507 (codes "journal full") else room)) [
-        true ↦ follows
+        | true ↦ follows
         | false ↦ (record { number = refl; room = leb-false 1000 (length (live_instances H)) is }, follows)
       ]
 
@@ -40,7 +41,7 @@ body_follows m H now (Err Memory) follows = follows
 outcome_follows : (m : ℕ) (H : List Event) (now : ℕ) (r : Request) → EachFollows m H → AddsOn m H (outcome m H now r)
 outcome_follows m H now r follows =
     elim (is_create r) as (λ creates. AddsOn m H (if creates then body_outcome m H now (create_of r.body) else refused 404 (codes "no such resource"))) [
-      true ↦ body_follows m H now (create_of r.body) follows
+      | true ↦ body_follows m H now (create_of r.body) follows
       | false ↦ follows
     ]
 
