@@ -6,3 +6,4 @@ pub mod HeaderLemmas
 pub mod Records
 pub mod LoadLemmas
 pub mod CreateLemmas
+pub mod Excluding

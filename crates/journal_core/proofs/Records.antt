@@ -58,7 +58,7 @@ closed_cut (suc most) gate tail closed =
     (ne_eqb gate 1 closed)
 
 -- an open record is cut first
-open_cut : (most : ℕ) (r rest : List ℕ) → IsRecord r → cut_records (suc most) (framed r ++ rest) ≡ r ∷ cut_records most rest
+pub open_cut : (most : ℕ) (r rest : List ℕ) → IsRecord r → cut_records (suc most) (framed r ++ rest) ≡ r ∷ cut_records most rest
 unfolding cut_records framed
 open_cut most r rest is =
     let fits = is.fits in

@@ -1,4 +1,5 @@
 pub mod Create
+pub mod Exclusion
 pub mod File
 pub mod Head
 pub mod Header

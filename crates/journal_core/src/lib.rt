@@ -2,6 +2,7 @@
 #![tactic(auto)]
 
 mod create;
+mod exclusion;
 mod head;
 mod header;
 mod journal;
@@ -9,5 +10,6 @@ mod loading;
 mod through;
 
 pub use create::CreateFault;
+pub use exclusion::files_are_one_thing;
 pub use journal::{AppendFault, Journal, MAX_FILE, MAX_RECORD};
 pub use loading::{Found, LoadFault, Loading};

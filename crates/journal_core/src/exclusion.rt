@@ -1,0 +1,16 @@
+// The law that a file is one at most of the things that a load may find.
+ghost use Rattle.journal_core.specs.Exclusion.{IsWholeOrUnmade, IsWholeOrForeign, IsWholeOrBroken, IsWholeOnce, IsHeadedOrNot, IsForeignOnce, BreaksOnce};
+
+/// That what a load finds of a file is one thing at most: so none of its answers can stand for another. It does nothing, and
+/// its contract is the law.
+///
+/// Source: own format, docs/JOURNAL.md.
+pub fn files_are_one_thing()
+    ensures unmade { IsWholeOrUnmade }
+    ensures foreign { IsWholeOrForeign }
+    ensures broken { IsWholeOrBroken }
+    ensures once { IsWholeOnce }
+    ensures headed { IsHeadedOrNot }
+    ensures foreign_once { IsForeignOnce }
+    ensures breaks_once { BreaksOnce }
+{}
