@@ -13,3 +13,6 @@ pub use create::CreateFault;
 pub use exclusion::files_are_one_thing;
 pub use journal::{AppendFault, Journal, MAX_FILE, MAX_RECORD};
 pub use loading::{Found, LoadFault, Loading};
+
+#[cfg(test)]
+mod tests;
