@@ -345,3 +345,82 @@ fn an_append_is_full_where_its_gate_would_pass_the_limit(rt: HostRuntime) -> Res
     }
     Ok(())
 }
+
+/// The first of these bytes, or 0 where there is none.
+fn first_of(bytes: &[u8]) -> u8 {
+    if bytes.is_empty() { 0 } else { bytes[0] }
+}
+
+/// The first bytes of records 3, 1 and 2, read back in this order, and how many calls are then on record; None where a call
+/// fails.
+fn read_in_turn(
+    alloc: Global,
+    file: &[u8],
+    fault: u64,
+) -> Result<Option<([u8; 3], usize)>, AllocError> {
+    let mut site = site_of(alloc, file, fault)?;
+    let mut journal = match Journal::load(alloc, &mut site) {
+        Ok(journal) => journal,
+        Err(_) => return Ok(None),
+    };
+    if journal.count() != 3 {
+        return Ok(None);
+    }
+    let mut read = [0u8; 3];
+    match journal.read_back(&mut site, 3) {
+        Ok(()) => read[0] = first_of(journal.record_back()),
+        Err(_) => return Ok(None),
+    }
+    match journal.read_back(&mut site, 1) {
+        Ok(()) => read[1] = first_of(journal.record_back()),
+        Err(_) => return Ok(None),
+    }
+    match journal.read_back(&mut site, 2) {
+        Ok(()) => read[2] = first_of(journal.record_back()),
+        Err(_) => return Ok(None),
+    }
+    Ok(Some((read, site.moment())))
+}
+
+#[test]
+fn records_are_read_back_in_any_order_by_two_reads_each(rt: HostRuntime) -> Result<(), Fail> {
+    let alloc = rt.alloc();
+    let mut file = Vec::new(alloc);
+    file.extend_from_slice(&MADE[..32])?;
+    file.extend_from_slice(b"\x01\0\0\0\x01a\x01\0\0\0\x02bc\x01\0\0\0\x01d\0")?;
+    // A load of three records makes ten calls.
+    let read = read_in_turn(alloc, &file, 0)?;
+    assert!(rt; matches!(read, Some(([b'd', b'a', b'b'], 16))));
+    for fault in 11..17u64 {
+        assert!(rt;
+            read_in_turn(alloc, &file, fault)?.is_none(),
+            "fault {fault}"
+        );
+    }
+    Ok(())
+}
+
+#[test]
+fn a_record_of_many_is_read_back_from_a_place_near_it(rt: HostRuntime) -> Result<(), Fail> {
+    let alloc = rt.alloc();
+    let mut file = Vec::new(alloc);
+    file.extend_from_slice(&MADE[..32])?;
+    for n in 1..70_001u32 {
+        file.extend_from_slice(&[1, 0, 0, 0, 1, n.to_be_bytes()[3]])?;
+    }
+    file.push(0)?;
+    let mut site = site_of(alloc, &file, 0)?;
+    match Journal::load(alloc, &mut site) {
+        Ok(mut journal) => {
+            let before = site.moment();
+            assert_eq!(rt; journal.count(), 70_000);
+            if journal.count() >= 70_000 {
+                assert!(rt; journal.read_back(&mut site, 70_000).is_ok());
+            }
+            assert_eq!(rt; first_of(journal.record_back()), 112);
+            assert_eq!(rt; site.moment(), before.saturating_add(3));
+        }
+        Err(_) => assert!(rt; false),
+    }
+    Ok(())
+}
