@@ -5,11 +5,10 @@ use Rattle.std.proofs.lemmas.Nat.{from_be_bytes-to_be_bytes_4}
 use Rattle.std.specs.Int.{w32, to_be_bytes, from_be_bytes}
 use Rattle.site_traits.specs.Site.{SiteState, Reads}
 use Rattle.journal_core.specs.File.{header, framed, blocks, records, size, IsRecord, HasRecords}
-use Rattle.journal_core.specs.declared.marks.Mark.{Mark}
 use Rattle.journal_core.specs.Marks.{IsMark}
 use Rattle.journal_core.specs.Journal.{Ledger, Stands}
 use Rattle.journal_core.specs.Back.{HasAt, HasRecord}
-use Rattle.journal_core.proofs.Records.{front_length, framed_length, records_of, size_push}
+use Rattle.journal_core.proofs.Records.{front_length, framed_length, size_push}
 
 -- the blocks in front of record k, it, and those behind it
 split_at : (rs : List (List ℕ)) (k : ℕ) → k < length rs → (behind : List (List ℕ)) × (blocks rs ≡ blocks (take k rs) ++ (framed (get_or rs k []) ++ blocks behind))

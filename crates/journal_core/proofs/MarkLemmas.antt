@@ -1,5 +1,5 @@
 -- The places that a journal keeps, where records are added.
-use Rattle.std.proofs.Common.{◌≡◌, ◌∙◌, sym, ap, ℕ, ◌+◌, ◌≤◌, List, [], ◌∷◌, ◌++◌, length, take, All, length-append, refl, arith}
+use Rattle.std.proofs.Common.{◌≡◌, ◌∙◌, sym, ap, ℕ, List, [], ◌∷◌, ◌++◌, length, All, length-append, refl, arith}
 use Rattle.std.proofs.lemmas.List.{take_at, take-append-le}
 use Rattle.std.proofs.lemmas.List.Elements.{All-weaker}
 use Rattle.journal_core.specs.declared.marks.Mark.{Mark}

@@ -1,4 +1,4 @@
-use Rattle.std.proofs.Common.{◌≡◌, ◌∙◌, ◌+◌, ◌<◌, sym, ℕ, List, [], length, get_or, Option, Some, None, arith}
+use Rattle.std.proofs.Common.{◌≡◌, ◌∙◌, sym, ℕ, [], length, get_or, Option, Some, None, arith}
 use Rattle.site_traits.proofs.Moments.{reads-then}
 use Rattle.journal_core.specs.File.{records}
 use Rattle.journal_core.proofs.LoadLemmas.{only_disk-trans}

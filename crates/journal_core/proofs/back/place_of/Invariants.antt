@@ -1,4 +1,3 @@
-use Rattle.std.proofs.Common.{◌≡◌, take}
 use Rattle.site_traits.specs.Counts.{OnlyDisk}
 use Rattle.site_traits.specs.Site.{Reads}
 use Rattle.journal_core.specs.File.{records}

@@ -1,4 +1,4 @@
-use Rattle.std.proofs.Common.{◌≡◌, ◌∙◌, ◌+◌, ◌-◌, ◌<◌, sym, ℕ, List, [], length, take, get_or, Option, Some, None, arith}
+use Rattle.std.proofs.Common.{◌≡◌, ◌∙◌, ◌-◌, sym, ℕ, [], length, take, get_or, Option, Some, arith}
 use Rattle.site_traits.proofs.Moments.{reads-then}
 use Rattle.journal_core.specs.File.{records, size}
 use Rattle.journal_core.proofs.BackLemmas.{stands_at, bytes_behind, bytes_within}

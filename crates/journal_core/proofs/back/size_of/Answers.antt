@@ -1,4 +1,4 @@
-use Rattle.std.proofs.Common.{◌≡◌, ◌∙◌, ◌≤◌, ◌+◌, ap, sym, subst, ℕ, length, Some, arith}
+use Rattle.std.proofs.Common.{◌≡◌, ◌∙◌, ap, sym, ℕ, length, Some, arith}
 use Rattle.std.proofs.lemmas.Bool.{false≢true}
 use Rattle.journal_core.specs.Back.{FitsAt}
 use Rattle.journal_core.proofs.BackLemmas.{head_gate, head_size}

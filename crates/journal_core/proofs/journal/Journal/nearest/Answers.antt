@@ -1,4 +1,4 @@
-use Rattle.std.proofs.Common.{◌∷◌, List, All, sym, ap, subst}
+use Rattle.std.proofs.Common.{List, All, sym, ap, subst}
 use Rattle.std.proofs.lemmas.List.Elements.{All-tail}
 use Rattle.journal_core.specs.declared.marks.Mark.{Mark}
 use Rattle.journal_core.specs.Marks.{IsMark}
