@@ -13,7 +13,7 @@ use Rattle.lcm_model.specs.Allowed.{IsLegal}
 use Rattle.site_traits.specs.Site.{SiteState}
 use Rattle.executor.specs.History.{spellings}
 use Rattle.executor.specs.Loading.{IsNext, HasNoNext, StepsFrom, JudgesNext, AreJudged, IsJudged, JudgesSoFar}
-use Rattle.executor.specs.Open.{IsBadAt}
+use Rattle.executor.specs.Open.{EachFollows, IsBadAt}
 use Rattle.executor.specs.declared.open.Judged.{Judged}
 use Rattle.executor.proofs.SpellingLemmas.{follows_allowed}
 
@@ -25,6 +25,11 @@ pub steps_legal : (m n : ℕ) (bytes : List ℕ) (bad : Option ℕ) (H : List Ev
 steps_legal m n bytes (Some k) H bad' H' step legal = subst (IsLegal m) (sym step.1) legal
 steps_legal m n bytes None H None H' step legal = subst (IsLegal m) (sym step.2) (follows_allowed m H step.0.kind step.1.follows, legal)
 steps_legal m n bytes None H (Some k) H' step legal = subst (IsLegal m) (sym step.2) legal
+
+pub steps_follow : (m n : ℕ) (bytes : List ℕ) (bad : Option ℕ) (H : List Event) (bad' : Option ℕ) (H' : List Event) → StepsFrom m n bytes bad H bad' H' → EachFollows m H → EachFollows m H'
+steps_follow m n bytes (Some k) H bad' H' step follow = subst (EachFollows m) (sym step.1) follow
+steps_follow m n bytes None H None H' step follow = subst (EachFollows m) (sym step.2) (step.1.follows, follow)
+steps_follow m n bytes None H (Some k) H' step follow = subst (EachFollows m) (sym step.2) follow
 
 pub steps_events : (m n : ℕ) (bytes : List ℕ) (bad : Option ℕ) (H : List Event) (bad' : Option ℕ) (H' : List Event) → StepsFrom m n bytes bad H bad' H' → AllByRecursion IsEvent H → AllByRecursion IsEvent H'
 steps_events m n bytes (Some k) H bad' H' step events = subst (AllByRecursion IsEvent) (sym step.1) events
@@ -59,6 +64,7 @@ step_judged j j' l l' judged reads step =
     let on = goes_on l'.manager l'.count l'.record_bytes j.bad (reverse j.events.items) j'.bad (reverse j'.events.items) step in
     record {
       legal = steps_legal l'.manager l'.count l'.record_bytes j.bad (reverse j.events.items) j'.bad (reverse j'.events.items) step (rw reads.manager judged.legal);
+      follows = steps_follow l'.manager l'.count l'.record_bytes j.bad (reverse j.events.items) j'.bad (reverse j'.events.items) step (rw reads.manager judged.follows);
       events = steps_events l'.manager l'.count l'.record_bytes j.bad (reverse j.events.items) j'.bad (reverse j'.events.items) step judged.events;
       count = λ none. count_more l'.manager l'.record_bytes j.bad (reverse j.events.items) (reverse j'.events.items) l.count l'.count (on none) judged.count reads.count;
       end = λ none. end_more l'.manager l'.record_bytes j.bad (reverse j.events.items) (reverse j'.events.items) l.end l'.end (on none) judged.end reads.end;

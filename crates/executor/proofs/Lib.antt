@@ -1,3 +1,4 @@
 mod JudgeLemmas
+pub mod LawLemmas
 pub mod ManagerLemmas
 mod SpellingLemmas

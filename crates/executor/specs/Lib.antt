@@ -1,5 +1,6 @@
 pub mod Faults
 pub mod History
+pub mod Laws
 pub mod Loading
 pub mod Managed
 pub mod Open

@@ -13,7 +13,7 @@ use Rattle.executor.specs.declared.manager.OpenFault.TheVariants as fault
 use Rattle.lcm_events.specs.declared.events.Event.{Event}
 use Rattle.lcm_model.specs.Allowed.{IsLegal}
 use Rattle.executor.specs.History.{spellings}
-use Rattle.executor.specs.Open.{IsBadAt, MayFollow}
+use Rattle.executor.specs.Open.{EachFollows, IsBadAt, MayFollow}
 use Rattle.executor.specs.declared.open.Judged.{Judged}
 
 -- the bytes are the spelling of an event that may follow this history
@@ -45,6 +45,7 @@ StepsFrom m n bytes None H (Some k) H' = (k ≡ n) × HasNoNext m H bytes × (H'
 -- the events so far are legal, and where no record was bad they are all that was read
 pub record IsJudged (j : Judged) (l : Progress) : Type 0 where
   pub legal : IsLegal l.manager (reverse j.events.items)
+  pub follows : EachFollows l.manager (reverse j.events.items)
   pub events : AllByRecursion IsEvent (reverse j.events.items)
   pub count : j.bad ≡ None → l.count ≡ length (reverse j.events.items)
   pub end : j.bad ≡ None → l.end ≡ size (spellings (reverse j.events.items))

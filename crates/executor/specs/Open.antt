@@ -1,5 +1,5 @@
 -- What opening a journal as a manager finds (own rule).
-use Rattle.std.specs.Prelude.{◌≡◌, ◌⊎◌, ℕ, ◌+◌, List, ◌∷◌, ◌++◌, length, Result, Ok, Err}
+use Rattle.std.specs.Prelude.{◌≡◌, ◌⊎◌, ℕ, ◌+◌, List, [], ◌∷◌, ◌++◌, length, Result, Ok, Err}
 use Rattle.std.specs.List.{AllByRecursion}
 use Rattle.event_codec.specs.Spell.{spelling}
 use Rattle.event_codec.specs.Valid.{IsEvent}
@@ -21,6 +21,11 @@ use Rattle.executor.specs.declared.manager.OpenFault.TheVariants as fault
 abbrev pub MayFollow : ℕ → List Event → EventKind → Type 0
 MayFollow m H (Created instance vnfd name text) = IsAllowed m H (Created instance vnfd name text)
 MayFollow m H _ = ⊥
+
+-- every event of the history, the latest first, may follow those before it
+abbrev pub EachFollows : ℕ → List Event → Type 0
+EachFollows m [] = Unit {0}
+EachFollows m (e ∷ H) = MayFollow m H e.kind × EachFollows m H
 
 -- record n of these, from 1, is the first that is no event or may not follow those before it
 pub record IsBadAt (m n : ℕ) (rs : List (List ℕ)) : Type 0 where

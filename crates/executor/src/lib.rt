@@ -1,7 +1,9 @@
 //! The manager of a journal.
 #![tactic(auto)]
 
+mod laws;
 mod manager;
 mod open;
 
+pub use laws::{a_file_has_one_history, a_servable_history_has_no_bad_record};
 pub use manager::{Manager, OpenFault, WorkFault};

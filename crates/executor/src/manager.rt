@@ -5,7 +5,7 @@ ghost use Rattle.event_codec.specs.Spell.{spelling};
 ghost use Rattle.event_codec.specs.Valid.{IsEvent};
 ghost use Rattle.event_codec.specs.Typed.{TypedEvent};
 ghost use Rattle.journal_core.specs.Load.{SyncsAndReads};
-ghost use Rattle.executor.specs.Open.{Opens};
+ghost use Rattle.executor.specs.Open.{EachFollows, Opens};
 ghost use Rattle.executor.specs.Faults.{work_fault};
 ghost use Rattle.executor.specs.History.{spellings};
 ghost use Rattle.journal_core.specs.File.{size};
@@ -148,6 +148,8 @@ impl<S: Site> Manager<S> {
     pub fn load(alloc: Global, site: &mut S) -> Result<Manager<S>, OpenFault>
         ensures opens { S.tells → Opens result (S.state site.new) }
         ensures usable { IfOk result (λ m. (m.ledger.closed ≡ false) × IsKept m.ledger m.history) }
+        ensures number { IfOk result (λ m. m.ledger.manager < 4294967296) }
+        ensures follows { IfOk result (λ m. EachFollows m.ledger.manager m.history) }
         ensures told { S.tells → SyncsAndReads (S.state site.old) (S.state site.new) }
         ensures disk { result ≡ Err OpenFault.Disk → Rose (S.counts site.old).disk (S.counts site.new).disk }
         ensures counts { OnlyDisk (S.counts site.old) (S.counts site.new) }

@@ -1,3 +1,4 @@
+pub mod AddedLemmas
 mod FieldLemmas
 mod FormLemmas
 mod ListenLemmas

@@ -3,7 +3,6 @@ use Rattle.std.proofs.Common.{◌≡◌, ◌≢◌, ◌<◌, ℕ, false, List, [
 use Rattle.std.specs.Option.{unwrap_or}
 use Rattle.executor.specs.Managed.{Managed, StandsFor}
 use Rattle.lcm_events.specs.declared.states.Role.{Role}
-use Rattle.site_traits.specs.Door.{DoorState}
 use Rattle.site_traits.specs.Site.{SiteState}
 use Rattle.lcm_api.specs.Answering.{Answers, Leads}
 use Rattle.lcm_api.specs.Mouth.{MouthState, Heard, heard_request}
@@ -30,9 +29,9 @@ at_site : (o : Outcome) (q : Result Reply ApiFault) (m n : Managed) (a b : SiteS
 at_site o q m n a b answers = record { any_moment = answers.any_moment; stands = λ other. answers.stands (λ same. other (ap told_of same)) }
 
 -- a request in hand that was answered, and told
-pub responds : (S D K : Type 0) (hand : Option Request) (mine r : Request) (q : Result Reply ApiFault) (m n : Managed) (a b : SiteState) (c d : DoorState) (ks ls : List ℕ) (now : ℕ)
+pub responds : (S D K : Type 0) (hand : Option Request) (mine r : Request) (q : Result Reply ApiFault) (m n : Managed) (a b : SiteState) (c d : MouthState) (ks ls : List ℕ) (now : ℕ)
     → hand ≡ Some mine → hand ≡ Some r → Leads (outcome m.ledger.manager m.history now mine) q m n → (S → Answers (outcome m.ledger.manager m.history now mine) q m n a b)
-    → (D → IsTold (response (outcome m.ledger.manager m.history now mine) (told_of q)) c d) → (K → IsTimed now ks ls) → Responds S D K r (told_of q) m n a b c d ks ls
+    → IsTold D (response (outcome m.ledger.manager m.history now mine) (told_of q)) c d → (K → IsTimed now ks ls) → Responds S D K r (told_of q) m n a b c d ks ls
 responds S D K hand mine r q m n a b c d ks ls now is also leads answers told timed =
     let same : mine ≡ r = ap (λ (o : Option Request). unwrap_or o mine) (sym is ∙ also) in
     let of_mine : Responds S D K mine (told_of q) m n a b c d ks ls = record {
@@ -45,8 +44,8 @@ responds S D K hand mine r q m n a b c d ks ls now is also leads answers told ti
     subst (λ (x : Request). Responds S D K x (told_of q) m n a b c d ks ls) same of_mine
 
 -- another reply's bytes are those of an equal one
-pub told_same : (x y : Reply) (c d : DoorState) → x ≡ y → IsTold x c d → IsTold y c d
-told_same x y c d same told = subst (λ (r : Reply). IsTold r c d) same told
+pub told_same : (D : Type 0) (x y : Reply) (c d : MouthState) → x ≡ y → IsTold D x c d → IsTold D y c d
+told_same D x y c d same told = subst (λ (r : Reply). IsTold D r c d) same told
 
 -- nothing was asked of the manager
 pub unasked : (result : Result (Unit {0}) ApiFault) (m : Managed) → result ≢ Err fault.Disk → m.ledger.closed ≡ false → Follows [] result m m

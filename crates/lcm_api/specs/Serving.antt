@@ -4,13 +4,14 @@ use Rattle.executor.specs.Managed.{Managed, StandsFor}
 use Rattle.lcm_events.specs.declared.events.Event.{Event}
 use Rattle.lcm_events.specs.declared.states.Role.{Role}
 use Rattle.site_traits.specs.Clock.{Gives}
-use Rattle.site_traits.specs.Door.{DoorState, HangsUp}
+use Rattle.site_traits.specs.Counts.{Rose}
+use Rattle.site_traits.specs.Door.{HangsUp, NoNextFault}
 use Rattle.site_traits.specs.Site.{SiteState, LeavesOnly}
 use Rattle.lcm_api.specs.Answering.{HasOr}
 use Rattle.lcm_api.specs.Mouth.{MouthState, Heard}
 use Rattle.lcm_api.specs.Outcome.{Outcome, outcome, malformed, faulted, starved}
 use Rattle.lcm_api.specs.Response.{text}
-use Rattle.lcm_api.specs.Telling.{Tells}
+use Rattle.lcm_api.specs.Telling.{Tells, TellCause}
 use Rattle.lcm_api.specs.declared.answer.ApiFault.{ApiFault}
 use Rattle.lcm_api.specs.declared.answer.ApiFault.TheVariants as fault
 use Rattle.lcm_api.specs.declared.door.DoorFailed.{DoorFailed}
@@ -40,22 +41,23 @@ abbrev pub rejection : HearFault → Result (Unit {0}) ApiFault → Option Reply
 rejection cause (Err other) = Some starved
 rejection hearing.Malformed (Ok done) = Some malformed
 rejection hearing.Read (Ok done) = None
-rejection hearing.Memory (Ok done) = None
+rejection hearing.Memory (Ok done) = Some starved
 
 -- the reply that is told
 abbrev pub reply_of : ℕ → List Event → Serving → Result (Unit {0}) ApiFault → Option Reply
 reply_of m H (judged r now) result = Some (response (outcome m H now r) result)
 reply_of m H (refused cause) result = rejection cause result
 
--- the reply's bytes went out, or a front of them, and then a write failed
-pub record IsTold (reply : Reply) (a b : DoorState) : Type 0 where
+-- the reply's bytes went out, or a front of them, and then a write failed, which the door counts
+pub record IsTold (tells : Type 0) (reply : Reply) (a b : MouthState) : Type 0 where
   pub result : Result (Unit {0}) DoorFailed
-  pub tells : Tells (text reply) result a b
+  pub told : tells → Tells (text reply) result a.door b.door
+  pub cause : TellCause result a.counts b.counts
 
 -- this was told, where there is a reply, and else nothing
-abbrev pub IsToldOr : Option Reply → DoorState → DoorState → Type 0
-IsToldOr (Some reply) a b = IsTold reply a b
-IsToldOr None a b = b ≡ a
+abbrev pub IsToldOr : Type 0 → Option Reply → MouthState → MouthState → Type 0
+IsToldOr tells (Some reply) a b = IsTold tells reply a b
+IsToldOr tells None a b = b ≡ a
 
 -- The manager's history with these events; after a disk fault it is closed, and after want of memory it is as before.
 abbrev pub Follows : List Event → Result (Unit {0}) ApiFault → Managed → Managed → Type 0
@@ -86,23 +88,34 @@ HeardAs (judged r now) (Err cause) hand = ⊥
 HeardAs (refused cause) (Ok done) hand = ⊥
 HeardAs (refused cause) (Err other) hand = other ≡ cause
 
+-- the connection was heard, and a read that failed was counted
+pub record IsHeard (tells : Type 0) (role : Role) (result : Result (Unit {0}) HearFault) (old new : MouthState) : Type 0 where
+  pub heard : Heard tells role result old new
+  pub counts : NoNextFault old.counts new.counts
+  pub read : result ≡ Err hearing.Read → Rose old.counts.faults new.counts.faults
+
+-- the connection was ended
+pub record IsEnded (tells : Type 0) (old new : MouthState) : Type 0 where
+  pub gone : tells → HangsUp old.door new.door
+  pub counts : NoNextFault old.counts new.counts
+
 -- the connection was heard, its reply was told, and it was ended
 pub record IsServed (tells : Type 0) (role : Role) (serving : Serving) (reply : Option Reply) (old new : MouthState) : Type 0 where
   pub heard_as : Result (Unit {0}) HearFault
   pub between : MouthState
-  pub heard : Heard tells role heard_as old between
+  pub heard : IsHeard tells role heard_as old between
   pub is : HeardAs serving heard_as between.hand
-  pub told_door : DoorState
-  pub told : tells → IsToldOr reply between.door told_door
-  pub gone : tells → HangsUp told_door new.door
+  pub behind : MouthState
+  pub told : IsToldOr tells reply between behind
+  pub ended : IsEnded tells behind new
 
 -- what answering the request in hand does
 pub record Responds (site_tells door_tells clock_tells : Type 0) (r : Request) (result : Result (Unit {0}) ApiFault) (m n : Managed) (a b : SiteState)
-    (c d : DoorState) (ks ls : List ℕ) : Type 0 where
+    (c d : MouthState) (ks ls : List ℕ) : Type 0 where
   pub now : ℕ
   pub managed : Follows (outcome m.ledger.manager m.history now r).after result m n
   pub site : site_tells → AtSite (outcome m.ledger.manager m.history now r).after result m n a b
-  pub door : door_tells → IsTold (response (outcome m.ledger.manager m.history now r) result) c d
+  pub door : IsTold door_tells (response (outcome m.ledger.manager m.history now r) result) c d
   pub clock : clock_tells → IsTimed now ks ls
 
 -- what serving a connection does

@@ -64,7 +64,7 @@ fn respond<S: Site, D: Door, K: Clock>(
     requires in_hand { is_some mouth.old.hand ≡ true }
     requires usable { manager.old.ledger.closed ≡ false }
     requires stands { S.tells → StandsFor manager.old (S.state site.old) }
-    ensures responds { (r : Request) → mouth.old.hand ≡ Some r → Responds S.tells D.tells K.tells r result manager.old manager.new (S.state site.old) (S.state site.new) mouth.old.door mouth.new.door (K.state clock.old) (K.state clock.new) }
+    ensures responds { (r : Request) → mouth.old.hand ≡ Some r → Responds S.tells D.tells K.tells r result manager.old manager.new (S.state site.old) (S.state site.new) mouth.old mouth.new (K.state clock.old) (K.state clock.new) }
     ensures number { manager.new.ledger.manager ≡ manager.old.ledger.manager }
     ensures disk { result ≡ Err ApiFault.Disk → Rose (S.counts site.old).disk (S.counts site.new).disk }
     ensures counts { OnlyDisk (S.counts site.old) (S.counts site.new) }
@@ -95,7 +95,7 @@ fn reject<S: Site, D: Door>(
     mouth: &mut Mouth<D>,
     fault: HearFault,
 ) -> Result<(), ApiFault>
-    ensures told { D.tells → IsToldOr (rejection fault result) mouth.old.door mouth.new.door }
+    ensures told { IsToldOr D.tells (rejection fault result) mouth.old mouth.new }
     ensures disk { result ≢ Err ApiFault.Disk }
     ensures cause { NoNextFault mouth.old.counts mouth.new.counts }
 {
@@ -116,7 +116,7 @@ fn reject_malformed<S: Site, D: Door>(
     site: &S,
     mouth: &mut Mouth<D>,
 ) -> Result<(), ApiFault>
-    ensures told { D.tells → IsToldOr (rejection HearFault.Malformed result) mouth.old.door mouth.new.door }
+    ensures told { IsToldOr D.tells (rejection HearFault.Malformed result) mouth.old mouth.new }
     ensures disk { result ≢ Err ApiFault.Disk }
     ensures cause { NoNextFault mouth.old.counts mouth.new.counts }
 {
@@ -137,7 +137,7 @@ fn say<S: Site, D: Door>(manager: &Manager<S>, site: &S, mouth: &mut Mouth<D>, r
     requires usable { reply.now.status < 400 → manager.now.ledger.closed ≡ false }
     requires acknowledged { reply.now.status < 400 → IsAcknowledged manager.now mouth.old.hand reply.now }
     requires everywhere { S.tells → reply.now.status < 400 → IsEverywhere manager.now (S.state site.now) }
-    ensures told { D.tells → IsTold reply.now mouth.old.door mouth.new.door }
+    ensures told { IsTold D.tells reply.now mouth.old mouth.new }
     ensures cause { NoNextFault mouth.old.counts mouth.new.counts }
     ensures kept { KeepsHand mouth.old mouth.new }
 {

@@ -6,6 +6,7 @@ pub mod Door
 pub mod Log
 pub mod MemConn
 pub mod MemDoor
+pub mod MemPeers
 pub mod MemSink
 pub mod MemSite
 pub mod Peers

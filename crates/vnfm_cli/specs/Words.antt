@@ -42,8 +42,8 @@ settings_of words = option_map once_settings (once_path words)
 abbrev pub IsCommand : List (List ℕ) → Type 0
 IsCommand words = (s : Settings) × (settings_of words ≡ Some s)
 
--- the answer is what the words set, or that they set nothing
+-- the answer is what the words set, or that they set nothing; there may be no memory only for what words set
 abbrev pub Settles : Result Settings SettingsFault → Option Settings → Type 0
 Settles (Ok s) set = set ≡ Some s
 Settles (Err Usage) set = set ≡ None
-Settles (Err Memory) set = Unit {0}
+Settles (Err Memory) set = (s : Settings) × (set ≡ Some s)

@@ -10,7 +10,7 @@ use vnfm_base::Text;
 
 /// What the words set.
 ///
-/// Refusals: `Usage` exactly where they are no command; `Memory`.
+/// Refusals: `Usage` exactly where they are no command; `Memory`, where there is none for what they set.
 pub fn settings(alloc: Global, words: &[Text]) -> Result<Settings, SettingsFault>
     ensures { Settles result (settings_of words.now) }
 {

@@ -16,11 +16,11 @@ returns-in-Ok-clause-served g c =
       door = record {
         heard_as = Ok c.in-Ok.field-0;
         between = c.hear.new.self;
-        heard = c.in-Ok.ensures.heard;
+        heard = record { heard = c.in-Ok.ensures.heard; counts = c.in-Ok.ensures.cause; read = c.in-Ok.ensures.read };
         is = found.1;
-        told_door = c.respond-result.new.mouth.door;
+        behind = c.respond-result.new.mouth;
         told = response.door;
-        gone = c.hang_up.ensures.told;
+        ended = record { gone = c.hang_up.ensures.told; counts = c.hang_up.ensures.cause };
       };
       clock = response.clock;
     }
@@ -33,11 +33,11 @@ returns-in-Err-clause-served g c = record {
   door = record {
     heard_as = Err c.in-Err.fault;
     between = c.hear.new.self;
-    heard = c.in-Err.ensures.heard;
+    heard = record { heard = c.in-Err.ensures.heard; counts = c.in-Err.ensures.cause; read = c.in-Err.ensures.read };
     is = refl;
-    told_door = c.reject-result.new.mouth.door;
+    behind = c.reject-result.new.mouth;
     told = c.reject-result.ensures.told;
-    gone = c.hang_up-in-Err.ensures.told;
+    ended = record { gone = c.hang_up-in-Err.ensures.told; counts = c.hang_up-in-Err.ensures.cause };
   };
   clock = λ tells. refl;
 }

@@ -12,7 +12,7 @@ pub say-requires-clause-everywhere : goal.say-requires-clause-everywhere
 say-requires-clause-everywhere g c = λ tells less. absurd (no_success c.in-Ok.reply c.in-Ok.ensures less)
 
 pub returns-in-Ok-clause-told : goal.returns-in-Ok-clause-told
-returns-in-Ok-clause-told g c = λ tells. told_same _ _ _ _ c.in-Ok.ensures (c.say.ensures.told tells)
+returns-in-Ok-clause-told g c = told_same _ _ _ _ _ c.in-Ok.ensures c.say.ensures.told
 
 pub returns-in-Err-clause-told : goal.returns-in-Err-clause-told
-returns-in-Err-clause-told g c = λ tells. told_same _ _ _ _ c.bare.ensures (c.say-in-Err.ensures.told tells)
+returns-in-Err-clause-told g c = told_same _ _ _ _ _ c.bare.ensures c.say-in-Err.ensures.told

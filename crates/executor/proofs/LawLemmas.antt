@@ -1,0 +1,90 @@
+-- A file's records are the spellings of one history, and none of them is bad where each event may follow those before it.
+use Rattle.std.proofs.Common.{◌≡◌, ◌<◌, ◌+◌, ℕ, List, [], ◌∷◌, ◌++◌, length, ◌⊎◌, ap, ◌∙◌, sym, subst, refl, arith, inl, inr, ⊎_elim, length-append, append_assoc}
+use Rattle.std.specs.List.{AllByRecursion}
+use Rattle.std.proofs.lemmas.List.{same_from_push}
+use Rattle.event_codec.specs.Spell.{spelling}
+use Rattle.event_codec.specs.Valid.{IsEvent}
+use Rattle.journal_core.specs.File.{records, HasRecords}
+use Rattle.journal_core.specs.Head.{IsBrokenAt}
+use Rattle.journal_core.specs.Header.{HasHeader}
+use Rattle.journal_core.proofs.Excluding.{whole_once, whole_or_broken}
+use Rattle.journal_core.proofs.Records.{records_of}
+use Rattle.lcm_events.specs.declared.events.Event.{Event}
+use Rattle.lcm_events.specs.declared.events.EventKind.{EventKind}
+use Rattle.lcm_events.specs.declared.events.EventKind.TheVariants.{Onboarded, Created, Deleted, Asked, GrantTried, Granted, Denied, Intent, CallFailed, Settled, Moved, CancelAsked, Subscribed, Unsubscribed, Posted}
+use Rattle.executor.specs.History.{spellings}
+use Rattle.executor.specs.Laws.{HasOneHistory, HasNoBadRecord}
+use Rattle.executor.specs.Open.{EachFollows, IsBadAt, MayFollow}
+use Rattle.executor.proofs.JudgeLemmas.{spellings-cons}
+use Rattle.executor.proofs.SpellingLemmas.{same_event}
+
+never_empty : {X : Type 0} (xs : List X) (y : X) (ys : List X) → [] ≡ xs ++ y ∷ ys → ⊥
+never_empty xs y ys same = let short : 0 ≡ length (xs ++ y ∷ ys) = ap length same in omega (arith, length-append xs (y ∷ ys))
+
+-- one history's spellings are no other's
+pub spellings-inj : (H G : List Event) → AllByRecursion IsEvent H → AllByRecursion IsEvent G → spellings H ≡ spellings G → H ≡ G
+spellings-inj [] [] is also same = refl
+spellings-inj [] (g ∷ G) is also same = absurd (never_empty (spellings G) (spelling g) [] (same ∙ spellings-cons g G))
+spellings-inj (h ∷ H) [] is also same = absurd (never_empty (spellings H) (spelling h) [] (sym same ∙ spellings-cons h H))
+spellings-inj (h ∷ H) (g ∷ G) is also same =
+    let parts = same_from_push (spellings H) (spellings G) (spelling h) (spelling g) (sym (spellings-cons h H) ∙ same ∙ spellings-cons g G) in
+    let first : h ≡ g = same_event h g (spelling h) is.0 also.0 refl parts.1 in
+    let rest : H ≡ G = spellings-inj H G is.1 also.1 parts.0 in
+    ap (λ (e : Event). e ∷ H) first ∙ ap (λ (F : List Event). g ∷ F) rest
+
+-- a list is empty or has a last entry
+last_of : {X : Type 0} (xs : List X) → (xs ≡ []) ⊎ ((front : List X) × (last : X) × (xs ≡ front ++ last ∷ []))
+last_of [] = inl refl
+last_of {X} (x ∷ xs) = ⊎_elim
+    (λ (none : xs ≡ []). inr ([], x, ap (λ (t : List X). x ∷ t) none))
+    (λ (some : (front : List X) × (last : X) × (xs ≡ front ++ last ∷ [])). inr (x ∷ some.0, some.1, ap (λ (t : List X). x ∷ t) some.2))
+    (last_of xs)
+
+-- whose history it is doesn't matter to what may follow
+follows_any : (m n : ℕ) (H : List Event) (k : EventKind) → MayFollow m H k → MayFollow n H k
+follows_any m n H (Created i v x t) f = f
+follows_any m n H (Onboarded d) f = absurd f
+follows_any m n H (Deleted i) f = absurd f
+follows_any m n H (Asked a) f = absurd f
+follows_any m n H (GrantTried o a) f = absurd f
+follows_any m n H (Granted o a b c) f = absurd f
+follows_any m n H (Denied o) f = absurd f
+follows_any m n H (Intent t) f = absurd f
+follows_any m n H (CallFailed t) f = absurd f
+follows_any m n H (Settled t o) f = absurd f
+follows_any m n H (Moved o t) f = absurd f
+follows_any m n H (CancelAsked o c) f = absurd f
+follows_any m n H (Subscribed s r c g) f = absurd f
+follows_any m n H (Unsubscribed s) f = absurd f
+follows_any m n H (Posted s p o) f = absurd f
+
+-- where each event may follow those before it, no record is one that may not
+pub no_bad : (m n : ℕ) (H before : List Event) (bytes : List ℕ) (rest : List (List ℕ)) → AllByRecursion IsEvent H → AllByRecursion IsEvent before → EachFollows m H
+    → spellings H ≡ spellings before ++ bytes ∷ rest → ((e : Event) → IsEvent e → bytes ≡ spelling e → MayFollow n before e.kind → ⊥) → ⊥
+no_bad m n [] before bytes rest is also follow same none = never_empty (spellings before) bytes rest same
+no_bad m n (h ∷ H) before bytes rest is also follow same none = ⊎_elim
+    (λ (empty : rest ≡ []).
+    let parts = same_from_push (spellings H) (spellings before) (spelling h) bytes (sym (spellings-cons h H) ∙ same ∙ ap (λ (t : List (List ℕ)). spellings before ++ bytes ∷ t) empty) in
+    let past : H ≡ before = spellings-inj H before is.1 also parts.0 in
+    let P : List Event → Type 0 = λ G. MayFollow m G h.kind in
+    none h is.0 (sym parts.1) (follows_any m n before h.kind (subst P past follow.0)))
+    (λ (some : (front : List (List ℕ)) × (last : List ℕ) × (rest ≡ front ++ last ∷ [])).
+    let parts = same_from_push (spellings H) (spellings before ++ bytes ∷ some.0) (spelling h) some.1
+        (sym (spellings-cons h H) ∙ same ∙ ap (λ (t : List (List ℕ)). spellings before ++ bytes ∷ t) some.2 ∙ sym (append_assoc (spellings before) (bytes ∷ some.0) (some.1 ∷ []))) in
+    no_bad m n H before bytes some.0 is.1 also follow.1 parts.0 none)
+    (last_of rest)
+
+-- a file has one history, and is one manager's
+pub one_history : HasOneHistory
+one_history m n H G image small also_small has also =
+    let same = whole_once m n (spellings H) (spellings G) image small also_small has.file also.file in
+    (same.0, spellings-inj H G has.events also.events same.1)
+
+-- where each event may follow those before it, no record is bad
+pub no_bad_record : HasNoBadRecord
+no_bad_record m n H image small has follows bad = ⊎_elim
+    (λ (broken : (k : ℕ) × HasHeader k image × IsBrokenAt k n image). whole_or_broken m broken.0 n (spellings H) image has.file broken.2)
+    (λ (late : (k : ℕ) × HasRecords k (records image) image × IsBadAt k n (records image)).
+    let found = late.2 in
+    no_bad m late.0 H found.before found.bytes found.rest has.events found.events follows (sym (records_of m (spellings H) image has.file) ∙ found.is) found.none)
+    bad

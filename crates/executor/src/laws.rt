@@ -1,0 +1,16 @@
+//! What holds of every journal's file, as contracts of calls that do nothing.
+ghost use Rattle.executor.specs.Laws.{HasNoBadRecord, HasOneHistory};
+
+/// A file has one history, and is one manager's.
+///
+/// Source: own format, docs/JOURNAL.md and docs/EVENTS.md.
+pub fn a_file_has_one_history()
+    ensures { HasOneHistory }
+{}
+
+/// Where each event of a file's history may follow those before it, none of its records is bad.
+///
+/// Source: own rule.
+pub fn a_servable_history_has_no_bad_record()
+    ensures { HasNoBadRecord }
+{}

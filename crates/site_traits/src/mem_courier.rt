@@ -1,0 +1,98 @@
+// A courier in memory, which gives the statuses of a plan and tells all.
+ghost use Rattle.std.specs.Prelude.{◌≡◌, ◌≤◌, ◌<◌, [], IfOk, length};
+ghost use Rattle.site_traits.specs.MemPeers.{posts_of};
+
+use crate::courier::{Courier, PostAnswer};
+use crate::log::{BYTES, CALLS, Log};
+use std::alloc::{AllocError, Global};
+use vnfm_base::Line;
+
+/// What a courier in memory does with a post.
+#[derive(Clone, Copy, Debug, PartialEq, Eq)]
+pub enum PostPlan {
+    /// It fails.
+    Fail,
+    /// It is answered with this status.
+    Status(u16),
+}
+
+/// What a post on record was: how many of its bytes are the callback, and its status.
+#[derive(Clone, Copy, Debug)]
+pub struct PostMark {
+    /// Bytes of the callback, which stand in front of the body.
+    pub uri: usize,
+    /// The status that it got.
+    pub status: u16,
+}
+
+/// A courier in memory, which tells all: it gives the statuses of its plan in order, and behind the plan 204.
+///
+/// It has room for 1,048,576 posts and 64 MiB of callbacks and bodies; a post past them fails and leaves the plan where it is.
+#[derive(Drop)]
+pub struct MemCourier {
+    plans: Vec<PostPlan>,
+    next: usize,
+    posts: Log<PostMark>,
+    faults: u64,
+}
+
+impl MemCourier {
+    /// A courier with this plan, which carried nothing yet.
+    pub fn new(alloc: Global, plans: Vec<PostPlan>) -> Result<MemCourier, AllocError>
+        ensures { IfOk result (λ c. (c.posts ≡ []) × (c.faults ≡ 0)) }
+    {
+        Ok(MemCourier {
+            plans,
+            next: 0,
+            posts: Log::new(alloc, CALLS, BYTES)?,
+            faults: 0,
+        })
+    }
+
+    /// How many posts got a status.
+    pub fn posts(&self) -> usize
+        ensures { result ≡ length self.now.posts }
+    {
+        self.posts.len()
+    }
+
+    /// How many posts failed.
+    pub fn faults(&self) -> u64
+        ensures { result ≡ self.now.faults }
+    {
+        self.faults
+    }
+
+    // The answer that the plan has for the next post.
+    fn planned(&self) -> PostPlan {
+        match self.plans.get(self.next) {
+            Some(plan) => *plan,
+            None => PostPlan::Status(204),
+        }
+    }
+}
+
+impl Courier for MemCourier {
+    ghost tells = { Unit {0} };
+
+    ghost state = { λ c. posts_of c.posts };
+
+    ghost counts = { λ c. c.faults };
+
+    fn post(&mut self, uri: &Line, body: &[u8]) -> PostAnswer {
+        if let PostPlan::Status(status) = self.planned() {
+            let mark = PostMark {
+                uri: uri.len(),
+                status,
+            };
+            if self.posts.push(mark, uri.as_bytes(), body) {
+                self.next = self.next.saturating_add(1);
+                return PostAnswer::Status(status);
+            }
+        } else {
+            self.next = self.next.saturating_add(1);
+        }
+        self.faults = self.faults.saturating_add(1);
+        PostAnswer::Failed
+    }
+}

@@ -1,0 +1,4 @@
+mod AnswerLemmas
+mod EndingLemmas
+mod ExactLemmas
+mod RunLemmas
