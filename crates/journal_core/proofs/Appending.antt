@@ -1,11 +1,15 @@
 -- The two writes of an append, each with its sync: what a stop since the start of the append leaves.
-use Rattle.std.proofs.Common.{◌≡◌, ◌∙◌, sym, ap, subst, inl, ℕ, ◌+◌, ◌≤◌, List, [], ◌∷◌, ◌++◌, length, Result, arith}
+use Rattle.std.proofs.Common.{◌≡◌, ◌∙◌, sym, ap, subst, inl, ℕ, ◌+◌, ◌≤◌, List, [], ◌∷◌, ◌++◌, length, All, Result, arith}
 use Rattle.std.proofs.lemmas.List.{length_push}
 use Rattle.std.specs.Result.{IsErr}
 use Rattle.std.proofs.lemmas.Result.{IfOk-from_err}
 use Rattle.site_traits.specs.Site.{Pair, SiteState, LeavesOnly, IsSettled, Torn, Holds, FileStep, WritesThrough}
 use Rattle.site_traits.proofs.Moments.{started, goes_on}
 use Rattle.journal_core.specs.File.{records, piece, size, IsRecord, HasRecords}
+use Rattle.journal_core.specs.declared.marks.Mark.{Mark}
+use Rattle.journal_core.specs.Marks.{IsMark}
+use Rattle.journal_core.proofs.MarkLemmas.{mark_end, marks_more}
+use Rattle.std.proofs.lemmas.List.Elements.{All-cons, All-head, All-tail}
 use Rattle.journal_core.specs.Journal.{Ledger, Stands, HasOrAdds, Appends}
 use Rattle.journal_core.proofs.Records.{IsReady, first_torn, first_written, second_torn, second_written, records_of, has_its_records, size_push}
 
@@ -58,10 +62,23 @@ second_has bytes at j a b c stands ready one place room holds =
     let P : ℕ → Type 0 = λ v. Holds b.image v (1 ∷ []) c.image in
     second_written j.manager rs bytes b.image c.image ready one (let e = stands.end in omega arith) (subst P (place ∙ stands.end) holds)
 
+-- the places that it then keeps
+pub marks_kept : (bytes : List ℕ) (j : Ledger) (a : SiteState) (last : Mark) (kept more : List Mark) (m : Mark) → Stands a j → last ∷ kept ≡ j.marks
+    → m.before ≡ length (records a.image) → m.place ≡ size (records a.image)
+    → (All (IsMark (records a.image ++ bytes ∷ [])) kept → IsMark (records a.image ++ bytes ∷ []) m → All (IsMark (records a.image ++ bytes ∷ [])) more)
+    → All (IsMark (records a.image ++ bytes ∷ [])) (last ∷ more)
+marks_kept bytes j a last kept more m stands is before place keeps =
+    let rs = records a.image in
+    let P : List Mark → Type 0 = λ v. All (IsMark rs) v in
+    let all = marks_more rs bytes (last ∷ kept) (subst P (sym is) stands.marks) in
+    All-cons (IsMark (rs ++ bytes ∷ [])) last more (All-head (IsMark (rs ++ bytes ∷ [])) last kept all)
+    (keeps (All-tail (IsMark (rs ++ bytes ∷ [])) last kept all) (mark_end rs bytes m before place))
+
 -- the journal with one record more, where nothing is pending
 pub stands_more : (bytes : List ℕ) (j k : Ledger) (a c : SiteState) → Stands a j → IsSettled c → HasRecords j.manager (records a.image ++ bytes ∷ []) c.image
-    → k.manager ≡ j.manager → k.count ≡ j.count + 1 → k.end ≡ j.end + 5 + length bytes → Stands c k
-stands_more bytes j k a c stands settled has manager count end =
+    → k.manager ≡ j.manager → k.count ≡ j.count + 1 → k.end ≡ j.end + 5 + length bytes
+    → All (IsMark (records a.image ++ bytes ∷ [])) k.marks → Stands c k
+stands_more bytes j k a c stands settled has manager count end marks =
     let rs = records a.image in
     let is : records c.image ≡ rs ++ bytes ∷ [] = records_of j.manager (rs ++ bytes ∷ []) c.image has in
     let P : ℕ → Type 0 = λ v. HasRecords v (records c.image) c.image in
@@ -70,6 +87,7 @@ stands_more bytes j k a c stands settled has manager count end =
       file = subst P (sym manager) (has_its_records j.manager (rs ++ bytes ∷ []) c.image has);
       count = (let n = stands.count in let e = ap length is in let l = length_push rs bytes in omega arith);
       end = (let e = stands.end in let s = ap size is in let l = size_push rs bytes in omega arith);
+      marks = (let Q : List (List ℕ) → Type 0 = λ v. All (IsMark v) k.marks in subst Q (sym is) marks);
     }
 
 -- what an append says where it failed

@@ -7,3 +7,5 @@ pub mod Records
 pub mod LoadLemmas
 pub mod CreateLemmas
 pub mod Excluding
+pub mod BackLemmas
+pub mod MarkLemmas

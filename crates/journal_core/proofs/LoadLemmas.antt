@@ -1,9 +1,9 @@
 -- The steps of a loading: one record more, the end, and what a read keeps.
-use Rattle.std.proofs.Common.{Result, Err, ◌≡◌, ◌∙◌, sym, ap, subst, ℕ, ◌+◌, List, [], ◌∷◌, ◌++◌, length, take, drop, append_assoc, length-take, length-drop, refl, arith}
+use Rattle.std.proofs.Common.{Result, Err, ◌≡◌, ◌∙◌, sym, ap, subst, ℕ, ◌+◌, List, [], ◌∷◌, ◌++◌, length, take, drop, append_assoc, All, length-take, length-drop, refl, arith}
 use Rattle.std.specs.Int.{w32, to_be_bytes}
 use Rattle.std.proofs.lemmas.Nat.{be_bytes_4}
 use Rattle.std.proofs.lemmas.List.{take-append-drop, drop-drop, length_push, append-nil}
-use Rattle.std.proofs.lemmas.List.Elements.{All-push}
+use Rattle.std.proofs.lemmas.List.Elements.{All-push, All-cons, All-nil}
 use Rattle.site_traits.specs.Site.{SiteState, IsSettled, Same, Syncs, Reads}
 use Rattle.site_traits.proofs.Moments.{on_file-reads, reads-then}
 use Rattle.journal_core.specs.File.{header, framed, blocks, size, IsRecord, HasRecords}
@@ -13,12 +13,15 @@ use Rattle.journal_core.specs.Load.{Progress, Loads, LoadsAll, SyncsAndReads, Fi
 use Rattle.journal_core.specs.declared.loading.LoadFault.{LoadFault}
 use Rattle.journal_core.specs.declared.loading.LoadFault.TheVariants as fault
 use Rattle.site_traits.specs.Counts.{SiteCounts, OnlyDisk}
+use Rattle.journal_core.specs.declared.marks.Mark.{Mark}
+use Rattle.journal_core.specs.Marks.{IsMark, first_mark}
+use Rattle.journal_core.proofs.MarkLemmas.{mark_first, mark_end, marks_more}
 use Rattle.journal_core.proofs.Records.{blocks_push, size_push, records_of, has_its_records}
 
 -- a read keeps what was read so far, and so does a change of the last record and of whether the end was found
 pub loads_kept : (rs : List (List ℕ)) (l k : Progress) (a b : SiteState) → Loads rs l a → Reads a b → k.manager ≡ l.manager → k.count ≡ l.count → k.end ≡ l.end → k.len ≡ l.len
-    → Loads rs k b
-loads_kept rs l k a b loads reads manager count end len =
+    → k.marks ≡ l.marks → Loads rs k b
+loads_kept rs l k a b loads reads manager count end len marks =
     let same = reads.same in
     record {
       settled = reads.settled loads.settled;
@@ -30,6 +33,7 @@ loads_kept rs l k a b loads reads manager count end len =
       count = count ∙ loads.count;
       end = end ∙ loads.end;
       len = len ∙ loads.len ∙ ap length (sym same);
+      marks = (let P : List Mark → Type 0 = λ v. All (IsMark rs) v in subst P (sym marks) loads.marks);
     }
 
 -- the bytes of a record behind an open gate, and what stands behind them
@@ -57,11 +61,16 @@ open_splits end n bytes rest open_gate is =
           ∙ ap (λ v. 1 ∷ v) (sym (append_assoc (to_be_bytes w32 (length bytes)) bytes (drop (5 + n) rest))),
     )
 
+-- the place behind the records read so far
+abbrev pub mark_behind : Progress → Mark
+mark_behind l = record { before = l.count; place = l.end }
+
 -- one record more
 pub loads_more : (rs : List (List ℕ)) (l k : Progress) (n : ℕ) (a b : SiteState) → Loads rs l a → Reads a b → IsOpen l.end n (drop l.end a.image)
     → k.record_bytes ≡ take n (drop (l.end + 5) a.image) → k.manager ≡ l.manager → k.count ≡ l.count + 1 → k.end ≡ l.end + (5 + n) → k.len ≡ l.len
+    → (All (IsMark (rs ++ k.record_bytes ∷ [])) l.marks → IsMark (rs ++ k.record_bytes ∷ []) (mark_behind l) → All (IsMark (rs ++ k.record_bytes ∷ [])) k.marks)
     → Loads (rs ++ k.record_bytes ∷ []) k b
-loads_more rs l k n a b loads reads open_gate is manager count end len =
+loads_more rs l k n a b loads reads open_gate is manager count end len keeps =
     let bytes = k.record_bytes in
     let m = l.manager in
     let rest = drop l.end a.image in
@@ -82,14 +91,15 @@ loads_more rs l k n a b loads reads open_gate is manager count end len =
       count = count ∙ (let c = loads.count in omega (arith, length_push rs bytes));
       end = (let e = loads.end in omega (arith, parts.1));
       len = len ∙ loads.len;
+      marks = keeps (marks_more rs bytes l.marks loads.marks) (mark_end rs bytes (mark_behind l) loads.count loads.end);
     } in
-    loads_kept (rs ++ bytes ∷ []) mid k a b more reads manager refl refl refl
+    loads_kept (rs ++ bytes ∷ []) mid k a b more reads manager refl refl refl refl
 
 -- the closed gate behind the records
 pub loads_end : (rs : List (List ℕ)) (l k : Progress) (a b : SiteState) → Loads rs l a → Reads a b → IsClosed (drop l.end a.image)
-    → k.manager ≡ l.manager → k.count ≡ l.count → k.end ≡ l.end → k.len ≡ l.len → LoadsAll rs k b
-loads_end rs l k a b loads reads closed manager count end len =
-    let kept = loads_kept rs l k a b loads reads manager count end len in
+    → k.manager ≡ l.manager → k.count ≡ l.count → k.end ≡ l.end → k.len ≡ l.len → k.marks ≡ l.marks → LoadsAll rs k b
+loads_end rs l k a b loads reads closed manager count end len marks =
+    let kept = loads_kept rs l k a b loads reads manager count end len marks in
     let rest : drop k.end b.image ≡ closed.gate ∷ closed.tail = ap (λ v. drop v b.image) end ∙ ap (drop l.end) reads.same ∙ closed.is in
     let has : HasRecords k.manager rs b.image = record {
       gate = closed.gate;
@@ -108,6 +118,7 @@ loads_end rs l k a b loads reads closed manager count end len =
         file = has_its_records k.manager rs b.image has;
         count = kept.count ∙ ap length (sym is);
         end = kept.end ∙ ap size (sym is);
+        marks = (let P : List (List ℕ) → Type 0 = λ v. All (IsMark v) (first_mark ∷ k.marks) in subst P (sym is) (All-cons (IsMark rs) first_mark k.marks (mark_first rs) kept.marks));
       };
     }
 
@@ -119,8 +130,8 @@ syncs_and_reads r a b c d sync first second = record {
 }
 
 -- a file with a header, before its first record is read
-pub loads_none : (l : Progress) (s : SiteState) → IsSettled s → HasHeader l.manager s.image → l.count ≡ 0 → l.end ≡ 32 → l.len ≡ length s.image → Loads [] l s
-loads_none l s settled has count end len = record {
+pub loads_none : (l : Progress) (s : SiteState) → IsSettled s → HasHeader l.manager s.image → l.count ≡ 0 → l.end ≡ 32 → l.len ≡ length s.image → l.marks ≡ [] → Loads [] l s
+loads_none l s settled has count end len marks = record {
   settled = settled;
   header = has;
   begins = record {
@@ -131,6 +142,7 @@ loads_none l s settled has count end len = record {
   count = count;
   end = end;
   len = len;
+  marks = (let P : List Mark → Type 0 = λ v. All (IsMark []) v in subst P (sym marks) (All-nil (IsMark [])));
 }
 
 -- a read more

@@ -1,3 +1,4 @@
+pub mod Back
 pub mod Create
 pub mod Exclusion
 pub mod File
@@ -6,3 +7,4 @@ pub mod Header
 pub mod Journal
 pub mod Judged
 pub mod Load
+pub mod Marks

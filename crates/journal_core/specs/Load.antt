@@ -1,5 +1,5 @@
 -- What a load finds.
-use Rattle.std.specs.Prelude.{◌≡◌, ◌<◌, ℕ, ◌+◌, Bool, true, false, List, [], ◌∷◌, ◌++◌, length, drop, Result, Ok, Err}
+use Rattle.std.specs.Prelude.{◌≡◌, ◌<◌, ℕ, ◌+◌, Bool, true, false, List, [], ◌∷◌, ◌++◌, length, drop, All, Result, Ok, Err}
 use Rattle.site_traits.specs.Site.{SiteState, IsSettled, Same, OnFile}
 use Rattle.journal_core.specs.declared.loading.LoadFault.{LoadFault}
 use Rattle.journal_core.specs.declared.loading.LoadFault.TheVariants as fault
@@ -8,10 +8,12 @@ use Rattle.journal_core.specs.declared.loading.Found.TheVariants as found
 use Rattle.journal_core.specs.File.{records, size, IsRecord}
 use Rattle.journal_core.specs.Header.{IsUnmade, IsForeign, HasHeader}
 use Rattle.journal_core.specs.Head.{BeginsWith, IsBrokenAt}
+use Rattle.journal_core.specs.declared.marks.Mark.{Mark}
+use Rattle.journal_core.specs.Marks.{IsMark, first_mark}
 use Rattle.journal_core.specs.Journal.{Ledger, Stands}
 
 -- A journal that is being loaded: whose it is, how many records were read, where the gate behind them stands, how long the
--- file is, the bytes of the last record read, and whether the closed gate was found.
+-- file is, the bytes of the last record read, whether the closed gate was found, and the places that it keeps.
 pub record Progress : Type 0 where
   pub manager : ℕ
   pub count : ℕ
@@ -19,10 +21,11 @@ pub record Progress : Type 0 where
   pub len : ℕ
   pub record_bytes : List ℕ
   pub ended : Bool
+  pub marks : List Mark
 
 -- the journal of the records that were read
 abbrev pub ledger_of : Progress → Ledger
-ledger_of l = record { manager = l.manager; count = l.count; end = l.end; closed = false }
+ledger_of l = record { manager = l.manager; count = l.count; end = l.end; closed = false; marks = first_mark ∷ l.marks; back = [] }
 
 -- the records read so far are these, the oldest first, and nothing is pending on the site
 pub record Loads (rs : List (List ℕ)) (l : Progress) (s : SiteState) : Type 0 where
@@ -32,6 +35,7 @@ pub record Loads (rs : List (List ℕ)) (l : Progress) (s : SiteState) : Type 0 
   pub count : l.count ≡ length rs
   pub end : l.end ≡ size rs
   pub len : l.len ≡ length s.image
+  pub marks : All (IsMark rs) l.marks
 
 -- the records read so far are all that the file has, and the journal stands for them
 pub record LoadsAll (rs : List (List ℕ)) (l : Progress) (s : SiteState) : Type 0 where

@@ -1,9 +1,13 @@
 // The journal of one manager. A closed gate stands behind the last record, on the disk before anything is written behind it.
-ghost use Rattle.std.specs.Prelude.{◌≡◌, ◌≤◌, ◌<◌, ◌↔◌, ◌+◌, ℕ, IsTrue, true, false, take, length, OnOk};
+ghost use Rattle.std.specs.Prelude.{◌≡◌, ◌≤◌, ◌<◌, ◌↔◌, ◌+◌, ℕ, List, [], ◌∷◌, All, IsTrue, true, false, take, length, OnOk};
 ghost use Rattle.site_traits.specs.Counts.{Rose, OnlyDisk};
 ghost use Rattle.journal_core.specs.File.{piece};
 ghost use Rattle.journal_core.specs.Journal.{Stands, Appends};
+ghost use Rattle.journal_core.specs.Marks.{IsMark, first_mark};
+ghost use Rattle.journal_core.specs.Back.{ReadsBack, KeepsRecords};
 
+use crate::back::{BackFault, record_from};
+use crate::marks::{FIRST, Mark, Marks};
 use crate::through::write_through;
 use site_traits::{DiskFailed, Site};
 use std::marker::{Model, PhantomData};
@@ -26,19 +30,22 @@ pub struct Journal<S: Site> {
     count: u64,
     end: u64,
     closed: bool,
+    marks: Marks,
+    last: Mark,
+    size: usize,
     buffer: Vec<u8>,
     of: PhantomData<S>,
 }
 
 impl<S: Site> Model for Journal<S> {
-    ghost use Rattle.std.specs.Prelude.{◌≡◌, ◌≤◌, ◌<◌, length};
+    ghost use Rattle.std.specs.Prelude.{◌≡◌, ◌≤◌, ◌<◌, ◌∷◌, length, take};
     ghost use Rattle.journal_core.specs.Journal.{Ledger};
 
     ghost Value = { Ledger };
 
-    ghost view = { λ j. record { manager = j.manager; count = j.count; end = j.end; closed = j.closed } };
+    ghost view = { λ j. record { manager = j.manager; count = j.count; end = j.end; closed = j.closed; marks = j.last ∷ j.marks; back = take j.size j.buffer.items } };
 
-    ghost invariant = { λ j. (length j.buffer.items ≡ 65541) × (j.end < 268435456) × (j.count ≤ j.end) };
+    ghost invariant = { λ j. (length j.buffer.items ≡ 65541) × (j.end < 268435456) × (j.count ≤ j.end) × (j.size ≤ 65536) };
 }
 
 /// Why a record could not be appended.
@@ -67,17 +74,20 @@ impl From<DiskFailed> for AppendFault {
 
 impl<S: Site> Journal<S> {
     /// The journal of so many records, whose closed gate stands at `end`, with its buffer.
-    pub fn of(manager: u32, count: u64, end: u64, buffer: Vec<u8>) -> Journal<S>
+    pub fn of(manager: u32, count: u64, end: u64, buffer: Vec<u8>, marks: Marks) -> Journal<S>
         requires room { length buffer.items ≡ 65541 }
         requires small { end < 268435456 }
         requires few { count ≤ end }
-        ensures { result ≡ record { manager = manager; count = count; end = end; closed = false } }
+        ensures { result ≡ record { manager = manager; count = count; end = end; closed = false; marks = first_mark ∷ marks; back = [] } }
     {
         Journal {
             manager,
             count,
             end,
             closed: false,
+            marks,
+            last: FIRST,
+            size: 0,
             buffer,
             of: PhantomData,
         }
@@ -131,14 +141,78 @@ impl<S: Site> Journal<S> {
                 more: bytes.len() as u32,
             });
         }
+        self.size = 0;
         let total = frame(&mut self.buffer, bytes);
         self.closed = true;
         write_through(site, self.end + 1, &self.buffer[..total])?;
         write_through(site, self.end, &[1])?;
         self.closed = false;
+        self.marks.keep(Mark {
+            before: self.count,
+            place: self.end,
+        });
         self.end += total as u64;
         self.count += 1;
         Ok(())
+    }
+}
+
+impl<S: Site> Journal<S> {
+    /// Reads record n, from 1, back: `record_back` then gives its bytes. It makes one read of the record's head and one of its
+    /// bytes, and one of a head for each record between it and the nearest place that the journal keeps. It takes no memory.
+    ///
+    /// Refusals: `Disk`; `Broken(n)`, which never comes where the site tells its content.
+    /// After `Disk`: the journal is closed; load it again.
+    /// Source: own format, docs/JOURNAL.md.
+    pub fn read_back(&mut self, site: &mut S, n: u64) -> Result<(), BackFault>
+        requires some { 1 ≤ n }
+        requires within { n ≤ self.old.count }
+        requires usable { self.old.closed ≡ false }
+        requires stands { S.tells → Stands (S.state site.old) self.old }
+
+        ensures told { S.tells → ReadsBack n result self.new (S.state site.old) (S.state site.new) }
+        ensures kept { KeepsRecords self.old self.new }
+        ensures open { OnOk result (self.new.closed ≡ false) }
+        ensures broken { (k : ℕ) → result ≡ Err (BackFault.Broken k) → (k ≡ n) × (self.new.closed ≡ false) }
+        ensures disk { result ≡ Err BackFault.Disk → Rose (S.counts site.old).disk (S.counts site.new).disk }
+        ensures closed { result ≡ Err BackFault.Disk → self.new.closed ≡ true }
+        ensures counts { OnlyDisk (S.counts site.old) (S.counts site.new) }
+    {
+        let from = self.nearest(n);
+        self.size = 0;
+        self.closed = true;
+        let found = record_from(site, from, n, self.end, &mut self.buffer)?;
+        self.closed = false;
+        let Some((place, size)) = found else {
+            return Err(BackFault::Broken(n));
+        };
+        self.size = size;
+        self.last = Mark {
+            before: n,
+            place: place + 5 + size as u64,
+        };
+        Ok(())
+    }
+
+    /// The bytes of the record that was read back last; none before one was, and none after an append.
+    pub fn record_back(&self) -> &[u8]
+        ensures { result.now ≡ self.now.back }
+    {
+        &self.buffer[..self.size]
+    }
+
+    // The nearest place before record n that the journal keeps.
+    fn nearest(&self, n: u64) -> Mark
+        requires { 1 ≤ n }
+        ensures before { result.before < n }
+        ensures mark { (rs : List (List ℕ)) → All (IsMark rs) self.now.marks → IsMark rs result }
+    {
+        let kept = self.marks.near(n);
+        if kept.before < self.last.before && self.last.before < n {
+            self.last
+        } else {
+            kept
+        }
     }
 }
 

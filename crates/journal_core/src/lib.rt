@@ -1,15 +1,21 @@
 //! The journal: records behind gates in one file, each on the disk before it counts.
 #![tactic(auto)]
 
+mod back;
 mod create;
 mod exclusion;
 mod head;
 mod header;
 mod journal;
 mod loading;
+mod marks;
 mod through;
 
+pub use back::BackFault;
 pub use create::CreateFault;
 pub use exclusion::files_are_one_thing;
 pub use journal::{AppendFault, Journal, MAX_FILE, MAX_RECORD};
 pub use loading::{Found, LoadFault, Loading};
+
+#[cfg(test)]
+mod tests;

@@ -8,6 +8,7 @@ ghost use Rattle.journal_core.specs.Load.{Loads, Opened, IsBegun, Finds, Grows, 
 use crate::head::{Head, head_at};
 use crate::header::{Verdict, judge};
 use crate::journal::{Journal, ROOM};
+use crate::marks::{Mark, Marks};
 use crate::through::bytes_at;
 use site_traits::{DiskFailed, Site};
 use std::alloc::{AllocError, Global};
@@ -67,6 +68,7 @@ pub struct Loading<S: Site> {
     len: u64,
     size: usize,
     ended: bool,
+    marks: Marks,
     buffer: Vec<u8>,
     of: PhantomData<S>,
 }
@@ -78,7 +80,7 @@ impl<S: Site> Model for Loading<S> {
 
     ghost Value = { Progress };
 
-    ghost view = { λ l. record { manager = l.manager; count = l.count; end = l.end; len = l.len; record_bytes = take l.size l.buffer.items; ended = l.ended } };
+    ghost view = { λ l. record { manager = l.manager; count = l.count; end = l.end; len = l.len; record_bytes = take l.size l.buffer.items; ended = l.ended; marks = l.marks } };
 
     ghost invariant = { λ l. (length l.buffer.items ≡ 65541) × (l.end < 268435456) × (l.count ≤ l.end) × (l.end ≤ l.len) × (l.size ≤ 65536) };
 }
@@ -101,6 +103,7 @@ impl<S: Site> Journal<S> {
             Verdict::Foreign(place) => Err(LoadFault::Foreign(place)),
             Verdict::Made(manager) => {
                 let buffer = vec![in alloc; 0; ROOM]?;
+                let marks = Marks::new(alloc)?;
                 Ok(Loading {
                     manager,
                     count: 0,
@@ -108,6 +111,7 @@ impl<S: Site> Journal<S> {
                     len,
                     size: 0,
                     ended: false,
+                    marks,
                     buffer,
                     of: PhantomData,
                 })
@@ -176,6 +180,10 @@ impl<S: Site> Loading<S> {
             Head::Broken => Err(LoadFault::Broken(self.count + 1)),
             Head::Open(size) => {
                 bytes_at(site, self.end + 5, size as usize, &mut self.buffer)?;
+                self.marks.keep(Mark {
+                    before: self.count,
+                    place: self.end,
+                });
                 self.size = size as usize;
                 self.end += 5 + size as u64;
                 self.count += 1;
@@ -197,7 +205,7 @@ impl<S: Site> Loading<S> {
         requires { self.ended ≡ true }
         ensures { result ≡ ledger_of self }
     {
-        Journal::of(self.manager, self.count, self.end, self.buffer)
+        Journal::of(self.manager, self.count, self.end, self.buffer, self.marks)
     }
 }
 

@@ -1,9 +1,10 @@
 use Rattle.std.proofs.Common.{◌≡◌, ◌∙◌, ap, ◌+◌, ◌≤◌, take, length, arith}
 use Rattle.std.proofs.lemmas.List.{take_at}
-use Rattle.journal_core.specs.File.{piece, IsRecord}
+use Rattle.std.proofs.Common.{[], ◌∷◌, ◌++◌}
+use Rattle.journal_core.specs.File.{piece, records, IsRecord}
 use Rattle.journal_core.specs.Journal.{Ledger}
 use Rattle.journal_core.proofs.Records.{has_length, ready_has, records_of}
-use Rattle.journal_core.proofs.Appending.{first_moments, first_ready, second_moments, second_has, stands_more, appends_not}
+use Rattle.journal_core.proofs.Appending.{marks_kept, first_moments, first_ready, second_moments, second_has, stands_more, appends_not}
 use Rattle.journal_core.proofs.journal.Journal.append.Goals as goal
 
 pub write_through-requires : goal.write_through-requires
@@ -71,6 +72,6 @@ returns-clause-told g c = λ tells.
     record {
       any_moment = second_moments c.args.bytes.now _ _ j a b d (first_moments c.args.bytes.now _ _ _ j a b stands (ap (λ v. v + 1) end) first)
           stands first.settled ready one end room second;
-      stands = stands_more c.args.bytes.now j _ a d stands second.settled has manager (omega arith) (omega arith);
+      stands = stands_more c.args.bytes.now j _ a d stands second.settled has manager (omega arith) (omega arith) (marks_kept c.args.bytes.now j a c.self.inside.last c.self.inside.marks c.keep.new.self _ stands (ap (λ (v : Ledger). v.marks) c.self.view_is) (count ∙ stands.count) (end ∙ stands.end) (c.keep.ensures (records a.image ++ c.args.bytes.now ∷ [])));
       added = records_of _ _ _ has;
     }

@@ -18,6 +18,12 @@ returns-in_err-next-clause-loaded g c = λ tells.
     (failed_load before.0 err.0 c.loop-loading.loading c.next.new.self (g.S.Site.state c.loop-loading.site) b before.1 (c.next.ensures.told tells)
     c.in_err-next.ensures.grown (subst P (sym err.2) (c.in_err-next.ensures.found tells before.0 before.1)))
 
+pub returns-in_err-next-clause-told : goal.returns-in_err-next-clause-told
+returns-in_err-next-clause-told g c = λ tells. syncs_then_reads _ _ _ (c.loop-loading.invariant.told tells) (c.next.ensures.told tells)
+
+pub returns-in-End-clause-told : goal.returns-in-End-clause-told
+returns-in-End-clause-told g c = λ tells. syncs_then_reads _ _ _ (c.loop-loading.invariant.told tells) (c.next.ensures.told tells)
+
 pub loop-loading-preserved : goal.loop-loading-preserved
 loop-loading-preserved g c = record {
   loads = λ tells.

@@ -1,0 +1,13 @@
+use Rattle.site_traits.specs.Counts.{OnlyDisk}
+use Rattle.site_traits.specs.Site.{Reads}
+use Rattle.journal_core.specs.File.{records}
+use Rattle.journal_core.specs.Marks.{IsMark}
+use Rattle.journal_core.proofs.back.place_of.Given as goal
+
+-- so many records stand before the place
+abbrev pub invariant-loop : goal.invariant-loop
+invariant-loop g l = record {
+  mark : g.S.Site.tells → IsMark (records (g.S.Site.state l.fn.site).image) (record { before = l.counter; place = l.place });
+  told : g.S.Site.tells → Reads (g.S.Site.state l.fn.site) (g.S.Site.state l.site);
+  counts : OnlyDisk (g.S.Site.counts l.fn.site) (g.S.Site.counts l.site);
+}

@@ -1,0 +1,7 @@
+use Rattle.journal_core.proofs.BackLemmas.{has_at_long}
+use Rattle.journal_core.proofs.back.size_at.Goals as goal
+
+pub read_at-requires : goal.read_at-requires
+read_at-requires g c = λ tells.
+    let at = c.requires.told tells in
+    has_at_long c.args.place c.args.end at.0 (g.S.Site.state c.args.site.now).image at.1

@@ -1,0 +1,12 @@
+use Rattle.std.proofs.Common.{List, All, sym, ap, subst}
+use Rattle.std.proofs.lemmas.List.Elements.{All-tail}
+use Rattle.journal_core.specs.declared.marks.Mark.{Mark}
+use Rattle.journal_core.specs.Marks.{IsMark}
+use Rattle.journal_core.specs.Journal.{Ledger}
+use Rattle.journal_core.proofs.journal.Journal.nearest.Goals as goal
+
+pub returns-else-kept-self-clause-mark : goal.returns-else-kept-self-clause-mark
+returns-else-kept-self-clause-mark g c = λ rs all.
+    let i = c.self.inside in
+    let P : List Mark → Type 0 = λ v. All (IsMark rs) v in
+    c.near-kept.ensures.mark rs (All-tail (IsMark rs) i.last i.marks (subst P (sym (ap (λ (v : Ledger). v.marks) c.self.view_is)) all))
