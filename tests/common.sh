@@ -1,0 +1,23 @@
+# What the scripts of this folder share. Each runs the program, prints what it saw, and ends with 1 where that differs
+# from what is wanted.
+here=$(cd "$(dirname "$0")/.." && pwd) || exit 1
+request=$here/examples/create.http
+room=$(mktemp -d) || exit 1
+trap 'rm -rf "$room"' EXIT
+differs=0
+
+# Prints what was seen, and notes where it isn't what is wanted.
+expect() { # WHAT SEEN WANTED
+    printf '%s: %s\n' "$1" "$2"
+    [ "$2" = "$3" ] && return
+    printf '  wanted: %s\n' "$3"
+    differs=1
+}
+
+# The length of a file in bytes.
+bytes_of() { # FILE
+    wc -c <"$1" | tr -d ' '
+}
+
+# The program is built before anything is looked at.
+"$here/vnfm" --version || exit 1

@@ -1,0 +1,44 @@
+#!/bin/sh
+# Two managers on one journal: while the first runs, the second ends with status 3 and `site fault`, and nothing is lost.
+. "$(dirname "$0")/common.sh"
+
+journal=$room/journal
+cp "$here/examples/journal" "$journal"
+mkfifo "$room/input" || exit 1
+
+# The first manager holds the journal and waits for the rest of its connection.
+"$here/vnfm" once --journal "$journal" <"$room/input" >"$room/first.out" 2>"$room/first.err" &
+first=$!
+exec 3>"$room/input"
+tries=0
+until ls -l "/proc/$first/fd" 2>/dev/null | grep -qF "$journal"; do
+    tries=$((tries + 1))
+    if [ "$tries" -gt 30 ]; then
+        echo "the first manager didn't open the journal in 30 seconds" >&2
+        exit 1
+    fi
+    sleep 1
+done
+sleep 1
+
+"$here/vnfm" once --journal "$journal" <"$request" >"$room/second.out" 2>"$room/second.err" 3>&-
+expect "second manager, status" "$?" 3
+expect "second manager, line" "$(cat "$room/second.err")" "site fault"
+expect "second manager, answer" "$(cat "$room/second.out")" ""
+
+cat "$request" >&3
+exec 3>&-
+wait "$first"
+expect "first manager, status" "$?" 0
+expect "first manager, line" "$(cat "$room/first.err")" "done after 1 rounds"
+expect "first manager, answer" "$(head -n 1 "$room/first.out" | tr -d '\r')" "HTTP/1.1 201 Created"
+expect "journal, bytes" "$(bytes_of "$journal")" 71
+
+# Once the first has ended, the journal can be had again.
+"$here/vnfm" once --journal "$journal" <"$request" >"$room/third.out" 2>"$room/third.err"
+expect "third manager, status" "$?" 0
+expect "third manager, Location" "$(sed -n '2p' "$room/third.out" | tr -d '\r')" \
+    "Location: /vnflcm/v1/vnf_instances/00000007-766d-8001-8000-000000000002"
+expect "journal, bytes" "$(bytes_of "$journal")" 109
+
+exit "$differs"
