@@ -3,6 +3,7 @@ pub mod Form
 pub mod Fields
 pub mod Hearing
 pub mod Judging
+pub mod Laws
 pub mod Mouth
 pub mod Outcome
 pub mod Response

@@ -5,6 +5,7 @@ mod answer;
 mod door;
 mod form;
 mod judge;
+mod laws;
 mod listen;
 mod mouth;
 mod outgoing;
@@ -15,6 +16,7 @@ mod tell;
 
 pub use answer::{ApiFault, MAX_INSTANCES, MAX_REQUESTED};
 pub use door::DoorFailed;
+pub use laws::bytes_are_one_request;
 pub use mouth::{HearFault, Mouth};
 pub use reply::Reply;
 pub use request::Request;
