@@ -1,0 +1,115 @@
+//! A house in memory, in which `once` is run, and what a run did there.
+use lcm_api::Mouth;
+use lcm_events::Role;
+use site_traits::{
+    DoorPlan, MemCourier, MemDoor, MemOrchestrator, MemSink, MemSite, SetClock, SitePlan,
+};
+use std::alloc::{AllocError, Global};
+use vnfm_base::{Bytes, Text};
+use vnfm_cli::run;
+
+/// A made file of manager 7 with no record.
+pub const MADE: [u8; 33] = [
+    86, 78, 70, 77, 45, 76, 67, 77, 1, 0, 0, 0, 7, 0, 0, 0, 0, 0, 0, 0, 0, 0, 0, 0, 0, 0, 0, 0, 0,
+    0, 0, 0, 0,
+];
+
+/// A request that creates an instance.
+pub const CREATE: &[u8] =
+    b"POST /vnflcm/v1/vnf_instances HTTP/1.1\r\nHost: vnfm.example\r\nContent-Type: application/json\r\nContent-Length: 46\r\n\r\n{\"vnfdId\":\"vnfd-1\",\"vnfInstanceName\":\"edge-1\"}";
+
+/// What a run did.
+#[derive(Drop)]
+pub struct Ran {
+    /// The program's status.
+    pub status: u8,
+    /// What the last connection was told.
+    pub told: Bytes,
+    /// What was printed.
+    pub printed: Bytes,
+    /// Whether the last connection was hung up.
+    pub ended: bool,
+    /// How often the clock was read.
+    pub clock: u64,
+}
+
+/// A site with this file, of which these disk calls, from 1, fail.
+pub fn site_with(alloc: Global, file: &[u8], failing: Vec<u64>) -> Result<MemSite, AllocError> {
+    let plan = SitePlan {
+        bytes: 200_000,
+        failing,
+    };
+    MemSite::with_file(alloc, plan, file)
+}
+
+/// The words `once --journal j`.
+pub fn once_words(alloc: Global) -> Result<Vec<Text>, AllocError> {
+    words_of(alloc, &["once", "--journal", "j"])
+}
+
+/// These words.
+pub fn words_of(alloc: Global, texts: &[&str]) -> Result<Vec<Text>, AllocError> {
+    let mut words = Vec::new(alloc);
+    for text in texts {
+        words.push(Text::of_string(String::from_str(alloc, text)?))?;
+    }
+    Ok(words)
+}
+
+/// A door at which one connection comes, with these bytes in one piece.
+pub fn door_of(alloc: Global, bytes: &[u8]) -> Result<Vec<DoorPlan>, AllocError> {
+    let mut pieces = Vec::new(alloc);
+    if !bytes.is_empty() {
+        pieces.push(Bytes::of(alloc, bytes)?)?;
+    }
+    let mut plans = Vec::new(alloc);
+    plans.push(DoorPlan::Conn {
+        role: Role::Orchestrator,
+        pieces,
+        failing_read: None,
+        failing_write: None,
+    })?;
+    Ok(plans)
+}
+
+/// Runs these words over this site, this door and a sink of which this put fails.
+pub fn run_over(
+    alloc: Global,
+    words: &[Text],
+    site: &mut MemSite,
+    door: Vec<DoorPlan>,
+    failing_put: Option<u64>,
+) -> Result<Ran, AllocError> {
+    let mut mouth = Mouth::new(alloc, MemDoor::new(alloc, door)?)?;
+    let mut orchestrator = MemOrchestrator::new(alloc, Vec::new(alloc))?;
+    let mut courier = MemCourier::new(alloc, Vec::new(alloc))?;
+    let mut times = Vec::new(alloc);
+    times.push(1_700_000_000_000u64)?;
+    let mut clock = SetClock::new(alloc, times)?;
+    let mut sink = MemSink::new(alloc, failing_put)?;
+    let status = run(
+        alloc,
+        words,
+        site,
+        &mut mouth,
+        &mut orchestrator,
+        &mut courier,
+        &mut clock,
+        &mut sink,
+    );
+    let conn = mouth.door().conn();
+    Ok(Ran {
+        status,
+        told: Bytes::of(alloc, conn.out())?,
+        printed: Bytes::of(alloc, sink.bytes())?,
+        ended: conn.is_hung_up(),
+        clock: clock.calls(),
+    })
+}
+
+/// Runs `once` over this site, for a connection with these bytes.
+pub fn once(alloc: Global, site: &mut MemSite, bytes: &[u8]) -> Result<Ran, AllocError> {
+    let words = once_words(alloc)?;
+    let door = door_of(alloc, bytes)?;
+    run_over(alloc, &words, site, door, None)
+}

@@ -1,0 +1,13 @@
+//! Whole runs over the objects in memory: what they tell, print and leave.
+#![tactic(auto)]
+
+#[cfg(test)]
+mod house;
+#[cfg(test)]
+mod limits;
+#[cfg(test)]
+mod requests;
+#[cfg(test)]
+mod statuses;
+#[cfg(test)]
+mod stops;

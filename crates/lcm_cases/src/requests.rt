@@ -1,0 +1,270 @@
+//! Requests, and each byte of their answers.
+use crate::house::{CREATE, MADE, once, site_with};
+use std::alloc::{AllocError, Global};
+use std::test::Fail;
+
+/// The answer that creates instance 1.
+const FIRST: &[u8] =
+    b"HTTP/1.1 201 Created\r\nLocation: /vnflcm/v1/vnf_instances/00000007-766d-8001-8000-000000000001\r\nContent-Type: application/json\r\nContent-Length: 398\r\n\r\n{\"_links\":{\"instantiate\":{\"href\":\"/vnflcm/v1/vnf_instances/00000007-766d-8001-8000-000000000001/instantiate\"},\"self\":{\"href\":\"/vnflcm/v1/vnf_instances/00000007-766d-8001-8000-000000000001\"}},\"id\":\"00000007-766d-8001-8000-000000000001\",\"instantiationState\":\"NOT_INSTANTIATED\",\"vnfInstanceName\":\"edge-1\",\"vnfProductName\":\"\",\"vnfProvider\":\"\",\"vnfSoftwareVersion\":\"\",\"vnfdId\":\"vnfd-1\",\"vnfdVersion\":\"\"}";
+
+/// The answer that creates instance 2.
+const SECOND: &[u8] =
+    b"HTTP/1.1 201 Created\r\nLocation: /vnflcm/v1/vnf_instances/00000007-766d-8001-8000-000000000002\r\nContent-Type: application/json\r\nContent-Length: 398\r\n\r\n{\"_links\":{\"instantiate\":{\"href\":\"/vnflcm/v1/vnf_instances/00000007-766d-8001-8000-000000000002/instantiate\"},\"self\":{\"href\":\"/vnflcm/v1/vnf_instances/00000007-766d-8001-8000-000000000002\"}},\"id\":\"00000007-766d-8001-8000-000000000002\",\"instantiationState\":\"NOT_INSTANTIATED\",\"vnfInstanceName\":\"edge-1\",\"vnfProductName\":\"\",\"vnfProvider\":\"\",\"vnfSoftwareVersion\":\"\",\"vnfdId\":\"vnfd-1\",\"vnfdVersion\":\"\"}";
+
+/// The record of instance 1.
+const RECORD: [u8; 38] = [
+    1, 0, 0, 0, 33, 2, 0, 0, 1, 139, 207, 229, 104, 0, 0, 0, 0, 0, 0, 0, 0, 1, 6, 118, 110, 102,
+    100, 45, 49, 1, 6, 101, 100, 103, 101, 45, 49, 0,
+];
+
+#[test]
+fn a_creation_is_answered_and_a_repeat_is_one_more(rt: HostRuntime) -> Result<(), Fail> {
+    let alloc = rt.alloc();
+    let mut site = site_with(alloc, &MADE, Vec::new(alloc))?;
+    let first = once(alloc, &mut site, CREATE)?;
+    assert!(rt; first.status == 0);
+    assert!(rt; first.told.as_slice() == FIRST);
+    assert!(rt; first.printed.as_slice() == b"done after 1 rounds\n".as_slice());
+    assert!(rt; first.ended);
+    assert_eq!(rt; first.clock, 2);
+    assert_eq!(rt; site.file().len(), 71);
+    assert!(rt; &site.file()[32..70] == RECORD.as_slice());
+    assert_eq!(rt; site.file()[70], 0);
+    let second = once(alloc, &mut site, CREATE)?;
+    assert!(rt; second.told.as_slice() == SECOND);
+    assert_eq!(rt; site.file().len(), 109);
+    Ok(())
+}
+
+/// Whether a create request with this body is told this refusal, and leaves the file as it was.
+fn is_refused(
+    alloc: Global,
+    body: &[u8],
+    status_line: &[u8],
+    problem: &[u8],
+) -> Result<bool, AllocError> {
+    let mut request = format!(in alloc;
+        "POST /vnflcm/v1/vnf_instances HTTP/1.1\r\nContent-Length: {}\r\n\r\n",
+        body.len()
+    )?
+    .into_bytes();
+    request.extend_from_slice(body)?;
+    let mut told = Vec::from_slice(alloc, status_line)?;
+    let head = format!(in alloc;
+        "\r\nContent-Type: application/problem+json\r\nContent-Length: {}\r\n\r\n",
+        problem.len()
+    )?;
+    told.extend_from_slice(head.as_bytes())?;
+    told.extend_from_slice(problem)?;
+    let mut site = site_with(alloc, &MADE, Vec::new(alloc))?;
+    let ran = once(alloc, &mut site, &request)?;
+    Ok(ran.status == 0 && ran.told.as_slice() == told.as_slice() && site.file() == MADE.as_slice())
+}
+
+/// Whether a create request with this body is told 400 with this detail.
+fn is_bad(alloc: Global, body: &[u8], detail: &str) -> Result<bool, AllocError> {
+    let problem = format!(in alloc; "{{\"detail\":\"{detail}\",\"status\":400}}")?;
+    is_refused(alloc, body, b"HTTP/1.1 400 Bad Request", problem.as_bytes())
+}
+
+#[test]
+fn a_body_is_refused_for_its_first_fault(rt: HostRuntime) -> Result<(), Fail> {
+    let alloc = rt.alloc();
+    let cases: [(&[u8], &str); 14] = [
+        (b"{", "malformed JSON"),
+        (b"", "malformed JSON"),
+        (b"[]", "malformed JSON"),
+        (b"{\"vnfdId\":\"\xff\"}", "malformed JSON"),
+        (b"{\"vnfdId\":\"v\"} x", "malformed JSON"),
+        (b"{}", "missing vnfdId"),
+        (b"{\"vnfdId\":null}", "missing vnfdId"),
+        (b"{\"vnfdId\":7}", "bad vnfdId"),
+        (b"{\"vnfdId\":\"\"}", "bad vnfdId"),
+        (b"{\"vnfdId\":\"a\\nb\"}", "bad vnfdId"),
+        (b"{\"vnfInstanceName\":7}", "missing vnfdId"),
+        (
+            b"{\"vnfdId\":\"v\",\"vnfInstanceName\":\"\\u0001\"}",
+            "bad vnfInstanceName",
+        ),
+        (
+            b"{\"vnfdId\":\"v\",\"vnfInstanceName\":\"\\u007f\"}",
+            "bad vnfInstanceName",
+        ),
+        (
+            b"{\"vnfdId\":\"v\",\"vnfInstanceDescription\":[]}",
+            "bad vnfInstanceDescription",
+        ),
+    ];
+    for (body, detail) in cases {
+        assert!(rt; is_bad(alloc, body, detail)?, "{detail}");
+    }
+    Ok(())
+}
+
+/// A body whose `vnfdId` has so many letters.
+fn named(alloc: Global, letters: usize) -> Result<Vec<u8>, AllocError> {
+    let mut body = Vec::from_slice(alloc, b"{\"vnfdId\":\"")?;
+    for _ in 0..letters {
+        body.push(b'v')?;
+    }
+    body.extend_from_slice(b"\"}")?;
+    Ok(body)
+}
+
+/// A body with a further member of so many arrays in one another.
+fn nested(alloc: Global, arrays: usize) -> Result<Vec<u8>, AllocError> {
+    let mut body = Vec::from_slice(alloc, b"{\"vnfdId\":\"v\",\"x\":")?;
+    for _ in 0..arrays {
+        body.push(b'[')?;
+    }
+    for _ in 0..arrays {
+        body.push(b']')?;
+    }
+    body.push(b'}')?;
+    Ok(body)
+}
+
+/// Whether a create request with this body is told 201.
+fn is_taken(alloc: Global, body: &[u8]) -> Result<bool, AllocError> {
+    let mut request = format!(in alloc;
+        "POST /vnflcm/v1/vnf_instances HTTP/1.1\r\nContent-Length: {}\r\n\r\n",
+        body.len()
+    )?
+    .into_bytes();
+    request.extend_from_slice(body)?;
+    let mut site = site_with(alloc, &MADE, Vec::new(alloc))?;
+    let ran = once(alloc, &mut site, &request)?;
+    Ok(
+        ran.status == 0
+            && ran.told.as_slice().starts_with(b"HTTP/1.1 201 Created\r\n")
+            && site.file().len() > 33,
+    )
+}
+
+#[test]
+fn bodies_at_the_limits_are_judged(rt: HostRuntime) -> Result<(), Fail> {
+    let alloc = rt.alloc();
+    assert!(rt; is_taken(alloc, &named(alloc, 255)?)?);
+    assert!(rt; is_bad(alloc, &named(alloc, 256)?, "bad vnfdId")?);
+    assert!(rt; is_taken(alloc, &nested(alloc, 126)?)?);
+    assert!(rt; is_bad(alloc, &nested(alloc, 127)?, "malformed JSON")?);
+    assert!(rt; is_taken(alloc, b"{\"vnfdId\":7,\"vnfdId\":\"v\"}")?);
+    assert!(rt; is_bad(alloc, b"{\"vnfdId\":\"v\",\"vnfdId\":7}", "bad vnfdId")?);
+    Ok(())
+}
+
+#[test]
+fn a_name_is_written_by_the_rule_of_json(rt: HostRuntime) -> Result<(), Fail> {
+    let alloc = rt.alloc();
+    let request: &[u8] =
+        b"POST /vnflcm/v1/vnf_instances HTTP/1.1\r\nContent-Length: 49\r\n\r\n{\"vnfdId\":\"v\",\"vnfInstanceName\":\"a\\\"b\\\\c\xc2\x80\xc3\xa9\xc2\x9fd\"}";
+    let mut site = site_with(alloc, &MADE, Vec::new(alloc))?;
+    let ran = once(alloc, &mut site, request)?;
+    assert!(rt; ran.told.as_slice().starts_with(b"HTTP/1.1 201 Created\r\n"));
+    assert!(rt;
+        holds(
+            ran.told.as_slice(),
+            b"\"vnfInstanceName\":\"a\\\"b\\\\c\xc2\x80\xc3\xa9\xc2\x9fd\",\"vnfProductName\""
+        )
+    );
+    Ok(())
+}
+
+/// Whether these bytes stand somewhere in those.
+fn holds(all: &[u8], part: &[u8]) -> bool {
+    all.windows(part.len().max(1)).any(|window| window == part)
+}
+
+#[test]
+fn other_input_is_answered_and_changes_nothing(rt: HostRuntime) -> Result<(), Fail> {
+    let alloc = rt.alloc();
+    let malformed: &[u8] =
+        b"HTTP/1.1 400 Bad Request\r\nContent-Type: application/problem+json\r\nContent-Length: 43\r\n\r\n{\"detail\":\"malformed request\",\"status\":400}";
+    let elsewhere: &[u8] =
+        b"HTTP/1.1 404 Not Found\r\nContent-Type: application/problem+json\r\nContent-Length: 42\r\n\r\n{\"detail\":\"no such resource\",\"status\":404}";
+    let cases: [(&[u8], &[u8]); 13] = [
+        (b"", malformed),
+        (b"\0\0\0\0", malformed),
+        (b"hello", malformed),
+        (b"POST /vnflcm/v1/vnf_instances HTTP/1.1\r\n\r\n", malformed),
+        (
+            b"POST /vnflcm/v1/vnf_instances HTTP/1.1\r\nContent-Length: 3\r\n\r\n{}",
+            malformed,
+        ),
+        (
+            b"POST /vnflcm/v1/vnf_instances HTTP/1.1\r\nContent-Length: 1\r\n\r\n{}",
+            malformed,
+        ),
+        (
+            b"POST /vnflcm/v1/vnf_instances HTTP/1.1\r\nContent-Length: 2\r\nContent-Length: 2\r\n\r\n{}",
+            malformed,
+        ),
+        (
+            b"POST /vnflcm/v1/vnf_instances HTTP/1.1\r\nContent-Length: +2\r\n\r\n{}",
+            malformed,
+        ),
+        (
+            b"POST /vnflcm/v1/vnf_instances HTTP/1.1\r\nContent-Length: 2\r\nTransfer-Encoding: chunked\r\n\r\n{}",
+            malformed,
+        ),
+        (
+            b"GET /vnflcm/v1/vnf_instances HTTP/1.1\r\nContent-Length: 0\r\n\r\nGET / HTTP/1.1\r\n\r\n",
+            malformed,
+        ),
+        (
+            b"GET /vnflcm/v1/vnf_instances HTTP/1.1\r\nContent-Length: 0\r\n\r\n",
+            elsewhere,
+        ),
+        (
+            b"POST /vnflcm/v1/vnf_instances?x HTTP/1.1\r\nContent-Length: 2\r\n\r\n{}",
+            elsewhere,
+        ),
+        (
+            b"POST / HTTP/1.1\r\ncontent-length: 002\r\n\r\n{}",
+            elsewhere,
+        ),
+    ];
+    for (bytes, told) in cases {
+        let mut site = site_with(alloc, &MADE, Vec::new(alloc))?;
+        let ran = once(alloc, &mut site, bytes)?;
+        assert_eq!(rt; ran.status, 0);
+        assert!(rt; ran.told.as_slice() == told);
+        assert!(rt; ran.ended);
+        assert!(rt; site.file() == MADE.as_slice());
+    }
+    Ok(())
+}
+
+/// A create request whose body is padded so that the request has so many bytes.
+fn padded(alloc: Global, length: usize) -> Result<Vec<u8>, AllocError> {
+    let body = b"{\"vnfdId\":\"v\"}";
+    let mut request = Vec::from_slice(
+        alloc,
+        b"POST /vnflcm/v1/vnf_instances HTTP/1.1\r\nContent-Length: ",
+    )?;
+    let rest = length.saturating_sub(request.len().saturating_add(9));
+    request.extend_from_slice(format!(in alloc; "{rest}\r\n\r\n")?.as_bytes())?;
+    request.extend_from_slice(body)?;
+    for _ in request.len()..length {
+        request.push(b' ')?;
+    }
+    Ok(request)
+}
+
+#[test]
+fn a_request_has_65_536_bytes_and_no_more(rt: HostRuntime) -> Result<(), Fail> {
+    let alloc = rt.alloc();
+    let cases: [(usize, &[u8]); 2] = [
+        (65_536, b"HTTP/1.1 201 Created\r\n"),
+        (65_537, b"HTTP/1.1 400 Bad Request\r\n"),
+    ];
+    for (length, line) in cases {
+        let request = padded(alloc, length)?;
+        assert_eq!(rt; request.len(), length);
+        let mut site = site_with(alloc, &MADE, Vec::new(alloc))?;
+        let ran = once(alloc, &mut site, &request)?;
+        assert_eq!(rt; ran.status, 0);
+        assert!(rt; ran.told.as_slice().starts_with(line));
+    }
+    Ok(())
+}

@@ -1,0 +1,177 @@
+//! How a run ends, and what it leaves.
+use crate::house::{CREATE, MADE, door_of, once, once_words, run_over, site_with, words_of};
+use site_traits::DoorPlan;
+use std::alloc::{AllocError, Global};
+use std::test::Fail;
+
+/// Whether `once` over this file ends with this status and this line, tells nothing, and leaves the file as it was.
+fn ends(alloc: Global, file: &[u8], status: u8, line: &[u8]) -> Result<bool, AllocError> {
+    let mut site = site_with(alloc, file, Vec::new(alloc))?;
+    let ran = once(alloc, &mut site, CREATE)?;
+    Ok(
+        ran.status == status
+            && ran.printed.as_slice() == line
+            && ran.told.is_empty()
+            && ran.clock == 0
+            && site.file() == file,
+    )
+}
+
+#[test]
+fn a_file_that_is_no_journal_is_named_at_its_place(rt: HostRuntime) -> Result<(), Fail> {
+    let alloc = rt.alloc();
+    assert!(rt; ends(alloc, &[], 5, b"no journal\n")?);
+    assert!(rt; ends(alloc, &[86], 5, b"no journal\n")?);
+    assert!(rt; ends(alloc, &MADE[..31], 5, b"not a journal: byte 31\n")?);
+    assert!(rt; ends(alloc, &MADE[..32], 8, b"bad record 1\n")?);
+    for place in 0..32usize {
+        let mut file = MADE;
+        file[place] = 99;
+        let line = format!(in alloc; "not a journal: byte {place}\n")?;
+        let is_number = place >= 9 && place <= 12;
+        let right = if is_number {
+            once(
+                alloc,
+                &mut site_with(alloc, &file, Vec::new(alloc))?,
+                CREATE,
+            )?
+            .status
+                == 0
+        } else if place == 0 {
+            ends(alloc, &file, 5, b"no journal\n")?
+        } else {
+            ends(alloc, &file, 5, line.as_bytes())?
+        };
+        assert!(rt; right, "byte {place}");
+    }
+    Ok(())
+}
+
+/// A made file with these bytes from its first gate on.
+fn with_records(alloc: Global, bytes: &[u8]) -> Result<Vec<u8>, AllocError> {
+    let mut file = Vec::from_slice(alloc, &MADE[..32])?;
+    file.extend_from_slice(bytes)?;
+    Ok(file)
+}
+
+#[test]
+fn a_bad_record_is_named(rt: HostRuntime) -> Result<(), Fail> {
+    let alloc = rt.alloc();
+    let cases: [(&[u8], &[u8]); 7] = [
+        (&[1, 0, 0, 0, 0, 0], b"bad record 1\n"),
+        (&[1, 0, 1, 0, 1, 0], b"bad record 1\n"),
+        (&[1, 0, 0, 0, 9, 2, 0], b"bad record 1\n"),
+        (&[1, 0, 0, 0, 1, 2, 0], b"bad record 1\n"),
+        (
+            &[
+                1, 0, 0, 0, 21, 2, 0, 0, 0, 0, 0, 0, 0, 0, 0, 0, 0, 0, 0, 0, 0, 2, 1, 118, 0, 0, 0,
+            ],
+            b"bad record 1\n",
+        ),
+        (
+            &[
+                1, 0, 0, 0, 21, 2, 0, 0, 0, 0, 0, 0, 0, 0, 0, 0, 0, 0, 0, 0, 0, 1, 1, 118, 0, 0, 1,
+                0, 0, 0, 1, 9, 0,
+            ],
+            b"bad record 2\n",
+        ),
+        (
+            &[
+                1, 0, 0, 0, 21, 2, 0, 0, 0, 0, 0, 0, 0, 0, 0, 0, 0, 0, 0, 0, 0, 1, 1, 118, 0, 0, 1,
+            ],
+            b"bad record 2\n",
+        ),
+    ];
+    for (bytes, line) in cases {
+        let file = with_records(alloc, bytes)?;
+        assert!(rt; ends(alloc, &file, 8, line)?);
+    }
+    Ok(())
+}
+
+#[test]
+fn words_that_are_no_command_touch_nothing(rt: HostRuntime) -> Result<(), Fail> {
+    let alloc = rt.alloc();
+    let cases: [&[&str]; 8] = [
+        &[],
+        &["once"],
+        &["once", "--journal"],
+        &["once", "--journal", "-j"],
+        &["once", "--journal", "j", "x"],
+        &["--journal", "j", "once"],
+        &["serve", "--journal", "j"],
+        &["--help"],
+    ];
+    for texts in cases {
+        let words = words_of(alloc, texts)?;
+        let mut site = site_with(alloc, &MADE, Vec::new(alloc))?;
+        let ran = run_over(alloc, &words, &mut site, door_of(alloc, CREATE)?, None)?;
+        assert_eq!(rt; ran.status, 2);
+        assert!(rt;
+            ran.printed.as_slice()
+                == b"usage: vnfm init|onboard|once|serve|check|trial\n".as_slice()
+        );
+        assert!(rt; ran.told.is_empty());
+        assert_eq!(rt; site.moment(), 0);
+    }
+    Ok(())
+}
+
+#[test]
+fn a_door_and_a_sink_that_fail_are_told_apart(rt: HostRuntime) -> Result<(), Fail> {
+    let alloc = rt.alloc();
+    let words = once_words(alloc)?;
+    let mut plans = Vec::new(alloc);
+    plans.push(DoorPlan::NextFails)?;
+    let mut site = site_with(alloc, &MADE, Vec::new(alloc))?;
+    let ran = run_over(alloc, &words, &mut site, plans, None)?;
+    assert_eq!(rt; ran.status, 4);
+    assert!(rt; ran.printed.as_slice() == b"door fault\n".as_slice());
+    let mut plans = Vec::new(alloc);
+    plans.push(DoorPlan::Nobody)?;
+    let ran = run_over(alloc, &words, &mut site, plans, None)?;
+    assert_eq!(rt; ran.status, 0);
+    assert_eq!(rt; ran.clock, 1);
+    let ran = run_over(alloc, &words, &mut site, door_of(alloc, CREATE)?, Some(1))?;
+    assert_eq!(rt; ran.status, 7);
+    assert!(rt; ran.printed.is_empty());
+    assert!(rt; ran.told.as_slice().starts_with(b"HTTP/1.1 201 Created\r\n"));
+    assert_eq!(rt; site.file().len(), 71);
+    let ran = run_over(
+        alloc,
+        &words,
+        &mut site_with(alloc, &[], Vec::new(alloc))?,
+        Vec::new(alloc),
+        Some(1),
+    )?;
+    assert_eq!(rt; ran.status, 5);
+    Ok(())
+}
+
+#[test]
+fn each_disk_call_that_fails_ends_the_run_with_a_site_fault(rt: HostRuntime) -> Result<(), Fail> {
+    let alloc = rt.alloc();
+    let told: &[u8] =
+        b"HTTP/1.1 500 Internal Server Error\r\nContent-Type: application/problem+json\r\nContent-Length: 39\r\n\r\n{\"detail\":\"journal fault\",\"status\":500}";
+    let mut whole = site_with(alloc, &MADE, Vec::new(alloc))?;
+    let _ = once(alloc, &mut whole, CREATE)?;
+    let calls = whole.moment() as u64;
+    for before in 0..calls {
+        let mut failing = Vec::new(alloc);
+        failing.push(before.saturating_add(1))?;
+        let mut site = site_with(alloc, &MADE, failing)?;
+        let ran = once(alloc, &mut site, CREATE)?;
+        assert_eq!(rt; ran.status, 3);
+        assert!(rt; ran.printed.as_slice() == b"site fault\n".as_slice());
+        assert!(rt; ran.told.is_empty() || ran.told.as_slice() == told);
+        assert!(rt;
+            (ran.told.as_slice() == told) == (calls.saturating_sub(before) <= 4),
+            "{before} calls of {calls}"
+        );
+        let mut left = site_with(alloc, site.file(), Vec::new(alloc))?;
+        let again = once(alloc, &mut left, CREATE)?;
+        assert_eq!(rt; again.status, 0);
+        assert!(rt; left.file().len() == 71 || left.file().len() == 109);
+    }
+    Ok(())
+}
