@@ -351,13 +351,18 @@ fn first_of(bytes: &[u8]) -> u8 {
     if bytes.is_empty() { 0 } else { bytes[0] }
 }
 
+/// What reading records 3, 1 and 2 back, in this order, gave.
+#[derive(Clone, Copy)]
+struct ReadInTurn {
+    third: u8,
+    first: u8,
+    second: u8,
+    moment: usize,
+}
+
 /// The first bytes of records 3, 1 and 2, read back in this order, and how many calls are then on record; None where a call
 /// fails.
-fn read_in_turn(
-    alloc: Global,
-    file: &[u8],
-    fault: u64,
-) -> Result<Option<([u8; 3], usize)>, AllocError> {
+fn read_in_turn(alloc: Global, file: &[u8], fault: u64) -> Result<Option<ReadInTurn>, AllocError> {
     let mut site = site_of(alloc, file, fault)?;
     let mut journal = match Journal::load(alloc, &mut site) {
         Ok(journal) => journal,
@@ -366,20 +371,24 @@ fn read_in_turn(
     if journal.count() != 3 {
         return Ok(None);
     }
-    let mut read = [0u8; 3];
-    match journal.read_back(&mut site, 3) {
-        Ok(()) => read[0] = first_of(journal.record_back()),
+    let third = match journal.read_back(&mut site, 3) {
+        Ok(()) => first_of(journal.record_back()),
         Err(_) => return Ok(None),
-    }
-    match journal.read_back(&mut site, 1) {
-        Ok(()) => read[1] = first_of(journal.record_back()),
+    };
+    let first = match journal.read_back(&mut site, 1) {
+        Ok(()) => first_of(journal.record_back()),
         Err(_) => return Ok(None),
-    }
-    match journal.read_back(&mut site, 2) {
-        Ok(()) => read[2] = first_of(journal.record_back()),
+    };
+    let second = match journal.read_back(&mut site, 2) {
+        Ok(()) => first_of(journal.record_back()),
         Err(_) => return Ok(None),
-    }
-    Ok(Some((read, site.moment())))
+    };
+    Ok(Some(ReadInTurn {
+        third,
+        first,
+        second,
+        moment: site.moment(),
+    }))
 }
 
 #[test]
@@ -389,8 +398,15 @@ fn records_are_read_back_in_any_order_by_two_reads_each(rt: HostRuntime) -> Resu
     file.extend_from_slice(&MADE[..32])?;
     file.extend_from_slice(b"\x01\0\0\0\x01a\x01\0\0\0\x02bc\x01\0\0\0\x01d\0")?;
     // A load of three records makes ten calls.
-    let read = read_in_turn(alloc, &file, 0)?;
-    assert!(rt; matches!(read, Some(([b'd', b'a', b'b'], 16))));
+    match read_in_turn(alloc, &file, 0)? {
+        Some(read) => {
+            assert_eq!(rt; read.third, b'd');
+            assert_eq!(rt; read.first, b'a');
+            assert_eq!(rt; read.second, b'b');
+            assert_eq!(rt; read.moment, 16);
+        }
+        None => assert!(rt; false),
+    }
     for fault in 11..17u64 {
         assert!(rt;
             read_in_turn(alloc, &file, fault)?.is_none(),
