@@ -30,7 +30,7 @@ pub fn is_allowed(
 {
     match kind {
         EventKind::Onboarded(vnfd) => Ok(may_onboard(events, vnfd)),
-        EventKind::Created { instance, .. } => Ok(may_create(events, *instance)),
+        EventKind::Created { instance, vnfd, .. } => Ok(may_create(events, *instance, vnfd)),
         EventKind::Deleted { instance } => Ok(may_delete(events, *instance)),
         EventKind::Asked(operation) => may_ask(alloc, events, operation),
         EventKind::GrantTried { occ, answer } => Ok(may_try(events, *occ, answer)),

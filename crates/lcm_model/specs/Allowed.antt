@@ -24,20 +24,16 @@ use Rattle.lcm_model.specs.Refusals.{ask_refusal, case_in, delete_refusal, situa
 use Rattle.lcm_model.specs.Work.{MayBegin, MayMove}
 use Rattle.lcm_model.specs.Notices.{is_small_filter, next_notice}
 
--- a Created names a descriptor that was onboarded (SOL 003 5.4.2)
-abbrev pub names_onboarded : List Event → EventKind → Bool
-names_onboarded H (Created instance vnfd name text) = is_some (descriptor_named H vnfd)
-names_onboarded H _ = true
-
 -- the descriptor may be onboarded: it is valid, new, and there is room (own rule)
 pub record MayOnboard (H : List Event) (d : Vnfd) : Type 0 where
   pub valid : IsValid d
   pub unknown : descriptor_named H d.descriptor_id ≡ None
   pub room : length (descriptors H) < 256
 
--- the instance may be created: its number is the next, and there is room (SOL 003 5.4.2)
-pub record MayCreate (H : List Event) (i : ℕ) : Type 0 where
+-- the instance may be created: its number is the next, its descriptor was onboarded, and there is room (SOL 003 5.4.2)
+pub record MayCreate (H : List Event) (i : ℕ) (vnfd : List ℕ) : Type 0 where
   pub number : i ≡ instances_made H + 1
+  pub onboarded : is_some (descriptor_named H vnfd) ≡ true
   pub room : length (live_instances H) < 1000
 
 -- the instance may be deleted (SOL 003 5.4.3)
@@ -89,7 +85,7 @@ pub record MayPost (m : ℕ) (H : List Event) (s : ℕ) (place : ℕ) : Type 0 w
 -- the event may follow the history of manager m (own rule over SOL 003 clause 5)
 abbrev pub IsAllowed : ℕ → List Event → EventKind → Type 0
 IsAllowed m H (Onboarded d) = MayOnboard H d
-IsAllowed m H (Created instance vnfd name text) = MayCreate H instance
+IsAllowed m H (Created instance vnfd name text) = MayCreate H instance vnfd
 IsAllowed m H (Deleted instance) = MayDelete H instance
 IsAllowed m H (Asked a) = MayAsk H a
 IsAllowed m H (GrantTried o answer) = IsAsking H o × IsNewTry H o answer

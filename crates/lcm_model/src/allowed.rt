@@ -41,15 +41,16 @@ pub fn may_onboard(events: &[Event], vnfd: &Vnfd) -> bool
     valid && !known && count < 256
 }
 
-/// Whether an instance of this number may be created.
+/// Whether an instance of this number and this descriptor may be created.
 ///
 /// Source: SOL 003 5.4.2 (VNF instances); the limit is an own rule.
-pub fn may_create(events: &[Event], instance: u64) -> bool
-    ensures { IsTrue result ↔ MayCreate (reverse events.now) instance }
+pub fn may_create(events: &[Event], instance: u64, vnfd: &Name) -> bool
+    ensures { IsTrue result ↔ MayCreate (reverse events.now) instance vnfd.now }
 {
     let made = count_instances(events);
+    let onboarded = descriptor_named_in(events, vnfd).is_some();
     let live = count_live_instances(events);
-    made < instance && instance - made == 1 && live < 1_000
+    made < instance && instance - made == 1 && onboarded && live < 1_000
 }
 
 /// Why the deletion of an instance is refused.
