@@ -1,18 +1,18 @@
 -- One record more, as it was judged.
-use Rattle.std.proofs.Common.{◌≡◌, ◌<◌, ◌≤◌, ◌+◌, ℕ, List, [], ◌∷◌, ◌++◌, length, map, reverse, Option, Some, None, ap, ◌∙◌, sym, subst, refl, arith, length-append, append_assoc}
+use Rattle.std.proofs.Common.{◌≡◌, ◌+◌, ℕ, List, [], ◌∷◌, ◌++◌, length, map, reverse, Option, Some, None, ap, ◌∙◌, sym, subst, refl, arith, append_assoc}
 use Rattle.std.specs.List.{AllByRecursion}
 use Rattle.std.proofs.lemmas.Grind.{reverse_onto}
 use Rattle.std.proofs.lemmas.List.{map_push}
 use Rattle.event_codec.specs.Spell.{spelling}
 use Rattle.event_codec.specs.Valid.{IsEvent}
-use Rattle.journal_core.specs.File.{size, blocks, framed}
+use Rattle.journal_core.specs.File.{size}
 use Rattle.journal_core.proofs.Records.{size_push}
 use Rattle.journal_core.specs.Load.{Progress, Loads, ReadsOn}
 use Rattle.lcm_events.specs.declared.events.Event.{Event}
 use Rattle.lcm_model.specs.Allowed.{IsLegal}
 use Rattle.site_traits.specs.Site.{SiteState}
 use Rattle.executor.specs.History.{spellings}
-use Rattle.executor.specs.Loading.{IsNext, HasNoNext, StepsFrom, JudgesNext, AreJudged, IsJudged, JudgesSoFar}
+use Rattle.executor.specs.Loading.{IsNext, StepsFrom, JudgesNext, AreJudged, IsJudged, JudgesSoFar}
 use Rattle.executor.specs.Open.{EachFollows, IsBadAt}
 use Rattle.executor.specs.declared.open.Judged.{Judged}
 use Rattle.executor.proofs.SpellingLemmas.{follows_allowed}

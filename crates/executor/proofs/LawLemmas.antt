@@ -1,5 +1,5 @@
 -- A file's records are the spellings of one history, and none of them is bad where each event may follow those before it.
-use Rattle.std.proofs.Common.{◌≡◌, ◌<◌, ◌+◌, ℕ, List, [], ◌∷◌, ◌++◌, length, ◌⊎◌, ap, ◌∙◌, sym, subst, refl, arith, inl, inr, ⊎_elim, length-append, append_assoc}
+use Rattle.std.proofs.Common.{◌≡◌, ℕ, List, [], ◌∷◌, ◌++◌, length, ◌⊎◌, ap, ◌∙◌, sym, subst, refl, arith, inl, inr, ⊎_elim, length-append, append_assoc}
 use Rattle.std.specs.List.{AllByRecursion}
 use Rattle.std.proofs.lemmas.List.{same_from_push}
 use Rattle.event_codec.specs.Spell.{spelling}

@@ -1,6 +1,6 @@
 -- What a load and a commit do, from what the journal's calls do.
-use Rattle.std.proofs.Common.{◌≡◌, ◌≢◌, ◌⊎◌, ◌≤◌, ◌+◌, ℕ, List, [], ◌∷◌, ◌++◌, length, map, reverse, Bool, true, false, Ok, Err, Result, Option, Some, None, true≢false, ap, ◌∙◌, sym, subst, refl, inl, inr, arith, ⊎_elim, take, ◌-◌, length-append}
-use Rattle.std.specs.List.{AllByRecursion, filter_map}
+use Rattle.std.proofs.Common.{◌≡◌, ◌≢◌, ◌≤◌, ◌+◌, ℕ, List, [], ◌∷◌, ◌++◌, length, reverse, false, Ok, Err, Result, Option, Some, None, true≢false, ap, ◌∙◌, sym, subst, refl, inl, inr, arith, ⊎_elim, take, ◌-◌, length-append}
+use Rattle.std.specs.List.{filter_map}
 use Rattle.std.specs.Result.{OnOk, is_err}
 use Rattle.std.specs.declared.alloc.AllocError.{AllocError}
 use Rattle.std.proofs.lemmas.List.{reverse-append, take_at}
@@ -16,11 +16,11 @@ use Rattle.journal_core.specs.declared.journal.AppendFault.TheVariants as append
 use Rattle.lcm_events.specs.declared.events.Event.{Event}
 use Rattle.lcm_model.specs.Allowed.{IsAllowed, IsLegal}
 use Rattle.lcm_model.specs.Lives.{instances_made, created_in}
-use Rattle.site_traits.specs.Site.{Pair, SiteState, LeavesOnly, Reads, Same, IsSettled}
+use Rattle.site_traits.specs.Site.{Pair, SiteState, LeavesOnly, Reads, Same}
 use Rattle.site_traits.proofs.Moments.{weakened, on_file-reads}
 use Rattle.executor.specs.Faults.{work_fault}
 use Rattle.executor.specs.History.{spellings, HasHistory, HasOrAdds}
-use Rattle.executor.specs.Managed.{Managed, IsKept, StandsFor, Commits}
+use Rattle.executor.specs.Managed.{Managed, IsKept, StandsFor}
 use Rattle.executor.specs.declared.manager.WorkFault.{WorkFault}
 use Rattle.executor.specs.declared.manager.WorkFault.TheVariants as fault
 use Rattle.executor.proofs.JudgeLemmas.{spellings-cons}

@@ -1,5 +1,5 @@
 -- One spelling is one event's.
-use Rattle.std.proofs.Common.{◌≡◌, ℕ, List, [], ◌++◌, ap, ◌∙◌, sym, subst}
+use Rattle.std.proofs.Common.{◌≡◌, ℕ, List, [], ◌∙◌, sym, subst}
 use Rattle.std.proofs.lemmas.List.{append-nil}
 use Rattle.event_codec.specs.Spell.{spelling}
 use Rattle.event_codec.specs.Valid.{IsEvent}
@@ -9,7 +9,7 @@ use Rattle.lcm_events.specs.declared.events.EventKind.{EventKind}
 use Rattle.lcm_events.specs.declared.events.EventKind.TheVariants.{Onboarded, Created, Deleted, Asked, GrantTried, Granted, Denied, Intent, CallFailed, Settled, Moved, CancelAsked, Subscribed, Unsubscribed, Posted}
 use Rattle.lcm_model.specs.Allowed.{IsAllowed}
 use Rattle.executor.specs.Open.{MayFollow}
-use Rattle.executor.specs.Loading.{IsNext, HasNoNext}
+use Rattle.executor.specs.Loading.{HasNoNext}
 
 pub same_event : (e f : Event) (bytes : List ℕ) → IsEvent e → IsEvent f → bytes ≡ spelling e → bytes ≡ spelling f → e ≡ f
 same_event e f bytes is_e is_f of_e of_f =

@@ -4,3 +4,4 @@ pub mod Laws
 pub mod Loading
 pub mod Managed
 pub mod Open
+pub mod Questions

@@ -1,5 +1,5 @@
 -- What a manager stands for: its journal, and the history of the events that it has.
-use Rattle.std.specs.Prelude.{◌≡◌, ◌≢◌, ℕ, Bool, true, false, List, ◌∷◌, length, Result, Ok, Err}
+use Rattle.std.specs.Prelude.{◌≡◌, ◌≢◌, Bool, true, false, List, length, Result, Err}
 use Rattle.std.specs.List.{AllByRecursion}
 use Rattle.event_codec.specs.Valid.{IsEvent}
 use Rattle.journal_core.specs.File.{records, size}

@@ -4,6 +4,8 @@
 mod laws;
 mod manager;
 mod open;
+mod questions;
 
+pub use event_codec::TooLong;
 pub use laws::{a_file_has_one_history, a_servable_history_has_no_bad_record};
 pub use manager::{Manager, OpenFault, WorkFault};

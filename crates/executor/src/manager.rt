@@ -1,6 +1,6 @@
 //! The manager: its journal, and the history of the events in it. What is acknowledged is on the disk before it is in the
 //! history.
-ghost use Rattle.std.specs.Prelude.{◌≡◌, ◌≢◌, ◌≤◌, ◌<◌, ◌∷◌, ◌++◌, ◌↔◌, ◌+◌, ℕ, List, [], length, reverse, IfOk, OnOk, OnErr, IsTrue, false, true};
+ghost use Rattle.std.specs.Prelude.{◌≡◌, ◌≢◌, ◌≤◌, ◌<◌, ◌∷◌, ◌++◌, ◌↔◌, ◌+◌, ℕ, List, [], length, reverse, option_copied, IfErr, IfOk, IsOk, OnOk, OnErr, IsTrue, false, true};
 ghost use Rattle.event_codec.specs.Spell.{spelling};
 ghost use Rattle.event_codec.specs.Valid.{IsEvent};
 ghost use Rattle.event_codec.specs.Typed.{TypedEvent};
@@ -12,19 +12,22 @@ ghost use Rattle.journal_core.specs.File.{size};
 ghost use Rattle.lcm_events.specs.declared.events.Event.{Event};
 ghost use Rattle.lcm_model.specs.Allowed.{IsAllowed};
 ghost use Rattle.vnfm_base.specs.Ident.{IsIdentNumber};
-ghost use Rattle.lcm_model.specs.Lives.{instances_made, live_instances};
+ghost use Rattle.lcm_model.specs.Lives.{descriptor_named, descriptors, instances_made, live_instances};
+ghost use Rattle.executor.specs.Questions.{is_lived, is_made, live, made};
 ghost use Rattle.site_traits.specs.Counts.{Rose, OnlyDisk};
 ghost use Rattle.executor.specs.Managed.{Managed, IsKept, StandsFor, Commits, is_settled};
 
 use crate::open::judge_all;
-use event_codec::{RecordBuf, decode, encode};
+use crate::questions::{count_live, count_made};
+use event_codec::{RecordBuf, TooLong, decode, encode};
 use journal_core::{AppendFault, Journal, LoadFault};
-use lcm_events::Event;
-use lcm_model::{count_instances, count_live_instances};
+use lcm_events::{Event, Vnfd};
+use lcm_model::{count_descriptors, count_instances, count_live_instances, descriptor_named_in};
 use site_traits::Site;
 use std::alloc::{AllocError, Global};
 use std::marker::Model;
 use thiserror::Error;
+use vnfm_base::{Kind, Name};
 
 /// The manager of one journal. It never owns the site of its file, which is lent to each call.
 ///
@@ -231,13 +234,59 @@ impl<S: Site> Manager<S> {
         self.record.as_slice().len()
     }
 
-    /// How many instances were made.
+    /// How many bytes the event's spelling has, where a record can hold it. It takes no memory.
     ///
-    /// Source: SOL 003 5.4.2 (VNF instances).
-    pub fn instances_made(&self) -> u64
-        ensures { result ≡ instances_made self.now.history }
+    /// Condition: the event keeps the format's rules on lists, orders and values.
+    /// Refusal: `TooLong(n)` exactly where the spelling has n bytes, more than 65,536.
+    /// Source: own format, docs/EVENTS.md.
+    pub fn spelled_length(&mut self, e: &Event) -> Result<usize, TooLong>
+        requires rules { TypedEvent e.now → IsEvent e.now }
+        ensures event { IsEvent e.now }
+        ensures length { IfOk result (λ n. n ≡ length (spelling e.now)) }
+        ensures fits { IsOk result ↔ (length (spelling e.now) ≤ 65536) }
+        ensures too_long { IfErr result (λ fault. fault.0 ≡ length (spelling e.now)) }
+        ensures kept { self.new ≡ self.old }
     {
-        count_instances(self.events.as_slice())
+        encode(e, &mut self.record)?;
+        Ok(self.record.as_slice().len())
+    }
+
+    /// How many of the kind were made. Condition: the kind isn't `Notice`.
+    ///
+    /// Source: SOL 003 5.4.2 (VNF instances), 5.4.12 (VNF LCM operation occurrences), 5.4.18 (Subscriptions).
+    pub fn made(&self, kind: Kind) -> u64
+        requires { is_made kind ≡ true }
+        ensures { result ≡ made kind self.now.history }
+    {
+        count_made(self.events.as_slice(), kind)
+    }
+
+    /// How many of the kind are live. Condition: the kind is `Instance` or `Subscription`.
+    ///
+    /// Source: SOL 003 5.4.2 (VNF instances), 5.4.18 (Subscriptions).
+    pub fn live(&self, kind: Kind) -> u64
+        requires { is_lived kind ≡ true }
+        ensures { result ≡ live kind self.now.history }
+    {
+        count_live(self.events.as_slice(), kind)
+    }
+
+    /// How many descriptors were onboarded.
+    ///
+    /// Source: own rule, docs/MODEL.md.
+    pub fn descriptors(&self) -> u64
+        ensures { result ≡ length (descriptors self.now.history) }
+    {
+        count_descriptors(self.events.as_slice())
+    }
+
+    /// The descriptor of this identifier. None exactly where none was onboarded under it.
+    ///
+    /// Source: own rule, docs/MODEL.md.
+    pub fn vnfd(&self, id: &Name) -> Option<&Vnfd>
+        ensures { option_copied result ≡ descriptor_named self.now.history id.now }
+    {
+        descriptor_named_in(self.events.as_slice(), id)
     }
 
     /// The number of the next instance. Condition: the manager isn't closed.

@@ -18,7 +18,7 @@ fn may_follow(manager: u32, events: &[Event], kind: &EventKind) -> bool
     ensures { IsTrue result ↔ MayFollow manager (reverse events.now) kind.now }
 {
     match kind {
-        EventKind::Created { instance, .. } => may_create(events, *instance),
+        EventKind::Created { instance, vnfd, .. } => may_create(events, *instance, vnfd),
         _ => false,
     }
 }

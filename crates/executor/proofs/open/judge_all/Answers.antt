@@ -1,5 +1,5 @@
 -- One record more was read and judged.
-use Rattle.std.proofs.Common.{arith, rules, ◌∙◌}
+use Rattle.std.proofs.Common.{rules, ◌∙◌}
 use Rattle.site_traits.proofs.Moments.{reads-then}
 use Rattle.executor.proofs.JudgeLemmas.{step_judged, step_so_far}
 use Rattle.executor.proofs.open.judge_all.Goals as goal

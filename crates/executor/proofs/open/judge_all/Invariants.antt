@@ -1,4 +1,4 @@
-use Rattle.std.proofs.Common.{◌≡◌, ◌<◌, ◌-◌, true}
+use Rattle.std.proofs.Common.{◌≡◌, ◌<◌, ◌-◌}
 use Rattle.site_traits.specs.Counts.{OnlyDisk}
 use Rattle.site_traits.specs.Site.{Reads}
 use Rattle.executor.specs.Loading.{IsJudged, JudgesSoFar}

@@ -1,7 +1,6 @@
 -- The event is on the disk, and in the history where it is.
-use Rattle.std.proofs.Common.{◌≡◌, ◌++◌, ◌∷◌, [], reverse, ap, Err, ◌∙◌, sym, List}
-use Rattle.event_codec.specs.Spell.{spelling}
-use Rattle.executor.specs.Managed.{Managed, StandsFor}
+use Rattle.std.proofs.Common.{reverse, ap, Err, ◌∙◌, sym}
+use Rattle.executor.specs.Managed.{Managed}
 use Rattle.executor.proofs.ManagerLemmas.{kept_more, commit_moments, commit_stands, reverse-push, ok_of, full_of}
 use Rattle.executor.proofs.manager.Manager.commit.Goals as goal
 

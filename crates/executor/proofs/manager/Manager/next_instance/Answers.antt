@@ -1,5 +1,5 @@
 -- No more instances were made than the journal has records.
-use Rattle.std.proofs.Common.{◌≡◌, ◌≤◌, arith, length, reverse, ◌∙◌, ap}
+use Rattle.std.proofs.Common.{arith, reverse, ◌∙◌, ap}
 use Rattle.lcm_model.specs.Lives.{instances_made}
 use Rattle.executor.proofs.ManagerLemmas.{made_within}
 use Rattle.executor.proofs.manager.Manager.next_instance.Goals as goal
