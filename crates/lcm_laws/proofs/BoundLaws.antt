@@ -49,7 +49,7 @@ use Rattle.lcm_laws.proofs.SettledLaws.{idle_none, open_operation, stands-nothin
 use Rattle.lcm_laws.proofs.StandLaws.{in_plan-def, leaving_there, stands_of, stay_there}
 
 -- two things differ
-abbrev Differ : {A : Type 0} → A → A → Type 0
+abbrev pub Differ : {A : Type 0} → A → A → Type 0
 Differ x y = x ≡ y → ⊥
 
 -- what is left of a list without one of its entries
@@ -70,7 +70,7 @@ without {A} x (y ∷ ys) (inr h) = onward (without x ys h) where
     rest z (inr g) = elim (w.2 z g) [ inl f ↦ inl f | inr k ↦ inr (inr k) ]
 
 -- of things that differ there are at most as many as of those that they are among
-few : {A : Type 0} → (xs ys : List A) → Rises Differ xs → ((x : A) → IsIn x xs → IsIn x ys) → length xs ≤ length ys
+pub few : {A : Type 0} → (xs ys : List A) → Rises Differ xs → ((x : A) → IsIn x xs → IsIn x ys) → length xs ≤ length ys
 few [] ys h f = omega arith
 few (x ∷ xs) ys h f =
     let w = without x ys (f x (inl refl)) in

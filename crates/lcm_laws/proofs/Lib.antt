@@ -16,3 +16,4 @@ pub mod SettledLaws
 pub mod AskLaws
 pub mod HoldLaws
 pub mod BoundLaws
+pub mod SerialLaws

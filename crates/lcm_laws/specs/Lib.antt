@@ -6,3 +6,4 @@ pub mod Nets
 pub mod Planning
 pub mod Standing
 pub mod Acting
+pub mod Serials

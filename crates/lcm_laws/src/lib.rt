@@ -7,6 +7,7 @@ mod moves;
 mod nets;
 mod operations;
 mod plans;
+mod serials;
 mod standing;
 
 pub use acting::{active_occurrences_act, next_actions_are_allowed};
@@ -22,6 +23,7 @@ pub use operations::{
 pub use plans::{
     operations_have_plans, plans_are_distinct, plans_are_exact, plans_are_small, plans_are_sorted,
 };
+pub use serials::serials_are_counted;
 pub use standing::{
     deleted_instances_hold_nothing, idle_instances_hold_nothing, what_stands_is_of_the_descriptor,
 };
