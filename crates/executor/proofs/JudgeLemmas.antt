@@ -13,9 +13,8 @@ use Rattle.lcm_model.specs.Allowed.{IsLegal}
 use Rattle.site_traits.specs.Site.{SiteState}
 use Rattle.executor.specs.History.{spellings}
 use Rattle.executor.specs.Loading.{IsNext, StepsFrom, JudgesNext, AreJudged, IsJudged, JudgesSoFar}
-use Rattle.executor.specs.Open.{EachFollows, IsBadAt}
+use Rattle.executor.specs.Open.{IsBadAt}
 use Rattle.executor.specs.declared.open.Judged.{Judged}
-use Rattle.executor.proofs.SpellingLemmas.{follows_allowed}
 
 -- the spellings with one event more
 pub spellings-cons : (e : Event) (H : List Event) → spellings (e ∷ H) ≡ spellings H ++ spelling e ∷ []
@@ -23,13 +22,8 @@ spellings-cons e H = ap (map spelling) (reverse_onto H e []) ∙ map_push spelli
 
 pub steps_legal : (m n : ℕ) (bytes : List ℕ) (bad : Option ℕ) (H : List Event) (bad' : Option ℕ) (H' : List Event) → StepsFrom m n bytes bad H bad' H' → IsLegal m H → IsLegal m H'
 steps_legal m n bytes (Some k) H bad' H' step legal = subst (IsLegal m) (sym step.1) legal
-steps_legal m n bytes None H None H' step legal = subst (IsLegal m) (sym step.2) (follows_allowed m H step.0.kind step.1.follows, legal)
+steps_legal m n bytes None H None H' step legal = subst (IsLegal m) (sym step.2) (step.1.allowed, legal)
 steps_legal m n bytes None H (Some k) H' step legal = subst (IsLegal m) (sym step.2) legal
-
-pub steps_follow : (m n : ℕ) (bytes : List ℕ) (bad : Option ℕ) (H : List Event) (bad' : Option ℕ) (H' : List Event) → StepsFrom m n bytes bad H bad' H' → EachFollows m H → EachFollows m H'
-steps_follow m n bytes (Some k) H bad' H' step follow = subst (EachFollows m) (sym step.1) follow
-steps_follow m n bytes None H None H' step follow = subst (EachFollows m) (sym step.2) (step.1.follows, follow)
-steps_follow m n bytes None H (Some k) H' step follow = subst (EachFollows m) (sym step.2) follow
 
 pub steps_events : (m n : ℕ) (bytes : List ℕ) (bad : Option ℕ) (H : List Event) (bad' : Option ℕ) (H' : List Event) → StepsFrom m n bytes bad H bad' H' → AllByRecursion IsEvent H → AllByRecursion IsEvent H'
 steps_events m n bytes (Some k) H bad' H' step events = subst (AllByRecursion IsEvent) (sym step.1) events
@@ -64,7 +58,6 @@ step_judged j j' l l' judged reads step =
     let on = goes_on l'.manager l'.count l'.record_bytes j.bad (reverse j.events.items) j'.bad (reverse j'.events.items) step in
     record {
       legal = steps_legal l'.manager l'.count l'.record_bytes j.bad (reverse j.events.items) j'.bad (reverse j'.events.items) step (rw reads.manager judged.legal);
-      follows = steps_follow l'.manager l'.count l'.record_bytes j.bad (reverse j.events.items) j'.bad (reverse j'.events.items) step (rw reads.manager judged.follows);
       events = steps_events l'.manager l'.count l'.record_bytes j.bad (reverse j.events.items) j'.bad (reverse j'.events.items) step judged.events;
       count = λ none. count_more l'.manager l'.record_bytes j.bad (reverse j.events.items) (reverse j'.events.items) l.count l'.count (on none) judged.count reads.count;
       end = λ none. end_more l'.manager l'.record_bytes j.bad (reverse j.events.items) (reverse j'.events.items) l.end l'.end (on none) judged.end reads.end;
@@ -96,7 +89,7 @@ are_judged m n bytes None H (Some k) H' rs step judged legal events place = reco
   place = step.0 ∙ place refl;
   legal = legal;
   events = events;
-  none = λ e is spelled follows. step.1 e (record { spelled = spelled; event = is; follows = follows });
+  none = λ e is spelled allowed. step.1 e (record { spelled = spelled; event = is; allowed = allowed });
 }
 
 pub step_so_far : (j j' : Judged) (l l' : Progress) (a b : SiteState) → IsJudged j l → ReadsOn l l' → JudgesNext l'.manager l'.count l'.record_bytes j j'

@@ -1,4 +1,4 @@
--- A file's records are the spellings of one history, and none of them is bad where each event may follow those before it.
+-- A file's records are the spellings of one history, and none of them is bad where that history is legal.
 use Rattle.std.proofs.Common.{◌≡◌, ℕ, List, [], ◌∷◌, ◌++◌, length, ◌⊎◌, ap, ◌∙◌, sym, subst, refl, arith, inl, inr, ⊎_elim, length-append, append_assoc}
 use Rattle.std.specs.List.{AllByRecursion}
 use Rattle.std.proofs.lemmas.List.{same_from_push}
@@ -6,15 +6,13 @@ use Rattle.event_codec.specs.Spell.{spelling}
 use Rattle.event_codec.specs.Valid.{IsEvent}
 use Rattle.journal_core.specs.File.{records, HasRecords}
 use Rattle.journal_core.specs.Head.{IsBrokenAt}
-use Rattle.journal_core.specs.Header.{HasHeader}
 use Rattle.journal_core.proofs.Excluding.{whole_once, whole_or_broken}
 use Rattle.journal_core.proofs.Records.{records_of}
 use Rattle.lcm_events.specs.declared.events.Event.{Event}
-use Rattle.lcm_events.specs.declared.events.EventKind.{EventKind}
-use Rattle.lcm_events.specs.declared.events.EventKind.TheVariants.{Onboarded, Created, Deleted, Asked, GrantTried, Granted, Denied, Intent, CallFailed, Settled, Moved, CancelAsked, Subscribed, Unsubscribed, Posted}
-use Rattle.executor.specs.History.{spellings}
+use Rattle.lcm_model.specs.Allowed.{IsAllowed, IsLegal}
+use Rattle.executor.specs.History.{HasHistory, spellings}
 use Rattle.executor.specs.Laws.{HasOneHistory, HasNoBadRecord}
-use Rattle.executor.specs.Open.{EachFollows, IsBadAt, MayFollow}
+use Rattle.executor.specs.Open.{IsBadAt}
 use Rattle.executor.proofs.JudgeLemmas.{spellings-cons}
 use Rattle.executor.proofs.SpellingLemmas.{same_event}
 
@@ -40,38 +38,20 @@ last_of {X} (x ∷ xs) = ⊎_elim
     (λ (some : (front : List X) × (last : X) × (xs ≡ front ++ last ∷ [])). inr (x ∷ some.0, some.1, ap (λ (t : List X). x ∷ t) some.2))
     (last_of xs)
 
--- whose history it is doesn't matter to what may follow
-follows_any : (m n : ℕ) (H : List Event) (k : EventKind) → MayFollow m H k → MayFollow n H k
-follows_any m n H (Created i v x t) f = f
-follows_any m n H (Onboarded d) f = absurd f
-follows_any m n H (Deleted i) f = absurd f
-follows_any m n H (Asked a) f = absurd f
-follows_any m n H (GrantTried o a) f = absurd f
-follows_any m n H (Granted o a b c) f = absurd f
-follows_any m n H (Denied o) f = absurd f
-follows_any m n H (Intent t) f = absurd f
-follows_any m n H (CallFailed t) f = absurd f
-follows_any m n H (Settled t o) f = absurd f
-follows_any m n H (Moved o t) f = absurd f
-follows_any m n H (CancelAsked o c) f = absurd f
-follows_any m n H (Subscribed s r c g) f = absurd f
-follows_any m n H (Unsubscribed s) f = absurd f
-follows_any m n H (Posted s p o) f = absurd f
-
--- where each event may follow those before it, no record is one that may not
-pub no_bad : (m n : ℕ) (H before : List Event) (bytes : List ℕ) (rest : List (List ℕ)) → AllByRecursion IsEvent H → AllByRecursion IsEvent before → EachFollows m H
-    → spellings H ≡ spellings before ++ bytes ∷ rest → ((e : Event) → IsEvent e → bytes ≡ spelling e → MayFollow n before e.kind → ⊥) → ⊥
-no_bad m n [] before bytes rest is also follow same none = never_empty (spellings before) bytes rest same
-no_bad m n (h ∷ H) before bytes rest is also follow same none = ⊎_elim
+-- where each event was allowed after those before it, no record is one that wasn't
+no_bad : (m : ℕ) (H before : List Event) (bytes : List ℕ) (rest : List (List ℕ)) → AllByRecursion IsEvent H → AllByRecursion IsEvent before → IsLegal m H
+    → spellings H ≡ spellings before ++ bytes ∷ rest → ((e : Event) → IsEvent e → bytes ≡ spelling e → IsAllowed m before e.kind → ⊥) → ⊥
+no_bad m [] before bytes rest is also legal same none = never_empty (spellings before) bytes rest same
+no_bad m (h ∷ H) before bytes rest is also legal same none = ⊎_elim
     (λ (empty : rest ≡ []).
     let parts = same_from_push (spellings H) (spellings before) (spelling h) bytes (sym (spellings-cons h H) ∙ same ∙ ap (λ (t : List (List ℕ)). spellings before ++ bytes ∷ t) empty) in
     let past : H ≡ before = spellings-inj H before is.1 also parts.0 in
-    let P : List Event → Type 0 = λ G. MayFollow m G h.kind in
-    none h is.0 (sym parts.1) (follows_any m n before h.kind (subst P past follow.0)))
+    let P : List Event → Type 0 = λ G. IsAllowed m G h.kind in
+    none h is.0 (sym parts.1) (subst P past legal.0))
     (λ (some : (front : List (List ℕ)) × (last : List ℕ) × (rest ≡ front ++ last ∷ [])).
     let parts = same_from_push (spellings H) (spellings before ++ bytes ∷ some.0) (spelling h) some.1
     (sym (spellings-cons h H) ∙ same ∙ ap (λ (t : List (List ℕ)). spellings before ++ bytes ∷ t) some.2 ∙ sym (append_assoc (spellings before) (bytes ∷ some.0) (some.1 ∷ []))) in
-    no_bad m n H before bytes some.0 is.1 also follow.1 parts.0 none)
+    no_bad m H before bytes some.0 is.1 also legal.1 parts.0 none)
     (last_of rest)
 
 -- a file has one history, and is one manager's
@@ -80,11 +60,16 @@ one_history m n H G image small also_small has also =
     let same = whole_once m n (spellings H) (spellings G) image small also_small has.file also.file in
     (same.0, spellings-inj H G has.events also.events same.1)
 
--- where each event may follow those before it, no record is bad
+late_bad : (m n : ℕ) (H : List Event) (image : List ℕ) → HasHistory m H image → IsLegal m H → IsBadAt m n (records image) → ⊥
+late_bad m n H image has legal found =
+    no_bad m H found.before found.bytes found.rest has.events found.events legal (sym (records_of m (spellings H) image has.file) ∙ found.is) found.none
+
+-- where a file's history is legal, none of its records is bad
 pub no_bad_record : HasNoBadRecord
-no_bad_record m n H image small has follows bad = ⊎_elim
-    (λ (broken : (k : ℕ) × HasHeader k image × IsBrokenAt k n image). whole_or_broken m broken.0 n (spellings H) image has.file broken.2)
-    (λ (late : (k : ℕ) × HasRecords k (records image) image × IsBadAt k n (records image)).
-    let found = late.2 in
-    no_bad m late.0 H found.before found.bytes found.rest has.events found.events follows (sym (records_of m (spellings H) image has.file) ∙ found.is) found.none)
-    bad
+no_bad_record m n H image small has legal bad = ⊎_elim
+    (λ (broken : IsBrokenAt bad.0 n image). whole_or_broken m bad.0 n (spellings H) image has.file broken)
+    (λ (late : HasRecords bad.0 (records image) image × IsBadAt bad.0 n (records image)).
+    let same = whole_once m bad.0 (spellings H) (records image) image small bad.1.number has.file late.0 in
+    let P : ℕ → Type 0 = λ k. IsBadAt k n (records image) in
+    late_bad m n H image has legal (subst P (sym same.0) late.1))
+    bad.2

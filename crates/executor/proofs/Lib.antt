@@ -1,4 +1,5 @@
 mod JudgeLemmas
 pub mod LawLemmas
 pub mod ManagerLemmas
+mod SerialLemmas
 mod SpellingLemmas

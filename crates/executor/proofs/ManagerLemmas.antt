@@ -1,6 +1,5 @@
 -- What a load and a commit do, from what the journal's calls do.
-use Rattle.std.proofs.Common.{◌≡◌, ◌≢◌, ◌≤◌, ◌+◌, ℕ, List, [], ◌∷◌, ◌++◌, length, reverse, false, Ok, Err, Result, Option, Some, None, true≢false, ap, ◌∙◌, sym, subst, refl, inl, inr, arith, ⊎_elim, take, ◌-◌, length-append}
-use Rattle.std.specs.List.{filter_map}
+use Rattle.std.proofs.Common.{◌≡◌, ◌≢◌, ◌≤◌, ◌+◌, ℕ, List, [], ◌∷◌, ◌++◌, length, reverse, false, Ok, Err, Result, true≢false, ap, ◌∙◌, sym, subst, refl, inl, inr, arith, ⊎_elim, take, ◌-◌, length-append}
 use Rattle.std.specs.Result.{OnOk, is_err}
 use Rattle.std.specs.declared.alloc.AllocError.{AllocError}
 use Rattle.std.proofs.lemmas.List.{reverse-append, take_at}
@@ -15,7 +14,6 @@ use Rattle.journal_core.specs.declared.journal.AppendFault.{AppendFault}
 use Rattle.journal_core.specs.declared.journal.AppendFault.TheVariants as appending
 use Rattle.lcm_events.specs.declared.events.Event.{Event}
 use Rattle.lcm_model.specs.Allowed.{IsAllowed, IsLegal}
-use Rattle.lcm_model.specs.Lives.{instances_made, created_in}
 use Rattle.site_traits.specs.Site.{Pair, SiteState, LeavesOnly, Reads, Same}
 use Rattle.site_traits.proofs.Moments.{weakened, on_file-reads}
 use Rattle.executor.specs.Faults.{work_fault}
@@ -99,17 +97,6 @@ disk_fault = Err fault.Disk
 pub full_of : (why : AppendFault) (Q : Type 0) → (Err (work_fault why) ≢ disk_fault) → ((end more : ℕ) → why ≡ appending.Full end more → Q) → Q
 full_of (appending.Full end more) Q other full = full end more refl
 full_of appending.Disk Q other full = absurd (other refl)
-
-filter_map-short : {X Y : Type 0} (h : X → Option Y) (xs : List X) → length (filter_map h xs) ≤ length xs
-filter_map-short h [] = omega arith
-filter_map-short {Y = Y} h (x ∷ xs) = of (h x) refl (filter_map-short h xs) where
-  of : (o : Option Y) → h x ≡ o → length (filter_map h xs) ≤ length xs → length (filter_map h (x ∷ xs)) ≤ length (x ∷ xs)
-  of None e short = rw e (omega arith)
-  of (Some y) e short = rw e (omega arith)
-
--- no more instances were made than events happened
-pub made_within : (H : List Event) → instances_made H ≤ length H
-made_within H = filter_map-short (λ (e : Event). created_in e.kind) H
 
 -- whatever a stop leaves now has the manager's history
 pub stands_everywhere : (m : Managed) (s : SiteState) → StandsFor m s → (p : Pair) → s.since s.moment p → HasHistory m.ledger.manager m.history p.image

@@ -2,13 +2,14 @@
 use Rattle.std.specs.Prelude.{◌≡◌, ◌<◌, ℕ, List}
 use Rattle.lcm_events.specs.declared.events.Event.{Event}
 use Rattle.executor.specs.History.{HasHistory}
-use Rattle.executor.specs.Open.{EachFollows, IsBadRecord}
+use Rattle.lcm_model.specs.Allowed.{IsLegal}
+use Rattle.executor.specs.Open.{IsBadRecord}
 
 -- a file has one history, and is one manager's
 abbrev pub HasOneHistory : Type 0
 HasOneHistory = (m n : ℕ) (H G : List Event) (image : List ℕ) → m < 4294967296 → n < 4294967296
     → HasHistory m H image → HasHistory n G image → (m ≡ n) × (H ≡ G)
 
--- where each event may follow those before it, no record is bad
+-- where a file's history is legal, none of its records is bad
 abbrev pub HasNoBadRecord : Type 0
-HasNoBadRecord = (m n : ℕ) (H : List Event) (image : List ℕ) → m < 4294967296 → HasHistory m H image → EachFollows m H → IsBadRecord n image → ⊥
+HasNoBadRecord = (m n : ℕ) (H : List Event) (image : List ℕ) → m < 4294967296 → HasHistory m H image → IsLegal m H → IsBadRecord n image → ⊥

@@ -11,18 +11,18 @@ use Rattle.site_traits.specs.Site.{SiteState, Reads}
 use Rattle.executor.specs.declared.manager.OpenFault.{OpenFault}
 use Rattle.executor.specs.declared.manager.OpenFault.TheVariants as fault
 use Rattle.lcm_events.specs.declared.events.Event.{Event}
-use Rattle.lcm_model.specs.Allowed.{IsLegal}
+use Rattle.lcm_model.specs.Allowed.{IsAllowed, IsLegal}
 use Rattle.executor.specs.History.{spellings}
-use Rattle.executor.specs.Open.{EachFollows, IsBadAt, MayFollow}
+use Rattle.executor.specs.Open.{IsBadAt}
 use Rattle.executor.specs.declared.open.Judged.{Judged}
 
--- the bytes are the spelling of an event that may follow this history
+-- the bytes are the spelling of an event that is allowed after this history
 pub record IsNext (m : ℕ) (H : List Event) (bytes : List ℕ) (e : Event) : Type 0 where
   pub spelled : bytes ≡ spelling e
   pub event : IsEvent e
-  pub follows : MayFollow m H e.kind
+  pub allowed : IsAllowed m H e.kind
 
--- no event that may follow this history is spelled so
+-- no event that is allowed after this history is spelled so
 abbrev pub HasNoNext : ℕ → List Event → List ℕ → Type 0
 HasNoNext m H bytes = (e : Event) → IsNext m H bytes e → ⊥
 
@@ -45,7 +45,6 @@ StepsFrom m n bytes None H (Some k) H' = (k ≡ n) × HasNoNext m H bytes × (H'
 -- the events so far are legal, and where no record was bad they are all that was read
 pub record IsJudged (j : Judged) (l : Progress) : Type 0 where
   pub legal : IsLegal l.manager (reverse j.events.items)
-  pub follows : EachFollows l.manager (reverse j.events.items)
   pub events : AllByRecursion IsEvent (reverse j.events.items)
   pub count : j.bad ≡ None → l.count ≡ length (reverse j.events.items)
   pub end : j.bad ≡ None → l.end ≡ size (spellings (reverse j.events.items))

@@ -1,5 +1,5 @@
 -- What opening a journal as a manager finds (own rule).
-use Rattle.std.specs.Prelude.{◌≡◌, ◌⊎◌, ℕ, ◌+◌, List, [], ◌∷◌, ◌++◌, length, Result, Ok, Err}
+use Rattle.std.specs.Prelude.{◌≡◌, ◌⊎◌, ℕ, ◌+◌, List, ◌∷◌, ◌++◌, length, Result, Ok, Err}
 use Rattle.std.specs.List.{AllByRecursion}
 use Rattle.event_codec.specs.Spell.{spelling}
 use Rattle.event_codec.specs.Valid.{IsEvent}
@@ -7,8 +7,6 @@ use Rattle.journal_core.specs.File.{records, HasRecords}
 use Rattle.journal_core.specs.Head.{IsBrokenAt}
 use Rattle.journal_core.specs.Header.{IsUnmade, IsForeign, HasHeader}
 use Rattle.lcm_events.specs.declared.events.Event.{Event}
-use Rattle.lcm_events.specs.declared.events.EventKind.{EventKind}
-use Rattle.lcm_events.specs.declared.events.EventKind.TheVariants.{Created}
 use Rattle.lcm_model.specs.Allowed.{IsAllowed, IsLegal}
 use Rattle.site_traits.specs.Site.{SiteState}
 use Rattle.executor.specs.History.{spellings}
@@ -16,18 +14,7 @@ use Rattle.executor.specs.Managed.{Managed, StandsFor}
 use Rattle.executor.specs.declared.manager.OpenFault.{OpenFault}
 use Rattle.executor.specs.declared.manager.OpenFault.TheVariants as fault
 
--- The event may follow the history: it is allowed, and of a kind that requests lead to. So far that is the creation of an
--- instance alone (SOL 003 5.4.2).
-abbrev pub MayFollow : ℕ → List Event → EventKind → Type 0
-MayFollow m H (Created instance vnfd name text) = IsAllowed m H (Created instance vnfd name text)
-MayFollow m H _ = ⊥
-
--- every event of the history, the latest first, may follow those before it
-abbrev pub EachFollows : ℕ → List Event → Type 0
-EachFollows m [] = Unit {0}
-EachFollows m (e ∷ H) = MayFollow m H e.kind × EachFollows m H
-
--- record n of these, from 1, is the first that is no event or may not follow those before it
+-- record n of these, from 1, is the first that is no event or isn't allowed after those before it
 pub record IsBadAt (m n : ℕ) (rs : List (List ℕ)) : Type 0 where
   pub before : List Event
   pub bytes : List ℕ
@@ -36,12 +23,12 @@ pub record IsBadAt (m n : ℕ) (rs : List (List ℕ)) : Type 0 where
   pub place : n ≡ length before + 1
   pub legal : IsLegal m before
   pub events : AllByRecursion IsEvent before
-  pub none : (e : Event) → IsEvent e → bytes ≡ spelling e → MayFollow m before e.kind → ⊥
+  pub none : (e : Event) → IsEvent e → bytes ≡ spelling e → IsAllowed m before e.kind → ⊥
 
 -- record n is bad: the file is broken there, or is broken nowhere and that record is the first bad one
 abbrev pub IsBadRecord : ℕ → List ℕ → Type 0
 IsBadRecord n image =
-    ((m : ℕ) × HasHeader m image × IsBrokenAt m n image) ⊎ ((m : ℕ) × HasRecords m (records image) image × IsBadAt m n (records image))
+    (m : ℕ) × HasHeader m image × (IsBrokenAt m n image ⊎ (HasRecords m (records image) image × IsBadAt m n (records image)))
 
 -- what the file's bytes say
 abbrev pub Opens : Result Managed OpenFault → SiteState → Type 0

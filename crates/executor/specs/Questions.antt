@@ -13,10 +13,10 @@ is_made Notice = false
 is_made _ = true
 
 -- what may be live: an occurrence only ends, and a notice isn't kept (own rule)
-abbrev pub is_lived : Kind → Bool
-is_lived Instance = true
-is_lived Subscription = true
-is_lived _ = false
+abbrev pub may_be_live : Kind → Bool
+may_be_live Instance = true
+may_be_live Subscription = true
+may_be_live _ = false
 
 -- how many of the kind were made (SOL 003 5.4.2, 5.4.12, 5.4.18)
 abbrev pub made : Kind → List Event → ℕ

@@ -8,9 +8,9 @@ pub fn a_file_has_one_history()
     ensures { HasOneHistory }
 {}
 
-/// Where each event of a file's history may follow those before it, none of its records is bad.
+/// Where a file's history is legal, none of its records is bad.
 ///
 /// Source: own rule.
-pub fn a_servable_history_has_no_bad_record()
+pub fn a_legal_history_has_no_bad_record()
     ensures { HasNoBadRecord }
 {}

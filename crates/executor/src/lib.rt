@@ -5,7 +5,9 @@ mod laws;
 mod manager;
 mod open;
 mod questions;
+#[cfg(test)]
+mod tests;
 
 pub use event_codec::TooLong;
-pub use laws::{a_file_has_one_history, a_servable_history_has_no_bad_record};
+pub use laws::{a_file_has_one_history, a_legal_history_has_no_bad_record};
 pub use manager::{Manager, OpenFault, WorkFault};

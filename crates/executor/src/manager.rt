@@ -5,7 +5,7 @@ ghost use Rattle.event_codec.specs.Spell.{spelling};
 ghost use Rattle.event_codec.specs.Valid.{IsEvent};
 ghost use Rattle.event_codec.specs.Typed.{TypedEvent};
 ghost use Rattle.journal_core.specs.Load.{SyncsAndReads};
-ghost use Rattle.executor.specs.Open.{EachFollows, Opens};
+ghost use Rattle.executor.specs.Open.{Opens};
 ghost use Rattle.executor.specs.Faults.{work_fault};
 ghost use Rattle.executor.specs.History.{spellings};
 ghost use Rattle.journal_core.specs.File.{size};
@@ -13,7 +13,7 @@ ghost use Rattle.lcm_events.specs.declared.events.Event.{Event};
 ghost use Rattle.lcm_model.specs.Allowed.{IsAllowed};
 ghost use Rattle.vnfm_base.specs.Ident.{IsIdentNumber};
 ghost use Rattle.lcm_model.specs.Lives.{descriptor_named, descriptors, instances_made, live_instances};
-ghost use Rattle.executor.specs.Questions.{is_lived, is_made, live, made};
+ghost use Rattle.executor.specs.Questions.{is_made, live, made, may_be_live};
 ghost use Rattle.site_traits.specs.Counts.{Rose, OnlyDisk};
 ghost use Rattle.executor.specs.Managed.{Managed, IsKept, StandsFor, Commits, is_settled};
 
@@ -152,7 +152,6 @@ impl<S: Site> Manager<S> {
         ensures opens { S.tells → Opens result (S.state site.new) }
         ensures usable { IfOk result (λ m. (m.ledger.closed ≡ false) × IsKept m.ledger m.history) }
         ensures number { IfOk result (λ m. m.ledger.manager < 4294967296) }
-        ensures follows { IfOk result (λ m. EachFollows m.ledger.manager m.history) }
         ensures told { S.tells → SyncsAndReads (S.state site.old) (S.state site.new) }
         ensures disk { result ≡ Err OpenFault.Disk → Rose (S.counts site.old).disk (S.counts site.new).disk }
         ensures counts { OnlyDisk (S.counts site.old) (S.counts site.new) }
@@ -265,7 +264,7 @@ impl<S: Site> Manager<S> {
     ///
     /// Source: SOL 003 5.4.2 (VNF instances), 5.4.18 (Subscriptions).
     pub fn live(&self, kind: Kind) -> u64
-        requires { is_lived kind ≡ true }
+        requires { may_be_live kind ≡ true }
         ensures { result ≡ live kind self.now.history }
     {
         count_live(self.events.as_slice(), kind)

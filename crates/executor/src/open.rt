@@ -1,6 +1,8 @@
 //! Opening a journal as a manager: each record is judged once, in order, as it is read.
 ghost use Rattle.std.specs.Prelude.{◌≡◌, ◌≢◌, ◌≤◌, ◌<◌, ◌∷◌, ◌+◌, ℕ, List, [], length, reverse, IfOk, OnOk, IsTrue, None, ◌↔◌, true};
-ghost use Rattle.executor.specs.Open.{MayFollow};
+ghost use Rattle.executor.specs.History.{spellings};
+ghost use Rattle.journal_core.specs.File.{size};
+ghost use Rattle.lcm_model.specs.Allowed.{IsAllowed, IsLegal};
 ghost use Rattle.journal_core.specs.Load.{IsBegun, Loads};
 ghost use Rattle.site_traits.specs.Counts.{Rose, OnlyDisk};
 ghost use Rattle.executor.specs.Loading.{Judges, JudgesNext, IsJudged, JudgesAll};
@@ -9,18 +11,24 @@ use crate::manager::OpenFault;
 use event_codec::{DecodeFault, decode};
 use journal_core::{Found, LoadFault, Loading};
 use lcm_events::{Event, EventKind};
-use lcm_model::may_create;
+use lcm_judge::is_allowed;
+use lcm_laws::serials_are_counted;
 use site_traits::Site;
 use std::alloc::{AllocError, Global};
 
-/// Whether an event of this kind may follow these events, the oldest first.
-fn may_follow(manager: u32, events: &[Event], kind: &EventKind) -> bool
-    ensures { IsTrue result ↔ MayFollow manager (reverse events.now) kind.now }
+/// Whether an event of this kind is allowed after these events, the oldest first, whose spellings fit a file.
+fn may_follow(
+    alloc: Global,
+    manager: u32,
+    events: &[Event],
+    kind: &EventKind,
+) -> Result<bool, AllocError>
+    requires legal { IsLegal manager (reverse events.now) }
+    requires small { size (spellings (reverse events.now)) < 268435456 }
+    ensures { IfOk result (λ yes. IsTrue yes ↔ IsAllowed manager (reverse events.now) kind.now) }
 {
-    match kind {
-        EventKind::Created { instance, vnfd, .. } => may_create(events, *instance, vnfd),
-        _ => false,
-    }
+    serials_are_counted();
+    is_allowed(alloc, manager, events, kind)
 }
 
 /// Judges a record: where it is the next event, puts it to the events and answers true.
@@ -30,6 +38,8 @@ fn judge(
     manager: u32,
     bytes: &[u8],
 ) -> Result<bool, AllocError>
+    requires legal { IsLegal manager (reverse events.old.items) }
+    requires small { size (spellings (reverse events.old.items)) < 268435456 }
     ensures { IfOk result (λ good. Judges manager (reverse events.old.items) bytes.now good (reverse events.new.items)) }
 {
     let event = match decode(alloc, bytes) {
@@ -37,7 +47,7 @@ fn judge(
         Err(DecodeFault::NotEvent) => return Ok(false),
         Err(DecodeFault::Memory) => return Err(AllocError),
     };
-    if !may_follow(manager, events.as_slice(), &event.kind) {
+    if !may_follow(alloc, manager, events.as_slice(), &event.kind)? {
         return Ok(false);
     }
     events.push(event)?;
@@ -62,6 +72,8 @@ impl Judged {
         n: u64,
         bytes: &[u8],
     ) -> Result<(), AllocError>
+        requires legal { IsLegal manager (reverse self.old.events.items) }
+        requires small { self.old.bad ≡ None → size (spellings (reverse self.old.events.items)) < 268435456 }
         ensures { OnOk result (JudgesNext manager n bytes.now self.old self.new) }
     {
         if self.bad.is_some() {

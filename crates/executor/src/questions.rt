@@ -1,7 +1,7 @@
 //! What a manager is asked of its list of events, by walking it.
 
 ghost use Rattle.std.specs.Prelude.{◌≡◌, filter, length, reverse, true};
-ghost use Rattle.executor.specs.Questions.{is_lived, is_made, is_not_ended, live, made};
+ghost use Rattle.executor.specs.Questions.{is_made, is_not_ended, live, made, may_be_live};
 ghost use Rattle.lcm_model.specs.Lives.{subscriptions};
 
 use lcm_events::{Event, EventKind};
@@ -26,7 +26,7 @@ pub fn count_made(events: &[Event], kind: Kind) -> u64
 
 /// How many of the kind are live.
 pub fn count_live(events: &[Event], kind: Kind) -> u64
-    requires { is_lived kind ≡ true }
+    requires { may_be_live kind ≡ true }
     ensures { result ≡ live kind (reverse events.now) }
 {
     match kind {

@@ -1,7 +1,7 @@
 -- No more instances were made than the journal has records.
 use Rattle.std.proofs.Common.{arith, reverse, ◌∙◌, ap}
 use Rattle.lcm_model.specs.Lives.{instances_made}
-use Rattle.executor.proofs.ManagerLemmas.{made_within}
+use Rattle.executor.proofs.SerialLemmas.{made_within}
 use Rattle.executor.proofs.manager.Manager.next_instance.Goals as goal
 
 pub after-requires-clause-within : goal.after-requires-clause-within
