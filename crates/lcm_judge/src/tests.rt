@@ -49,8 +49,7 @@ fn events_are_judged_after_nothing(rt: HostRuntime) -> Result<(), Fail> {
     let alloc = rt.alloc();
     let kinds = vec![in alloc;
         (EventKind::Onboarded(empty(&rt, alloc)?), true),
-        (created(&rt, 1), true),
-        (created(&rt, 2), false),
+        (created(&rt, 1), false),
         (EventKind::Deleted { instance: 1 }, false),
         (EventKind::Denied { occ: 1 }, false),
         (
