@@ -1,0 +1,4 @@
+mod DocumentLemmas
+mod NameLemmas
+pub mod OrderLemmas
+mod SortLemmas

@@ -1,0 +1,7 @@
+pub mod Checks
+pub mod Document
+pub mod Json
+pub mod Names
+pub mod Places
+pub mod Seen
+pub mod Texts
