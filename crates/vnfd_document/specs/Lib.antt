@@ -1,6 +1,7 @@
 pub mod Checks
 pub mod Document
 pub mod Json
+pub mod Members
 pub mod Names
 pub mod Places
 pub mod Seen

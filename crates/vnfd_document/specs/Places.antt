@@ -4,7 +4,8 @@ use Rattle.std.specs.Cmp.Lexicographic.{slice_cmp}
 use Rattle.std.specs.List.{filter_map, list_all}
 use Rattle.std.specs.Ordering.{is_lt, nat_cmp}
 use Rattle.std.specs.Option.{option_map_or, option_or}
-use Rattle.std.specs.Prelude.{ℕ, List, [], ◌∷◌, Bool, false, if◌then◌else◌, filter, Option, Some, None, option_and_then, option_map, codes, is_some}
+use Rattle.std.specs.Str.{bytes_eq}
+use Rattle.std.specs.Prelude.{map, ℕ, List, [], ◌∷◌, Bool, false, if◌then◌else◌, filter, Option, Some, None, option_and_then, option_map, codes, is_some}
 use Rattle.serde_json.specs.Data.{Data, null, boolean, number, string, array, object}
 use Rattle.serde_json.specs.Find.{get, as_array, as_object, as_str}
 use Rattle.vnfd_document.specs.Json.{Named, at, is_text, items_in, members_in, named_entries}
@@ -51,6 +52,14 @@ property name d = at (codes "properties" ∷ name ∷ []) d
 -- what a template requires, by name, in the order of the list (TOSCA Simple Profile 1.2, requirements)
 abbrev pub requirements : Data → List Named
 requirements d = option_map_or named_entries (get (codes "requirements") d) []
+
+-- what stands under this name, in order
+abbrev pub under : List ℕ → List Named → List Data
+under name xs = map (λ x. x.1) (filter (λ x. bytes_eq name x.0) xs)
+
+-- what a template requires under this name, in the order of the list (TOSCA Simple Profile 1.2, requirements)
+abbrev pub required : List ℕ → Data → List Data
+required name d = under name (requirements d)
 
 -- the template that a requirement names: a text, or an object with the text `node` (TOSCA Simple Profile 1.2, requirements)
 abbrev pub node_named : Data → Option (List ℕ)

@@ -9,11 +9,13 @@ mod fault;
 mod look_ups;
 mod names;
 mod policies;
+mod requirements;
 
-pub use checks::{Check, first_of, first_requirement};
+pub use checks::{Check, first_of};
 pub use document::read_document;
 pub use entries::{Entry, members, members_in, of_type, only_member, templates_in};
 pub use fault::VnfdFault;
 pub use look_ups::{at, has_type, is_same_text, node_named, whole_in};
 pub use names::{is_given, label, name_or_empty, unknown};
 pub use policies::{policies_in, targets};
+pub use requirements::required;

@@ -34,7 +34,7 @@ fn policies_of<'a>(alloc: Global, value: &'a Value) -> Result<Vec<Entry<'a>>, Al
 }
 
 /// The members of those values that are objects with just one.
-fn named<'a>(alloc: Global, values: &'a [Value]) -> Result<Vec<Entry<'a>>, AllocError>
+pub(crate) fn named<'a>(alloc: Global, values: &'a [Value]) -> Result<Vec<Entry<'a>>, AllocError>
     ensures { IfOk result (λ found. map seen found.items ≡ filter_map the_only_member (items_in (items_view values.now))) }
 {
     let mut found = Vec::new(alloc);
