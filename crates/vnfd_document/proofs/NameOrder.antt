@@ -1,10 +1,11 @@
 -- In what is read of a text, the members of each object stand in byte order of their names, each once (RFC 8259 4).
-use Rattle.std.proofs.Common.{◌≡◌, ℕ, List, [], ◌∷◌, map, Bool, true, false, cond, filter, Option, Some, None, option_map, codes, refl, ap, ◌∙◌, IfSome, Ordering, Less, Equal, Greater, nat_cmp}
+use Rattle.std.proofs.Common.{◌≡◌, ℕ, List, [], ◌∷◌, map, Bool, true, false, cond, filter, Option, Some, None, option_map, codes, refl, ap, ◌∙◌, IfSome, Ordering, Less, Equal, Greater, nat_cmp, Result, Ok, Err, is_some, nat_lt, length, subst, is_lt}
 use Rattle.std.proofs.lemmas.Cmp.{nat_list_cmp_total}
 use Rattle.std.proofs.lemmas.Bool.{and_parts}
 use Rattle.std.specs.Cmp.Lexicographic.{slice_cmp}
-use Rattle.std.specs.List.{list_all}
-use Rattle.std.specs.Option.{option_and_then}
+use Rattle.std.specs.Str.{is_utf8}
+use Rattle.std.specs.List.{cons_option, filter_map, list_all}
+use Rattle.std.specs.Option.{option_and_then, option_map_or}
 use Rattle.std.specs.Ordering.{match_ordering, ordering_reverse}
 use Rattle.json.specs.Json as json
 use Rattle.json.specs.Lex.{tokens}
@@ -12,32 +13,13 @@ use Rattle.serde_json.specs.Data.{Data, null, boolean, number, string, array, ob
 use Rattle.serde_json.specs.Find.{as_object, get, get_member}
 use Rattle.serde_json.specs.Read.{max_depth, of_json, of_items, of_members, read}
 use Rattle.lcm_model.specs.Descriptors.{are_sorted}
-use Rattle.vnfd_document.specs.Json.{Named, at, members_in, members_of}
+use Rattle.vnfd_document.specs.Json.{Named, at, entries_of, items_in, members_in, members_of, named_entries, only_member, single}
+use Rattle.vnfd_document.specs.declared.fault.VnfdFault.{VnfdFault}
+use Rattle.vnfd_document.specs.declared.fault.VnfdFault.TheVariants.{TooMany}
+use Rattle.vnfd_document.specs.Document.{document, object_of, object_or_fault, only_object}
+use Rattle.vnfd_document.specs.Order.{AllInOrder, Behind, InOrder, ItemsInOrder, MembersInOrder}
 use Rattle.vnfd_document.specs.Names.{is_given_name, is_name, name_or_empty}
-use Rattle.vnfd_document.specs.Places.{has_type, node_templates, of_type}
-
--- every name of these stands behind k
-abbrev pub Behind : List ℕ → Members → Type 0
-Behind k no_members = Unit {0}
-Behind k (member l d ms) = (slice_cmp nat_cmp k l ≡ Less) × Behind k ms
-
--- the members of each object stand in byte order of their names, each once
-abbrev mutual
-  pub InOrder : Data → Type 0
-  InOrder null = Unit {0}
-  InOrder (boolean b) = Unit {0}
-  InOrder (number n) = Unit {0}
-  InOrder (string s) = Unit {0}
-  InOrder (array ds) = ItemsInOrder ds
-  InOrder (object ms) = MembersInOrder ms
-
-  pub ItemsInOrder : Items → Type 0
-  ItemsInOrder no_items = Unit {0}
-  ItemsInOrder (item d ds) = InOrder d × ItemsInOrder ds
-
-  pub MembersInOrder : Members → Type 0
-  MembersInOrder no_members = Unit {0}
-  MembersInOrder (member k d ms) = Behind k ms × InOrder d × MembersInOrder ms
+use Rattle.vnfd_document.specs.Places.{by_name, has_type, node_templates, of_type, policies, policies_in, put_by_name}
 
 -- ---- what is put stays in order
 
@@ -223,3 +205,91 @@ sorted-names (x ∷ y ∷ xs) h given =
     let first = and_parts (is_given_name x.0) _ given in
     let second = and_parts (is_given_name y.0) _ first.1 in
     sorted_two (name_or_empty x.0) (name_or_empty y.0) (map (λ z. name_or_empty z.0) xs) (kept_less x.0 y.0 h.0.0 first.0 second.0) (sorted-names (y ∷ xs) h.1 first.1)
+
+-- ---- policies
+
+in_order-members_in : (ms : Members) → MembersInOrder ms → AllInOrder (members_in ms)
+in_order-members_in no_members h = tt
+in_order-members_in (member k d ms) h = (h.1, in_order-members_in ms h.2)
+
+in_order-members_of : (d : Data) → InOrder d → AllInOrder (members_of d)
+in_order-members_of null h = tt
+in_order-members_of (boolean b) h = tt
+in_order-members_of (number n) h = tt
+in_order-members_of (string s) h = tt
+in_order-members_of (array ds) h = tt
+in_order-members_of (object ms) h = in_order-members_in ms h
+
+in_order-single : (xs : List Named) → AllInOrder xs → IfSome (single xs) (λ x. InOrder x.1)
+in_order-single [] h = tt
+in_order-single (x ∷ []) h = h.0
+in_order-single (x ∷ y ∷ xs) h = tt
+
+in_order-cons : (o : Option Named) (xs : List Named) → IfSome o (λ x. InOrder x.1) → AllInOrder xs → AllInOrder (cons_option o xs)
+in_order-cons None xs h k = k
+in_order-cons (Some x) xs h k = (h, k)
+
+in_order-entries : (ds : Items) → ItemsInOrder ds → AllInOrder (filter_map only_member (items_in ds))
+in_order-entries no_items h = tt
+in_order-entries (item d ds) h = in_order-cons (only_member d) _ (in_order-single (members_of d) (in_order-members_of d h.0)) (in_order-entries ds h.1)
+
+in_order-put_if : (b : Bool) (x y : Named) (ys : List Named) → InOrder x.1 → InOrder y.1 → AllInOrder ys → AllInOrder (put_by_name x ys) → AllInOrder (cond b (y ∷ put_by_name x ys) (x ∷ y ∷ ys))
+in_order-put_if true x y ys h k l m = (k, m)
+in_order-put_if false x y ys h k l m = (h, (k, l))
+
+in_order-put_by_name : (x : Named) (ys : List Named) → InOrder x.1 → AllInOrder ys → AllInOrder (put_by_name x ys)
+in_order-put_by_name x [] h k = (h, tt)
+in_order-put_by_name x (y ∷ ys) h k = in_order-put_if (is_lt (slice_cmp nat_cmp y.0 x.0)) x y ys h k.0 k.1 (in_order-put_by_name x ys h k.1)
+
+in_order-by_name : (xs : List Named) → AllInOrder xs → AllInOrder (by_name xs)
+in_order-by_name [] h = tt
+in_order-by_name (x ∷ xs) h = in_order-put_by_name x (by_name xs) h.0 (in_order-by_name xs h.1)
+
+in_order-policies_in : (d : Data) → InOrder d → AllInOrder (policies_in d)
+in_order-policies_in null h = tt
+in_order-policies_in (boolean b) h = tt
+in_order-policies_in (number n) h = tt
+in_order-policies_in (string s) h = tt
+in_order-policies_in (array ds) h = in_order-by_name (filter_map only_member (items_in ds)) (in_order-entries ds h)
+in_order-policies_in (object ms) h = in_order-members_in ms h
+
+some_or_none : (o : Option Data) → IfSome o InOrder → AllInOrder (option_map_or policies_in o [])
+some_or_none None h = tt
+some_or_none (Some d) h = in_order-policies_in d h
+
+-- what stands in each policy is in order
+pub in_order-policies : (d : Data) → InOrder d → AllInOrder (policies d)
+in_order-policies d h =
+    let path = codes "topology_template" ∷ codes "policies" ∷ [] in
+    some_or_none (at path d) (in_order-at path d h)
+
+in_order_if_kept : (b : Bool) (x : Named) (xs : List Named) → InOrder x.1 → AllInOrder xs → AllInOrder (cond b (x ∷ xs) xs)
+in_order_if_kept true x xs h k = (h, k)
+in_order_if_kept false x xs h k = k
+
+pub in_order-of_type : (kind : List ℕ) (xs : List Named) → AllInOrder xs → AllInOrder (of_type kind xs)
+in_order-of_type kind [] h = tt
+in_order-of_type kind (x ∷ xs) h = in_order_if_kept (has_type kind x.1) x (of_type kind xs) h.0 (in_order-of_type kind xs h.1)
+
+-- ---- the document
+
+only_object_in_order : (b : Bool) (d : Data) → InOrder d → IfSome (cond b (Some d) None) InOrder
+only_object_in_order true d h = h
+only_object_in_order false d h = tt
+
+object_in_order : (b : Bool) (o : Option Data) → IfSome o InOrder → IfSome (cond b (option_and_then only_object o) None) InOrder
+object_in_order true o h = some_then only_object InOrder InOrder o h (λ d k. only_object_in_order (is_some (as_object d)) d k)
+object_in_order false o h = tt
+
+given_in_order : (o : Option Data) (d : Data) → IfSome o InOrder → object_or_fault o ≡ Ok d → InOrder d
+given_in_order None d h e = let no : ⊥ = cc in absurd no
+given_in_order (Some x) d h e = let same : x ≡ d = cc in subst InOrder same h
+
+document_if : (b : Bool) (o : Option Data) (d : Data) → IfSome o InOrder → cond b (Err (TooMany (codes "bytes"))) (object_or_fault o) ≡ Ok d → InOrder d
+document_if true o d h e = let no : ⊥ = cc in absurd no
+document_if false o d h e = given_in_order o d h e
+
+-- the document is in order
+pub in_order-document : (bytes : List ℕ) (d : Data) → document bytes ≡ Ok d → InOrder d
+in_order-document bytes d e =
+    document_if (nat_lt 1048576 (length bytes)) (object_of bytes) d (object_in_order (is_utf8 bytes) (read bytes) (in_order-read bytes)) e
