@@ -1,4 +1,5 @@
 mod DocumentLemmas
-mod NameLemmas
+pub mod NameLemmas
+pub mod NameOrder
 pub mod OrderLemmas
 mod SortLemmas

@@ -16,6 +16,6 @@ pub use document::read_document;
 pub use entries::{Entry, members, members_in, of_type, only_member, templates_in};
 pub use fault::VnfdFault;
 pub use look_ups::{at, has_type, is_same_text, node_named, whole_in};
-pub use names::{is_given, label, name_or_empty, unknown};
+pub use names::{is_given, label, name_in, name_or_empty, unknown};
 pub use policies::{policies_in, targets};
 pub use requirements::required;

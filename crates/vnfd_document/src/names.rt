@@ -23,11 +23,18 @@ fn name_of(bytes: &[u8]) -> Option<Name>
     Name::of(bytes)
 }
 
+/// The text, where it is a name.
+pub fn name_in(text: &str) -> Option<Name>
+    ensures { result ≡ (if is_name text.now then Some text.now else None) }
+{
+    name_of(text.as_bytes())
+}
+
 /// The text where it is a name, else the empty name.
 pub fn name_or_empty(text: &str) -> Name
     ensures { result ≡ the_name_or_empty text.now }
 {
-    match name_of(text.as_bytes()) {
+    match name_in(text) {
         Some(name) => name,
         None => label(""),
     }
@@ -37,7 +44,7 @@ pub fn name_or_empty(text: &str) -> Name
 pub fn is_given(text: &str) -> bool
     ensures { result ≡ is_given_name text.now }
 {
-    !text.is_empty() && name_of(text.as_bytes()).is_some()
+    !text.is_empty() && name_in(text).is_some()
 }
 
 /// Why a text that names nothing is refused: it is unknown, or it is no name at all.
@@ -47,7 +54,7 @@ pub fn unknown(target: &str) -> VnfdFault
     if target.is_empty() {
         return VnfdFault::Wrong(label("name"));
     }
-    match name_of(target.as_bytes()) {
+    match name_in(target) {
         Some(name) => VnfdFault::Unknown(name),
         None => VnfdFault::Wrong(label("name")),
     }
