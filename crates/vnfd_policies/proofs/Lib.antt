@@ -1,1 +1,3 @@
 pub mod ListLaws
+pub mod ValidLaws
+pub mod LevelLaws

@@ -67,9 +67,9 @@ policies_with_levels_refusal all (p ∷ q ∷ more) = Some (Wrong (codes "levels
 abbrev pub levels_refusal : List Named → Option VnfdFault
 levels_refusal policies = policies_with_levels_refusal (aspects policies) (of_type instantiation_levels policies)
 
--- the scale level of an aspect at a level, and 0 where it gives none (default: own rule)
+-- the scale level of an aspect at a level, a whole number up to its greatest level, and 0 where it gives none (default: own rule)
 abbrev pub number_at : Data → Named → ℕ
-number_at level aspect = unwrap_or (option_and_then (whole 0 1000) (at (codes "scale_info" ∷ aspect.0 ∷ codes "scale_level" ∷ []) level)) 0
+number_at level aspect = unwrap_or (option_and_then (whole 0 (maximum aspect.1)) (at (codes "scale_info" ∷ aspect.0 ∷ codes "scale_level" ∷ []) level)) 0
 
 -- a level, with the scale level of each aspect
 abbrev pub level_of : List Named → Named → Level

@@ -25,9 +25,6 @@ use vnfd_document::{
 /// The most levels of a descriptor.
 const LEVELS: usize = 64;
 
-/// The greatest level of an aspect.
-const MAXIMUM: u32 = 1_000;
-
 /// The first thing that is wrong with the instantiation levels: that there are two policies with levels, or none in the one,
 /// or too many; the scale levels of each level in turn; the default level.
 ///
@@ -229,7 +226,7 @@ fn number_at(level: &Value, aspect: &Entry) -> u32
     ensures { result ≡ the_number_at (view level.now) (seen aspect.now) }
 {
     match at(level, &["scale_info", aspect.name, "scale_level"]) {
-        Some(value) => whole_in(0, MAXIMUM, value).unwrap_or(0),
+        Some(value) => whole_in(0, maximum(aspect.value), value).unwrap_or(0),
         None => 0,
     }
 }
