@@ -17,7 +17,7 @@ use Rattle.vnfd_document.specs.Json.{Named, at, entries_of, items_in, members_in
 use Rattle.vnfd_document.specs.declared.fault.VnfdFault.{VnfdFault}
 use Rattle.vnfd_document.specs.declared.fault.VnfdFault.TheVariants.{TooMany}
 use Rattle.vnfd_document.specs.Document.{document, object_of, object_or_fault, only_object}
-use Rattle.vnfd_document.specs.Order.{AllInOrder, Behind, InOrder, ItemsInOrder, MembersInOrder}
+use Rattle.vnfd_document.specs.Order.{AllBehind, AllInOrder, Behind, InOrder, ItemsInOrder, MembersInOrder, Rises}
 use Rattle.vnfd_document.specs.Names.{is_given_name, is_name, name_or_empty}
 use Rattle.vnfd_document.specs.Places.{by_name, has_type, node_templates, of_type, policies, policies_in, put_by_name}
 
@@ -118,16 +118,6 @@ in_order-at [] d h = h
 in_order-at (name ∷ names) d h = some_then (at names) InOrder InOrder (get name d) (in_order-get name d h) (λ e k. in_order-at names e k)
 
 -- ---- members rise by name
-
--- every name of these stands behind k
-abbrev pub AllBehind : List ℕ → List Named → Type 0
-AllBehind k [] = Unit {0}
-AllBehind k (x ∷ xs) = (slice_cmp nat_cmp k x.0 ≡ Less) × AllBehind k xs
-
--- the names rise in byte order
-abbrev pub Rises : List Named → Type 0
-Rises [] = Unit {0}
-Rises (x ∷ xs) = AllBehind x.0 xs × Rises xs
 
 all_behind-members : (k : List ℕ) (ms : Members) → Behind k ms → AllBehind k (members_in ms)
 all_behind-members k no_members h = tt

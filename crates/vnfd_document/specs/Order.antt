@@ -34,3 +34,13 @@ abbrev mutual
 abbrev pub AllInOrder : List Named → Type 0
 AllInOrder [] = Unit {0}
 AllInOrder (x ∷ xs) = InOrder x.1 × AllInOrder xs
+
+-- every name of these stands behind k
+abbrev pub AllBehind : List ℕ → List Named → Type 0
+AllBehind k [] = Unit {0}
+AllBehind k (x ∷ xs) = (slice_cmp nat_cmp k x.0 ≡ Less) × AllBehind k xs
+
+-- the names rise in byte order
+abbrev pub Rises : List Named → Type 0
+Rises [] = Unit {0}
+Rises (x ∷ xs) = AllBehind x.0 xs × Rises xs

@@ -103,8 +103,8 @@ fn names(key: &str, aim: &Value) -> bool
     }
 }
 
-/// The place of the thing with this name.
-fn place_of(things: &[Entry], target: &str) -> Option<u16>
+/// The place of the thing with this name, of at most 64.
+pub fn place_of(things: &[Entry], target: &str) -> Option<u16>
     requires { length things.now ≤ 64 }
     ensures { result ≡ the_place_of 0 (map seen things.now) target.now }
 {

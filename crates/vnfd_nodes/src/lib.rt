@@ -7,7 +7,7 @@ mod refusals;
 mod sizes;
 mod templates;
 
-pub use built::{links, ports, storages, vdu};
+pub use built::{links, place_of, ports, storages, vdu};
 pub use members::property_of;
 pub use refusals::{
     have_all_names, refuse_counts, refuse_product, refuse_properties, refuse_templates,
