@@ -23,7 +23,8 @@ use Rattle.vnfd_policies.specs.Rows.{aspect_of, aspects_of}
 use Rattle.vnfd_policies.proofs.ListLaws.{names_given}
 use Rattle.vnfd_policies.proofs.ValidLaws.{at_most, level_valid, none_parts, within_if}
 
-levels_pass : (vdus policies : List Named) → policies_refusal vdus policies ≡ None → levels_refusal policies ≡ None
+pub levels_pass : (vdus policies : List Named) → policies_refusal vdus policies ≡ None → levels_refusal policies ≡ None
+unfolding policies_refusal
 levels_pass vdus policies passes =
     let behind_aspects = (none_parts (aspects_refusal policies) _ passes).1 in
     let behind_deltas = (none_parts (all_deltas_refusal vdus policies) _ behind_aspects).1 in
@@ -50,6 +51,7 @@ few_by all (p ∷ q ∷ more) h = let no : ⊥ = cc in absurd no
 
 -- what passes has at most 64 levels
 pub levels_few : (vdus policies : List Named) → policies_refusal vdus policies ≡ None → nat_le (length (levels_of policies)) 64 ≡ true
+unfolding levels_of
 levels_few vdus policies passes = few_by (aspects policies) (of_type instantiation_levels policies) (levels_pass vdus policies passes)
 
 -- ---- the default level
@@ -80,6 +82,7 @@ default_below_by all (p ∷ q ∷ more) h = let no : ⊥ = cc in absurd no
 
 -- its default level is one of its levels
 pub default_below : (vdus policies : List Named) → policies_refusal vdus policies ≡ None → nat_lt (default_of policies) (length (levels_of policies)) ≡ true
+unfolding levels_of default_of
 default_below vdus policies passes = default_below_by (aspects policies) (of_type instantiation_levels policies) (levels_pass vdus policies passes)
 
 -- ---- each level
@@ -101,7 +104,7 @@ each_level_valid d vdus deltas all (l ∷ xs) is given =
     let names = and_parts (is_given_name l.0) _ given in
     and_from _ _ (level_valid d vdus deltas all l is names.0) (each_level_valid d vdus deltas all xs is names.1)
 
-all_front : (t : Named → Bool) (xs ys : List Named) → list_all t (xs ++ ys) ≡ true → list_all t xs ≡ true
+pub all_front : (t : Named → Bool) (xs ys : List Named) → list_all t (xs ++ ys) ≡ true → list_all t xs ≡ true
 all_front t [] ys h = refl
 all_front t (x ∷ xs) ys h = let parts = and_parts (t x) _ h in and_from (t x) _ parts.0 (all_front t xs ys parts.1)
 
@@ -114,6 +117,7 @@ levels_valid_by d vdus deltas all (p ∷ more) is given =
 -- its levels are valid, in a descriptor with its aspects
 pub levels_valid : (d : Vnfd) (vdus policies : List Named) → d.aspects ≡ aspects_of vdus policies → list_all is_given_name (policy_names policies) ≡ true
     → list_all (is_valid_level d) (levels_of policies) ≡ true
+unfolding levels_of aspects_of policy_names
 levels_valid d vdus policies is given =
     let of_levels = flat_map (λ p. levels_in p.1) (of_type instantiation_levels policies) in
     levels_valid_by d vdus (of_type aspect_deltas policies) (aspects policies) (of_type instantiation_levels policies) is

@@ -198,18 +198,29 @@ aspects_valid_from d vdus policies (x ∷ xs) same passes given =
 
 -- ---- all aspects
 
-aspects_pass : (vdus policies : List Named) → policies_refusal vdus policies ≡ None → aspects_refusal policies ≡ None
+pub aspects_pass : (vdus policies : List Named) → policies_refusal vdus policies ≡ None → aspects_refusal policies ≡ None
+unfolding policies_refusal
 aspects_pass vdus policies passes = (none_parts (aspects_refusal policies) _ passes).0
 
--- what passes has at most 16 aspects
-pub aspects_few : (vdus policies : List Named) → policies_refusal vdus policies ≡ None → nat_le (length (aspects policies)) 16 ≡ true
-aspects_few vdus policies passes =
+few : (vdus policies : List Named) → policies_refusal vdus policies ≡ None → nat_le (length (aspects policies)) 16 ≡ true
+few vdus policies passes =
     let behind_form = (none_parts (form_refusal (of_type scaling_aspects policies)) _ (aspects_pass vdus policies passes)).1 in
     at_most 16 (codes "aspects") (aspects policies) (none_parts (too_many 16 (codes "aspects") (aspects policies)) _ behind_form).0
+
+length_of : {A : Type 0} (f : Named → A) (xs : List Named) → length (map f xs) ≡ length xs
+length_of f [] = refl
+length_of f (x ∷ xs) = ap suc (length_of f xs)
+
+-- what passes has at most 16 aspects
+pub aspects_few : (vdus policies : List Named) → policies_refusal vdus policies ≡ None → nat_le (length (aspects_of vdus policies)) 16 ≡ true
+unfolding aspects_of
+aspects_few vdus policies passes =
+    subst (λ (n : ℕ). nat_le n 16 ≡ true) (sym (length_of (aspect_of vdus (of_type aspect_deltas policies)) (aspects policies))) (few vdus policies passes)
 
 -- its aspects are valid, in a descriptor with so many VDUs
 pub aspects_valid : (d : Vnfd) (vdus policies : List Named) → length d.vdus ≡ length vdus → policies_refusal vdus policies ≡ None
     → list_all (λ a. is_given_name a.0) (aspects policies) ≡ true → list_all (is_valid_aspect d) (aspects_of vdus policies) ≡ true
+unfolding aspects_of
 aspects_valid d vdus policies same passes given =
     let behind_form = (none_parts (form_refusal (of_type scaling_aspects policies)) _ (aspects_pass vdus policies passes)).1 in
     let behind_count = (none_parts (too_many 16 (codes "aspects") (aspects policies)) _ behind_form).1 in
@@ -247,6 +258,7 @@ initial_small vdu policies =
 
 -- an initial delta is within its limit
 pub initial_valid : (policies : List Named) (vdu : List ℕ) → nat_le (initial_of policies vdu) 65535 ≡ true
+unfolding initial_of
 initial_valid policies vdu =
     let own = delta_of vdu (of_type initial_delta policies) in
     let given = first_given (default_name policies) vdu (of_type vdu_levels policies) in

@@ -72,6 +72,6 @@ delta_of vdu policies = option_map (λ p. unwrap_or (option_and_then instances (
 
 -- the instances of the VDU at first: its initial delta, else what it is given at the default level, else 1 (SOL 001,
 -- VduInitialDelta; defaults: own rule)
-abbrev pub initial_of : List Named → List ℕ → ℕ
+unfoldable pub initial_of : List Named → List ℕ → ℕ
 initial_of policies vdu =
     unwrap_or (option_or (delta_of vdu (of_type initial_delta policies)) (first_given (default_name policies) vdu (of_type vdu_levels policies))) 1

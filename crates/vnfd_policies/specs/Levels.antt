@@ -80,7 +80,7 @@ abbrev pub levels_by : List Named → List Named → List Level
 levels_by all [] = record { name = codes "default"; numbers = map (λ a. 0) all } ∷ []
 levels_by all (p ∷ more) = map (level_of all) (levels_in p.1)
 
-abbrev pub levels_of : List Named → List Level
+unfoldable pub levels_of : List Named → List Level
 levels_of policies = levels_by (aspects policies) (of_type instantiation_levels policies)
 
 -- the name of the first level, where there is one
@@ -109,5 +109,5 @@ abbrev pub default_by : List Named → ℕ
 default_by [] = 0
 default_by (p ∷ more) = default_number p.1
 
-abbrev pub default_of : List Named → ℕ
+unfoldable pub default_of : List Named → ℕ
 default_of policies = default_by (of_type instantiation_levels policies)

@@ -39,5 +39,5 @@ aspect_of vdus policies a =
     record { name = name_or_empty a.0; maximum = maximum a.1; steps = step_count a.1; rows = rows_of vdus (policies_for a.0 policies) a.1 }
 
 -- the aspects, in byte order of their names
-abbrev pub aspects_of : List Named → List Named → List Aspect
+unfoldable pub aspects_of : List Named → List Named → List Aspect
 aspects_of vdus policies = map (aspect_of vdus (of_type aspect_deltas policies)) (aspects policies)

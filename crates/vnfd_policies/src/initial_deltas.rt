@@ -131,6 +131,7 @@ fn is_aimed_at(policies: &[Entry], vdu: &str) -> bool
 /// The instances of the VDU of this name at first: its initial delta, else what it is given at the default level, else 1.
 ///
 /// Source: SOL 001, tosca.policies.nfv.VduInitialDelta and tosca.policies.nfv.VduInstantiationLevels; defaults: own rule.
+#[tactic(auto, unfolding(crate::specs::Initial::initial_of))]
 pub fn initial(alloc: Global, policies: &[Entry], vdu: &str) -> Result<u32, AllocError>
     ensures { IfOk result (λ n. n ≡ initial_of (map seen policies.now) vdu.now) }
 {

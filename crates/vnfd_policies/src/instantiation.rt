@@ -148,6 +148,7 @@ fn refuse_default_name(levels: &[Entry], value: &Value) -> Result<(), VnfdFault>
 /// The levels: those of the policy that has some, and where there is none one level named `default` with every aspect at 0.
 ///
 /// Source: SOL 001, tosca.policies.nfv.InstantiationLevels; default: own rule.
+#[tactic(auto, unfolding(crate::specs::Levels::levels_of))]
 pub fn levels(alloc: Global, policies: &[Entry]) -> Result<Listed<Level>, AllocError>
     ensures { IfOk result (λ found. found ≡ levels_of (map seen policies.now)) }
 {
@@ -272,6 +273,7 @@ fn first_name<'a>(levels: &[Entry<'a>]) -> &'a str
 /// The number of the default level among the levels.
 ///
 /// Source: SOL 001, tosca.policies.nfv.InstantiationLevels, default_level; default: own rule.
+#[tactic(auto, unfolding(crate::specs::Levels::default_of))]
 pub fn default_level(alloc: Global, policies: &[Entry]) -> Result<u16, AllocError>
     ensures { IfOk result (λ n. n ≡ default_of (map seen policies.now)) }
 {

@@ -34,7 +34,7 @@ pub use instantiation::{default_level, levels};
 pub use rows::aspects;
 
 /// Whether the names of all aspects and of all levels are names that aren't empty.
-#[tactic(auto, using(crate::proofs::ListLaws::names_given))]
+#[tactic(auto, using(crate::proofs::ListLaws::names_given), unfolding(crate::specs::Refusal::policy_names))]
 pub fn are_policy_names_given(policies: &[Entry]) -> bool
     ensures { result ≡ list_all is_given_name (policy_names (map seen policies.now)) }
 {
@@ -87,6 +87,7 @@ fn are_keys_given(object: &Map<String, Value>) -> bool
 /// deltas, with the levels.
 ///
 /// Source: SOL 001, the policies on scaling; limits and order: own rule.
+#[tactic(auto, unfolding(crate::specs::Refusal::policies_refusal))]
 pub fn refuse_policies<'a>(
     alloc: Global,
     vdus: &[Entry<'a>],
@@ -103,6 +104,7 @@ pub fn refuse_policies<'a>(
 /// The policies that say how many instances of a VDU there are at each level, in order.
 ///
 /// Source: SOL 001, tosca.policies.nfv.VduInstantiationLevels.
+#[tactic(auto, unfolding(crate::specs::Refusal::level_policies))]
 pub fn level_policies<'a>(
     alloc: Global,
     policies: &[Entry<'a>],

@@ -23,6 +23,7 @@ use vnfd_document::{Entry, is_same_text, name_or_empty, of_type};
 /// The aspects, in byte order of their names.
 ///
 /// Source: SOL 001, tosca.policies.nfv.ScalingAspects and tosca.policies.nfv.VduScalingAspectDeltas.
+#[tactic(auto, unfolding(crate::specs::Rows::aspects_of))]
 pub fn aspects(
     alloc: Global,
     vdus: &[Entry],
