@@ -336,33 +336,67 @@ fn each_check_of_policies_fails_once(rt: HostRuntime) -> Result<(), Fail> {
     )
 }
 
-/// So many templates of this type.
-fn templates(alloc: Global, count: u32, kind: &str) -> Result<String, Fail> {
-    let mut text = String::new(alloc);
+/// A piece with so many members of one value between its front and its back.
+fn repeated(
+    alloc: Global,
+    front: &str,
+    count: u32,
+    value: &str,
+    back: &str,
+) -> Result<String, Fail> {
+    let mut text = String::from_str(alloc, front)?;
     for number in 0..count {
-        let one = format!(in alloc; "\"more_{number}\":{{\"type\":\"tosca.nodes.nfv.{kind}\"}},")?;
-        text.push_str(one.as_str())?;
+        let member = format!(in alloc; "\"more_{number}\":{value},")?;
+        text.push_str(member.as_str())?;
     }
+    text.push_str(back)?;
     Ok(text)
 }
 
 #[test]
 fn counts_have_limits(rt: HostRuntime) -> Result<(), Fail> {
     let alloc = rt.alloc();
+    let vdu = r#"{"type":"tosca.nodes.nfv.Vdu.Compute"}"#;
+    let storage = r#"{"type":"tosca.nodes.nfv.Vdu.VirtualBlockStorage"}"#;
+    let link = r#"{"type":"tosca.nodes.nfv.VnfVirtualLink"}"#;
+    let port = r#"{"type":"tosca.nodes.nfv.VduCp"}"#;
+    let aspects = r#"{"a":{"type":"tosca.policies.nfv.ScalingAspects","properties":{"aspects":{"#;
+    let workers = r#""workers":{"max_scale_level":10,"step_deltas":["delta_1"]}}}}},"#;
+    let levels =
+        r#"{"l":{"type":"tosca.policies.nfv.InstantiationLevels","properties":{"levels":{"#;
+    let normal =
+        r#""small":{},"normal":{"scale_info":{"workers":{"scale_level":1}}}},"default_level":"normal"}}},"#;
     let rows = [
-        (62, "Vdu.Compute", "missing virtual_mem_size"),
-        (63, "Vdu.Compute", "too many vdus"),
-        (126, "Vdu.VirtualBlockStorage", "a descriptor"),
-        (127, "Vdu.VirtualBlockStorage", "too many storages"),
-        (62, "VnfVirtualLink", "a descriptor"),
-        (63, "VnfVirtualLink", "too many links"),
-        (253, "VduCp", "missing virtual_binding"),
-        (254, "VduCp", "too many ports"),
+        (6, "", 62, vdu, PIECES[6], "missing virtual_mem_size"),
+        (6, "", 63, vdu, PIECES[6], "too many vdus"),
+        (6, "", 126, storage, PIECES[6], "a descriptor"),
+        (6, "", 127, storage, PIECES[6], "too many storages"),
+        (6, "", 62, link, PIECES[6], "a descriptor"),
+        (6, "", 63, link, PIECES[6], "too many links"),
+        (6, "", 253, port, PIECES[6], "missing virtual_binding"),
+        (6, "", 254, port, PIECES[6], "too many ports"),
+        (
+            10,
+            aspects,
+            15,
+            r#"{"max_scale_level":0}"#,
+            workers,
+            "a descriptor",
+        ),
+        (
+            10,
+            aspects,
+            16,
+            r#"{"max_scale_level":0}"#,
+            workers,
+            "too many aspects",
+        ),
+        (13, levels, 62, "{}", normal, "a descriptor"),
+        (13, levels, 63, "{}", normal, "too many levels"),
     ];
-    for (count, kind, text) in rows {
-        let mut piece = templates(alloc, count, kind)?;
-        piece.push_str(PIECES[6])?;
-        let document = changed(alloc, 6, piece.as_str())?;
+    for (place, front, count, value, back, text) in rows {
+        let piece = repeated(alloc, front, count, value, back)?;
+        let document = changed(alloc, place, piece.as_str())?;
         assert_eq!(rt;
             answered(alloc, document.as_str().as_bytes())?.as_str(),
             text
