@@ -1,3 +1,4 @@
+mod TokenLaws
 pub mod IntakeLaws
 pub mod Loops
 pub mod TakeLaws

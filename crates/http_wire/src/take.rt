@@ -1,5 +1,5 @@
 //! Takes the head and the body of a request out of an intake, reading no more than they need.
-ghost use Rattle.std.specs.Prelude.{◌≡◌, ◌≤◌, ◌+◌, length, take, IfOk, option_map};
+ghost use Rattle.std.specs.Prelude.{◌≡◌, ◌≤◌, ◌+◌, length, take, IfOk, IsOk, option_map};
 ghost use Rattle.httparse.specs.Spans.{span_bytes};
 ghost use Rattle.http_frames.specs.declared.head.Body.TheVariants as bodies;
 ghost use Rattle.http_frames.specs.Heads.{HasHead};
@@ -10,13 +10,14 @@ ghost use Rattle.http_wire.specs.Wire.{OnlyTakesIn, RequestCame, HeadCame, Sized
 use crate::intake::{Intake, Stop};
 use crate::request::{Request, WireFault};
 use http::Method;
+use http::method::MethodError;
 use http_frames::chunks::{Decoder, Verdict, rest};
 use http_frames::head::{Body, Head, HeadParts, read_head};
 use http_frames::{CHUNKED_BYTES, FIELD_ROOM, HEAD_BYTES};
 use httparse::spans::HeaderSpan;
 use site_traits::Door;
 use std::alloc::{AllocError, Global};
-use vnfm_base::{Bytes, Text};
+use vnfm_base::{Bytes, Text, TextFault};
 
 /// A body, and where its framing ends in the bytes that are held.
 #[derive(Drop)]
@@ -196,7 +197,7 @@ fn front(tail: &[u8]) -> &[u8]
     &tail[..tail.len().min(CHUNKED_BYTES)]
 }
 
-/// The request of these parts of the bytes that are held.
+/// The request of these parts of the bytes that are held. It fails where there is no memory for a part, and nowhere else.
 fn request_of(
     alloc: Global,
     held: &[u8],
@@ -207,14 +208,8 @@ fn request_of(
     requires { HasHead held.now head }
     ensures { IfOk result (HasParts held.now head body.items at_last) }
 {
-    let method = match Method::from_bytes(alloc, head.method.of(held)) {
-        Ok(method) => method,
-        Err(_) => return Err(AllocError),
-    };
-    let target = match Text::of(alloc, head.target.of(held)) {
-        Ok(target) => target,
-        Err(_) => return Err(AllocError),
-    };
+    let method = method_of(alloc, held, head)?;
+    let target = target_of(alloc, held, head)?;
     let media = media_of(alloc, held, head)?;
     Ok(Request {
         method,
@@ -223,6 +218,31 @@ fn request_of(
         body: Bytes::of_vec(body),
         last: head.closes | at_last,
     })
+}
+
+/// The method. The grammar of heads makes it a token.
+fn method_of(alloc: Global, held: &[u8], head: HeadParts) -> Result<Method, AllocError>
+    requires { HasHead held.now head }
+    ensures value { IfOk result (λ method. method ≡ span_bytes held.now head.method) }
+    ensures no_memory_needed { length (span_bytes held.now head.method) ≤ 15 → IsOk result }
+{
+    match Method::from_bytes(alloc, head.method.of(held)) {
+        Ok(method) => Ok(method),
+        Err(MethodError::Invalid) => unreachable!(),
+        Err(MethodError::OutOfMemory) => Err(AllocError),
+    }
+}
+
+/// The target. The grammar of heads makes it a text.
+fn target_of(alloc: Global, held: &[u8], head: HeadParts) -> Result<Text, AllocError>
+    requires { HasHead held.now head }
+    ensures { IfOk result (λ target. target ≡ span_bytes held.now head.target) }
+{
+    match Text::of(alloc, head.target.of(held)) {
+        Ok(target) => Ok(target),
+        Err(TextFault::NotText) => unreachable!(),
+        Err(TextFault::Memory) => Err(AllocError),
+    }
 }
 
 /// The value of the first Content-Type field, if there is one.

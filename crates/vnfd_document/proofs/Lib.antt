@@ -1,0 +1,5 @@
+mod DocumentLemmas
+pub mod NameLemmas
+pub mod NameOrder
+pub mod OrderLemmas
+mod SortLemmas

@@ -1,0 +1,4 @@
+pub mod Built
+pub mod Nodes
+pub mod Seen
+pub mod Sizes

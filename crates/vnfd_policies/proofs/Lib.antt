@@ -1,0 +1,5 @@
+pub mod ListLaws
+pub mod ValidLaws
+pub mod LevelLaws
+pub mod SortedLaws
+pub mod ValidPolicies
