@@ -9,3 +9,4 @@ pub mod CreateLemmas
 pub mod Excluding
 pub mod BackLemmas
 pub mod MarkLemmas
+pub mod EveryLemmas

@@ -1,5 +1,5 @@
 // The reading back of one record, from the nearest place that the journal knows.
-ghost use Rattle.std.specs.Prelude.{◌≡◌, ◌≤◌, ◌<◌, ◌+◌, ◌-◌, ◌++◌, List, ℕ, IfOk, IfSome, Some, Result, IsTrue, ◌↔◌, length, take, drop, get_or, []};
+ghost use Rattle.std.specs.Prelude.{◌≡◌, ◌≤◌, ◌<◌, ◌+◌, ◌-◌, ◌*◌, ◌++◌, List, ℕ, IfOk, IfSome, Some, Result, IsTrue, ◌↔◌, length, take, drop, get_or, []};
 ghost use Rattle.site_traits.specs.Counts.{DiskCause};
 ghost use Rattle.site_traits.specs.Site.{Reads};
 ghost use Rattle.journal_core.specs.File.{framed, records, size, IsRecord};
@@ -39,6 +39,7 @@ pub fn record_from<S: Site>(
     buffer: &mut [u8],
 ) -> Result<Option<(u64, usize)>, DiskFailed>
     requires before { from.before < n }
+    requires near { (n - 1 - from.before) * 196608 ≤ end }
     requires small { end < 268435456 }
     requires room { 65536 ≤ length buffer.old }
     requires told { S.tells → HasRecord n end (S.state site.old).image × IsMark (records (S.state site.old).image) from }
@@ -59,9 +60,11 @@ pub fn record_from<S: Site>(
     Ok(Some((place, size as usize)))
 }
 
-// The place of record n, or None where no record stands on the way there.
+// The place of record n, or None where no record stands on the way there. It reads a head for each record between the kept place and
+// record n: by `near` at most 1,365 of them, one for each 196,608 bytes of the file.
 fn place_of<S: Site>(site: &mut S, from: Mark, n: u64, end: u64) -> Result<Option<u64>, DiskFailed>
     requires before { from.before < n }
+    requires near { (n - 1 - from.before) * 196608 ≤ end }
     requires small { end < 268435456 }
     requires told { S.tells → HasRecord n end (S.state site.old).image × IsMark (records (S.state site.old).image) from }
 

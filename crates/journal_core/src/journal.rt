@@ -1,5 +1,5 @@
 // The journal of one manager. A closed gate stands behind the last record, on the disk before anything is written behind it.
-ghost use Rattle.std.specs.Prelude.{◌≡◌, ◌≤◌, ◌<◌, ◌↔◌, ◌+◌, ℕ, List, [], ◌∷◌, All, IsTrue, true, false, take, length, OnOk};
+ghost use Rattle.std.specs.Prelude.{◌≡◌, ◌≤◌, ◌<◌, ◌↔◌, ◌+◌, ◌-◌, ◌*◌, ℕ, List, [], ◌∷◌, All, IsTrue, true, false, take, length, OnOk};
 ghost use Rattle.site_traits.specs.Counts.{Rose, OnlyDisk};
 ghost use Rattle.journal_core.specs.File.{piece};
 ghost use Rattle.journal_core.specs.Journal.{Stands, Appends};
@@ -38,14 +38,14 @@ pub struct Journal<S: Site> {
 }
 
 impl<S: Site> Model for Journal<S> {
-    ghost use Rattle.std.specs.Prelude.{◌≡◌, ◌≤◌, ◌<◌, ◌∷◌, length, take};
+    ghost use Rattle.std.specs.Prelude.{◌≡◌, ◌≤◌, ◌<◌, ◌*◌, ◌∷◌, length, take};
     ghost use Rattle.journal_core.specs.Journal.{Ledger};
 
     ghost Value = { Ledger };
 
-    ghost view = { λ j. record { manager = j.manager; count = j.count; end = j.end; closed = j.closed; marks = j.last ∷ j.marks; back = take j.size j.buffer.items } };
+    ghost view = { λ j. record { manager = j.manager; count = j.count; end = j.end; closed = j.closed; marks = j.last ∷ j.marks.places; back = take j.size j.buffer.items } };
 
-    ghost invariant = { λ j. (length j.buffer.items ≡ 65541) × (j.end < 268435456) × (j.count ≤ j.end) × (j.size ≤ 65536) };
+    ghost invariant = { λ j. (length j.buffer.items ≡ 65541) × (j.end < 268435456) × (j.count * 6 ≤ j.end) × (j.size ≤ 65536) × (j.marks.seen ≡ j.count) };
 }
 
 /// Why a record could not be appended.
@@ -77,8 +77,9 @@ impl<S: Site> Journal<S> {
     pub fn of(manager: u32, count: u64, end: u64, buffer: Vec<u8>, marks: Marks) -> Journal<S>
         requires room { length buffer.items ≡ 65541 }
         requires small { end < 268435456 }
-        requires few { count ≤ end }
-        ensures { result ≡ record { manager = manager; count = count; end = end; closed = false; marks = first_mark ∷ marks; back = [] } }
+        requires few { count * 6 ≤ end }
+        requires seen { marks.seen ≡ count }
+        ensures { result ≡ record { manager = manager; count = count; end = end; closed = false; marks = first_mark ∷ marks.places; back = [] } }
     {
         Journal {
             manager,
@@ -203,8 +204,10 @@ impl<S: Site> Journal<S> {
 
     // The nearest place before record n that the journal keeps.
     fn nearest(&self, n: u64) -> Mark
-        requires { 1 ≤ n }
+        requires some { 1 ≤ n }
+        requires within { n ≤ self.now.count }
         ensures before { result.before < n }
+        ensures near { (n - 1 - result.before) * 196608 ≤ self.now.end }
         ensures mark { (rs : List (List ℕ)) → All (IsMark rs) self.now.marks → IsMark rs result }
     {
         let kept = self.marks.near(n);

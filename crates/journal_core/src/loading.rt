@@ -74,15 +74,15 @@ pub struct Loading<S: Site> {
 }
 
 impl<S: Site> Model for Loading<S> {
-    ghost use Rattle.std.specs.Prelude.{◌≡◌, ◌≤◌, ◌<◌, take, length};
+    ghost use Rattle.std.specs.Prelude.{◌≡◌, ◌≤◌, ◌<◌, ◌*◌, take, length};
     ghost use Rattle.journal_core.specs.Judged.{Judged, LongEnough, FrontIs};
     ghost use Rattle.journal_core.specs.Load.{Progress};
 
     ghost Value = { Progress };
 
-    ghost view = { λ l. record { manager = l.manager; count = l.count; end = l.end; len = l.len; record_bytes = take l.size l.buffer.items; ended = l.ended; marks = l.marks } };
+    ghost view = { λ l. record { manager = l.manager; count = l.count; end = l.end; len = l.len; record_bytes = take l.size l.buffer.items; ended = l.ended; marks = l.marks.places } };
 
-    ghost invariant = { λ l. (length l.buffer.items ≡ 65541) × (l.end < 268435456) × (l.count ≤ l.end) × (l.end ≤ l.len) × (l.size ≤ 65536) };
+    ghost invariant = { λ l. (length l.buffer.items ≡ 65541) × (l.end < 268435456) × (l.count * 6 ≤ l.end) × (l.end ≤ l.len) × (l.size ≤ 65536) × (l.marks.seen ≡ l.count) };
 }
 
 impl<S: Site> Journal<S> {

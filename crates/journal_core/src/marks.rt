@@ -1,7 +1,6 @@
 // The places that a journal keeps, so that a record is read back without a walk from the start of the file.
-ghost use Rattle.std.specs.Prelude.{◌≡◌, ◌≤◌, ◌<◌, [], List, ℕ, IfOk, All};
-ghost use Rattle.journal_core.specs.File.{size};
-ghost use Rattle.journal_core.specs.Marks.{IsMark};
+ghost use Rattle.std.specs.Prelude.{◌≡◌, ◌≤◌, ◌<◌, ◌+◌, ◌-◌, ◌*◌, ◌/◌, ◌^◌, [], List, ℕ, IfOk, All, length, get_or, vec_capacity};
+ghost use Rattle.journal_core.specs.Marks.{IsMark, AreEvery, IsFitStep};
 
 use std::alloc::{AllocError, Global};
 use std::marker::Model;
@@ -24,94 +23,95 @@ pub const FIRST: Mark = Mark {
     place: 32,
 };
 
-/// The places of every k-th record. Where the room for them is full, k doubles and every second place goes.
+/// The places of every k-th record, k being the step. Where the room for them is full, k doubles and every second place goes.
+///
+/// A contract sees the places, and of how many records they are.
 #[derive(Drop)]
 pub struct Marks {
     kept: Vec<Mark>,
     step: u64,
-    ghost some: { 1 ≤ step },
+    seen: u64,
 }
 
 impl Model for Marks {
-    ghost use Rattle.std.specs.Prelude.{List};
-    ghost use Rattle.journal_core.specs.declared.marks.Mark.{Mark};
+    ghost use Rattle.std.specs.Prelude.{◌≡◌, vec_capacity};
+    ghost use Rattle.journal_core.specs.Marks.{Kept, AreEvery, IsFitStep};
 
-    ghost Value = { List Mark };
+    ghost Value = { Kept };
 
-    ghost view = { λ m. m.kept.items };
+    ghost view = { λ m. record { places = m.kept.items; seen = m.seen } };
+
+    ghost invariant = { λ m. AreEvery m.step m.seen m.kept.items × IsFitStep m.step m.seen × (vec_capacity m.kept ≡ 65536) };
 }
 
 impl Marks {
     /// No place, with room for 65,536.
     pub fn new(alloc: Global) -> Result<Marks, AllocError>
-        ensures { IfOk result (λ m. m ≡ []) }
+        ensures { IfOk result (λ m. m ≡ record { places = []; seen = 0 }) }
     {
         let kept = Vec::with_capacity(alloc, MARKS)?;
-        Ok(Marks { kept, step: 1 })
+        Ok(Marks {
+            kept,
+            step: 1,
+            seen: 0,
+        })
     }
 
-    /// Keeps the place of the record behind so many, where it is one of every k-th. It takes no memory.
+    /// One record more is seen, whose gate stands here; its place is kept where it is one of every k-th. It takes no memory.
     pub fn keep(&mut self, mark: Mark)
-        ensures { (rs : List (List ℕ)) → All (IsMark rs) self.old → IsMark rs mark → All (IsMark rs) self.new }
+        requires next { mark.before ≡ self.old.seen }
+        requires small { self.old.seen < 268435456 }
+        ensures seen { self.new.seen ≡ self.old.seen + 1 }
+        ensures marks { (rs : List (List ℕ)) → All (IsMark rs) self.old.places → IsMark rs mark → All (IsMark rs) self.new.places }
     {
         if mark.before % self.step != 0 {
+            self.seen += 1;
             return;
         }
-        self.step = make_room(&mut self.kept, self.step);
-        put(&mut self.kept, mark);
+        self.step = make_room(&mut self.kept, self.step, mark.before);
+        self.kept.push_reserved(mark);
+        self.seen += 1;
     }
 
-    /// The last kept place before record n, from 1, or the first gate's.
+    /// The nearest kept place before record n, from 1: fewer than k records stand between, and k is at most one more than a
+    /// 32,768th of the records that were seen.
     pub fn near(&self, n: u64) -> Mark
-        requires { 1 ≤ n }
+        requires some { 1 ≤ n }
+        requires seen { n ≤ self.now.seen }
         ensures before { result.before < n }
-        ensures mark { (rs : List (List ℕ)) → All (IsMark rs) self.now → IsMark rs result }
+        ensures near { (n - 1 - result.before) * 32768 ≤ self.now.seen }
+        ensures mark { (rs : List (List ℕ)) → All (IsMark rs) self.now.places → IsMark rs result }
     {
-        let place = (n - 1) / self.step;
-        if place < self.kept.len() as u64 {
-            return before_or_first(self.kept[place as usize], n);
-        }
-        match self.kept.last() {
-            Some(mark) => before_or_first(*mark, n),
-            None => FIRST,
-        }
+        self.kept[((n - 1) / self.step) as usize]
     }
 }
 
-// The mark where it stands before record n, else the first gate's.
-fn before_or_first(mark: Mark, n: u64) -> Mark
-    requires { 1 ≤ n }
-    ensures before { result.before < n }
-    ensures mark { (rs : List (List ℕ)) → IsMark rs mark → IsMark rs result }
-{
-    if mark.before < n { mark } else { FIRST }
-}
-
-// Makes room for a place where there is none, and gives the step between those that are kept.
-fn make_room(kept: &mut Vec<Mark>, step: u64) -> u64
-    requires { 1 ≤ step }
-    ensures step { 1 ≤ result }
+// Makes room for the place behind so many records, a multiple of the step, and gives the step between the places that are kept.
+fn make_room(kept: &mut Vec<Mark>, step: u64, seen: u64) -> u64
+    requires every { AreEvery step seen kept.old.items }
+    requires next { length kept.old.items * step ≡ seen }
+    requires fit { IsFitStep step seen }
+    requires capacity { vec_capacity kept.old ≡ 65536 }
+    ensures every { AreEvery result seen kept.new.items }
+    ensures next { length kept.new.items * result ≡ seen }
+    ensures fit { IsFitStep result seen }
+    ensures room { length kept.new.items < 65536 }
+    ensures capacity { vec_capacity kept.new ≡ 65536 }
     ensures marks { (rs : List (List ℕ)) → All (IsMark rs) kept.old.items → All (IsMark rs) kept.new.items }
 {
-    if kept.len() < kept.capacity() {
+    if kept.len() < MARKS {
         return step;
     }
     halve(kept);
-    step.saturating_mul(2)
-}
-
-// Puts this place behind those that are kept, where there is room for it.
-fn put(kept: &mut Vec<Mark>, mark: Mark)
-    ensures { (rs : List (List ℕ)) → All (IsMark rs) kept.old.items → IsMark rs mark → All (IsMark rs) kept.new.items }
-{
-    if kept.len() < kept.capacity() {
-        kept.push_reserved(mark);
-    }
+    step * 2
 }
 
 // Keeps every second place.
 fn halve(kept: &mut Vec<Mark>)
-    ensures { (rs : List (List ℕ)) → All (IsMark rs) kept.old.items → All (IsMark rs) kept.new.items }
+    ensures len { length kept.new.items ≡ length kept.old.items / 2 }
+    ensures each { (k : ℕ) (d : Mark) → k < length kept.new.items → get_or kept.new.items k d ≡ get_or kept.old.items (k * 2) d }
+    ensures marks { (rs : List (List ℕ)) → All (IsMark rs) kept.old.items → All (IsMark rs) kept.new.items }
+    ensures capacity { vec_capacity kept.new ≡ vec_capacity kept.old }
 {
     let half = kept.len() / 2;
     for k in 0..half {

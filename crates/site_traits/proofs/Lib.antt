@@ -1,5 +1,7 @@
 pub mod ClockLemmas
+mod ConnLemmas
 pub mod DiskLemmas
+mod DoorLemmas
 pub mod LogLemmas
 pub mod Moments
 mod PeerLemmas

@@ -5,6 +5,10 @@ use Rattle.std.specs.Prelude.{◌≡◌, ◌≤◌, ℕ, ◌+◌, ◌-◌, ◌^�
 abbrev pub Rose : ℕ → ℕ → Type 0
 Rose before now = min (before + 1) (2 ^ 64 - 1) ≤ now
 
+-- one more, as far as a u64 counts (own rule)
+abbrev pub one_more : ℕ → ℕ
+one_more n = min (n + 1) (2 ^ 64 - 1)
+
 -- how often each kind of call of a site failed, and how often a begin was refused (own rule)
 pub record SiteCounts : Type 0 where
   pub disk : ℕ

@@ -1,13 +1,23 @@
 -- A site in memory.
 use Rattle.std.specs.Prelude.{◌≡◌, ℕ, List, [], map}
+use Rattle.site_traits.specs.Counts.{SiteCounts}
 use Rattle.site_traits.specs.declared.mem_site.MemSite.{MemSite}
-use Rattle.site_traits.specs.Disk.{change_of, disk}
+use Rattle.site_traits.specs.Disk.{change_of, disk, told}
+use Rattle.site_traits.specs.Site.{SiteState}
 
 -- nothing was done to the site since it had this file
 pub record IsFresh (m : MemSite) (file : List ℕ) : Type 0 where
   pub first : m.first.items ≡ file
-  pub log : m.log ≡ []
+  pub log : m.book.log.calls ≡ []
 
 -- what a read of the site's file gives
 abbrev pub image_of : MemSite → List ℕ
-image_of m = (disk m.first.items (map change_of m.log)).seen
+image_of m = (disk m.first.items (map change_of m.book.log.calls)).seen
+
+-- what the site tells
+abbrev pub state_of : MemSite → SiteState
+state_of m = told m.first.items (map change_of m.book.log.calls)
+
+-- how often its disk calls failed
+abbrev pub counts_of : MemSite → SiteCounts
+counts_of m = record { disk = m.book.faults; vim = 0; look = 0; refusals = 0 }

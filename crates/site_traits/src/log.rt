@@ -1,5 +1,6 @@
 // A record of calls, each with its bytes, for the objects in memory. All its room is taken when it is made.
-ghost use Rattle.std.specs.Prelude.{◌≡◌, ◌≤◌, ◌<◌, ◌++◌, get_or, ◌∷◌, [], List, ℕ, IsTrue, IfOk, true, false, length};
+ghost use Rattle.std.specs.Prelude.{◌≡◌, ◌≤◌, ◌<◌, ◌+◌, ◌↔◌, ◌++◌, get_or, [], List, ℕ, IsTrue, IfOk, false, length, vec_capacity};
+ghost use Rattle.site_traits.specs.Log.{HasRoom, with_call, empty};
 
 use std::alloc::{AllocError, Global};
 use std::marker::Model;
@@ -21,53 +22,58 @@ pub struct Entry<T> {
     pub len: usize,
 }
 
-/// A record of calls, the oldest first. A contract sees each call with its bytes.
+/// A record of calls, the oldest first. A contract sees each call with its bytes, and the room.
 #[derive(Drop)]
 pub struct Log<T: Copy + Drop> {
     entries: Vec<Entry<T>>,
     bytes: Vec<u8>,
+    most_calls: usize,
+    most_bytes: usize,
 }
 
 impl<T: Copy + Drop> Model for Log<T> {
-    ghost use Rattle.std.specs.Prelude.{List, ℕ, map, All};
-    ghost use Rattle.site_traits.specs.Log.{entry_of, IsWithin};
+    ghost use Rattle.std.specs.Prelude.{map, ◌≤◌, vec_capacity};
+    ghost use Rattle.site_traits.specs.Log.{entry_of, Recorded, IsKept};
 
-    ghost Value = { List (T × List ℕ) };
+    ghost Value = { Recorded T };
 
-    ghost view = { λ l. map (entry_of l.bytes.items) l.entries.items };
+    ghost view = { λ l. record { calls = map (entry_of l.bytes.items) l.entries.items; most_calls = l.most_calls; most_bytes = l.most_bytes } };
 
-    ghost invariant = { λ l. All (IsWithin l.bytes.items) l.entries.items };
+    ghost invariant = { λ l. IsKept l.bytes.items l.entries.items × (l.most_calls ≤ vec_capacity l.entries) × (l.most_bytes ≤ vec_capacity l.bytes) };
 }
 
 impl<T: Copy + Drop> Log<T> {
     /// No call, with room for so many calls and so many bytes.
     pub fn new(alloc: Global, calls: usize, bytes: usize) -> Result<Log<T>, AllocError>
-        ensures { IfOk result (λ l. l ≡ []) }
+        ensures { IfOk result (λ l. l ≡ empty calls bytes) }
     {
-        let entries = Vec::with_capacity(alloc, calls)?;
-        let bytes = Vec::with_capacity(alloc, bytes)?;
-        Ok(Log { entries, bytes })
+        Ok(Log {
+            entries: Vec::with_capacity(alloc, calls)?,
+            bytes: Vec::with_capacity(alloc, bytes)?,
+            most_calls: calls,
+            most_bytes: bytes,
+        })
     }
 
     /// How many calls are on record.
     pub fn len(&self) -> usize
-        ensures { result ≡ length self.now }
+        ensures { result ≡ length self.now.calls }
     {
         self.entries.len()
     }
 
     /// What call number k was, from 0.
     pub fn what(&self, k: usize) -> T
-        requires { k < length self.now }
-        ensures { result ≡ (get_or self.now k (result, [])).0 }
+        requires { k < length self.now.calls }
+        ensures { result ≡ (get_or self.now.calls k (result, [])).0 }
     {
         self.entries[k].what
     }
 
     /// The bytes of call number k, from 0.
     pub fn bytes_of(&self, k: usize) -> &[u8]
-        requires { k < length self.now }
-        ensures { (what : T) → result.now ≡ (get_or self.now k (what, [])).1 }
+        requires { k < length self.now.calls }
+        ensures { (what : T) → result.now ≡ (get_or self.now.calls k (what, [])).1 }
     {
         let entry = self.entries[k];
         &self.bytes[entry.from..entry.from + entry.len]
@@ -75,14 +81,15 @@ impl<T: Copy + Drop> Log<T> {
 
     /// Puts a call with these bytes, first and second, on record where there is room for it; else nothing changes.
     pub fn push(&mut self, what: T, first: &[u8], second: &[u8]) -> bool
-        ensures put { IsTrue result → self.new ≡ self.old ++ (what, first.now ++ second.now) ∷ [] }
+        ensures room { IsTrue result ↔ HasRoom (length first.now + length second.now) self.old }
+        ensures put { IsTrue result → self.new ≡ with_call what (first.now ++ second.now) self.old }
         ensures kept { result ≡ false → self.new ≡ self.old }
     {
-        if self.entries.len() >= self.entries.capacity() {
+        if self.entries.len() >= self.most_calls {
             return false;
         }
         let from = self.bytes.len();
-        if !put_both(&mut self.bytes, first, second) {
+        if !put_both(&mut self.bytes, self.most_bytes, first, second) {
             return false;
         }
         let len = self.bytes.len() - from;
@@ -91,17 +98,22 @@ impl<T: Copy + Drop> Log<T> {
     }
 }
 
-// Puts these bytes, first and second, behind those that are there, where there is room for them.
-fn put_both(bytes: &mut Vec<u8>, first: &[u8], second: &[u8]) -> bool
+// Puts these bytes, first and second, behind those that are there, where there is room for them within so many.
+fn put_both(bytes: &mut Vec<u8>, most: usize, first: &[u8], second: &[u8]) -> bool
+    requires { most ≤ vec_capacity bytes.old }
+    ensures room { IsTrue result ↔ (length bytes.old.items + (length first.now + length second.now) ≤ most) }
     ensures put { IsTrue result → bytes.new.items ≡ bytes.old.items ++ (first.now ++ second.now) }
     ensures kept { result ≡ false → bytes.new.items ≡ bytes.old.items }
+    ensures capacity { vec_capacity bytes.old ≤ vec_capacity bytes.new }
 {
-    let room = bytes.capacity().saturating_sub(bytes.len());
+    let Some(room) = most.checked_sub(bytes.len()) else {
+        return false;
+    };
     if first.len() > room || second.len() > room - first.len() {
         return false;
     }
     if bytes.extend_from_slice(first).is_err() {
-        return false;
+        unreachable!();
     }
     if bytes.extend_from_slice(second).is_err() {
         unreachable!();

@@ -1,5 +1,7 @@
 // A connection of a door in memory.
-ghost use Rattle.std.specs.Prelude.{◌≡◌, ◌≤◌, IfOk, IsTrue, true, false, length, drop};
+ghost use Rattle.std.specs.Prelude.{◌≡◌, ◌≤◌, ◌<◌, ◌+◌, ◌⊎◌, ◌↔◌, IfOk, IfSome, IsTrue, true, false, length, drop, get_or, Some, vec_capacity};
+ghost use Rattle.site_traits.specs.Counts.{one_more};
+ghost use Rattle.site_traits.specs.Pieces.{IsRising, IsLastEnd, ArePassed, IsOfOnePiece};
 
 use std::alloc::{AllocError, Global};
 use vnfm_base::Bytes;
@@ -13,13 +15,18 @@ pub struct MemConn {
     read_failed: bool,
     write_failed: bool,
     hung_up: bool,
-    cuts: Vec<usize>,
+    ends: Vec<usize>,
     piece: usize,
     reads: usize,
     writes: usize,
     failing_read: Option<usize>,
     failing_write: Option<usize>,
+    room: usize,
     ghost within: { read ≤ length bytes.items },
+    ghost roomy: { room ≤ vec_capacity out },
+    ghost rising: { IsRising ends.items },
+    ghost last_end: { IsLastEnd ends.items (length bytes.items) },
+    ghost passed: { ArePassed ends.items piece read },
 }
 
 impl MemConn {
@@ -38,7 +45,9 @@ impl MemConn {
     }
 
     /// Whether a read or a write on it failed.
-    pub fn failed(&self) -> bool {
+    pub fn failed(&self) -> bool
+        ensures { IsTrue result ↔ (IsTrue self.now.read_failed ⊎ IsTrue self.now.write_failed) }
+    {
         self.read_failed || self.write_failed
     }
 
@@ -49,7 +58,7 @@ impl MemConn {
         self.hung_up
     }
 
-    ghost use Rattle.site_traits.specs.MemConn.{conn_of, ReadsNext, SameConn, WroteOut, IsFreshConn, IsNobody};
+    ghost use Rattle.site_traits.specs.MemConn.{conn_of, plan_of, KeepsPlan, ReadsNext, SameConn, WroteOut, IsFreshConn, IsNobody, IsConnOf, IsUncounted};
     ghost use Rattle.site_traits.specs.Door.{read_broke, write_broke, gone};
 
     // The connection at hand before any has come.
@@ -63,12 +72,13 @@ impl MemConn {
             read_failed: false,
             write_failed: false,
             hung_up: true,
-            cuts: Vec::new(alloc),
+            ends: Vec::new(alloc),
             piece: 0,
             reads: 0,
             writes: 0,
             failing_read: None,
             failing_write: None,
+            room: 0,
         }
     }
 
@@ -80,13 +90,15 @@ impl MemConn {
         failing_read: Option<usize>,
         failing_write: Option<usize>,
     ) -> Result<MemConn, AllocError>
-        ensures { IfOk result IsFreshConn }
+        ensures fresh { IfOk result IsFreshConn }
+        ensures plan { IfOk result (IsConnOf pieces.items failing_read failing_write room) }
+        ensures uncounted { IfOk result IsUncounted }
     {
         let mut bytes = Vec::new(alloc);
-        let mut cuts = Vec::new(alloc);
+        let mut ends = Vec::new(alloc);
         for piece in &pieces {
             bytes.extend_from_slice(piece.as_slice())?;
-            cuts.push(bytes.len())?;
+            ends.push(bytes.len())?;
         }
         let out = Vec::with_capacity(alloc, room)?;
         Ok(MemConn {
@@ -96,60 +108,73 @@ impl MemConn {
             read_failed: false,
             write_failed: false,
             hung_up: false,
-            cuts,
+            ends,
             piece: 0,
             reads: 0,
             writes: 0,
             failing_read,
             failing_write,
+            room,
         })
     }
 
     // Reads the next bytes of the connection, at least one, to the front of a piece that isn't empty; None where none is left.
     pub fn read_next(&mut self, into: &mut [u8]) -> Option<usize>
         requires { 1 ≤ length into.old }
-        ensures { ReadsNext self.old self.new into.old into.new result }
+        ensures read { ReadsNext self.old self.new into.old into.new result }
+        ensures piece { IfSome result (λ n. IsOfOnePiece self.old.ends.items self.old.read n (length into.old)) }
+        ensures keeps { KeepsPlan self.old self.new }
     {
-        let piece = self.piece_left();
-        let left = self.bytes.len() - self.read;
-        if left == 0 {
+        if self.read == self.bytes.len() {
             return None;
         }
-        let amount = piece.min(left).min(into.len()).max(1);
+        let piece = self.piece_at_hand();
+        let amount = (self.ends[piece] - self.read).min(into.len());
         into[..amount].copy_from_slice(&self.bytes[self.read..self.read + amount]);
+        self.piece = piece;
         self.read += amount;
         Some(amount)
     }
 
-    // How many bytes of the piece at hand are left, or any number behind the last piece.
-    fn piece_left(&mut self) -> usize
-        ensures { SameConn self.old self.new }
+    // The number, from 0, of the piece at hand: the first that ends behind what was read.
+    fn piece_at_hand(&self) -> usize
+        requires { self.now.read < length self.now.bytes.items }
+        ensures within { result < length self.now.ends.items }
+        ensures end { self.now.read < get_or self.now.ends.items result 0 }
+        ensures most { get_or self.now.ends.items result 0 ≤ length self.now.bytes.items }
+        ensures passed { ArePassed self.now.ends.items result self.now.read }
     {
-        while self.piece < self.cuts.len() {
-            let end = self.cuts[self.piece];
-            if end > self.read {
-                return end - self.read;
-            }
-            self.piece += 1;
+        let mut piece = self.piece;
+        while piece < self.ends.len() && self.ends[piece] <= self.read {
+            piece += 1;
         }
-        usize::MAX
+        piece
     }
 
     // Puts the bytes behind those that went out, where there is room for them.
     pub fn put_out(&mut self, bytes: &[u8]) -> bool
+        ensures room { IsTrue result ↔ (length self.old.out.items + length bytes.now ≤ self.old.room) }
         ensures put { IsTrue result → WroteOut bytes.now self.old self.new }
+        ensures keeps { KeepsPlan self.old self.new }
         ensures kept { result ≡ false → self.new ≡ self.old }
     {
-        let room = self.out.capacity().saturating_sub(self.out.len());
+        let Some(room) = self.room.checked_sub(self.out.len()) else {
+            return false;
+        };
         bytes.len() <= room && self.out.extend_from_slice(bytes).is_ok()
     }
 
     /// The connection as it came, with nothing read or written on it.
     pub fn renewed(self) -> MemConn
-        ensures { IsFreshConn result }
+        ensures fresh { IsFreshConn result }
+        ensures plan { plan_of result ≡ plan_of self }
+        ensures uncounted { IsUncounted result }
     {
         let mut conn = self;
         conn.read = 0;
+        conn.piece = 0;
+        conn.reads = 0;
+        conn.writes = 0;
         conn.out.clear();
         conn.read_failed = false;
         conn.write_failed = false;
@@ -159,7 +184,8 @@ impl MemConn {
 
     /// Counts a read, and says whether it is the one that fails.
     pub fn read_fails(&mut self) -> bool
-        ensures { SameConn self.old self.new }
+        ensures named { IsTrue result ↔ (self.old.failing_read ≡ Some (one_more self.old.reads)) }
+        ensures counted { self.new ≡ record self.old { reads = one_more self.old.reads } }
     {
         self.reads = self.reads.saturating_add(1);
         self.failing_read == Some(self.reads)
@@ -167,7 +193,8 @@ impl MemConn {
 
     /// Counts a write, and says whether it is the one that fails.
     pub fn write_fails(&mut self) -> bool
-        ensures { SameConn self.old self.new }
+        ensures named { IsTrue result ↔ (self.old.failing_write ≡ Some (one_more self.old.writes)) }
+        ensures counted { self.new ≡ record self.old { writes = one_more self.old.writes } }
     {
         self.writes = self.writes.saturating_add(1);
         self.failing_write == Some(self.writes)
@@ -175,21 +202,24 @@ impl MemConn {
 
     /// A read on it failed.
     pub fn break_read(&mut self)
-        ensures { conn_of self.new ≡ read_broke (conn_of self.old) }
+        ensures told { conn_of self.new ≡ read_broke (conn_of self.old) }
+        ensures rest { self.new ≡ record self.old { read_failed = true } }
     {
         self.read_failed = true;
     }
 
     /// A write on it failed.
     pub fn break_write(&mut self)
-        ensures { conn_of self.new ≡ write_broke (conn_of self.old) }
+        ensures told { conn_of self.new ≡ write_broke (conn_of self.old) }
+        ensures rest { self.new ≡ record self.old { write_failed = true } }
     {
         self.write_failed = true;
     }
 
     /// It was hung up.
     pub fn hang_up(&mut self)
-        ensures { conn_of self.new ≡ gone (conn_of self.old) }
+        ensures told { conn_of self.new ≡ gone (conn_of self.old) }
+        ensures rest { self.new ≡ record self.old { hung_up = true } }
     {
         self.hung_up = true;
     }

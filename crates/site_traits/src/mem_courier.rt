@@ -1,5 +1,5 @@
 // A courier in memory, which gives the statuses of a plan and tells all.
-ghost use Rattle.std.specs.Prelude.{◌≡◌, ◌≤◌, ◌<◌, [], IfOk, length};
+ghost use Rattle.std.specs.Prelude.{◌≡◌, IfOk, length};
 ghost use Rattle.site_traits.specs.MemPeers.{posts_of};
 
 use crate::courier::{Courier, PostAnswer};
@@ -37,9 +37,11 @@ pub struct MemCourier {
 }
 
 impl MemCourier {
+    ghost use Rattle.site_traits.specs.MemCourier.{IsNewCourier, next_post};
+
     /// A courier with this plan, which carried nothing yet.
     pub fn new(alloc: Global, plans: Vec<PostPlan>) -> Result<MemCourier, AllocError>
-        ensures { IfOk result (λ c. (c.posts ≡ []) × (c.faults ≡ 0)) }
+        ensures { IfOk result (IsNewCourier plans.items) }
     {
         Ok(MemCourier {
             plans,
@@ -51,7 +53,7 @@ impl MemCourier {
 
     /// How many posts got a status.
     pub fn posts(&self) -> usize
-        ensures { result ≡ length self.now.posts }
+        ensures { result ≡ length self.now.posts.calls }
     {
         self.posts.len()
     }
@@ -64,7 +66,9 @@ impl MemCourier {
     }
 
     // The answer that the plan has for the next post.
-    fn planned(&self) -> PostPlan {
+    fn planned(&self) -> PostPlan
+        ensures { result ≡ next_post self.now }
+    {
         match self.plans.get(self.next) {
             Some(plan) => *plan,
             None => PostPlan::Status(204),
@@ -73,13 +77,20 @@ impl MemCourier {
 }
 
 impl Courier for MemCourier {
+    ghost use Rattle.site_traits.specs.MemCourier.{RunsPost};
+    ghost use Rattle.site_traits.specs.Peers.{Posts, PostCause};
+
     ghost tells = { Unit {0} };
 
-    ghost state = { λ c. posts_of c.posts };
+    ghost state = { λ c. posts_of c.posts.calls };
 
     ghost counts = { λ c. c.faults };
 
-    fn post(&mut self, uri: &Line, body: &[u8]) -> PostAnswer {
+    fn post(&mut self, uri: &Line, body: &[u8]) -> PostAnswer
+        ensures told { Posts uri.now body.now result (posts_of self.old.posts.calls) (posts_of self.new.posts.calls) }
+        ensures cause { PostCause result self.old.faults self.new.faults }
+        ensures runs { RunsPost uri.now body.now result self.old self.new }
+    {
         if let PostPlan::Status(status) = self.planned() {
             let mark = PostMark {
                 uri: uri.len(),

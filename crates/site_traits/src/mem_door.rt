@@ -1,6 +1,7 @@
 // A door in memory, which tells all.
-ghost use Rattle.std.specs.Prelude.{◌≡◌, ◌≤◌, ◌<◌, ◌++◌, ℕ, List, [], map, IfOk, IsTrue, true, false, length, take, drop};
+ghost use Rattle.std.specs.Prelude.{◌≡◌, ◌≤◌, ◌+◌, ◌↔◌, IfOk, IsTrue, length, vec_len, vec_capacity};
 ghost use Rattle.site_traits.specs.Counts.{Rose};
+ghost use Rattle.site_traits.specs.DoorPlans.{AreReady, IsReady, calls_after};
 
 use crate::door::{Door, NextAnswer, ReadAnswer, WriteAnswer};
 use crate::log::{BYTES, CALLS};
@@ -52,6 +53,9 @@ pub struct MemDoor {
     calls: usize,
     faults: u64,
     next_faults: u64,
+    ghost answered: { vec_len answers ≤ calls },
+    ghost answers_fit: { 1048576 ≤ vec_capacity answers },
+    ghost past_fits: { vec_len past + vec_len plans ≤ vec_capacity past },
 }
 
 impl MemDoor {
@@ -59,7 +63,8 @@ impl MemDoor {
 
     /// A door that does these in order, and has ended after them.
     pub fn new(alloc: Global, plans: Vec<DoorPlan>) -> Result<MemDoor, AllocError>
-        ensures { IfOk result IsNew }
+        ensures fresh { IfOk result IsNew }
+        ensures plan { IfOk result (λ d. AreReady plans.items d.plans.items) }
     {
         let count = plans.len();
         let ready = make_ready(alloc, plans)?;
@@ -106,7 +111,10 @@ impl MemDoor {
 }
 
 // Counts a call, and says whether it is past the room.
-fn is_spent(calls: &mut usize) -> bool {
+fn is_spent(calls: &mut usize) -> bool
+    ensures spent { IsTrue result ↔ (1048576 ≤ calls.old) }
+    ensures counted { calls.new ≡ calls_after calls.old }
+{
     if *calls >= CALLS {
         return true;
     }
@@ -115,27 +123,35 @@ fn is_spent(calls: &mut usize) -> bool {
 }
 
 // The plans with the room that they need, the first of them last.
-fn make_ready(alloc: Global, plans: Vec<DoorPlan>) -> Result<Vec<Planned>, AllocError> {
+fn make_ready(alloc: Global, plans: Vec<DoorPlan>) -> Result<Vec<Planned>, AllocError>
+    ensures { IfOk result (λ ready. AreReady plans.items ready.items) }
+{
     let mut plans = plans;
     let mut ready = Vec::new(alloc);
-    let room = BYTES / (plans.len().max(1));
+    let room = BYTES / plans.len().max(1);
     while let Some(plan) = plans.pop() {
-        let next = match plan {
-            DoorPlan::Nobody => Planned::Nobody,
-            DoorPlan::NextFails => Planned::Fails,
-            DoorPlan::Conn {
-                role,
-                pieces,
-                failing_read,
-                failing_write,
-            } => Planned::Conn(
-                role,
-                MemConn::with(alloc, room, pieces, failing_read, failing_write)?,
-            ),
-        };
-        ready.push(next)?;
+        ready.push(ready_one(alloc, room, plan)?)?;
     }
     Ok(ready)
+}
+
+// One plan with the room that it needs.
+fn ready_one(alloc: Global, room: usize, plan: DoorPlan) -> Result<Planned, AllocError>
+    ensures { IfOk result (IsReady room plan) }
+{
+    Ok(match plan {
+        DoorPlan::Nobody => Planned::Nobody,
+        DoorPlan::NextFails => Planned::Fails,
+        DoorPlan::Conn {
+            role,
+            pieces,
+            failing_read,
+            failing_write,
+        } => Planned::Conn(
+            role,
+            MemConn::with(alloc, room, pieces, failing_read, failing_write)?,
+        ),
+    })
 }
 
 // Counts one fault more.
@@ -147,18 +163,21 @@ fn count(faults: &mut u64)
 }
 
 impl Door for MemDoor {
-    ghost use Rattle.site_traits.specs.MemDoor.{state_of};
+    ghost use Rattle.site_traits.specs.MemDoor.{state_of, counts_of, RunsNext, RunsRead, RunsWrite, SamePlan};
+    ghost use Rattle.site_traits.specs.Door.{Nexts, ReadsIn, WritesOut, HangsUp, IsAmount, IsTaken, NextCause, ReadCause, WriteCause, NoNextFault};
 
     ghost tells = { Unit {0} };
 
     ghost state = { state_of };
 
-    ghost counts = { λ d. record { faults = d.faults; next = d.next_faults } };
+    ghost counts = { counts_of };
 
-    fn next(&mut self) -> NextAnswer {
-        let full = self.answers.len() >= self.answers.capacity()
-            || self.past.len() >= self.past.capacity();
-        if is_spent(&mut self.calls) || full {
+    fn next(&mut self) -> NextAnswer
+        ensures told { Nexts result (state_of self.old) (state_of self.new) }
+        ensures cause { NextCause result (counts_of self.old) (counts_of self.new) }
+        ensures runs { RunsNext result self.old self.new }
+    {
+        if is_spent(&mut self.calls) {
             count(&mut self.faults);
             count(&mut self.next_faults);
             return NextAnswer::Failed;
@@ -186,7 +205,13 @@ impl Door for MemDoor {
         }
     }
 
-    fn read(&mut self, into: &mut [u8]) -> ReadAnswer {
+    fn read(&mut self, into: &mut [u8]) -> ReadAnswer
+        requires { 1 ≤ length into.old }
+        ensures amount { IsAmount result (length into.old) }
+        ensures told { ReadsIn into.old into.new result (state_of self.old) (state_of self.new) }
+        ensures cause { ReadCause result (counts_of self.old) (counts_of self.new) }
+        ensures runs { RunsRead (length into.old) result self.old self.new }
+    {
         if is_spent(&mut self.calls) || self.conn.read_fails() {
             self.conn.break_read();
             count(&mut self.faults);
@@ -198,7 +223,13 @@ impl Door for MemDoor {
         }
     }
 
-    fn write(&mut self, bytes: &[u8]) -> WriteAnswer {
+    fn write(&mut self, bytes: &[u8]) -> WriteAnswer
+        requires { 1 ≤ length bytes.now }
+        ensures amount { IsTaken result (length bytes.now) }
+        ensures told { WritesOut bytes.now result (state_of self.old) (state_of self.new) }
+        ensures cause { WriteCause result (counts_of self.old) (counts_of self.new) }
+        ensures runs { RunsWrite bytes.now result self.old self.new }
+    {
         if is_spent(&mut self.calls) || self.conn.write_fails() || !self.conn.put_out(bytes) {
             self.conn.break_write();
             count(&mut self.faults);
@@ -207,7 +238,12 @@ impl Door for MemDoor {
         WriteAnswer::Took(bytes.len())
     }
 
-    fn hang_up(&mut self) {
+    fn hang_up(&mut self)
+        ensures told { HangsUp (state_of self.old) (state_of self.new) }
+        ensures cause { NoNextFault (counts_of self.old) (counts_of self.new) }
+        ensures same { SamePlan self.old self.new }
+        ensures calls { self.new.calls ≡ self.old.calls }
+    {
         self.conn.hang_up();
     }
 }

@@ -1,7 +1,7 @@
 // An orchestrator in memory, which gives the answers of a plan and tells all.
-ghost use Rattle.std.specs.Prelude.{◌≡◌, ◌≤◌, ◌++◌, ◌∷◌, [], IfOk, Some, None, length, vec_len, false, IsTrue};
-ghost use Rattle.site_traits.specs.Counts.{Rose};
-ghost use Rattle.site_traits.specs.MemPeers.{answer_of, answers_of, bytes_of};
+ghost use Rattle.std.specs.Prelude.{◌≡◌, ◌≤◌, ◌↔◌, ◌++◌, ◌∷◌, [], IfOk, IsSome, Some, None, length, vec_len, false, IsTrue};
+ghost use Rattle.site_traits.specs.Log.{HasRoom, SameRoom};
+ghost use Rattle.site_traits.specs.MemPeers.{answer_of, answers_of, bytes_of, next_answer, place_after};
 
 use crate::heard::{HEARD_MAX, Heard};
 use crate::log::{BYTES, CALLS, Log};
@@ -40,9 +40,11 @@ pub struct MemOrchestrator {
 }
 
 impl MemOrchestrator {
+    ghost use Rattle.site_traits.specs.MemOrchestrator.{IsNewOrchestrator};
+
     /// An orchestrator with this plan, on which no call was made.
     pub fn new(alloc: Global, plans: Vec<GrantPlan>) -> Result<MemOrchestrator, AllocError>
-        ensures { IfOk result (λ o. (answers_of o.plans.items o.next ≡ []) × (o.asked ≡ []) × (o.polled ≡ []) × (o.faults ≡ 0)) }
+        ensures { IfOk result (IsNewOrchestrator plans.items) }
     {
         Ok(MemOrchestrator {
             plans,
@@ -55,14 +57,14 @@ impl MemOrchestrator {
 
     /// How many grant requests were answered.
     pub fn asked(&self) -> usize
-        ensures { result ≡ length self.now.asked }
+        ensures { result ≡ length self.now.asked.calls }
     {
         self.asked.len()
     }
 
     /// How many polls were answered.
     pub fn polled(&self) -> usize
-        ensures { result ≡ length self.now.polled }
+        ensures { result ≡ length self.now.polled.calls }
     {
         self.polled.len()
     }
@@ -107,7 +109,10 @@ fn answer(
 ) -> Call
     requires { next.old ≤ length plans.now }
     ensures within { next.new ≤ length plans.now }
-    ensures came { result ≡ Call.Came → (answers_of plans.now next.new ≡ answers_of plans.now next.old ++ heard.new ∷ []) × (bytes_of calls.new ≡ bytes_of calls.old ++ bytes.now ∷ []) }
+    ensures served { (result ≡ Call.Came) ↔ (IsSome (next_answer plans.now next.old) × HasRoom (length bytes.now) calls.old) }
+    ensures place { next.new ≡ place_after result (next_answer plans.now next.old) next.old (length plans.now) }
+    ensures room { SameRoom calls.old calls.new }
+    ensures came { result ≡ Call.Came → (answers_of plans.now next.new ≡ answers_of plans.now next.old ++ heard.new ∷ []) × (bytes_of calls.new.calls ≡ bytes_of calls.old.calls ++ bytes.now ∷ []) }
     ensures failed { result ≡ Call.Failed → (answers_of plans.now next.new ≡ answers_of plans.now next.old) × (calls.new ≡ calls.old) }
 {
     let Some(plan) = plans.get(*next) else {
@@ -125,13 +130,21 @@ fn answer(
 }
 
 impl Orchestrator for MemOrchestrator {
+    ghost use Rattle.site_traits.specs.MemOrchestrator.{state_of, RunsCall};
+    ghost use Rattle.site_traits.specs.Peers.{Asks, Polls, CallCause};
+
     ghost tells = { Unit {0} };
 
-    ghost state = { λ o. record { answers = answers_of o.plans.items o.next; asked = bytes_of o.asked; polled = bytes_of o.polled } };
+    ghost state = { state_of };
 
     ghost counts = { λ o. o.faults };
 
-    fn ask(&mut self, body: &[u8], heard: &mut Heard) -> Call {
+    fn ask(&mut self, body: &[u8], heard: &mut Heard) -> Call
+        ensures told { Asks body.now heard.new result (state_of self.old) (state_of self.new) }
+        ensures cause { CallCause result self.old.faults self.new.faults }
+        ensures runs { RunsCall body.now result self.old.asked self.new.asked self.old self.new }
+        ensures polled { self.new.polled ≡ self.old.polled }
+    {
         let answer = answer(&self.plans, &mut self.next, &mut self.asked, body, heard);
         if answer == Call::Failed {
             self.faults = self.faults.saturating_add(1);
@@ -139,7 +152,12 @@ impl Orchestrator for MemOrchestrator {
         answer
     }
 
-    fn poll(&mut self, location: &Line, heard: &mut Heard) -> Call {
+    fn poll(&mut self, location: &Line, heard: &mut Heard) -> Call
+        ensures told { Polls location.now heard.new result (state_of self.old) (state_of self.new) }
+        ensures cause { CallCause result self.old.faults self.new.faults }
+        ensures runs { RunsCall location.now result self.old.polled self.new.polled self.old self.new }
+        ensures asked { self.new.asked ≡ self.old.asked }
+    {
         let answer = answer(
             &self.plans,
             &mut self.next,

@@ -1,6 +1,6 @@
 // A sink in memory, which tells all.
-ghost use Rattle.std.specs.Prelude.{◌≡◌, ◌≤◌, ◌++◌, ℕ, List, [], IfOk, IsTrue, true, false};
-ghost use Rattle.site_traits.specs.Counts.{Rose};
+ghost use Rattle.std.specs.Prelude.{◌≡◌, ◌≤◌, ◌+◌, ◌↔◌, ◌++◌, ℕ, List, [], IfOk, IsTrue, false, length, vec_capacity};
+ghost use Rattle.site_traits.specs.Sink.{Puts, SinkCause};
 
 use crate::log::{BYTES, CALLS};
 use crate::sink::{Sink, SinkFailed};
@@ -13,6 +13,7 @@ pub struct MemSink {
     failing: Option<u64>,
     calls: u64,
     faults: u64,
+    ghost roomy: { 67108864 ≤ vec_capacity bytes },
 }
 
 impl MemSink {
@@ -20,7 +21,7 @@ impl MemSink {
 
     /// An empty sink, of which the put of this number, from 1, fails, if one is given.
     pub fn new(alloc: Global, failing: Option<u64>) -> Result<MemSink, AllocError>
-        ensures { IfOk result IsEmpty }
+        ensures { IfOk result (IsEmpty failing) }
     {
         let bytes = Vec::with_capacity(alloc, BYTES)?;
         Ok(MemSink {
@@ -47,17 +48,22 @@ impl MemSink {
 }
 
 impl Sink for MemSink {
+    ghost use Rattle.site_traits.specs.MemSink.{RunsPut};
+
     ghost tells = { Unit {0} };
 
     ghost state = { λ s. s.bytes.items };
 
     ghost counts = { λ s. s.faults };
 
-    fn put(&mut self, bytes: &[u8]) -> Result<(), SinkFailed> {
+    fn put(&mut self, bytes: &[u8]) -> Result<(), SinkFailed>
+        ensures told { Puts bytes.now result self.old.bytes.items self.new.bytes.items }
+        ensures cause { SinkCause self.old.faults self.new.faults result }
+        ensures runs { RunsPut bytes.now result self.old self.new }
+    {
         self.calls = self.calls.saturating_add(1);
-        let now = self.calls;
-        let fails = self.failing == Some(now) || now > CALLS as u64;
-        if fails || !put_within(&mut self.bytes, bytes) {
+        let named = self.failing == Some(self.calls);
+        if named || self.calls > CALLS as u64 || !put_within(&mut self.bytes, bytes) {
             self.faults = self.faults.saturating_add(1);
             return Err(SinkFailed);
         }
@@ -65,11 +71,16 @@ impl Sink for MemSink {
     }
 }
 
-// Puts these bytes behind those that are there, where there is room for them.
+// Puts these bytes behind those that are there, where there is room for them within 64 MiB.
 fn put_within(all: &mut Vec<u8>, bytes: &[u8]) -> bool
+    requires { 67108864 ≤ vec_capacity all.old }
+    ensures room { IsTrue result ↔ (length all.old.items + length bytes.now ≤ 67108864) }
     ensures put { IsTrue result → all.new.items ≡ all.old.items ++ bytes.now }
     ensures kept { result ≡ false → all.new.items ≡ all.old.items }
+    ensures capacity { vec_capacity all.old ≤ vec_capacity all.new }
 {
-    let room = all.capacity().saturating_sub(all.len());
+    let Some(room) = BYTES.checked_sub(all.len()) else {
+        return false;
+    };
     bytes.len() <= room && all.extend_from_slice(bytes).is_ok()
 }

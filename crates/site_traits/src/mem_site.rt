@@ -1,6 +1,7 @@
 // A site in memory, which tells all.
-ghost use Rattle.std.specs.Prelude.{◌≡◌, ◌≤◌, ◌<◌, ◌+◌, ℕ, List, [], map, get_or, length, take, drop, min, IsTrue, IfOk, OnOk, true, false, vec_capacity};
-ghost use Rattle.site_traits.specs.Counts.{Rose};
+ghost use Rattle.std.specs.Prelude.{◌≡◌, ◌≤◌, ◌<◌, ◌+◌, ◌↔◌, ℕ, List, [], map, get_or, length, take, drop, min, max, Contains, IsTrue, IfOk, OnOk, is_ok, vec_capacity};
+ghost use Rattle.site_traits.specs.Counts.{one_more, DiskCause};
+ghost use Rattle.site_traits.specs.Book.{IsWithinRoom, IsPlanned, Runs};
 ghost use Rattle.site_traits.specs.Disk.{change_of, change_by, disk, overlaid, put_over, chosen, clip, left_after, stopped_image};
 
 use crate::log::{CALLS, Log};
@@ -53,18 +54,28 @@ pub struct SitePlan {
     pub failing: Vec<u64>,
 }
 
+/// The plan of a site in memory, and what was done by it.
+#[derive(Drop)]
+pub struct Book {
+    failing: Vec<u64>,
+    room: usize,
+    calls: u64,
+    faults: u64,
+    log: Log<DiskCall>,
+}
+
 /// A site in memory, which tells all. A call that fails changes nothing and is not put on record.
+///
+/// A call fails where its number is on the plan, where a write doesn't lie within the room for the file, and where its record has no room.
 ///
 /// Source: own rule.
 #[derive(Drop)]
 pub struct MemSite {
     first: Vec<u8>,
     file: Vec<u8>,
-    failing: Vec<u64>,
-    calls: u64,
-    faults: u64,
-    log: Log<DiskCall>,
-    ghost seen: { file.items ≡ (disk first.items (map change_of log)).seen },
+    book: Book,
+    ghost seen: { file.items ≡ (disk first.items (map change_of book.log.calls)).seen },
+    ghost roomy: { book.room ≤ vec_capacity file },
 }
 
 impl MemSite {
@@ -74,33 +85,35 @@ impl MemSite {
     ///
     /// It takes all its room: for the plan's bytes, for twice as many written, and for 1,048,576 calls.
     pub fn new(alloc: Global, plan: SitePlan) -> Result<MemSite, AllocError>
-        ensures { IfOk result (λ m. IsFresh m []) }
+        ensures fresh { IfOk result (λ m. IsFresh m []) }
+        ensures plan { IfOk result (λ m. IsPlanned plan.failing.items plan.bytes m.book) }
     {
         MemSite::with_file(alloc, plan, &[])
     }
 
     /// A site with this file, on which nothing is pending; its room is for the plan's bytes, or as many as the file has.
     pub fn with_file(alloc: Global, plan: SitePlan, file: &[u8]) -> Result<MemSite, AllocError>
-        ensures { IfOk result (λ m. IsFresh m file.now) }
+        ensures fresh { IfOk result (λ m. IsFresh m file.now) }
+        ensures plan { IfOk result (λ m. IsPlanned plan.failing.items (max plan.bytes (length file.now)) m.book) }
     {
         let SitePlan { bytes, failing } = plan;
         let room = bytes.max(file.len());
         let first = file.to_vec(alloc)?;
         let file = copied_into(alloc, room, file)?;
         let log = Log::new(alloc, CALLS, room.saturating_mul(2))?;
-        Ok(MemSite {
-            first,
-            file,
+        let book = Book {
             failing,
+            room,
             calls: 0,
             faults: 0,
             log,
-        })
+        };
+        Ok(MemSite { first, file, book })
     }
 }
 
 impl MemSite {
-    ghost use Rattle.site_traits.specs.MemSite.{image_of, IsFresh};
+    ghost use Rattle.site_traits.specs.MemSite.{IsFresh, image_of};
     ghost use Rattle.site_traits.specs.Site.{pair_of};
     ghost use Rattle.site_traits.specs.Disk.{LeftSince};
 
@@ -113,17 +126,17 @@ impl MemSite {
 
     /// How many calls are on record. It is the moment that the site tells.
     pub fn moment(&self) -> usize
-        ensures { result ≡ length self.now.log }
+        ensures { result ≡ length self.now.book.log.calls }
     {
-        self.log.len()
+        self.book.log.len()
     }
 
     /// Call number k on record, from 0.
     pub fn call(&self, k: usize) -> DiskCall
-        requires { k < length self.now.log }
-        ensures { result ≡ (get_or self.now.log k (result, [])).0 }
+        requires { k < length self.now.book.log.calls }
+        ensures { result ≡ (get_or self.now.book.log.calls k (result, [])).0 }
     {
-        self.log.what(k)
+        self.book.log.what(k)
     }
 
     /// A site with the file that this choice leaves of a stop after so many calls. Nothing is pending on it, and no call of
@@ -134,13 +147,14 @@ impl MemSite {
         moment: usize,
         choice: Choice,
     ) -> Result<MemSite, AllocError>
-        requires { moment ≤ length self.now.log }
-        ensures image { IfOk result (λ m. IsFresh m (stopped_image choice self.now.first.items (map change_of (take moment self.now.log)))) }
-        ensures allowed { IfOk result (λ m. LeftSince self.now.first.items (map change_of self.now.log) moment (pair_of (image_of m))) }
+        requires { moment ≤ length self.now.book.log.calls }
+        ensures image { IfOk result (λ m. IsFresh m (stopped_image choice self.now.first.items (map change_of (take moment self.now.book.log.calls)))) }
+        ensures plan { IfOk result (λ m. IsPlanned [] (max self.now.book.room (length m.first.items)) m.book) }
+        ensures allowed { IfOk result (λ m. LeftSince self.now.first.items (map change_of self.now.book.log.calls) moment (pair_of (image_of m))) }
     {
         let left = self.left_by(alloc, moment, choice)?;
         let plan = SitePlan {
-            bytes: self.file.capacity(),
+            bytes: self.book.room,
             failing: Vec::new(alloc),
         };
         MemSite::with_file(alloc, plan, &left)
@@ -148,8 +162,8 @@ impl MemSite {
 
     // The file that this choice leaves of a stop after so many calls.
     fn left_by(&self, alloc: Global, moment: usize, choice: Choice) -> Result<Vec<u8>, AllocError>
-        requires { moment ≤ length self.now.log }
-        ensures { IfOk result (λ left. left.items ≡ stopped_image choice self.now.first.items (map change_of (take moment self.now.log))) }
+        requires { moment ≤ length self.now.book.log.calls }
+        ensures { IfOk result (λ left. left.items ≡ stopped_image choice self.now.first.items (map change_of (take moment self.now.book.log.calls))) }
     {
         let mut seen = self.first.to_vec(alloc)?;
         let mut left = self.first.to_vec(alloc)?;
@@ -159,8 +173,8 @@ impl MemSite {
                 &mut seen,
                 &mut left,
                 choice,
-                self.log.what(k),
-                self.log.bytes_of(k),
+                self.book.log.what(k),
+                self.book.log.bytes_of(k),
             )?;
         }
         Ok(left)
@@ -168,9 +182,9 @@ impl MemSite {
 
     /// How many disk calls failed.
     pub fn faults(&self) -> u64
-        ensures { result ≡ self.now.faults }
+        ensures { result ≡ self.now.book.faults }
     {
-        self.faults
+        self.book.faults
     }
 }
 
@@ -264,27 +278,50 @@ fn cut_to(file: &mut Vec<u8>, to: u64)
 
 // A copy of these bytes with room for so many.
 fn copied_into(alloc: Global, room: usize, bytes: &[u8]) -> Result<Vec<u8>, AllocError>
-    ensures { IfOk result (λ copy. copy.items ≡ bytes.now) }
+    ensures items { IfOk result (λ copy. copy.items ≡ bytes.now) }
+    ensures room { IfOk result (λ copy. room ≤ vec_capacity copy) }
 {
     let mut copy = Vec::with_capacity(alloc, room)?;
     copy.extend_from_slice(bytes)?;
     Ok(copy)
 }
 
-// Counts a fault.
-fn counted(faults: &mut u64) -> DiskFailed
-    ensures rose { Rose faults.old faults.new }
-    ensures later { faults.old ≤ faults.new }
-{
-    *faults = faults.saturating_add(1);
-    DiskFailed
-}
-
 // Counts a call, and says whether it is one of those that fail.
-fn planned(calls: &mut u64, failing: &[u64]) -> bool {
+fn is_named(calls: &mut u64, failing: &[u64]) -> bool
+    ensures counted { calls.new ≡ one_more calls.old }
+    ensures named { IsTrue result ↔ Contains failing.now (one_more calls.old) }
+{
     *calls = calls.saturating_add(1);
     let now = *calls;
     failing.contains(&now)
+}
+
+// A call that writes lies within the room for the file.
+fn is_within_room(what: DiskCall, len: usize, room: usize) -> bool
+    ensures { (bytes : List ℕ) (b : Book) → length bytes ≡ len → b.room ≡ room → (IsTrue result ↔ IsWithinRoom what bytes b) }
+{
+    match what {
+        DiskCall::Wrote { at } => at <= room as u64 && len as u64 <= room as u64 - at,
+        _ => true,
+    }
+}
+
+impl Book {
+    // A call with these bytes: on record where it is served, else counted as a fault.
+    fn run(&mut self, what: DiskCall, bytes: &[u8]) -> bool
+        ensures runs { Runs what bytes.now result self.old self.new }
+        ensures later { self.old.faults ≤ self.new.faults }
+    {
+        let named = is_named(&mut self.calls, &self.failing);
+        if named
+            || !is_within_room(what, bytes.len(), self.room)
+            || !self.log.push(what, bytes, &[])
+        {
+            self.faults = self.faults.saturating_add(1);
+            return false;
+        }
+        true
+    }
 }
 
 // Puts these bytes at this place, within the room.
@@ -292,6 +329,7 @@ fn overlay(file: &mut Vec<u8>, at: usize, bytes: &[u8])
     requires within { at ≤ length file.old.items }
     requires room { at + length bytes.now ≤ vec_capacity file.old }
     ensures items { file.new.items ≡ overlaid file.old.items at bytes.now }
+    ensures capacity { vec_capacity file.old ≤ vec_capacity file.new }
 {
     let end = at + bytes.len();
     if end <= file.len() {
@@ -305,60 +343,76 @@ fn overlay(file: &mut Vec<u8>, at: usize, bytes: &[u8])
 }
 
 impl Site for MemSite {
-    ghost use Rattle.std.specs.Prelude.{map};
-    ghost use Rattle.site_traits.specs.Disk.{change_of, told};
+    ghost use Rattle.site_traits.specs.MemSite.{image_of, state_of, counts_of};
+    ghost use Rattle.site_traits.specs.Site.{Reads, Writes, Cuts, Syncs};
 
     ghost tells = { Unit {0} };
 
-    ghost state = { λ m. told m.first.items (map change_of m.log) };
+    ghost state = { state_of };
 
-    ghost counts = { λ m. record { disk = m.faults; vim = 0; look = 0; refusals = 0 } };
+    ghost counts = { counts_of };
 
-    fn length(&mut self) -> Result<u64, DiskFailed> {
-        if planned(&mut self.calls, &self.failing) || !self.log.push(DiskCall::Length, &[], &[]) {
-            return Err(counted(&mut self.faults));
+    fn length(&mut self) -> Result<u64, DiskFailed>
+        ensures length { IfOk result (λ n. n ≡ length (image_of self.old)) }
+        ensures told { Reads (state_of self.old) (state_of self.new) }
+        ensures cause { DiskCause (counts_of self.old) (counts_of self.new) result }
+        ensures runs { Runs (DiskCall.Length) [] (is_ok result) self.old.book self.new.book }
+    {
+        if !self.book.run(DiskCall::Length, &[]) {
+            return Err(DiskFailed);
         }
         Ok(self.file.len() as u64)
     }
 
-    fn read_at(&mut self, at: u64, into: &mut [u8]) -> Result<(), DiskFailed> {
+    fn read_at(&mut self, at: u64, into: &mut [u8]) -> Result<(), DiskFailed>
+        requires { at + length into.old ≤ length (image_of self.old) }
+        ensures bytes { OnOk result (into.new ≡ take (length into.old) (drop at (image_of self.old))) }
+        ensures told { Reads (state_of self.old) (state_of self.new) }
+        ensures cause { DiskCause (counts_of self.old) (counts_of self.new) result }
+        ensures runs { Runs (DiskCall.Read at (length into.old)) [] (is_ok result) self.old.book self.new.book }
+    {
         let len = into.len();
-        if planned(&mut self.calls, &self.failing)
-            || !self.log.push(DiskCall::Read { at, len }, &[], &[])
-        {
-            return Err(counted(&mut self.faults));
+        if !self.book.run(DiskCall::Read { at, len }, &[]) {
+            return Err(DiskFailed);
         }
         let from = at as usize;
         into.copy_from_slice(&self.file[from..from + len]);
         Ok(())
     }
 
-    fn write_at(&mut self, at: u64, bytes: &[u8]) -> Result<(), DiskFailed> {
-        let from = at as usize;
-        let room = self.file.capacity().saturating_sub(from);
-        if planned(&mut self.calls, &self.failing)
-            || bytes.len() > room
-            || !self.log.push(DiskCall::Wrote { at }, bytes, &[])
-        {
-            return Err(counted(&mut self.faults));
+    fn write_at(&mut self, at: u64, bytes: &[u8]) -> Result<(), DiskFailed>
+        requires { at ≤ length (image_of self.old) }
+        ensures told { Writes at bytes.now result (state_of self.old) (state_of self.new) }
+        ensures cause { DiskCause (counts_of self.old) (counts_of self.new) result }
+        ensures runs { Runs (DiskCall.Wrote at) bytes.now (is_ok result) self.old.book self.new.book }
+    {
+        if !self.book.run(DiskCall::Wrote { at }, bytes) {
+            return Err(DiskFailed);
         }
-        overlay(&mut self.file, from, bytes);
+        overlay(&mut self.file, at as usize, bytes);
         Ok(())
     }
 
-    fn cut(&mut self, to: u64) -> Result<(), DiskFailed> {
-        if planned(&mut self.calls, &self.failing)
-            || !self.log.push(DiskCall::Cut { to }, &[], &[])
-        {
-            return Err(counted(&mut self.faults));
+    fn cut(&mut self, to: u64) -> Result<(), DiskFailed>
+        requires { to ≤ length (image_of self.old) }
+        ensures told { Cuts to result (state_of self.old) (state_of self.new) }
+        ensures cause { DiskCause (counts_of self.old) (counts_of self.new) result }
+        ensures runs { Runs (DiskCall.Cut to) [] (is_ok result) self.old.book self.new.book }
+    {
+        if !self.book.run(DiskCall::Cut { to }, &[]) {
+            return Err(DiskFailed);
         }
         self.file.truncate(to as usize);
         Ok(())
     }
 
-    fn sync(&mut self) -> Result<(), DiskFailed> {
-        if planned(&mut self.calls, &self.failing) || !self.log.push(DiskCall::Synced, &[], &[]) {
-            return Err(counted(&mut self.faults));
+    fn sync(&mut self) -> Result<(), DiskFailed>
+        ensures told { Syncs result (state_of self.old) (state_of self.new) }
+        ensures cause { DiskCause (counts_of self.old) (counts_of self.new) result }
+        ensures runs { Runs (DiskCall.Synced) [] (is_ok result) self.old.book self.new.book }
+    {
+        if !self.book.run(DiskCall::Synced, &[]) {
+            return Err(DiskFailed);
         }
         Ok(())
     }

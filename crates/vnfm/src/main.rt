@@ -1,12 +1,6 @@
 //! The program `vnfm`: it makes the real objects that the words name, and obeys the words over them.
 #![tactic(auto)]
 
-mod counted;
-mod no_peers;
-mod real_clock;
-mod real_door;
-mod real_sink;
-mod real_site;
 mod start;
 
 use std::process::ExitCode;

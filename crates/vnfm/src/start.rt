@@ -1,11 +1,7 @@
 //! From the words of the command line to a run over the real objects.
-use crate::no_peers::{NoCourier, NoOrchestrator};
-use crate::real_clock::RealClock;
-use crate::real_door::RealDoor;
-use crate::real_sink::RealSink;
-use crate::real_site::RealSite;
 use lcm_api::Mouth;
 use lcm_events::Role;
+use outside_edges::{NoCourier, NoOrchestrator, RealClock, RealDoor, RealSink, RealSite};
 use site_traits::Sink;
 use std::alloc::{AllocError, Global};
 use std::io::{ErrorKind, Write};
@@ -92,16 +88,16 @@ fn starved(rt: &HostRuntime) -> u8 {
 /// Makes the objects that the words name, and runs over them. Words that are no command print to standard output.
 fn command(rt: &HostRuntime, words: &[Text]) -> u8 {
     match settings(rt.alloc(), words) {
-        Ok(settings) => {
-            let site = RealSite::made(rt, settings.journal.as_str());
-            over(rt, words, site, settings.role, RealSink::new(rt.stderr()))
-        }
+        Ok(settings) => match RealSite::made(rt, settings.journal.as_str()) {
+            Ok(site) => over(rt, words, site, settings.role, RealSink::made(rt.stderr())),
+            Err(AllocError) => starved(rt),
+        },
         Err(SettingsFault::Usage) => over(
             rt,
             words,
             RealSite::none(),
             Role::Orchestrator,
-            RealSink::new(rt.stdout()),
+            RealSink::made(rt.stdout()),
         ),
         Err(SettingsFault::Memory) => starved(rt),
     }
@@ -115,16 +111,16 @@ fn over<W: Sink + Drop>(
     role: Role,
     mut out: W,
 ) -> u8 {
-    let door = RealDoor::new(rt.stdin(), rt.stdout(), role);
+    let door = RealDoor::made(rt.stdin(), rt.stdout(), role);
     match Mouth::new(rt.alloc(), door) {
         Ok(mut mouth) => run(
             rt.alloc(),
             words,
             &mut site,
             &mut mouth,
-            &mut NoOrchestrator::new(),
-            &mut NoCourier::new(),
-            &mut RealClock::new(rt),
+            &mut NoOrchestrator::made(),
+            &mut NoCourier::made(),
+            &mut RealClock::made(rt),
             &mut out,
         ),
         Err(_) => starved(rt),

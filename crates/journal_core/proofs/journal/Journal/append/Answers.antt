@@ -72,6 +72,6 @@ returns-clause-told g c = λ tells.
     record {
       any_moment = second_moments c.args.bytes.now _ _ j a b d (first_moments c.args.bytes.now _ _ _ j a b stands (ap (λ v. v + 1) end) first)
           stands first.settled ready one end room second;
-      stands = stands_more c.args.bytes.now j _ a d stands second.settled has manager (omega arith) (omega arith) (marks_kept c.args.bytes.now j a c.self.inside.last c.self.inside.marks c.keep.new.self _ stands (ap (λ (v : Ledger). v.marks) c.self.view_is) (count ∙ stands.count) (end ∙ stands.end) (c.keep.ensures (records a.image ++ c.args.bytes.now ∷ [])));
+      stands = stands_more c.args.bytes.now j _ a d stands second.settled has manager (omega arith) (omega arith) (marks_kept c.args.bytes.now j a c.self.inside.last c.self.inside.marks.places c.keep.new.self.places _ stands (ap (λ (v : Ledger). v.marks) c.self.view_is) (count ∙ stands.count) (end ∙ stands.end) (c.keep.ensures.marks (records a.image ++ c.args.bytes.now ∷ [])));
       added = records_of _ _ _ has;
     }

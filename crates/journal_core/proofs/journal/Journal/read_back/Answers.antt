@@ -21,7 +21,7 @@ returns-clause-told g c = λ tells.
     let P : Option (ℕ × ℕ) → Type 0 = λ v. IsFound n rs v c.record_from.new.buffer in
     let found = subst P c.in-Some.is (c.in_ok-found.ensures.record_is tells) in
     let Q : List Mark → Type 0 = λ v. All (IsMark rs) v in
-    let kept = All-tail (IsMark rs) i.last i.marks (subst Q (sym (ap (λ (v : Ledger). v.marks) c.self.view_is)) stands.marks) in
+    let kept = All-tail (IsMark rs) i.last i.marks.places (subst Q (sym (ap (λ (v : Ledger). v.marks) c.self.view_is)) stands.marks) in
     let here = mark_read rs n c.in-Some.place c.in-Some.size c.requires.some (omega (arith, stands.count)) found.0 found.1 in
     let buffer = c.record_from.new.buffer in
     let whole : take i.buffer.len (buffer ++ drop (length buffer) i.buffer.items) ≡ buffer = take_at buffer _ _ (omega arith) in
@@ -29,6 +29,6 @@ returns-clause-told g c = λ tells.
       reads = reads;
       record_is = ap (take c.in-Some.size) whole ∙ found.2;
       stands = reads_stands j _ a _ stands reads (ap (λ (v : Ledger). v.manager) c.self.view_is) (ap (λ (v : Ledger). v.count) c.self.view_is) (ap (λ (v : Ledger). v.end) c.self.view_is)
-          (All-cons (IsMark rs) (record { before = n; place = c.in-Some.place + 5 + c.in-Some.size }) i.marks here kept);
+          (All-cons (IsMark rs) (record { before = n; place = c.in-Some.place + 5 + c.in-Some.size }) i.marks.places here kept);
       whole = λ k wrong. cc wrong;
     }

@@ -11,7 +11,7 @@ pub returns-in-Closed-clause-found : goal.returns-in-Closed-clause-found
 returns-in-Closed-clause-found g c = λ tells rs loads.
     let i = c.self.inside in
     let a = g.S.Site.state c.args.site.now in
-    let l : Progress = record { manager = i.manager; count = i.count; end = i.end; len = i.len; record_bytes = take i.size i.buffer.items; ended = i.ended; marks = i.marks } in
+    let l : Progress = record { manager = i.manager; count = i.count; end = i.end; len = i.len; record_bytes = take i.size i.buffer.items; ended = i.ended; marks = i.marks.places } in
     let k : Progress = record l { ended = true } in
     let P : Progress → Type 0 = λ v. Loads rs v a in
     let Q : Head → Type 0 = λ v. HeadIs i.end (drop i.end a.image) v in
@@ -25,8 +25,8 @@ returns-in_ok-bytes_at-in-Open-clause-found g c = λ tells rs loads.
     let a = g.S.Site.state c.args.site.now in
     let mid = g.S.Site.state c.head_at.new.site in
     let buffer = take i.buffer.len (c.bytes_at.new.buffer ++ drop (length c.bytes_at.new.buffer) i.buffer.items) in
-    let l : Progress = record { manager = i.manager; count = i.count; end = i.end; len = i.len; record_bytes = take i.size i.buffer.items; ended = i.ended; marks = i.marks } in
-    let k : Progress = record { manager = i.manager; count = i.count + 1; end = i.end + (5 + n); len = i.len; record_bytes = take n buffer; ended = false; marks = c.keep.new.self } in
+    let l : Progress = record { manager = i.manager; count = i.count; end = i.end; len = i.len; record_bytes = take i.size i.buffer.items; ended = i.ended; marks = i.marks.places } in
+    let k : Progress = record { manager = i.manager; count = i.count + 1; end = i.end + (5 + n); len = i.len; record_bytes = take n buffer; ended = false; marks = c.keep.new.self.places } in
     let P : Progress → Type 0 = λ v. Loads rs v a in
     let Q : Head → Type 0 = λ v. HeadIs i.end (drop i.end a.image) v in
     let head = c.in_ok-head_at.ensures.told tells in
@@ -35,4 +35,4 @@ returns-in_ok-bytes_at-in-Open-clause-found g c = λ tells rs loads.
     let bytes : take n buffer ≡ take n (drop (i.end + 5) a.image) =
     ap (take n) whole ∙ c.in_ok-bytes_at-in-Open.ensures.bytes tells ∙ ap (λ v. take n (drop (i.end + 5) v)) head.same in
     loads_more rs l k n a (g.S.Site.state c.bytes_at.new.site) (subst P (sym c.self.view_is) loads) (reads-then a mid (g.S.Site.state c.bytes_at.new.site) head read)
-    (subst Q c.in-Open.is (c.in_ok-head_at.ensures.head tells)) bytes refl refl refl refl (c.keep.ensures (rs ++ k.record_bytes ∷ []))
+    (subst Q c.in-Open.is (c.in_ok-head_at.ensures.head tells)) bytes refl refl refl refl (c.keep.ensures.marks (rs ++ k.record_bytes ∷ []))

@@ -19,5 +19,5 @@ allowed (Ok m) ch first log k le fresh = stopped_allowed ch first (image_of m) l
 allowed (Err e) ch first log k le fresh = tt
 
 pub returns-clause-allowed : goal.returns-clause-allowed
-returns-clause-allowed c = allowed c.with_file.result c.args.choice c.args.self.now.first.items c.args.self.now.log c.args.moment c.requires
-    (let P : List ℕ → Type 0 = λ v. IfOk c.with_file.result (λ m. IsFresh m v) in subst P (c.deref.ensures.value ∙ c.in_ok-left.ensures) c.with_file.ensures)
+returns-clause-allowed c = allowed c.with_file.result c.args.choice c.args.self.now.first.items c.args.self.now.book.log.calls c.args.moment c.requires
+    (let P : List ℕ → Type 0 = λ v. IfOk c.with_file.result (λ m. IsFresh m v) in subst P (c.deref.ensures.value ∙ c.in_ok-left.ensures) c.with_file.ensures.fresh)

@@ -1,4 +1,6 @@
 //! The machine's clock.
+ghost use Rattle.std.specs.Prelude.{◌≡◌};
+
 use site_traits::Clock;
 use std::time::{Clock as TimeSource, SystemTime, UNIX_EPOCH};
 
@@ -11,7 +13,9 @@ pub struct RealClock<'a, R: TimeSource> {
 
 impl<'a, R: TimeSource> RealClock<'a, R> {
     /// The clock of this runtime.
-    pub fn new(rt: &'a R) -> RealClock<'a, R> {
+    pub fn made(rt: &'a R) -> RealClock<'a, R>
+        ensures { result.last ≡ 0 }
+    {
         RealClock { rt, last: 0 }
     }
 }

@@ -1,5 +1,7 @@
 //! An orchestrator and a courier that can't be had: each call fails and counts.
-ghost use Rattle.site_traits.specs.Peers.{OrchestratorState, Post};
+ghost use Rattle.std.specs.Prelude.{◌≡◌};
+ghost use Rattle.site_traits.specs.Counts.{one_more};
+ghost use Rattle.site_traits.specs.Peers.{OrchestratorState, Post, CallCause, PostCause};
 
 use crate::counted::count_fault;
 use site_traits::{Call, Courier, Heard, Orchestrator, PostAnswer};
@@ -13,7 +15,9 @@ pub struct NoOrchestrator {
 
 impl NoOrchestrator {
     /// One that no call was made on.
-    pub fn new() -> NoOrchestrator {
+    pub fn made() -> NoOrchestrator
+        ensures { result.faults ≡ 0 }
+    {
         NoOrchestrator { faults: 0 }
     }
 }
@@ -27,12 +31,20 @@ impl Orchestrator for NoOrchestrator {
 
     ghost counts = { λ o. o.faults };
 
-    fn ask(&mut self, _body: &[u8], _heard: &mut Heard) -> Call {
+    fn ask(&mut self, _body: &[u8], _heard: &mut Heard) -> Call
+        ensures fails { result ≡ Call.Failed }
+        ensures counted { self.new.faults ≡ one_more self.old.faults }
+        ensures cause { CallCause result self.old.faults self.new.faults }
+    {
         count_fault(&mut self.faults);
         Call::Failed
     }
 
-    fn poll(&mut self, _location: &Line, _heard: &mut Heard) -> Call {
+    fn poll(&mut self, _location: &Line, _heard: &mut Heard) -> Call
+        ensures fails { result ≡ Call.Failed }
+        ensures counted { self.new.faults ≡ one_more self.old.faults }
+        ensures cause { CallCause result self.old.faults self.new.faults }
+    {
         count_fault(&mut self.faults);
         Call::Failed
     }
@@ -46,7 +58,9 @@ pub struct NoCourier {
 
 impl NoCourier {
     /// One that no call was made on.
-    pub fn new() -> NoCourier {
+    pub fn made() -> NoCourier
+        ensures { result.faults ≡ 0 }
+    {
         NoCourier { faults: 0 }
     }
 }
@@ -60,7 +74,11 @@ impl Courier for NoCourier {
 
     ghost counts = { λ c. c.faults };
 
-    fn post(&mut self, _uri: &Line, _body: &[u8]) -> PostAnswer {
+    fn post(&mut self, _uri: &Line, _body: &[u8]) -> PostAnswer
+        ensures fails { result ≡ PostAnswer.Failed }
+        ensures counted { self.new.faults ≡ one_more self.old.faults }
+        ensures cause { PostCause result self.old.faults self.new.faults }
+    {
         count_fault(&mut self.faults);
         PostAnswer::Failed
     }

@@ -1,5 +1,7 @@
 //! Standard input and output as a door with one connection.
-ghost use Rattle.std.specs.Prelude.{◌≤◌, IfOk, length};
+ghost use Rattle.std.specs.Prelude.{◌≡◌, ◌≤◌, IfOk, false, true, length};
+ghost use Rattle.site_traits.specs.Counts.{one_more};
+ghost use Rattle.site_traits.specs.Door.{NextCause, ReadCause, WriteCause, NoNextFault, IsAmount, IsTaken};
 
 use crate::counted::count_fault;
 use lcm_events::Role;
@@ -19,7 +21,9 @@ pub struct RealDoor<R: Read, W: Write> {
 
 impl<R: Read, W: Write> RealDoor<R, W> {
     /// A door at which one connection of this role will come.
-    pub fn new(input: R, output: W, role: Role) -> RealDoor<R, W> {
+    pub fn made(input: R, output: W, role: Role) -> RealDoor<R, W>
+        ensures { result ≡ record { input = input; output = output; role = role; came = false; faults = 0 } }
+    {
         RealDoor {
             input,
             output,
@@ -33,6 +37,7 @@ impl<R: Read, W: Write> RealDoor<R, W> {
 impl<R: Read, W: Write> Door for RealDoor<R, W> {
     ghost use Rattle.std.specs.Prelude.{[]};
     ghost use Rattle.site_traits.specs.Door.{nobody};
+    ghost use Rattle.outside_edges.specs.Door.{next_of};
 
     ghost tells = { ⊥ };
 
@@ -40,7 +45,11 @@ impl<R: Read, W: Write> Door for RealDoor<R, W> {
 
     ghost counts = { λ d. record { faults = d.faults; next = 0 } };
 
-    fn next(&mut self) -> NextAnswer {
+    fn next(&mut self) -> NextAnswer
+        ensures comes { result ≡ next_of self.old.came self.old.role }
+        ensures came { self.new ≡ record self.old { came = true } }
+        ensures cause { NextCause result (record { faults = self.old.faults; next = 0 }) (record { faults = self.new.faults; next = 0 }) }
+    {
         if self.came {
             return NextAnswer::Ended;
         }

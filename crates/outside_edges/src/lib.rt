@@ -1,0 +1,16 @@
+//! The outside as it is: the journal's file under its lock, a connection over a reader and a writer, the machine's clock, a stream,
+//! and what stands in for peers that can't be reached. Each meets its trait, tells nothing of its content, and counts its failures.
+#![tactic(auto)]
+
+mod counted;
+mod no_peers;
+mod real_clock;
+mod real_door;
+mod real_sink;
+mod real_site;
+
+pub use no_peers::{NoCourier, NoOrchestrator};
+pub use real_clock::RealClock;
+pub use real_door::RealDoor;
+pub use real_sink::RealSink;
+pub use real_site::RealSite;

@@ -1,0 +1,36 @@
+-- The plan of a site in memory, and what was done by it.
+use Rattle.std.specs.Prelude.{◌≡◌, ◌≤◌, ◌↔◌, ℕ, ◌+◌, ◌*◌, ◌-◌, ◌^◌, min, List, length, Contains, Bool, IsTrue, if◌then◌else◌}
+use Rattle.site_traits.specs.Counts.{one_more}
+use Rattle.site_traits.specs.Log.{HasRoom, with_call, empty}
+use Rattle.site_traits.specs.declared.mem_site.Book.{Book}
+use Rattle.site_traits.specs.declared.mem_site.DiskCall.{DiskCall}
+use Rattle.site_traits.specs.declared.mem_site.DiskCall.TheVariants as call
+
+-- no call was made: these are to fail, and there is room for a file of so many bytes, for 1,048,576 calls and for twice as many bytes
+-- written (own rule)
+pub record IsPlanned (failing : List ℕ) (room : ℕ) (b : Book) : Type 0 where
+  pub failing_are : b.failing.items ≡ failing
+  pub calls : b.calls ≡ 0
+  pub faults : b.faults ≡ 0
+  pub room_is : b.room ≡ room
+  pub log : b.log ≡ empty 1048576 (min (room * 2) (2 ^ 64 - 1))
+
+-- a write lies within the room for the file
+abbrev pub IsWithinRoom : DiskCall → List ℕ → Book → Type 0
+IsWithinRoom (call.Wrote at) bytes b = at + length bytes ≤ b.room
+IsWithinRoom other bytes b = Unit {0}
+
+-- the next call is served: the plan does not name it as one that fails, and it has room (own rule)
+pub record IsServed (what : DiskCall) (bytes : List ℕ) (b : Book) : Type 0 where
+  pub unnamed : Contains b.failing.items (one_more b.calls) → ⊥
+  pub room : IsWithinRoom what bytes b
+  pub on_record : HasRoom (length bytes) b.log
+
+-- a call succeeds exactly where it is served, and is on record then; else its fault is counted (own rule)
+pub record Runs (what : DiskCall) (bytes : List ℕ) (succeeds : Bool) (old new : Book) : Type 0 where
+  pub served : IsTrue succeeds ↔ IsServed what bytes old
+  pub failing : new.failing ≡ old.failing
+  pub room : new.room ≡ old.room
+  pub calls : new.calls ≡ one_more old.calls
+  pub log : new.log ≡ (if succeeds then with_call what bytes old.log else old.log)
+  pub faults : new.faults ≡ (if succeeds then old.faults else one_more old.faults)
