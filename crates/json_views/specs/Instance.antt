@@ -4,6 +4,7 @@ use Rattle.serde_json.specs.Data.{Data, string, object, Members, no_members, mem
 use Rattle.serde_json.specs.Written.{compact_text}
 use Rattle.vnfm_base.specs.Ident.{ident, ident_text}
 use Rattle.vnfm_base.specs.declared.identifier.Kind.TheVariants.{Instance}
+use Rattle.lcm_events.specs.declared.descriptor.Vnfd.{Vnfd}
 use Rattle.json_views.specs.declared.body.CreateBody.{CreateBody}
 
 -- the text of the identifier of instance n (RFC 9562 4)
@@ -31,22 +32,22 @@ links path =
     (member (codes "self") (link path)
     no_members))
 
--- an instance that was created and not instantiated; what its descriptor says of the product isn't known
-abbrev pub created_instance : ℕ → ℕ → CreateBody → Data
-created_instance manager n instance =
+-- an instance of this descriptor that was created and not instantiated
+abbrev pub created_instance : ℕ → ℕ → CreateBody → Vnfd → Data
+created_instance manager n instance vnfd =
     object
     (member (codes "_links") (links (instance_path manager n))
     (member (codes "id") (string (instance_id manager n))
     (member (codes "instantiationState") (string (codes "NOT_INSTANTIATED"))
     (optional_text (codes "vnfInstanceDescription") instance.text
     (optional_text (codes "vnfInstanceName") instance.name
-    (member (codes "vnfProductName") (string [])
-    (member (codes "vnfProvider") (string [])
-    (member (codes "vnfSoftwareVersion") (string [])
+    (member (codes "vnfProductName") (string vnfd.product_name)
+    (member (codes "vnfProvider") (string vnfd.provider)
+    (member (codes "vnfSoftwareVersion") (string vnfd.software_version)
     (member (codes "vnfdId") (string instance.vnfd)
-    (member (codes "vnfdVersion") (string [])
+    (member (codes "vnfdVersion") (string vnfd.descriptor_version)
     no_members))))))))))
 
 -- its text
-unfoldable pub created_text : ℕ → ℕ → CreateBody → List ℕ
-created_text manager n instance = compact_text (created_instance manager n instance)
+unfoldable pub created_text : ℕ → ℕ → CreateBody → Vnfd → List ℕ
+created_text manager n instance vnfd = compact_text (created_instance manager n instance vnfd)

@@ -1,20 +1,23 @@
 -- The members of a view as they are put, one after another.
 use Rattle.std.specs.Prelude.{List, ℕ, [], codes}
 use Rattle.serde_json.specs.Data.{Data, string, object, Members, no_members, member, put}
+use Rattle.lcm_events.specs.declared.descriptor.Vnfd.{Vnfd}
 
--- the members on the product put to these
-unfoldable pub with_product : Members → Members
-with_product members = put (codes "vnfSoftwareVersion") (string []) (put (codes "vnfProvider") (string []) (put (codes "vnfProductName") (string []) members))
+-- the members on the descriptor's product put to these
+unfoldable pub with_product : Vnfd → Members → Members
+with_product vnfd members =
+    put (codes "vnfSoftwareVersion") (string vnfd.software_version)
+    (put (codes "vnfProvider") (string vnfd.provider) (put (codes "vnfProductName") (string vnfd.product_name) members))
 
--- the members that every view of an instance has, for an identifier, the links and the descriptor's identifier
-unfoldable pub needed_members : List ℕ → Data → List ℕ → Members
-needed_members id links vnfd =
+-- the members that every view of an instance has, for its identifier, its links, its `vnfdId` and its descriptor
+unfoldable pub needed_members : List ℕ → Data → List ℕ → Vnfd → Members
+needed_members id links vnfd_id vnfd =
     (member (codes "_links") links
     (member (codes "id") (string id)
     (member (codes "instantiationState") (string (codes "NOT_INSTANTIATED"))
-    (member (codes "vnfProductName") (string [])
-    (member (codes "vnfProvider") (string [])
-    (member (codes "vnfSoftwareVersion") (string [])
-    (member (codes "vnfdId") (string vnfd)
-    (member (codes "vnfdVersion") (string [])
+    (member (codes "vnfProductName") (string vnfd.product_name)
+    (member (codes "vnfProvider") (string vnfd.provider)
+    (member (codes "vnfSoftwareVersion") (string vnfd.software_version)
+    (member (codes "vnfdId") (string vnfd_id)
+    (member (codes "vnfdVersion") (string vnfd.descriptor_version)
     no_members))))))))

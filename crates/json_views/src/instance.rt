@@ -7,6 +7,7 @@ ghost use Rattle.json_views.specs.Instance.{instance_id, instance_path, link, cr
 ghost use Rattle.json_views.specs.Made.{needed_members, with_product};
 
 use crate::body::CreateBody;
+use lcm_events::Vnfd;
 use serde_json::{Map, Value, json, put};
 use std::alloc::{AllocError, Global};
 use uuid::Uuid;
@@ -41,9 +42,8 @@ pub fn instance_path(alloc: Global, manager: u32, n: u64) -> Result<String, Allo
     Ok(path)
 }
 
-/// The view of instance `n`, which was created with this body and isn't instantiated.
+/// The view of instance `n`, which was created with this body and isn't instantiated. What product it is its descriptor says.
 ///
-/// The four members that say what product it is are empty: no descriptor is asked for yet.
 /// Condition: `n` is from 1 to 2^62 - 1.
 /// Source: SOL 003 5.5.2.2 (VnfInstance).
 #[tactic(auto, unfolding(crate::specs::Instance::created_text))]
@@ -52,11 +52,12 @@ pub fn created_view(
     manager: u32,
     n: u64,
     instance: &CreateBody,
+    vnfd: &Vnfd,
 ) -> Result<Bytes, AllocError>
     requires { IsIdentNumber n }
-    ensures { IfOk result (λ body. body ≡ created_text manager n instance.now) }
+    ensures { IfOk result (λ body. body ≡ created_text manager n instance.now vnfd.now) }
 {
-    let members = created_members(alloc, manager, n, instance)?;
+    let members = created_members(alloc, manager, n, instance, vnfd)?;
     let text = Value::Object(members).to_vec(alloc)?;
     Ok(Bytes::of_vec(text))
 }
@@ -67,11 +68,12 @@ fn created_members(
     manager: u32,
     n: u64,
     instance: &CreateBody,
+    vnfd: &Vnfd,
 ) -> Result<Map<String, Value>, AllocError>
     requires { IsIdentNumber n }
-    ensures { IfOk result (λ members. object (members_view members.entries) ≡ created_instance manager n instance.now) }
+    ensures { IfOk result (λ members. object (members_view members.entries) ≡ created_instance manager n instance.now vnfd.now) }
 {
-    let mut members = needed_members(alloc, manager, n, instance.vnfd.as_str())?;
+    let mut members = needed_members(alloc, manager, n, instance.vnfd.as_str(), vnfd)?;
     if let Some(text) = &instance.text {
         put(
             &mut members,
@@ -124,10 +126,11 @@ fn needed_members(
     alloc: Global,
     manager: u32,
     n: u64,
-    vnfd: &str,
+    vnfd_id: &str,
+    vnfd: &Vnfd,
 ) -> Result<Map<String, Value>, AllocError>
     requires { IsIdentNumber n }
-    ensures { IfOk result (λ members. members_view members.entries ≡ needed_members (instance_id manager n) (links (instance_path manager n)) vnfd.now) }
+    ensures { IfOk result (λ members. members_view members.entries ≡ needed_members (instance_id manager n) (links (instance_path manager n)) vnfd_id.now vnfd.now) }
 {
     let id = instance_id(alloc, manager, n)?;
     let path = instance_path(alloc, manager, n)?;
@@ -141,17 +144,25 @@ fn needed_members(
         "instantiationState",
         text_value(alloc, "NOT_INSTANTIATED")?,
     )?;
-    put_product(&mut members, alloc)?;
-    put(&mut members, alloc, "vnfdId", text_value(alloc, vnfd)?)?;
-    put(&mut members, alloc, "vnfdVersion", text_value(alloc, "")?)?;
+    put_product(&mut members, alloc, vnfd)?;
+    put(&mut members, alloc, "vnfdId", text_value(alloc, vnfd_id)?)?;
+    let version = text_value(alloc, vnfd.descriptor_version.as_str())?;
+    put(&mut members, alloc, "vnfdVersion", version)?;
     Ok(members)
 }
 
 #[tactic(auto, unfolding(crate::specs::Made::with_product))]
-fn put_product(members: &mut Map<String, Value>, alloc: Global) -> Result<(), AllocError>
-    ensures { OnOk result (members_view members.new.entries ≡ with_product (members_view members.old.entries)) }
+fn put_product(
+    members: &mut Map<String, Value>,
+    alloc: Global,
+    vnfd: &Vnfd,
+) -> Result<(), AllocError>
+    ensures { OnOk result (members_view members.new.entries ≡ with_product vnfd.now (members_view members.old.entries)) }
 {
-    put(members, alloc, "vnfProductName", text_value(alloc, "")?)?;
-    put(members, alloc, "vnfProvider", text_value(alloc, "")?)?;
-    put(members, alloc, "vnfSoftwareVersion", text_value(alloc, "")?)
+    let name = text_value(alloc, vnfd.product_name.as_str())?;
+    put(members, alloc, "vnfProductName", name)?;
+    let provider = text_value(alloc, vnfd.provider.as_str())?;
+    put(members, alloc, "vnfProvider", provider)?;
+    let version = text_value(alloc, vnfd.software_version.as_str())?;
+    put(members, alloc, "vnfSoftwareVersion", version)
 }
