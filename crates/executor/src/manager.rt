@@ -1,6 +1,6 @@
 //! The manager: its journal, and the history of the events in it. What is acknowledged is on the disk before it is in the
 //! history.
-ghost use Rattle.std.specs.Prelude.{◌≡◌, ◌≢◌, ◌≤◌, ◌<◌, ◌∷◌, ◌++◌, ◌↔◌, ◌+◌, ℕ, List, [], length, reverse, option_copied, IfErr, IfOk, IsOk, OnOk, OnErr, IsTrue, false, true};
+ghost use Rattle.std.specs.Prelude.{◌≡◌, ◌≢◌, ◌⊎◌, ◌≤◌, ◌<◌, ◌∷◌, ◌++◌, ◌↔◌, ◌+◌, ℕ, List, [], length, reverse, option_copied, IfErr, IfOk, IsOk, OnOk, OnErr, IsTrue, false, true};
 ghost use Rattle.event_codec.specs.Spell.{spelling};
 ghost use Rattle.event_codec.specs.Valid.{IsEvent};
 ghost use Rattle.event_codec.specs.Typed.{TypedEvent};
@@ -188,6 +188,9 @@ impl<S: Site> Manager<S> {
         ensures told { S.tells → Commits e.now result self.old self.new (S.state site.old) (S.state site.new) }
         ensures full { (end more : ℕ) → result ≡ Err (WorkFault.Full end more)
             → (end ≡ self.old.ledger.end) × (more ≡ length (spelling e.now)) × (268435456 < end + 6 + more) }
+        ensures untouched { result ≢ Err WorkFault.Disk → OnErr result (site.new ≡ site.old) }
+        ensures size { self.old.ledger.end ≡ size (spellings self.old.history) }
+        ensures room { result ≡ Ok tt ⊎ (result ≡ Err WorkFault.Disk) → self.old.ledger.end + 6 + length (spelling e.now) ≤ 268435456 }
         ensures disk { result ≡ Err WorkFault.Disk → Rose (S.counts site.old).disk (S.counts site.new).disk }
         ensures closed { result ≡ Err WorkFault.Disk → self.new.ledger.closed ≡ true }
         ensures counts { OnlyDisk (S.counts site.old) (S.counts site.new) }
