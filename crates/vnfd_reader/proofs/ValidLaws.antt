@@ -229,7 +229,7 @@ templates_valid : (d : Data) (o : Option (List Named)) (ps : List Named) (v : Vn
 templates_valid d None ps v h e in_order k = let no : ⊥ = cc in absurd no
 templates_valid d (Some templates) ps v h e in_order k = parts_valid (nodes_in templates) ps v (come_in_order d templates h e) in_order k
 
-document_valid : (d : Data) (v : Vnfd) → InOrder d → document_answer d ≡ Ok v → IsValid v
+pub document_valid : (d : Data) (v : Vnfd) → InOrder d → document_answer d ≡ Ok v → IsValid v
 unfolding document_answer
 document_valid d v h k = templates_valid d (node_templates d) (policies d) v h refl (in_order-policies d h) k
 
