@@ -1,4 +1,5 @@
 -- What a create request comes to, by the numbers of the history.
+use Rattle.std.specs.Prelude.{is_some, true}
 use Rattle.std.proofs.Common.{◌≡◌, ◌≤◌, ◌<◌, ◌+◌, ℕ, List, [], ◌∷◌, length, Option, Some, None, arith, refl, ap, ◌∙◌, sym, codes, ◌++◌, inl}
 use Rattle.site_traits.specs.Site.{SiteState, LeavesOnly}
 use Rattle.site_traits.proofs.Moments.{started}
@@ -13,7 +14,8 @@ use Rattle.event_codec.specs.Valid.{IsEvent, Optionally}
 use Rattle.vnfm_base.specs.Text.{IsName, IsLine}
 use Rattle.json_views.specs.declared.body.CreateBody.{CreateBody}
 use Rattle.lcm_events.specs.declared.events.Event.{Event}
-use Rattle.lcm_model.specs.Lives.{instances_made, live_instances}
+use Rattle.lcm_events.specs.declared.descriptor.Vnfd.{Vnfd}
+use Rattle.lcm_model.specs.Lives.{descriptor_named, instances_made, live_instances}
 use Rattle.lcm_api.specs.Outcome.{Outcome, create_outcome, creation, created, refused, refusal, journal_size}
 use Rattle.lcm_api.specs.Steps.{IsStep, MayCreateNow}
 use Rattle.lcm_api.specs.declared.reply.Reply.{Reply}
@@ -58,54 +60,59 @@ creation_fits H now body is =
 pub leaves_history : (m : Managed) (added : List Event) (s : SiteState) → StandsFor m s → LeavesOnly (HasOr m.ledger.manager m.history added) s s
 leaves_history m added s stands = started (HasOr m.ledger.manager m.history added) s (λ p left. record { file = inl (stands_everywhere m s stands p left) })
 
+-- its descriptor wasn't onboarded
+pub unknown_outcome : (m : ℕ) (H : List Event) (now : ℕ) (body : CreateBody) → descriptor_named H body.vnfd ≡ None
+    → create_outcome m H now body ≡ refused 422 (codes "vnfdId is not onboarded")
+unknown_outcome m H now body unknown = rw unknown refl
+
 -- there is no room for one instance more
-pub crowded_outcome : (m : ℕ) (H : List Event) (now : ℕ) (body : CreateBody) → 1000 ≤ length (live_instances H)
+pub crowded_outcome : (m : ℕ) (H : List Event) (now : ℕ) (body : CreateBody) (vnfd : Vnfd) → descriptor_named H body.vnfd ≡ Some vnfd → 1000 ≤ length (live_instances H)
     → create_outcome m H now body ≡ refused 507 (codes "too many instances")
-crowded_outcome m H now body crowded = rw (le-leb 1000 (length (live_instances H)) crowded) refl
+crowded_outcome m H now body vnfd known crowded = rw (known, le-leb 1000 (length (live_instances H)) crowded) refl
 
 -- there is no room for one record more
-pub full_outcome : (m : ℕ) (H : List Event) (now : ℕ) (body : CreateBody) → length (live_instances H) < 1000
+pub full_outcome : (m : ℕ) (H : List Event) (now : ℕ) (body : CreateBody) (vnfd : Vnfd) → descriptor_named H body.vnfd ≡ Some vnfd → length (live_instances H) < 1000
     → 201326592 < journal_size H + 6 + length (spelling (creation H now body)) → create_outcome m H now body ≡ refused 507 (codes "journal full")
-full_outcome m H now body room full =
-    rw (lt-leb 1000 (length (live_instances H)) room, lt-ltb 201326592 (journal_size H + 6 + length (spelling (creation H now body))) full) refl
+full_outcome m H now body vnfd known room full =
+    rw (known, lt-leb 1000 (length (live_instances H)) room, lt-ltb 201326592 (journal_size H + 6 + length (spelling (creation H now body))) full) refl
 
 -- the instance is created
-pub room_outcome : (m : ℕ) (H : List Event) (now : ℕ) (body : CreateBody) → length (live_instances H) < 1000
+pub room_outcome : (m : ℕ) (H : List Event) (now : ℕ) (body : CreateBody) (vnfd : Vnfd) → descriptor_named H body.vnfd ≡ Some vnfd → length (live_instances H) < 1000
     → journal_size H + 6 + length (spelling (creation H now body)) ≤ 201326592
-    → create_outcome m H now body ≡ record { reply = created m (instances_made H + 1) body; after = creation H now body ∷ [] }
-room_outcome m H now body room fits =
-    rw (lt-leb 1000 (length (live_instances H)) room, le-ltb 201326592 (journal_size H + 6 + length (spelling (creation H now body))) fits) refl
+    → create_outcome m H now body ≡ record { reply = created m (instances_made H + 1) body vnfd; after = creation H now body ∷ [] }
+room_outcome m H now body vnfd known room fits =
+    rw (known, lt-leb 1000 (length (live_instances H)) room, le-ltb 201326592 (journal_size H + 6 + length (spelling (creation H now body))) fits) refl
 
 size_is : (H : List Event) → journal_size H ≡ size (spellings H)
 unfolding journal_size
 size_is H = refl
 
 -- the event may be recorded now
-may_create_now : (m : Managed) (now : ℕ) (body : CreateBody) → length (live_instances m.history) < 1000
+may_create_now : (m : Managed) (now : ℕ) (body : CreateBody) → is_some (descriptor_named m.history body.vnfd) ≡ true → length (live_instances m.history) < 1000
     → m.ledger.end + 6 + length (spelling (creation m.history now body)) ≤ 201326592 → MayCreateNow m (creation m.history now body)
-may_create_now m now body room fits = record {
+may_create_now m now body known room fits = record {
   rules = λ typed. typed;
   fits = creation_fits m.history now body;
-  allowed = record { number = refl; room = room };
+  allowed = record { number = refl; onboarded = known; room = room };
   unsettled = refl;
   room = fits;
 }
 
 -- the request creates the instance
-pub step_creates : (m : Managed) (now : ℕ) (body : CreateBody) (reply : Reply) (event : Event) → m.ledger.end ≡ size (spellings m.history)
+pub step_creates : (m : Managed) (now : ℕ) (body : CreateBody) (vnfd : Vnfd) (reply : Reply) (event : Event) → descriptor_named m.history body.vnfd ≡ Some vnfd → m.ledger.end ≡ size (spellings m.history)
     → length (live_instances m.history) < 1000 → m.ledger.end + 6 + length (spelling event) ≤ 201326592 → event ≡ creation m.history now body
-    → reply ≡ created m.ledger.manager (instances_made m.history + 1) body → IsStep (create_outcome m.ledger.manager m.history now body) m (Creates event reply)
-step_creates m now body reply event end room fits event_is reply_is =
+    → reply ≡ created m.ledger.manager (instances_made m.history + 1) body vnfd → IsStep (create_outcome m.ledger.manager m.history now body) m (Creates event reply)
+step_creates m now body vnfd reply event known end room fits event_is reply_is =
     rw (event_is, reply_is)
     (let within : m.ledger.end + 6 + length (spelling (creation m.history now body)) ≤ 201326592 = rw event_is at fits in
     let full : journal_size m.history + 6 + length (spelling (creation m.history now body)) ≤ 201326592 = rw (size_is m.history, ← end) within in
-    (room_outcome m.ledger.manager m.history now body room full, may_create_now m now body room within))
+    (room_outcome m.ledger.manager m.history now body vnfd known room full, may_create_now m now body (ap is_some known) room within))
 
 -- the request finds the journal full
-pub step_full : (m : Managed) (now : ℕ) (body : CreateBody) (reply : Reply) (event : Event) → m.ledger.end ≡ size (spellings m.history)
+pub step_full : (m : Managed) (now : ℕ) (body : CreateBody) (vnfd : Vnfd) (reply : Reply) (event : Event) → descriptor_named m.history body.vnfd ≡ Some vnfd → m.ledger.end ≡ size (spellings m.history)
     → length (live_instances m.history) < 1000 → 201326592 < m.ledger.end + 6 + length (spelling event) → event ≡ creation m.history now body
     → reply ≡ refusal 507 (codes "journal full") → IsStep (create_outcome m.ledger.manager m.history now body) m (Refused reply)
-step_full m now body reply event end room over event_is reply_is =
+step_full m now body vnfd reply event known end room over event_is reply_is =
     rw reply_is
     (let beyond : 201326592 < m.ledger.end + 6 + length (spelling (creation m.history now body)) = rw event_is at over in
-    full_outcome m.ledger.manager m.history now body room (rw (size_is m.history, ← end) beyond))
+    full_outcome m.ledger.manager m.history now body vnfd known room (rw (size_is m.history, ← end) beyond))

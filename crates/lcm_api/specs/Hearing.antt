@@ -10,11 +10,11 @@ use Rattle.lcm_api.specs.declared.mouth.HearFault.TheVariants.{Malformed, Read, 
 abbrev pub heard_of : ℕ → Bool → Conn → Conn
 heard_of n failed c = if failed then read_broke (has_read n c) else has_read n c
 
--- These bytes of the connection were read: its next ones, up to its end or the 65,537th, or up to where a read failed.
-pub record Hears (bytes : List ℕ) (failed : Bool) (a b : DoorState) : Type 0 where
+-- These bytes of the connection were read: its next ones, up to its end or to so many, or up to where a read failed.
+pub record Hears (most : ℕ) (bytes : List ℕ) (failed : Bool) (a b : DoorState) : Type 0 where
   pub conn : ConnIs (heard_of (length bytes) failed a.conn) a b
   pub front : bytes ≡ take (length bytes) a.conn.left
-  pub whole : failed ≡ false → bytes ≡ take 65537 a.conn.left
+  pub whole : failed ≡ false → bytes ≡ take most a.conn.left
 
 -- what is made of the bytes that were read
 abbrev pub Judged : List ℕ → Bool → Result Request HearFault → Type 0

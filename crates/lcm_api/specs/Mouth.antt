@@ -23,7 +23,7 @@ pub record Listens (tells : Type 0) (result : Result Request HearFault) (a b : D
   pub bytes : List ℕ
   pub failed : Bool
   pub judged : Judged bytes failed result
-  pub door : tells → Hears bytes failed a b
+  pub door : tells → Hears 65537 bytes failed a b
 
 -- the request that is in hand afterwards
 abbrev pub heard_request : Result (Unit {0}) HearFault → Option Request → Result Request HearFault → Type 0

@@ -1,12 +1,13 @@
 -- What a request comes to: the reply, and the event that it adds to the history (SOL 003 5.4.2, VNF instances). The order of
 -- the refusals is an own rule.
-use Rattle.std.specs.Prelude.{ℕ, ◌+◌, ◌&&◌, List, [], ◌∷◌, ◌++◌, length, map, reverse, codes, nat_le, nat_lt, if◌then◌else◌, Bool, true, false, Some, None, Result, Ok, Err}
+use Rattle.std.specs.Prelude.{ℕ, ◌+◌, ◌&&◌, List, [], ◌∷◌, ◌++◌, length, map, reverse, codes, nat_le, nat_lt, if◌then◌else◌, Bool, true, false, Option, Some, None, Result, Ok, Err}
 use Rattle.std.specs.Str.{bytes_eq}
 use Rattle.event_codec.specs.Spell.{spelling}
 use Rattle.journal_core.specs.File.{size}
 use Rattle.lcm_events.specs.declared.events.Event.{Event}
 use Rattle.lcm_events.specs.declared.events.EventKind.TheVariants.{Created}
-use Rattle.lcm_model.specs.Lives.{instances_made, live_instances}
+use Rattle.lcm_events.specs.declared.descriptor.Vnfd.{Vnfd}
+use Rattle.lcm_model.specs.Lives.{descriptor_named, instances_made, live_instances}
 use Rattle.json_views.specs.Body.{create_of}
 use Rattle.json_views.specs.Instance.{instance_path, created_text}
 use Rattle.json_views.specs.Problem.{problem_text}
@@ -50,8 +51,8 @@ abbrev pub creation : List Event → ℕ → CreateBody → Event
 creation H now body = record { moment = now; kind = Created (instances_made H + 1) body.vnfd body.name body.text }
 
 -- the answer to it: the instance and where it is found (SOL 003 5.4.2, 5.5.2.2)
-unfoldable pub created : ℕ → ℕ → CreateBody → Reply
-created m n body = record { status = 201; location = Some (instance_path m n); allow = None; problem = false; body = created_text m n body; last = false }
+unfoldable pub created : ℕ → ℕ → CreateBody → Vnfd → Reply
+created m n body vnfd = record { status = 201; location = Some (instance_path m n); allow = None; problem = false; body = created_text m n body vnfd; last = false }
 
 -- the bytes of the journal of this history up to its closed gate (own rule)
 unfoldable pub journal_size : List Event → ℕ
@@ -61,12 +62,17 @@ journal_size H = size (map spelling (reverse H))
 abbrev pub is_full : List Event → Event → Bool
 is_full H e = nat_lt 201326592 (journal_size H + 6 + length (spelling e))
 
--- a create request whose body says this
-abbrev pub create_outcome : ℕ → List Event → ℕ → CreateBody → Outcome
-create_outcome m H now body =
+-- a create request whose body says this, where its descriptor was onboarded: whether there is room for the instance
+abbrev pub described_outcome : ℕ → List Event → ℕ → CreateBody → Option Vnfd → Outcome
+described_outcome m H now body None = refused 422 (codes "vnfdId is not onboarded")
+described_outcome m H now body (Some vnfd) =
     if nat_le 1000 (length (live_instances H)) then refused 507 (codes "too many instances")
     else (if is_full H (creation H now body) then refused 507 (codes "journal full")
-    else record { reply = created m (instances_made H + 1) body; after = creation H now body ∷ [] })
+    else record { reply = created m (instances_made H + 1) body vnfd; after = creation H now body ∷ [] })
+
+-- a create request whose body says this
+abbrev pub create_outcome : ℕ → List Event → ℕ → CreateBody → Outcome
+create_outcome m H now body = described_outcome m H now body (descriptor_named H body.vnfd)
 
 -- a create request with this body, as it is read
 abbrev pub body_outcome : ℕ → List Event → ℕ → Result CreateBody BodyFault → Outcome

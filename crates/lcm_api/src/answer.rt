@@ -20,7 +20,7 @@ use lcm_events::{Event, EventKind};
 use site_traits::Site;
 use std::alloc::{AllocError, Global};
 use thiserror::Error;
-use vnfm_base::Moment;
+use vnfm_base::{Kind, Moment};
 
 /// Instances that may be live at one time.
 pub const MAX_INSTANCES: u64 = 1_000;
@@ -111,11 +111,14 @@ fn prepare<S: Site>(
     ensures kept { manager.new ≡ manager.old }
     ensures step { IfOk result (IsStep (create_outcome manager.old.ledger.manager manager.old.history now body) manager.old) }
 {
-    if manager.live_instances() >= MAX_INSTANCES {
+    let Some(vnfd) = manager.vnfd(&body.vnfd) else {
+        return Ok(Step::Refused(refusal(alloc, 422, "vnfdId is not onboarded")?));
+    };
+    if manager.live(Kind::Instance) >= MAX_INSTANCES {
         return Ok(Step::Refused(refusal(alloc, 507, "too many instances")?));
     }
     let n = manager.next_instance();
-    let reply = created(alloc, manager.number(), n, &body)?;
+    let reply = created(alloc, manager.number(), n, &body, vnfd)?;
     let event = creation(n, now, body);
     let more = manager.length_of(&event);
     if !manager.fits(more, MAX_REQUESTED) {

@@ -8,6 +8,7 @@ ghost use Rattle.std.specs.String.{string_bytes};
 use crate::reply::Reply;
 use crate::request::Request;
 use json_views::{BodyFault, CreateBody, created_view, instance_path, problem_view, read_create};
+use lcm_events::Vnfd;
 use std::alloc::{AllocError, Global};
 use vnfm_base::{Bytes, Line, Name};
 
@@ -111,11 +112,17 @@ pub fn bare(alloc: Global, status: u16) -> Reply
 
 /// The answer to a create request.
 #[tactic(auto, unfolding(crate::specs::Outcome::created))]
-pub fn created(alloc: Global, manager: u32, n: u64, body: &CreateBody) -> Result<Reply, AllocError>
+pub fn created(
+    alloc: Global,
+    manager: u32,
+    n: u64,
+    body: &CreateBody,
+    vnfd: &Vnfd,
+) -> Result<Reply, AllocError>
     requires { IsIdentNumber n }
-    ensures { IfOk result (λ reply. reply ≡ created manager n body.now) }
+    ensures { IfOk result (λ reply. reply ≡ created manager n body.now vnfd.now) }
 {
-    let view = created_view(alloc, manager, n, body)?;
+    let view = created_view(alloc, manager, n, body, vnfd)?;
     let path = instance_path(alloc, manager, n)?;
     let Some(location) = Line::of_string(path) else {
         return Err(AllocError);

@@ -17,6 +17,7 @@ mod tell;
 pub use answer::{ApiFault, MAX_INSTANCES, MAX_REQUESTED};
 pub use door::DoorFailed;
 pub use laws::bytes_are_one_request;
+pub use listen::Reading;
 pub use mouth::{HearFault, Mouth};
 pub use reply::Reply;
 pub use request::Request;

@@ -7,7 +7,7 @@ ghost use Rattle.lcm_api.specs.Hearing.{Hears};
 use site_traits::{Door, ReadAnswer};
 
 /// How far a reading came.
-#[derive(Clone, Copy)]
+#[derive(Clone, Copy, Debug, PartialEq, Eq)]
 pub struct Reading {
     /// The bytes that were read.
     pub count: usize,
@@ -17,9 +17,9 @@ pub struct Reading {
 
 /// Reads to the connection's end, or until the room is full.
 pub fn read_to_end<D: Door>(door: &mut D, room: &mut [u8]) -> Reading
-    requires { length room.old ≡ 65537 }
-    ensures within { result.count ≤ 65537 }
-    ensures told { D.tells → Hears (take result.count room.new) result.failed (D.state door.old) (D.state door.new) }
+    ensures within { result.count ≤ length room.old }
+    ensures room { length room.new ≡ length room.old }
+    ensures told { D.tells → Hears (length room.old) (take result.count room.new) result.failed (D.state door.old) (D.state door.new) }
     ensures cause { NoNextFault (D.counts door.old) (D.counts door.new) }
     ensures failed { result.failed ≡ true → Rose (D.counts door.old).faults (D.counts door.new).faults }
 {

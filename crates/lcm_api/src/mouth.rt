@@ -1,15 +1,16 @@
 //! The mouth: a door, the request in hand, and the one call that writes to the door.
-ghost use Rattle.std.specs.Prelude.{◌≡◌, ◌≤◌, ◌<◌, length, IfOk, Some, None, is_some, true, false};
+ghost use Rattle.std.specs.Prelude.{◌≡◌, ◌≤◌, ◌<◌, length, take, IfOk, Some, None, is_some, true, false};
 ghost use Rattle.site_traits.specs.Counts.{Rose};
 ghost use Rattle.site_traits.specs.Door.{fresh, Nexts, ReadsIn, HangsUp, IsAmount, NextCause, ReadCause, NoNextFault};
 ghost use Rattle.lcm_api.specs.Answering.{IsAcknowledged, IsEverywhere};
+ghost use Rattle.lcm_api.specs.Hearing.{Hears};
 ghost use Rattle.lcm_api.specs.Mouth.{KeepsHand, Heard, Listens};
 ghost use Rattle.lcm_api.specs.Response.{text};
 ghost use Rattle.lcm_api.specs.Telling.{Tells, TellCause};
 
 use crate::door::DoorFailed;
 use crate::form::{FormFault, MAX_FIELDS, MAX_REQUEST, read_request};
-use crate::listen::read_to_end;
+use crate::listen::{Reading, read_to_end};
 use crate::outgoing::Outgoing;
 use crate::reply::Reply;
 use crate::request::Request;
@@ -107,6 +108,19 @@ impl<D: Door> Mouth<D> {
         ensures kept { KeepsHand self.old self.new }
     {
         self.door.hang_up();
+    }
+
+    /// Reads the connection at hand to its end, or until the room is full. The request in hand stays.
+    ///
+    /// Where a read failed, the answer says so, and the door's count of faults rose; the bytes before it were read.
+    pub fn read_to_end(&mut self, room: &mut [u8]) -> Reading
+        ensures within { result.count ≤ length room.old }
+        ensures told { D.tells → Hears (length room.old) (take result.count room.new) result.failed self.old.door self.new.door }
+        ensures cause { NoNextFault self.old.counts self.new.counts }
+        ensures failed { result.failed ≡ true → Rose self.old.counts.faults self.new.counts.faults }
+        ensures kept { KeepsHand self.old self.new }
+    {
+        read_to_end(&mut self.door, room)
     }
 
     /// Reads the connection to its end, or to its 65,537th byte, and takes the request that it is in hand, for this role.

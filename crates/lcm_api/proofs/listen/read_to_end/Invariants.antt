@@ -8,11 +8,10 @@ abbrev pub invariant-loop-at : goal.invariant-loop-at
 invariant-loop-at g l =
     let start = g.D.Door.state l.fn.door in
     record {
-      within : l.at ≤ 65537;
-      long : length l.room ≡ 65537;
+      within : l.at ≤ length l.fn.room;
       counts : NoNextFault (g.D.Door.counts l.fn.door) (g.D.Door.counts l.door);
       told : g.D.Door.tells → HeardSoFar l.at l.room start (g.D.Door.state l.door);
     }
 
 abbrev pub decreases-loop-at : goal.decreases-loop-at
-decreases-loop-at g l = 65537 - l.at
+decreases-loop-at g l = length l.fn.room - l.at

@@ -8,7 +8,7 @@ returns-in-Err-Malformed-clause-listened g c = record {
   bytes = take c.read_to_end-reading.result.count c.read_to_end-reading.new.room;
   failed = c.read_to_end-reading.result.failed;
   judged = judged_none _ _ _ (rw c.in-Err-Malformed.field-0-is at c.in-Err-Malformed.ensures) c.no_request.ensures.read c.no_request.ensures.malformed;
-  door = c.read_to_end-reading.ensures.told;
+  door = rw c.requires.heard at c.read_to_end-reading.ensures.told;
 }
 
 pub returns-in-Err-Memory-clause-listened : goal.returns-in-Err-Memory-clause-listened
@@ -16,5 +16,5 @@ returns-in-Err-Memory-clause-listened g c = record {
   bytes = take c.read_to_end-reading.result.count c.read_to_end-reading.new.room;
   failed = c.read_to_end-reading.result.failed;
   judged = tt;
-  door = c.read_to_end-reading.ensures.told;
+  door = rw c.requires.heard at c.read_to_end-reading.ensures.told;
 }
