@@ -1,7 +1,7 @@
 -- Where no call of the door failed, a connection that was served got its whole answer.
 use Rattle.std.proofs.Common.{◌≡◌, ◌≤◌, ◌+◌, ◌-◌, ◌^◌, ℕ, Bool, true, false, List, [], ◌++◌, Option, Some, None, Result, Ok, Err, ap, ◌∙◌, sym, subst, refl, arith}
 use Rattle.site_traits.specs.Counts.{Rose}
-use Rattle.site_traits.specs.Door.{Conn, DoorState, Comes, ConnIs, NoNextFault, fresh}
+use Rattle.site_traits.specs.Door.{Conn, DoorState, Comes, ConnIs, HangsUp, NoNextFault, fresh}
 use Rattle.executor.specs.Managed.{Managed}
 use Rattle.site_traits.specs.Site.{SiteState}
 use Rattle.lcm_api.specs.Hearing.{heard_of}
@@ -91,6 +91,10 @@ whole_answer D role serving result m H b n is tells empty fine =
 -- a connection that just came has no bytes out
 pub fresh_out : (role : Role) (a b : DoorState) → Comes role a b → b.conn.out ≡ []
 fresh_out role a b comes = ap (λ (x : Conn). x.out) comes.conn
+
+-- nothing was written to a connection that came, was read and was ended
+pub brought_out : (n : ℕ) (failed : Bool) (role : Role) (a b c d : DoorState) → Comes role a b → ConnIs (heard_of n failed b.conn) b c → HangsUp c d → d.conn.out ≡ []
+brought_out n failed role a b c d comes hears gone = out_is _ c d gone ∙ out_is _ b c hears ∙ heard_out n failed b.conn ∙ fresh_out role a b comes
 
 -- a connection came, and was served
 attended : (D : Type 0) (role came : Role) (serving : Serving) (result : Result (Unit {0}) ApiFault) (m : ℕ) (H : List Event) (a b n : MouthState) → (D → Comes came a.door b.door)

@@ -1,8 +1,10 @@
 -- Which endings the bytes of the file allow.
-use Rattle.std.proofs.Common.{◌≡◌, ◌≢◌, ◌<◌, ◌≤◌, ◌⊎◌, ℕ, Bool, true, false, List, Option, Some, None, Ok, Err, refl, inl, inr, ⊎_elim, sym, ◌∙◌, arith}
+use Rattle.std.proofs.Common.{◌≡◌, ◌≢◌, ◌<◌, ◌≤◌, ◌⊎◌, ℕ, Bool, true, false, List, Option, Some, None, Result, Ok, Err, ap, subst, refl, inl, inr, ⊎_elim, sym, ◌∙◌, arith}
+use Rattle.std.proofs.lemmas.Bool.{false≢true}
 use Rattle.executor.specs.History.{HasHistory}
-use Rattle.executor.specs.Open.{EachFollows, IsBadAt, IsBadRecord}
+use Rattle.executor.specs.Open.{IsBadAt, IsBadRecord}
 use Rattle.executor.proofs.LawLemmas.{no_bad_record}
+use Rattle.executor.specs.declared.manager.OpenFault.{OpenFault}
 use Rattle.executor.specs.declared.manager.OpenFault.TheVariants as opening
 use Rattle.journal_core.specs.File.{records, HasRecords}
 use Rattle.journal_core.specs.Head.{IsBrokenAt}
@@ -10,13 +12,24 @@ use Rattle.journal_core.specs.Header.{HasHeader, IsForeign, IsUnmade}
 use Rattle.journal_core.proofs.Excluding.{headed_or_not, whole_or_foreign, whole_or_unmade}
 use Rattle.lcm_api.specs.declared.answer.ApiFault.TheVariants as fault
 use Rattle.lcm_events.specs.declared.events.Event.{Event}
+use Rattle.lcm_events.specs.declared.states.Role.{Role}
+use Rattle.site_traits.specs.Counts.{Rose}
+use Rattle.site_traits.specs.Door.{DoorCounts}
 use Rattle.site_traits.specs.Site.{SiteState}
-use Rattle.vnfm_cli.specs.Course.{Course, misused, starved, unopened, opened, Round, unreached, unasked, served, ending_of, round_ending, IsOfWords}
+use Rattle.vnfm_cli.specs.Course.{Course, misused, starved, making, unopened, opened, tried, Round, unreached, unasked, served, Onboarding, unready, unheard, cut_off, heard, ending_of, judged_ending, onboarding_ending, round_ending, verdict_ending, Opening, unopened_ending, IsOf, IsOfSettings, IsOfWords}
 use Rattle.vnfm_cli.specs.Ending.{status_of, told_status, IsStatus}
-use Rattle.vnfm_cli.specs.Runs.{AtFile, IsLegalCourse, IsNoJournal, IsOrYields, IsSoundStart}
-use Rattle.vnfm_cli.specs.Words.{IsCommand, settings_of}
+use Rattle.vnfm_cli.specs.Runs.{AtFile, IsDoorCause, IsLegalCourse, IsNoJournal, IsOrYields, IsSoundStart, IsStartOf, MayEndWith}
+use Rattle.journal_core.specs.Create.{IsMade}
+use Rattle.journal_core.specs.Header.{IsUnfinished}
+use Rattle.journal_core.specs.declared.create.CreateFault.{CreateFault}
+use Rattle.journal_core.specs.declared.create.CreateFault.TheVariants as creating
+use Rattle.vnfm_cli.specs.Onboarding.{Verdict, refused, full, accepted, verdict}
+use Rattle.vnfm_cli.specs.Words.{AreInit, AreLoading, AreWordsOf, IsCommand, loads, settings_of}
+use Rattle.vnfm_cli.specs.declared.options.Command.{Command}
+use Rattle.vnfm_cli.specs.declared.options.Command.TheVariants.{Init, Onboard, Once}
+use Rattle.vnfm_cli.specs.declared.options.Settings.{Settings}
 use Rattle.vnfm_cli.specs.declared.ending.Ending.{Ending}
-use Rattle.vnfm_cli.specs.declared.ending.Ending.TheVariants.{Done, Usage, SiteFault, DoorFault, NoJournal, NotAJournal, NoMemory, BadRecord}
+use Rattle.vnfm_cli.specs.declared.ending.Ending.TheVariants.{Done, Made, Onboarded, Usage, SiteFault, DoorFault, NoJournal, NotAJournal, NoMemory, BadRecord, JournalFull, DescriptorRefused, Taken}
 
 -- a whole file is a journal
 whole_journal : (m : ℕ) (rs : List (List ℕ)) (image : List ℕ) → HasRecords m rs image → IsNoJournal image → ⊥
@@ -28,41 +41,66 @@ whole_journal m rs image has none = ⊎_elim
 -- a file with a bad record is a journal
 bad_journal : (n : ℕ) (image : List ℕ) → IsBadRecord n image → IsNoJournal image → ⊥
 bad_journal n image bad none = ⊎_elim
-    (λ (broken : (k : ℕ) × HasHeader k image × IsBrokenAt k n image).
-    ⊎_elim
-    (λ (unmade : IsUnmade image). (headed_or_not broken.0 image broken.1).0 unmade)
-    (λ (foreign : (place : ℕ) × IsForeign place image). (headed_or_not broken.0 image broken.1).1 foreign.0 foreign.1)
-    none)
-    (λ (late : (k : ℕ) × HasRecords k (records image) image × IsBadAt k n (records image)). whole_journal late.0 (records image) image late.1 none)
-    bad
+    (λ (unmade : IsUnmade image). (headed_or_not bad.0 image bad.1).0 unmade)
+    (λ (foreign : (place : ℕ) × IsForeign place image). (headed_or_not bad.0 image bad.1).1 foreign.0 foreign.1)
+    none
 
--- words that are a command aren't misused
-commanded : (P : Type 0) (words : List (List ℕ)) → IsCommand words → settings_of words ≡ None → P
-commanded P words is none = let some = is.1 in cc
+-- words set one thing
+set_once : (words : List (List ℕ)) (s t : Settings) → settings_of words ≡ Some s → settings_of words ≡ Some t → s ≡ t
+set_once words s t set other = some_is s t (sym set ∙ other) where
+  some_is : (s t : Settings) → Some s ≡ Some t → s ≡ t
+  some_is s t same = cc
+
+-- words that set something aren't misused
+commanded : (P : Type 0) (words : List (List ℕ)) (s : Settings) → settings_of words ≡ Some s → settings_of words ≡ None → P
+commanded P words s some none = cc
+
+-- the course of words that set something is one of that
+of_settings : (words : List (List ℕ)) (course : Course) (s : Settings) → settings_of words ≡ Some s → IsOfSettings words course → IsOf s.command s.manager s.role course
+of_settings words course s set of =
+    let P : Settings → Type 0 = λ x. IsOf x.command x.manager x.role course in
+    subst P (set_once words of.settings s of.set set) of.is
+
+-- a journal is made by `init` alone
+made_by_init : (command : Command) (manager number : ℕ) (role : Role) (result : Result (Unit {0}) CreateFault) → IsOf command manager role (making number result) → command ≡ Init
+made_by_init Init manager number role result is = refl
+made_by_init Onboard manager number role result is = absurd is
+made_by_init Once manager number role result is = absurd is
+
+-- words that load a journal don't make one
+not_making : (P : Type 0) (words : List (List ℕ)) (number : ℕ) (result : Result (Unit {0}) CreateFault) → AreLoading words → IsOfSettings words (making number result) → P
+not_making P words number result are of =
+    let init = made_by_init _ _ number _ result (of_settings words (making number result) are.settings are.set of) in
+    absurd (false≢true (ap loads (sym init) ∙ are.loading))
 
 -- a file that is no journal is told so
-pub no_journal_ending : (course : Course) (words : List (List ℕ)) (a b : SiteState) → IsCommand words → IsOfWords words course → AtFile course a b → IsNoJournal a.image
+pub no_journal_ending : (course : Course) (words : List (List ℕ)) (a b : SiteState) → AreLoading words → IsOfWords words course → AtFile course a b → IsNoJournal a.image
     → IsOrYields 5 (status_of (ending_of course))
-no_journal_ending misused words a b is of at none = commanded _ words is of
-no_journal_ending starved words a b is of at none = inr (inr refl)
-no_journal_ending (unopened opening.Unmade) words a b is of at none = inl refl
-no_journal_ending (unopened (opening.Foreign place)) words a b is of at none = inl refl
-no_journal_ending (unopened (opening.BadRecord n)) words a b is of at none = absurd (bad_journal n a.image at.because none)
-no_journal_ending (unopened opening.Disk) words a b is of at none = inr (inl refl)
-no_journal_ending (unopened opening.Memory) words a b is of at none = inr (inr refl)
-no_journal_ending (opened start round) words a b is of at none = absurd (whole_journal start.number _ a.image at.found.file none)
+no_journal_ending misused words a b are of at none = commanded _ words are.settings are.set of
+no_journal_ending starved words a b are of at none = inr (inr refl)
+no_journal_ending (making number result) words a b are of at none = not_making _ words number result are of
+no_journal_ending (unopened opening.Unmade) words a b are of at none = inl refl
+no_journal_ending (unopened (opening.Foreign place)) words a b are of at none = inl refl
+no_journal_ending (unopened (opening.BadRecord n)) words a b are of at none = absurd (bad_journal n a.image at.because none)
+no_journal_ending (unopened opening.Disk) words a b are of at none = inr (inl refl)
+no_journal_ending (unopened opening.Memory) words a b are of at none = inr (inr refl)
+no_journal_ending (opened start round) words a b are of at none = absurd (whole_journal start.number _ a.image at.found.file none)
+no_journal_ending (tried start onboarding) words a b are of at none = absurd (whole_journal start.number _ a.image at.found.file none)
 
 -- a bad record is told so
-pub bad_record_ending : (course : Course) (words : List (List ℕ)) (a b : SiteState) (n : ℕ) → IsCommand words → IsOfWords words course → IsLegalCourse course → AtFile course a b
+pub bad_record_ending : (course : Course) (words : List (List ℕ)) (a b : SiteState) (n : ℕ) → AreLoading words → IsOfWords words course → IsLegalCourse course → AtFile course a b
     → IsBadRecord n a.image → IsOrYields 8 (status_of (ending_of course))
-bad_record_ending misused words a b n is of legal at bad = commanded _ words is of
-bad_record_ending starved words a b n is of legal at bad = inr (inr refl)
-bad_record_ending (unopened opening.Unmade) words a b n is of legal at bad = absurd (bad_journal n a.image bad (inl at.because))
-bad_record_ending (unopened (opening.Foreign place)) words a b n is of legal at bad = absurd (bad_journal n a.image bad (inr (place, at.because)))
-bad_record_ending (unopened (opening.BadRecord k)) words a b n is of legal at bad = inl refl
-bad_record_ending (unopened opening.Disk) words a b n is of legal at bad = inr (inl refl)
-bad_record_ending (unopened opening.Memory) words a b n is of legal at bad = inr (inr refl)
-bad_record_ending (opened start round) words a b n is of legal at bad =
+bad_record_ending misused words a b n are of legal at bad = commanded _ words are.settings are.set of
+bad_record_ending starved words a b n are of legal at bad = inr (inr refl)
+bad_record_ending (making number result) words a b n are of legal at bad = not_making _ words number result are of
+bad_record_ending (unopened opening.Unmade) words a b n are of legal at bad = absurd (bad_journal n a.image bad (inl at.because))
+bad_record_ending (unopened (opening.Foreign place)) words a b n are of legal at bad = absurd (bad_journal n a.image bad (inr (place, at.because)))
+bad_record_ending (unopened (opening.BadRecord k)) words a b n are of legal at bad = inl refl
+bad_record_ending (unopened opening.Disk) words a b n are of legal at bad = inr (inl refl)
+bad_record_ending (unopened opening.Memory) words a b n are of legal at bad = inr (inr refl)
+bad_record_ending (opened start round) words a b n are of legal at bad =
+    absurd (no_bad_record start.number n start.history a.image legal.number at.found legal.before bad)
+bad_record_ending (tried start onboarding) words a b n are of legal at bad =
     absurd (no_bad_record start.number n start.history a.image legal.number at.found legal.before bad)
 
 -- a round ends with 0, 3 or 4
@@ -73,46 +111,240 @@ round_status (served serving (Ok done)) n zero three four is = zero (sym is)
 round_status (served serving (Err fault.Disk)) n zero three four is = three (sym is)
 round_status (served serving (Err fault.Memory)) n zero three four is = zero (sym is)
 
--- a round does its work, unless the disk or the door failed
-round_done : (round : Round) → (round_ending round ≡ SiteFault → ⊥) → (round_ending round ≡ DoorFault → ⊥) → (round_ending round ≡ Done) ⊎ (round_ending round ≡ NoMemory)
-round_done unreached disk door = absurd (door refl)
-round_done unasked disk door = inl refl
-round_done (served serving (Ok done)) disk door = inl refl
-round_done (served serving (Err fault.Disk)) disk door = absurd (disk refl)
-round_done (served serving (Err fault.Memory)) disk door = inl refl
+-- a descriptor that was judged ends with 0, 9 or 10
+verdict_status : (v : Verdict) → (status_of (verdict_ending v) ≡ 0) ⊎ ((status_of (verdict_ending v) ≡ 9) ⊎ (status_of (verdict_ending v) ≡ 10))
+verdict_status (refused why) = inr (inr refl)
+verdict_status (full end more) = inr (inl refl)
+verdict_status (accepted vnfd) = inl refl
+
+-- onboarding ends with neither 5, 8 nor 11
+onboarding_status : (H : List Event) (onboarding : Onboarding) (n : ℕ) → (n ≡ 5) ⊎ ((n ≡ 8) ⊎ (n ≡ 11)) → status_of (onboarding_ending H onboarding) ≡ n → ⊥
+onboarding_status H unready n other is = omega (arith, other, is)
+onboarding_status H unheard n other is = omega (arith, other, is)
+onboarding_status H (cut_off bytes) n other is = omega (arith, other, is)
+onboarding_status H (heard bytes now (Ok done)) n other is = let v = verdict_status (verdict H now bytes) in omega (arith, other, is, v)
+onboarding_status H (heard bytes now (Err fault.Disk)) n other is = omega (arith, other, is)
+onboarding_status H (heard bytes now (Err fault.Memory)) n other is = omega (arith, other, is)
+
+-- making a journal ends with 0, 3 or 11
+making_status : (number : ℕ) (result : Result (Unit {0}) CreateFault) (n : ℕ) → n ≢ 0 → n ≢ 3 → n ≢ 11 → status_of (ending_of (making number result)) ≡ n → ⊥
+making_status number (Ok done) n zero three eleven is = zero (sym is)
+making_status number (Err creating.Taken) n zero three eleven is = eleven (sym is)
+making_status number (Err creating.Disk) n zero three eleven is = three (sym is)
 
 -- status 5 is told of a file that is no journal
 pub told_no_journal : (course : Course) (a b : SiteState) → AtFile course a b → status_of (ending_of course) ≡ 5 → IsNoJournal a.image
 told_no_journal misused a b at is = absurd (omega (arith, is))
 told_no_journal starved a b at is = absurd (omega (arith, is))
+told_no_journal (making number result) a b at is = absurd (making_status number result 5 (omega arith) (omega arith) (omega arith) is)
 told_no_journal (unopened opening.Unmade) a b at is = inl at.because
 told_no_journal (unopened (opening.Foreign place)) a b at is = inr (place, at.because)
 told_no_journal (unopened (opening.BadRecord n)) a b at is = absurd (omega (arith, is))
 told_no_journal (unopened opening.Disk) a b at is = absurd (omega (arith, is))
 told_no_journal (unopened opening.Memory) a b at is = absurd (omega (arith, is))
 told_no_journal (opened start round) a b at is = absurd (round_status round 5 (omega arith) (omega arith) (omega arith) is)
+told_no_journal (tried start onboarding) a b at is = absurd (onboarding_status start.history onboarding 5 (inl refl) is)
 
 -- status 8 is told of a file with a bad record
 pub told_bad_record : (course : Course) (a b : SiteState) → AtFile course a b → status_of (ending_of course) ≡ 8 → (n : ℕ) × IsBadRecord n a.image
 told_bad_record misused a b at is = absurd (omega (arith, is))
 told_bad_record starved a b at is = absurd (omega (arith, is))
+told_bad_record (making number result) a b at is = absurd (making_status number result 8 (omega arith) (omega arith) (omega arith) is)
 told_bad_record (unopened opening.Unmade) a b at is = absurd (omega (arith, is))
 told_bad_record (unopened (opening.Foreign place)) a b at is = absurd (omega (arith, is))
 told_bad_record (unopened (opening.BadRecord n)) a b at is = (n, at.because)
 told_bad_record (unopened opening.Disk) a b at is = absurd (omega (arith, is))
 told_bad_record (unopened opening.Memory) a b at is = absurd (omega (arith, is))
 told_bad_record (opened start round) a b at is = absurd (round_status round 8 (omega arith) (omega arith) (omega arith) is)
+told_bad_record (tried start onboarding) a b at is = absurd (onboarding_status start.history onboarding 8 (inr (inl refl)) is)
 
--- a sound start with words that are a command: the work is done, unless a call failed or there was no memory
-pub complete_ending : (course : Course) (words : List (List ℕ)) (a b : SiteState) (m : ℕ) (H : List Event) → IsSoundStart m H a → IsCommand words → IsOfWords words course
-    → AtFile course a b → (ending_of course ≡ SiteFault → ⊥) → (ending_of course ≡ DoorFault → ⊥) → (ending_of course ≡ Done) ⊎ (ending_of course ≡ NoMemory)
-complete_ending misused words a b m H sound is of at disk door = commanded _ words is of
-complete_ending starved words a b m H sound is of at disk door = inr refl
-complete_ending (unopened opening.Unmade) words a b m H sound is of at disk door = absurd (whole_journal m _ a.image sound.start.file.file (inl at.because))
-complete_ending (unopened (opening.Foreign place)) words a b m H sound is of at disk door =
-    absurd (whole_journal m _ a.image sound.start.file.file (inr (place, at.because)))
-complete_ending (unopened (opening.BadRecord n)) words a b m H sound is of at disk door =
-    absurd (no_bad_record m n H a.image sound.start.number sound.start.file sound.follows at.because)
-complete_ending (unopened opening.Disk) words a b m H sound is of at disk door = absurd (disk refl)
-complete_ending (unopened opening.Memory) words a b m H sound is of at disk door = inr refl
-complete_ending (opened start round) words a b m H sound is of at disk door = round_done round disk door
+-- a course that ends with 9 or 10 is one of onboarding
+onboarding_alone : (n : ℕ) → (n ≡ 9) ⊎ (n ≡ 10) → (course : Course) (words : List (List ℕ)) → IsOfWords words course → status_of (ending_of course) ≡ n → AreWordsOf Onboard words
+onboarding_alone n nine misused words of is = absurd (omega (arith, nine, is))
+onboarding_alone n nine starved words of is = absurd (omega (arith, nine, is))
+onboarding_alone n nine (making number result) words of is = absurd (making_status number result n (omega (arith, nine)) (omega (arith, nine)) (omega (arith, nine)) is)
+onboarding_alone n nine (unopened opening.Unmade) words of is = absurd (omega (arith, nine, is))
+onboarding_alone n nine (unopened (opening.Foreign place)) words of is = absurd (omega (arith, nine, is))
+onboarding_alone n nine (unopened (opening.BadRecord k)) words of is = absurd (omega (arith, nine, is))
+onboarding_alone n nine (unopened opening.Disk) words of is = absurd (omega (arith, nine, is))
+onboarding_alone n nine (unopened opening.Memory) words of is = absurd (omega (arith, nine, is))
+onboarding_alone n nine (opened start round) words of is = absurd (round_status round n (omega (arith, nine)) (omega (arith, nine)) (omega (arith, nine)) is)
+onboarding_alone n nine (tried start onboarding) words of is = record { settings = of.settings; set = of.set; is = onboard_of _ _ _ start onboarding of.is } where
+  onboard_of : (command : Command) (manager : ℕ) (role : Role) (start : Opening) (onboarding : Onboarding) → IsOf command manager role (tried start onboarding) → command ≡ Onboard
+  onboard_of Init manager role start onboarding is = absurd is
+  onboard_of Onboard manager role start onboarding is = refl
+  onboard_of Once manager role start onboarding is = absurd is
+
+-- status 9 is that of onboarding alone
+pub told_full : (course : Course) (words : List (List ℕ)) → IsOfWords words course → status_of (ending_of course) ≡ 9 → AreWordsOf Onboard words
+told_full course words of is = onboarding_alone 9 (inl refl) course words of is
+
+-- status 10 is that of onboarding alone
+pub told_refused : (course : Course) (words : List (List ℕ)) → IsOfWords words course → status_of (ending_of course) ≡ 10 → AreWordsOf Onboard words
+told_refused course words of is = onboarding_alone 10 (inr refl) course words of is
+
+-- the words of a course that makes a journal are `init`'s, for that manager
+init_words : (words : List (List ℕ)) (number : ℕ) (result : Result (Unit {0}) CreateFault) → IsOfSettings words (making number result) → AreInit number words
+init_words words number result of = record { settings = of.settings; set = of.set; is = made_by_init _ _ number _ result of.is; number = manager_is _ _ _ number result of.is } where
+  manager_is : (command : Command) (manager : ℕ) (role : Role) (number : ℕ) (result : Result (Unit {0}) CreateFault) → IsOf command manager role (making number result) → manager ≡ number
+  manager_is Init manager role number result is = sym is
+  manager_is Onboard manager role number result is = absurd is
+  manager_is Once manager role number result is = absurd is
+
+-- status 11 is told where a journal was to be made of a file that isn't unfinished for its manager
+pub told_taken : (course : Course) (words : List (List ℕ)) (a b : SiteState) → IsOfWords words course → AtFile course a b → status_of (ending_of course) ≡ 11
+    → (m : ℕ) × AreInit m words × (IsUnfinished m a.image → ⊥)
+told_taken misused words a b of at is = absurd (omega (arith, is))
+told_taken starved words a b of at is = absurd (omega (arith, is))
+told_taken (making number (Ok done)) words a b of at is = absurd (omega (arith, is))
+told_taken (making number (Err creating.Taken)) words a b of at is = (number, init_words words number (Err creating.Taken) of, at.taken refl)
+told_taken (making number (Err creating.Disk)) words a b of at is = absurd (omega (arith, is))
+told_taken (unopened opening.Unmade) words a b of at is = absurd (omega (arith, is))
+told_taken (unopened (opening.Foreign place)) words a b of at is = absurd (omega (arith, is))
+told_taken (unopened (opening.BadRecord k)) words a b of at is = absurd (omega (arith, is))
+told_taken (unopened opening.Disk) words a b of at is = absurd (omega (arith, is))
+told_taken (unopened opening.Memory) words a b of at is = absurd (omega (arith, is))
+told_taken (opened start round) words a b of at is = absurd (round_status round 11 (omega arith) (omega arith) (omega arith) is)
+told_taken (tried start onboarding) words a b of at is = absurd (onboarding_status start.history onboarding 11 (inr (inr refl)) is)
+
+-- the course of words of a command is one of that command
+of_command : (command : Command) (words : List (List ℕ)) (course : Course) → AreWordsOf command words → IsOfSettings words course
+    → (manager : ℕ) × (role : Role) × IsOf command manager role course
+of_command command words course are of =
+    let P : Command → Type 0 = λ x. IsOf x are.settings.manager are.settings.role course in
+    (are.settings.manager, are.settings.role, subst P are.is (of_settings words course are.settings are.set of))
+
+-- the course of `init`'s words is one of `init`, for their manager
+of_init : (m : ℕ) (words : List (List ℕ)) (course : Course) → AreInit m words → IsOfSettings words course → (role : Role) × IsOf Init m role course
+of_init m words course are of =
+    let P : Command → Type 0 = λ x. IsOf x are.settings.manager are.settings.role course in
+    let Q : ℕ → Type 0 = λ k. IsOf Init k are.settings.role course in
+    (are.settings.role, subst Q are.number (subst P are.is (of_settings words course are.settings are.set of)))
+
+-- a file that isn't unfinished for the manager is told so
+pub taken_ending : (course : Course) (words : List (List ℕ)) (a b : SiteState) (m : ℕ) → AreInit m words → IsOfWords words course → AtFile course a b
+    → (IsUnfinished m a.image → ⊥) → IsOrYields 11 (status_of (ending_of course))
+taken_ending misused words a b m are of at not = commanded _ words are.settings are.set of
+taken_ending starved words a b m are of at not = inr (inr refl)
+taken_ending (making number (Ok done)) words a b m are of at not =
+    let same : number ≡ m = (of_init m words (making number (Ok done)) are of).1 in
+    absurd ((at.kept (λ unfinished. not (subst (λ k. IsUnfinished k a.image) same unfinished))).1 refl)
+taken_ending (making number (Err creating.Taken)) words a b m are of at not = inl refl
+taken_ending (making number (Err creating.Disk)) words a b m are of at not = inr (inl refl)
+taken_ending (unopened why) words a b m are of at not = absurd (of_init m words (unopened why) are of).1
+taken_ending (opened start round) words a b m are of at not = absurd (of_init m words (opened start round) are of).1
+taken_ending (tried start onboarding) words a b m are of at not = absurd (of_init m words (tried start onboarding) are of).1
+
+-- where `init` did its work the file is made
+pub made_ending : (course : Course) (words : List (List ℕ)) (a b : SiteState) (m : ℕ) → AreInit m words → IsOfWords words course → AtFile course a b
+    → status_of (ending_of course) ≡ 0 → IsMade m b
+made_ending misused words a b m are of at is = absurd (omega (arith, is))
+made_ending starved words a b m are of at is = absurd (omega (arith, is))
+made_ending (making number (Ok done)) words a b m are of at is =
+    let same : number ≡ m = (of_init m words (making number (Ok done)) are of).1 in
+    subst (λ k. IsMade k b) same at.made
+made_ending (making number (Err creating.Taken)) words a b m are of at is = absurd (omega (arith, is))
+made_ending (making number (Err creating.Disk)) words a b m are of at is = absurd (omega (arith, is))
+made_ending (unopened why) words a b m are of at is = absurd (of_init m words (unopened why) are of).1
+made_ending (opened start round) words a b m are of at is = absurd (of_init m words (opened start round) are of).1
+made_ending (tried start onboarding) words a b m are of at is = absurd (of_init m words (tried start onboarding) are of).1
+
+-- a sound start is opened, unless the disk failed or there was no memory
+sound_unopened : (why : OpenFault) (m : ℕ) (H : List Event) (a b : SiteState) → IsSoundStart m H a → AtFile (unopened why) a b
+    → (unopened_ending why ≡ SiteFault → ⊥) → status_of (unopened_ending why) ≡ 6
+sound_unopened opening.Unmade m H a b sound at disk = absurd (whole_journal m _ a.image sound.start.file.file (inl at.because))
+sound_unopened (opening.Foreign place) m H a b sound at disk = absurd (whole_journal m _ a.image sound.start.file.file (inr (place, at.because)))
+sound_unopened (opening.BadRecord n) m H a b sound at disk =
+    absurd (no_bad_record m n H a.image sound.start.number sound.start.file sound.legal at.because)
+sound_unopened opening.Disk m H a b sound at disk = absurd (disk refl)
+sound_unopened opening.Memory m H a b sound at disk = refl
+
+-- `init` ends with 0, 6 or 11, unless the disk failed
+complete_init : (course : Course) (words : List (List ℕ)) (a b : SiteState) → AreWordsOf Init words → IsOfWords words course
+    → (ending_of course ≡ SiteFault → ⊥) → MayEndWith Init (status_of (ending_of course))
+complete_init misused words a b are of disk = commanded _ words are.settings are.set of
+complete_init starved words a b are of disk = inr (inl refl)
+complete_init (making number (Ok done)) words a b are of disk = inl refl
+complete_init (making number (Err creating.Taken)) words a b are of disk = inr (inr refl)
+complete_init (making number (Err creating.Disk)) words a b are of disk = absurd (disk refl)
+complete_init (unopened why) words a b are of disk = absurd (of_command Init words (unopened why) are of).2
+complete_init (opened start round) words a b are of disk = absurd (of_command Init words (opened start round) are of).2
+complete_init (tried start onboarding) words a b are of disk = absurd (of_command Init words (tried start onboarding) are of).2
+
+-- what a descriptor that was judged ends with
+judged_status : (v : Verdict) → MayEndWith Onboard (status_of (verdict_ending v))
+judged_status (refused why) = inr (inr (inr refl))
+judged_status (full end more) = inr (inr (inl refl))
+judged_status (accepted vnfd) = inl refl
+
+-- `onboard` ends with 0, 6, 9 or 10 from a sound start, unless the disk or the door failed
+complete_onboard : (course : Course) (words : List (List ℕ)) (a b : SiteState) (m : ℕ) (H : List Event) → AreWordsOf Onboard words → IsSoundStart m H a → IsOfWords words course
+    → AtFile course a b → (ending_of course ≡ SiteFault → ⊥) → (ending_of course ≡ DoorFault → ⊥) → MayEndWith Onboard (status_of (ending_of course))
+complete_onboard misused words a b m H are sound of at disk door = commanded _ words are.settings are.set of
+complete_onboard starved words a b m H are sound of at disk door = inr (inl refl)
+complete_onboard (making number result) words a b m H are sound of at disk door = absurd (of_command Onboard words (making number result) are of).2
+complete_onboard (unopened why) words a b m H are sound of at disk door = inr (inl (sound_unopened why m H a b sound at disk))
+complete_onboard (opened start round) words a b m H are sound of at disk door = absurd (of_command Onboard words (opened start round) are of).2
+complete_onboard (tried start unready) words a b m H are sound of at disk door = inr (inl refl)
+complete_onboard (tried start unheard) words a b m H are sound of at disk door = absurd (door refl)
+complete_onboard (tried start (cut_off bytes)) words a b m H are sound of at disk door = absurd (door refl)
+complete_onboard (tried start (heard bytes now (Ok done))) words a b m H are sound of at disk door = judged_status (verdict start.history now bytes)
+complete_onboard (tried start (heard bytes now (Err fault.Disk))) words a b m H are sound of at disk door = absurd (disk refl)
+complete_onboard (tried start (heard bytes now (Err fault.Memory))) words a b m H are sound of at disk door = inr (inl refl)
+
+-- a round does its work, unless the disk or the door failed
+round_done : (round : Round) → (round_ending round ≡ SiteFault → ⊥) → (round_ending round ≡ DoorFault → ⊥) → status_of (round_ending round) ≡ 0
+round_done unreached disk door = absurd (door refl)
+round_done unasked disk door = refl
+round_done (served serving (Ok done)) disk door = refl
+round_done (served serving (Err fault.Disk)) disk door = absurd (disk refl)
+round_done (served serving (Err fault.Memory)) disk door = refl
+
+-- `once` ends with 0 or 6 from a sound start, unless the disk or the door failed
+complete_once : (course : Course) (words : List (List ℕ)) (a b : SiteState) (m : ℕ) (H : List Event) → AreWordsOf Once words → IsSoundStart m H a → IsOfWords words course
+    → AtFile course a b → (ending_of course ≡ SiteFault → ⊥) → (ending_of course ≡ DoorFault → ⊥) → MayEndWith Once (status_of (ending_of course))
+complete_once misused words a b m H are sound of at disk door = commanded _ words are.settings are.set of
+complete_once starved words a b m H are sound of at disk door = inr refl
+complete_once (making number result) words a b m H are sound of at disk door = absurd (of_command Once words (making number result) are of).2
+complete_once (unopened why) words a b m H are sound of at disk door = inr (sound_unopened why m H a b sound at disk)
+complete_once (opened start round) words a b m H are sound of at disk door = inl (round_done round disk door)
+complete_once (tried start onboarding) words a b m H are sound of at disk door = absurd (of_command Once words (tried start onboarding) are of).2
+
+-- from a sound start a command does its work or is refused, unless a call failed or there was no memory
+pub complete_ending : (command : Command) (course : Course) (words : List (List ℕ)) (a b : SiteState) → AreWordsOf command words → IsStartOf command a → IsOfWords words course
+    → AtFile course a b → (ending_of course ≡ SiteFault → ⊥) → (ending_of course ≡ DoorFault → ⊥) → MayEndWith command (status_of (ending_of course))
+complete_ending Init course words a b are start of at disk door = complete_init course words a b are of disk
+complete_ending Onboard course words a b are start of at disk door = complete_onboard course words a b start.0 start.1 are start.2 of at disk door
+complete_ending Once course words a b are start of at disk door = complete_once course words a b start.0 start.1 are start.2 of at disk door
+
+-- the words of two commands are words of one
+same_command : (words : List (List ℕ)) (c d : Command) → AreWordsOf c words → AreWordsOf d words → c ≡ d
+same_command words c d are other = sym are.is ∙ ap (λ (s : Settings). s.command) (set_once words are.settings other.settings are.set other.set) ∙ other.is
+
+-- why the door failed for the command of these words
+pub door_cause : (command : Command) (words : List (List ℕ)) (a b : DoorCounts) → AreWordsOf command words
+    → Rose a.next b.next ⊎ (AreWordsOf Onboard words × Rose a.faults b.faults) → IsDoorCause command a b
+door_cause Init words a b are cause = ⊎_elim
+    (λ (next : Rose a.next b.next). next)
+    (λ (on : AreWordsOf Onboard words × Rose a.faults b.faults). let same = same_command words Init Onboard are on.0 in cc)
+    cause
+door_cause Onboard words a b are cause = ⊎_elim
+    (λ (next : Rose a.next b.next). inl next)
+    (λ (on : AreWordsOf Onboard words × Rose a.faults b.faults). inr on.1)
+    cause
+door_cause Once words a b are cause = ⊎_elim
+    (λ (next : Rose a.next b.next). next)
+    (λ (on : AreWordsOf Onboard words × Rose a.faults b.faults). let same = same_command words Once Onboard are on.0 in cc)
+    cause
+
+-- the same, from the command that the words set
+pub words_cause : (words : List (List ℕ)) (s : Settings) (a b : DoorCounts) → settings_of words ≡ Some s → IsDoorCause s.command a b
+    → Rose a.next b.next ⊎ (AreWordsOf Onboard words × Rose a.faults b.faults)
+words_cause words s a b set cause = of s.command refl cause where
+  of : (c : Command) → s.command ≡ c → IsDoorCause c a b → Rose a.next b.next ⊎ (AreWordsOf Onboard words × Rose a.faults b.faults)
+  of Init is cause = inl cause
+  of Onboard is cause = ⊎_elim
+      (λ (next : Rose a.next b.next). inl next)
+      (λ (faults : Rose a.faults b.faults). inr (record { settings = s; set = set; is = is }, faults))
+      cause
+  of Once is cause = inl cause

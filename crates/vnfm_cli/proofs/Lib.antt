@@ -1,4 +1,9 @@
 mod AnswerLemmas
 mod EndingLemmas
 mod ExactLemmas
+mod HeardLemmas
+mod OnboardLemmas
 mod RunLemmas
+mod ValidLemmas
+mod VerdictLemmas
+mod WordLemmas

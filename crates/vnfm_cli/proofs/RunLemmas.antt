@@ -3,7 +3,7 @@ use Rattle.std.proofs.Common.{◌≡◌, ◌≢◌, ◌⊎◌, ◌<◌, ℕ, Lis
 use Rattle.std.proofs.lemmas.List.{append-nil}
 use Rattle.executor.specs.History.{HasHistory}
 use Rattle.executor.specs.Managed.{Managed, StandsFor}
-use Rattle.executor.specs.Open.{EachFollows, IsBadRecord, Opens}
+use Rattle.executor.specs.Open.{IsBadRecord, Opens}
 use Rattle.executor.specs.declared.manager.OpenFault.{OpenFault}
 use Rattle.executor.specs.declared.manager.OpenFault.TheVariants as opening
 use Rattle.executor.proofs.ManagerLemmas.{stands_everywhere}
@@ -15,13 +15,16 @@ use Rattle.lcm_api.specs.Mouth.{MouthState}
 use Rattle.lcm_api.specs.Serving.{AtSite, Follows, added}
 use Rattle.lcm_api.specs.declared.answer.ApiFault.{ApiFault}
 use Rattle.lcm_api.specs.declared.answer.ApiFault.TheVariants as fault
-use Rattle.lcm_api.proofs.AddedLemmas.{added_follows}
+use Rattle.lcm_api.proofs.AddedLemmas.{added_legal}
 use Rattle.lcm_events.specs.declared.events.Event.{Event}
 use Rattle.lcm_events.specs.declared.states.Role.{Role}
+use Rattle.lcm_model.specs.Allowed.{IsLegal}
 use Rattle.site_traits.specs.Site.{Pair, SiteState, LeavesOnly, Same, FileStep}
 use Rattle.site_traits.proofs.Moments.{started, goes_on, followed}
-use Rattle.vnfm_cli.specs.Course.{Course, opened, unopened, Round, unreached, unasked, served, Opening, events_of, result_of}
-use Rattle.vnfm_cli.specs.Rounds.{MakesRound, opening_of}
+use Rattle.vnfm_cli.specs.Course.{Course, opened, tried, unopened, Round, unreached, unasked, served, Onboarding, unready, unheard, cut_off, heard, Opening, events_of, result_of, onboarding_events, onboarding_result}
+use Rattle.vnfm_cli.specs.Onboarding.{verdict}
+use Rattle.vnfm_cli.specs.Rounds.{MakesRound, Onboards, opening_of}
+use Rattle.vnfm_cli.proofs.VerdictLemmas.{verdict_legal}
 use Rattle.vnfm_cli.specs.Runs.{IsLegalRun, IsStart, Recovers, Refuses, kept_of, Does}
 
 -- what is read has the history of the manager that stands for it
@@ -61,21 +64,41 @@ recovers role events result m n a b e reads stands follows number at = record {
       subst Q (kept_history result events m n follows other) (subst P number (has_history n e (at.stands other)));
 }
 
--- each event of the round may follow
-pub legal_run : (role : Role) (round : Round) (m : Managed) → m.ledger.manager < 4294967296 → EachFollows m.ledger.manager m.history
+-- the history stays legal with the round's events
+pub legal_run : (role : Role) (round : Round) (m : Managed) → m.ledger.manager < 4294967296 → IsLegal m.ledger.manager m.history
     → IsLegalRun (opening_of role m) (events_of m.ledger.manager m.history round)
 legal_run role unreached m number follows = record { number = number; before = follows; after = follows }
 legal_run role unasked m number follows = record { number = number; before = follows; after = follows }
 legal_run role (served serving result) m number follows =
-    record { number = number; before = follows; after = added_follows m.ledger.manager m.history serving follows }
+    record { number = number; before = follows; after = added_legal m.ledger.manager m.history serving follows }
 
 -- an opened journal, and a round of its manager
 pub does_round : (S D K : Type 0) (role : Role) (round : Round) (m n : Managed) (a b e : SiteState) (c d : MouthState) (ks ls : List ℕ) → m.ledger.manager < 4294967296
-    → EachFollows m.ledger.manager m.history → (S → SyncsAndReads a b) → (S → StandsFor m b) → MakesRound S D K role round m n b e c d ks ls
+    → IsLegal m.ledger.manager m.history → (S → SyncsAndReads a b) → (S → StandsFor m b) → MakesRound S D K role round m n b e c d ks ls
     → Does S D K (opened (opening_of role m) round) a e c d ks ls
 does_round S D K role round m n a b e c d ks ls number follows reads stands makes = record {
   legal = legal_run role round m number follows;
   site = λ tells. recovers role (events_of m.ledger.manager m.history round) (result_of round) m n a b e (reads tells) (stands tells) makes.managed makes.number (makes.site tells);
+  door = makes.door;
+  clock = makes.clock;
+}
+
+-- the history stays legal with the descriptor
+legal_onboarding : (role : Role) (onboarding : Onboarding) (m : Managed) → m.ledger.manager < 4294967296 → IsLegal m.ledger.manager m.history
+    → IsLegalRun (opening_of role m) (onboarding_events m.history onboarding)
+legal_onboarding role unready m number legal = record { number = number; before = legal; after = legal }
+legal_onboarding role unheard m number legal = record { number = number; before = legal; after = legal }
+legal_onboarding role (cut_off bytes) m number legal = record { number = number; before = legal; after = legal }
+legal_onboarding role (heard bytes now result) m number legal =
+    record { number = number; before = legal; after = verdict_legal m.ledger.manager m.history now bytes legal }
+
+-- an opened journal, and onboarding by its manager
+pub does_onboarding : (S D K : Type 0) (role : Role) (onboarding : Onboarding) (m n : Managed) (a b e : SiteState) (c d : MouthState) (ks ls : List ℕ) → m.ledger.manager < 4294967296
+    → IsLegal m.ledger.manager m.history → (S → SyncsAndReads a b) → (S → StandsFor m b) → Onboards S D K onboarding m n b e c d ks ls
+    → Does S D K (tried (opening_of role m) onboarding) a e c d ks ls
+does_onboarding S D K role onboarding m n a b e c d ks ls number legal reads stands makes = record {
+  legal = legal_onboarding role onboarding m number legal;
+  site = λ tells. recovers role (onboarding_events m.history onboarding) (onboarding_result onboarding) m n a b e (reads tells) (stands tells) makes.managed makes.number (makes.site tells);
   door = makes.door;
   clock = makes.clock;
 }

@@ -1,27 +1,33 @@
 -- What a run does to the journal's file, the door and the clock.
-use Rattle.std.specs.Prelude.{◌≡◌, ◌≢◌, ◌<◌, ◌⊎◌, ℕ, List, [], ◌++◌, Option, Some, None, Result, Err}
+use Rattle.std.specs.Prelude.{◌≡◌, ◌≢◌, ◌<◌, ◌⊎◌, ℕ, List, [], ◌∷◌, ◌++◌, Bool, true, false, Option, Some, None, Result, Err}
 use Rattle.executor.specs.History.{HasHistory}
-use Rattle.executor.specs.Open.{IsBadRecord, EachFollows}
+use Rattle.executor.specs.Open.{IsBadRecord}
 use Rattle.executor.specs.declared.manager.OpenFault.{OpenFault}
 use Rattle.executor.specs.declared.manager.OpenFault.TheVariants as opening
-use Rattle.journal_core.specs.Header.{IsUnmade, IsForeign}
+use Rattle.journal_core.specs.Header.{IsUnmade, IsForeign, IsUnfinished}
 use Rattle.journal_core.specs.Load.{SyncsAndReads}
+use Rattle.journal_core.specs.Create.{Creates}
 use Rattle.lcm_api.specs.Answering.{HasOr}
+use Rattle.lcm_api.specs.Hearing.{Hears}
 use Rattle.lcm_api.specs.Mouth.{MouthState}
 use Rattle.lcm_api.specs.Response.{text}
-use Rattle.lcm_api.specs.Serving.{Serving, IsServed, Timed, reply_of}
+use Rattle.lcm_api.specs.Serving.{Serving, IsEnded, IsServed, IsTimed, Timed, reply_of}
 use Rattle.lcm_api.specs.declared.answer.ApiFault.{ApiFault}
 use Rattle.lcm_api.specs.declared.answer.ApiFault.TheVariants as fault
 use Rattle.lcm_api.specs.declared.reply.Reply.{Reply}
 use Rattle.lcm_events.specs.declared.events.Event.{Event}
 use Rattle.lcm_events.specs.declared.states.Role.{Role}
+use Rattle.lcm_model.specs.Allowed.{IsLegal}
 use Rattle.site_traits.specs.Clock.{Gives}
 use Rattle.site_traits.specs.Counts.{Rose}
-use Rattle.site_traits.specs.Door.{DoorState, Comes, ComesNot, NextFault, NoNextFault}
+use Rattle.site_traits.specs.Door.{DoorCounts, DoorState, Comes, ComesNot, NextFault, NoNextFault}
 use Rattle.site_traits.specs.Site.{Pair, SiteState, IsSettled, LeavesOnly}
 use Rattle.site_traits.specs.declared.door.NextAnswer.{NextAnswer}
 use Rattle.site_traits.specs.declared.door.NextAnswer.TheVariants.{Nobody, Ended}
-use Rattle.vnfm_cli.specs.Course.{Course, misused, starved, unopened, opened, Round, unreached, unasked, served, Opening, events_of, result_of, IsOfWords}
+use Rattle.vnfm_cli.specs.Course.{Course, misused, starved, making, unopened, opened, tried, Round, unreached, unasked, served, Onboarding, unready, unheard, cut_off, heard, Opening, events_of, result_of, onboarding_events, onboarding_result, IsOfWords}
+use Rattle.vnfm_cli.specs.Words.{AreInit}
+use Rattle.vnfm_cli.specs.declared.options.Command.{Command}
+use Rattle.vnfm_cli.specs.declared.options.Command.TheVariants.{Init, Onboard, Once}
 
 -- a site that wasn't called: what is read and what a stop may leave are as they were
 pub record IsUntouched (a b : SiteState) : Type 0 where
@@ -57,17 +63,33 @@ IsNoJournal image = IsUnmade image ⊎ ((place : ℕ) × IsForeign place image)
 abbrev pub IsOrYields : ℕ → ℕ → Type 0
 IsOrYields wanted status = (status ≡ wanted) ⊎ ((status ≡ 3) ⊎ (status ≡ 6))
 
--- the same, and each event of the history may follow those before it
+-- the same, and the history is legal
 pub record IsSoundStart (m : ℕ) (H : List Event) (s : SiteState) : Type 0 where
   pub start : IsStart m H s
-  pub follows : EachFollows m H
+  pub legal : IsLegal m H
 
--- what the history keeps of a round's events: none where there was no memory
+-- why the door failed for a command: waiting for a connection failed, or for `onboard` a read did
+abbrev pub IsDoorCause : Command → DoorCounts → DoorCounts → Type 0
+IsDoorCause Onboard a b = Rose a.next b.next ⊎ Rose a.faults b.faults
+IsDoorCause other a b = Rose a.next b.next
+
+-- a sound start of a command: of `init` a file that is unfinished for some manager or not, else a journal with a legal history
+abbrev pub IsStartOf : Command → SiteState → Type 0
+IsStartOf Init s = Unit {0}
+IsStartOf other s = (m : ℕ) × (H : List Event) × IsSoundStart m H s
+
+-- the command may end with this status from a sound start where no call fails
+abbrev pub MayEndWith : Command → ℕ → Type 0
+MayEndWith Init status = (status ≡ 0) ⊎ ((status ≡ 6) ⊎ (status ≡ 11))
+MayEndWith Onboard status = (status ≡ 0) ⊎ ((status ≡ 6) ⊎ ((status ≡ 9) ⊎ (status ≡ 10)))
+MayEndWith Once status = (status ≡ 0) ⊎ (status ≡ 6)
+
+-- what the history keeps of the work's events: none where there was no memory
 abbrev pub kept_of : Result (Unit {0}) ApiFault → List Event → List Event
 kept_of (Err fault.Memory) events = []
 kept_of other events = events
 
--- The journal was opened with this history, and a round was made that has these events. At every moment a stop leaves the
+-- The journal was opened with this history, and work was done that has these events. At every moment a stop leaves the
 -- history, or it and the events; unless the disk failed, nothing is pending, and the file has what the history keeps.
 pub record Recovers (start : Opening) (events : List Event) (result : Result (Unit {0}) ApiFault) (a b : SiteState) : Type 0 where
   pub found : HasHistory start.number start.history a.image
@@ -79,8 +101,10 @@ pub record Recovers (start : Opening) (events : List Event) (result : Result (Un
 abbrev pub AtFile : Course → SiteState → SiteState → Type 0
 AtFile misused a b = IsUntouched a b
 AtFile starved a b = IsUntouched a b
+AtFile (making manager result) a b = Creates manager result a b
 AtFile (unopened why) a b = IsRefused why a b
 AtFile (opened start round) a b = Recovers start (events_of start.number start.history round) (result_of round) a b
+AtFile (tried start onboarding) a b = Recovers start (onboarding_events start.history onboarding) (onboarding_result onboarding) a b
 
 -- the door was asked for a connection, and none came
 pub record IsNobody (a b : DoorState) : Type 0 where
@@ -114,9 +138,37 @@ RoundAtDoor tells start unreached a b = IsUnreached tells a b
 RoundAtDoor tells start unasked a b = tells → IsNobody a.door b.door
 RoundAtDoor tells start (served serving result) a b = IsAttended tells start serving result a b
 
+-- A connection came, these bytes of it were read, up to its end or to one byte more than a descriptor may have, or up to where
+-- a read failed, and it was ended. Nothing was written to it.
+pub record Brings (tells : Type 0) (bytes : List ℕ) (failed : Bool) (a b : MouthState) : Type 0 where
+  pub came : Role
+  pub between : MouthState
+  pub comes : tells → Comes came a.door between.door
+  pub counts : NoNextFault a.counts between.counts
+  pub behind : MouthState
+  pub hears : tells → Hears 1048577 bytes failed between.door behind.door
+  pub broke : failed ≡ true → Rose between.counts.faults behind.counts.faults
+  pub reading : NoNextFault between.counts behind.counts
+  pub ended : IsEnded tells behind b
+  pub silent : tells → b.door.conn.out ≡ []
+
+-- nobody came, and so there are no bytes
+pub record BringsNothing (tells : Type 0) (bytes : List ℕ) (a b : MouthState) : Type 0 where
+  pub none : bytes ≡ []
+  pub nobody : tells → IsNobody a.door b.door
+  pub counts : NoNextFault a.counts b.counts
+
+-- what onboarding does at the door
+abbrev pub OnboardingAtDoor : Type 0 → Onboarding → MouthState → MouthState → Type 0
+OnboardingAtDoor tells unready a b = b ≡ a
+OnboardingAtDoor tells unheard a b = IsUnreached tells a b
+OnboardingAtDoor tells (cut_off bytes) a b = Brings tells bytes true a b
+OnboardingAtDoor tells (heard bytes now result) a b = Brings tells bytes false a b ⊎ BringsNothing tells bytes a b
+
 -- what a run does at the door
 abbrev pub AtDoor : Type 0 → Course → MouthState → MouthState → Type 0
 AtDoor tells (opened start round) a b = RoundAtDoor tells start round a b
+AtDoor tells (tried start onboarding) a b = OnboardingAtDoor tells onboarding a b
 AtDoor tells other a b = b ≡ a
 
 -- the clock was read once
@@ -136,20 +188,27 @@ RoundAtClock unasked old new = IsRead old new
 RoundAtClock (served serving (Err fault.Disk)) old new = Timed serving old new
 RoundAtClock (served serving other) old new = ReadsFor serving old new
 
+-- what onboarding does to the clock: it is read once, where bytes were heard
+abbrev pub OnboardingAtClock : Onboarding → List ℕ → List ℕ → Type 0
+OnboardingAtClock (heard bytes now result) old new = IsTimed now old new
+OnboardingAtClock other old new = new ≡ old
+
 -- what a run does to the clock
 abbrev pub AtClock : Course → List ℕ → List ℕ → Type 0
 AtClock (opened start round) old new = RoundAtClock round old new
+AtClock (tried start onboarding) old new = OnboardingAtClock onboarding old new
 AtClock other old new = new ≡ old
 
--- each event of the history may follow those before it, and so may those that the round has
+-- the history is legal, and stays so with the events that the work has
 pub record IsLegalRun (start : Opening) (events : List Event) : Type 0 where
   pub number : start.number < 4294967296
-  pub before : EachFollows start.number start.history
-  pub after : EachFollows start.number (events ++ start.history)
+  pub before : IsLegal start.number start.history
+  pub after : IsLegal start.number (events ++ start.history)
 
 -- what was opened is a legal history, and stays one
 abbrev pub IsLegalCourse : Course → Type 0
 IsLegalCourse (opened start round) = IsLegalRun start (events_of start.number start.history round)
+IsLegalCourse (tried start onboarding) = IsLegalRun start (onboarding_events start.history onboarding)
 IsLegalCourse other = Unit {0}
 
 -- what a run does, by the way that it went

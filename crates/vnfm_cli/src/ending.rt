@@ -1,21 +1,27 @@
 //! How a run ends: its status, and the line that it prints.
-ghost use Rattle.std.specs.Prelude.{◌≡◌, ◌≤◌, ◌==◌, ◌++◌, ◌∷◌, [], decimal, length, if◌then◌else◌};
-ghost use Rattle.vnfm_cli.specs.Ending.{Ends, line_of, status_of};
+ghost use Rattle.std.specs.Prelude.{◌≡◌, ◌≤◌, ◌==◌, ◌++◌, ◌∷◌, [], codes, decimal, length, if◌then◌else◌};
+ghost use Rattle.site_traits.specs.Sink.{Puts, SinkCause};
+ghost use Rattle.vnfm_cli.specs.Ending.{Ends, full_line, line_of, numbered_line, status_of};
 
 use arrayvec::ArrayString;
 use itoa::Buffer;
-use site_traits::Sink;
+use site_traits::{Sink, SinkFailed};
+use vnfm_base::Text;
 
 /// How a run ended.
-#[derive(Clone, Copy, Debug, PartialEq, Eq)]
+#[derive(Debug, Drop)]
 pub enum Ending {
     /// The command did its work.
     Done,
+    /// A journal was made for this manager.
+    Made(u32),
+    /// A descriptor was onboarded, of which this is the line.
+    Onboarded(Text),
     /// The words are no command.
     Usage,
     /// A disk call failed.
     SiteFault,
-    /// Waiting for a connection failed.
+    /// Waiting for a connection failed, or a read of a descriptor did.
     DoorFault,
     /// The journal's file is unfinished.
     NoJournal,
@@ -23,17 +29,30 @@ pub enum Ending {
     NotAJournal(u64),
     /// There is no memory.
     NoMemory,
-    /// This record of the journal, from 1, is broken, is no event, or may not follow those before it.
+    /// This record of the journal, from 1, is broken, is no event, or isn't allowed after those before it.
     BadRecord(u64),
+    /// The journal has no room.
+    JournalFull {
+        /// The place of its end, in bytes.
+        end: u64,
+        /// The bytes that were to be added.
+        more: u32,
+    },
+    /// A descriptor was refused, of which this is the line.
+    DescriptorRefused(Text),
+    /// The file isn't unfinished for the manager for which a journal was to be made.
+    Taken,
 }
 
 impl Ending {
     /// The program's status.
-    pub fn status(self) -> u8
-        ensures { result ≡ status_of self }
+    pub fn status(&self) -> u8
+        ensures { result ≡ status_of self.now }
     {
         match self {
             Ending::Done => 0,
+            Ending::Made(_) => 0,
+            Ending::Onboarded(_) => 0,
             Ending::Usage => 2,
             Ending::SiteFault => 3,
             Ending::DoorFault => 4,
@@ -41,33 +60,62 @@ impl Ending {
             Ending::NotAJournal(_) => 5,
             Ending::NoMemory => 6,
             Ending::BadRecord(_) => 8,
+            Ending::JournalFull { .. } => 9,
+            Ending::DescriptorRefused(_) => 10,
+            Ending::Taken => 11,
         }
     }
 
-    /// The line that is printed, with its line feed.
-    fn line(self) -> ArrayString<64>
-        ensures { result.bytes ≡ line_of self }
+    /// Puts the line, with its line feed.
+    fn put<W: Sink>(&self, out: &mut W) -> Result<(), SinkFailed>
+        ensures told { W.tells → Puts (line_of self.now) result (W.state out.old) (W.state out.new) }
+        ensures cause { SinkCause (W.counts out.old) (W.counts out.new) result }
     {
         match self {
-            Ending::Done => plain("done after 1 rounds\n"),
-            Ending::Usage => plain("usage: vnfm init|onboard|once|serve|check|trial\n"),
-            Ending::SiteFault => plain("site fault\n"),
-            Ending::DoorFault => plain("door fault\n"),
-            Ending::NoJournal => plain("no journal\n"),
-            Ending::NotAJournal(place) => numbered("not a journal: byte ", place),
-            Ending::NoMemory => plain("no memory\n"),
-            Ending::BadRecord(n) => numbered("bad record ", n),
+            Ending::Done => out.put(b"done after 1 rounds\n"),
+            Ending::Made(manager) => { out.put(made_line(*manager).as_str().as_bytes()) }
+            Ending::Onboarded(line) => out.put(line.as_bytes()),
+            Ending::Usage => out.put(b"usage: vnfm init|onboard|once|serve|check|trial\n"),
+            Ending::SiteFault => out.put(b"site fault\n"),
+            Ending::DoorFault => out.put(b"door fault\n"),
+            Ending::NoJournal => out.put(b"no journal\n"),
+            Ending::NotAJournal(place) => {
+                out.put(numbered("not a journal: byte ", *place).as_str().as_bytes())
+            }
+            Ending::NoMemory => out.put(b"no memory\n"),
+            Ending::BadRecord(n) => out.put(numbered("bad record ", *n).as_str().as_bytes()),
+            Ending::JournalFull { end, more } => {
+                out.put(full_line(*end, *more).as_str().as_bytes())
+            }
+            Ending::DescriptorRefused(line) => out.put(line.as_bytes()),
+            Ending::Taken => out.put(b"taken\n"),
         }
     }
 }
 
-/// A line that is this text.
-fn plain(text: &str) -> ArrayString<64>
-    requires { length text.now ≤ 64 }
-    ensures { result.bytes ≡ text.now }
+/// The line of a journal that was made.
+fn made_line(manager: u32) -> ArrayString<64>
+    ensures { result.bytes ≡ numbered_line (codes "journal made for manager ") manager }
 {
+    let mut digits = Buffer::new();
     let mut line = ArrayString::new();
-    line.push_str(text);
+    line.push_str("journal made for manager ");
+    line.push_str(digits.format(manager));
+    line.push_str("\n");
+    line
+}
+
+/// The line of a journal that has no room.
+fn full_line(end: u64, more: u32) -> ArrayString<64>
+    ensures { result.bytes ≡ full_line end more }
+{
+    let mut digits = Buffer::new();
+    let mut line = ArrayString::new();
+    line.push_str("journal full: ");
+    line.push_str(digits.format(end));
+    line.push_str(" + ");
+    line.push_str(digits.format(more));
+    line.push_str(" bytes\n");
     line
 }
 
@@ -88,10 +136,10 @@ fn numbered(text: &str, number: u64) -> ArrayString<64>
 pub fn finish<W: Sink>(ending: Ending, out: &mut W) -> u8
     ensures { Ends W.tells ending result (W.state out.old) (W.state out.new) (W.counts out.old) (W.counts out.new) }
 {
-    let line = ending.line();
-    match out.put(line.as_str().as_bytes()) {
-        Ok(()) => ending.status(),
-        Err(_) => unheard(ending.status()),
+    let status = ending.status();
+    match ending.put(out) {
+        Ok(()) => status,
+        Err(_) => unheard(status),
     }
 }
 

@@ -1,11 +1,14 @@
 //! The commands of the program, and its top call.
 #![tactic(auto)]
 
+mod descriptor;
 mod ending;
+mod onboard;
 mod options;
 mod top;
 mod words;
 
+pub use descriptor::DescriptorRefusal;
 pub use ending::Ending;
 pub use options::{Command, Settings, SettingsFault};
 pub use top::run;

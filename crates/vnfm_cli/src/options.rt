@@ -6,6 +6,10 @@ use vnfm_base::Text;
 /// A command.
 #[derive(Clone, Copy, Debug, PartialEq, Eq)]
 pub enum Command {
+    /// Makes a journal.
+    Init,
+    /// Onboards the descriptor on standard input.
+    Onboard,
     /// Answers the request on standard input.
     Once,
 }

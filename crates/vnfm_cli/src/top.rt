@@ -1,19 +1,26 @@
 //! The top call: one command over the objects that it is handed.
-ghost use Rattle.std.specs.Prelude.{◌≡◌, ◌⊎◌, ◌↔◌, ℕ, List, None, false};
+ghost use Rattle.std.specs.Prelude.{◌≡◌, ◌≢◌, ◌⊎◌, ◌↔◌, ℕ, List, None, false, Result};
 ghost use Rattle.executor.specs.Managed.{StandsFor};
 ghost use Rattle.executor.specs.Open.{IsBadRecord};
+ghost use Rattle.journal_core.specs.Create.{Creates, IsMade};
+ghost use Rattle.journal_core.specs.Header.{IsUnfinished};
+ghost use Rattle.journal_core.specs.declared.create.CreateFault.{CreateFault};
 ghost use Rattle.lcm_events.specs.declared.events.Event.{Event};
 ghost use Rattle.site_traits.specs.Counts.{Rose};
-ghost use Rattle.vnfm_cli.specs.Course.{Course, Round, ending_of, round_ending, unopened_ending};
+ghost use Rattle.vnfm_cli.specs.Course.{Course, Round, IsOf, ending_of, making_ending, round_ending, unopened_ending};
 ghost use Rattle.vnfm_cli.specs.Ending.{Ends, IsStatus};
-ghost use Rattle.vnfm_cli.specs.Runs.{Does, IsNoJournal, IsOrYields, IsRead, IsSoundStart, Runs};
-ghost use Rattle.vnfm_cli.specs.Rounds.{IsForRole, MakesRound};
-ghost use Rattle.vnfm_cli.specs.Words.{IsCommand, settings_of};
+ghost use Rattle.vnfm_cli.specs.Runs.{Does, IsDoorCause, IsNoJournal, IsOrYields, IsRead, IsStartOf, MayEndWith, Runs};
+ghost use Rattle.vnfm_cli.specs.Rounds.{MakesRound};
+ghost use Rattle.vnfm_cli.specs.Words.{AreInit, AreLoading, AreWordsOf, settings_of};
+ghost use Rattle.vnfm_cli.specs.declared.options.Command.{Command};
+ghost use Rattle.vnfm_cli.specs.declared.options.Command.TheVariants.{Onboard, Once};
 
 use crate::ending::{Ending, finish};
-use crate::options::SettingsFault;
+use crate::onboard::onboard;
+use crate::options::{Command, Settings, SettingsFault};
 use crate::words::settings;
 use executor::{Manager, OpenFault};
+use journal_core::{CreateFault, Journal};
 use lcm_api::{ApiFault, Mouth, answer_session};
 use lcm_events::Role;
 use site_traits::{Clock, Courier, Door, NextAnswer, Orchestrator, Sink, Site};
@@ -22,11 +29,17 @@ use vnfm_base::Text;
 
 /// Obeys the words, and gives the program's status. One line is put to `out` but for a failed put.
 ///
-/// The words are `once --journal PATH`: the journal is opened, one connection of the door is served, and the clock is read
-/// once for its request and once for the round. The orchestrator and the courier aren't asked yet.
+/// The words are a command:
+/// - `init --journal PATH --manager N` makes the journal of manager N.
+/// - `onboard --journal PATH` opens the journal, reads the door's first connection, then the clock, and records the descriptor.
+/// - `once --journal PATH` opens the journal, serves one connection of the door, and reads the clock once for its request and
+///   once for the round.
+///
+/// The orchestrator and the courier aren't asked yet.
 /// Statuses: 0 the command did its work; 2 the words are no command; 3 a disk call failed; 4 waiting for a connection
-/// failed; 5 the file is no journal; 6 there is no memory; 7 the line of status 0 couldn't be put; 8 a record is bad.
-/// After 2, 5 and 8, and after 6, the file is as it was.
+/// failed, or a read of a descriptor; 5 the file is no journal; 6 there is no memory; 7 the line of status 0 couldn't be put; 8 a
+/// record is bad; 9 the journal has no room for the descriptor; 10 the descriptor is refused; 11 the file isn't unfinished for the
+/// manager of `init`. After 2, 4, 5, 8, 9, 10 and 11, and after 6, the file is as it was.
 /// Source: SOL 003 clause 5; words, statuses and lines are an own rule, docs/FORMATS.md.
 pub fn run<S: Site, D: Door, O: Orchestrator, C: Courier, K: Clock, W: Sink>(
     alloc: Global,
@@ -44,16 +57,21 @@ pub fn run<S: Site, D: Door, O: Orchestrator, C: Courier, K: Clock, W: Sink>(
     ensures posts_none { courier.new ≡ courier.old }
     ensures usage { (result ≡ 2) ↔ (settings_of words.now ≡ None) }
     ensures site { result ≡ 3 → Rose (S.counts site.old).disk (S.counts site.new).disk }
-    ensures door { result ≡ 4 → Rose mouth.old.counts.next mouth.new.counts.next }
+    ensures door { result ≡ 4 → Rose mouth.old.counts.next mouth.new.counts.next ⊎ (AreWordsOf Onboard words.now × Rose mouth.old.counts.faults mouth.new.counts.faults) }
     ensures sink { result ≡ 7 → Rose (W.counts out.old) (W.counts out.new) }
     ensures journal { S.tells → result ≡ 5 → IsNoJournal (S.state site.old).image }
-    ensures no_journal { S.tells → IsCommand words.now → IsNoJournal (S.state site.old).image → IsOrYields 5 result }
+    ensures no_journal { S.tells → AreLoading words.now → IsNoJournal (S.state site.old).image → IsOrYields 5 result }
     ensures record { S.tells → result ≡ 8 → (n : ℕ) × IsBadRecord n (S.state site.old).image }
-    ensures bad_record { S.tells → IsCommand words.now → (n : ℕ) → IsBadRecord n (S.state site.old).image → IsOrYields 8 result }
+    ensures bad_record { S.tells → AreLoading words.now → (n : ℕ) → IsBadRecord n (S.state site.old).image → IsOrYields 8 result }
+    ensures full { result ≡ 9 → AreWordsOf Onboard words.now }
+    ensures refused { result ≡ 10 → AreWordsOf Onboard words.now }
+    ensures taken { S.tells → result ≡ 11 → (m : ℕ) × AreInit m words.now × ¬ (IsUnfinished m (S.state site.old).image) }
+    ensures is_taken { S.tells → (m : ℕ) → AreInit m words.now → ¬ (IsUnfinished m (S.state site.old).image) → IsOrYields 11 result }
+    ensures made { S.tells → (m : ℕ) → AreInit m words.now → (result ≡ 0) ⊎ (result ≡ 7) → IsMade m (S.state site.new) }
     ensures only { IsStatus result }
-    ensures complete { S.tells → (m : ℕ) (H : List Event) → IsSoundStart m H (S.state site.old) → IsCommand words.now
-        → ¬ (Rose (S.counts site.old).disk (S.counts site.new).disk) → ¬ (Rose mouth.old.counts.next mouth.new.counts.next)
-        → ¬ (Rose (W.counts out.old) (W.counts out.new)) → (result ≡ 0) ⊎ (result ≡ 6) }
+    ensures complete { S.tells → (command : Command) → AreWordsOf command words.now → IsStartOf command (S.state site.old)
+        → ¬ (Rose (S.counts site.old).disk (S.counts site.new).disk) → ¬ (IsDoorCause command mouth.old.counts mouth.new.counts)
+        → ¬ (Rose (W.counts out.old) (W.counts out.new)) → MayEndWith command result }
 {
     let ending = obey(alloc, words, site, mouth, clock);
     finish(ending, out)
@@ -71,12 +89,65 @@ fn obey<S: Site, D: Door, K: Clock>(
         × (result ≡ ending_of course) }
     ensures usage { (result ≡ Ending.Usage) ↔ (settings_of words.now ≡ None) }
     ensures disk { result ≡ Ending.SiteFault → Rose (S.counts site.old).disk (S.counts site.new).disk }
-    ensures door { result ≡ Ending.DoorFault → Rose mouth.old.counts.next mouth.new.counts.next }
+    ensures door { result ≡ Ending.DoorFault → Rose mouth.old.counts.next mouth.new.counts.next ⊎ (AreWordsOf Onboard words.now × Rose mouth.old.counts.faults mouth.new.counts.faults) }
 {
     match settings(alloc, words) {
-        Ok(settings) => once(alloc, settings.role, site, mouth, clock),
+        Ok(settings) => perform(alloc, &settings, site, mouth, clock),
         Err(SettingsFault::Usage) => Ending::Usage,
         Err(SettingsFault::Memory) => Ending::NoMemory,
+    }
+}
+
+/// Performs the command.
+fn perform<S: Site, D: Door, K: Clock>(
+    alloc: Global,
+    settings: &Settings,
+    site: &mut S,
+    mouth: &mut Mouth<D>,
+    clock: &mut K,
+) -> Ending
+    ensures does { (course : Course) × IsOf settings.now.command settings.now.manager settings.now.role course
+        × Does S.tells D.tells K.tells course (S.state site.old) (S.state site.new) mouth.old mouth.new (K.state clock.old) (K.state clock.new)
+        × (result ≡ ending_of course) }
+    ensures disk { result ≡ Ending.SiteFault → Rose (S.counts site.old).disk (S.counts site.new).disk }
+    ensures door { result ≡ Ending.DoorFault → IsDoorCause settings.now.command mouth.old.counts mouth.new.counts }
+{
+    match settings.command {
+        Command::Init => init(settings.manager, site),
+        Command::Onboard => bring_in(alloc, settings.role, site, mouth, clock),
+        Command::Once => once(alloc, settings.role, site, mouth, clock),
+    }
+}
+
+/// Makes the journal of this manager.
+fn init<S: Site>(manager: u32, site: &mut S) -> Ending
+    ensures makes { (making : Result (Unit {0}) CreateFault) × (S.tells → Creates manager making (S.state site.old) (S.state site.new)) × (result ≡ making_ending manager making) }
+    ensures disk { result ≡ Ending.SiteFault → Rose (S.counts site.old).disk (S.counts site.new).disk }
+    ensures door { result ≢ Ending.DoorFault }
+{
+    match Journal::create(site, manager) {
+        Ok(()) => Ending::Made(manager),
+        Err(CreateFault::Taken) => Ending::Taken,
+        Err(CreateFault::Disk) => Ending::SiteFault,
+    }
+}
+
+/// Opens the journal, and onboards a descriptor.
+fn bring_in<S: Site, D: Door, K: Clock>(
+    alloc: Global,
+    role: Role,
+    site: &mut S,
+    mouth: &mut Mouth<D>,
+    clock: &mut K,
+) -> Ending
+    ensures does { (course : Course) × IsOf Onboard 0 role course × Does S.tells D.tells K.tells course (S.state site.old) (S.state site.new) mouth.old mouth.new (K.state clock.old) (K.state clock.new)
+        × (result ≡ ending_of course) }
+    ensures disk { result ≡ Ending.SiteFault → Rose (S.counts site.old).disk (S.counts site.new).disk }
+    ensures door { result ≡ Ending.DoorFault → IsDoorCause Onboard mouth.old.counts mouth.new.counts }
+{
+    match Manager::load(alloc, site) {
+        Ok(mut manager) => onboard(alloc, &mut manager, site, mouth, clock),
+        Err(fault) => unopened(fault),
     }
 }
 
@@ -88,7 +159,7 @@ fn once<S: Site, D: Door, K: Clock>(
     mouth: &mut Mouth<D>,
     clock: &mut K,
 ) -> Ending
-    ensures does { (course : Course) × IsForRole role course × Does S.tells D.tells K.tells course (S.state site.old) (S.state site.new) mouth.old mouth.new (K.state clock.old) (K.state clock.new)
+    ensures does { (course : Course) × IsOf Once 0 role course × Does S.tells D.tells K.tells course (S.state site.old) (S.state site.new) mouth.old mouth.new (K.state clock.old) (K.state clock.new)
         × (result ≡ ending_of course) }
     ensures disk { result ≡ Ending.SiteFault → Rose (S.counts site.old).disk (S.counts site.new).disk }
     ensures door { result ≡ Ending.DoorFault → Rose mouth.old.counts.next mouth.new.counts.next }

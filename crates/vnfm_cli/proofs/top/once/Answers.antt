@@ -10,7 +10,7 @@ returns-in-Ok-clause-does g c =
     let made = c.make_round.ensures.makes in (
       opened (opening_of c.args.role c.in-Ok.manager) made.0,
       refl,
-      does_round _ _ _ c.args.role made.0 c.in-Ok.manager _ _ _ _ _ _ _ _ c.in-Ok.ensures.number c.in-Ok.ensures.follows c.in-Ok.ensures.told c.in-Ok.ensures.opens made.1,
+      does_round _ _ _ c.args.role made.0 c.in-Ok.manager _ _ _ _ _ _ _ _ c.in-Ok.ensures.number c.in-Ok.ensures.usable.1.legal c.in-Ok.ensures.told c.in-Ok.ensures.opens made.1,
       made.2,
     )
 

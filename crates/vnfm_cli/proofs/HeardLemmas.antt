@@ -1,0 +1,105 @@
+-- What onboarding does, by what was heard at the door.
+use Rattle.std.proofs.Common.{◌≡◌, ◌≢◌, ◌≤◌, ◌⊎◌, ◌++◌, ℕ, List, [], length, take, min, Bool, true, false, Option, Result, Ok, Err, refl, sym, ◌∙◌, ap, inl, inr, ⊎_elim}
+use Rattle.std.specs.Prelude.{IfOk}
+use Rattle.executor.specs.Managed.{Managed, StandsFor}
+use Rattle.lcm_api.specs.Mouth.{MouthState}
+use Rattle.lcm_api.specs.Serving.{AtSite, Follows}
+use Rattle.lcm_api.specs.declared.answer.ApiFault.{ApiFault}
+use Rattle.lcm_api.specs.declared.answer.ApiFault.TheVariants as fault
+use Rattle.lcm_events.specs.declared.events.Event.{Event}
+use Rattle.site_traits.specs.Clock.{Gives}
+use Rattle.site_traits.specs.Site.{SiteState}
+use Rattle.vnfm_cli.specs.Course.{Onboarding, unready, unheard, cut_off, heard, judged_ending, onboarding_ending, verdict_ending}
+use Rattle.vnfm_cli.specs.Judging.{HearsDescriptor, IsEndingOf, work_of}
+use Rattle.vnfm_cli.specs.Onboarding.{Verdict, refused, full, accepted, onboarded, verdict}
+use Rattle.vnfm_cli.specs.Rounds.{Onboards}
+use Rattle.vnfm_cli.specs.declared.ending.Ending.{Ending}
+use Rattle.vnfm_cli.specs.declared.ending.Ending.TheVariants.{DoorFault, NoMemory, SiteFault}
+use Rattle.vnfm_cli.specs.declared.onboard.Unheard.{Unheard}
+use Rattle.vnfm_cli.specs.declared.onboard.Unheard.TheVariants.{Waiting, Reading}
+use Rattle.vnfm_cli.proofs.OnboardLemmas.{unchanged}
+
+-- how the run ends, by what the work on the journal answered
+ending_is : (v : Verdict) (answer : Result Ending ApiFault) (ending : Ending) → IfOk answer (λ e. e ≡ verdict_ending v) → IsEndingOf answer ending → ending ≡ judged_ending v (work_of answer)
+ending_is v (Ok e) ending told is = is ∙ told
+ending_is v (Err fault.Disk) ending told is = is
+ending_is v (Err fault.Memory) ending told is = is
+
+-- bytes were heard, judged and recorded
+pub onboards_heard : (S D K : Type 0) (m n : Managed) (count now value : ℕ) (room : List ℕ) (answer : Result Ending ApiFault) (ending : Ending) (a b : SiteState) (c d : MouthState) (ks ls : List ℕ)
+    → HearsDescriptor D (Ok count) room c d
+    → IfOk answer (λ e. e ≡ verdict_ending (verdict m.history now (take count room)))
+    → Follows (onboarded now (verdict m.history now (take count room))) (work_of answer) m n → n.ledger.manager ≡ m.ledger.manager
+    → (S → AtSite (onboarded now (verdict m.history now (take count room))) (work_of answer) m n a b)
+    → (K → Gives value ks ls) → now ≡ min value 253402300799999 → IsEndingOf answer ending
+    → (onboarding : Onboarding) × Onboards S D K onboarding m n a b c d ks ls × (ending ≡ onboarding_ending m.history onboarding)
+onboards_heard S D K m n count now value room answer ending a b c d ks ls hears told follows number site gives moment is = (
+  heard (take count room) now (work_of answer),
+  record {
+    managed = follows;
+    number = number;
+    site = site;
+    door = hears;
+    clock = λ tells. record { value = value; gives = gives tells; moment_is = moment };
+  },
+  ending_is (verdict m.history now (take count room)) answer ending told is,
+)
+
+-- nothing was heard
+pub onboards_unheard : (S D K : Type 0) (m : Managed) (why : Unheard) (room : List ℕ) (a : SiteState) (c d : MouthState) (ks : List ℕ)
+    → HearsDescriptor D (Err why) room c d → m.ledger.closed ≡ false → (S → StandsFor m a)
+    → (onboarding : Onboarding) × Onboards S D K onboarding m m a a c d ks ks × (DoorFault ≡ onboarding_ending m.history onboarding)
+onboards_unheard S D K m Waiting room a c d ks hears usable stands = (
+  unheard,
+  record { managed = (refl, usable); number = refl; site = λ tells. unchanged [] (Ok tt) m m a a (stands tells) refl refl; door = hears; clock = λ tells. refl },
+  refl,
+)
+onboards_unheard S D K m Reading room a c d ks hears usable stands = (
+  cut_off hears.0,
+  record { managed = (refl, usable); number = refl; site = λ tells. unchanged [] (Ok tt) m m a a (stands tells) refl refl; door = hears.1; clock = λ tells. refl },
+  refl,
+)
+
+-- there was no memory to read into
+pub onboards_unready : (S D K : Type 0) (m : Managed) (a : SiteState) (c : MouthState) (ks : List ℕ) → m.ledger.closed ≡ false → (S → StandsFor m a)
+    → (onboarding : Onboarding) × Onboards S D K onboarding m m a a c c ks ks × (NoMemory ≡ onboarding_ending m.history onboarding)
+onboards_unready S D K m a c ks usable stands = (
+  unready,
+  record { managed = (refl, usable); number = refl; site = λ tells. unchanged [] (Ok tt) m m a a (stands tells) refl refl; door = refl; clock = λ tells. refl },
+  refl,
+)
+
+-- a descriptor that was judged ends with no fault
+no_fault : (v : Verdict) (e : Ending) → e ≡ verdict_ending v → (e ≡ SiteFault) ⊎ (e ≡ DoorFault) → ⊥
+no_fault v e is fault = ⊎_elim
+    (λ (site : e ≡ SiteFault). site_never v (sym is ∙ site))
+    (λ (door : e ≡ DoorFault). door_never v (sym is ∙ door))
+    fault
+  where
+    site_never : (v : Verdict) → verdict_ending v ≡ SiteFault → ⊥
+    site_never (refused why) is = cc
+    site_never (full end more) is = cc
+    site_never (accepted vnfd) is = cc
+
+    door_never : (v : Verdict) → verdict_ending v ≡ DoorFault → ⊥
+    door_never (refused why) is = cc
+    door_never (full end more) is = cc
+    door_never (accepted vnfd) is = cc
+
+-- a site fault is told only where the disk failed
+pub site_told : (v : Verdict) (answer : Result Ending ApiFault) (ending : Ending) → IfOk answer (λ e. e ≡ verdict_ending v) → IsEndingOf answer ending → ending ≡ SiteFault
+    → answer ≡ Err fault.Disk
+site_told v (Ok e) ending told is site = absurd (no_fault v e told (inl (sym is ∙ site)))
+site_told v (Err fault.Disk) ending told is site = refl
+site_told v (Err fault.Memory) ending told is site = let no : NoMemory ≡ SiteFault = sym is ∙ site in let never : ⊥ = cc in absurd never
+
+-- and a door fault never
+pub door_untold : (v : Verdict) (answer : Result Ending ApiFault) (ending : Ending) → IfOk answer (λ e. e ≡ verdict_ending v) → IsEndingOf answer ending → ending ≡ DoorFault → ⊥
+door_untold v (Ok e) ending told is door = no_fault v e told (inr (sym is ∙ door))
+door_untold v (Err fault.Disk) ending told is door = let no : SiteFault ≡ DoorFault = sym is ∙ door in cc
+door_untold v (Err fault.Memory) ending told is door = let no : NoMemory ≡ DoorFault = sym is ∙ door in cc
+
+-- why nothing was heard
+pub unheard_cause : (A B : Type 0) (why : Unheard) (result : Result ℕ Unheard) → result ≡ Err why → (result ≡ Err Waiting → A) → (result ≡ Err Reading → B) → A ⊎ B
+unheard_cause A B Waiting result is waiting reading = inl (waiting is)
+unheard_cause A B Reading result is waiting reading = inr (reading is)
