@@ -21,3 +21,8 @@ bytes_of() { # FILE
 
 # The program is built before anything is looked at.
 "$here/vnfm" --version || exit 1
+
+# A journal of manager 7 in which the descriptor of the examples was onboarded, as the program makes it.
+start=$room/start
+"$here/vnfm" init --journal "$start" --manager 7 >/dev/null || exit 1
+"$here/vnfm" onboard --journal "$start" <"$here/examples/vnfd.json" >/dev/null || exit 1

@@ -25,10 +25,10 @@ try() { # WHAT PATH STATUS LINE
     expect "$1, answer" "$(cat "$room/out")" ""
 }
 
-cp "$here/examples/journal" "$files/read_only"
+cp "$start" "$files/read_only"
 chmod 444 "$files/read_only"
 try "a read-only file" "$files/read_only" 3 "site fault"
-expect "a read-only file, bytes that differ" "$(cmp "$here/examples/journal" "$files/read_only" 2>&1)" ""
+expect "a read-only file, bytes that differ" "$(cmp "$start" "$files/read_only" 2>&1)" ""
 
 mkdir "$files/folder"
 try "a folder" "$files/folder" 3 "site fault"

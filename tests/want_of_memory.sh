@@ -31,30 +31,47 @@ int posix_memalign(void **to, size_t align, size_t size) {
 END
 cc -shared -fPIC -O1 -o "$room/fail.so" "$room/fail.c" || exit 1
 
-# What a run does in which this allocation fails.
-run_failing() { # NUMBER
-    cp "$here/examples/journal" "$room/journal"
-    FAIL_AT=$1 LD_PRELOAD=$room/fail.so "$here/.build/vnfm" once --journal "$room/journal" \
-        <"$request" >"$room/out" 2>"$room/err"
-    echo "status $?, $(tail -n 1 "$room/err"), $(head -n 1 "$room/out" | tr -d '\r'), $(bytes_of "$room/journal") bytes"
+# What a command does in which this allocation fails: its status, its line, the status line of its answer, and the length of
+# the journal, which begins as a copy of another.
+run_failing() { # NUMBER JOURNAL INPUT COMMAND [OPTION VALUE]
+    number=$1
+    cp "$2" "$room/journal"
+    input=$3
+    shift 3
+    command=$1
+    shift
+    FAIL_AT=$number LD_PRELOAD=$room/fail.so "$here/.build/vnfm" "$command" --journal "$room/journal" "$@" \
+        <"$input" >"$room/out" 2>"$room/err"
+    echo "status $?, $(cat "$room/err" "$room/out" | tr -d '\r' | grep -E '^(HTTP|done|no memory|journal made|onboarded)' | sort | tr '\n' ',')" \
+        "$(bytes_of "$room/journal") bytes"
 }
 
-starved="status 6, no memory, , 33 bytes"
-unavailable="status 0, done after 1 rounds, HTTP/1.1 503 Service Unavailable, 33 bytes"
-created="status 0, done after 1 rounds, HTTP/1.1 201 Created, 71 bytes"
+# Fails each allocation of a command in turn, until one run isn't touched any more.
+fail_each() { # WHAT DONE STARVED UNAVAILABLE JOURNAL INPUT COMMAND [OPTION VALUE]
+    what=$1
+    done=$2
+    starved=$3
+    unavailable=$4
+    shift 4
+    count=1
+    while seen=$(run_failing "$count" "$@"); [ "$seen" != "$done" ] && [ "$count" -lt 1000 ]; do
+        if [ "$seen" != "$starved" ] && [ "$seen" != "$unavailable" ]; then
+            expect "$what, allocation $count" "$seen" "$starved, or $unavailable"
+        fi
+        count=$((count + 1))
+    done
+    expect "$what, behind the last allocation" "$seen" "$done"
+    echo "$what, allocations that failed in turn: $((count - 1))"
+    [ "$count" -gt 1 ] || differs=1
+}
 
-# Once a run isn't touched any more, every allocation has failed once.
-number=1
-refused=0
-while seen=$(run_failing "$number"); [ "$seen" != "$created" ] && [ "$number" -lt 1000 ]; do
-    if [ "$seen" != "$starved" ] && [ "$seen" != "$unavailable" ]; then
-        expect "allocation $number" "$seen" "$starved, or $unavailable"
-    fi
-    refused=$((refused + 1))
-    number=$((number + 1))
-done
-expect "behind the last allocation" "$seen" "$created"
-echo "allocations that failed in turn: $refused"
-[ "$refused" -gt 0 ] || differs=1
+: >"$room/empty"
+"$here/vnfm" init --journal "$room/made" --manager 7 >/dev/null || exit 1
+fail_each init "status 0, journal made for manager 7, 33 bytes" "status 6, no memory, 0 bytes" "" \
+    "$room/empty" /dev/null init --manager 7
+fail_each onboard "status 0, onboarded vnfd-1: 2 vdus, 1 aspects, 2 levels, 294 bytes" "status 6, no memory, 33 bytes" "" \
+    "$room/made" "$here/examples/vnfd.json" onboard
+fail_each once "status 0, HTTP/1.1 201 Created,done after 1 rounds, 332 bytes" "status 6, no memory, 294 bytes" \
+    "status 0, HTTP/1.1 503 Service Unavailable,done after 1 rounds, 294 bytes" "$start" "$request" once
 
 exit "$differs"

@@ -1,4 +1,4 @@
-//! A house in memory, in which `once` is run, and what a run did there.
+//! A house in memory, in which commands are run, and what a run did there.
 use lcm_api::Mouth;
 use lcm_events::Role;
 use site_traits::{
@@ -14,7 +14,20 @@ pub const MADE: [u8; 33] = [
     0, 0, 0, 0,
 ];
 
-/// A request that creates an instance.
+/// The same with one record: a descriptor `vnfd-1` without a machine was onboarded.
+pub const JOURNAL: [u8; 111] = [
+    86, 78, 70, 77, 45, 76, 67, 77, 1, 0, 0, 0, 7, 0, 0, 0, 0, 0, 0, 0, 0, 0, 0, 0, 0, 0, 0, 0, 0,
+    0, 0, 0, 1, 0, 0, 0, 73, 1, 0, 0, 1, 139, 207, 229, 104, 0, 6, 118, 110, 102, 100, 45, 49, 7,
+    69, 120, 97, 109, 112, 108, 101, 11, 69, 100, 103, 101, 32, 82, 111, 117, 116, 101, 114, 3, 49,
+    46, 48, 3, 49, 46, 48, 6, 115, 105, 109, 112, 108, 101, 0, 0, 0, 0, 0, 0, 0, 0, 0, 0, 0, 1, 7,
+    100, 101, 102, 97, 117, 108, 116, 0, 0, 0,
+];
+
+/// That descriptor's document.
+pub const DESCRIPTOR: &[u8] =
+    b"{\"topology_template\":{\"node_templates\":{\"VNF\":{\"type\":\"example.Vnf\",\"properties\":{\"descriptor_id\":\"vnfd-1\",\"provider\":\"Example\",\"product_name\":\"Edge Router\",\"software_version\":\"1.0\",\"descriptor_version\":\"1.0\",\"flavour_id\":\"simple\"}}}}}";
+
+/// A request that creates an instance of it.
 pub const CREATE: &[u8] =
     b"POST /vnflcm/v1/vnf_instances HTTP/1.1\r\nHost: vnfm.example\r\nContent-Type: application/json\r\nContent-Length: 46\r\n\r\n{\"vnfdId\":\"vnfd-1\",\"vnfInstanceName\":\"edge-1\"}";
 
@@ -105,6 +118,19 @@ pub fn run_over(
         ended: conn.is_hung_up(),
         clock: clock.calls(),
     })
+}
+
+/// Runs `init` for manager 7 over this site.
+pub fn init(alloc: Global, site: &mut MemSite) -> Result<Ran, AllocError> {
+    let words = words_of(alloc, &["init", "--journal", "j", "--manager", "7"])?;
+    run_over(alloc, &words, site, Vec::new(alloc), None)
+}
+
+/// Runs `onboard` over this site, for a connection with these bytes.
+pub fn onboard(alloc: Global, site: &mut MemSite, bytes: &[u8]) -> Result<Ran, AllocError> {
+    let words = words_of(alloc, &["onboard", "--journal", "j"])?;
+    let door = door_of(alloc, bytes)?;
+    run_over(alloc, &words, site, door, None)
 }
 
 /// Runs `once` over this site, for a connection with these bytes.

@@ -6,6 +6,8 @@ mod house;
 #[cfg(test)]
 mod limits;
 #[cfg(test)]
+mod onboarding;
+#[cfg(test)]
 mod requests;
 #[cfg(test)]
 mod statuses;

@@ -1,15 +1,15 @@
 //! How many instances may be live.
-use crate::house::{CREATE, MADE, once, site_with};
+use crate::house::{CREATE, JOURNAL, once, site_with};
 use std::alloc::{AllocError, Global};
 use std::test::Fail;
 
-/// A journal of manager 7 that made so many instances of the descriptor `v`.
+/// A journal of manager 7 that onboarded the descriptor `vnfd-1` and made so many instances of it.
 fn journal_of(alloc: Global, instances: u64) -> Result<Vec<u8>, AllocError> {
-    let mut file = Vec::from_slice(alloc, &MADE[..32])?;
+    let mut file = Vec::from_slice(alloc, &JOURNAL[..110])?;
     for made in 0..instances {
-        file.extend_from_slice(&[1, 0, 0, 0, 21, 2, 0, 0, 0, 0, 0, 0, 0, 0])?;
+        file.extend_from_slice(&[1, 0, 0, 0, 26, 2, 0, 0, 0, 0, 0, 0, 0, 0])?;
         file.extend_from_slice(&made.saturating_add(1).to_be_bytes())?;
-        file.extend_from_slice(&[1, 118, 0, 0])?;
+        file.extend_from_slice(&[6, 118, 110, 102, 100, 45, 49, 0, 0])?;
     }
     file.push(0)?;
     Ok(file)

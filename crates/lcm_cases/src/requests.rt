@@ -1,15 +1,15 @@
 //! Requests, and each byte of their answers.
-use crate::house::{CREATE, MADE, once, site_with};
+use crate::house::{CREATE, JOURNAL, once, site_with};
 use std::alloc::{AllocError, Global};
 use std::test::Fail;
 
 /// The answer that creates instance 1.
 const FIRST: &[u8] =
-    b"HTTP/1.1 201 Created\r\nLocation: /vnflcm/v1/vnf_instances/00000007-766d-8001-8000-000000000001\r\nContent-Type: application/json\r\nContent-Length: 398\r\n\r\n{\"_links\":{\"instantiate\":{\"href\":\"/vnflcm/v1/vnf_instances/00000007-766d-8001-8000-000000000001/instantiate\"},\"self\":{\"href\":\"/vnflcm/v1/vnf_instances/00000007-766d-8001-8000-000000000001\"}},\"id\":\"00000007-766d-8001-8000-000000000001\",\"instantiationState\":\"NOT_INSTANTIATED\",\"vnfInstanceName\":\"edge-1\",\"vnfProductName\":\"\",\"vnfProvider\":\"\",\"vnfSoftwareVersion\":\"\",\"vnfdId\":\"vnfd-1\",\"vnfdVersion\":\"\"}";
+    b"HTTP/1.1 201 Created\r\nLocation: /vnflcm/v1/vnf_instances/00000007-766d-8001-8000-000000000001\r\nContent-Type: application/json\r\nContent-Length: 422\r\n\r\n{\"_links\":{\"instantiate\":{\"href\":\"/vnflcm/v1/vnf_instances/00000007-766d-8001-8000-000000000001/instantiate\"},\"self\":{\"href\":\"/vnflcm/v1/vnf_instances/00000007-766d-8001-8000-000000000001\"}},\"id\":\"00000007-766d-8001-8000-000000000001\",\"instantiationState\":\"NOT_INSTANTIATED\",\"vnfInstanceName\":\"edge-1\",\"vnfProductName\":\"Edge Router\",\"vnfProvider\":\"Example\",\"vnfSoftwareVersion\":\"1.0\",\"vnfdId\":\"vnfd-1\",\"vnfdVersion\":\"1.0\"}";
 
 /// The answer that creates instance 2.
 const SECOND: &[u8] =
-    b"HTTP/1.1 201 Created\r\nLocation: /vnflcm/v1/vnf_instances/00000007-766d-8001-8000-000000000002\r\nContent-Type: application/json\r\nContent-Length: 398\r\n\r\n{\"_links\":{\"instantiate\":{\"href\":\"/vnflcm/v1/vnf_instances/00000007-766d-8001-8000-000000000002/instantiate\"},\"self\":{\"href\":\"/vnflcm/v1/vnf_instances/00000007-766d-8001-8000-000000000002\"}},\"id\":\"00000007-766d-8001-8000-000000000002\",\"instantiationState\":\"NOT_INSTANTIATED\",\"vnfInstanceName\":\"edge-1\",\"vnfProductName\":\"\",\"vnfProvider\":\"\",\"vnfSoftwareVersion\":\"\",\"vnfdId\":\"vnfd-1\",\"vnfdVersion\":\"\"}";
+    b"HTTP/1.1 201 Created\r\nLocation: /vnflcm/v1/vnf_instances/00000007-766d-8001-8000-000000000002\r\nContent-Type: application/json\r\nContent-Length: 422\r\n\r\n{\"_links\":{\"instantiate\":{\"href\":\"/vnflcm/v1/vnf_instances/00000007-766d-8001-8000-000000000002/instantiate\"},\"self\":{\"href\":\"/vnflcm/v1/vnf_instances/00000007-766d-8001-8000-000000000002\"}},\"id\":\"00000007-766d-8001-8000-000000000002\",\"instantiationState\":\"NOT_INSTANTIATED\",\"vnfInstanceName\":\"edge-1\",\"vnfProductName\":\"Edge Router\",\"vnfProvider\":\"Example\",\"vnfSoftwareVersion\":\"1.0\",\"vnfdId\":\"vnfd-1\",\"vnfdVersion\":\"1.0\"}";
 
 /// The record of instance 1.
 const RECORD: [u8; 38] = [
@@ -20,19 +20,19 @@ const RECORD: [u8; 38] = [
 #[test]
 fn a_creation_is_answered_and_a_repeat_is_one_more(rt: HostRuntime) -> Result<(), Fail> {
     let alloc = rt.alloc();
-    let mut site = site_with(alloc, &MADE, Vec::new(alloc))?;
+    let mut site = site_with(alloc, &JOURNAL, Vec::new(alloc))?;
     let first = once(alloc, &mut site, CREATE)?;
     assert!(rt; first.status == 0);
     assert!(rt; first.told.as_slice() == FIRST);
     assert!(rt; first.printed.as_slice() == b"done after 1 rounds\n".as_slice());
     assert!(rt; first.ended);
     assert_eq!(rt; first.clock, 2);
-    assert_eq!(rt; site.file().len(), 71);
-    assert!(rt; &site.file()[32..70] == RECORD.as_slice());
-    assert_eq!(rt; site.file()[70], 0);
+    assert_eq!(rt; site.file().len(), 149);
+    assert!(rt; &site.file()[110..148] == RECORD.as_slice());
+    assert_eq!(rt; site.file()[148], 0);
     let second = once(alloc, &mut site, CREATE)?;
     assert!(rt; second.told.as_slice() == SECOND);
-    assert_eq!(rt; site.file().len(), 109);
+    assert_eq!(rt; site.file().len(), 187);
     Ok(())
 }
 
@@ -56,9 +56,13 @@ fn is_refused(
     )?;
     told.extend_from_slice(head.as_bytes())?;
     told.extend_from_slice(problem)?;
-    let mut site = site_with(alloc, &MADE, Vec::new(alloc))?;
+    let mut site = site_with(alloc, &JOURNAL, Vec::new(alloc))?;
     let ran = once(alloc, &mut site, &request)?;
-    Ok(ran.status == 0 && ran.told.as_slice() == told.as_slice() && site.file() == MADE.as_slice())
+    Ok(
+        ran.status == 0
+            && ran.told.as_slice() == told.as_slice()
+            && site.file() == JOURNAL.as_slice(),
+    )
 }
 
 /// Whether a create request with this body is told 400 with this detail.
@@ -113,7 +117,7 @@ fn named(alloc: Global, letters: usize) -> Result<Vec<u8>, AllocError> {
 
 /// A body with a further member of so many arrays in one another.
 fn nested(alloc: Global, arrays: usize) -> Result<Vec<u8>, AllocError> {
-    let mut body = Vec::from_slice(alloc, b"{\"vnfdId\":\"v\",\"x\":")?;
+    let mut body = Vec::from_slice(alloc, b"{\"vnfdId\":\"vnfd-1\",\"x\":")?;
     for _ in 0..arrays {
         body.push(b'[')?;
     }
@@ -124,6 +128,16 @@ fn nested(alloc: Global, arrays: usize) -> Result<Vec<u8>, AllocError> {
     Ok(body)
 }
 
+/// Whether a create request with this body is told that its descriptor wasn't onboarded.
+fn is_unknown(alloc: Global, body: &[u8]) -> Result<bool, AllocError> {
+    is_refused(
+        alloc,
+        body,
+        b"HTTP/1.1 422 Unprocessable Content",
+        b"{\"detail\":\"vnfdId is not onboarded\",\"status\":422}",
+    )
+}
+
 /// Whether a create request with this body is told 201.
 fn is_taken(alloc: Global, body: &[u8]) -> Result<bool, AllocError> {
     let mut request = format!(in alloc;
@@ -132,23 +146,23 @@ fn is_taken(alloc: Global, body: &[u8]) -> Result<bool, AllocError> {
     )?
     .into_bytes();
     request.extend_from_slice(body)?;
-    let mut site = site_with(alloc, &MADE, Vec::new(alloc))?;
+    let mut site = site_with(alloc, &JOURNAL, Vec::new(alloc))?;
     let ran = once(alloc, &mut site, &request)?;
     Ok(
         ran.status == 0
             && ran.told.as_slice().starts_with(b"HTTP/1.1 201 Created\r\n")
-            && site.file().len() > 33,
+            && site.file().len() > JOURNAL.len(),
     )
 }
 
 #[test]
 fn bodies_at_the_limits_are_judged(rt: HostRuntime) -> Result<(), Fail> {
     let alloc = rt.alloc();
-    assert!(rt; is_taken(alloc, &named(alloc, 255)?)?);
+    assert!(rt; is_unknown(alloc, &named(alloc, 255)?)?);
     assert!(rt; is_bad(alloc, &named(alloc, 256)?, "bad vnfdId")?);
     assert!(rt; is_taken(alloc, &nested(alloc, 126)?)?);
     assert!(rt; is_bad(alloc, &nested(alloc, 127)?, "malformed JSON")?);
-    assert!(rt; is_taken(alloc, b"{\"vnfdId\":7,\"vnfdId\":\"v\"}")?);
+    assert!(rt; is_taken(alloc, b"{\"vnfdId\":7,\"vnfdId\":\"vnfd-1\"}")?);
     assert!(rt; is_bad(alloc, b"{\"vnfdId\":\"v\",\"vnfdId\":7}", "bad vnfdId")?);
     Ok(())
 }
@@ -157,8 +171,8 @@ fn bodies_at_the_limits_are_judged(rt: HostRuntime) -> Result<(), Fail> {
 fn a_name_is_written_by_the_rule_of_json(rt: HostRuntime) -> Result<(), Fail> {
     let alloc = rt.alloc();
     let request: &[u8] =
-        b"POST /vnflcm/v1/vnf_instances HTTP/1.1\r\nContent-Length: 49\r\n\r\n{\"vnfdId\":\"v\",\"vnfInstanceName\":\"a\\\"b\\\\c\xc2\x80\xc3\xa9\xc2\x9fd\"}";
-    let mut site = site_with(alloc, &MADE, Vec::new(alloc))?;
+        b"POST /vnflcm/v1/vnf_instances HTTP/1.1\r\nContent-Length: 54\r\n\r\n{\"vnfdId\":\"vnfd-1\",\"vnfInstanceName\":\"a\\\"b\\\\c\xc2\x80\xc3\xa9\xc2\x9fd\"}";
+    let mut site = site_with(alloc, &JOURNAL, Vec::new(alloc))?;
     let ran = once(alloc, &mut site, request)?;
     assert!(rt; ran.told.as_slice().starts_with(b"HTTP/1.1 201 Created\r\n"));
     assert!(rt;
@@ -225,19 +239,19 @@ fn other_input_is_answered_and_changes_nothing(rt: HostRuntime) -> Result<(), Fa
         ),
     ];
     for (bytes, told) in cases {
-        let mut site = site_with(alloc, &MADE, Vec::new(alloc))?;
+        let mut site = site_with(alloc, &JOURNAL, Vec::new(alloc))?;
         let ran = once(alloc, &mut site, bytes)?;
         assert_eq!(rt; ran.status, 0);
         assert!(rt; ran.told.as_slice() == told);
         assert!(rt; ran.ended);
-        assert!(rt; site.file() == MADE.as_slice());
+        assert!(rt; site.file() == JOURNAL.as_slice());
     }
     Ok(())
 }
 
 /// A create request whose body is padded so that the request has so many bytes.
 fn padded(alloc: Global, length: usize) -> Result<Vec<u8>, AllocError> {
-    let body = b"{\"vnfdId\":\"v\"}";
+    let body = b"{\"vnfdId\":\"vnfd-1\"}";
     let mut request = Vec::from_slice(
         alloc,
         b"POST /vnflcm/v1/vnf_instances HTTP/1.1\r\nContent-Length: ",
@@ -261,7 +275,7 @@ fn a_request_has_65_536_bytes_and_no_more(rt: HostRuntime) -> Result<(), Fail> {
     for (length, line) in cases {
         let request = padded(alloc, length)?;
         assert_eq!(rt; request.len(), length);
-        let mut site = site_with(alloc, &MADE, Vec::new(alloc))?;
+        let mut site = site_with(alloc, &JOURNAL, Vec::new(alloc))?;
         let ran = once(alloc, &mut site, &request)?;
         assert_eq!(rt; ran.status, 0);
         assert!(rt; ran.told.as_slice().starts_with(line));

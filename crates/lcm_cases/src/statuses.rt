@@ -1,5 +1,7 @@
 //! How a run ends, and what it leaves.
-use crate::house::{CREATE, MADE, door_of, once, once_words, run_over, site_with, words_of};
+use crate::house::{
+    CREATE, JOURNAL, MADE, door_of, once, once_words, run_over, site_with, words_of,
+};
 use site_traits::DoorPlan;
 use std::alloc::{AllocError, Global};
 use std::test::Fail;
@@ -73,7 +75,7 @@ fn a_bad_record_is_named(rt: HostRuntime) -> Result<(), Fail> {
                 1, 0, 0, 0, 21, 2, 0, 0, 0, 0, 0, 0, 0, 0, 0, 0, 0, 0, 0, 0, 0, 1, 1, 118, 0, 0, 1,
                 0, 0, 0, 1, 9, 0,
             ],
-            b"bad record 2\n",
+            b"bad record 1\n",
         ),
         (
             &[
@@ -86,13 +88,16 @@ fn a_bad_record_is_named(rt: HostRuntime) -> Result<(), Fail> {
         let file = with_records(alloc, bytes)?;
         assert!(rt; ends(alloc, &file, 8, line)?);
     }
+    let mut file = Vec::from_slice(alloc, &JOURNAL[..110])?;
+    file.extend_from_slice(&[1, 0, 0, 0, 1, 9, 0])?;
+    assert!(rt; ends(alloc, &file, 8, b"bad record 2\n")?);
     Ok(())
 }
 
 #[test]
 fn words_that_are_no_command_touch_nothing(rt: HostRuntime) -> Result<(), Fail> {
     let alloc = rt.alloc();
-    let cases: [&[&str]; 8] = [
+    let cases: [&[&str]; 20] = [
         &[],
         &["once"],
         &["once", "--journal"],
@@ -101,6 +106,24 @@ fn words_that_are_no_command_touch_nothing(rt: HostRuntime) -> Result<(), Fail> 
         &["--journal", "j", "once"],
         &["serve", "--journal", "j"],
         &["--help"],
+        &["onboard", "--journal", "-j"],
+        &["onboard", "--journal", "j", "--manager", "7"],
+        &["init", "--journal", "j"],
+        &["init", "--manager", "7", "--journal", "j"],
+        &["init", "--journal", "-j", "--manager", "7"],
+        &["init", "--journal", "j", "--role", "7"],
+        &["init", "--journal", "j", "--manager", ""],
+        &["init", "--journal", "j", "--manager", "+7"],
+        &["init", "--journal", "j", "--manager", "-1"],
+        &["init", "--journal", "j", "--manager", "7x"],
+        &["init", "--journal", "j", "--manager", "4294967296"],
+        &[
+            "init",
+            "--journal",
+            "j",
+            "--manager",
+            "000000000000000000007",
+        ],
     ];
     for texts in cases {
         let words = words_of(alloc, texts)?;
@@ -123,7 +146,7 @@ fn a_door_and_a_sink_that_fail_are_told_apart(rt: HostRuntime) -> Result<(), Fai
     let words = once_words(alloc)?;
     let mut plans = Vec::new(alloc);
     plans.push(DoorPlan::NextFails)?;
-    let mut site = site_with(alloc, &MADE, Vec::new(alloc))?;
+    let mut site = site_with(alloc, &JOURNAL, Vec::new(alloc))?;
     let ran = run_over(alloc, &words, &mut site, plans, None)?;
     assert_eq!(rt; ran.status, 4);
     assert!(rt; ran.printed.as_slice() == b"door fault\n".as_slice());
@@ -136,7 +159,7 @@ fn a_door_and_a_sink_that_fail_are_told_apart(rt: HostRuntime) -> Result<(), Fai
     assert_eq!(rt; ran.status, 7);
     assert!(rt; ran.printed.is_empty());
     assert!(rt; ran.told.as_slice().starts_with(b"HTTP/1.1 201 Created\r\n"));
-    assert_eq!(rt; site.file().len(), 71);
+    assert_eq!(rt; site.file().len(), 149);
     let ran = run_over(
         alloc,
         &words,
@@ -153,13 +176,13 @@ fn each_disk_call_that_fails_ends_the_run_with_a_site_fault(rt: HostRuntime) -> 
     let alloc = rt.alloc();
     let told: &[u8] =
         b"HTTP/1.1 500 Internal Server Error\r\nContent-Type: application/problem+json\r\nContent-Length: 39\r\n\r\n{\"detail\":\"journal fault\",\"status\":500}";
-    let mut whole = site_with(alloc, &MADE, Vec::new(alloc))?;
+    let mut whole = site_with(alloc, &JOURNAL, Vec::new(alloc))?;
     let _ = once(alloc, &mut whole, CREATE)?;
     let calls = whole.moment() as u64;
     for before in 0..calls {
         let mut failing = Vec::new(alloc);
         failing.push(before.saturating_add(1))?;
-        let mut site = site_with(alloc, &MADE, failing)?;
+        let mut site = site_with(alloc, &JOURNAL, failing)?;
         let ran = once(alloc, &mut site, CREATE)?;
         assert_eq!(rt; ran.status, 3);
         assert!(rt; ran.printed.as_slice() == b"site fault\n".as_slice());
@@ -171,7 +194,7 @@ fn each_disk_call_that_fails_ends_the_run_with_a_site_fault(rt: HostRuntime) -> 
         let mut left = site_with(alloc, site.file(), Vec::new(alloc))?;
         let again = once(alloc, &mut left, CREATE)?;
         assert_eq!(rt; again.status, 0);
-        assert!(rt; left.file().len() == 71 || left.file().len() == 109);
+        assert!(rt; left.file().len() == 149 || left.file().len() == 187);
     }
     Ok(())
 }

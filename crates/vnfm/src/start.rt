@@ -7,25 +7,33 @@ use std::alloc::{AllocError, Global};
 use std::io::{ErrorKind, Write};
 use std::{env, io};
 use vnfm_base::Text;
-use vnfm_cli::{Settings, SettingsFault, run, settings};
+use vnfm_cli::{Command, Settings, SettingsFault, run, settings};
 
 /// What `--help` prints.
 const HELP: &str = "vnfm: a VNF lifecycle manager after ETSI GS NFV-SOL 003 V2.6.1
 
-    vnfm once --journal PATH    answer the request on standard input, and record what it asks for in the journal at PATH
-    vnfm --help                 print this text
-    vnfm --version              print the version
+    vnfm init --journal PATH --manager N    make the journal of manager N, from 0 to 4294967295, at PATH
+    vnfm onboard --journal PATH             onboard the descriptor on standard input, a JSON document
+    vnfm once --journal PATH                answer the request on standard input, and record what it asks for
+    vnfm --help                             print this text
+    vnfm --version                          print the version
 
-The answer goes to standard output. A last line on standard error says how it went:
+The answer of once goes to standard output. A last line, of once on standard error and else on standard output, says how it
+went:
+    0  journal made for manager N
+    0  onboarded ID: V vdus, A aspects, L levels
     0  done after 1 rounds      the request was answered, with a refusal too
-    2  usage: ..                the words are no command (on standard output)
+    2  usage: ..                the words are no command
     3  site fault               a disk call failed
-    4  door fault               there was no connection
+    4  door fault               there was no connection, or the descriptor couldn't be read
     5  no journal               the file at PATH is unfinished
     5  not a journal: byte N    its header differs first at byte N
     6  no memory
-    7                           standard error couldn't be written
-    8  bad record N             record N is broken, or may not follow those before it
+    7                           the line couldn't be written
+    8  bad record N             record N is broken, or isn't allowed after those before it
+    9  journal full: E + M bytes
+   10  descriptor refused: T    T is the first thing that is wrong with it
+   11  taken                    the file at PATH isn't an unfinished journal of manager N
 ";
 
 /// What `--version` prints.
@@ -89,7 +97,7 @@ fn starved(rt: &HostRuntime) -> u8 {
 fn command(rt: &HostRuntime, words: &[Text]) -> u8 {
     match settings(rt.alloc(), words) {
         Ok(settings) => match RealSite::made(rt, settings.journal.as_str()) {
-            Ok(site) => over(rt, words, site, settings.role, RealSink::made(rt.stderr())),
+            Ok(site) => perform(rt, words, &settings, site),
             Err(AllocError) => starved(rt),
         },
         Err(SettingsFault::Usage) => over(
@@ -100,6 +108,20 @@ fn command(rt: &HostRuntime, words: &[Text]) -> u8 {
             RealSink::made(rt.stdout()),
         ),
         Err(SettingsFault::Memory) => starved(rt),
+    }
+}
+
+/// Runs over this file. The line of `once` goes to standard error, beside its answer, and every other to standard output.
+fn perform(rt: &HostRuntime, words: &[Text], settings: &Settings, site: RealSite) -> u8 {
+    match settings.command {
+        Command::Once => over(rt, words, site, settings.role, RealSink::made(rt.stderr())),
+        Command::Init | Command::Onboard => over(
+            rt,
+            words,
+            site,
+            settings.role,
+            RealSink::made(rt.stdout()),
+        ),
     }
 }
 

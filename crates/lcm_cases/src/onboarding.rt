@@ -1,0 +1,257 @@
+//! Making journals and onboarding descriptors.
+use crate::house::{
+    DESCRIPTOR, JOURNAL, MADE, door_of, init, onboard, run_over, site_with, words_of,
+};
+use lcm_events::Role;
+use site_traits::DoorPlan;
+use std::alloc::{AllocError, Global};
+use std::test::Fail;
+use vnfm_base::Bytes;
+
+#[test]
+fn a_journal_is_made_once(rt: HostRuntime) -> Result<(), Fail> {
+    let alloc = rt.alloc();
+    let mut site = site_with(alloc, &[], Vec::new(alloc))?;
+    let made = init(alloc, &mut site)?;
+    assert_eq!(rt; made.status, 0);
+    assert!(rt; made.printed.as_slice() == b"journal made for manager 7\n".as_slice());
+    assert_eq!(rt; made.clock, 0);
+    assert!(rt; site.file() == MADE.as_slice());
+    let again = init(alloc, &mut site)?;
+    assert_eq!(rt; again.status, 11);
+    assert!(rt; again.printed.as_slice() == b"taken\n".as_slice());
+    assert!(rt; site.file() == MADE.as_slice());
+    let numbers: [(&str, u8, &[u8]); 3] = [
+        ("0", 0, b"journal made for manager 0\n"),
+        ("007", 7, b"journal made for manager 7\n"),
+        ("4294967295", 255, b"journal made for manager 4294967295\n"),
+    ];
+    for (number, last, line) in numbers {
+        let words = words_of(alloc, &["init", "--journal", "j", "--manager", number])?;
+        let mut site = site_with(alloc, &[], Vec::new(alloc))?;
+        let made = run_over(alloc, &words, &mut site, Vec::new(alloc), None)?;
+        assert_eq!(rt; made.status, 0);
+        assert!(rt; made.printed.as_slice() == line);
+        assert_eq!(rt; site.file().len(), 33);
+        assert_eq!(rt; site.file()[12], last);
+    }
+    let words = words_of(alloc, &["init", "--journal", "j", "--manager", "7"])?;
+    let mut site = site_with(alloc, &[], Vec::new(alloc))?;
+    let unheard = run_over(alloc, &words, &mut site, Vec::new(alloc), Some(1))?;
+    assert_eq!(rt; unheard.status, 7);
+    assert!(rt; site.file() == MADE.as_slice());
+    Ok(())
+}
+
+#[test]
+fn a_descriptor_is_onboarded_once(rt: HostRuntime) -> Result<(), Fail> {
+    let alloc = rt.alloc();
+    let mut site = site_with(alloc, &MADE, Vec::new(alloc))?;
+    let first = onboard(alloc, &mut site, DESCRIPTOR)?;
+    assert_eq!(rt; first.status, 0);
+    assert!(rt;
+        first.printed.as_slice() == b"onboarded vnfd-1: 0 vdus, 0 aspects, 1 levels\n".as_slice()
+    );
+    assert!(rt; first.told.is_empty());
+    assert!(rt; first.ended);
+    assert_eq!(rt; first.clock, 1);
+    assert!(rt; site.file() == JOURNAL.as_slice());
+    let again = onboard(alloc, &mut site, DESCRIPTOR)?;
+    assert_eq!(rt; again.status, 10);
+    assert!(rt;
+        again.printed.as_slice() == b"descriptor refused: vnfdId is onboarded\n".as_slice()
+    );
+    assert!(rt; site.file() == JOURNAL.as_slice());
+    Ok(())
+}
+
+/// Whether a descriptor of these bytes is refused with this line, and leaves the file as it was.
+fn is_refused(alloc: Global, bytes: &[u8], line: &[u8]) -> Result<bool, AllocError> {
+    let mut site = site_with(alloc, &MADE, Vec::new(alloc))?;
+    let ran = onboard(alloc, &mut site, bytes)?;
+    Ok(ran.status == 10 && ran.printed.as_slice() == line && site.file() == MADE.as_slice())
+}
+
+/// A descriptor of one VDU with so many ports, each with a name of 255 bytes.
+fn wide(alloc: Global, ports: u32) -> Result<Vec<u8>, AllocError> {
+    let mut text = Vec::from_slice(
+        alloc,
+        b"{\"topology_template\":{\"node_templates\":{\"VNF\":{\"properties\":{\"descriptor_id\":\"w\",\"provider\":\"\",\"product_name\":\"\",\"software_version\":\"\",\"descriptor_version\":\"\",\"flavour_id\":\"f\"}},\"V\":{\"type\":\"tosca.nodes.nfv.Vdu.Compute\",\"capabilities\":{\"virtual_compute\":{\"properties\":{\"virtual_memory\":{\"virtual_mem_size\":\"1 B\"},\"virtual_cpu\":{\"num_virtual_cpu\":1}}}}}",
+    )?;
+    for port in 0..ports {
+        text.extend_from_slice(format!(in alloc; ",\"{port:0>255}\":")?.as_bytes())?;
+        text.extend_from_slice(
+            b"{\"type\":\"tosca.nodes.nfv.VduCp\",\"requirements\":[{\"virtual_binding\":\"V\"}]}",
+        )?;
+    }
+    text.extend_from_slice(b"}}}")?;
+    Ok(text)
+}
+
+#[test]
+fn a_descriptor_is_refused_for_its_first_fault(rt: HostRuntime) -> Result<(), Fail> {
+    let alloc = rt.alloc();
+    let cases: [(&[u8], &[u8]); 4] = [
+        (b"", b"descriptor refused: not JSON\n"),
+        (b"[]", b"descriptor refused: not JSON\n"),
+        (b"{}", b"descriptor refused: missing node_templates\n"),
+        (
+            b"{\"topology_template\":{\"node_templates\":{}}}",
+            b"descriptor refused: missing descriptor_id\n",
+        ),
+    ];
+    for (bytes, line) in cases {
+        assert!(rt; is_refused(alloc, bytes, line)?);
+    }
+    let mut long = Vec::from_slice(alloc, DESCRIPTOR)?;
+    long.resize(1_048_576, b' ')?;
+    let mut site = site_with(alloc, &MADE, Vec::new(alloc))?;
+    assert_eq!(rt; onboard(alloc, &mut site, &long)?.status, 0);
+    assert!(rt; site.file() == JOURNAL.as_slice());
+    long.push(b' ')?;
+    assert!(rt; is_refused(alloc, &long, b"descriptor refused: too many bytes\n")?);
+    let mut site = site_with(alloc, &MADE, Vec::new(alloc))?;
+    assert_eq!(rt; onboard(alloc, &mut site, &wide(alloc, 251)?)?.status, 0);
+    assert!(rt;
+        is_refused(
+            alloc,
+            &wide(alloc, 252)?,
+            b"descriptor refused: encodes to 65583 bytes\n"
+        )?
+    );
+    let words = words_of(alloc, &["onboard", "--journal", "j"])?;
+    let mut site = site_with(alloc, &MADE, Vec::new(alloc))?;
+    let nobody = run_over(alloc, &words, &mut site, Vec::new(alloc), None)?;
+    assert_eq!(rt; nobody.status, 10);
+    assert!(rt; nobody.printed.as_slice() == b"descriptor refused: not JSON\n".as_slice());
+    Ok(())
+}
+
+/// The document of a descriptor with this number for its identifier.
+fn numbered(alloc: Global, number: u32) -> Result<Vec<u8>, AllocError> {
+    let text = format!(in alloc;
+        "{{\"topology_template\":{{\"node_templates\":{{\"VNF\":{{\"properties\":{{\"descriptor_id\":\"{number}\",\"provider\":\"\",\"product_name\":\"\",\"software_version\":\"\",\"descriptor_version\":\"\",\"flavour_id\":\"f\"}}}}}}}}}}"
+    )?;
+    Ok(text.into_bytes())
+}
+
+/// A journal of manager 7 that onboarded so many descriptors, each with its number for its identifier.
+fn journal_of(alloc: Global, descriptors: u32) -> Result<Vec<u8>, AllocError> {
+    let mut file = Vec::from_slice(alloc, &MADE[..32])?;
+    for number in 0..descriptors {
+        file.extend_from_slice(&[1, 0, 0, 0, 41, 1, 0, 0, 0, 0, 0, 0, 0, 0, 3])?;
+        file.extend_from_slice(format!(in alloc; "{number:0>3}")?.as_bytes())?;
+        file.extend_from_slice(&[
+            0, 0, 0, 0, 1, 102, 0, 0, 0, 0, 0, 0, 0, 0, 0, 0, 0, 1, 7, 100, 101, 102, 97, 117, 108,
+            116, 0, 0,
+        ])?;
+    }
+    file.push(0)?;
+    Ok(file)
+}
+
+#[test]
+fn a_journal_has_256_descriptors_and_no_more(rt: HostRuntime) -> Result<(), Fail> {
+    let alloc = rt.alloc();
+    let mut site = site_with(alloc, &journal_of(alloc, 255)?, Vec::new(alloc))?;
+    let last = onboard(alloc, &mut site, &numbered(alloc, 255)?)?;
+    assert_eq!(rt; last.status, 0);
+    let length = site.file().len();
+    let more = onboard(alloc, &mut site, &numbered(alloc, 256)?)?;
+    assert_eq!(rt; more.status, 10);
+    assert!(rt; more.printed.as_slice() == b"descriptor refused: 256 descriptors\n".as_slice());
+    let known = onboard(alloc, &mut site, &numbered(alloc, 255)?)?;
+    assert!(rt;
+        known.printed.as_slice() == b"descriptor refused: vnfdId is onboarded\n".as_slice()
+    );
+    assert_eq!(rt; site.file().len(), length);
+    Ok(())
+}
+
+/// A door at which a connection with these bytes comes, whose second read fails.
+fn breaking_door(alloc: Global, bytes: &[u8]) -> Result<Vec<DoorPlan>, AllocError> {
+    let mut pieces = Vec::new(alloc);
+    pieces.push(Bytes::of(alloc, bytes)?)?;
+    let mut plans = Vec::new(alloc);
+    plans.push(DoorPlan::Conn {
+        role: Role::Orchestrator,
+        pieces,
+        failing_read: Some(2),
+        failing_write: None,
+    })?;
+    Ok(plans)
+}
+
+#[test]
+fn an_onboarding_that_fails_changes_nothing(rt: HostRuntime) -> Result<(), Fail> {
+    let alloc = rt.alloc();
+    let words = words_of(alloc, &["onboard", "--journal", "j"])?;
+    let mut plans = Vec::new(alloc);
+    plans.push(DoorPlan::NextFails)?;
+    let mut site = site_with(alloc, &MADE, Vec::new(alloc))?;
+    let ran = run_over(alloc, &words, &mut site, plans, None)?;
+    assert_eq!(rt; ran.status, 4);
+    assert_eq!(rt; ran.clock, 0);
+    let ran = run_over(
+        alloc,
+        &words,
+        &mut site,
+        breaking_door(alloc, DESCRIPTOR)?,
+        None,
+    )?;
+    assert_eq!(rt; ran.status, 4);
+    assert!(rt; ran.printed.as_slice() == b"door fault\n".as_slice());
+    assert_eq!(rt; ran.clock, 0);
+    assert!(rt; site.file() == MADE.as_slice());
+    let ran = run_over(
+        alloc,
+        &words,
+        &mut site,
+        door_of(alloc, DESCRIPTOR)?,
+        Some(1),
+    )?;
+    assert_eq!(rt; ran.status, 7);
+    assert!(rt; site.file() == JOURNAL.as_slice());
+    let ran = run_over(
+        alloc,
+        &words,
+        &mut site_with(alloc, &[], Vec::new(alloc))?,
+        door_of(alloc, DESCRIPTOR)?,
+        None,
+    )?;
+    assert_eq!(rt; ran.status, 5);
+    Ok(())
+}
+
+#[test]
+fn each_disk_call_that_fails_ends_a_making_and_an_onboarding(rt: HostRuntime) -> Result<(), Fail> {
+    let alloc = rt.alloc();
+    let mut whole = site_with(alloc, &[], Vec::new(alloc))?;
+    let _ = init(alloc, &mut whole)?;
+    for before in 0..whole.moment() as u64 {
+        let mut failing = Vec::new(alloc);
+        failing.push(before.saturating_add(1))?;
+        let mut site = site_with(alloc, &[], failing)?;
+        let ran = init(alloc, &mut site)?;
+        assert_eq!(rt; ran.status, 3);
+        let mut left = site_with(alloc, site.file(), Vec::new(alloc))?;
+        let again = init(alloc, &mut left)?;
+        assert!(rt; again.status == 0 || again.status == 11, "call {before}");
+        assert!(rt; left.file() == MADE.as_slice());
+    }
+    let mut whole = site_with(alloc, &MADE, Vec::new(alloc))?;
+    let _ = onboard(alloc, &mut whole, DESCRIPTOR)?;
+    for before in 0..whole.moment() as u64 {
+        let mut failing = Vec::new(alloc);
+        failing.push(before.saturating_add(1))?;
+        let mut site = site_with(alloc, &MADE, failing)?;
+        let ran = onboard(alloc, &mut site, DESCRIPTOR)?;
+        assert_eq!(rt; ran.status, 3);
+        assert!(rt; ran.printed.as_slice() == b"site fault\n".as_slice());
+        let mut left = site_with(alloc, site.file(), Vec::new(alloc))?;
+        let again = onboard(alloc, &mut left, DESCRIPTOR)?;
+        assert!(rt; again.status == 0 || again.status == 10, "call {before}");
+        assert!(rt; left.file() == JOURNAL.as_slice());
+    }
+    Ok(())
+}
