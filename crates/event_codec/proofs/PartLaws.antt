@@ -20,7 +20,8 @@ use Rattle.lcm_events.specs.declared.places.Place.{Place}
 use Rattle.event_codec.specs.Combinators.{pair, only, sum, u8_at}
 use Rattle.event_codec.specs.Readers.{u16_at, u32_at, many_at, few_at, name_at, line_at, tag_at, change_at, vnfc_at, aspect_level_at, aim_cases, aim_at, ask_cases, ask_at, operation_at, grant_try_cases, grant_try_at, place_at, placed_at, outcome_cases, outcome_at, filter_at, vdu_at, storage_at, link_of, link_at, port_at, row_at, rows_at, aspect_at, level_at, scaling_at, vnfd_at}
 use Rattle.event_codec.specs.Spell as spell
-use Rattle.event_codec.specs.Valid.{IsU8, IsU16, IsU32, IsU64, IsAny, AreMany, IsTag, IsChange, IsVnfc, IsAspectLevel, IsAim, IsAsk, IsOperation, IsGrantTry, IsPlace, ArePlaced, IsOutcome, IsFilter, IsStorage, IsVdu, IsLink, IsPort, IsRow, IsAspect, IsLevel, IsVnfd, rising, steps_fit, in_order, names_entries}
+use Rattle.event_codec.specs.Valid.{IsU8, IsU16, IsU32, IsU64, IsAny, AreMany, IsTag, IsChange, IsVnfc, IsAspectLevel, IsAim, IsAsk, IsOperation, IsGrantTry, IsPlace, ArePlaced, IsOutcome, IsFilter, IsStorage, IsVdu, IsLink, IsPort, IsRow, IsAspect, IsLevel, IsVnfd, in_order, names_entries}
+use Rattle.lcm_events.specs.Descriptors.{is_rising, is_valid_steps}
 use Rattle.event_codec.proofs.CombinatorLaws.{Reads, reads_pair_by, reads_only, reads_fits, reads_sum, reads_entries, case_word, pair_of, shape_of, case_by, again_of, reads_u8}
 use Rattle.event_codec.proofs.NumberLaws.{reads_u16, reads_u32, reads_u64}
 use Rattle.event_codec.proofs.TextLaws.{both, from_both, reads_name, reads_line, reads_optional, reads_many, reads_few}
@@ -191,9 +192,9 @@ unfolding vdu_at
 reads_vdu =
     let fields = pair_of reads_name (pair_of reads_u64 (pair_of reads_u32 (pair_of reads_u32 (pair_of reads_u32 (reads_many spell.u16 IsU16 u16_at reads_u16))))) in
     let Plain : Vdu → Type 0 = λ v. IsName v.name × IsU64 v.memory × IsU32 v.cpus × IsU32 v.maximum × IsU32 v.initial × AreMany IsU16 v.storages in
-    reads_fits spell.vdu (λ v. Plain v × (rising nat_lt v.storages ≡ true)) IsVdu _
+    reads_fits spell.vdu (λ v. Plain v × (is_rising nat_lt v.storages ≡ true)) IsVdu _
     (λ v h. (h.0.0, h.0.1, h.0.2, h.0.3, h.0.4, h.0.5, h.1)) (λ v h. ((h.0, h.1, h.2, h.3, h.4, h.5), h.6))
-    (reads_only (λ v. rising nat_lt v.storages) spell.vdu Plain _
+    (reads_only (λ v. is_rising nat_lt v.storages) spell.vdu Plain _
     (shape_of fields
     (λ p. record { name = p.0; memory = p.1.0; cpus = p.1.1.0; maximum = p.1.1.1.0; initial = p.1.1.1.1.0; storages = p.1.1.1.1.1 })
     (λ v. (v.name, (v.memory, (v.cpus, (v.maximum, (v.initial, v.storages)))))) spell.vdu Plain (λ x h. refl) (λ p h. refl)
@@ -255,10 +256,10 @@ pub reads_aspect : Reads spell.aspect IsAspect aspect_at
 unfolding aspect_at
 reads_aspect =
     let Plain : Aspect → Type 0 = λ a. IsName a.name × IsU32 a.maximum × IsU16 a.steps × AreMany (IsRow a.steps) a.rows in
-    reads_fits spell.aspect (λ a. Plain a × ((steps_fit a.maximum a.steps && rising (λ r s. nat_lt r.vdu s.vdu) a.rows) ≡ true)) IsAspect _
-    (λ a h. let t = both (steps_fit a.maximum a.steps) (rising (λ r s. nat_lt r.vdu s.vdu) a.rows) h.1 in (h.0.0, h.0.1, h.0.2, h.0.3, t.0, t.1))
-    (λ a h. ((h.0, h.1, h.2, h.3), from_both (steps_fit a.maximum a.steps) (rising (λ r s. nat_lt r.vdu s.vdu) a.rows) h.4 h.5))
-    (reads_only (λ a. steps_fit a.maximum a.steps && rising (λ r s. nat_lt r.vdu s.vdu) a.rows) spell.aspect Plain _
+    reads_fits spell.aspect (λ a. Plain a × ((is_valid_steps a.maximum a.steps && is_rising (λ r s. nat_lt r.vdu s.vdu) a.rows) ≡ true)) IsAspect _
+    (λ a h. let t = both (is_valid_steps a.maximum a.steps) (is_rising (λ r s. nat_lt r.vdu s.vdu) a.rows) h.1 in (h.0.0, h.0.1, h.0.2, h.0.3, t.0, t.1))
+    (λ a h. ((h.0, h.1, h.2, h.3), from_both (is_valid_steps a.maximum a.steps) (is_rising (λ r s. nat_lt r.vdu s.vdu) a.rows) h.4 h.5))
+    (reads_only (λ a. is_valid_steps a.maximum a.steps && is_rising (λ r s. nat_lt r.vdu s.vdu) a.rows) spell.aspect Plain _
     (shape_of (pair_of reads_name (pair_of reads_u32 reads_rows))
     (λ p. record { name = p.0; maximum = p.1.0; steps = p.1.1.0; rows = p.1.1.1 }) (λ a. (a.name, (a.maximum, (a.steps, a.rows)))) spell.aspect Plain
     (λ x h. refl) (λ p h. refl) (λ p h. (h.0, h.1.0, h.1.1.0, h.1.1.1)) (λ a h. (h.0, (h.1, (h.2, h.3))))))

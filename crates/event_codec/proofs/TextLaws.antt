@@ -6,9 +6,10 @@ use Rattle.std.proofs.lemmas.Bool.{eqb-true, leb-true, le-leb}
 use Rattle.std.proofs.lemmas.List.Sums.{AllPass-from_list_all, list_all-from_AllPass}
 use Rattle.std.proofs.lemmas.List.Elements.{All-weaker}
 use Rattle.std.proofs.lemmas.Str.{IsUtf8-from_is_utf8, is_utf8-from_IsUtf8}
-use Rattle.vnfm_base.specs.Text.{IsPlain, IsShortText, IsName, IsLine}
+use Rattle.vnfm_base.specs.Text.{IsName, IsLine, is_short_text}
+use Rattle.vnfm_base.proofs.TextTests.{short_text-from_test, test-from_short_text}
 use Rattle.event_codec.specs.Combinators.{Reader, pair_by, only, sum, entries, piece, u8_at}
-use Rattle.event_codec.specs.Readers.{u16_at, is_plain, is_short_text, counted_at, name_at, line_at, optional_cases, optional_at, many_at, few_at}
+use Rattle.event_codec.specs.Readers.{u16_at, counted_at, name_at, line_at, optional_cases, optional_at, many_at, few_at}
 use Rattle.event_codec.specs.Spell as spell
 use Rattle.event_codec.specs.Valid.{IsU8, IsU16, Optionally, AreMany}
 use Rattle.event_codec.proofs.CombinatorLaws.{Reads, reads_pair_by, reads_shape, reads_only, reads_fits, reads_sum, case_of, case_word, shape_again, reads_entries, reads_piece, reads_u8}
@@ -20,36 +21,6 @@ both false b h = absurd cc
 
 pub from_both : (a b : Bool) → a ≡ true → b ≡ true → (a && b) ≡ true
 from_both a b p q = rw (p, q) refl
-
-plain-from : (byte : ℕ) → is_plain byte ≡ true → IsPlain byte
-plain-from byte h =
-    let p = both (nat_le 32 byte) (not (byte == 127)) h in
-    (leb-true 32 byte p.0, λ e. (let f : is_plain 127 ≡ true = (let P : ℕ → Type 0 = λ n. is_plain n ≡ true in subst P e h) in absurd cc))
-
-plain-to : (byte : ℕ) → IsPlain byte → is_plain byte ≡ true
-plain-to byte h = from_both (nat_le 32 byte) (not (byte == 127)) (le-leb 32 byte h.0) (differs (byte == 127) refl) where
-  differs : (b : Bool) → (byte == 127) ≡ b → not b ≡ true
-  differs true e = absurd (h.1 (eqb-true byte 127 e))
-  differs false e = refl
-
--- the test finds just the short texts
-pub short-from : (most : ℕ) (text : List ℕ) → is_short_text most text ≡ true → IsShortText most text
-unfolding is_short_text
-short-from most text h =
-    let p = both (nat_le (length text) most) (is_utf8 text && list_all is_plain text) h in
-    let q = both (is_utf8 text) (list_all is_plain text) p.1 in
-    record {
-      short = leb-true (length text) most p.0;
-      utf8 = IsUtf8-from_is_utf8 text q.0;
-      plain = All-weaker (λ b. is_plain b ≡ true) IsPlain plain-from text (AllPass-from_list_all is_plain text q.1);
-    }
-
-pub short-to : (most : ℕ) (text : List ℕ) → IsShortText most text → is_short_text most text ≡ true
-unfolding is_short_text
-short-to most text h =
-    from_both (nat_le (length text) most) (is_utf8 text && list_all is_plain text) (le-leb (length text) most h.short)
-    (from_both (is_utf8 text) (list_all is_plain text) (is_utf8-from_IsUtf8 text h.utf8)
-    (list_all-from_AllPass is_plain text (All-weaker IsPlain (λ b. is_plain b ≡ true) plain-to text h.plain)))
 
 reads_counted : (count_spell : ℕ → List ℕ) (CountFits : ℕ → Type 0) (count : Reader ℕ) → Reads count_spell CountFits count
     → Reads (λ text. count_spell (length text) ++ text) (λ text. CountFits (length text)) (counted_at count)
@@ -64,14 +35,14 @@ pub reads_name : Reads spell.name IsName name_at
 unfolding name_at
 reads_name =
     reads_fits spell.name (λ text. IsU8 (length text) × (is_short_text 255 text ≡ true)) IsName name_at
-    (λ text h. short-from 255 text h.1) (λ text h. ((let e : length text ≤ 255 = h.short in omega arith), short-to 255 text h))
+    (λ text h. short_text-from_test 255 text h.1) (λ text h. ((let e : length text ≤ 255 = h.short in omega arith), test-from_short_text 255 text h))
     (reads_only (is_short_text 255) spell.name (λ text. IsU8 (length text)) (counted_at u8_at) (reads_counted (λ n. n ∷ []) IsU8 u8_at reads_u8))
 
 pub reads_line : Reads spell.line IsLine line_at
 unfolding line_at
 reads_line =
     reads_fits spell.line (λ text. IsU16 (length text) × (is_short_text 2048 text ≡ true)) IsLine line_at
-    (λ text h. short-from 2048 text h.1) (λ text h. ((let e : length text ≤ 2048 = h.short in omega arith), short-to 2048 text h))
+    (λ text h. short_text-from_test 2048 text h.1) (λ text h. ((let e : length text ≤ 2048 = h.short in omega arith), test-from_short_text 2048 text h))
     (reads_only (is_short_text 2048) spell.line (λ text. IsU16 (length text)) (counted_at u16_at) (reads_counted spell.u16 IsU16 u16_at reads_u16))
 
 pub reads_optional : {A : Type 0} (a_spell : A → List ℕ) (Fits : A → Type 0) (a : Reader A) → Reads a_spell Fits a
@@ -112,12 +83,3 @@ reads_few {A} a_spell Fits a r =
     (λ p h. ((let P : ℕ → Type 0 = λ n. n ≤ 32 in subst P (sym h.1.0) h.0), h.1.1)) (λ xs h. (h.0, (refl, h.1)))
     (reads_pair_by (λ n. n ∷ []) (λ n. n ≤ 32) (only (λ n. nat_le n 32) u8_at) (flat_map a_spell) (λ n xs. (length xs ≡ n) × AllByRecursion Fits xs)
     (λ n. entries a n) count (reads_entries a_spell Fits a r))
-
--- and fails just where there is none
-pub short-not : (most : ℕ) (text : List ℕ) → (IsShortText most text → ⊥) → is_short_text most text ≡ false
-short-not most text h = pick (is_short_text most text) refl where
-  pick : (b : Bool) → is_short_text most text ≡ b → is_short_text most text ≡ false
-  pick true e = absurd (h (short-from most text e))
-  pick false e = e
-
-pub ruleset short_texts = (short-to, short-not)

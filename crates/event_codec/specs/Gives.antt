@@ -1,7 +1,7 @@
 -- What a reading function answers, against what the reader makes of its bytes.
 use Rattle.std.specs.Prelude.{ℕ, ◌≡◌, List, ◌++◌, Option, Some, None, Result, Ok, Err, true, false}
 use Rattle.std.specs.Borrow.{Bor}
-use Rattle.event_codec.specs.Readers.{is_short_text}
+use Rattle.vnfm_base.specs.Text.{is_short_text}
 use Rattle.event_codec.specs.declared.fault.DecodeFault.{DecodeFault}
 use Rattle.event_codec.specs.declared.fault.DecodeFault.TheVariants.{NotEvent, Memory}
 

@@ -2,7 +2,6 @@
 use Rattle.std.specs.Prelude.{ℕ, ◌==◌, List, [], ◌∷◌, Option, Some, None, Bool, true, false, length, nat_lt, nat_le, ◌&&◌, not, if◌then◌else◌}
 use Rattle.std.specs.Int.{w16, w32, w64}
 use Rattle.std.specs.List.{list_all}
-use Rattle.std.specs.Str.{is_utf8}
 use Rattle.lcm_events.specs.declared.asks.Aim.{Aim}
 use Rattle.lcm_events.specs.declared.asks.Aim.TheVariants as aims
 use Rattle.lcm_events.specs.declared.asks.Ask.{Ask}
@@ -51,9 +50,11 @@ use Rattle.lcm_events.specs.declared.states.OpState.{OpState}
 use Rattle.lcm_events.specs.declared.states.OpState.TheVariants as state
 use Rattle.lcm_events.specs.declared.states.Role.{Role}
 use Rattle.lcm_events.specs.declared.states.Role.TheVariants as who
+use Rattle.vnfm_base.specs.Text.{is_short_text}
 use Rattle.event_codec.specs.Combinators.{Reader, bind, pair_by, pair, shape, only, cases, sum, word, entries, piece, big_endian, u8_at}
 use Rattle.event_codec.specs.Numbers as number
-use Rattle.event_codec.specs.Valid.{rising, steps_fit, in_order, names_entries}
+use Rattle.event_codec.specs.Valid.{in_order, names_entries}
+use Rattle.lcm_events.specs.Descriptors.{is_rising, is_valid_steps}
 
 unfoldable pub u16_at : Reader ℕ
 u16_at bytes = big_endian w16 bytes
@@ -63,14 +64,6 @@ u32_at bytes = big_endian w32 bytes
 
 unfoldable pub u64_at : Reader ℕ
 u64_at bytes = big_endian w64 bytes
-
--- a byte of no control character
-abbrev pub is_plain : ℕ → Bool
-is_plain byte = nat_le 32 byte && not (byte == 127)
-
--- a text without control characters of at most so many bytes
-unfoldable pub is_short_text : ℕ → List ℕ → Bool
-is_short_text most bytes = nat_le (length bytes) most && (is_utf8 bytes && list_all is_plain bytes)
 
 -- the bytes of a text whose length stands before them
 abbrev pub counted_at : Reader ℕ → Reader (List ℕ)
@@ -244,7 +237,7 @@ filter_at = shape (λ p. record { vnfds = p.0; instances = p.1.0; names = p.1.1.
     (pair (many_at notice_kind_at) (pair (many_at operation_type_at) (many_at op_state_at))))))
 
 unfoldable pub vdu_at : Reader Vdu
-vdu_at = only (λ v. rising nat_lt v.storages)
+vdu_at = only (λ v. is_rising nat_lt v.storages)
     (shape (λ p. record { name = p.0; memory = p.1.0; cpus = p.1.1.0; maximum = p.1.1.1.0; initial = p.1.1.1.1.0; storages = p.1.1.1.1.1 })
     (pair name_at (pair u64_at (pair u32_at (pair u32_at (pair u32_at (many_at u16_at)))))))
 
@@ -269,7 +262,7 @@ unfoldable pub rows_at : Reader (ℕ × List Row)
 rows_at = pair_by u16_at (λ steps. many_at (row_at steps))
 
 unfoldable pub aspect_at : Reader Aspect
-aspect_at = only (λ a. steps_fit a.maximum a.steps && rising (λ r s. nat_lt r.vdu s.vdu) a.rows)
+aspect_at = only (λ a. is_valid_steps a.maximum a.steps && is_rising (λ r s. nat_lt r.vdu s.vdu) a.rows)
     (shape (λ p. record { name = p.0; maximum = p.1.0; steps = p.1.1.0; rows = p.1.1.1 }) (pair name_at (pair u32_at rows_at)))
 
 unfoldable pub level_at : ℕ → Reader Level

@@ -2,8 +2,7 @@
 -- a length that its count can say (own format, docs/EVENTS.md).
 use Rattle.std.specs.Prelude.{ℕ, ◌≡◌, ◌^◌, ◌<◌, ◌≤◌, ◌==◌, List, [], ◌∷◌, Option, Some, None, Bool, true, false, length, nat_lt, ◌&&◌, ◌||◌, if◌then◌else◌}
 use Rattle.std.specs.List.{AllByRecursion, list_all}
-use Rattle.std.specs.Ordering.{nat_cmp, is_lt}
-use Rattle.std.specs.Cmp.Lexicographic.{slice_cmp}
+use Rattle.lcm_events.specs.Descriptors.{is_name_before, is_rising, is_valid_steps}
 use Rattle.vnfm_base.specs.Text.{IsName, IsLine}
 use Rattle.vnfm_base.specs.Moment.{IsMoment}
 use Rattle.lcm_events.specs.declared.asks.Aim.{Aim}
@@ -116,23 +115,13 @@ abbrev pub IsFilter : Filter → Type 0
 IsFilter f = AreMany IsName f.vnfds × AreMany IsName f.instances × AreMany IsName f.names
     × AreMany IsAny f.notices × AreMany IsAny f.operations × AreMany IsAny f.states
 
--- each entry stands before the next one
-abbrev pub rising : {A : Type 0} → (A → A → Bool) → List A → Bool
-rising before [] = true
-rising before (x ∷ []) = true
-rising before (x ∷ y ∷ rest) = before x y && rising before (y ∷ rest)
-
--- the byte order of names
-abbrev pub name_before : List ℕ → List ℕ → Bool
-name_before a b = is_lt (slice_cmp nat_cmp a b)
-
 abbrev pub IsStorage : Storage → Type 0
 IsStorage s = IsName s.name × IsU64 s.size
 
 -- the numbers of its storages rise
 abbrev pub IsVdu : Vdu → Type 0
 IsVdu v = IsName v.name × IsU64 v.memory × IsU32 v.cpus × IsU32 v.maximum × IsU32 v.initial
-    × AreMany IsU16 v.storages × (rising nat_lt v.storages ≡ true)
+    × AreMany IsU16 v.storages × (is_rising nat_lt v.storages ≡ true)
 
 -- 65,535 names no link
 abbrev pub IsLink : Option ℕ → Type 0
@@ -145,14 +134,10 @@ IsPort p = IsName p.name × IsU16 p.vdu × IsLink p.link
 abbrev pub IsRow : ℕ → Row → Type 0
 IsRow steps r = IsU16 r.vdu × ((length r.deltas ≡ steps) × AllByRecursion IsU32 r.deltas)
 
--- an aspect has no step where its maximum is 0, and else one that holds for all, or one for each level
-abbrev pub steps_fit : ℕ → ℕ → Bool
-steps_fit maximum steps = if maximum == 0 then steps == 0 else (steps == 1) || (steps == maximum)
-
 -- the rows rise by VDU
 abbrev pub IsAspect : Aspect → Type 0
 IsAspect a = IsName a.name × IsU32 a.maximum × IsU16 a.steps × AreMany (IsRow a.steps) a.rows
-    × (steps_fit a.maximum a.steps ≡ true) × (rising (λ r s. nat_lt r.vdu s.vdu) a.rows ≡ true)
+    × (is_valid_steps a.maximum a.steps ≡ true) × (is_rising (λ r s. nat_lt r.vdu s.vdu) a.rows ≡ true)
 
 -- the level of a descriptor with so many aspects
 abbrev pub IsLevel : ℕ → Level → Type 0
@@ -160,12 +145,12 @@ IsLevel aspects l = IsName l.name × ((length l.numbers ≡ aspects) × AllByRec
 
 -- the named things of a descriptor stand in the order of their names, with no name twice in a list
 abbrev pub in_order : Vnfd → Bool
-in_order v = rising (λ a b. name_before a.name b.name) v.vdus
-    && (rising (λ a b. name_before a.name b.name) v.storages
-    && (rising name_before v.links
-    && (rising (λ a b. name_before a.name b.name) v.ports
-    && (rising (λ a b. name_before a.name b.name) v.aspects
-    && rising (λ a b. name_before a.name b.name) v.levels))))
+in_order v = is_rising (λ a b. is_name_before a.name b.name) v.vdus
+    && (is_rising (λ a b. is_name_before a.name b.name) v.storages
+    && (is_rising is_name_before v.links
+    && (is_rising (λ a b. is_name_before a.name b.name) v.ports
+    && (is_rising (λ a b. is_name_before a.name b.name) v.aspects
+    && is_rising (λ a b. is_name_before a.name b.name) v.levels))))
 
 -- the number, where there is one, is below
 abbrev pub optionally_below : ℕ → Option ℕ → Bool

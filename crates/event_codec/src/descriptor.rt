@@ -3,7 +3,8 @@ ghost use Rattle.std.specs.Prelude.{◌≡◌, ◌&&◌, Bool, length, nat_lt};
 ghost use Rattle.std.specs.List.{list_all};
 ghost use Rattle.event_codec.specs.Gives.{Gives};
 ghost use Rattle.event_codec.specs.Readers.{vdu_at, storage_at, link_at, port_at, row_at, rows_at, aspect_at, level_at, scaling_at, vnfd_at};
-ghost use Rattle.event_codec.specs.Valid.{rising, name_before, steps_fit, in_order, names_entries, optionally_below};
+ghost use Rattle.event_codec.specs.Valid.{in_order, names_entries, optionally_below};
+ghost use Rattle.lcm_events.specs.Descriptors.{is_rising, is_name_before, is_valid_steps};
 
 use crate::fault::DecodeFault;
 use crate::input::Input;
@@ -22,7 +23,7 @@ trait Ranked {
 }
 
 impl Ranked for Name {
-    ghost before = { name_before };
+    ghost before = { is_name_before };
 
     fn is_before(&self, other: &Name) -> bool {
         self.cmp(other).is_lt()
@@ -30,7 +31,7 @@ impl Ranked for Name {
 }
 
 impl Ranked for Vdu {
-    ghost before = { λ a b. name_before a.name b.name };
+    ghost before = { λ a b. is_name_before a.name b.name };
 
     fn is_before(&self, other: &Vdu) -> bool {
         self.name.is_before(&other.name)
@@ -38,7 +39,7 @@ impl Ranked for Vdu {
 }
 
 impl Ranked for Storage {
-    ghost before = { λ a b. name_before a.name b.name };
+    ghost before = { λ a b. is_name_before a.name b.name };
 
     fn is_before(&self, other: &Storage) -> bool {
         self.name.is_before(&other.name)
@@ -46,7 +47,7 @@ impl Ranked for Storage {
 }
 
 impl Ranked for Port {
-    ghost before = { λ a b. name_before a.name b.name };
+    ghost before = { λ a b. is_name_before a.name b.name };
 
     fn is_before(&self, other: &Port) -> bool {
         self.name.is_before(&other.name)
@@ -54,7 +55,7 @@ impl Ranked for Port {
 }
 
 impl Ranked for Aspect {
-    ghost before = { λ a b. name_before a.name b.name };
+    ghost before = { λ a b. is_name_before a.name b.name };
 
     fn is_before(&self, other: &Aspect) -> bool {
         self.name.is_before(&other.name)
@@ -62,7 +63,7 @@ impl Ranked for Aspect {
 }
 
 impl Ranked for Level {
-    ghost before = { λ a b. name_before a.name b.name };
+    ghost before = { λ a b. is_name_before a.name b.name };
 
     fn is_before(&self, other: &Level) -> bool {
         self.name.is_before(&other.name)
@@ -87,7 +88,7 @@ impl Ranked for Row {
 
 /// Whether each item stands before the next one.
 fn rises<T: Ranked>(items: &[T]) -> bool
-    ensures { result ≡ rising T.before items.now }
+    ensures { result ≡ is_rising T.before items.now }
 {
     let [first, rest @ ..] = items else {
         return true;
@@ -193,7 +194,7 @@ impl Read for Aspect {
 
 /// Whether an aspect with this maximum may have so many steps.
 fn do_steps_fit(maximum: u32, steps: u16) -> bool
-    ensures { result ≡ steps_fit maximum steps }
+    ensures { result ≡ is_valid_steps maximum steps }
 {
     if maximum == 0 {
         steps == 0

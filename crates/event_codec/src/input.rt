@@ -107,7 +107,7 @@ impl<'a> Input<'a> {
 }
 
 /// The name of these bytes, if they are one.
-#[tactic(auto, using(crate::proofs::TextLaws::short_texts))]
+#[tactic(auto, using(vnfm_base::proofs::TextTests::short_texts))]
 fn name_of(bytes: &[u8]) -> Result<Name, DecodeFault>
     ensures { GivesText 255 bytes.now result }
 {
@@ -118,7 +118,7 @@ fn name_of(bytes: &[u8]) -> Result<Name, DecodeFault>
 }
 
 /// The line of these bytes, if they are one.
-#[tactic(auto, using(crate::proofs::TextLaws::short_texts))]
+#[tactic(auto, using(vnfm_base::proofs::TextTests::short_texts))]
 fn line_of(alloc: Global, bytes: &[u8]) -> Result<Line, DecodeFault>
     ensures { GivesText 2048 bytes.now result }
 {

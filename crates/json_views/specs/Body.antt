@@ -1,12 +1,12 @@
 -- What a request body says. A body is a JSON object; a member that is null is as if absent, and members that aren't asked
 -- for are passed over (SOL 003 5.5.2; RFC 8259).
-use Rattle.std.specs.Prelude.{◌≡◌, ◌==◌, ◌&&◌, not, ℕ, List, [], length, nat_le, nat_lt, codes, Bool, true, false, if◌then◌else◌, Option, Some, None, option_and_then, Result, Ok, Err, is_some}
+use Rattle.std.specs.Prelude.{◌≡◌, ℕ, List, [], length, nat_le, codes, Bool, true, false, if◌then◌else◌, Option, Some, None, option_and_then, Result, Ok, Err, is_some}
 use Rattle.std.specs.Option.{option_map_or}
-use Rattle.std.specs.List.{list_all}
 use Rattle.std.specs.Str.{is_utf8}
 use Rattle.serde_json.specs.Data.{Data, null, boolean, number, string, array, object}
 use Rattle.serde_json.specs.Find.{get, as_str, as_object, as_null}
 use Rattle.serde_json.specs.Read.{read}
+use Rattle.vnfm_base.specs.Text.{is_short_text}
 use Rattle.json_views.specs.declared.body.BodyFault.{BodyFault}
 use Rattle.json_views.specs.declared.body.BodyFault.TheVariants.{Malformed, Lacks, Wrong, Memory}
 use Rattle.json_views.specs.declared.body.CreateBody.{CreateBody}
@@ -26,18 +26,6 @@ not_null d = if is_some (as_null d) then None else Some d
 -- the member of this name, absent where it is null (own rule)
 abbrev pub member_of : List ℕ → Data → Option Data
 member_of name d = option_and_then not_null (get name d)
-
--- a byte of a short text: no control character (own rule)
-abbrev pub is_plain : ℕ → Bool
-is_plain byte = nat_le 32 byte && not (byte == 127)
-
--- the bytes are a short text of at most so many bytes (own rule)
-abbrev pub is_short_text : ℕ → List ℕ → Bool
-is_short_text most bytes = nat_le (length bytes) most && is_utf8 bytes && list_all is_plain bytes
-
--- a member's name: at most 255 visible ASCII bytes and spaces
-abbrev pub is_label : List ℕ → Bool
-is_label text = nat_le (length text) 255 && list_all (λ byte. nat_le 32 byte && nat_lt byte 127) text
 
 -- the text, where it is a name (own rule)
 abbrev pub name_in : List ℕ → Option (List ℕ)

@@ -2,7 +2,8 @@
 ghost use Rattle.std.specs.Prelude.{◌≡◌, codes, length, nat_le, true, IsUtf8, IfOk, IfErr, option_map, option_and_then};
 ghost use Rattle.serde_json.specs.Errors.{IsMemory};
 ghost use Rattle.serde_json.specs.View.{view};
-ghost use Rattle.json_views.specs.Body.{document, is_label, member_of, IsMalformedOrMemory, Gives, needed, optional, name_in, some_name_in, line_in, create_of, create_in};
+ghost use Rattle.vnfm_base.specs.Text.{is_label};
+ghost use Rattle.json_views.specs.Body.{document, member_of, IsMalformedOrMemory, Gives, needed, optional, name_in, some_name_in, line_in, create_of, create_in};
 
 use serde_json::{Error, Value};
 use std::alloc::Global;

@@ -2,7 +2,7 @@
 use Rattle.std.proofs.Common.{length, Some, slice_get, ◌≡◌, ◌≤◌, ◌<◌, ◌+◌, ◌++◌, ◌||◌, ◌==◌, ℕ, List, [], ◌∷◌, Bool, true, false, cond, refl, ap, sym, subst, map, filter, flat_map, take, arith, zero, suc, ◌⊎◌, inl, inr, if◌then◌else◌, ltb-true, eqb-true, eq-eqb, false-eqb, ltb}
 use Rattle.std.specs.List.{list_any, range_with_len}
 use Rattle.lcm_model.specs.Words.{IsIn, is_among}
-use Rattle.lcm_model.specs.Descriptors.{is_rising}
+use Rattle.lcm_events.specs.Descriptors.{is_rising}
 use Rattle.lcm_laws.proofs.Lists.{by_test, and_left, and_right}
 
 pub in_front : {A : Type 0} → (x : A) (xs ys : List A) → IsIn x xs → IsIn x (xs ++ ys)

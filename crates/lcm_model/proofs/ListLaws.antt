@@ -3,7 +3,7 @@ use Rattle.std.proofs.Common.{◌≡◌, ℕ, ◌+◌, ◌-◌, ◌<◌, suc, Li
 use Rattle.std.specs.List.{range_with_len, list_all}
 use Rattle.lcm_model.specs.Levels.{steps_to}
 use Rattle.lcm_model.specs.Words.{total}
-use Rattle.lcm_model.specs.Descriptors.{is_rising}
+use Rattle.lcm_events.specs.Descriptors.{is_rising}
 
 -- a range that isn't empty begins with its first number
 pub range_step : (i n : ℕ) → i < n → range_with_len i (n - i) ≡ i ∷ range_with_len (i + 1) (n - (i + 1))

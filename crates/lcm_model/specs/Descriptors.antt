@@ -1,9 +1,8 @@
 -- Which descriptors are valid, and which levels, holdings and changes are of a descriptor (own limits over SOL 001).
-use Rattle.std.specs.Cmp.Lexicographic.{slice_cmp}
 use Rattle.std.specs.List.{list_all}
 use Rattle.std.specs.Option.{option_map_or}
-use Rattle.std.specs.Ordering.{is_lt, nat_cmp}
 use Rattle.std.specs.Prelude.{Bool, List, [], if◌then◌else◌, length, map, nat_le, nat_lt, slice_get, true, unwrap_or, zip, ℕ, ◌&&◌, ◌==◌, ◌||◌, ◌∷◌, ◌≡◌, ◌≤◌}
+use Rattle.lcm_events.specs.Descriptors.{is_name_before, is_rising, is_valid_steps}
 use Rattle.lcm_events.specs.Same.{kind_number, same_kind}
 use Rattle.lcm_events.specs.declared.changes.Change.{Change}
 use Rattle.lcm_events.specs.declared.changes.Def.{Def}
@@ -22,16 +21,6 @@ use Rattle.lcm_events.specs.declared.changes.DefKind.TheVariants.{Link}
 -- a name that isn't empty (own rule)
 abbrev pub is_given : List ℕ → Bool
 is_given name = nat_lt 0 (length name)
-
--- the first name stands before the second in byte order (own rule)
-abbrev pub is_name_before : List ℕ → List ℕ → Bool
-is_name_before a b = is_lt (slice_cmp nat_cmp a b)
-
--- each entry stands before the next one, by this test (own rule)
-abbrev pub is_rising : {A : Type 0} → (A → A → Bool) → List A → Bool
-is_rising before [] = true
-is_rising before (x ∷ []) = true
-is_rising before (x ∷ y ∷ xs) = before x y && is_rising before (y ∷ xs)
 
 -- these levels are of the descriptor: one number for each aspect, within its maximum (SOL 001, ScalingAspects)
 abbrev pub are_levels_of : Vnfd → List ℕ → Bool
@@ -55,10 +44,6 @@ is_valid_storage x = is_given x.name && nat_le x.size 1152921504606846976
 -- the port is valid: its name is given, its VDU exists, and its link where it has one (SOL 001, VduCp)
 abbrev pub is_valid_port : Vnfd → Port → Bool
 is_valid_port d p = is_given p.name && nat_lt p.vdu (length d.vdus) && option_map_or (λ n. nat_lt n (length d.links)) p.link true
-
--- an aspect with this maximum may have so many deltas a row: none for 0, else one or one a step (SOL 001, ScalingAspects, step_deltas)
-abbrev pub is_valid_steps : ℕ → ℕ → Bool
-is_valid_steps maximum steps = if maximum == 0 then steps == 0 else (steps == 1) || (steps == maximum)
 
 -- the row is valid: its VDU exists, and it has so many deltas, each within the limit (SOL 001, VduScalingAspectDeltas)
 abbrev pub is_valid_row : Vnfd → ℕ → Row → Bool

@@ -1,3 +1,4 @@
+pub mod CheckLaws
 mod DocumentLemmas
 pub mod NameLemmas
 pub mod NameOrder

@@ -9,7 +9,8 @@ use Rattle.std.specs.Str.Parse.{digits_value}
 use Rattle.serde_json.specs.Data.{Data}
 use Rattle.serde_json.specs.Find.{as_str}
 use Rattle.lcm_events.specs.declared.descriptor.Vnfd.{Vnfd}
-use Rattle.lcm_model.specs.Descriptors.{is_given, is_rising, is_valid_maximum, is_valid_port, is_valid_storage, is_valid_vdu}
+use Rattle.lcm_model.specs.Descriptors.{is_given, is_valid_maximum, is_valid_port, is_valid_storage, is_valid_vdu}
+use Rattle.lcm_events.specs.Descriptors.{is_rising}
 use Rattle.vnfd_document.specs.declared.fault.VnfdFault.{VnfdFault}
 use Rattle.vnfd_document.specs.Checks.{first_failing}
 use Rattle.vnfd_document.specs.Json.{Named, whole, within}
@@ -17,27 +18,12 @@ use Rattle.vnfd_document.specs.Members.{needed}
 use Rattle.vnfd_document.specs.Names.{is_given_name, is_name, name_or_empty}
 use Rattle.vnfd_document.specs.Places.{node_named, required}
 use Rattle.vnfd_document.proofs.NameOrder.{name_or_empty-given}
+use Rattle.vnfd_document.proofs.CheckLaws.{above_less, given_kept, none_parts, or_zero, read_if, rising_cons, some_then, whole_at_most, within_if}
 use Rattle.vnfd_nodes.specs.Built.{aimed_at, is_named, place_of, places_named, port_of, storage_of, vdu_of}
 use Rattle.vnfd_nodes.specs.Nodes.{aim_refusal, aims_refusal, binding_refusal, compute_refusal, cpus_at, is_known, maximum_at, memory_at, port_refusal, size, size_at}
 use Rattle.vnfd_nodes.specs.Sizes.{behind, bytes_of, bytes_of_unit, is_space, size_of}
 
 -- ---- small laws
-
--- both checks pass
-pub none_parts : {F : Type 0} (a b : Option F) → option_or a b ≡ None → (a ≡ None) × (b ≡ None)
-none_parts None b h = (refl, h)
-none_parts (Some x) b h = (h, absurd_some x h) where
-  absurd_some : {F G : Type 0} {b : Option G} (x : F) → Some x ≡ None → b ≡ None
-  absurd_some x h = let no : ⊥ = cc in absurd no
-
-some_then : {A B : Type 0} (f : A → Option B) (P : B → Type 0) (o : Option A) → ((x : A) → IfSome (f x) P) → IfSome (option_and_then f o) P
-some_then f P None h = tt
-some_then f P (Some x) h = h x
-
--- where each is within a limit, the default 0 is too
-or_zero : (m : ℕ) (o : Option ℕ) → IfSome o (λ n. nat_le n m ≡ true) → nat_le (unwrap_or o 0) m ≡ true
-or_zero m None h = le-leb 0 m (omega arith)
-or_zero m (Some n) h = h
 
 -- where a value is there, it is as each would be
 of_some : (t : ℕ → Bool) (d : ℕ) (o : Option ℕ) → is_some o ≡ true → IfSome o (λ n. t n ≡ true) → t (unwrap_or o d) ≡ true
@@ -48,25 +34,12 @@ some_and : (P Q : ℕ → Type 0) (o : Option ℕ) → IfSome o P → ((n : ℕ)
 some_and P Q None h next = tt
 some_and P Q (Some n) h next = next n h
 
--- a needed member that isn't refused is read
-read_if : (b : Bool) (f : VnfdFault) → cond b None (Some f) ≡ None → b ≡ true
-read_if true f h = refl
-read_if false f h = let no : ⊥ = cc in absurd no
-
 needed_read : (name : List ℕ) (form : Data → Option ℕ) (v : Option Data) → needed name form v ≡ None → is_some (option_and_then form v) ≡ true
 needed_read name form None h = let no : ⊥ = cc in absurd no
 needed_read name form (Some d) h = read_if (is_some (form d)) _ h
 
--- a number within bounds
-within_if : (b : Bool) (n : ℕ) (P : ℕ → Type 0) → (b ≡ true → P n) → IfSome (cond b (Some n) None) P
-within_if true n P h = h refl
-within_if false n P h = tt
-
 whole_at_least : (low high : ℕ) (d : Data) → IfSome (whole low high d) (λ n. nat_le low n ≡ true)
 whole_at_least low high d = some_then (within low high) _ _ (λ n. within_if _ n _ (λ h. (and_parts (nat_le low n) (nat_le n high) h).0))
-
-whole_at_most : (low high : ℕ) (d : Data) → IfSome (whole low high d) (λ n. nat_le n high ≡ true)
-whole_at_most low high d = some_then (within low high) _ _ (λ n. within_if _ n _ (λ h. (and_parts (nat_le low n) (nat_le n high) h).1))
 
 -- ---- sizes
 
@@ -84,23 +57,7 @@ size_small d =
 
 -- ---- names
 
-given_kept : (k : List ℕ) → is_given_name k ≡ true → is_given (name_or_empty k) ≡ true
-given_kept k h = rw (name_or_empty-given k h) (some_byte k (and_parts (nat_le 1 (length k)) (is_name k) h).0) where
-  some_byte : (k : List ℕ) → nat_le 1 (length k) ≡ true → nat_lt 0 (length k) ≡ true
-  some_byte k h = lt-ltb _ _ (omega (arith, leb-true _ _ h))
-
 -- ---- places
-
-rising_cons : (n : ℕ) (rest : List ℕ) → list_all (nat_le (n + 1)) rest ≡ true → is_rising nat_lt rest ≡ true → is_rising nat_lt (n ∷ rest) ≡ true
-rising_cons n [] above up = refl
-rising_cons n (y ∷ ys) above up =
-    and_from (nat_lt n y) _ (lt-ltb _ _ (omega (arith, leb-true (n + 1) y (and_parts (nat_le (n + 1) y) _ above).0))) up
-
-above_less : (n : ℕ) (xs : List ℕ) → list_all (nat_le (n + 1)) xs ≡ true → list_all (nat_le n) xs ≡ true
-above_less n [] h = refl
-above_less n (x ∷ xs) h =
-    let parts = and_parts (nat_le (n + 1) x) _ h in
-    and_from (nat_le n x) _ (le-leb _ _ (omega (arith, leb-true (n + 1) x parts.0))) (above_less n xs parts.1)
 
 places_above_if : (b : Bool) (n : ℕ) (rest : List ℕ) → list_all (nat_le (n + 1)) rest ≡ true → list_all (nat_le n) (cond b (n ∷ rest) rest) ≡ true
 places_above_if true n rest h = and_from (nat_le n n) _ (le-leb n n (omega arith)) (above_less n rest h)

@@ -1,5 +1,6 @@
 -- What passes the checks of policies has valid levels.
 use Rattle.std.proofs.Common.{◌≡◌, ◌+◌, ◌<◌, ◌≤◌, codes, ◌&&◌, ◌==◌, ◌++◌, ℕ, List, [], ◌∷◌, length, map, Bool, true, false, cond, Option, Some, None, unwrap_or, option_and_then, nat_le, nat_lt, nat_eq, suc, refl, ap, sym, ◌∙◌, subst, arith, IfSome}
+use Rattle.std.proofs.lemmas.List.{length-map}
 use Rattle.std.proofs.lemmas.Bool.{and_from, and_parts, le-leb, lt-ltb, leb-true, ltb-true, eq-eqb}
 use Rattle.std.specs.List.{flat_map, list_all, position_from}
 use Rattle.std.specs.Option.{option_or}
@@ -21,7 +22,8 @@ use Rattle.vnfd_policies.specs.Levels.{default_by, default_name_in, default_of, 
 use Rattle.vnfd_policies.specs.Refusal.{policies_refusal, policy_names}
 use Rattle.vnfd_policies.specs.Rows.{aspect_of, aspects_of}
 use Rattle.vnfd_policies.proofs.ListLaws.{names_given}
-use Rattle.vnfd_policies.proofs.ValidLaws.{at_most, level_valid, none_parts, within_if}
+use Rattle.vnfd_document.proofs.CheckLaws.{none_parts, within_if}
+use Rattle.vnfd_policies.proofs.ValidLaws.{at_most, level_valid}
 
 pub levels_pass : (vdus policies : List Named) → policies_refusal vdus policies ≡ None → levels_refusal policies ≡ None
 unfolding policies_refusal
@@ -30,10 +32,6 @@ levels_pass vdus policies passes =
     let behind_deltas = (none_parts (all_deltas_refusal vdus policies) _ behind_aspects).1 in
     let behind_initials = (none_parts (initials_refusal vdus policies) _ behind_deltas).1 in
     (none_parts (levels_refusal policies) None behind_initials).0
-
-length_of : {A B : Type 0} (f : A → B) (xs : List A) → length (map f xs) ≡ length xs
-length_of f [] = refl
-length_of f (x ∷ xs) = ap suc (length_of f xs)
 
 -- ---- how many levels
 
@@ -45,7 +43,7 @@ few_by : (all with_levels : List Named) → policies_with_levels_refusal all wit
 few_by all [] h = refl
 few_by all (p ∷ []) h =
     let behind_none = (none_parts (none_refusal (levels_in p.1)) _ h).1 in
-    subst (λ (n : ℕ). nat_le n 64 ≡ true) (sym (length_of (level_of all) (levels_in p.1)))
+    subst (λ (n : ℕ). nat_le n 64 ≡ true) (sym (length-map (levels_in p.1) (level_of all)))
     (at_most 64 (codes "levels") (levels_in p.1) (none_parts (too_many 64 (codes "levels") (levels_in p.1)) _ behind_none).0)
 few_by all (p ∷ q ∷ more) h = let no : ⊥ = cc in absurd no
 
@@ -75,7 +73,7 @@ default_below_by : (all with_levels : List Named) → policies_with_levels_refus
 default_below_by all [] h = refl
 default_below_by all (p ∷ []) h =
     let named = λ (l : Named). bytes_eq l.0 (default_name_in p.1) in
-    subst (λ (n : ℕ). nat_lt (default_by (p ∷ [])) n ≡ true) (sym (length_of (level_of all) (levels_in p.1)))
+    subst (λ (n : ℕ). nat_lt (default_by (p ∷ [])) n ≡ true) (sym (length-map (levels_in p.1) (level_of all)))
     (within_below (length (levels_in p.1)) (position_from named 0 (levels_in p.1)) (some_level (levels_in p.1) (none_parts (none_refusal (levels_in p.1)) _ h).0)
     (position_below named 0 (length (levels_in p.1)) (levels_in p.1) (omega arith)))
 default_below_by all (p ∷ q ∷ more) h = let no : ⊥ = cc in absurd no
@@ -95,7 +93,7 @@ zero_level_valid : (d : Vnfd) (vdus deltas all : List Named) → d.aspects ≡ m
     → is_valid_level d (record { name = codes "default"; numbers = map (λ a. 0) all }) ≡ true
 zero_level_valid d vdus deltas all is =
     subst (λ (xs : List Aspect). ((length (map {B = ℕ} (λ a. 0) all) == length xs) && list_all (λ x. nat_le x.1 x.0.maximum) (zip xs (map {B = ℕ} (λ a. 0) all))) ≡ true) (sym is)
-    (and_from _ _ (eq-eqb _ _ (length_of (λ a. 0) all ∙ sym (length_of (aspect_of vdus deltas) all))) (zeros_within vdus deltas all))
+    (and_from _ _ (eq-eqb _ _ (length-map all (λ a. 0) ∙ sym (length-map all (aspect_of vdus deltas)))) (zeros_within vdus deltas all))
 
 each_level_valid : (d : Vnfd) (vdus deltas all : List Named) (xs : List Named) → d.aspects ≡ map (aspect_of vdus deltas) all → list_all (λ l. is_given_name l.0) xs ≡ true
     → list_all (is_valid_level d) (map (level_of all) xs) ≡ true

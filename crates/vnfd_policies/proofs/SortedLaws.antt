@@ -16,7 +16,8 @@ use Rattle.vnfd_policies.specs.Refusal.{policies_refusal, policy_names}
 use Rattle.vnfd_policies.specs.Rows.{aspect_of, aspects_of}
 use Rattle.vnfd_policies.proofs.LevelLaws.{all_front, levels_pass}
 use Rattle.vnfd_policies.proofs.ListLaws.{names_given}
-use Rattle.vnfd_policies.proofs.ValidLaws.{aspects_pass, none_parts}
+use Rattle.vnfd_document.proofs.CheckLaws.{none_parts}
+use Rattle.vnfd_policies.proofs.ValidLaws.{aspects_pass}
 
 names_of : {A : Type 0} (f : Named → A) (name : A → List ℕ) (xs : List Named) → map name (map f xs) ≡ map (λ x. name (f x)) xs
 names_of f name [] = refl

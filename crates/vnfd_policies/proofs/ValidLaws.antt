@@ -9,7 +9,8 @@ use Rattle.serde_json.specs.Find.{get, as_array, as_str}
 use Rattle.lcm_events.specs.declared.descriptor.Aspect.{Aspect}
 use Rattle.lcm_events.specs.declared.descriptor.Row.{Row}
 use Rattle.lcm_events.specs.declared.descriptor.Vnfd.{Vnfd}
-use Rattle.lcm_model.specs.Descriptors.{are_levels_of, are_sorted, is_given, is_rising, is_valid_aspect, is_valid_level, is_valid_row, is_valid_steps}
+use Rattle.lcm_model.specs.Descriptors.{are_levels_of, are_sorted, is_given, is_valid_aspect, is_valid_level, is_valid_row}
+use Rattle.lcm_events.specs.Descriptors.{is_rising, is_valid_steps}
 use Rattle.vnfd_document.specs.declared.fault.VnfdFault.{VnfdFault}
 use Rattle.vnfd_document.specs.Checks.{first_failing}
 use Rattle.vnfd_document.specs.Json.{Named, at, entries_of, items_in, whole, within}
@@ -17,6 +18,7 @@ use Rattle.vnfd_document.specs.Members.{needed}
 use Rattle.vnfd_document.specs.Names.{is_given_name, is_name, name_or_empty}
 use Rattle.vnfd_document.specs.Places.{of_type, property}
 use Rattle.vnfd_document.proofs.NameOrder.{name_or_empty-given}
+use Rattle.vnfd_document.proofs.CheckLaws.{above_less, given_kept, none_parts, not_if, or_zero, read_if, rising_cons, some_then, whole_at_most}
 use Rattle.vnfd_policies.specs.Policies.{aspect_deltas, initial_delta, vdu_levels, scaling_aspects, too_many, aims_at}
 use Rattle.vnfd_policies.specs.Aspects.{are_steps, aspects, aspects_refusal, form_refusal, maximum, maximum_refusal, step_list, steps, steps_refusal}
 use Rattle.vnfd_policies.specs.Deltas.{step_delta}
@@ -27,42 +29,8 @@ use Rattle.vnfd_policies.specs.Rows.{aspect_of, aspects_of, deltas_by, policies_
 
 -- ---- small laws
 
--- both checks pass
-pub none_parts : {F : Type 0} (a b : Option F) → option_or a b ≡ None → (a ≡ None) × (b ≡ None)
-none_parts None b h = (refl, h)
-none_parts (Some x) b h = let no : ⊥ = cc in absurd no
-
-not_if : (b : Bool) (f : VnfdFault) → cond b (Some f) None ≡ None → b ≡ false
-not_if true f h = let no : ⊥ = cc in absurd no
-not_if false f h = refl
-
-pub read_if : (b : Bool) (f : VnfdFault) → cond b None (Some f) ≡ None → b ≡ true
-read_if true f h = refl
-read_if false f h = let no : ⊥ = cc in absurd no
-
-pub some_then : {A B : Type 0} (f : A → Option B) (P : B → Type 0) (o : Option A) → ((x : A) → IfSome (f x) P) → IfSome (option_and_then f o) P
-some_then f P None h = tt
-some_then f P (Some x) h = h x
-
--- where each is within a limit, the default 0 is too
-or_zero : (m : ℕ) (o : Option ℕ) → IfSome o (λ n. nat_le n m ≡ true) → nat_le (unwrap_or o 0) m ≡ true
-or_zero m None h = le-leb 0 m (omega arith)
-or_zero m (Some n) h = h
-
-pub within_if : (b : Bool) (n : ℕ) (P : ℕ → Type 0) → (b ≡ true → P n) → IfSome (cond b (Some n) None) P
-within_if true n P h = h refl
-within_if false n P h = tt
-
-whole_at_most : (low high : ℕ) (d : Data) → IfSome (whole low high d) (λ n. nat_le n high ≡ true)
-whole_at_most low high d = some_then (within low high) _ _ (λ n. within_if _ n _ (λ h. (and_parts (nat_le low n) (nat_le n high) h).1))
-
 pub at_most : (most : ℕ) (name : List ℕ) (xs : List Named) → too_many most name xs ≡ None → nat_le (length xs) most ≡ true
 at_most most name xs h = le-leb (length xs) most (ltb-false most (length xs) (not_if _ _ h))
-
-given_kept : (k : List ℕ) → is_given_name k ≡ true → is_given (name_or_empty k) ≡ true
-given_kept k h = rw (name_or_empty-given k h) (some_byte k (and_parts (nat_le 1 (length k)) (is_name k) h).0) where
-  some_byte : (k : List ℕ) → nat_le 1 (length k) ≡ true → nat_lt 0 (length k) ≡ true
-  some_byte k h = lt-ltb _ _ (omega (arith, leb-true _ _ h))
 
 -- ---- an aspect
 
@@ -111,17 +79,6 @@ map_then f P (Some x) h = h x
 
 row_vdu : (aspect : Data) (policies : List Named) (n : ℕ) (name : List ℕ) → IfSome (row_of aspect policies n name) (λ r. r.vdu ≡ n)
 row_vdu aspect policies n name = map_then _ (λ (r : Row). r.vdu ≡ n) (find (λ p. aims_at name p.1) policies) (λ p. refl)
-
-rising_cons : (n : ℕ) (rest : List ℕ) → list_all (nat_le (n + 1)) rest ≡ true → is_rising nat_lt rest ≡ true → is_rising nat_lt (n ∷ rest) ≡ true
-rising_cons n [] above up = refl
-rising_cons n (y ∷ ys) above up =
-    and_from (nat_lt n y) _ (lt-ltb _ _ (omega (arith, leb-true (n + 1) y (and_parts (nat_le (n + 1) y) _ above).0))) up
-
-above_less : (n : ℕ) (xs : List ℕ) → list_all (nat_le (n + 1)) xs ≡ true → list_all (nat_le n) xs ≡ true
-above_less n [] h = refl
-above_less n (x ∷ xs) h =
-    let parts = and_parts (nat_le (n + 1) x) _ h in
-    and_from (nat_le n x) _ (le-leb _ _ (omega (arith, leb-true (n + 1) x parts.0))) (above_less n xs parts.1)
 
 above_if : (o : Option Row) (n : ℕ) (rest : List Row) → IfSome o (λ r. r.vdu ≡ n) → list_all (nat_le (n + 1)) (map (λ r. r.vdu) rest) ≡ true
     → list_all (nat_le n) (map (λ r. r.vdu) (cons_option o rest)) ≡ true

@@ -6,7 +6,7 @@ ghost use Rattle.std.specs.Str.{bytes_eq};
 ghost use Rattle.serde_json.specs.View.{items_view, view};
 ghost use Rattle.vnfd_document.specs.Checks.{Refuses, first_failing};
 ghost use Rattle.vnfd_document.specs.Json.{items_in};
-ghost use Rattle.vnfd_document.specs.Names.{is_label};
+ghost use Rattle.vnfm_base.specs.Text.{is_label};
 ghost use Rattle.vnfd_document.specs.Places.{property as the_property, targets as the_targets, texts_of};
 ghost use Rattle.vnfd_document.specs.Seen.{seen};
 ghost use Rattle.vnfd_policies.specs.Policies.{aims_at as it_aims_at, is_named as one_is_named, targets_refusal, too_many, unknown_in};

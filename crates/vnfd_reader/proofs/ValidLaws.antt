@@ -1,5 +1,6 @@
 -- What passes the checks is a valid descriptor.
 use Rattle.std.proofs.Common.{◌≡◌, ◌≤◌, ◌<◌, ◌&&◌, ℕ, List, [], ◌∷◌, length, map, Bool, true, false, cond, Option, Some, None, Result, Ok, Err, nat_le, nat_lt, codes, refl, sym, ap, ◌∙◌, subst, arith, suc, IfSome, IfOk, find, option_map, Bor, Vec}
+use Rattle.std.proofs.lemmas.List.{length-map}
 use Rattle.std.proofs.lemmas.Bool.{and_from, and_parts, leb-true, lt-ltb}
 use Rattle.std.specs.List.{list_all}
 use Rattle.std.specs.Option.{option_copied, option_or}
@@ -15,10 +16,11 @@ use Rattle.vnfd_document.specs.Json.{Named}
 use Rattle.vnfd_document.specs.Names.{is_given_name, name_or_empty}
 use Rattle.vnfd_document.specs.Order.{AllInOrder, InOrder, Rises}
 use Rattle.vnfd_document.specs.Places.{node_templates, policies}
+use Rattle.vnfd_document.proofs.CheckLaws.{none_parts, not_if, read_if}
 use Rattle.vnfd_document.proofs.NameOrder.{in_order-document, in_order-policies, rises-node_templates, rises-of_type, sorted-names}
 use Rattle.vnfd_nodes.specs.Built.{port_of, storage_of, vdu_of}
 use Rattle.vnfd_nodes.specs.Nodes.{Nodes, compute_refusal, computes_refusal, count_refusal, counts_refusal, empties_refusal, empty_refusal, have_all_names, have_names, maxima_refusal, missing_refusal, nodes_in, port_refusal, ports_refusal, product_refusal, properties_refusal, property_of, sizes_refusal, storages_refusal, templates_refusal}
-use Rattle.vnfd_nodes.proofs.ValidLaws.{all_built, all_given, link_valid, none_parts, port_valid, storage_valid, vdu_valid}
+use Rattle.vnfd_nodes.proofs.ValidLaws.{all_built, all_given, link_valid, port_valid, storage_valid, vdu_valid}
 use Rattle.vnfd_policies.specs.Initial.{initial_of}
 use Rattle.vnfd_policies.specs.Levels.{default_of, levels_of}
 use Rattle.vnfd_policies.specs.Refusal.{level_policies, policies_refusal, policy_names}
@@ -32,21 +34,7 @@ use Rattle.vnfd_document.specs.Seen.{seen}
 use Rattle.lcm_model.specs.Levels.{level_of}
 use Rattle.vnfd_reader.specs.Ordered.{ComeInOrder}
 
-counted : {A B : Type 0} (f : A → B) (xs : List A) → length (map f xs) ≡ length xs
-counted f [] = refl
-counted f (x ∷ xs) = ap suc (counted f xs)
-
 -- ---- what each check says where it passes
-
--- the check's test holds
-held_if : (b : Bool) (f : VnfdFault) → cond b None (Some f) ≡ None → b ≡ true
-held_if true f h = refl
-held_if false f h = let no : ⊥ = cc in absurd no
-
--- the check's test doesn't hold
-not_held_if : (b : Bool) (f : VnfdFault) → cond b (Some f) None ≡ None → b ≡ false
-not_held_if true f h = let no : ⊥ = cc in absurd no
-not_held_if false f h = refl
 
 -- the checks of the parts, each passed
 record Pass (n : Nodes) (ps : List Named) : Type 0 where
@@ -76,7 +64,7 @@ record Named_all (n : Nodes) (ps : List Named) : Type 0 where
 named : (n : Nodes) (ps : List Named) → names_refusal n ps ≡ None → Named_all n ps
 unfolding names_refusal have_all_names
 named n ps h =
-    let both = and_parts (have_all_names n) (list_all is_given_name (policy_names ps)) (held_if _ _ h) in
+    let both = and_parts (have_all_names n) (list_all is_given_name (policy_names ps)) (read_if _ _ h) in
     let three = and_parts (have_names n.vdus && have_names n.storages && have_names n.links) (have_names n.ports) both.0 in
     let two = and_parts (have_names n.vdus && have_names n.storages) (have_names n.links) three.0 in
     let one = and_parts (have_names n.vdus) (have_names n.storages) two.0 in
@@ -96,7 +84,7 @@ few n h =
     let b = none_parts (count_refusal (codes "storages") 128 n.storages) _ a.1 in
     let c = none_parts (count_refusal (codes "links") 64 n.links) _ b.1 in
     let d = none_parts (count_refusal (codes "ports") 256 n.ports) _ c.1 in
-    record { vdus = held_if _ _ a.0; storages = held_if _ _ b.0; links = held_if _ _ c.0; ports = held_if _ _ d.0 }
+    record { vdus = read_if _ _ a.0; storages = read_if _ _ b.0; links = read_if _ _ c.0; ports = read_if _ _ d.0 }
 
 computes_pass : (n : Nodes) → templates_refusal n ≡ None → first_failing compute_refusal n.vdus ≡ None
 unfolding computes_refusal
@@ -121,7 +109,7 @@ identified d h =
     let empties = (none_parts (missing_refusal d) (empties_refusal d) h).1 in
     let a = none_parts (empty_refusal d (codes "descriptor_id")) _ empties in
     let b = none_parts (empty_refusal d (codes "flavour_id")) _ a.1 in
-    and_from _ _ (some_bytes _ (not_held_if _ _ a.0)) (some_bytes _ (not_held_if _ _ b.0))
+    and_from _ _ (some_bytes _ (not_if _ _ a.0)) (some_bytes _ (not_if _ _ b.0))
 
 -- ---- the names of what is built
 
@@ -156,10 +144,10 @@ vnfd_valid n ps up in_order h =
     let pass = passed n ps h in
     let given = named n ps pass.names in
     let fewer = few n pass.counts in
-    let vdu_count : length d.vdus ≡ length n.vdus = counted (λ x. vdu_of n.storages (initial_of ps x.0) x) n.vdus in
-    let storage_count : length d.storages ≡ length n.storages = counted storage_of n.storages in
-    let link_count : length d.links ≡ length n.links = counted (λ x. name_or_empty x.0) n.links in
-    let port_count : length d.ports ≡ length n.ports = counted (port_of n.vdus n.links) n.ports in
+    let vdu_count : length d.vdus ≡ length n.vdus = length-map n.vdus (λ x. vdu_of n.storages (initial_of ps x.0) x) in
+    let storage_count : length d.storages ≡ length n.storages = length-map n.storages storage_of in
+    let link_count : length d.links ≡ length n.links = length-map n.links (λ x. name_or_empty x.0) in
+    let port_count : length d.ports ≡ length n.ports = length-map n.ports (port_of n.vdus n.links) in
     let few_vdus_built : nat_le (length d.vdus) 64 ≡ true = rw vdu_count fewer.vdus in
     let few_storages_built : nat_le (length d.storages) 128 ≡ true = rw storage_count fewer.storages in
     let few_links_built : nat_le (length d.links) 64 ≡ true = rw link_count fewer.links in
@@ -193,13 +181,13 @@ pub parts_few : (nodes : Templates) (ps : List Named) → parts_refusal (nodes_s
 parts_few nodes ps h = few (nodes_seen nodes) (passed (nodes_seen nodes) ps h).counts
 
 pub few_vdus : (nodes : Templates) (ps : List Named) → parts_refusal (nodes_seen nodes) ps ≡ None → length nodes.vdus.items ≤ 64
-few_vdus nodes ps h = let most = leb-true _ _ (parts_few nodes ps h).vdus in omega (arith, most, counted seen nodes.vdus.items)
+few_vdus nodes ps h = let most = leb-true _ _ (parts_few nodes ps h).vdus in omega (arith, most, length-map nodes.vdus.items seen)
 
 pub few_storages : (nodes : Templates) (ps : List Named) → parts_refusal (nodes_seen nodes) ps ≡ None → length nodes.storages.items ≤ 128
-few_storages nodes ps h = let most = leb-true _ _ (parts_few nodes ps h).storages in omega (arith, most, counted seen nodes.storages.items)
+few_storages nodes ps h = let most = leb-true _ _ (parts_few nodes ps h).storages in omega (arith, most, length-map nodes.storages.items seen)
 
 pub few_links : (nodes : Templates) (ps : List Named) → parts_refusal (nodes_seen nodes) ps ≡ None → length nodes.links.items ≤ 64
-few_links nodes ps h = let most = leb-true _ _ (parts_few nodes ps h).links in omega (arith, most, counted seen nodes.links.items)
+few_links nodes ps h = let most = leb-true _ _ (parts_few nodes ps h).links in omega (arith, most, length-map nodes.links.items seen)
 
 -- ---- the document
 

@@ -1,2 +1,3 @@
 pub mod IdentLemmas
 pub mod NameLemmas
+pub mod TextTests

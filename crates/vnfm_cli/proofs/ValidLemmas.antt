@@ -5,7 +5,8 @@ use Rattle.std.specs.List.{AllByRecursion, list_all}
 use Rattle.std.proofs.lemmas.Bool.{eqb-true, leb-true, ltb-true}
 use Rattle.std.specs.Option.{option_map_or}
 use Rattle.event_codec.specs.Typed.{TypedAspect, TypedEvent, TypedLevel, TypedPort, TypedRow, TypedVdu, TypedVnfd}
-use Rattle.event_codec.specs.Valid.{AreMany, IsAspect, IsEvent, IsLevel, IsLink, IsPort, IsRow, IsStorage, IsU16, IsU32, IsVdu, IsVnfd, in_order, name_before, names_entries, optionally_below, rising, steps_fit}
+use Rattle.event_codec.specs.Valid.{AreMany, IsAspect, IsEvent, IsLevel, IsLink, IsPort, IsRow, IsStorage, IsU16, IsU32, IsVdu, IsVnfd, in_order, names_entries, optionally_below}
+use Rattle.lcm_events.specs.Descriptors.{is_name_before, is_rising, is_valid_steps}
 use Rattle.lcm_events.specs.declared.descriptor.Aspect.{Aspect}
 use Rattle.lcm_events.specs.declared.descriptor.Level.{Level}
 use Rattle.lcm_events.specs.declared.descriptor.Port.{Port}
@@ -14,7 +15,7 @@ use Rattle.lcm_events.specs.declared.descriptor.Storage.{Storage}
 use Rattle.lcm_events.specs.declared.descriptor.Vdu.{Vdu}
 use Rattle.lcm_events.specs.declared.descriptor.Vnfd.{Vnfd}
 use Rattle.lcm_model.proofs.ListLaws.{and_back, and_both, and_front, list_all_weaker}
-use Rattle.lcm_model.specs.Descriptors.{IsValid, are_levels_of, are_sorted, has_sorted_names, has_valid_counts, is_given, is_name_before, is_rising, is_valid_aspect, is_valid_level, is_valid_maximum, is_valid_port, is_valid_row, is_valid_steps, is_valid_vdu}
+use Rattle.lcm_model.specs.Descriptors.{IsValid, are_levels_of, are_sorted, has_sorted_names, has_valid_counts, is_given, is_valid_aspect, is_valid_level, is_valid_maximum, is_valid_port, is_valid_row, is_valid_vdu}
 use Rattle.vnfm_base.specs.Text.{IsName}
 use Rattle.vnfm_cli.specs.Onboarding.{onboarding}
 
@@ -28,20 +29,13 @@ all_with : {A : Type 0} (T Q : A → Type 0) (p : A → Bool) → ((x : A) → T
 all_with T Q p so [] all is = tt
 all_with T Q p so (x ∷ xs) all is = let h = both (p x) (list_all p xs) is in (so x all.0 h.0, all_with T Q p so xs all.1 h.1)
 
--- the two words for a list that rises are one
-rises : {A : Type 0} (before : A → A → Bool) (xs : List A) → is_rising before xs ≡ true → rising before xs ≡ true
-rises before [] is = refl
-rises before (x ∷ []) is = refl
-rises before (x ∷ y ∷ xs) is =
-    let h = both (before x y) (is_rising before (y ∷ xs)) is in and_both (before x y) (rising before (y ∷ xs)) h.0 (rises before (y ∷ xs) h.1)
-
--- the same of a list that rises by what its entries have
-rises_by : {A B : Type 0} (f : A → B) (before : B → B → Bool) (xs : List A) → is_rising before (map f xs) ≡ true → rising (λ x y. before (f x) (f y)) xs ≡ true
+-- a list rises by what its entries have where these rise
+rises_by : {A B : Type 0} (f : A → B) (before : B → B → Bool) (xs : List A) → is_rising before (map f xs) ≡ true → is_rising (λ x y. before (f x) (f y)) xs ≡ true
 rises_by f before [] is = refl
 rises_by f before (x ∷ []) is = refl
 rises_by f before (x ∷ y ∷ xs) is =
     let h = both (before (f x) (f y)) (is_rising before (f y ∷ map f xs)) is in
-    and_both (before (f x) (f y)) (rising (λ x y. before (f x) (f y)) (y ∷ xs)) h.0 (rises_by f before (y ∷ xs) h.1)
+    and_both (before (f x) (f y)) (is_rising (λ x y. before (f x) (f y)) (y ∷ xs)) h.0 (rises_by f before (y ∷ xs) h.1)
 
 -- numbers that rise from one on, below another, are few
 few_from : (x n : ℕ) (xs : List ℕ) → is_rising nat_lt (x ∷ xs) ≡ true → list_all (λ k. nat_lt k n) (x ∷ xs) ≡ true → x + length (x ∷ xs) ≤ n
@@ -79,7 +73,7 @@ valid_vdu : (d : Vnfd) → length d.storages ≤ 128 → (u : Vdu) → TypedVdu 
 valid_vdu d most u typed is =
     let parts = vdu_parts d u is in
     let short = few (length d.storages) u.storages parts.rise parts.exist in
-    (typed.0, typed.1, typed.2, typed.3, typed.4, (omega (arith, short, most), typed.5), rises nat_lt u.storages parts.rise)
+    (typed.0, typed.1, typed.2, typed.3, typed.4, (omega (arith, short, most), typed.5), parts.rise)
 
 -- where a link is named it exists, and its number fits
 link_fits : (n : ℕ) → n ≤ 64 → (link : Option ℕ) → option_map_or (λ k. nat_lt k n) link true ≡ true → IsLink link
@@ -183,7 +177,7 @@ ordered d is =
     let storages = and_front _ _ links in
     and_both _ _ (rises_by (λ (x : Vdu). x.name) is_name_before d.vdus (and_front _ _ storages))
     (and_both _ _ (rises_by (λ (x : Storage). x.name) is_name_before d.storages (and_back _ _ storages))
-    (and_both _ _ (rises is_name_before d.links (and_back _ _ links))
+    (and_both _ _ (and_back _ _ links)
     (and_both _ _ (rises_by (λ (x : Port). x.name) is_name_before d.ports (and_back _ _ ports))
     (and_both _ _ (rises_by (λ (x : Aspect). x.name) is_name_before d.aspects (and_back _ _ aspects))
     (rises_by (λ (x : Level). x.name) is_name_before d.levels (and_back _ _ is))))))

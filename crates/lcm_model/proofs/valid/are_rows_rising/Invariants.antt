@@ -1,4 +1,4 @@
-use Rattle.lcm_model.specs.Descriptors.{is_rising}
+use Rattle.lcm_events.specs.Descriptors.{is_rising}
 use Rattle.std.proofs.Common.{drop, ◌-◌, ◌≡◌}
 use Rattle.std.specs.Prelude.{map, nat_lt}
 use Rattle.lcm_model.proofs.valid.are_rows_rising.Given as goal

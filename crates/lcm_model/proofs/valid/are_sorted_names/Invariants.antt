@@ -1,4 +1,5 @@
-use Rattle.lcm_model.specs.Descriptors.{are_sorted, is_name_before, is_rising}
+use Rattle.lcm_model.specs.Descriptors.{are_sorted}
+use Rattle.lcm_events.specs.Descriptors.{is_name_before, is_rising}
 use Rattle.std.proofs.Common.{drop, ◌-◌, ◌≡◌}
 use Rattle.std.specs.Prelude.{map}
 use Rattle.lcm_model.proofs.valid.are_sorted_names.Given as goal
