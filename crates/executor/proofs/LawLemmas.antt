@@ -1,17 +1,18 @@
 -- A file's records are the spellings of one history, and none of them is bad where that history is legal.
-use Rattle.std.proofs.Common.{◌≡◌, ℕ, List, [], ◌∷◌, ◌++◌, length, ◌⊎◌, ap, ◌∙◌, sym, subst, refl, arith, inl, inr, ⊎_elim, length-append, append_assoc}
+use Rattle.std.proofs.Common.{◌≡◌, ◌≤◌, ◌<◌, ℕ, List, [], ◌∷◌, ◌++◌, length, reverse, ◌⊎◌, ap, ◌∙◌, sym, subst, refl, arith, inl, inr, ⊎_elim, length-append, append_assoc}
 use Rattle.std.specs.List.{AllByRecursion}
-use Rattle.std.proofs.lemmas.List.{same_from_push}
+use Rattle.std.proofs.lemmas.Bool.{cases_lt}
+use Rattle.std.proofs.lemmas.List.{length-map, length-reverse, same_from_push}
 use Rattle.event_codec.specs.Spell.{spelling}
 use Rattle.event_codec.specs.Valid.{IsEvent}
 use Rattle.journal_core.specs.File.{records, HasRecords}
 use Rattle.journal_core.specs.Head.{IsBrokenAt}
-use Rattle.journal_core.proofs.Excluding.{whole_once, whole_or_broken}
+use Rattle.journal_core.proofs.Excluding.{breaks_once, same_manager, whole_once, whole_or_broken}
 use Rattle.journal_core.proofs.Records.{records_of}
 use Rattle.lcm_events.specs.declared.events.Event.{Event}
 use Rattle.lcm_model.specs.Allowed.{IsAllowed, IsLegal}
 use Rattle.executor.specs.History.{HasHistory, spellings}
-use Rattle.executor.specs.Laws.{HasOneHistory, HasNoBadRecord}
+use Rattle.executor.specs.Laws.{HasOneHistory, HasNoBadRecord, HasOneBadRecord}
 use Rattle.executor.specs.Open.{IsBadAt}
 use Rattle.executor.proofs.JudgeLemmas.{spellings-cons}
 use Rattle.executor.proofs.SpellingLemmas.{same_event}
@@ -73,3 +74,49 @@ no_bad_record m n H image small has legal bad = ⊎_elim
     let P : ℕ → Type 0 = λ k. IsBadAt k n (records image) in
     late_bad m n H image has legal (subst P (sym same.0) late.1))
     bad.2
+
+-- what stands at one place of a list stands there in each longer front of it
+front_of : {X : Type 0} (xs ys : List X) (x y : X) (rest more : List X) → xs ++ x ∷ rest ≡ ys ++ y ∷ more → length xs < length ys → (between : List X) × (ys ≡ xs ++ x ∷ between)
+front_of [] [] x y rest more same less = let no : ⊥ = omega (arith, less) in absurd no
+front_of {X = X} [] (z ∷ ys) x y rest more same less = let first : x ≡ z = cc in (ys, ap (λ (t : X). t ∷ ys) (sym first))
+front_of (w ∷ xs) [] x y rest more same less = let no : ⊥ = omega (arith, less) in absurd no
+front_of {X = X} (w ∷ xs) (z ∷ ys) x y rest more same less =
+    let first : w ≡ z = cc in
+    let behind : xs ++ x ∷ rest ≡ ys ++ y ∷ more = cc in
+    let found = front_of xs ys x y rest more behind (omega (arith, less)) in
+    (found.0, ap (λ (t : List X). z ∷ t) found.1 ∙ ap (λ (t : X). t ∷ xs ++ x ∷ found.0) (sym first))
+
+spellings-length : (H : List Event) → length (spellings H) ≡ length H
+spellings-length H = length-map (reverse H) spelling ∙ length-reverse H
+
+-- a bad record isn't among those that were allowed before another
+no_earlier : (m n k : ℕ) (rs : List (List ℕ)) → (one : IsBadAt m n rs) → (other : IsBadAt m k rs) → length one.before < length other.before → ⊥
+no_earlier m n k rs one other less =
+    let found = front_of (spellings one.before) (spellings other.before) one.bytes other.bytes one.rest other.rest (sym one.is ∙ other.is)
+    (omega (arith, less, spellings-length one.before, spellings-length other.before)) in
+    no_bad m other.before one.before one.bytes found.0 other.events one.events other.legal found.1 one.none
+
+bad_once : (m n k : ℕ) (rs : List (List ℕ)) → IsBadAt m n rs → IsBadAt m k rs → n ≡ k
+bad_once m n k rs one other = ⊎_elim
+    (λ (less : length one.before < length other.before). absurd (no_earlier m n k rs one other less))
+    (λ (least : length other.before ≤ length one.before). ⊎_elim
+    (λ (less : length other.before < length one.before). absurd (no_earlier m k n rs other one less))
+    (λ (most : length one.before ≤ length other.before). omega (arith, least, most, one.place, other.place))
+    (cases_lt (length other.before) (length one.before)))
+    (cases_lt (length one.before) (length other.before))
+
+-- a file has one bad record at most
+pub one_bad_record : HasOneBadRecord
+one_bad_record n k image one other = ⊎_elim
+    (λ (broken : IsBrokenAt one.0 n image). ⊎_elim
+    (λ (also : IsBrokenAt other.0 k image). breaks_once one.0 other.0 n k image broken also)
+    (λ (late : HasRecords other.0 (records image) image × IsBadAt other.0 k (records image)). absurd (whole_or_broken other.0 one.0 n (records image) image late.0 broken))
+    other.2)
+    (λ (late : HasRecords one.0 (records image) image × IsBadAt one.0 n (records image)). ⊎_elim
+    (λ (broken : IsBrokenAt other.0 k image). absurd (whole_or_broken one.0 other.0 k (records image) image late.0 broken))
+    (λ (also : HasRecords other.0 (records image) image × IsBadAt other.0 k (records image)).
+    let same = same_manager other.0 one.0 image other.1.number one.1.number other.1.front one.1.front in
+    let P : ℕ → Type 0 = λ m. IsBadAt m k (records image) in
+    bad_once one.0 n k (records image) late.1 (subst P same also.1))
+    other.2)
+    one.2

@@ -1,5 +1,5 @@
 //! What holds of every journal's file, as contracts of calls that do nothing.
-ghost use Rattle.executor.specs.Laws.{HasNoBadRecord, HasOneHistory};
+ghost use Rattle.executor.specs.Laws.{HasNoBadRecord, HasOneBadRecord, HasOneHistory};
 
 /// A file has one history, and is one manager's.
 ///
@@ -13,4 +13,11 @@ pub fn a_file_has_one_history()
 /// Source: own rule.
 pub fn a_legal_history_has_no_bad_record()
     ensures { HasNoBadRecord }
+{}
+
+/// A file has one bad record at most, so that a refusal that names one names the first.
+///
+/// Source: own rule.
+pub fn a_bad_record_is_the_only_one()
+    ensures { HasOneBadRecord }
 {}

@@ -9,5 +9,7 @@ mod questions;
 mod tests;
 
 pub use event_codec::TooLong;
-pub use laws::{a_file_has_one_history, a_legal_history_has_no_bad_record};
+pub use laws::{
+    a_bad_record_is_the_only_one, a_file_has_one_history, a_legal_history_has_no_bad_record,
+};
 pub use manager::{Manager, OpenFault, WorkFault};

@@ -12,7 +12,7 @@ ghost use Rattle.journal_core.specs.File.{size};
 ghost use Rattle.lcm_events.specs.declared.events.Event.{Event};
 ghost use Rattle.lcm_model.specs.Allowed.{IsAllowed};
 ghost use Rattle.vnfm_base.specs.Ident.{IsIdentNumber};
-ghost use Rattle.lcm_model.specs.Lives.{descriptor_named, descriptors, instances_made, live_instances};
+ghost use Rattle.lcm_model.specs.Lives.{descriptor_named, descriptors, instances_made};
 ghost use Rattle.executor.specs.Questions.{is_made, live, made, may_be_live};
 ghost use Rattle.site_traits.specs.Counts.{Rose, OnlyDisk};
 ghost use Rattle.executor.specs.Managed.{Managed, IsKept, StandsFor, Commits, is_settled};
@@ -22,7 +22,7 @@ use crate::questions::{count_live, count_made};
 use event_codec::{RecordBuf, TooLong, decode, encode};
 use journal_core::{AppendFault, Journal, LoadFault};
 use lcm_events::{Event, Vnfd};
-use lcm_model::{count_descriptors, count_instances, count_live_instances, descriptor_named_in};
+use lcm_model::{count_descriptors, count_instances, descriptor_named_in};
 use site_traits::Site;
 use std::alloc::{AllocError, Global};
 use std::marker::Model;
@@ -99,15 +99,15 @@ fn after(made: u64, records: u64) -> u64
     made + 1
 }
 
-/// Puts the event's spelling into the record.
-fn spell(record: &mut RecordBuf, e: &Event)
+/// Puts the event's spelling into the buffer.
+fn spell(buffer: &mut RecordBuf, e: &Event)
     requires rules { TypedEvent e.now → IsEvent e.now }
     requires fits { IsEvent e.now → length (spelling e.now) ≤ 65536 }
     ensures event { IsEvent e.now }
-    ensures spelled { record.new.kept ≡ spelling e.now }
-    ensures some { 1 ≤ length record.new.kept }
+    ensures spelled { buffer.new.kept ≡ spelling e.now }
+    ensures some { 1 ≤ length buffer.new.kept }
 {
-    match encode(e, record) {
+    match encode(e, buffer) {
         Ok(()) => {}
         Err(_) => unreachable!(),
     }
@@ -302,15 +302,6 @@ impl<S: Site> Manager<S> {
         let records = self.journal.count();
         let made = count_instances(self.events.as_slice());
         after(made, records)
-    }
-
-    /// How many instances are live.
-    ///
-    /// Source: SOL 003 5.4.2 (VNF instances).
-    pub fn live_instances(&self) -> u64
-        ensures { result ≡ length (live_instances self.now.history) }
-    {
-        count_live_instances(self.events.as_slice())
     }
 
     /// Whether the journal with a record of `more` bytes and its closed gate ends at or before byte `limit` of the file.
