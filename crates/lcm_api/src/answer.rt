@@ -163,7 +163,8 @@ fn record<S: Site>(
     match manager.commit(alloc, site, event) {
         Ok(()) => Ok(reply),
         Err(WorkFault::Disk) => Err(ApiFault::Disk),
-        Err(WorkFault::Full { .. }) => Err(ApiFault::Memory),
+        // A creation fits far below the journal's limit.
+        Err(WorkFault::Full { .. }) => unreachable!(),
         Err(WorkFault::Memory) => Err(ApiFault::Memory),
     }
 }

@@ -1,5 +1,5 @@
 //! The head of an answer, put together in room that was taken beforehand, so that telling takes no memory.
-ghost use Rattle.std.specs.Prelude.{◌≡◌, ◌≤◌, ◌+◌, ◌++◌, [], length, codes, decimal, IfOk};
+ghost use Rattle.std.specs.Prelude.{◌≡◌, ◌⊎◌, ◌≤◌, ◌+◌, ◌++◌, [], length, codes, decimal, IfOk};
 ghost use Rattle.lcm_api.specs.Response.{reason, field, optional_field, status_line, media_type, content_fields, head_text};
 
 use crate::reply::Reply;
@@ -160,7 +160,8 @@ impl Outgoing {
     /// Adds as much of the body as there is room for, and gives the rest.
     pub fn put_front<'a>(&mut self, body: &'a [u8]) -> &'a [u8]
         requires { length self.old ≤ 65536 }
-        ensures { self.old ++ body.now ≡ self.new ++ result.now }
+        ensures whole { self.old ++ body.now ≡ self.new ++ result.now }
+        ensures most { (result.now ≡ []) ⊎ (length self.new ≡ 65536) }
     {
         let n = body.len().min(ROOM - self.bytes.len());
         let (front, rest) = body.split_at(n);

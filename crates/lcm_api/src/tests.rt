@@ -24,7 +24,7 @@ struct Served {
     answered: bool,
 }
 
-/// A mouth at the connection that has these bytes.
+/// A mouth at the connection that has these bytes, and of which the second write fails.
 fn mouth_at(alloc: Global, bytes: &[u8]) -> Result<Mouth<MemDoor>, AllocError> {
     let mut pieces = Vec::new(alloc);
     pieces.push(Bytes::of(alloc, bytes)?)?;
@@ -33,7 +33,7 @@ fn mouth_at(alloc: Global, bytes: &[u8]) -> Result<Mouth<MemDoor>, AllocError> {
         role: Role::Orchestrator,
         pieces,
         failing_read: None,
-        failing_write: None,
+        failing_write: Some(2),
     })?;
     let mut mouth = Mouth::new(alloc, MemDoor::new(alloc, plans)?)?;
     let _ = mouth.next();
@@ -71,7 +71,7 @@ fn serve(alloc: Global, bytes: &[u8]) -> Result<Option<Served>, AllocError> {
     }))
 }
 
-/// Whether the connection with these bytes is told that, and the file then has this length.
+/// Whether the connection with these bytes is told that, in one write, and the file then has this length.
 fn tells(alloc: Global, bytes: &[u8], told: &[u8], file: usize) -> Result<bool, AllocError> {
     match serve(alloc, bytes)? {
         Some(served) => {
