@@ -71,6 +71,16 @@ pub fn words_of(alloc: Global, texts: &[&str]) -> Result<Vec<Text>, AllocError> 
 
 /// A door at which one connection comes, with these bytes in one piece.
 pub fn door_of(alloc: Global, bytes: &[u8]) -> Result<Vec<DoorPlan>, AllocError> {
+    failing_door(alloc, bytes, None, None)
+}
+
+/// The same door, where this read, from 1, or this write of the connection fails.
+pub fn failing_door(
+    alloc: Global,
+    bytes: &[u8],
+    failing_read: Option<usize>,
+    failing_write: Option<usize>,
+) -> Result<Vec<DoorPlan>, AllocError> {
     let mut pieces = Vec::new(alloc);
     if !bytes.is_empty() {
         pieces.push(Bytes::of(alloc, bytes)?)?;
@@ -79,8 +89,8 @@ pub fn door_of(alloc: Global, bytes: &[u8]) -> Result<Vec<DoorPlan>, AllocError>
     plans.push(DoorPlan::Conn {
         role: Role::Orchestrator,
         pieces,
-        failing_read: None,
-        failing_write: None,
+        failing_read,
+        failing_write,
     })?;
     Ok(plans)
 }

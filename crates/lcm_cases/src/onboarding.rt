@@ -1,8 +1,7 @@
 //! Making journals and onboarding descriptors.
 use crate::house::{
-    DESCRIPTOR, JOURNAL, MADE, door_of, init, onboard, run_over, site_with, words_of,
+    DESCRIPTOR, JOURNAL, MADE, door_of, failing_door, init, onboard, run_over, site_with, words_of,
 };
-use lcm_events::Role;
 use site_traits::DoorPlan;
 use std::alloc::{AllocError, Global};
 use std::test::Fail;
@@ -168,20 +167,6 @@ fn a_journal_has_256_descriptors_and_no_more(rt: HostRuntime) -> Result<(), Fail
     Ok(())
 }
 
-/// A door at which a connection with these bytes comes, whose second read fails.
-fn breaking_door(alloc: Global, bytes: &[u8]) -> Result<Vec<DoorPlan>, AllocError> {
-    let mut pieces = Vec::new(alloc);
-    pieces.push(Bytes::of(alloc, bytes)?)?;
-    let mut plans = Vec::new(alloc);
-    plans.push(DoorPlan::Conn {
-        role: Role::Orchestrator,
-        pieces,
-        failing_read: Some(2),
-        failing_write: None,
-    })?;
-    Ok(plans)
-}
-
 #[test]
 fn an_onboarding_that_fails_changes_nothing(rt: HostRuntime) -> Result<(), Fail> {
     let alloc = rt.alloc();
@@ -196,7 +181,7 @@ fn an_onboarding_that_fails_changes_nothing(rt: HostRuntime) -> Result<(), Fail>
         alloc,
         &words,
         &mut site,
-        breaking_door(alloc, DESCRIPTOR)?,
+        failing_door(alloc, DESCRIPTOR, Some(2), None)?,
         None,
     )?;
     assert_eq!(rt; ran.status, 4);

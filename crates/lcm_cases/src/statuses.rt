@@ -1,6 +1,6 @@
 //! How a run ends, and what it leaves.
 use crate::house::{
-    CREATE, JOURNAL, MADE, door_of, once, once_words, run_over, site_with, words_of,
+    CREATE, JOURNAL, MADE, door_of, failing_door, once, once_words, run_over, site_with, words_of,
 };
 use site_traits::DoorPlan;
 use std::alloc::{AllocError, Global};
@@ -168,6 +168,26 @@ fn a_door_and_a_sink_that_fail_are_told_apart(rt: HostRuntime) -> Result<(), Fai
         Some(1),
     )?;
     assert_eq!(rt; ran.status, 5);
+    Ok(())
+}
+
+#[test]
+fn an_answer_that_is_not_told_is_kept(rt: HostRuntime) -> Result<(), Fail> {
+    let alloc = rt.alloc();
+    let words = once_words(alloc)?;
+    let mut site = site_with(alloc, &JOURNAL, Vec::new(alloc))?;
+    let unheard = failing_door(alloc, CREATE, None, Some(1))?;
+    let ran = run_over(alloc, &words, &mut site, unheard, None)?;
+    assert_eq!(rt; ran.status, 0);
+    assert!(rt; ran.told.is_empty());
+    assert!(rt; ran.ended);
+    assert_eq!(rt; site.file().len(), 149);
+    let unread = failing_door(alloc, CREATE, Some(1), None)?;
+    let ran = run_over(alloc, &words, &mut site, unread, None)?;
+    assert_eq!(rt; ran.status, 0);
+    assert!(rt; ran.told.is_empty());
+    assert!(rt; ran.ended);
+    assert_eq!(rt; site.file().len(), 149);
     Ok(())
 }
 
