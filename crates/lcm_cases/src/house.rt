@@ -95,6 +95,50 @@ pub fn failing_door(
     Ok(plans)
 }
 
+/// The objects of a run, but for its site.
+#[derive(Drop)]
+struct Objects {
+    mouth: Mouth<MemDoor>,
+    orchestrator: MemOrchestrator,
+    courier: MemCourier,
+    clock: SetClock,
+    sink: MemSink,
+}
+
+/// The objects with this door, and a sink of which this put fails.
+fn objects_of(
+    alloc: Global,
+    door: Vec<DoorPlan>,
+    failing_put: Option<u64>,
+) -> Result<Objects, AllocError> {
+    Ok(Objects {
+        mouth: Mouth::new(alloc, MemDoor::new(alloc, door)?)?,
+        orchestrator: MemOrchestrator::new(alloc, Vec::new(alloc))?,
+        courier: MemCourier::new(alloc, Vec::new(alloc))?,
+        clock: clock_of(alloc)?,
+        sink: MemSink::new(alloc, failing_put)?,
+    })
+}
+
+/// A clock that always gives 1,700,000,000,000.
+fn clock_of(alloc: Global) -> Result<SetClock, AllocError> {
+    let mut times = Vec::new(alloc);
+    times.push(1_700_000_000_000u64)?;
+    SetClock::new(alloc, times)
+}
+
+/// What a run that ended with this status did to its objects.
+fn report(alloc: Global, status: u8, objects: &Objects) -> Result<Ran, AllocError> {
+    let conn = objects.mouth.door().conn();
+    Ok(Ran {
+        status,
+        told: Bytes::of(alloc, conn.out())?,
+        printed: Bytes::of(alloc, objects.sink.bytes())?,
+        ended: conn.is_hung_up(),
+        clock: objects.clock.calls(),
+    })
+}
+
 /// Runs these words over this site, this door and a sink of which this put fails.
 pub fn run_over(
     alloc: Global,
@@ -103,31 +147,18 @@ pub fn run_over(
     door: Vec<DoorPlan>,
     failing_put: Option<u64>,
 ) -> Result<Ran, AllocError> {
-    let mut mouth = Mouth::new(alloc, MemDoor::new(alloc, door)?)?;
-    let mut orchestrator = MemOrchestrator::new(alloc, Vec::new(alloc))?;
-    let mut courier = MemCourier::new(alloc, Vec::new(alloc))?;
-    let mut times = Vec::new(alloc);
-    times.push(1_700_000_000_000u64)?;
-    let mut clock = SetClock::new(alloc, times)?;
-    let mut sink = MemSink::new(alloc, failing_put)?;
+    let mut objects = objects_of(alloc, door, failing_put)?;
     let status = run(
         alloc,
         words,
         site,
-        &mut mouth,
-        &mut orchestrator,
-        &mut courier,
-        &mut clock,
-        &mut sink,
+        &mut objects.mouth,
+        &mut objects.orchestrator,
+        &mut objects.courier,
+        &mut objects.clock,
+        &mut objects.sink,
     );
-    let conn = mouth.door().conn();
-    Ok(Ran {
-        status,
-        told: Bytes::of(alloc, conn.out())?,
-        printed: Bytes::of(alloc, sink.bytes())?,
-        ended: conn.is_hung_up(),
-        clock: clock.calls(),
-    })
+    report(alloc, status, &objects)
 }
 
 /// Runs `init` for manager 7 over this site.

@@ -1,8 +1,9 @@
 //! Making journals and onboarding descriptors.
 use crate::house::{
-    DESCRIPTOR, JOURNAL, MADE, door_of, failing_door, init, onboard, run_over, site_with, words_of,
+    DESCRIPTOR, JOURNAL, MADE, Ran, door_of, failing_door, init, onboard, run_over, site_with,
+    words_of,
 };
-use site_traits::DoorPlan;
+use site_traits::{DoorPlan, MemSite};
 use std::alloc::{AllocError, Global};
 use std::test::Fail;
 use vnfm_base::Bytes;
@@ -20,6 +21,12 @@ fn a_journal_is_made_once(rt: HostRuntime) -> Result<(), Fail> {
     assert_eq!(rt; again.status, 11);
     assert!(rt; again.printed.as_slice() == b"taken\n".as_slice());
     assert!(rt; site.file() == MADE.as_slice());
+    Ok(())
+}
+
+#[test]
+fn a_journal_is_made_for_each_manager(rt: HostRuntime) -> Result<(), Fail> {
+    let alloc = rt.alloc();
     let numbers: [(&str, u8, &[u8]); 3] = [
         ("0", 0, b"journal made for manager 0\n"),
         ("007", 7, b"journal made for manager 7\n"),
@@ -34,6 +41,12 @@ fn a_journal_is_made_once(rt: HostRuntime) -> Result<(), Fail> {
         assert_eq!(rt; site.file().len(), 33);
         assert_eq!(rt; site.file()[12], last);
     }
+    Ok(())
+}
+
+#[test]
+fn a_journal_stays_made_where_the_line_is_not_put(rt: HostRuntime) -> Result<(), Fail> {
+    let alloc = rt.alloc();
     let words = words_of(alloc, &["init", "--journal", "j", "--manager", "7"])?;
     let mut site = site_with(alloc, &[], Vec::new(alloc))?;
     let unheard = run_over(alloc, &words, &mut site, Vec::new(alloc), Some(1))?;
@@ -102,6 +115,17 @@ fn a_descriptor_is_refused_for_its_first_fault(rt: HostRuntime) -> Result<(), Fa
     for (bytes, line) in cases {
         assert!(rt; is_refused(alloc, bytes, line)?);
     }
+    let words = words_of(alloc, &["onboard", "--journal", "j"])?;
+    let mut site = site_with(alloc, &MADE, Vec::new(alloc))?;
+    let nobody = run_over(alloc, &words, &mut site, Vec::new(alloc), None)?;
+    assert_eq!(rt; nobody.status, 10);
+    assert!(rt; nobody.printed.as_slice() == b"descriptor refused: not JSON\n".as_slice());
+    Ok(())
+}
+
+#[test]
+fn a_descriptor_has_1_048_576_bytes_and_no_more(rt: HostRuntime) -> Result<(), Fail> {
+    let alloc = rt.alloc();
     let mut long = Vec::from_slice(alloc, DESCRIPTOR)?;
     long.resize(1_048_576, b' ')?;
     let mut site = site_with(alloc, &MADE, Vec::new(alloc))?;
@@ -109,6 +133,12 @@ fn a_descriptor_is_refused_for_its_first_fault(rt: HostRuntime) -> Result<(), Fa
     assert!(rt; site.file() == JOURNAL.as_slice());
     long.push(b' ')?;
     assert!(rt; is_refused(alloc, &long, b"descriptor refused: too many bytes\n")?);
+    Ok(())
+}
+
+#[test]
+fn an_event_of_a_descriptor_fits_a_record_or_is_refused(rt: HostRuntime) -> Result<(), Fail> {
+    let alloc = rt.alloc();
     let mut site = site_with(alloc, &MADE, Vec::new(alloc))?;
     assert_eq!(rt; onboard(alloc, &mut site, &wide(alloc, 251)?)?.status, 0);
     assert!(rt;
@@ -118,11 +148,6 @@ fn a_descriptor_is_refused_for_its_first_fault(rt: HostRuntime) -> Result<(), Fa
             b"descriptor refused: encodes to 65583 bytes\n"
         )?
     );
-    let words = words_of(alloc, &["onboard", "--journal", "j"])?;
-    let mut site = site_with(alloc, &MADE, Vec::new(alloc))?;
-    let nobody = run_over(alloc, &words, &mut site, Vec::new(alloc), None)?;
-    assert_eq!(rt; nobody.status, 10);
-    assert!(rt; nobody.printed.as_slice() == b"descriptor refused: not JSON\n".as_slice());
     Ok(())
 }
 
@@ -167,76 +192,111 @@ fn a_journal_has_256_descriptors_and_no_more(rt: HostRuntime) -> Result<(), Fail
     Ok(())
 }
 
+/// Runs `onboard` over this site and this door, with a sink of which this put fails.
+fn onboard_at(
+    alloc: Global,
+    site: &mut MemSite,
+    door: Vec<DoorPlan>,
+    failing_put: Option<u64>,
+) -> Result<Ran, AllocError> {
+    let words = words_of(alloc, &["onboard", "--journal", "j"])?;
+    run_over(alloc, &words, site, door, failing_put)
+}
+
 #[test]
 fn an_onboarding_that_fails_changes_nothing(rt: HostRuntime) -> Result<(), Fail> {
     let alloc = rt.alloc();
-    let words = words_of(alloc, &["onboard", "--journal", "j"])?;
     let mut plans = Vec::new(alloc);
     plans.push(DoorPlan::NextFails)?;
     let mut site = site_with(alloc, &MADE, Vec::new(alloc))?;
-    let ran = run_over(alloc, &words, &mut site, plans, None)?;
-    assert_eq!(rt; ran.status, 4);
-    assert_eq!(rt; ran.clock, 0);
-    let ran = run_over(
-        alloc,
-        &words,
-        &mut site,
-        failing_door(alloc, DESCRIPTOR, Some(2), None)?,
-        None,
-    )?;
-    assert_eq!(rt; ran.status, 4);
-    assert!(rt; ran.printed.as_slice() == b"door fault\n".as_slice());
-    assert_eq!(rt; ran.clock, 0);
+    let unmet = onboard_at(alloc, &mut site, plans, None)?;
+    assert_eq!(rt; unmet.status, 4);
+    assert_eq!(rt; unmet.clock, 0);
+    let door = failing_door(alloc, DESCRIPTOR, Some(2), None)?;
+    let unread = onboard_at(alloc, &mut site, door, None)?;
+    assert_eq!(rt; unread.status, 4);
+    assert!(rt; unread.printed.as_slice() == b"door fault\n".as_slice());
+    assert_eq!(rt; unread.clock, 0);
     assert!(rt; site.file() == MADE.as_slice());
-    let ran = run_over(
-        alloc,
-        &words,
-        &mut site,
-        door_of(alloc, DESCRIPTOR)?,
-        Some(1),
-    )?;
-    assert_eq!(rt; ran.status, 7);
-    assert!(rt; site.file() == JOURNAL.as_slice());
-    let ran = run_over(
-        alloc,
-        &words,
-        &mut site_with(alloc, &[], Vec::new(alloc))?,
-        door_of(alloc, DESCRIPTOR)?,
-        None,
-    )?;
-    assert_eq!(rt; ran.status, 5);
     Ok(())
 }
 
 #[test]
-fn each_disk_call_that_fails_ends_a_making_and_an_onboarding(rt: HostRuntime) -> Result<(), Fail> {
+fn a_descriptor_stays_onboarded_where_the_line_is_not_put(rt: HostRuntime) -> Result<(), Fail> {
+    let alloc = rt.alloc();
+    let mut site = site_with(alloc, &MADE, Vec::new(alloc))?;
+    let unheard = onboard_at(alloc, &mut site, door_of(alloc, DESCRIPTOR)?, Some(1))?;
+    assert_eq!(rt; unheard.status, 7);
+    assert!(rt; site.file() == JOURNAL.as_slice());
+    Ok(())
+}
+
+#[test]
+fn a_descriptor_needs_a_journal(rt: HostRuntime) -> Result<(), Fail> {
+    let alloc = rt.alloc();
+    let mut site = site_with(alloc, &[], Vec::new(alloc))?;
+    assert_eq!(rt; onboard(alloc, &mut site, DESCRIPTOR)?.status, 5);
+    Ok(())
+}
+
+/// A site with this file, of which this disk call, from 1, fails.
+fn site_failing_at(alloc: Global, file: &[u8], call: u64) -> Result<MemSite, AllocError> {
+    let mut failing = Vec::new(alloc);
+    failing.push(call)?;
+    site_with(alloc, file, failing)
+}
+
+/// Whether `init` ends with a site fault where this disk call fails, and the next `init` leaves a made file.
+fn ends_a_making(alloc: Global, call: u64) -> Result<bool, AllocError> {
+    let mut site = site_failing_at(alloc, &[], call)?;
+    let ran = init(alloc, &mut site)?;
+    let mut left = site_with(alloc, site.file(), Vec::new(alloc))?;
+    let again = init(alloc, &mut left)?;
+    Ok(
+        ran.status == 3
+            && (again.status == 0 || again.status == 11)
+            && left.file() == MADE.as_slice(),
+    )
+}
+
+#[test]
+fn each_disk_call_that_fails_ends_a_making(rt: HostRuntime) -> Result<(), Fail> {
     let alloc = rt.alloc();
     let mut whole = site_with(alloc, &[], Vec::new(alloc))?;
     let _ = init(alloc, &mut whole)?;
     for before in 0..whole.moment() as u64 {
-        let mut failing = Vec::new(alloc);
-        failing.push(before.saturating_add(1))?;
-        let mut site = site_with(alloc, &[], failing)?;
-        let ran = init(alloc, &mut site)?;
-        assert_eq!(rt; ran.status, 3);
-        let mut left = site_with(alloc, site.file(), Vec::new(alloc))?;
-        let again = init(alloc, &mut left)?;
-        assert!(rt; again.status == 0 || again.status == 11, "call {before}");
-        assert!(rt; left.file() == MADE.as_slice());
+        assert!(rt;
+            ends_a_making(alloc, before.saturating_add(1))?,
+            "call {before}"
+        );
     }
+    Ok(())
+}
+
+/// Whether `onboard` ends with a site fault where this disk call fails, and the next one leaves the descriptor onboarded.
+fn ends_an_onboarding(alloc: Global, call: u64) -> Result<bool, AllocError> {
+    let mut site = site_failing_at(alloc, &MADE, call)?;
+    let ran = onboard(alloc, &mut site, DESCRIPTOR)?;
+    let mut left = site_with(alloc, site.file(), Vec::new(alloc))?;
+    let again = onboard(alloc, &mut left, DESCRIPTOR)?;
+    Ok(
+        ran.status == 3
+            && ran.printed.as_slice() == b"site fault\n".as_slice()
+            && (again.status == 0 || again.status == 10)
+            && left.file() == JOURNAL.as_slice(),
+    )
+}
+
+#[test]
+fn each_disk_call_that_fails_ends_an_onboarding(rt: HostRuntime) -> Result<(), Fail> {
+    let alloc = rt.alloc();
     let mut whole = site_with(alloc, &MADE, Vec::new(alloc))?;
     let _ = onboard(alloc, &mut whole, DESCRIPTOR)?;
     for before in 0..whole.moment() as u64 {
-        let mut failing = Vec::new(alloc);
-        failing.push(before.saturating_add(1))?;
-        let mut site = site_with(alloc, &MADE, failing)?;
-        let ran = onboard(alloc, &mut site, DESCRIPTOR)?;
-        assert_eq!(rt; ran.status, 3);
-        assert!(rt; ran.printed.as_slice() == b"site fault\n".as_slice());
-        let mut left = site_with(alloc, site.file(), Vec::new(alloc))?;
-        let again = onboard(alloc, &mut left, DESCRIPTOR)?;
-        assert!(rt; again.status == 0 || again.status == 10, "call {before}");
-        assert!(rt; left.file() == JOURNAL.as_slice());
+        assert!(rt;
+            ends_an_onboarding(alloc, before.saturating_add(1))?,
+            "call {before}"
+        );
     }
     Ok(())
 }
