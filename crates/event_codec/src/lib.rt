@@ -11,8 +11,6 @@ mod numbers;
 mod parts;
 mod reading;
 mod record_buf;
-#[cfg(test)]
-mod tests;
 mod words;
 mod write_lists;
 mod write_parts;

@@ -11,6 +11,3 @@ pub use wire::Wire;
 
 /// Requests of one connection. The last of them is the connection's last.
 pub const CONNECTION_REQUESTS: u32 = 65_536;
-
-#[cfg(test)]
-mod tests;

@@ -12,6 +12,3 @@ pub use filters::matches_in;
 pub use judge::{is_allowed, is_legal};
 pub use notices::{Facts, next_notice_in};
 pub use posting::{cursor_in, may_post};
-
-#[cfg(test)]
-mod tests;

@@ -18,6 +18,3 @@ pub use refusals::{
     ask_refusal_in, content_refusal_in, has_nothing_to_do_in, is_above_profile_in, is_too_large_in,
     naming_refusal_in, plan_of_ask, plan_refusal_in, state_refusal_in, task_refusal_in,
 };
-
-#[cfg(test)]
-mod tests;

@@ -7,8 +7,6 @@ mod line;
 mod moment;
 mod name;
 mod plain;
-#[cfg(test)]
-mod tests;
 mod text;
 
 pub use bytes::Bytes;

@@ -1,6 +1,6 @@
 //! Spellings written out by hand, one of each kind, both ways; and the longest that fits and the first that doesn't.
 
-use crate::{DecodeFault, RecordBuf, TooLong, decode, encode};
+use event_codec::{DecodeFault, RecordBuf, TooLong, decode, encode};
 use std::alloc::{AllocError, Global};
 use std::test::Fail;
 

@@ -1,5 +1,5 @@
 //! Connections in pieces: what is a request, what is refused, and what ends the connection.
-use crate::{Request, Taken, Wire, WireFault};
+use http_wire::{Request, Taken, Wire, WireFault};
 use lcm_events::Role;
 use site_traits::{Door, DoorPlan, MemDoor};
 use std::alloc::{AllocError, Global};

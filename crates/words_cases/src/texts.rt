@@ -1,10 +1,10 @@
 //! Values from outside: identifiers and moments written out by hand, and that each call succeeds with ample memory.
 
-use crate::{
+use std::test::Fail;
+use vnfm_base::{
     Bytes, Kind, LINE_MAX, Line, LineFault, MAX_MOMENT, Moment, NAME_MAX, Name, Text, TextFault,
     ident, ident_read, ident_text, moment_text,
 };
-use std::test::Fail;
 
 #[test]
 fn identifiers_are_written_and_read(rt: HostRuntime) -> Result<(), Fail> {

@@ -1,10 +1,10 @@
 //! A plan that was written out by hand.
 
-use crate::{ask_refusal_in, plan_of_ask};
 use lcm_events::{
     Ask, Aspect, Change, Def, DefKind, Level, Listed, Port, Row, Storage, Vdu, Verb, Vnfd,
 };
 use lcm_model::is_valid;
+use lcm_plans::{ask_refusal_in, plan_of_ask};
 use std::alloc::Global;
 use std::process::Abort;
 use std::test::Fail;

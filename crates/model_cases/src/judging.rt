@@ -1,7 +1,7 @@
 //! Events that are judged after an empty history.
 
-use crate::{is_allowed, is_legal};
 use lcm_events::{CancelMode, EventKind, Level, Listed, OpState, Vnfd};
+use lcm_judge::{is_allowed, is_legal};
 use std::alloc::Global;
 use std::process::Abort;
 use std::test::Fail;

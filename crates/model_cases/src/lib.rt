@@ -1,0 +1,9 @@
+//! Plans, places and judgements that were written out by hand, and that each call succeeds with ample memory.
+#![tactic(auto)]
+
+#[cfg(test)]
+mod judging;
+#[cfg(test)]
+mod placing;
+#[cfg(test)]
+mod plans;

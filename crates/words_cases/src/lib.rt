@@ -1,0 +1,9 @@
+//! Words, events and their spellings: values from outside, and that each call succeeds with ample memory.
+#![tactic(auto)]
+
+#[cfg(test)]
+mod lists;
+#[cfg(test)]
+mod spellings;
+#[cfg(test)]
+mod texts;
