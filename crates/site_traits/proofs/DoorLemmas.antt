@@ -1,9 +1,13 @@
 -- The plans of a door, one after the other made ready from the last on.
-use Rattle.std.proofs.Common.{◌≡◌, ◌≤◌, ◌<◌, ◌⊎◌, ◌∙◌, ap, sym, subst, inl, inr, ℕ, ◌+◌, ◌-◌, List, [], ◌∷◌, ◌++◌, length, take, get_or, refl, arith}
+use Rattle.std.proofs.Common.{◌≡◌, ◌≤◌, ◌<◌, ◌⊎◌, ◌∙◌, ap, sym, subst, inl, inr, ℕ, ◌+◌, ◌-◌, List, [], ◌∷◌, ◌++◌, length, take, get_or, refl, arith, Bool, not}
 use Rattle.std.proofs.lemmas.List.{take_at, take-take, get_or-take, get_or_push, get_or_append_left, length_push}
 use Rattle.std.proofs.lemmas.Bool.{cases_lt}
 use Rattle.site_traits.specs.declared.mem_door.DoorPlan.{DoorPlan}
 use Rattle.site_traits.specs.declared.mem_door.Planned.{Planned}
+use Rattle.site_traits.specs.Counts.{one_more}
+use Rattle.site_traits.specs.Door.{DoorCounts, ReadCause, WriteCause, call_failed}
+use Rattle.site_traits.specs.declared.door.ReadAnswer.TheVariants as read
+use Rattle.site_traits.specs.declared.door.WriteAnswer.TheVariants as write
 use Rattle.site_traits.specs.DoorPlans.{IsReady}
 
 -- the plans that are left, once the last of them is taken
@@ -42,3 +46,26 @@ ready-more room all left rest plan ready new one split is count new_is meets eac
       let P : DoorPlan → Type 0 = λ v. IsReady room v (get_or new (length all - 1 - k) r) in
       let Q : Planned → Type 0 = λ v. IsReady room plan v in
       subst P is_plan (subst Q is_one meets)
+
+-- a read that failed once
+pub read_cause : (a b : DoorCounts) → a.faults ≤ b.faults → b ≡ call_failed a → ReadCause read.Failed a b
+read_cause a b le is = record {
+  counts = record { faults = le; next = ap (λ (v : DoorCounts). v.next) is; up = ap (λ (v : DoorCounts). v.up) is };
+  done = λ ne. absurd (ne refl);
+  failed = λ _. is;
+}
+
+-- a write that failed once
+pub write_cause : (a b : DoorCounts) → a.faults ≤ b.faults → b ≡ call_failed a → WriteCause write.Failed a b
+write_cause a b le is = record {
+  counts = record { faults = le; next = ap (λ (v : DoorCounts). v.next) is; up = ap (λ (v : DoorCounts). v.up) is };
+  done = λ ne. absurd (ne refl);
+  failed = λ _. is;
+}
+
+-- the counts with one fault more, where the connection is hung up as it was
+pub failed_counts : (faults more next : ℕ) (was is : Bool) → more ≡ one_more faults → is ≡ was
+    → ◌≡◌ {A = DoorCounts} (record { faults = more; next = next; up = not is }) (call_failed (record { faults = faults; next = next; up = not was }))
+failed_counts faults more next was is rose same =
+    let P : ℕ → Type 0 = λ v. ◌≡◌ {A = DoorCounts} (record { faults = v; next = next; up = not is }) (call_failed (record { faults = faults; next = next; up = not was })) in
+    subst P (sym rose) (ap (λ (v : Bool). record { faults = one_more faults; next = next; up = not v }) same)

@@ -1,5 +1,5 @@
--- Counts of faults. A count is kept as a u64, stays at its greatest value, and never falls.
-use Rattle.std.specs.Prelude.{◌≡◌, ◌≤◌, ℕ, ◌+◌, ◌-◌, ◌^◌, min, Result, OnErr}
+-- Counts of calls and of faults. A count is kept as a u64, stays at its greatest value, and never falls.
+use Rattle.std.specs.Prelude.{◌≡◌, ◌≤◌, ℕ, ◌+◌, ◌-◌, ◌^◌, min, List, [], ◌∷◌, ◌++◌, length, Result, OnOk, OnErr}
 
 -- the count rose, or stands at its greatest value (own rule)
 abbrev pub Rose : ℕ → ℕ → Type 0
@@ -9,21 +9,71 @@ Rose before now = min (before + 1) (2 ^ 64 - 1) ≤ now
 abbrev pub one_more : ℕ → ℕ
 one_more n = min (n + 1) (2 ^ 64 - 1)
 
--- how often each kind of call of a site failed, and how often a begin was refused (own rule)
+-- What a site shows, told or not: how often each kind of call failed, how often a begin was refused, and how often a write, a cut and a
+-- sync were asked for, whether they failed or not (own rule).
 pub record SiteCounts : Type 0 where
   pub disk : ℕ
   pub vim : ℕ
   pub look : ℕ
   pub refusals : ℕ
+  pub writes : ℕ
+  pub cuts : ℕ
+  pub syncs : ℕ
 
--- the count of disk faults did not fall, and the others stay (own rule)
-pub record OnlyDisk (a b : SiteCounts) : Type 0 where
-  pub disk : a.disk ≤ b.disk
+-- what is asked of a site and counted whether it fails or not
+pub data Ask : Type 0 where
+  write cut sync : Ask
+
+-- the counts once this was asked for
+abbrev pub asked : Ask → SiteCounts → SiteCounts
+asked write c = record c { writes = one_more c.writes }
+asked cut c = record c { cuts = one_more c.cuts }
+asked sync c = record c { syncs = one_more c.syncs }
+
+-- the counts once these were asked for, the first of them first
+abbrev pub all_asked : List Ask → SiteCounts → SiteCounts
+all_asked [] c = c
+all_asked (ask ∷ asks) c = all_asked asks (asked ask c)
+
+-- the counts once a disk call failed
+abbrev pub disk_failed : SiteCounts → SiteCounts
+disk_failed c = record c { disk = one_more c.disk }
+
+-- A call on the file leaves the counts as they are once it is asked for; where it failed, one disk fault more is counted (own rule).
+pub record DiskCause {T E : Type 0} (asked now : SiteCounts) (result : Result T E) : Type 0 where
+  pub done : OnOk result (now ≡ asked)
+  pub failed : OnErr result (now ≡ disk_failed asked)
+
+-- some of these were asked for, from the first on, and the last of those failed
+pub record StopsIn (asks : List Ask) (a b : SiteCounts) : Type 0 where
+  pub made : List Ask
+  pub rest : List Ask
+  pub front : asks ≡ made ++ rest
+  pub some : 1 ≤ length made
+  pub counts : b ≡ disk_failed (all_asked made a)
+
+-- all of these were asked for, or the front of them up to one that failed (own rule)
+pub record Asks {T E : Type 0} (asks : List Ask) (result : Result T E) (a b : SiteCounts) : Type 0 where
+  pub done : OnOk result (b ≡ all_asked asks a)
+  pub failed : OnErr result (StopsIn asks a b)
+
+-- Where this holds a disk call failed, once; else none did. No other kind of call failed (own rule).
+pub record OnlyDiskFails (failed : Type 0) (a b : SiteCounts) : Type 0 where
+  pub rose : failed → b.disk ≡ one_more a.disk
+  pub stays : ¬ failed → b.disk ≡ a.disk
   pub vim : b.vim ≡ a.vim
   pub look : b.look ≡ a.look
   pub refusals : b.refusals ≡ a.refusals
 
--- a disk call counts where it fails, and counts nothing but disk faults (own rule)
-pub record DiskCause {T E : Type 0} (a b : SiteCounts) (result : Result T E) : Type 0 where
-  pub counts : OnlyDisk a b
-  pub failed : OnErr result (Rose a.disk b.disk)
+-- What an object other than a site or a door shows, told or not: how often it was called, and how often a call of it failed (own rule).
+pub record CallCounts : Type 0 where
+  pub calls : ℕ
+  pub faults : ℕ
+
+-- the counts behind one call more
+abbrev pub called : CallCounts → CallCounts
+called c = record c { calls = one_more c.calls }
+
+-- the counts behind one call more, which failed
+abbrev pub called_in_vain : CallCounts → CallCounts
+called_in_vain c = record { calls = one_more c.calls; faults = one_more c.faults }

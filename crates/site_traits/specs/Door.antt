@@ -1,5 +1,5 @@
 -- What a door tells: its answers to `next`, and of each connection what came in, what went out and what failed.
-use Rattle.std.specs.Prelude.{◌≡◌, ◌≤◌, ℕ, Bool, true, false, List, [], ◌∷◌, ◌++◌, length, take, drop}
+use Rattle.std.specs.Prelude.{◌≡◌, ◌≢◌, ◌≤◌, ℕ, Bool, true, false, List, [], ◌∷◌, ◌++◌, length, take, drop}
 use Rattle.lcm_events.specs.declared.states.Role.{Role}
 use Rattle.site_traits.specs.declared.door.NextAnswer.{NextAnswer}
 use Rattle.site_traits.specs.declared.door.NextAnswer.TheVariants as next
@@ -7,7 +7,7 @@ use Rattle.site_traits.specs.declared.door.ReadAnswer.{ReadAnswer}
 use Rattle.site_traits.specs.declared.door.ReadAnswer.TheVariants as read
 use Rattle.site_traits.specs.declared.door.WriteAnswer.{WriteAnswer}
 use Rattle.site_traits.specs.declared.door.WriteAnswer.TheVariants as write
-use Rattle.site_traits.specs.Counts.{Rose}
+use Rattle.site_traits.specs.Counts.{one_more}
 
 -- A connection: its bytes in, those of them that are not read yet, its bytes out, whether a read or a write on it failed, and
 -- whether it was hung up (own rule).
@@ -110,33 +110,49 @@ abbrev pub IsTaken : WriteAnswer → ℕ → Type 0
 IsTaken (write.Took n) most = (1 ≤ n) × (n ≤ most)
 IsTaken write.Failed most = Unit {0}
 
--- how often a call of a door failed, and how often `next` did (own rule)
+-- What a door shows, told or not: how often a call of it failed, how often `next` did, and whether the connection at hand is up, which it
+-- is from when it came until it is hung up (own rule).
 pub record DoorCounts : Type 0 where
   pub faults : ℕ
   pub next : ℕ
+  pub up : Bool
 
--- the count of faults did not fall, and that of `next` stays
+-- once a read or a write failed
+abbrev pub call_failed : DoorCounts → DoorCounts
+call_failed c = record c { faults = one_more c.faults }
+
+-- once `next` failed
+abbrev pub next_failed : DoorCounts → DoorCounts
+next_failed c = record c { faults = one_more c.faults; next = one_more c.next }
+
+-- once a connection came
+abbrev pub opened : DoorCounts → DoorCounts
+opened c = record c { up = true }
+
+-- once it was hung up
+abbrev pub closed : DoorCounts → DoorCounts
+closed c = record c { up = false }
+
+-- the count of faults did not fall, that of `next` stays, and the connection is up as it was
 pub record NoNextFault (a b : DoorCounts) : Type 0 where
   pub faults : a.faults ≤ b.faults
   pub next : b.next ≡ a.next
+  pub up : b.up ≡ a.up
 
--- both counts rose
-pub record NextFault (a b : DoorCounts) : Type 0 where
-  pub none_fell : (a.faults ≤ b.faults) × (a.next ≤ b.next)
-  pub faults : Rose a.faults b.faults
-  pub next : Rose a.next b.next
-
--- a failed `next` counts as one, and no other answer does (own rule)
+-- what `next` leaves of the counts by its answer: a failed one counts as one, and no other does (own rule)
 abbrev pub NextCause : NextAnswer → DoorCounts → DoorCounts → Type 0
-NextCause next.Failed a b = NextFault a b
-NextCause answer a b = NoNextFault a b
+NextCause (next.Came role) a b = b ≡ opened a
+NextCause next.Failed a b = b ≡ next_failed a
+NextCause answer a b = b ≡ a
 
--- a failed read counts, and never as a failed `next` (own rule)
+-- a failed read counts as one, and no other does (own rule)
 pub record ReadCause (answer : ReadAnswer) (a b : DoorCounts) : Type 0 where
   pub counts : NoNextFault a b
-  pub failed : answer ≡ read.Failed → Rose a.faults b.faults
+  pub done : answer ≢ read.Failed → b ≡ a
+  pub failed : answer ≡ read.Failed → b ≡ call_failed a
 
--- a failed write counts, and never as a failed `next` (own rule)
+-- a failed write counts as one, and no other does (own rule)
 pub record WriteCause (answer : WriteAnswer) (a b : DoorCounts) : Type 0 where
   pub counts : NoNextFault a b
-  pub failed : answer ≡ write.Failed → Rose a.faults b.faults
+  pub done : answer ≢ write.Failed → b ≡ a
+  pub failed : answer ≡ write.Failed → b ≡ call_failed a

@@ -1,6 +1,6 @@
 -- A courier in memory.
 use Rattle.std.specs.Prelude.{◌≡◌, ◌↔◌, ℕ, ◌+◌, List, length, unwrap_or, slice_get}
-use Rattle.site_traits.specs.Counts.{one_more}
+use Rattle.site_traits.specs.Counts.{CallCounts, one_more}
 use Rattle.site_traits.specs.Log.{HasRoom, SameRoom, empty}
 use Rattle.site_traits.specs.declared.courier.PostAnswer.{PostAnswer}
 use Rattle.site_traits.specs.declared.courier.PostAnswer.TheVariants as post
@@ -13,7 +13,12 @@ pub record IsNewCourier (plans : List PostPlan) (c : MemCourier) : Type 0 where
   pub plans_are : c.plans.items ≡ plans
   pub next : c.next ≡ 0
   pub posts : c.posts ≡ empty 1048576 67108864
+  pub calls : c.calls ≡ 0
   pub faults : c.faults ≡ 0
+
+-- how often it was asked to post, and how often that failed
+abbrev pub counts_of : MemCourier → CallCounts
+counts_of c = record { calls = c.calls; faults = c.faults }
 
 -- what the plan has for the next post: behind the plan 204 (own rule)
 abbrev pub next_post : MemCourier → PostPlan

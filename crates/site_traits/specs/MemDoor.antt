@@ -1,5 +1,5 @@
 -- A door in memory.
-use Rattle.std.specs.Prelude.{◌≡◌, ◌≤◌, ◌<◌, ◌⊎◌, ◌↔◌, ℕ, ◌+◌, List, [], map, length, Some, if◌then◌else◌, nat_lt}
+use Rattle.std.specs.Prelude.{◌≡◌, ◌≤◌, ◌<◌, ◌⊎◌, ◌↔◌, ℕ, ◌+◌, List, [], map, length, Some, if◌then◌else◌, nat_lt, not}
 use Rattle.site_traits.specs.Counts.{one_more}
 use Rattle.site_traits.specs.declared.door.NextAnswer.{NextAnswer}
 use Rattle.site_traits.specs.declared.door.NextAnswer.TheVariants as next
@@ -17,9 +17,9 @@ use Rattle.site_traits.specs.Pieces.{IsOfOnePiece}
 abbrev pub state_of : MemDoor → DoorState
 state_of d = record { answers = d.answers.items; conn = conn_of d.conn; past = map conn_of d.past.items }
 
--- how often its calls failed
+-- how often its calls failed, and whether the connection at hand isn't hung up
 abbrev pub counts_of : MemDoor → DoorCounts
-counts_of d = record { faults = d.faults; next = d.next_faults }
+counts_of d = record { faults = d.faults; next = d.next_faults; up = not d.conn.hung_up }
 
 -- nothing was asked of the door yet
 pub record IsNew (d : MemDoor) : Type 0 where

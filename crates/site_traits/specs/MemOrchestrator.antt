@@ -1,6 +1,6 @@
 -- An orchestrator in memory.
 use Rattle.std.specs.Prelude.{◌≡◌, ◌↔◌, ℕ, List, length, IsSome}
-use Rattle.site_traits.specs.Counts.{one_more}
+use Rattle.site_traits.specs.Counts.{CallCounts, one_more}
 use Rattle.site_traits.specs.Log.{Recorded, HasRoom, SameRoom, empty}
 use Rattle.site_traits.specs.Peers.{OrchestratorState}
 use Rattle.site_traits.specs.MemPeers.{answers_of, bytes_of, next_answer, place_after}
@@ -13,12 +13,17 @@ use Rattle.site_traits.specs.declared.mem_orchestrator.MemOrchestrator.{MemOrche
 abbrev pub state_of : MemOrchestrator → OrchestratorState
 state_of o = record { answers = answers_of o.plans.items o.next; asked = bytes_of o.asked.calls; polled = bytes_of o.polled.calls }
 
+-- how often it was called, and how often that failed
+abbrev pub counts_of : MemOrchestrator → CallCounts
+counts_of o = record { calls = o.calls; faults = o.faults }
+
 -- it has this plan, no call was made, and there is room for 1,048,576 calls and 64 MiB of each kind (own rule)
 pub record IsNewOrchestrator (plans : List GrantPlan) (o : MemOrchestrator) : Type 0 where
   pub plans_are : o.plans.items ≡ plans
   pub next : o.next ≡ 0
   pub asked : o.asked ≡ empty 1048576 67108864
   pub polled : o.polled ≡ empty 1048576 67108864
+  pub calls : o.calls ≡ 0
   pub faults : o.faults ≡ 0
 
 -- the count of faults after a call

@@ -1,7 +1,11 @@
 -- A sink in memory.
 use Rattle.std.specs.Prelude.{◌≡◌, ◌≤◌, ◌↔◌, ℕ, ◌+◌, List, [], length, Option, Some, Result, IsOk, is_ok, if◌then◌else◌}
-use Rattle.site_traits.specs.Counts.{one_more}
+use Rattle.site_traits.specs.Counts.{CallCounts, one_more}
 use Rattle.site_traits.specs.declared.mem_sink.MemSink.{MemSink}
+
+-- how often it was put to, and how often that failed
+abbrev pub counts_of : MemSink → CallCounts
+counts_of s = record { calls = s.calls; faults = s.faults }
 
 -- nothing was put yet, and this put is to fail
 pub record IsEmpty (failing : Option ℕ) (s : MemSink) : Type 0 where

@@ -1,5 +1,6 @@
 -- A site in memory.
 use Rattle.std.specs.Prelude.{◌≡◌, ℕ, List, [], map}
+use Rattle.site_traits.specs.Book.{counts_in}
 use Rattle.site_traits.specs.Counts.{SiteCounts}
 use Rattle.site_traits.specs.declared.mem_site.MemSite.{MemSite}
 use Rattle.site_traits.specs.Disk.{change_of, disk, told}
@@ -18,6 +19,6 @@ image_of m = (disk m.first.items (map change_of m.book.log.calls)).seen
 abbrev pub state_of : MemSite → SiteState
 state_of m = told m.first.items (map change_of m.book.log.calls)
 
--- how often its disk calls failed
+-- how often its disk calls failed, and what was asked of it
 abbrev pub counts_of : MemSite → SiteCounts
-counts_of m = record { disk = m.book.faults; vim = 0; look = 0; refusals = 0 }
+counts_of m = counts_in m.book

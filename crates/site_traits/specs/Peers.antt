@@ -1,11 +1,11 @@
 -- What the orchestrator and the courier tell: what they were asked and what they answered.
-use Rattle.std.specs.Prelude.{◌≡◌, ◌≤◌, ℕ, List, [], ◌∷◌, ◌++◌}
+use Rattle.std.specs.Prelude.{◌≡◌, ℕ, List, [], ◌∷◌, ◌++◌}
 use Rattle.site_traits.specs.declared.orchestrator.Call.{Call}
 use Rattle.site_traits.specs.declared.orchestrator.Call.TheVariants as call
 use Rattle.site_traits.specs.declared.courier.PostAnswer.{PostAnswer}
 use Rattle.site_traits.specs.declared.courier.PostAnswer.TheVariants as post
 use Rattle.site_traits.specs.Answer.{Answer}
-use Rattle.site_traits.specs.Counts.{Rose}
+use Rattle.site_traits.specs.Counts.{CallCounts, called, called_in_vain}
 
 -- All that an orchestrator tells: its answers, the bodies that it was asked and the locations that were polled, each the
 -- oldest first (SOL 003 9.4).
@@ -36,10 +36,10 @@ abbrev pub Polls : List ℕ → Answer → Call → OrchestratorState → Orches
 Polls location answer call.Came a b = Polled location answer a b
 Polls location answer call.Failed a b = b ≡ a
 
--- the count of failed calls did not fall, and rose where this one failed (own rule)
-pub record CallCause (result : Call) (before now : ℕ) : Type 0 where
-  pub count : before ≤ now
-  pub failed : result ≡ call.Failed → Rose before now
+-- one call more is counted, and one fault more where it failed (own rule)
+abbrev pub CallCause : Call → CallCounts → CallCounts → Type 0
+CallCause call.Came before now = now ≡ called before
+CallCause call.Failed before now = now ≡ called_in_vain before
 
 -- a notification that was posted, and the status that it got (SOL 003 5.4.20)
 pub record Post : Type 0 where
@@ -52,7 +52,7 @@ abbrev pub Posts : List ℕ → List ℕ → PostAnswer → List Post → List P
 Posts uri body (post.Status status) a b = b ≡ a ++ (record { uri = uri; body = body; status = status }) ∷ []
 Posts uri body post.Failed a b = b ≡ a
 
--- the count of failed posts did not fall, and rose where this one failed (own rule)
-pub record PostCause (result : PostAnswer) (before now : ℕ) : Type 0 where
-  pub count : before ≤ now
-  pub failed : result ≡ post.Failed → Rose before now
+-- one post more is counted, and one fault more where it failed (own rule)
+abbrev pub PostCause : PostAnswer → CallCounts → CallCounts → Type 0
+PostCause (post.Status status) before now = now ≡ called before
+PostCause post.Failed before now = now ≡ called_in_vain before

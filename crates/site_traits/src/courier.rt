@@ -1,5 +1,6 @@
 // Who carries notifications to their subscribers.
-ghost use Rattle.std.specs.Prelude.{ℕ, List};
+ghost use Rattle.std.specs.Prelude.{List};
+ghost use Rattle.site_traits.specs.Counts.{CallCounts};
 ghost use Rattle.site_traits.specs.Peers.{Post, Posts, PostCause};
 
 use vnfm_base::Line;
@@ -9,7 +10,7 @@ use vnfm_base::Line;
 pub enum PostAnswer {
     /// It was answered with this status.
     Status(u16),
-    /// No answer came. The courier's count rose.
+    /// No answer came. The courier's count of faults rose by one.
     Failed,
 }
 
@@ -23,8 +24,8 @@ pub trait Courier {
     /// The posts that got a status, the oldest first.
     ghost state: { Self → List Post };
 
-    /// How often its calls failed, told or not.
-    ghost counts: { Self → ℕ };
+    /// How often it was asked to post, and how often a post failed, told or not.
+    ghost counts: { Self → CallCounts };
 
     /// Posts this body to this callback.
     fn post(&mut self, uri: &Line, body: &[u8]) -> PostAnswer

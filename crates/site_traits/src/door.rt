@@ -1,6 +1,6 @@
 // Where connections come in.
-ghost use Rattle.std.specs.Prelude.{◌≡◌, ◌≤◌, length};
-ghost use Rattle.site_traits.specs.Door.{DoorState, DoorCounts, Nexts, ReadsIn, WritesOut, HangsUp, IsAmount, IsTaken, NextCause, ReadCause, WriteCause, NoNextFault};
+ghost use Rattle.std.specs.Prelude.{◌≡◌, ◌≤◌, true, length};
+ghost use Rattle.site_traits.specs.Door.{DoorState, DoorCounts, Nexts, ReadsIn, WritesOut, HangsUp, IsAmount, IsTaken, NextCause, ReadCause, WriteCause, closed};
 
 use lcm_events::Role;
 
@@ -13,7 +13,7 @@ pub enum NextAnswer {
     Nobody,
     /// None will come any more.
     Ended,
-    /// The door failed. Its count of faults rose, and that of `next` faults too.
+    /// The door failed. Its count of faults rose by one, and that of `next` faults too.
     Failed,
 }
 
@@ -24,7 +24,7 @@ pub enum ReadAnswer {
     Got(usize),
     /// No byte is left.
     End,
-    /// The read failed. The door's count of faults rose.
+    /// The read failed. The door's count of faults rose by one.
     Failed,
 }
 
@@ -33,7 +33,7 @@ pub enum ReadAnswer {
 pub enum WriteAnswer {
     /// So many bytes, at least one, went out.
     Took(usize),
-    /// The write failed, and no byte of it went out. The door's count of faults rose.
+    /// The write failed, and no byte of it went out. The door's count of faults rose by one.
     Failed,
 }
 
@@ -47,30 +47,33 @@ pub trait Door {
     /// What the door tells.
     ghost state: { Self → DoorState };
 
-    /// How often its calls failed, told or not.
+    /// How often its calls failed, and whether the connection at hand is up, told or not.
     ghost counts: { Self → DoorCounts };
 
-    /// Waits for the next connection, which is then at hand. Where none comes, the last one stays at hand.
+    /// Waits for the next connection, which is then at hand, and up. Where none comes, the last one stays at hand as it is.
     fn next(&mut self) -> NextAnswer
         ensures told { tells → Nexts result (state self.old) (state self.new) }
         ensures cause { NextCause result (counts self.old) (counts self.new) };
 
-    /// Reads the next bytes of the connection to the front of `into`.
+    /// Reads the next bytes of the connection, which is up, to the front of `into`.
     fn read(&mut self, into: &mut [u8]) -> ReadAnswer
-        requires { 1 ≤ length into.old }
+        requires some { 1 ≤ length into.old }
+        requires up { (counts self.old).up ≡ true }
         ensures amount { IsAmount result (length into.old) }
         ensures told { tells → ReadsIn into.old into.new result (state self.old) (state self.new) }
         ensures cause { ReadCause result (counts self.old) (counts self.new) };
 
-    /// Writes the first of these bytes to the connection.
+    /// Writes the first of these bytes to the connection, which is up.
     fn write(&mut self, bytes: &[u8]) -> WriteAnswer
-        requires { 1 ≤ length bytes.now }
+        requires some { 1 ≤ length bytes.now }
+        requires up { (counts self.old).up ≡ true }
         ensures amount { IsTaken result (length bytes.now) }
         ensures told { tells → WritesOut bytes.now result (state self.old) (state self.new) }
         ensures cause { WriteCause result (counts self.old) (counts self.new) };
 
-    /// Ends the connection.
+    /// Ends the connection, which is up.
     fn hang_up(&mut self)
+        requires up { (counts self.old).up ≡ true }
         ensures told { tells → HangsUp (state self.old) (state self.new) }
-        ensures cause { NoNextFault (counts self.old) (counts self.new) };
+        ensures cause { counts self.new ≡ closed (counts self.old) };
 }

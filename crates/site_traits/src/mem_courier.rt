@@ -33,6 +33,7 @@ pub struct MemCourier {
     plans: Vec<PostPlan>,
     next: usize,
     posts: Log<PostMark>,
+    calls: u64,
     faults: u64,
 }
 
@@ -47,6 +48,7 @@ impl MemCourier {
             plans,
             next: 0,
             posts: Log::new(alloc, CALLS, BYTES)?,
+            calls: 0,
             faults: 0,
         })
     }
@@ -77,20 +79,21 @@ impl MemCourier {
 }
 
 impl Courier for MemCourier {
-    ghost use Rattle.site_traits.specs.MemCourier.{RunsPost};
+    ghost use Rattle.site_traits.specs.MemCourier.{RunsPost, counts_of};
     ghost use Rattle.site_traits.specs.Peers.{Posts, PostCause};
 
     ghost tells = { Unit {0} };
 
     ghost state = { λ c. posts_of c.posts.calls };
 
-    ghost counts = { λ c. c.faults };
+    ghost counts = { counts_of };
 
     fn post(&mut self, uri: &Line, body: &[u8]) -> PostAnswer
         ensures told { Posts uri.now body.now result (posts_of self.old.posts.calls) (posts_of self.new.posts.calls) }
-        ensures cause { PostCause result self.old.faults self.new.faults }
+        ensures cause { PostCause result (counts_of self.old) (counts_of self.new) }
         ensures runs { RunsPost uri.now body.now result self.old self.new }
     {
+        self.calls = self.calls.saturating_add(1);
         if let PostPlan::Status(status) = self.planned() {
             let mark = PostMark {
                 uri: uri.len(),

@@ -1,6 +1,6 @@
 // A door in memory, which tells all.
-ghost use Rattle.std.specs.Prelude.{◌≡◌, ◌≤◌, ◌+◌, ◌↔◌, IfOk, IsTrue, length, vec_len, vec_capacity};
-ghost use Rattle.site_traits.specs.Counts.{Rose};
+ghost use Rattle.std.specs.Prelude.{◌≡◌, ◌≤◌, ◌+◌, ◌↔◌, IfOk, IsTrue, length, true, vec_len, vec_capacity};
+ghost use Rattle.site_traits.specs.Counts.{one_more};
 ghost use Rattle.site_traits.specs.DoorPlans.{AreReady, IsReady, calls_after};
 
 use crate::door::{Door, NextAnswer, ReadAnswer, WriteAnswer};
@@ -156,7 +156,7 @@ fn ready_one(alloc: Global, room: usize, plan: DoorPlan) -> Result<Planned, Allo
 
 // Counts one fault more.
 fn count(faults: &mut u64)
-    ensures rose { Rose faults.old faults.new }
+    ensures one { faults.new ≡ one_more faults.old }
     ensures later { faults.old ≤ faults.new }
 {
     *faults = faults.saturating_add(1);
@@ -164,7 +164,7 @@ fn count(faults: &mut u64)
 
 impl Door for MemDoor {
     ghost use Rattle.site_traits.specs.MemDoor.{state_of, counts_of, RunsNext, RunsRead, RunsWrite, SamePlan};
-    ghost use Rattle.site_traits.specs.Door.{Nexts, ReadsIn, WritesOut, HangsUp, IsAmount, IsTaken, NextCause, ReadCause, WriteCause, NoNextFault};
+    ghost use Rattle.site_traits.specs.Door.{Nexts, ReadsIn, WritesOut, HangsUp, IsAmount, IsTaken, NextCause, ReadCause, WriteCause, closed};
 
     ghost tells = { Unit {0} };
 
@@ -206,7 +206,8 @@ impl Door for MemDoor {
     }
 
     fn read(&mut self, into: &mut [u8]) -> ReadAnswer
-        requires { 1 ≤ length into.old }
+        requires some { 1 ≤ length into.old }
+        requires up { (counts_of self.old).up ≡ true }
         ensures amount { IsAmount result (length into.old) }
         ensures told { ReadsIn into.old into.new result (state_of self.old) (state_of self.new) }
         ensures cause { ReadCause result (counts_of self.old) (counts_of self.new) }
@@ -224,7 +225,8 @@ impl Door for MemDoor {
     }
 
     fn write(&mut self, bytes: &[u8]) -> WriteAnswer
-        requires { 1 ≤ length bytes.now }
+        requires some { 1 ≤ length bytes.now }
+        requires up { (counts_of self.old).up ≡ true }
         ensures amount { IsTaken result (length bytes.now) }
         ensures told { WritesOut bytes.now result (state_of self.old) (state_of self.new) }
         ensures cause { WriteCause result (counts_of self.old) (counts_of self.new) }
@@ -239,8 +241,9 @@ impl Door for MemDoor {
     }
 
     fn hang_up(&mut self)
+        requires up { (counts_of self.old).up ≡ true }
         ensures told { HangsUp (state_of self.old) (state_of self.new) }
-        ensures cause { NoNextFault (counts_of self.old) (counts_of self.new) }
+        ensures cause { counts_of self.new ≡ closed (counts_of self.old) }
         ensures same { SamePlan self.old self.new }
         ensures calls { self.new.calls ≡ self.old.calls }
     {

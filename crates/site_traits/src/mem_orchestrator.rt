@@ -35,6 +35,7 @@ pub struct MemOrchestrator {
     next: usize,
     asked: Log<()>,
     polled: Log<()>,
+    calls: u64,
     faults: u64,
     ghost within: { next ≤ vec_len plans },
 }
@@ -51,6 +52,7 @@ impl MemOrchestrator {
             next: 0,
             asked: Log::new(alloc, CALLS, BYTES)?,
             polled: Log::new(alloc, CALLS, BYTES)?,
+            calls: 0,
             faults: 0,
         })
     }
@@ -130,21 +132,22 @@ fn answer(
 }
 
 impl Orchestrator for MemOrchestrator {
-    ghost use Rattle.site_traits.specs.MemOrchestrator.{state_of, RunsCall};
+    ghost use Rattle.site_traits.specs.MemOrchestrator.{state_of, counts_of, RunsCall};
     ghost use Rattle.site_traits.specs.Peers.{Asks, Polls, CallCause};
 
     ghost tells = { Unit {0} };
 
     ghost state = { state_of };
 
-    ghost counts = { λ o. o.faults };
+    ghost counts = { counts_of };
 
     fn ask(&mut self, body: &[u8], heard: &mut Heard) -> Call
         ensures told { Asks body.now heard.new result (state_of self.old) (state_of self.new) }
-        ensures cause { CallCause result self.old.faults self.new.faults }
+        ensures cause { CallCause result (counts_of self.old) (counts_of self.new) }
         ensures runs { RunsCall body.now result self.old.asked self.new.asked self.old self.new }
         ensures polled { self.new.polled ≡ self.old.polled }
     {
+        self.calls = self.calls.saturating_add(1);
         let answer = answer(&self.plans, &mut self.next, &mut self.asked, body, heard);
         if answer == Call::Failed {
             self.faults = self.faults.saturating_add(1);
@@ -154,10 +157,11 @@ impl Orchestrator for MemOrchestrator {
 
     fn poll(&mut self, location: &Line, heard: &mut Heard) -> Call
         ensures told { Polls location.now heard.new result (state_of self.old) (state_of self.new) }
-        ensures cause { CallCause result self.old.faults self.new.faults }
+        ensures cause { CallCause result (counts_of self.old) (counts_of self.new) }
         ensures runs { RunsCall location.now result self.old.polled self.new.polled self.old self.new }
         ensures asked { self.new.asked ≡ self.old.asked }
     {
+        self.calls = self.calls.saturating_add(1);
         let answer = answer(
             &self.plans,
             &mut self.next,

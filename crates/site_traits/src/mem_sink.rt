@@ -48,17 +48,17 @@ impl MemSink {
 }
 
 impl Sink for MemSink {
-    ghost use Rattle.site_traits.specs.MemSink.{RunsPut};
+    ghost use Rattle.site_traits.specs.MemSink.{RunsPut, counts_of};
 
     ghost tells = { Unit {0} };
 
     ghost state = { λ s. s.bytes.items };
 
-    ghost counts = { λ s. s.faults };
+    ghost counts = { counts_of };
 
     fn put(&mut self, bytes: &[u8]) -> Result<(), SinkFailed>
         ensures told { Puts bytes.now result self.old.bytes.items self.new.bytes.items }
-        ensures cause { SinkCause self.old.faults self.new.faults result }
+        ensures cause { SinkCause (counts_of self.old) (counts_of self.new) result }
         ensures runs { RunsPut bytes.now result self.old self.new }
     {
         self.calls = self.calls.saturating_add(1);

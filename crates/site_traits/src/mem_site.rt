@@ -1,7 +1,7 @@
 // A site in memory, which tells all.
 ghost use Rattle.std.specs.Prelude.{◌≡◌, ◌≤◌, ◌<◌, ◌+◌, ◌↔◌, ℕ, List, [], map, get_or, length, take, drop, min, max, Contains, IsTrue, IfOk, OnOk, is_ok, vec_capacity};
-ghost use Rattle.site_traits.specs.Counts.{one_more, DiskCause};
-ghost use Rattle.site_traits.specs.Book.{IsWithinRoom, IsPlanned, Runs};
+ghost use Rattle.site_traits.specs.Counts.{one_more, Ask, asked, DiskCause};
+ghost use Rattle.site_traits.specs.Book.{IsWithinRoom, IsPlanned, Runs, counted, counts_in};
 ghost use Rattle.site_traits.specs.Disk.{change_of, change_by, disk, overlaid, put_over, chosen, clip, left_after, stopped_image};
 
 use crate::log::{CALLS, Log};
@@ -61,6 +61,9 @@ pub struct Book {
     room: usize,
     calls: u64,
     faults: u64,
+    writes: u64,
+    cuts: u64,
+    syncs: u64,
     log: Log<DiskCall>,
 }
 
@@ -106,6 +109,9 @@ impl MemSite {
             room,
             calls: 0,
             faults: 0,
+            writes: 0,
+            cuts: 0,
+            syncs: 0,
             log,
         };
         Ok(MemSite { first, file, book })
@@ -185,6 +191,20 @@ impl MemSite {
         ensures { result ≡ self.now.book.faults }
     {
         self.book.faults
+    }
+
+    /// How many writes were asked for.
+    pub fn writes(&self) -> u64
+        ensures { result ≡ self.now.book.writes }
+    {
+        self.book.writes
+    }
+
+    /// How many syncs were asked for.
+    pub fn syncs(&self) -> u64
+        ensures { result ≡ self.now.book.syncs }
+    {
+        self.book.syncs
     }
 }
 
@@ -307,11 +327,24 @@ fn is_within_room(what: DiskCall, len: usize, room: usize) -> bool
 }
 
 impl Book {
-    // A call with these bytes: on record where it is served, else counted as a fault.
+    // Counts a write, a cut or a sync.
+    fn count(&mut self, what: DiskCall)
+        ensures counts { counts_in self.new ≡ counted what (counts_in self.old) }
+        ensures rest { self.new ≡ record self.old { writes = self.new.writes; cuts = self.new.cuts; syncs = self.new.syncs } }
+    {
+        match what {
+            DiskCall::Wrote { .. } => self.writes = self.writes.saturating_add(1),
+            DiskCall::Cut { .. } => self.cuts = self.cuts.saturating_add(1),
+            DiskCall::Synced => self.syncs = self.syncs.saturating_add(1),
+            _ => {}
+        }
+    }
+
+    // A call with these bytes: it is counted, and on record where it is served, else counted as a fault too.
     fn run(&mut self, what: DiskCall, bytes: &[u8]) -> bool
         ensures runs { Runs what bytes.now result self.old self.new }
-        ensures later { self.old.faults ≤ self.new.faults }
     {
+        self.count(what);
         let named = is_named(&mut self.calls, &self.failing);
         if named
             || !is_within_room(what, bytes.len(), self.room)
@@ -383,7 +416,7 @@ impl Site for MemSite {
     fn write_at(&mut self, at: u64, bytes: &[u8]) -> Result<(), DiskFailed>
         requires { at ≤ length (image_of self.old) }
         ensures told { Writes at bytes.now result (state_of self.old) (state_of self.new) }
-        ensures cause { DiskCause (counts_of self.old) (counts_of self.new) result }
+        ensures cause { DiskCause (asked Ask.write (counts_of self.old)) (counts_of self.new) result }
         ensures runs { Runs (DiskCall.Wrote at) bytes.now (is_ok result) self.old.book self.new.book }
     {
         if !self.book.run(DiskCall::Wrote { at }, bytes) {
@@ -396,7 +429,7 @@ impl Site for MemSite {
     fn cut(&mut self, to: u64) -> Result<(), DiskFailed>
         requires { to ≤ length (image_of self.old) }
         ensures told { Cuts to result (state_of self.old) (state_of self.new) }
-        ensures cause { DiskCause (counts_of self.old) (counts_of self.new) result }
+        ensures cause { DiskCause (asked Ask.cut (counts_of self.old)) (counts_of self.new) result }
         ensures runs { Runs (DiskCall.Cut to) [] (is_ok result) self.old.book self.new.book }
     {
         if !self.book.run(DiskCall::Cut { to }, &[]) {
@@ -408,7 +441,7 @@ impl Site for MemSite {
 
     fn sync(&mut self) -> Result<(), DiskFailed>
         ensures told { Syncs result (state_of self.old) (state_of self.new) }
-        ensures cause { DiskCause (counts_of self.old) (counts_of self.new) result }
+        ensures cause { DiskCause (asked Ask.sync (counts_of self.old)) (counts_of self.new) result }
         ensures runs { Runs (DiskCall.Synced) [] (is_ok result) self.old.book self.new.book }
     {
         if !self.book.run(DiskCall::Synced, &[]) {

@@ -1,5 +1,5 @@
 // The orchestrator that is asked for grants.
-ghost use Rattle.std.specs.Prelude.{ℕ};
+ghost use Rattle.site_traits.specs.Counts.{CallCounts};
 ghost use Rattle.site_traits.specs.Peers.{OrchestratorState, Asks, Polls, CallCause};
 
 use crate::heard::Heard;
@@ -10,7 +10,7 @@ use vnfm_base::Line;
 pub enum Call {
     /// It stands in the `Heard` that was lent.
     Came,
-    /// None came, or one that is too long. The orchestrator's count rose.
+    /// None came, or one that is too long. The orchestrator's count of faults rose by one.
     Failed,
 }
 
@@ -24,8 +24,8 @@ pub trait Orchestrator {
     /// What the orchestrator tells.
     ghost state: { Self → OrchestratorState };
 
-    /// How often its calls failed, told or not.
-    ghost counts: { Self → ℕ };
+    /// How often it was called, and how often a call failed, told or not.
+    ghost counts: { Self → CallCounts };
 
     /// Posts a grant request with this body.
     ///

@@ -1,8 +1,9 @@
 // Where the program's lines go.
 ghost use Rattle.std.specs.Prelude.{List, ℕ};
+ghost use Rattle.site_traits.specs.Counts.{CallCounts};
 ghost use Rattle.site_traits.specs.Sink.{Puts, SinkCause};
 
-/// A put failed. The sink's count rose in that call, or stands at its greatest value.
+/// A put failed. The sink's count of faults rose by one in that call, or stands at its greatest value.
 #[derive(Clone, Copy, Debug, PartialEq, Eq, Drop)]
 pub struct SinkFailed;
 
@@ -16,8 +17,8 @@ pub trait Sink {
     /// The bytes so far.
     ghost state: { Self → List ℕ };
 
-    /// How often a put failed, told or not.
-    ghost counts: { Self → ℕ };
+    /// How often it was put to, and how often a put failed, told or not.
+    ghost counts: { Self → CallCounts };
 
     /// Puts these bytes behind those so far: all of them, or none where it failed.
     fn put(&mut self, bytes: &[u8]) -> Result<(), SinkFailed>

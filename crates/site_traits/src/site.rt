@@ -1,9 +1,9 @@
 // The journal's file: what each call does to it, and what a stop may leave.
 ghost use Rattle.std.specs.Prelude.{◌≡◌, ◌≤◌, ◌+◌, ℕ, length, take, drop, OnOk, IfOk};
-ghost use Rattle.site_traits.specs.Counts.{SiteCounts, DiskCause};
+ghost use Rattle.site_traits.specs.Counts.{SiteCounts, Ask, asked, DiskCause};
 ghost use Rattle.site_traits.specs.Site.{SiteState, Reads, Writes, Cuts, Syncs};
 
-/// A disk call failed. The site's count of disk faults rose in that call, or stands at its greatest value.
+/// A disk call failed. The site's count of disk faults rose by one in that call, or stands at its greatest value.
 #[derive(Clone, Copy, Debug, PartialEq, Eq, Drop)]
 pub struct DiskFailed;
 
@@ -18,7 +18,7 @@ pub trait Site {
     /// What the site tells.
     ghost state: { Self → SiteState };
 
-    /// How often its calls failed, told or not.
+    /// How often its calls failed, and how often writes, cuts and syncs were asked for, told or not.
     ghost counts: { Self → SiteCounts };
 
     /// The file's length in bytes.
@@ -39,16 +39,16 @@ pub trait Site {
     fn write_at(&mut self, at: u64, bytes: &[u8]) -> Result<(), DiskFailed>
         requires { tells → at ≤ length (state self.old).image }
         ensures told { tells → Writes at bytes.now result (state self.old) (state self.new) }
-        ensures cause { DiskCause (counts self.old) (counts self.new) result };
+        ensures cause { DiskCause (asked Ask.write (counts self.old)) (counts self.new) result };
 
     /// Cuts the file to a length that it has. Until the next sync a stop may leave the old length or the new one.
     fn cut(&mut self, to: u64) -> Result<(), DiskFailed>
         requires { tells → to ≤ length (state self.old).image }
         ensures told { tells → Cuts to result (state self.old) (state self.new) }
-        ensures cause { DiskCause (counts self.old) (counts self.new) result };
+        ensures cause { DiskCause (asked Ask.cut (counts self.old)) (counts self.new) result };
 
     /// After it succeeded, a stop leaves what a read gives.
     fn sync(&mut self) -> Result<(), DiskFailed>
         ensures told { tells → Syncs result (state self.old) (state self.new) }
-        ensures cause { DiskCause (counts self.old) (counts self.new) result };
+        ensures cause { DiskCause (asked Ask.sync (counts self.old)) (counts self.new) result };
 }
