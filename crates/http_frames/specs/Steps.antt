@@ -33,7 +33,7 @@ pub record BeginsLast (bytes : List ℕ) (n : ℕ) : Type 0 where
 
 -- what stands at the front of the bytes, by the answer, where so much content was taken before
 abbrev pub StepIs : ℕ → List ℕ → Step → Type 0
-StepIs taken bytes (step.More due line) = ChunksCut taken bytes
+StepIs taken bytes step.More = ChunksCut taken bytes
 StepIs taken bytes step.Malformed = ChunksBad taken bytes
 StepIs taken bytes step.TooLarge = ChunksMuch taken bytes
 StepIs taken bytes (step.Chunk start end next) = BeginsChunk taken bytes start end next
@@ -65,7 +65,7 @@ HasDecoded bytes d = HasPassed d.in_trailer bytes d.at d.body.items
 -- what the bytes are, by the answer, with this content where they are whole
 abbrev pub VerdictIs : List ℕ → List ℕ → Verdict → Type 0
 VerdictIs bytes body (verdict.Whole n) = ReadsChunks bytes body (drop n bytes) × (n ≤ length bytes) × (length body ≤ BODY_BYTES)
-VerdictIs bytes body (verdict.More due line) = ChunksCut 0 bytes
+VerdictIs bytes body verdict.More = ChunksCut 0 bytes
 VerdictIs bytes body verdict.Malformed = ChunksBad 0 bytes
 VerdictIs bytes body verdict.TooLarge = ChunksMuch 0 bytes
 

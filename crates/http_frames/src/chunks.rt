@@ -25,8 +25,8 @@ pub struct Decoder {
 pub enum Verdict {
     /// The body is whole, and the framing has so many bytes.
     Whole(usize),
-    /// It breaks off. It is to be looked at again once `due` bytes are held, or, where `line` is true, once a line feed came.
-    More { due: usize, line: bool },
+    /// It breaks off.
+    More,
     /// A chunk breaks the framing.
     Malformed,
     /// The chunks hold more than `BODY_BYTES` bytes.
@@ -82,10 +82,7 @@ impl Decoder {
                     self.in_trailer = true;
                     return Ok(None);
                 }
-                Step::More { due, line } => return Ok(Some(Verdict::More {
-                    due: self.at.saturating_add(due),
-                    line,
-                })),
+                Step::More => return Ok(Some(Verdict::More)),
                 Step::Malformed => return Ok(Some(Verdict::Malformed)),
                 Step::TooLarge => return Ok(Some(Verdict::TooLarge)),
             }
@@ -103,12 +100,7 @@ impl Decoder {
             match trailer_line(rest(bytes, self.at)) {
                 TrailerLine::Full(n) => self.at += n,
                 TrailerLine::Empty(n) => return Verdict::Whole(self.at + n),
-                TrailerLine::More => {
-                    return Verdict::More {
-                        due: twice(self.at, bytes),
-                        line: true,
-                    };
-                }
+                TrailerLine::More => return Verdict::More,
             }
         }
     }
@@ -125,10 +117,7 @@ enum Step {
     },
     /// A size line of this many bytes that says 0.
     Last(usize),
-    More {
-        due: usize,
-        line: bool,
-    },
+    More,
     Malformed,
     TooLarge,
 }
@@ -140,10 +129,7 @@ fn next_step(bytes: &[u8], taken: usize) -> Step
 {
     match httparse::parse_chunk_size(bytes) {
         Ok(Status::Complete((len, size))) => behind_line(bytes, len, size, taken),
-        Ok(Status::Partial) => Step::More {
-            due: twice(0, bytes),
-            line: true,
-        },
+        Ok(Status::Partial) => Step::More,
         Err(_) => Step::Malformed,
     }
 }
@@ -166,10 +152,7 @@ fn behind_line(bytes: &[u8], len: usize, size: u64, taken: usize) -> Step
         return Step::Malformed;
     }
     if content.len() < size + 2 {
-        return Step::More {
-            due: len.saturating_add(size + 2),
-            line: false,
-        };
+        return Step::More;
     }
     Step::Chunk {
         start: len,
@@ -227,14 +210,6 @@ fn begins_crlf(bytes: &[u8]) -> bool
         [first] => *first == b'\r',
         [first, second, ..] => *first == b'\r' && *second == b'\n',
     }
-}
-
-/// How many bytes are to be held before a line without an end is looked at again: twice as many behind `at`.
-fn twice(at: usize, bytes: &[u8]) -> usize {
-    bytes
-        .len()
-        .saturating_add(bytes.len().saturating_sub(at))
-        .saturating_add(1)
 }
 
 /// The bytes from there on.

@@ -7,7 +7,7 @@ pub mod framing;
 pub mod head;
 mod laws;
 
-pub use laws::bytes_begin_one_way;
+pub use laws::{bytes_begin_one_way, limits_are_as_stated};
 
 /// Bytes of a request's head, with the empty lines in front of it. A head of our routes has a few hundred.
 pub const HEAD_BYTES: usize = 16_384;

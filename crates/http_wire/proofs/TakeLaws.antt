@@ -1,5 +1,5 @@
 -- Laws on taking a request out of the bytes of a connection.
-use Rattle.std.proofs.Common.{◌≡◌, ℕ, ◌+◌, ◌-◌, ◌<◌, ◌≤◌, List, [], ◌++◌, length, take, drop, min, sym, ap, ◌∙◌, subst, inl, ◌⊎◌, arith, append_assoc, append-nil}
+use Rattle.std.proofs.Common.{◌≡◌, ℕ, ◌+◌, ◌-◌, ◌<◌, ◌≤◌, List, [], ◌∷◌, ◌++◌, length, take, drop, min, refl, sym, ap, ◌∙◌, subst, inl, ◌⊎◌, arith, append_assoc, append-nil}
 use Rattle.std.proofs.lemmas.List.{drop-drop, length-take, take-append-drop, take_all, length-take-le, length-drop, drop-append-le, nil_from_length, take_min}
 use Rattle.httparse.specs.Grammar.{print_request, EndsInTarget}
 use Rattle.http_frames.specs.declared.TheConstants.{HEAD_BYTES, CHUNKED_BYTES, BODY_BYTES}
@@ -21,18 +21,14 @@ use Rattle.http_frames.proofs.HeadLaws.{head_grows, head_is_grows}
 use Rattle.http_frames.proofs.DecodeLaws.{decoded_grows}
 use Rattle.http_frames.proofs.GrowLaws.{message_more, chunked_within}
 use Rattle.http_frames.proofs.MessageLaws.{bad_grows, big_grows, head_cut, sized_cut, chunked_cut, chunked_bad, chunked_much, chunked_long}
-use Rattle.std.proofs.Common.{Bool}
+use Rattle.std.proofs.Common.{Bool, inr}
 use Rattle.std.specs.Prelude.{◌||◌}
 use Rattle.site_traits.specs.Door.{DoorState, DoorCounts, NoNextFault}
 use Rattle.http_frames.specs.declared.chunks.Verdict.TheVariants as verdict
 use Rattle.http_frames.specs.Steps.{VerdictIs}
-use Rattle.http_wire.specs.declared.intake.Stop.{Stop}
-use Rattle.http_wire.specs.declared.intake.Stop.TheVariants as stop
 use Rattle.http_wire.specs.declared.request.Request.{Request}
-use Rattle.http_wire.specs.Intake.{IntakeState, TakesIn, OnlyReads, StopIs}
+use Rattle.http_wire.specs.Intake.{IntakeState, TakesIn, OnlyReads, NeedsMore}
 use Rattle.http_wire.specs.Wire.{bytes_of, window, HasParts, TakesRequest, OnlyTakesIn}
-use Rattle.http_wire.proofs.IntakeLaws.{rose_since}
-use Rattle.http_wire.proofs.Loops.{HasStopped}
 
 -- where no byte is left, the bytes are those that are held
 pub all_held : (b : IntakeState) → b.door.conn.left ≡ [] → bytes_of b ≡ b.held
@@ -53,13 +49,15 @@ head_stays tells a b p t h = subst (λ (x : List ℕ). HasHead x p) (sym t.held)
 pub no_byte : (b : IntakeState) → length b.held ≡ 0 → b.door.conn.left ≡ [] → bytes_of b ≡ []
 no_byte b none e = all_held b e ∙ nil_from_length b.held none
 
-some_bytes : (xs : List ℕ) → (length xs ≡ 0 → ⊥) → xs ≡ [] → ⊥
-some_bytes xs some e = some (ap length e)
+-- what isn't a head yet needs more
+pub head_needs_more : (held : List ℕ) → HeadIs held answer.More → NeedsMore held
+head_needs_more [] more = inl refl
+head_needs_more (b ∷ held) more = inr (head_cut (b ∷ held) (λ e. cc) more.0 more.1 more.2)
 
-pub head_breaks_off : (b : IntakeState) → HeadIs b.held answer.More → (length b.held ≡ 0 → ⊥) → b.door.conn.left ≡ []
+pub head_breaks_off : (b : IntakeState) → HeadIs b.held answer.More → (b.held ≡ [] → ⊥) → b.door.conn.left ≡ []
     → IsCut (bytes_of b) ⊎ EndsInTarget (bytes_of b)
 head_breaks_off b more some e =
-    subst (λ (x : List ℕ). IsCut x ⊎ EndsInTarget x) (sym (all_held b e)) (head_cut b.held (some_bytes b.held some) more.0 more.1 more.2)
+    subst (λ (x : List ℕ). IsCut x ⊎ EndsInTarget x) (sym (all_held b e)) (head_cut b.held some more.0 more.1 more.2)
 
 pub too_large_grows : (b : IntakeState) → HeadIs b.held answer.TooLarge → BeginsBig (bytes_of b) ⊎ IsLongTarget (bytes_of b)
 too_large_grows b h = head_is_grows b.held b.door.conn.left answer.TooLarge (λ e. cc) h
@@ -75,6 +73,10 @@ sized_is_cut : (held : List ℕ) (p : HeadParts) (n : ℕ) → HasHead held p �
 sized_is_cut held p n h is missing =
     sized_cut held h.head (drop p.len held) n h.reads (omega (arith, h.len, h.short)) h.few (sym h.body ∙ ap frame_as is)
     (omega (arith, h.within, length-drop p.len held))
+
+-- a body of which less is held than was announced needs more
+pub sized_needs_more : (held : List ℕ) (p : HeadParts) (n : ℕ) → HasHead held p → p.body ≡ body.Sized n → length held < p.len + n → NeedsMore held
+sized_needs_more held p n h is missing = inr (inl (sized_is_cut held p n h is missing))
 
 pub sized_breaks_off : (b : IntakeState) (p : HeadParts) (n : ℕ) → HasHead b.held p → p.body ≡ body.Sized n → length b.held < p.len + n
     → b.door.conn.left ≡ [] → IsCut (bytes_of b) ⊎ EndsInTarget (bytes_of b)
@@ -135,10 +137,16 @@ chunked_is_cut n limit held p h is fits cut =
     chunked_cut held h.head (drop p.len held) h.reads (short_head held p h) h.few (sym h.body ∙ ap frame_as is) (omega arith)
     (subst (λ (x : List ℕ). ChunksCut 0 x) (take_all n (drop p.len held) fits) cut)
 
-pub chunked_breaks_off : (b : IntakeState) (p : HeadParts) → HasHead b.held p → p.body ≡ body.Chunked → length (drop p.len b.held) ≤ CHUNKED_BYTES
-    → ChunksCut 0 (window b.held p) → b.door.conn.left ≡ [] → IsCut (bytes_of b) ⊎ EndsInTarget (bytes_of b)
-chunked_breaks_off b p h is fits cut e =
-    inl (subst (λ (x : List ℕ). IsCut x) (sym (all_held b e)) (chunked_is_cut CHUNKED_BYTES (omega arith) b.held p h is fits cut))
+-- a chunked body that breaks off within its limit needs more
+pub chunked_needs_more : (held : List ℕ) (p : HeadParts) → HasHead held p → p.body ≡ body.Chunked → length (drop p.len held) ≤ CHUNKED_BYTES
+    → ChunksCut 0 (window held p) → NeedsMore held
+chunked_needs_more held p h is fits cut = inr (inl (chunked_is_cut CHUNKED_BYTES (omega arith) held p h is fits cut))
+
+pub chunked_breaks_off : (b : IntakeState) (held : List ℕ) (p : HeadParts) → HasHead held p → p.body ≡ body.Chunked
+    → length (drop p.len held) ≤ CHUNKED_BYTES → ChunksCut 0 (window held p) → b.held ≡ held → b.door.conn.left ≡ []
+    → IsCut (bytes_of b) ⊎ EndsInTarget (bytes_of b)
+chunked_breaks_off b held p h is fits cut same e =
+    inl (subst (λ (x : List ℕ). IsCut x) (sym (all_held b e ∙ same)) (chunked_is_cut CHUNKED_BYTES (omega arith) held p h is fits cut))
 
 pub chunked_has_none : (held : List ℕ) (p : HeadParts) → HasHead held p → p.body ≡ body.Chunked → length (drop p.len held) ≤ CHUNKED_BYTES
     → ChunksCut 0 (window held p) → HasNoMessage held
@@ -190,12 +198,6 @@ chunked_end_fits held p n h within = at CHUNKED_BYTES within
   where
     at : (k : ℕ) → n ≤ length (take k (drop p.len held)) → p.len + n ≤ HEAD_BYTES + k
     at k within = omega (arith, within, h.short, length-take k (drop p.len held))
-
--- why reading on stopped, for a loop
-pub stopped_by : (tells : Type 0) (due : ℕ) (line : Bool) (a m b : IntakeState) (s : Stop) → NoNextFault a.counts m.counts → StopIs tells due line m b s → HasStopped tells s a b
-stopped_by tells due line a m b stop.Going counts h = tt
-stopped_by tells due line a m b stop.Ended counts h = h.0
-stopped_by tells due line a m b stop.Failed counts h = rose_since a.counts.faults m.counts.faults b.counts.faults counts.faults h.0
 
 -- what was read was read
 pub only_takes : (tells : Type 0) (a b : IntakeState) → TakesIn tells a b → OnlyTakesIn tells a b

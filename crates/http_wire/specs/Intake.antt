@@ -1,12 +1,12 @@
 -- What an intake holds, and what reading does to it.
-use Rattle.std.specs.Prelude.{◌≡◌, ◌<◌, ◌≤◌, ℕ, Bool, false, List, [], ◌++◌, length, Result, Ok, Err}
+use Rattle.std.specs.Prelude.{◌≡◌, ◌<◌, ◌⊎◌, ℕ, List, [], ◌++◌, length, Result, Ok, Err}
+use Rattle.httparse.specs.Grammar.{EndsInTarget}
+use Rattle.http_frames.specs.Messages.{IsCut}
 use Rattle.std.specs.declared.alloc.AllocError.{AllocError}
 use Rattle.site_traits.specs.Counts.{Rose}
 use Rattle.site_traits.specs.Door.{DoorState, DoorCounts, NoNextFault}
 use Rattle.http_wire.specs.declared.intake.Came.{Came}
 use Rattle.http_wire.specs.declared.intake.Came.TheVariants as came
-use Rattle.http_wire.specs.declared.intake.Stop.{Stop}
-use Rattle.http_wire.specs.declared.intake.Stop.TheVariants as stop
 
 -- what the door tells, its counts of faults, and the bytes that were read and not yet passed
 pub record IntakeState : Type 0 where
@@ -39,15 +39,14 @@ pub record TakesIn (tells : Type 0) (a b : IntakeState) : Type 0 where
   pub door : tells → OnlyReads more a.door b.door
   pub counts : NoNextFault a.counts b.counts
 
+-- More bytes are needed to say what these begin with: there are none, or they are a part of a request, or they stop inside a
+-- request target, where the grammar tells only later whether it can go on (own rule).
+abbrev pub NeedsMore : List ℕ → Type 0
+NeedsMore bytes = (bytes ≡ []) ⊎ (IsCut bytes ⊎ EndsInTarget bytes)
+
 -- what one read brought, by its answer
 abbrev pub CameIs : Type 0 → Result Came AllocError → IntakeState → IntakeState → Type 0
-CameIs tells (Ok (came.Bytes line_feed)) a b = length a.held < length b.held
+CameIs tells (Ok came.Bytes) a b = length a.held < length b.held
 CameIs tells (Ok came.End) a b = (b.held ≡ a.held) × (tells → b.door.conn.left ≡ [])
 CameIs tells (Ok came.Failed) a b = (b.held ≡ a.held) × Rose a.counts.faults b.counts.faults
-CameIs tells (Err e) a b = b.held ≡ a.held
-
--- why reading on stopped, by its answer, where so many bytes were due
-abbrev pub StopIs : Type 0 → ℕ → Bool → IntakeState → IntakeState → Stop → Type 0
-StopIs tells due line a b stop.Going = (length a.held < due → length a.held < length b.held) × (line ≡ false → due ≤ length b.held)
-StopIs tells due line a b stop.Ended = (tells → b.door.conn.left ≡ []) × (length b.held < due)
-StopIs tells due line a b stop.Failed = Rose a.counts.faults b.counts.faults × (length b.held < due)
+CameIs tells (Err e) a b = b ≡ a

@@ -1,11 +1,10 @@
 //! Holds the bytes that were read from a door and not yet passed.
-ghost use Rattle.std.specs.Prelude.{◌≡◌, ◌≤◌, ◌<◌, length, drop, [], IfOk, vec_len, ◌+◌};
+ghost use Rattle.std.specs.Prelude.{◌≡◌, ◌≤◌, ◌<◌, length, drop, [], IfOk, true, vec_len, ◌+◌};
 ghost use Rattle.std.specs.Vec.{vec_capacity};
 ghost use Rattle.std.specs.Borrow.{Lends, sem};
 ghost use Rattle.http_wire.specs.contracts.intake.Intake.{the_row};
-ghost use Rattle.http_wire.specs.Intake.{with_door, state_of, TakesIn, CameIs, StopIs};
+ghost use Rattle.http_wire.specs.Intake.{with_door, state_of, NeedsMore, TakesIn, CameIs};
 
-use memchr::memchr;
 use site_traits::{Door, ReadAnswer};
 use std::alloc::{AllocError, Global};
 use std::marker::Model;
@@ -39,22 +38,11 @@ impl<D: Door> Model for Intake<D> {
 /// What came of one read.
 #[derive(Clone, Copy, Debug, PartialEq, Eq)]
 pub enum Came {
-    /// Bytes, with or without a line feed.
-    Bytes { line_feed: bool },
+    /// Bytes.
+    Bytes,
     /// No byte is left.
     End,
     /// The read failed.
-    Failed,
-}
-
-/// Why reading on stopped.
-#[derive(Clone, Copy, Debug, PartialEq, Eq)]
-pub enum Stop {
-    /// What was due came.
-    Going,
-    /// No byte is left.
-    Ended,
-    /// A read failed.
     Failed,
 }
 
@@ -119,8 +107,11 @@ impl<D: Door> Intake<D> {
         self.passed = 0;
     }
 
-    /// Reads once. After `AllocError` nothing was read.
-    fn read_more(&mut self) -> Result<Came, AllocError>
+    /// Reads once, where more bytes are needed to say what those that are held begin with. Nothing else reads from the door.
+    /// After `AllocError` nothing was read.
+    pub fn read_on(&mut self) -> Result<Came, AllocError>
+        requires needs { NeedsMore self.old.held }
+        requires up { self.old.counts.up ≡ true }
         ensures takes { TakesIn D.tells self.old self.new }
         ensures came { CameIs D.tells result self.old self.new }
     {
@@ -128,26 +119,6 @@ impl<D: Door> Intake<D> {
         self.passed = 0;
         self.bytes.reserve(self.piece.len())?;
         Ok(read_into(&mut self.door, &mut self.piece, &mut self.bytes))
-    }
-
-    /// Reads until `due` bytes are held, or, where `line` is true, until a line feed came, or until no more can be read.
-    /// After `AllocError` the bytes that were read are held.
-    pub fn read_on(&mut self, due: usize, line: bool) -> Result<Stop, AllocError>
-        ensures takes { TakesIn D.tells self.old self.new }
-        ensures stop { IfOk result (StopIs D.tells due line self.old self.new) }
-    {
-        while self.held().len() < due {
-            match self.read_more()? {
-                Came::Bytes { line_feed } => {
-                    if line && line_feed {
-                        return Ok(Stop::Going);
-                    }
-                }
-                Came::End => return Ok(Stop::Ended),
-                Came::Failed => return Ok(Stop::Failed),
-            }
-        }
-        Ok(Stop::Going)
     }
 }
 
@@ -164,6 +135,7 @@ fn drop_front(bytes: &mut Vec<u8>, n: usize)
 fn read_into<D: Door>(door: &mut D, piece: &mut [u8], bytes: &mut Vec<u8>) -> Came
     requires piece { 1 ≤ length piece.old }
     requires room { vec_len bytes.old + length piece.old ≤ vec_capacity bytes.old }
+    requires up { (D.counts door.old).up ≡ true }
     ensures takes { TakesIn D.tells (state_of (D.state door.old) (D.counts door.old) bytes.old.items)
         (state_of (D.state door.new) (D.counts door.new) bytes.new.items) }
     ensures came { CameIs D.tells (Ok result) (state_of (D.state door.old) (D.counts door.old) bytes.old.items)
@@ -173,9 +145,7 @@ fn read_into<D: Door>(door: &mut D, piece: &mut [u8], bytes: &mut Vec<u8>) -> Ca
         ReadAnswer::Got(n) => {
             let came = &piece[..n];
             bytes.extend_from_slice(came).unwrap();
-            Came::Bytes {
-                line_feed: memchr(b'\n', came).is_some(),
-            }
+            Came::Bytes
         }
         ReadAnswer::End => Came::End,
         ReadAnswer::Failed => Came::Failed,

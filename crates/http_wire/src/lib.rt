@@ -2,10 +2,12 @@
 #![tactic(auto)]
 
 mod intake;
+mod laws;
 mod request;
 mod take;
 mod wire;
 
+pub use laws::limits_are_as_stated;
 pub use request::{Request, Taken, WireFault};
 pub use wire::Wire;
 

@@ -1,5 +1,5 @@
 //! Takes the head and the body of a request out of an intake, reading no more than they need.
-ghost use Rattle.std.specs.Prelude.{◌≡◌, ◌≤◌, ◌+◌, length, take, IfOk, IsOk, option_map};
+ghost use Rattle.std.specs.Prelude.{◌≡◌, ◌≤◌, ◌+◌, length, take, true, IfOk, IsOk, option_map};
 ghost use Rattle.httparse.specs.Spans.{span_bytes};
 ghost use Rattle.http_frames.specs.declared.head.Body.TheVariants as bodies;
 ghost use Rattle.http_frames.specs.Heads.{HasHead};
@@ -7,13 +7,13 @@ ghost use Rattle.http_frames.specs.Steps.{HasDecoded, VerdictIs};
 ghost use Rattle.http_wire.specs.Intake.{TakesIn};
 ghost use Rattle.http_wire.specs.Wire.{OnlyTakesIn, RequestCame, HeadCame, SizedCame, BodyCame, HasParts, window};
 
-use crate::intake::{Intake, Stop};
+use crate::intake::{Came, Intake};
 use crate::request::{Request, WireFault};
 use http::Method;
 use http::method::MethodError;
 use http_frames::chunks::{Decoder, Verdict, rest};
 use http_frames::head::{Body, Head, HeadParts, read_head};
-use http_frames::{CHUNKED_BYTES, FIELD_ROOM, HEAD_BYTES};
+use http_frames::{CHUNKED_BYTES, FIELD_ROOM};
 use httparse::spans::HeaderSpan;
 use site_traits::Door;
 use std::alloc::{AllocError, Global};
@@ -34,7 +34,8 @@ pub fn take<D: Door>(
     room: &mut [HeaderSpan],
     at_last: bool,
 ) -> Result<Option<Request>, WireFault>
-    requires { FIELD_ROOM ≤ length room.old }
+    requires room { FIELD_ROOM ≤ length room.old }
+    requires up { intake.old.counts.up ≡ true }
     ensures reads { OnlyTakesIn D.tells intake.old intake.new }
     ensures came { RequestCame D.tells at_last intake.old intake.new result }
 {
@@ -55,36 +56,32 @@ pub fn take<D: Door>(
     Ok(Some(request))
 }
 
-/// The head at the front of the bytes, or `None` where there is no byte.
-///
-/// It is looked for where a line feed came or the bytes that are held have doubled, and where no more can be read.
+/// The head at the front of the bytes, or `None` where there is no byte. It is looked for behind each read.
 fn take_head<D: Door>(
     intake: &mut Intake<D>,
     room: &mut [HeaderSpan],
 ) -> Result<Option<HeadParts>, WireFault>
-    requires { FIELD_ROOM ≤ length room.old }
+    requires room { FIELD_ROOM ≤ length room.old }
+    requires up { intake.old.counts.up ≡ true }
     ensures takes { TakesIn D.tells intake.old intake.new }
     ensures came { HeadCame D.tells intake.old intake.new result }
 {
-    let mut stop = Stop::Going;
     'looks: loop {
-        match read_head(intake.held(), room) {
+        let held = intake.held();
+        let count = held.len();
+        match read_head(held, room) {
             Head::Whole(head) => return Ok(Some(head)),
             Head::Malformed => return Err(WireFault::Malformed),
             Head::TooLarge => return Err(WireFault::TooLarge),
             Head::More => {}
         }
-        let held = intake.held().len();
-        match stop {
-            Stop::Going => {}
-            Stop::Ended if held == 0 => return Ok(None),
-            Stop::Ended => return Err(WireFault::Unfinished),
-            Stop::Failed => return Err(WireFault::Read),
-        }
-        stop = match intake.read_on((2 * held + 1).min(HEAD_BYTES + 1), true) {
-            Ok(stop) => stop,
+        match intake.read_on() {
+            Ok(Came::Bytes) => {}
+            Ok(Came::End) if count == 0 => return Ok(None),
+            Ok(Came::End) => return Err(WireFault::Unfinished),
+            Ok(Came::Failed) => return Err(WireFault::Read),
             Err(_) => return Err(WireFault::Memory),
-        };
+        }
     }
 }
 
@@ -94,7 +91,8 @@ fn take_body<D: Door>(
     intake: &mut Intake<D>,
     head: HeadParts,
 ) -> Result<Whole, WireFault>
-    requires { HasHead intake.old.held head }
+    requires head { HasHead intake.old.held head }
+    requires up { intake.old.counts.up ≡ true }
     ensures takes { TakesIn D.tells intake.old intake.new }
     ensures head { HasHead intake.new.held head }
     ensures came { BodyCame D.tells intake.old intake.new head result }
@@ -126,16 +124,20 @@ fn take_sized<D: Door>(
 ) -> Result<usize, WireFault>
     requires head { HasHead intake.old.held head }
     requires sized { head.body ≡ bodies.Sized length }
+    requires up { intake.old.counts.up ≡ true }
     ensures takes { TakesIn D.tells intake.old intake.new }
     ensures came { SizedCame D.tells intake.old intake.new (head.len + length) result }
 {
     let end = head.len + length;
-    match intake.read_on(end, false) {
-        Ok(Stop::Going) => Ok(end),
-        Ok(Stop::Ended) => Err(WireFault::Unfinished),
-        Ok(Stop::Failed) => Err(WireFault::Read),
-        Err(_) => Err(WireFault::Memory),
+    'reads: while intake.held().len() < end {
+        match intake.read_on() {
+            Ok(Came::Bytes) => {}
+            Ok(Came::End) => return Err(WireFault::Unfinished),
+            Ok(Came::Failed) => return Err(WireFault::Read),
+            Err(_) => return Err(WireFault::Memory),
+        }
     }
+    Ok(end)
 }
 
 /// Reads on until a chunked body is whole.
@@ -146,36 +148,33 @@ fn take_chunked<D: Door>(
 ) -> Result<Whole, WireFault>
     requires head { HasHead intake.old.held head }
     requires chunked { head.body ≡ bodies.Chunked }
+    requires up { intake.old.counts.up ≡ true }
     ensures takes { TakesIn D.tells intake.old intake.new }
     ensures came { BodyCame D.tells intake.old intake.new head result }
 {
     let mut decoder = Decoder::new(alloc);
-    let mut stop = Stop::Going;
     'looks: loop {
         let held = intake.held();
         let behind = held.len() - head.len;
-        let (due, line) = match decode_held(&mut decoder, held, head) {
+        match decode_held(&mut decoder, held, head) {
             Ok(Verdict::Whole(n)) => return Ok(Whole {
                 body: decoder.body,
                 end: head.len + n,
             }),
-            Ok(Verdict::More { due, line }) => (due, line),
+            Ok(Verdict::More) => {}
             Ok(Verdict::Malformed) => return Err(WireFault::Malformed),
             Ok(Verdict::TooLarge) => return Err(WireFault::TooLarge),
             Err(_) => return Err(WireFault::Memory),
-        };
+        }
         if behind > CHUNKED_BYTES {
             return Err(WireFault::TooLarge);
         }
-        match stop {
-            Stop::Going => {}
-            Stop::Ended => return Err(WireFault::Unfinished),
-            Stop::Failed => return Err(WireFault::Read),
-        }
-        stop = match intake.read_on(head.len + due.max(behind + 1).min(CHUNKED_BYTES + 1), line) {
-            Ok(stop) => stop,
+        match intake.read_on() {
+            Ok(Came::Bytes) => {}
+            Ok(Came::End) => return Err(WireFault::Unfinished),
+            Ok(Came::Failed) => return Err(WireFault::Read),
             Err(_) => return Err(WireFault::Memory),
-        };
+        }
     }
 }
 

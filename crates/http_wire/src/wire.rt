@@ -1,5 +1,5 @@
 //! A connection's requests, one by one.
-ghost use Rattle.std.specs.Prelude.{◌≡◌, [], IfOk, false};
+ghost use Rattle.std.specs.Prelude.{◌≡◌, [], IfOk, true, false};
 ghost use Rattle.std.specs.Borrow.{Lends, sem};
 ghost use Rattle.http_wire.specs.contracts.wire.Wire.{the_row};
 ghost use Rattle.http_wire.specs.Exact.{IsExact};
@@ -94,9 +94,15 @@ impl<D: Door> Wire<D> {
         self.ended = false;
     }
 
-    /// Takes the next request of the connection, reading as little as it needs.
+    /// Takes the next request of the connection, reading as little as it needs: a read begins only where the bytes that are held
+    /// are none, or a part of a request, or stop inside a request target (the condition of `Intake::read_on`, the one call
+    /// that reads), and none begins behind the connection's last request.
+    ///
+    /// Condition: the connection is up, unless its last request was taken.
     pub fn take_request(&mut self, alloc: Global) -> Result<Taken, WireFault>
+        requires up { self.old.ended ≡ false → self.old.intake.counts.up ≡ true }
         ensures reads { OnlyTakesIn D.tells self.old.intake self.new.intake }
+        ensures behind_the_last { self.old.ended ≡ true → self.new ≡ self.old }
         ensures taken { TakenIs D.tells self.old self.new result }
         ensures exact { D.tells → self.old.ended ≡ false → IsExact (bytes_of self.old.intake) result }
     {

@@ -1,5 +1,5 @@
 //! A door at which one connection's bytes come in pieces of one size.
-ghost use Rattle.std.specs.Prelude.{◌≡◌, ◌≤◌, ◌↔◌, length, IsSome};
+ghost use Rattle.std.specs.Prelude.{◌≡◌, ◌≤◌, ◌↔◌, length, true, IfSome, IsSome};
 
 use site_traits::{Door, NextAnswer, ReadAnswer, WriteAnswer};
 
@@ -9,14 +9,16 @@ pub struct PieceDoor {
     bytes: Vec<u8>,
     read: usize,
     piece: usize,
+    up: bool,
     ghost within: { read ≤ length bytes.items },
     ghost some: { 1 ≤ piece },
 }
 
 impl PieceDoor {
-    /// A door with these bytes in pieces of this size; `None` exactly where a piece has no byte.
+    /// A door whose connection is up, with these bytes in pieces of this size; `None` exactly where a piece has no byte.
     pub fn new(bytes: Vec<u8>, piece: usize) -> Option<PieceDoor>
-        ensures { IsSome result ↔ (1 ≤ piece) }
+        ensures some { IsSome result ↔ (1 ≤ piece) }
+        ensures up { IfSome result (λ d. d.up ≡ true) }
     {
         if piece == 0 {
             return None;
@@ -25,6 +27,7 @@ impl PieceDoor {
             bytes,
             read: 0,
             piece,
+            up: true,
         })
     }
 }
@@ -37,7 +40,7 @@ impl Door for PieceDoor {
 
     ghost state = { λ d. record { answers = []; conn = nobody; past = [] } };
 
-    ghost counts = { λ d. record { faults = 0; next = 0 } };
+    ghost counts = { λ d. record { faults = 0; next = 0; up = d.up } };
 
     fn next(&mut self) -> NextAnswer {
         NextAnswer::Ended
@@ -58,5 +61,7 @@ impl Door for PieceDoor {
         WriteAnswer::Took(bytes.len())
     }
 
-    fn hang_up(&mut self) {}
+    fn hang_up(&mut self) {
+        self.up = false;
+    }
 }

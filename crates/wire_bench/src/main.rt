@@ -5,6 +5,8 @@
 //! and the bytes and the digest of their bodies, and with `times` the nanoseconds of processor time that taking them took.
 #![tactic(auto)]
 
+ghost use Rattle.std.specs.Prelude.{◌≡◌, true};
+
 mod door;
 mod requests;
 mod words;
@@ -34,14 +36,16 @@ fn take_all(
     rt: &(impl CpuClock + AllocGlobal),
     wire: &mut Wire<PieceDoor>,
     most: u32,
-) -> Result<Totals> {
+) -> Result<Totals>
+    requires { wire.old.intake.counts.up ≡ true }
+{
     let mut totals = Totals {
         requests: 0,
         bytes: 0,
         digest: Sha256::new(),
         taking: Duration::ZERO,
     };
-    for _ in 0..most {
+    'requests: for _ in 0..most {
         let begun = rt.process_cpu_time()?;
         let taken = wire.take_request(rt.alloc())?;
         let ended = rt.process_cpu_time()?;

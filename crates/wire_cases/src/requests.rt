@@ -1,7 +1,9 @@
 //! Connections in pieces: what is a request, what is refused, and what ends the connection.
+ghost use Rattle.std.specs.Prelude.{◌≡◌, IfOk, true};
+
 use http_wire::{Request, Taken, Wire, WireFault};
 use lcm_events::Role;
-use site_traits::{Door, DoorPlan, MemDoor};
+use site_traits::{Door, DoorPlan, MemDoor, NextAnswer};
 use std::alloc::{AllocError, Global};
 use std::mem;
 use std::test::Fail;
@@ -44,12 +46,16 @@ fn wire_of(
     alloc: Global,
     pieces: Vec<Bytes>,
     failing_read: Option<usize>,
-) -> Result<Wire<MemDoor>, AllocError> {
+) -> Result<Wire<MemDoor>, Fail>
+    ensures { IfOk result (λ w. w.intake.counts.up ≡ true) }
+{
     let mut plans = Vec::new(alloc);
     plans.push(connection(pieces, failing_read))?;
     let mut wire = Wire::new(alloc, MemDoor::new(alloc, plans)?)?;
-    let _ = wire.door_mut().next();
-    Ok(wire)
+    match wire.door_mut().next() {
+        NextAnswer::Came(_) => Ok(wire),
+        _ => Err("no connection came".into()),
+    }
 }
 
 /// The bytes in pieces of this size, or two of which the first has this size.
@@ -108,13 +114,27 @@ fn each_comes_to(
     let count = plans.len();
     let mut wire = Wire::new(alloc, MemDoor::new(alloc, plans)?)?;
     for _ in 0..count {
-        let _ = wire.door_mut().next();
         wire.renew();
-        for found in expected {
-            assert_eq!(rt; outcome_of(wire.take_request(alloc)), *found);
+        match wire.door_mut().next() {
+            NextAnswer::Came(_) => comes_to_in_turn(rt, alloc, &mut wire, expected),
+            _ => return Err("no connection came".into()),
         }
     }
     Ok(())
+}
+
+/// Whether the requests that are taken come to these outcomes in turn.
+fn comes_to_in_turn(
+    rt: &impl std::process::Abort,
+    alloc: Global,
+    wire: &mut Wire<MemDoor>,
+    expected: &[Found],
+)
+    requires { wire.old.intake.counts.up ≡ true }
+{
+    'takes: for found in expected {
+        assert_eq!(rt; outcome_of(wire.take_request(alloc)), *found);
+    }
 }
 
 /// Adds so many bytes of `x`.

@@ -1,15 +1,27 @@
-use Rattle.std.proofs.Common.{List, ℕ, length, ap, subst, ◌∙◌}
+use Rattle.std.proofs.Common.{List, ℕ, length, ap, sym, ◌∙◌, subst}
 use Rattle.http_frames.specs.Heads.{HeadIs}
 use Rattle.http_frames.specs.declared.head.Head.TheVariants as answer
-use Rattle.http_wire.proofs.TakeLaws.{too_large_grows, head_breaks_off}
+use Rattle.http_wire.proofs.TakeLaws.{too_large_grows, head_needs_more, head_breaks_off, no_byte}
 use Rattle.http_wire.proofs.take.take_head.Goals as goal
 
 pub returns-in-TooLarge-clause-came : goal.returns-in-TooLarge-clause-came
 returns-in-TooLarge-clause-came g c = λ told.
-    too_large_grows c.looks.intake (subst (λ (x : List ℕ). HeadIs x answer.TooLarge) c.held.ensures c.in-TooLarge.ensures)
+    too_large_grows c.looks.intake (subst (λ (x : List ℕ). HeadIs x answer.TooLarge) c.held-held.ensures c.in-TooLarge.ensures)
 
-pub returns-in-Ended-2-clause-came : goal.returns-in-Ended-2-clause-came
-returns-in-Ended-2-clause-came g c = λ told.
-    let stopped = rw c.in-Ended.is at c.looks.invariant.1 in
-    head_breaks_off c.looks.intake (subst (λ (x : List ℕ). HeadIs x answer.More) c.held.ensures c.in-More.ensures)
-    (λ none. c.if-held-eq0.false (ap length c.held-held.ensures ∙ none)) (stopped told)
+pub read_on-requires-clause-needs : goal.read_on-requires-clause-needs
+read_on-requires-clause-needs g c = head_needs_more c.looks.intake.held (subst (λ (x : List ℕ). HeadIs x answer.More) c.held-held.ensures c.in-More.ensures)
+
+pub returns-in-Ok-End-clause-came : goal.returns-in-Ok-End-clause-came
+returns-in-Ok-End-clause-came g c = λ told.
+    let came = rw c.in-Ok-End.field-0-is at c.in-Ok-End.ensures.came in
+    no_byte c.read_on.new.self (ap length came.0 ∙ sym (ap length c.held-held.ensures) ∙ c.if-count-eq0.true) (came.1 told)
+
+pub returns-in-Ok-End-2-clause-came : goal.returns-in-Ok-End-2-clause-came
+returns-in-Ok-End-2-clause-came g c = λ told.
+    let came = rw c.in-Ok-End.field-0-is at c.in-Ok-End.ensures.came in
+    head_breaks_off c.read_on.new.self
+    (subst (λ (x : List ℕ). HeadIs x answer.More) (c.held-held.ensures ∙ sym came.0) c.in-More.ensures)
+    (λ none. c.if-count-eq0.false (ap length (c.held-held.ensures ∙ sym came.0 ∙ none))) (came.1 told)
+
+pub read_on-requires-clause-up : goal.read_on-requires-clause-up
+read_on-requires-clause-up g c = c.looks.invariant.counts.up ∙ c.requires.up
