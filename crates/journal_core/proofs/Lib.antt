@@ -1,4 +1,5 @@
 pub mod Appending
+pub mod AskLemmas
 pub mod Frame
 pub mod FrontLemmas
 pub mod HeadLemmas

@@ -10,9 +10,10 @@ use Rattle.journal_core.specs.File.{header, framed, blocks, size, IsRecord, HasR
 use Rattle.journal_core.specs.Header.{HasHeader}
 use Rattle.journal_core.specs.Head.{number, IsClosed, IsOpen, BeginsWith}
 use Rattle.journal_core.specs.Load.{Progress, Loads, LoadsAll, SyncsAndReads, Finds, Loaded}
+use Rattle.site_traits.specs.Counts.{SiteCounts}
+use Rattle.journal_core.specs.Asking.{FailsWhere}
 use Rattle.journal_core.specs.declared.loading.LoadFault.{LoadFault}
 use Rattle.journal_core.specs.declared.loading.LoadFault.TheVariants as fault
-use Rattle.site_traits.specs.Counts.{SiteCounts, OnlyDisk}
 use Rattle.journal_core.specs.declared.marks.Mark.{Mark}
 use Rattle.journal_core.specs.Marks.{IsMark, first_mark}
 use Rattle.journal_core.proofs.MarkLemmas.{mark_first, mark_end, marks_more}
@@ -152,8 +153,13 @@ syncs_then_reads a b c first second = record {
   same = second.same ∙ first.same;
 }
 
-pub only_disk-trans : (a b c : SiteCounts) → OnlyDisk a b → OnlyDisk b c → OnlyDisk a c
-only_disk-trans a b c ab bc = record { disk = (let x = ab.disk in let y = bc.disk in omega arith); vim = bc.vim ∙ ab.vim; look = bc.look ∙ ab.look; refusals = bc.refusals ∙ ab.refusals }
+-- the answer is another fault than the disk's, and none was counted
+pub no_fault : {T : Type 0} (r : Result T LoadFault) (other : LoadFault) (asked now : SiteCounts) → r ≡ Err other → ¬ (other ≡ fault.Disk) → now ≡ asked
+    → FailsWhere (r ≡ Err fault.Disk) asked now
+no_fault {T = T} r other asked now is ne stays = record {
+  rose = λ disk. absurd (ne (let both : ◌≡◌ {A = Result T LoadFault} (Err other) (Err fault.Disk) = sym is ∙ disk in cc both));
+  stays = λ _. stays;
+}
 
 -- why a step found none is why there is no journal
 pub failed_load : (rs : List (List ℕ)) (e : LoadFault) (l k : Progress) (a b : SiteState) → Loads rs l a → Reads a b → k.manager ≡ l.manager → Finds rs (Err e) k b → Loaded (Err e) b

@@ -1,3 +1,4 @@
+pub mod Asking
 pub mod Back
 pub mod Create
 pub mod Exclusion

@@ -57,7 +57,7 @@ Opened (Err fault.Unmade) s = IsUnmade s.image
 Opened (Err (fault.Foreign place)) s = IsForeign place s.image
 Opened (Err (fault.Broken n)) s = ⊥
 Opened (Err fault.Disk) s = Unit {0}
-Opened (Err fault.Memory) s = Unit {0}
+Opened (Err fault.Memory) s = (manager : ℕ) × HasHeader manager s.image
 
 -- what the next step finds behind these records: one more, the end, or that none stands there (own rule)
 abbrev pub Finds : List (List ℕ) → Result Found LoadFault → Progress → SiteState → Type 0
@@ -96,7 +96,7 @@ Loaded (Err fault.Unmade) s = IsUnmade s.image
 Loaded (Err (fault.Foreign place)) s = IsForeign place s.image
 Loaded (Err (fault.Broken n)) s = (manager : ℕ) × HasHeader manager s.image × IsBrokenAt manager n s.image
 Loaded (Err fault.Disk) s = Unit {0}
-Loaded (Err fault.Memory) s = Unit {0}
+Loaded (Err fault.Memory) s = (manager : ℕ) × HasHeader manager s.image
 
 -- A call that syncs and reads. What was pending is left as it was or is on the disk, and a read gives what it gave.
 pub record SyncsAndReads (a b : SiteState) : Type 0 where

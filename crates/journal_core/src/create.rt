@@ -1,10 +1,11 @@
 // The making of a journal file. Its first byte is written last, once all behind it is on the disk.
 ghost use Rattle.std.specs.Prelude.{◌≡◌, ◌≤◌, ◌<◌, ◌↔◌, [], ℕ, List, IsTrue, IfOk, OnOk, length, take, drop};
-ghost use Rattle.site_traits.specs.Counts.{Rose, OnlyDisk, DiskCause};
+ghost use Rattle.site_traits.specs.Counts.{Ask, asked, Asks, DiskCause};
 ghost use Rattle.site_traits.specs.Site.{Reads};
 ghost use Rattle.journal_core.specs.File.{HasRecords};
 ghost use Rattle.journal_core.specs.Header.{made};
 ghost use Rattle.journal_core.specs.Load.{SyncsAndReads};
+ghost use Rattle.journal_core.specs.Asking.{CreateAsks, left_to_ask, through};
 ghost use Rattle.journal_core.specs.Create.{Creates, Steps, StageIs, FoundIs, StandsSo, IsEmpty, IsFilled, IsBegun};
 
 use crate::journal::Journal;
@@ -49,8 +50,7 @@ impl<S: Site> Journal<S> {
     /// Source: own format, docs/JOURNAL.md.
     pub fn create(site: &mut S, manager: u32) -> Result<(), CreateFault>
         ensures told { S.tells → Creates manager result (S.state site.old) (S.state site.new) }
-        ensures disk { result ≡ Err CreateFault.Disk → Rose (S.counts site.old).disk (S.counts site.new).disk }
-        ensures counts { OnlyDisk (S.counts site.old) (S.counts site.new) }
+        ensures asks { CreateAsks result (S.counts site.old) (S.counts site.new) }
     {
         let Some(stage) = stage_of(site, manager)? else {
             return Err(CreateFault::Taken);
@@ -76,7 +76,7 @@ fn made_bytes(manager: u32) -> [u8; 33]
 fn proceed<S: Site>(site: &mut S, manager: u32, stage: Stage) -> Result<(), DiskFailed>
     requires stands { S.tells → StandsSo (StageIs manager stage) (S.state site.old) }
     ensures told { S.tells → Steps manager (HasRecords manager []) result (S.state site.old) (S.state site.new) }
-    ensures cause { DiskCause (S.counts site.old) (S.counts site.new) result }
+    ensures asks { Asks (left_to_ask stage) result (S.counts site.old) (S.counts site.new) }
 {
     match stage {
         Stage::Empty => make(site, manager),
@@ -89,7 +89,7 @@ fn proceed<S: Site>(site: &mut S, manager: u32, stage: Stage) -> Result<(), Disk
 fn make<S: Site>(site: &mut S, manager: u32) -> Result<(), DiskFailed>
     requires empty { S.tells → StandsSo IsEmpty (S.state site.old) }
     ensures told { S.tells → Steps manager (HasRecords manager []) result (S.state site.old) (S.state site.new) }
-    ensures cause { DiskCause (S.counts site.old) (S.counts site.new) result }
+    ensures asks { Asks (through 3) result (S.counts site.old) (S.counts site.new) }
 {
     begin(site, manager)?;
     fill_and_finish(site, manager)
@@ -99,7 +99,7 @@ fn make<S: Site>(site: &mut S, manager: u32) -> Result<(), DiskFailed>
 fn fill_and_finish<S: Site>(site: &mut S, manager: u32) -> Result<(), DiskFailed>
     requires begun { S.tells → StandsSo IsBegun (S.state site.old) }
     ensures told { S.tells → Steps manager (HasRecords manager []) result (S.state site.old) (S.state site.new) }
-    ensures cause { DiskCause (S.counts site.old) (S.counts site.new) result }
+    ensures asks { Asks (through 2) result (S.counts site.old) (S.counts site.new) }
 {
     fill(site, manager)?;
     finish(site, manager)
@@ -109,7 +109,7 @@ fn fill_and_finish<S: Site>(site: &mut S, manager: u32) -> Result<(), DiskFailed
 fn begin<S: Site>(site: &mut S, manager: u32) -> Result<(), DiskFailed>
     requires empty { S.tells → StandsSo IsEmpty (S.state site.old) }
     ensures told { S.tells → Steps manager IsBegun result (S.state site.old) (S.state site.new) }
-    ensures cause { DiskCause (S.counts site.old) (S.counts site.new) result }
+    ensures asks { Asks (through 1) result (S.counts site.old) (S.counts site.new) }
 {
     write_through(site, 0, b"v")
 }
@@ -118,7 +118,7 @@ fn begin<S: Site>(site: &mut S, manager: u32) -> Result<(), DiskFailed>
 fn fill<S: Site>(site: &mut S, manager: u32) -> Result<(), DiskFailed>
     requires begun { S.tells → StandsSo IsBegun (S.state site.old) }
     ensures told { S.tells → Steps manager (IsFilled manager) result (S.state site.old) (S.state site.new) }
-    ensures cause { DiskCause (S.counts site.old) (S.counts site.new) result }
+    ensures asks { Asks (through 1) result (S.counts site.old) (S.counts site.new) }
 {
     write_through(site, 1, &made_bytes(manager)[1..])
 }
@@ -127,7 +127,7 @@ fn fill<S: Site>(site: &mut S, manager: u32) -> Result<(), DiskFailed>
 fn finish<S: Site>(site: &mut S, manager: u32) -> Result<(), DiskFailed>
     requires filled { S.tells → StandsSo (IsFilled manager) (S.state site.old) }
     ensures told { S.tells → Steps manager (HasRecords manager []) result (S.state site.old) (S.state site.new) }
-    ensures cause { DiskCause (S.counts site.old) (S.counts site.new) result }
+    ensures asks { Asks (through 1) result (S.counts site.old) (S.counts site.new) }
 {
     write_through(site, 0, b"V")
 }
@@ -136,7 +136,7 @@ fn finish<S: Site>(site: &mut S, manager: u32) -> Result<(), DiskFailed>
 fn stage_of<S: Site>(site: &mut S, manager: u32) -> Result<Option<Stage>, DiskFailed>
     ensures stage { S.tells → IfOk result (λ found. StandsSo (FoundIs manager found) (S.state site.new)) }
     ensures told { S.tells → SyncsAndReads (S.state site.old) (S.state site.new) }
-    ensures cause { DiskCause (S.counts site.old) (S.counts site.new) result }
+    ensures cause { DiskCause (asked Ask.sync (S.counts site.old)) (S.counts site.new) result }
 {
     site.sync()?;
     let len = site.length()?;

@@ -1,6 +1,6 @@
 // The journal of one manager. A closed gate stands behind the last record, on the disk before anything is written behind it.
 ghost use Rattle.std.specs.Prelude.{◌≡◌, ◌≤◌, ◌<◌, ◌↔◌, ◌+◌, ◌-◌, ◌*◌, ℕ, List, [], ◌∷◌, All, IsTrue, true, false, take, length, OnOk};
-ghost use Rattle.site_traits.specs.Counts.{Rose, OnlyDisk};
+ghost use Rattle.journal_core.specs.Asking.{AppendAsks, FailsWhere};
 ghost use Rattle.journal_core.specs.File.{piece};
 ghost use Rattle.journal_core.specs.Journal.{Stands, Appends};
 ghost use Rattle.journal_core.specs.Marks.{IsMark, first_mark};
@@ -132,9 +132,8 @@ impl<S: Site> Journal<S> {
         ensures told { S.tells → Appends bytes.now result self.old self.new (S.state site.old) (S.state site.new) }
         ensures full { 268435456 < self.old.end + 6 + length bytes.now → result ≡ Err (AppendFault.Full self.old.end (length bytes.now)) }
         ensures only_full { (end more : ℕ) → result ≡ Err (AppendFault.Full end more) → (268435456 < self.old.end + 6 + length bytes.now) × (self.new ≡ self.old) × (site.new ≡ site.old) }
-        ensures disk { result ≡ Err AppendFault.Disk → Rose (S.counts site.old).disk (S.counts site.new).disk }
         ensures closed { result ≡ Err AppendFault.Disk → self.new.closed ≡ true }
-        ensures counts { OnlyDisk (S.counts site.old) (S.counts site.new) }
+        ensures asks { AppendAsks result (S.counts site.old) (S.counts site.new) }
     {
         if self.end + 6 + bytes.len() as u64 > MAX_FILE {
             return Err(AppendFault::Full {
@@ -175,9 +174,8 @@ impl<S: Site> Journal<S> {
         ensures kept { KeepsRecords self.old self.new }
         ensures open { OnOk result (self.new.closed ≡ false) }
         ensures broken { (k : ℕ) → result ≡ Err (BackFault.Broken k) → (k ≡ n) × (self.new.closed ≡ false) }
-        ensures disk { result ≡ Err BackFault.Disk → Rose (S.counts site.old).disk (S.counts site.new).disk }
         ensures closed { result ≡ Err BackFault.Disk → self.new.closed ≡ true }
-        ensures counts { OnlyDisk (S.counts site.old) (S.counts site.new) }
+        ensures counts { FailsWhere (result ≡ Err BackFault.Disk) (S.counts site.old) (S.counts site.new) }
     {
         let from = self.nearest(n);
         self.size = 0;

@@ -7,6 +7,7 @@ mod exclusion;
 mod head;
 mod header;
 mod journal;
+mod limits;
 mod loading;
 mod marks;
 mod through;
@@ -15,7 +16,5 @@ pub use back::BackFault;
 pub use create::CreateFault;
 pub use exclusion::files_are_one_thing;
 pub use journal::{AppendFault, Journal, MAX_FILE, MAX_RECORD};
+pub use limits::limits_are_fixed;
 pub use loading::{Found, LoadFault, Loading};
-
-#[cfg(test)]
-mod tests;

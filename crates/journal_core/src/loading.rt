@@ -1,7 +1,8 @@
 // The loading of a journal: its records are read in order, one at a time, in a single walk over the file.
 ghost use Rattle.std.specs.Prelude.{◌≡◌, ◌≤◌, ◌<◌, ◌+◌, List, ℕ, true, false, IfOk, length, Result};
-ghost use Rattle.site_traits.specs.Counts.{Rose, OnlyDisk, DiskCause};
+ghost use Rattle.site_traits.specs.Counts.{Ask, asked, DiskCause};
 ghost use Rattle.site_traits.specs.Site.{Reads};
+ghost use Rattle.journal_core.specs.Asking.{FailsWhere};
 ghost use Rattle.journal_core.specs.Judged.{Judged, LongEnough, FrontIs};
 ghost use Rattle.journal_core.specs.Load.{Loads, Opened, IsBegun, Finds, Grows, ledger_of, Loaded, SyncsAndReads};
 
@@ -94,8 +95,7 @@ impl<S: Site> Journal<S> {
         ensures opened { S.tells → Opened result (S.state site.new) }
         ensures begun { IfOk result IsBegun }
         ensures told { S.tells → SyncsAndReads (S.state site.old) (S.state site.new) }
-        ensures disk { result ≡ Err LoadFault.Disk → Rose (S.counts site.old).disk (S.counts site.new).disk }
-        ensures counts { OnlyDisk (S.counts site.old) (S.counts site.new) }
+        ensures counts { FailsWhere (result ≡ Err LoadFault.Disk) (asked Ask.sync (S.counts site.old)) (S.counts site.new) }
     {
         let (len, verdict) = front_of(site)?;
         match verdict {
@@ -129,8 +129,7 @@ impl<S: Site> Journal<S> {
         ensures loaded { S.tells → Loaded result (S.state site.new) }
         ensures usable { IfOk result (λ j. j.closed ≡ false) }
         ensures told { S.tells → SyncsAndReads (S.state site.old) (S.state site.new) }
-        ensures disk { result ≡ Err LoadFault.Disk → Rose (S.counts site.old).disk (S.counts site.new).disk }
-        ensures counts { OnlyDisk (S.counts site.old) (S.counts site.new) }
+        ensures counts { FailsWhere (result ≡ Err LoadFault.Disk) (asked Ask.sync (S.counts site.old)) (S.counts site.new) }
     {
         let mut loading = Journal::open(alloc, site)?;
         loop {
@@ -169,8 +168,7 @@ impl<S: Site> Loading<S> {
         ensures grown { Grows result self.old self.new }
         ensures within { self.new.end < 268435456 }
         ensures told { S.tells → Reads (S.state site.old) (S.state site.new) }
-        ensures disk { result ≡ Err LoadFault.Disk → Rose (S.counts site.old).disk (S.counts site.new).disk }
-        ensures counts { OnlyDisk (S.counts site.old) (S.counts site.new) }
+        ensures counts { FailsWhere (result ≡ Err LoadFault.Disk) (S.counts site.old) (S.counts site.new) }
     {
         match head_at(site, self.end, self.len)? {
             Head::Closed => {
@@ -214,7 +212,7 @@ fn front_of<S: Site>(site: &mut S) -> Result<(u64, Verdict), DiskFailed>
     ensures front { S.tells → IfOk result (λ front. FrontIs front.0 front.1 (S.state site.new)) }
     ensures enough { IfOk result (λ front. LongEnough front.0 front.1) }
     ensures told { S.tells → SyncsAndReads (S.state site.old) (S.state site.new) }
-    ensures cause { DiskCause (S.counts site.old) (S.counts site.new) result }
+    ensures cause { DiskCause (asked Ask.sync (S.counts site.old)) (S.counts site.new) result }
 {
     site.sync()?;
     let len = site.length()?;

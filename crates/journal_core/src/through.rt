@@ -1,6 +1,7 @@
 // Calls of the site that belong together, each with the contract of one call.
 ghost use Rattle.std.specs.Prelude.{◌≡◌, ◌≤◌, ◌+◌, length, take, drop, OnOk};
-ghost use Rattle.site_traits.specs.Counts.{DiskCause};
+ghost use Rattle.site_traits.specs.Counts.{Asks, DiskCause};
+ghost use Rattle.journal_core.specs.Asking.{through};
 ghost use Rattle.site_traits.specs.Site.{Reads, WritesThrough};
 
 use site_traits::{DiskFailed, Site};
@@ -9,7 +10,7 @@ use site_traits::{DiskFailed, Site};
 pub fn write_through<S: Site>(site: &mut S, at: u64, bytes: &[u8]) -> Result<(), DiskFailed>
     requires { S.tells → at ≤ length (S.state site.old).image }
     ensures told { S.tells → WritesThrough at bytes.now result (S.state site.old) (S.state site.new) }
-    ensures cause { DiskCause (S.counts site.old) (S.counts site.new) result }
+    ensures asks { Asks (through 1) result (S.counts site.old) (S.counts site.new) }
 {
     site.write_at(at, bytes)?;
     site.sync()

@@ -1,7 +1,6 @@
 use Rattle.std.proofs.Common.{◌≡◌, ◌∙◌, sym, ℕ, [], length, get_or, Option, Some, None, arith}
 use Rattle.site_traits.proofs.Moments.{reads-then}
 use Rattle.journal_core.specs.File.{records}
-use Rattle.journal_core.proofs.LoadLemmas.{only_disk-trans}
 use Rattle.journal_core.proofs.BackLemmas.{stands_at, mark_next}
 use Rattle.journal_core.proofs.back.place_of.Goals as goal
 
@@ -46,5 +45,5 @@ loop-preserved g c = record {
       let same : ◌≡◌ {A = Option ℕ} (Some c.in-Some.size) (Some (length (get_or rs c.loop.counter []))) = sym c.in-Some.is ∙ found in
       mark_next rs c.loop.counter c.loop.place c.in-Some.size (omega (arith, c.loop-test.true)) mark (cc same);
   told = λ tells. reads-then _ _ _ (c.loop.invariant.told tells) (c.size_at.ensures.told tells);
-  counts = only_disk-trans _ _ _ c.loop.invariant.counts c.in_ok-size.ensures.cause.counts;
+  counts = c.in_ok-size.ensures.cause.done ∙ c.loop.invariant.counts;
 }

@@ -1,4 +1,4 @@
-use Rattle.site_traits.specs.Counts.{OnlyDisk}
+use Rattle.std.proofs.Common.{◌≡◌}
 use Rattle.site_traits.specs.Site.{Reads}
 use Rattle.journal_core.specs.File.{records}
 use Rattle.journal_core.specs.Marks.{IsMark}
@@ -9,5 +9,5 @@ abbrev pub invariant-loop : goal.invariant-loop
 invariant-loop g l = record {
   mark : g.S.Site.tells → IsMark (records (g.S.Site.state l.fn.site).image) (record { before = l.counter; place = l.place });
   told : g.S.Site.tells → Reads (g.S.Site.state l.fn.site) (g.S.Site.state l.site);
-  counts : OnlyDisk (g.S.Site.counts l.fn.site) (g.S.Site.counts l.site);
+  counts : g.S.Site.counts l.site ≡ g.S.Site.counts l.fn.site;
 }

@@ -3,6 +3,11 @@ use Rattle.std.proofs.lemmas.List.{take_at}
 use Rattle.std.proofs.Common.{[], ◌∷◌, ◌++◌}
 use Rattle.journal_core.specs.File.{piece, records, IsRecord}
 use Rattle.journal_core.specs.Journal.{Ledger}
+use Rattle.std.proofs.Common.{sym, subst, Result, Err}
+use Rattle.std.proofs.lemmas.Result.{err_from_is_err_and}
+use Rattle.journal_core.specs.declared.journal.AppendFault.{AppendFault}
+use Rattle.journal_core.specs.Asking.{through, AppendAsks}
+use Rattle.journal_core.proofs.AskLemmas.{stops_more, stops_after}
 use Rattle.journal_core.proofs.Records.{has_length, ready_has, records_of}
 use Rattle.journal_core.proofs.Appending.{marks_kept, first_moments, first_ready, second_moments, second_has, stands_more, appends_not}
 use Rattle.journal_core.proofs.journal.Journal.append.Goals as goal
@@ -75,3 +80,21 @@ returns-clause-told g c = λ tells.
       stands = stands_more c.args.bytes.now j _ a d stands second.settled has manager (omega arith) (omega arith) (marks_kept c.args.bytes.now j a c.self.inside.last c.self.inside.marks.places c.keep.new.self.places _ stands (ap (λ (v : Ledger). v.marks) c.self.view_is) (count ∙ stands.count) (end ∙ stands.end) (c.keep.ensures.marks (records a.image ++ c.args.bytes.now ∷ [])));
       added = records_of _ _ _ has;
     }
+
+pub returns-in_err-write_through-clause-asks : goal.returns-in_err-write_through-clause-asks
+returns-in_err-write_through-clause-asks g c =
+    let a = g.S.Site.counts c.args.site.now in
+    let b = g.S.Site.counts c.write_through.new.site in
+    let err = err_from_is_err_and c.from_residual.result c.from_residual.ensures.1 in
+    let P : Result (Unit {0}) AppendFault → Type 0 = λ v. AppendAsks v a b in
+    subst P (sym (err.1 ∙ ap Err err.2)) (stops_more (through 1) (through 1) a b c.in_err-write_through.ensures.asks.failed)
+
+pub returns-in_err-write_through-2-clause-asks : goal.returns-in_err-write_through-2-clause-asks
+returns-in_err-write_through-2-clause-asks g c =
+    let a = g.S.Site.counts c.args.site.now in
+    let m = g.S.Site.counts c.write_through.new.site in
+    let b = g.S.Site.counts c.write_through-2.new.site in
+    let r = c.from_residual-in_err-write_through-2.result in
+    let err = err_from_is_err_and r c.from_residual-in_err-write_through-2.ensures.1 in
+    let P : Result (Unit {0}) AppendFault → Type 0 = λ v. AppendAsks v a b in
+    subst P (sym (err.1 ∙ ap Err err.2)) (stops_after (through 1) (through 1) a m b c.in_ok-write_through.ensures.asks.done c.in_err-write_through-2.ensures.asks.failed)

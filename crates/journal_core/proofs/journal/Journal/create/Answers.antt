@@ -1,9 +1,15 @@
-use Rattle.std.proofs.Common.{◌∙◌, refl, ap, subst, Ok, Err}
+use Rattle.std.proofs.Common.{◌∙◌, sym, refl, ap, subst, Ok, Err}
 use Rattle.std.proofs.lemmas.Result.{err_from_is_err_and, IfOk-from_err}
-use Rattle.std.specs.Prelude.{Option, []}
+use Rattle.std.specs.Prelude.{Option, [], ◌∷◌, Result}
 use Rattle.journal_core.specs.declared.create.Stage.{Stage}
 use Rattle.journal_core.specs.Create.{FoundIs, StandsSo}
 use Rattle.journal_core.specs.File.{HasRecords}
+use Rattle.site_traits.specs.Counts.{SiteCounts}
+use Rattle.site_traits.specs.Counts.Ask.{sync}
+use Rattle.journal_core.specs.declared.create.CreateFault.{CreateFault}
+use Rattle.journal_core.specs.declared.create.Stage.TheVariants as stage
+use Rattle.journal_core.specs.Asking.{left_to_ask, CreateAsks}
+use Rattle.journal_core.proofs.AskLemmas.{sync_stops, stops_after}
 use Rattle.journal_core.proofs.CreateLemmas.{creates_not, creates_taken, creates_steps, not_taken, ok_not_taken}
 use Rattle.journal_core.proofs.journal.Journal.create.Goals as goal
 
@@ -38,3 +44,22 @@ returns-clause-told g c = λ tells.
     let P : Option Stage → Type 0 = λ v. StandsSo (FoundIs m v) b in
     creates_steps m c.in-Some.stage (Ok tt) (Ok c.in_ok-proceed.field-0) (g.S.Site.state c.args.site.now) b d (c.stage_of.ensures.told tells)
     (subst P c.in-Some.is (c.in_ok-stage.ensures.stage tells)) (c.in_ok-proceed.ensures.told tells) (ok_not_taken (Ok tt) refl) (λ h. h)
+
+pub returns-in_err-stage-clause-asks : goal.returns-in_err-stage-clause-asks
+returns-in_err-stage-clause-asks g c =
+    let a = g.S.Site.counts c.args.site.now in
+    let b = g.S.Site.counts c.stage_of.new.site in
+    let err = err_from_is_err_and c.from_residual.result c.from_residual.ensures.1 in
+    let P : Result (Unit {0}) CreateFault → Type 0 = λ v. CreateAsks v a b in
+    subst P (sym (err.1 ∙ ap Err err.2)) (stage.Empty, sync_stops (left_to_ask stage.Empty) a b c.in_err-stage.ensures.cause.failed)
+
+pub returns-in_err-proceed-clause-asks : goal.returns-in_err-proceed-clause-asks
+returns-in_err-proceed-clause-asks g c =
+    let a = g.S.Site.counts c.args.site.now in
+    let m = g.S.Site.counts c.stage_of.new.site in
+    let b = g.S.Site.counts c.proceed.new.site in
+    let r = c.from_residual-in_err-proceed.result in
+    let err = err_from_is_err_and r c.from_residual-in_err-proceed.ensures.1 in
+    let P : Result (Unit {0}) CreateFault → Type 0 = λ v. CreateAsks v a b in
+    subst P (sym (err.1 ∙ ap Err err.2))
+    (c.in-Some.stage, stops_after (sync ∷ []) (left_to_ask c.in-Some.stage) a m b c.in_ok-stage.ensures.cause.done c.in_err-proceed.ensures.asks.failed)

@@ -1,10 +1,10 @@
-use Rattle.std.proofs.Common.{◌++◌, ◌∷◌, [], sym, subst, Result, Ok, Err}
+use Rattle.std.proofs.Common.{◌∙◌, ◌++◌, ◌∷◌, [], sym, subst, Result, Ok, Err}
 use Rattle.std.proofs.lemmas.Result.{err_from_is_err_and}
 use Rattle.journal_core.specs.declared.loading.Found.{Found}
 use Rattle.journal_core.specs.Journal.{Ledger}
 use Rattle.journal_core.specs.declared.loading.LoadFault.{LoadFault}
 use Rattle.journal_core.specs.Load.{Finds, Loaded}
-use Rattle.journal_core.proofs.LoadLemmas.{syncs_then_reads, only_disk-trans, failed_load}
+use Rattle.journal_core.proofs.LoadLemmas.{syncs_then_reads, failed_load}
 use Rattle.journal_core.proofs.journal.Journal.load.Goals as goal
 
 pub returns-in_err-next-clause-loaded : goal.returns-in_err-next-clause-loaded
@@ -31,5 +31,5 @@ loop-loading-preserved g c = record {
       let P : Found → Type 0 = λ v. Finds before.0 (Ok v) c.next.new.self (g.S.Site.state c.next.new.site) in
       (before.0 ++ c.next.new.self.record_bytes ∷ [], subst P c.in-Record.is (c.in_ok-next.ensures.found tells before.0 before.1));
   told = λ tells. syncs_then_reads _ _ _ (c.loop-loading.invariant.told tells) (c.next.ensures.told tells);
-  counts = only_disk-trans _ _ _ c.loop-loading.invariant.counts c.next.ensures.counts;
+  counts = c.in_ok-next.ensures.counts.stays (λ wrong. cc wrong) ∙ c.loop-loading.invariant.counts;
 }

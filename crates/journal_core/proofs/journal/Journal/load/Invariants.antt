@@ -1,5 +1,6 @@
-use Rattle.std.proofs.Common.{◌-◌, ℕ, List}
-use Rattle.site_traits.specs.Counts.{OnlyDisk}
+use Rattle.std.proofs.Common.{◌≡◌, ◌-◌, ℕ, List}
+use Rattle.site_traits.specs.Counts.{asked}
+use Rattle.site_traits.specs.Counts.Ask.{sync}
 use Rattle.journal_core.specs.Load.{Loads, SyncsAndReads}
 use Rattle.journal_core.proofs.journal.Journal.load.Given as goal
 
@@ -8,7 +9,7 @@ abbrev pub invariant-loop-loading : goal.invariant-loop-loading
 invariant-loop-loading g l = record {
   loads : g.S.Site.tells → (rs : List (List ℕ)) × Loads rs l.loading (g.S.Site.state l.site);
   told : g.S.Site.tells → SyncsAndReads (g.S.Site.state l.fn.site) (g.S.Site.state l.site);
-  counts : OnlyDisk (g.S.Site.counts l.fn.site) (g.S.Site.counts l.site);
+  counts : g.S.Site.counts l.site ≡ asked sync (g.S.Site.counts l.fn.site);
 }
 
 abbrev pub decreases-loop-loading : goal.decreases-loop-loading

@@ -1,5 +1,5 @@
 //! Stops and faults of a file in memory, broken files, and records at the file's limit.
-use crate::{AppendFault, CreateFault, Journal, LoadFault, MAX_FILE};
+use journal_core::{AppendFault, CreateFault, Journal, LoadFault, MAX_FILE};
 use site_traits::{Choice, DiskFailed, MemSite, Site, SitePlan};
 use std::alloc::{AllocError, Global};
 use std::test::Fail;

@@ -1,0 +1,40 @@
+-- What the calls of a journal ask of its site, and which faults they count (own rule).
+use Rattle.std.specs.Prelude.{◌≡◌, ◌≤◌, ℕ, zero, suc, List, [], ◌∷◌, Result, Ok, Err}
+use Rattle.site_traits.specs.Counts.{SiteCounts, Ask, asked, all_asked, disk_failed, StopsIn}
+use Rattle.site_traits.specs.Counts.Ask.{write, sync}
+use Rattle.journal_core.specs.declared.create.CreateFault.{CreateFault}
+use Rattle.journal_core.specs.declared.create.CreateFault.TheVariants as creating
+use Rattle.journal_core.specs.declared.create.Stage.{Stage}
+use Rattle.journal_core.specs.declared.create.Stage.TheVariants as stage
+use Rattle.journal_core.specs.declared.journal.AppendFault.{AppendFault}
+use Rattle.journal_core.specs.declared.journal.AppendFault.TheVariants as appending
+
+-- so many times a write and then a sync
+abbrev pub through : ℕ → List Ask
+through zero = []
+through (suc n) = write ∷ sync ∷ through n
+
+-- Where this holds the last call failed, which is counted once; else none failed. All was asked for then.
+pub record FailsWhere (failed : Type 0) (asked now : SiteCounts) : Type 0 where
+  pub rose : failed → now ≡ disk_failed asked
+  pub stays : ¬ failed → now ≡ asked
+
+-- What an append asks of the site: two writes and two syncs, or the front of these up to one that failed; nothing where there is no
+-- room. It reads nothing.
+abbrev pub AppendAsks : {T : Type 0} → Result T AppendFault → SiteCounts → SiteCounts → Type 0
+AppendAsks (Ok done) a b = b ≡ all_asked (through 2) a
+AppendAsks (Err (appending.Full end more)) a b = b ≡ a
+AppendAsks (Err appending.Disk) a b = StopsIn (through 2) a b
+
+-- what is left to ask for at this stage of the making of a file
+abbrev pub left_to_ask : Stage → List Ask
+left_to_ask stage.Empty = through 3
+left_to_ask stage.Begun = through 2
+left_to_ask stage.Filled = through 1
+
+-- What the making of a file asks of the site: a sync, and from one to three times a write and then a sync, or the front of these up to
+-- a call that failed; the sync alone where the file is taken.
+abbrev pub CreateAsks : {T : Type 0} → Result T CreateFault → SiteCounts → SiteCounts → Type 0
+CreateAsks (Ok done) a b = (stage : Stage) × (b ≡ all_asked (sync ∷ left_to_ask stage) a)
+CreateAsks (Err creating.Taken) a b = b ≡ asked sync a
+CreateAsks (Err creating.Disk) a b = (stage : Stage) × StopsIn (sync ∷ left_to_ask stage) a b
