@@ -15,7 +15,7 @@ use Rattle.lcm_model.specs.Holding.{is_of_instance, top, top_in}
 use Rattle.lcm_model.specs.Lives.{CreatedInstance, creation, descriptor, descriptor_named}
 use Rattle.lcm_model.specs.Operations.{operations}
 use Rattle.lcm_model.specs.Words.{greatest}
-use Rattle.lcm_plans.proofs.LevelLaws.{choose}
+use Rattle.lcm_model.proofs.LevelLaws.{choose}
 
 -- what a legal history begins with is legal
 pub legal_before : (m : ℕ) (more H : List Event) → IsLegal m (more ++ H) → IsLegal m H

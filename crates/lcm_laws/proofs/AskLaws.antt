@@ -1,7 +1,7 @@
 -- How an operation that goes on stands to what its instance holds.
 use Rattle.std.proofs.Common.{◌≡◌, ◌≤◌, ◌<◌, ◌+◌, ◌&&◌, ◌==◌, ◌∙◌, ℕ, List, [], ◌∷◌, Bool, true, false, not, Option, None, Some, is_some, refl, ap, sym, subst, length, arith, zero, suc, inl, inr, ◌⊎◌, ltb-true, eqb-true, slice_get, take, ltb}
-use Rattle.lcm_events.specs.Same.{same_tag}
-use Rattle.lcm_events.proofs.SameLaws.{def_ext, same_tag-refl}
+use Rattle.lcm_events.specs.Same.{same_kind, same_tag}
+use Rattle.lcm_events.proofs.SameLaws.{def_ext, same_kind-true, same_tag-refl}
 use Rattle.lcm_model.specs.declared.holding.Effect.{Effect}
 use Rattle.std.specs.List.{range_with_len}
 use Rattle.std.specs.Option.{option_map_or}
@@ -33,7 +33,7 @@ use Rattle.lcm_model.specs.Plans.{Case, change, leaving, makes_links, removes_li
 use Rattle.lcm_model.specs.Planned.{IsPlannedBy}
 use Rattle.lcm_model.specs.Refusals.{Situation, ask_refusal, case_in, content_refusal, instantiation_refusal, is_terminate, situation, state_refusal}
 use Rattle.lcm_model.specs.Work.{works_in}
-use Rattle.lcm_model.specs.Allowed.{IsAllowed, IsLegal, IsPlanOf}
+use Rattle.lcm_model.specs.Allowed.{IsAllowedWithin, IsLegalWithin, IsPlanOf}
 use Rattle.lcm_model.specs.Lives.{descriptor}
 use Rattle.lcm_laws.specs.Standing.{IsOfInstance}
 use Rattle.lcm_laws.proofs.Lists.{and_left, and_right, by_test, none_of-front, none_of-rest, not-false, when-none}
@@ -139,14 +139,14 @@ none_stays p v s (Terminate mode timeout) e h = taken (want p v) h where
   taken zero h = h
   taken (suc n) h = h
 
-leaves : (p : Case) (v s : ℕ) → is_terminate p.ask ≡ true → IsIn s (there p.vnfd p.held v) → IsIn s (leaving p v)
+pub leaves : (p : Case) (v s : ℕ) → is_terminate p.ask ≡ true → IsIn s (there p.vnfd p.held v) → IsIn s (leaving p v)
 leaves p v s e h =
     in_filter (λ s. not (is_among (stay p v) s)) s (there p.vnfd p.held v) h
     (not-false (is_among (stay p v) s) (by_test (is_among (stay p v) s)
     (λ among. absurd (none_stays p v s p.ask e (among_in (stay p v) s among)))
     (λ other. other)))
 
-takes_links : (ask : Ask) → is_terminate ask ≡ true → removes_links ask ≡ true
+pub takes_links : (ask : Ask) → is_terminate ask ≡ true → removes_links ask ≡ true
 takes_links (Terminate mode timeout) e = refl
 takes_links (Instantiate flavour level) e = cc
 takes_links (Scale way aspect steps) e = cc
@@ -186,7 +186,7 @@ link_removed p x is e stand h =
     let same : x ≡ link_def x.item = def_ext is refl vdu serial in
     (stand, inr (takes_links p.ask e, (x.item, item, same)))
 
-what_stands_removed : (p : Case) (kind : DefKind) (x : Def) → x.kind ≡ kind → is_terminate p.ask ≡ true → p.held.stands x ≡ true → x.serial ≤ p.held.top x.vdu
+pub what_stands_removed : (p : Case) (kind : DefKind) (x : Def) → x.kind ≡ kind → is_terminate p.ask ≡ true → p.held.stands x ≡ true → x.serial ≤ p.held.top x.vdu
     → is_def_in p.vnfd kind x ≡ true → IsPlannedBy p Remove x
 what_stands_removed p Link x is e stand low h = link_removed p x is e stand h
 what_stands_removed p Storage x is e stand low h = machine_removed p Storage x is e stand low h
@@ -194,7 +194,7 @@ what_stands_removed p Compute x is e stand low h = machine_removed p Compute x i
 what_stands_removed p Port x is e stand low h = machine_removed p Port x is e stand low h
 
 -- a planned change is found under a number
-planned_get : (p : Case) (v : Verb) (y : Def) (xs : List Change) → xs ≡ plan p → IsPlannedBy p v y → (n : ℕ) × (slice_get xs n ≡ Some (change v y))
+pub planned_get : (p : Case) (v : Verb) (y : Def) (xs : List Change) → xs ≡ plan p → IsPlannedBy p v y → (n : ℕ) × (slice_get xs n ≡ Some (change v y))
 planned_get p v y xs is h =
     in_get (change v y) xs (subst (λ (ks : List Change). IsIn (change v y) ks) (sym is) (planned-in_plan p (change v y) (refl, h)))
 
@@ -210,9 +210,13 @@ some_runs (y ∷ ys) e = by_verb y.verb e where
 
 -- what runs stands
 pub runs-stands : (H : List Event) (i : ℕ) (x : Def) → runs H i x ≡ true → stands H i x ≡ true
-runs-stands H i x h = some_runs (effects H i x) h
+runs-stands H i x h = some_runs (effects H i x) (and_right (same_kind x.kind Compute) _ h)
 
-nothing_new : (p : Case) (v s : ℕ) (ask : Ask) → is_terminate ask ≡ true → IsIn s (new_by ask p v) → ⊥
+-- what runs is a compute, and stands
+pub runs-compute : (H : List Event) (i : ℕ) (x : Def) → runs H i x ≡ true → (x.kind ≡ Compute) × (stands H i x ≡ true)
+runs-compute H i x h = (same_kind-true x.kind Compute (and_left (same_kind x.kind Compute) _ h), runs-stands H i x h)
+
+pub nothing_new : (p : Case) (v s : ℕ) (ask : Ask) → is_terminate ask ≡ true → IsIn s (new_by ask p v) → ⊥
 nothing_new p v s (Terminate mode timeout) e h = h
 nothing_new p v s (Instantiate flavour level) e h = cc
 nothing_new p v s (Scale way aspect steps) e h = cc
@@ -250,12 +254,12 @@ takes_by p Stop k a e f planned is at h =
     let removal_phase : phase Remove k.def.kind ≡ 6 = ap (phase Remove) h.1 in
     inr (is, (found.0, change Remove k.def, found.1, refl, refl, omega (arith, at, removal_phase)))
 
-starting_none : (m : ℕ) (H : List Event) (o c : ℕ) → IsLegal m H → state H o ≡ Starting → open_attempts H o c ≡ []
-starting_none m H o c legal is = empty (open_attempts H o c) (λ t h.
+starting_none : (width m : ℕ) (H : List Event) (o c : ℕ) → IsLegalWithin width m H → state H o ≡ Starting → open_attempts H o c ≡ []
+starting_none width m H o c legal is = empty (open_attempts H o c) (λ t h.
     let from = of_filter (is_of o c) t (open_tags H) h in
     let at : t.occ ≡ o = eqb-true t.occ o (and_left (t.occ == o) (t.change == c) from.1) in
     let opened : is_open H t ≡ true = any_in (same_tag t) t (open_tags H) from.0 (same_tag-refl t) in
-    let work : state H o ≡ works_in t.way = subst (λ (n : ℕ). state H n ≡ works_in t.way) at (open_state m H legal t opened) in
+    let work : state H o ≡ works_in t.way = subst (λ (n : ℕ). state H n ≡ works_in t.way) at (open_state width m H legal t opened) in
     absurd (works_later t.way (sym work ∙ is))) where
       empty : (ts : List Tag) → ((t : Tag) → IsIn t ts → ⊥) → ts ≡ []
       empty [] f = refl
@@ -264,52 +268,52 @@ starting_none m H o c legal is = empty (open_attempts H o c) (λ t h.
 same_descriptor : (x : Option Vnfd) (d e : Vnfd) → x ≡ Some d → x ≡ Some e → d ≡ e
 same_descriptor x d e h g = let both : Some d ≡ Some e = sym h ∙ g in cc
 
-tearing_asked : (m : ℕ) (H : List Event) (d : Vnfd) (i o : ℕ) (a : Operation) (mode : StopType) (timeout : _) → IsLegal m H → descriptor H i ≡ Some d
+tearing_asked : (width m : ℕ) (H : List Event) (d : Vnfd) (i o : ℕ) (a : Operation) (mode : StopType) (timeout : _) → IsLegalWithin width m H → descriptor H i ≡ Some d
     → state H o ≡ Starting → is_instantiated H i ≡ true → a.changes ≡ plan (case_in d (situation d H i) (Terminate mode timeout)) → IsTearing H i o a
-tearing_asked m H d i o a mode timeout legal described starting inst planned =
+tearing_asked width m H d i o a mode timeout legal described starting inst planned =
     let p = case_in d (situation d H i) (Terminate mode timeout) in
     record {
       instantiated = inst;
       stand = λ x s.
-          (let of : IsOfInstance H i x = stands_of m H legal i x s in
+          (let of : IsOfInstance H i x = stands_of width m H legal i x s in
           let same : of.0 ≡ d = same_descriptor (descriptor H i) of.0 d of.1 described in
           let own : is_def_of d x ≡ true = subst (λ (y : Vnfd). is_def_of y x ≡ true) same of.2 in
           let found = planned_get p Remove x a.changes planned (what_stands_removed p x.kind x refl refl s of.3 own) in
-          (found.0, change Remove x, found.1, refl, refl, starting_untouched m H legal o starting found.0));
+          (found.0, change Remove x, found.1, refl, refl, starting_untouched width m H legal o starting found.0));
       takes = λ k has.
           (let is = in_plan-planned p k (subst (λ (ks : List Change). IsIn k ks) planned has) in
           takes_by p k.verb k a refl (λ x r. runs-stands H i x r) planned refl is.0 is.1);
-      waits = λ b c j k eb ec less zero_b. (starting_untouched m H legal o starting c, starting_none m H o c legal starting);
+      waits = λ b c j k eb ec less zero_b. (starting_untouched width m H legal o starting c, starting_none width m H o c legal starting);
     }
 
-ask_holds : (m : ℕ) (H : List Event) (d : Vnfd) (i o : ℕ) (a : Operation) (ask : Ask) → IsLegal m H → descriptor H i ≡ Some d → state H o ≡ Starting
+ask_holds : (width m : ℕ) (H : List Event) (d : Vnfd) (i o : ℕ) (a : Operation) (ask : Ask) → IsLegalWithin width m H → descriptor H i ≡ Some d → state H o ≡ Starting
     → (is_instantiated H i ≡ false → (x : Def) → stands H i x ≡ false) → instantiation_refusal ask (is_instantiated H i) ≡ None
     → a.changes ≡ plan (case_in d (situation d H i) ask) → ByAsk H i o a ask
-ask_holds m H d i o a (Instantiate flavour level) legal described starting idle fits planned =
+ask_holds width m H d i o a (Instantiate flavour level) legal described starting idle fits planned =
     building_asked H d i o a flavour level (idle (when-none (is_instantiated H i) refusals.Instantiated fits)) planned
-ask_holds m H d i o a (Terminate mode timeout) legal described starting idle fits planned =
-    tearing_asked m H d i o a mode timeout legal described starting
+ask_holds width m H d i o a (Terminate mode timeout) legal described starting idle fits planned =
+    tearing_asked width m H d i o a mode timeout legal described starting
     (unless_none (is_instantiated H i) (when-none (not (is_instantiated H i)) refusals.NotInstantiated fits)) planned
-ask_holds m H d i o a _ legal described starting idle fits planned =
+ask_holds width m H d i o a _ legal described starting idle fits planned =
     unless_none (is_instantiated H i) (when-none (not (is_instantiated H i)) refusals.NotInstantiated fits)
 
-new_none : (m : ℕ) (H : List Event) (o : ℕ) (x : Option Operation) → IsLegal m H → o ≡ length (operations H) + 1 → operation H o ≡ x → operation H o ≡ None
-new_none m H o None legal number is = is
-new_none m H o (Some a) legal number is =
+pub new_none : (width m : ℕ) (H : List Event) (o : ℕ) (x : Option Operation) → IsLegalWithin width m H → o ≡ length (operations H) + 1 → operation H o ≡ x → operation H o ≡ None
+new_none width m H o None legal number is = is
+new_none width m H o (Some a) legal number is =
     let found : is_some (operation H o) ≡ true = rw is refl in
-    let within = found_within (λ a. a.occ) (operations H) o (operations_counted m H legal) found in absurd (omega (arith, number, within.1))
+    let within = found_within (λ a. a.occ) (operations H) o (operations_counted width m H legal) found in absurd (omega (arith, number, within.1))
 
-asked_of : (m : ℕ) (H : List Event) (a : Operation) (d : Option Vnfd) → IsLegal m H → a.occ ≡ length (operations H) + 1 → descriptor H a.instance ≡ d
+asked_of : (width m : ℕ) (H : List Event) (a : Operation) (d : Option Vnfd) → IsLegalWithin width m H → a.occ ≡ length (operations H) + 1 → descriptor H a.instance ≡ d
     → IsPlanOf H a d → (is_instantiated H a.instance ≡ false → (x : Def) → stands H a.instance x ≡ false) → ByAsk H a.instance a.occ a a.ask
-asked_of m H a None legal number described h idle = absurd h
-asked_of m H a (Some d) legal number described h idle =
-    ask_holds m H d a.instance a.occ a a.ask legal described
-    (unasked_starting m H legal a.occ (new_none m H a.occ (operation H a.occ) legal number refl)) idle
+asked_of width m H a None legal number described h idle = absurd h
+asked_of width m H a (Some d) legal number described h idle =
+    ask_holds width m H d a.instance a.occ a a.ask legal described
+    (unasked_starting width m H legal a.occ (new_none width m H a.occ (operation H a.occ) legal number refl)) idle
     (instantiation d (situation d H a.instance) a.ask h.0) h.1
 
 -- what holds once an operation is asked for
-pub asked_holds : (m : ℕ) (H : List Event) (a : Operation) → IsLegal m H → IsAllowed m H (Asked a)
+pub asked_holds : (width m : ℕ) (H : List Event) (a : Operation) → IsLegalWithin width m H → IsAllowedWithin width m H (Asked a)
     → (ongoing H a.instance ≡ [] → is_instantiated H a.instance ≡ false → (x : Def) → stands H a.instance x ≡ false)
     → ByAsk H a.instance a.occ a a.ask
-asked_holds m H a legal allowed idle =
-    asked_of m H a (descriptor H a.instance) legal allowed.number refl allowed.planned (idle (asked_idle m H a allowed))
+asked_holds width m H a legal allowed idle =
+    asked_of width m H a (descriptor H a.instance) legal allowed.number refl allowed.planned (idle (asked_idle width m H a allowed))

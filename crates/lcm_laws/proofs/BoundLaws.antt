@@ -21,6 +21,7 @@ use Rattle.lcm_events.specs.declared.events.Operation.{Operation}
 use Rattle.lcm_events.specs.declared.states.OpState.{OpState}
 use Rattle.lcm_model.specs.declared.refusals.Refusal.TheVariants as refusals
 use Rattle.lcm_events.specs.declared.asks.Ask.{Ask}
+use Rattle.lcm_events.specs.declared.asks.Ask.TheVariants.{Heal}
 use Rattle.lcm_model.specs.Levels.{target}
 use Rattle.lcm_model.specs.Words.{IsIn, is_among, when}
 use Rattle.lcm_model.specs.Moves.{is_final, state}
@@ -34,7 +35,7 @@ use Rattle.lcm_model.specs.Plans.{Case, phase, plan, starts, stops}
 use Rattle.lcm_model.specs.Planned.{IsLink, IsPlannedBy, key}
 use Rattle.lcm_model.specs.Descriptors.{IsValid}
 use Rattle.lcm_model.specs.Refusals.{Situation, case_in, content_refusal, created, has_nothing_to_do, is_above_profile, is_terminate, is_too_large, naming_refusal, plan_refusal, situation, state_refusal}
-use Rattle.lcm_model.specs.Allowed.{IsAllowed, IsLegal, IsPlanOf}
+use Rattle.lcm_model.specs.Allowed.{IsAllowedWithin, IsLegalWithin, IsPlanOf}
 use Rattle.lcm_laws.specs.Standing.{IsOfInstance}
 use Rattle.lcm_laws.proofs.Histories.{event, legal_induction}
 use Rattle.lcm_laws.proofs.Lists.{and_left, and_right, by_test, none_of-front, none_of-rest, when-none}
@@ -100,7 +101,7 @@ machine_differs d v s valid =
       | inr g ↦ kinds_differ d Compute Port v s x y (λ e. cc) g hy
     ])
 
-all_parts : (d : Vnfd) (v s : ℕ) (x : Def) → IsIn x (all_defs d v s) → OfMachine x.kind × (x.vdu ≡ v) × (x.serial ≡ s)
+pub all_parts : (d : Vnfd) (v s : ℕ) (x : Def) → IsIn x (all_defs d v s) → OfMachine x.kind × (x.vdu ≡ v) × (x.serial ≡ s)
 all_parts d v s x h = let own = of_all d v s x h in let parts = of_defs d x.kind v s x own.1 in (own.0, parts.1, parts.2)
 
 not_link : (kind : DefKind) → OfMachine kind → kind ≡ Link → ⊥
@@ -136,7 +137,7 @@ up_to_differ d top valid =
     not_link x.kind (all_parts d from.0 machine.0 x machine.2).0 (ap (λ (z : Def). z.kind) e ∙ link_is d y hy))
 
 -- a definition of the descriptor with a serial up to the greatest is among them
-vdu_in : (v n : ℕ) → v < n → IsIn v (range_with_len 0 n)
+pub vdu_in : (v n : ℕ) → v < n → IsIn v (range_with_len 0 n)
 vdu_in v n h = in_range v 0 n (omega arith) (omega (arith, h))
 
 machine_up_to : (d : Vnfd) (top : ℕ → ℕ) (kind : DefKind) (x : Def) → x.kind ≡ kind → x.serial ≤ top x.vdu
@@ -281,10 +282,10 @@ record IsFramed (H : List Event) (i : ℕ) : Type 0 where
   stand : (x : Def) → stands H i x ≡ true → IsIn x frame
   touched : (o : ℕ) (a : Operation) → operation H o ≡ Some a → a.instance ≡ i → is_final (state H o) ≡ false → (k : Change) → IsIn k a.changes → IsIn k.def frame
 
-framed_settled : (m : ℕ) (H : List Event) (time : ℕ) (u : Tag) (out : Outcome) (i : ℕ) (x : Def) → IsLegal m H → is_open H u ≡ true → (h : IsFramed H i)
+framed_settled : (width m : ℕ) (H : List Event) (time : ℕ) (u : Tag) (out : Outcome) (i : ℕ) (x : Def) → IsLegalWithin width m H → is_open H u ≡ true → (h : IsFramed H i)
     → stands (event time (Settled u out) ∷ H) i x ≡ true → IsIn x h.frame
-framed_settled m H time u out i x legal opened h s =
-    let mine = open_operation m H u legal opened in
+framed_settled width m H time u out i x legal opened h s =
+    let mine = open_operation width m H u legal opened in
     by_test (mine.0.instance == i)
     (λ ours. elim (what_is_done H time u out mine.0 mine.1) [
       | inl nothing ↦ h.stand x (sym (stands-nothing H time u out i x nothing.0) ∙ s)
@@ -302,7 +303,7 @@ framed_settled m H time u out i x legal opened h s =
     ])
     (λ not_ours. h.stand x (sym (stands_elsewhere H time u out i x mine.0 mine.1 not_ours) ∙ s))
 
-moved_touched : (H : List Event) (time occ : ℕ) (to : OpState) (o : ℕ) → is_final (state H occ) ≡ false → is_final (state (event time (Moved occ to) ∷ H) o) ≡ false
+pub moved_touched : (H : List Event) (time occ : ℕ) (to : OpState) (o : ℕ) → is_final (state H occ) ≡ false → is_final (state (event time (Moved occ to) ∷ H) o) ≡ false
     → is_final (state H o) ≡ false
 moved_touched H time occ to o before after = by_test (occ == o)
     (λ same. subst (λ (n : ℕ). is_final (state H n) ≡ false) (eqb-true occ o same) before)
@@ -346,11 +347,11 @@ not_too_large d now ask e =
     (none_of-front large [] (none_of-rest above (large ∷ []) (none_of-rest nothing (above ∷ large ∷ [])
     (none_of-rest (naming_refusal d now ask) (nothing ∷ above ∷ large ∷ []) e))))
 
-fit_of : (m : ℕ) (H : List Event) (a : Operation) (d : Option Vnfd) → IsLegal m H → descriptor H a.instance ≡ d → IsPlanOf H a d → IsFramed H a.instance → IsFit H a
-fit_of m H a None legal described h framed = absurd h
-fit_of m H a (Some d) legal described h framed =
+fit_of : (width m : ℕ) (H : List Event) (a : Operation) (d : Option Vnfd) → IsLegalWithin width m H → descriptor H a.instance ≡ d → IsPlanOf H a d → IsFramed H a.instance → IsFit H a
+fit_of width m H a None legal described h framed = absurd h
+fit_of width m H a (Some d) legal described h framed =
     let p = case_in d (situation d H a.instance) a.ask in
-    let valid : IsValid d = descriptor_valid m H a.instance d legal described in
+    let valid : IsValid d = descriptor_valid width m H a.instance d legal described in
     let few_held : length (held_defs p) ≤ 2500 = few_standing H a.instance d p refl valid framed refl in
     let refused : plan_refusal d (situation d H a.instance) a.ask ≡ None =
     none_of-front _ _ (none_of-rest (state_refusal d (situation d H a.instance) a.ask) _ (none_of-rest (content_refusal d a.ask) _ h.0)) in
@@ -365,15 +366,15 @@ fit_of m H a (Some d) legal described h framed =
       few_held = few_held;
       sum = room (created (plan p)) (length (held_defs p)) few_held fits_in;
       among = λ x s.
-          (let of : IsOfInstance H a.instance x = stands_of m H legal a.instance x s in
+          (let of : IsOfInstance H a.instance x = stands_of width m H legal a.instance x s in
           let both : Some of.0 ≡ Some d = sym of.1 ∙ described in
           let same : of.0 ≡ d = cc in
           in_filter p.held.stands x (defs_up_to d p.held.top)
           (kind_up_to d p.held.top x.kind x refl of.3 (subst (λ (y : Vnfd). is_def_of y x ≡ true) same of.2)) s);
     }
 
-fit : (m : ℕ) (H : List Event) (a : Operation) → IsLegal m H → IsAllowed m H (Asked a) → IsFramed H a.instance → IsFit H a
-fit m H a legal allowed framed = fit_of m H a (descriptor H a.instance) legal refl allowed.planned framed
+fit : (width m : ℕ) (H : List Event) (a : Operation) → IsLegalWithin width m H → IsAllowedWithin width m H (Asked a) → IsFramed H a.instance → IsFit H a
+fit width m H a legal allowed framed = fit_of width m H a (descriptor H a.instance) legal refl allowed.planned framed
 
 -- the definitions that stand or are made
 abbrev new_frame : Case → List Def
@@ -394,17 +395,17 @@ change_in_frame p k Remove is f h = in_front k.def (held_defs p) (map (λ c. c.d
 change_in_frame p k Start is f h = in_front k.def (held_defs p) (map (λ c. c.def) (with_verb Create (plan p))) (in_held p Start k f (λ e. cc) h is)
 change_in_frame p k Stop is f h = in_front k.def (held_defs p) (map (λ c. c.def) (with_verb Create (plan p))) (in_held p Stop k f (λ e. cc) h is)
 
-found_asked : (H : List Event) (b a : Operation) (o : ℕ) → cond (b.occ == o) (Some b) (operation H o) ≡ Some a
+pub found_asked : (H : List Event) (b a : Operation) (o : ℕ) → cond (b.occ == o) (Some b) (operation H o) ≡ Some a
     → (b ≡ a) ⊎ (operation H o ≡ Some a)
 found_asked H b a o e = by_test (b.occ == o)
     (λ same. let is : Some b ≡ Some a = subst (λ (t : Bool). cond t (Some b) (operation H o) ≡ Some a) same e in inl cc)
     (λ other. inr (subst (λ (t : Bool). cond t (Some b) (operation H o) ≡ Some a) other e))
 
-framed_ours : (m : ℕ) (H : List Event) (time : ℕ) (b : Operation) → IsLegal m H → IsAllowed m H (Asked b) → IsFramed H b.instance
+framed_ours : (width m : ℕ) (H : List Event) (time : ℕ) (b : Operation) → IsLegalWithin width m H → IsAllowedWithin width m H (Asked b) → IsFramed H b.instance
     → IsFramed (event time (Asked b) ∷ H) b.instance
 unfolding effect_in
-framed_ours m H time b legal allowed framed =
-    let f = fit m H b legal allowed framed in
+framed_ours width m H time b legal allowed framed =
+    let f = fit width m H b legal allowed framed in
     record {
       frame = new_frame f.p;
       small = new_frame_small f.p f.sum;
@@ -413,7 +414,7 @@ framed_ours m H time b legal allowed framed =
         | inl same ↦
             change_in_frame f.p k k.verb refl f.runs_stand
             (subst (λ (ks : List Change). IsIn k ks) f.planned (subst (λ (z : Operation). IsIn k z.changes) (sym same) has))
-        | inr before ↦ absurd (idle_none H b.instance o a (asked_idle m H b allowed) before at goes)
+        | inr before ↦ absurd (idle_none H b.instance o a (asked_idle width m H b allowed) before at goes)
       ]);
     }
 
@@ -431,36 +432,36 @@ framed_others H time b i other h = record {
   ]);
 }
 
-framed_step : (m : ℕ) (H : List Event) (time : ℕ) (k : EventKind) (i : ℕ) → IsLegal m H → IsAllowed m H k → IsFramed H i → IsFramed (event time k ∷ H) i
+framed_step : (width m : ℕ) (H : List Event) (time : ℕ) (k : EventKind) (i : ℕ) → IsLegalWithin width m H → IsAllowedWithin width m H k → IsFramed H i → IsFramed (event time k ∷ H) i
 unfolding effect_in
-framed_step m H time (Asked b) i legal allowed h = by_test (b.instance == i)
+framed_step width m H time (Asked b) i legal allowed h = by_test (b.instance == i)
     (λ ours.
     let is : b.instance ≡ i = eqb-true b.instance i ours in
     let here : IsFramed H b.instance = subst (λ (n : ℕ). IsFramed H n) (sym is) h in
-    subst (λ (n : ℕ). IsFramed (event time (Asked b) ∷ H) n) is (framed_ours m H time b legal allowed here))
+    subst (λ (n : ℕ). IsFramed (event time (Asked b) ∷ H) n) is (framed_ours width m H time b legal allowed here))
     (λ other. framed_others H time b i other h)
-framed_step m H time (Settled u out) i legal allowed h = record {
+framed_step width m H time (Settled u out) i legal allowed h = record {
   frame = h.frame;
   small = h.small;
-  stand = λ x s. framed_settled m H time u out i x legal allowed h s;
+  stand = λ x s. framed_settled width m H time u out i x legal allowed h s;
   touched = h.touched;
 }
-framed_step m H time (Moved occ to) i legal allowed h = record {
+framed_step width m H time (Moved occ to) i legal allowed h = record {
   frame = h.frame;
   small = h.small;
   stand = λ x s. h.stand x (sym (stands_moved H time occ to i x) ∙ s);
   touched = λ o a found at goes k has. h.touched o a found at (moved_touched H time occ to o (moved_from H occ to allowed.1) goes) k has;
 }
-framed_step m H time k i legal allowed h = record { frame = h.frame; small = h.small; stand = h.stand; touched = h.touched }
+framed_step width m H time k i legal allowed h = record { frame = h.frame; small = h.small; stand = h.stand; touched = h.touched }
 
-framed : (m : ℕ) (H : List Event) → IsLegal m H → (i : ℕ) → IsFramed H i
-framed m H legal i =
-    legal_induction m (λ H. IsFramed H i) (record { frame = []; small = omega arith; stand = λ x s. cc; touched = λ o a found at goes k has. cc })
-    (λ H time k legal allowed h. framed_step m H time k i legal allowed h) H legal
+framed : (width m : ℕ) (H : List Event) → IsLegalWithin width m H → (i : ℕ) → IsFramed H i
+framed width m H legal i =
+    legal_induction width m (λ H. IsFramed H i) (record { frame = []; small = omega arith; stand = λ x s. cc; touched = λ o a found at goes k has. cc })
+    (λ H time k legal allowed h. framed_step width m H time k i legal allowed h) H legal
 
-few_changes : (m : ℕ) (H : List Event) (a : Operation) → IsLegal m H → IsAllowed m H (Asked a) → length a.changes ≤ 5000
-few_changes m H a legal allowed =
-    let f = fit m H a legal allowed (framed m H legal a.instance) in
+pub few_changes : (width m : ℕ) (H : List Event) (a : Operation) → IsLegalWithin width m H → IsAllowedWithin width m H (Asked a) → length a.changes ≤ 5000
+few_changes width m H a legal allowed =
+    let f = fit width m H a legal allowed (framed width m H legal a.instance) in
     let bound = plan_bound f.p f.valid f.runs_stand in
     let size : length a.changes ≡ length (plan f.p) = ap length f.planned in
     let held = f.few_held in
@@ -471,10 +472,25 @@ few_changes m H a legal allowed =
 abbrev AllFew : List Event → Type 0
 AllFew H = (a : Operation) → IsIn a (operations H) → length a.changes ≤ 5000
 
-few_step : (m : ℕ) (H : List Event) (time : ℕ) (k : EventKind) → IsLegal m H → IsAllowed m H k → AllFew H → AllFew (event time k ∷ H)
-few_step m H time (Asked b) legal allowed h a (inl e) = subst (λ (z : Operation). length z.changes ≤ 5000) e (few_changes m H b legal allowed)
-few_step m H time (Asked b) legal allowed h a (inr g) = h a g
-few_step m H time _ legal allowed h a g = h a g
+few_step : (width m : ℕ) (H : List Event) (time : ℕ) (k : EventKind) → IsLegalWithin width m H → IsAllowedWithin width m H k → AllFew H → AllFew (event time k ∷ H)
+few_step width m H time (Asked b) legal allowed h a (inl e) = subst (λ (z : Operation). length z.changes ≤ 5000) e (few_changes width m H b legal allowed)
+few_step width m H time (Asked b) legal allowed h a (inr g) = h a g
+few_step width m H time _ legal allowed h a g = h a g
 
-pub plans_small : (m : ℕ) (H : List Event) → IsLegal m H → (a : Operation) → IsIn a (operations H) → length a.changes ≤ 5000
-plans_small m H legal = legal_induction m AllFew (λ a h. absurd h) (λ H time k legal allowed h. few_step m H time k legal allowed h) H legal
+pub plans_small : (width m : ℕ) (H : List Event) → IsLegalWithin width m H → (a : Operation) → IsIn a (operations H) → length a.changes ≤ 5000
+plans_small width m H legal = legal_induction width m AllFew (λ a h. absurd h) (λ H time k legal allowed h. few_step width m H time k legal allowed h) H legal
+
+-- at most 2,500 definitions of an instance stand
+pub standing_few : (width m : ℕ) (H : List Event) → IsLegalWithin width m H → (i : ℕ) (d : Vnfd) → descriptor H i ≡ Some d
+    → length (filter (stands H i) (defs_up_to d (top H i))) ≤ 2500
+standing_few width m H legal i d described =
+    few_standing H i d (case_in d (situation d H i) (Heal None [])) refl (descriptor_valid width m H i d legal described) (framed width m H legal i) refl
+
+-- what stands is among the definitions up to the greatest serials
+pub stands_up_to : (width m : ℕ) (H : List Event) → IsLegalWithin width m H → (i : ℕ) (d : Vnfd) (x : Def) → descriptor H i ≡ Some d → stands H i x ≡ true
+    → IsIn x (defs_up_to d (top H i))
+stands_up_to width m H legal i d x described s =
+    let of : IsOfInstance H i x = stands_of width m H legal i x s in
+    let both : Some of.0 ≡ Some d = sym of.1 ∙ described in
+    let same : of.0 ≡ d = cc in
+    kind_up_to d (top H i) x.kind x refl of.3 (subst (λ (y : Vnfd). is_def_of y x ≡ true) same of.2)

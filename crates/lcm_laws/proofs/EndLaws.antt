@@ -17,7 +17,7 @@ use Rattle.lcm_model.specs.Attempts.{is_of, is_of_occurrence, is_open, is_unsett
 use Rattle.lcm_model.specs.Moves.{state}
 use Rattle.lcm_model.specs.Operations.{changes, operation, operations}
 use Rattle.lcm_model.specs.Work.{MayMove, has_net, works_in}
-use Rattle.lcm_model.specs.Allowed.{IsAllowed, IsLegal}
+use Rattle.lcm_model.specs.Allowed.{IsAllowedWithin, IsLegalWithin}
 use Rattle.lcm_laws.specs.Nets.{EachNetIs}
 use Rattle.lcm_laws.proofs.Histories.{event, legal_induction}
 use Rattle.lcm_laws.proofs.Lists.{by_test, any_filter, any_of_filter, places_pass}
@@ -57,26 +57,26 @@ fits_moved H time occ to t may h opened = by_test (occ == t.occ)
     cc)
     (λ other. state-moved H time t.occ occ to false other ∙ h opened)
 
-begun_open : (u t : Tag) (b : Bool) (ts : List Tag) → list_any (same_tag t) (cond b (u ∷ ts) ts) ≡ true → same_tag t u ≡ false
+pub begun_open : (u t : Tag) (b : Bool) (ts : List Tag) → list_any (same_tag t) (cond b (u ∷ ts) ts) ≡ true → same_tag t u ≡ false
     → list_any (same_tag t) ts ≡ true
 begun_open u t true ts h fails = rw fails at h
 begun_open u t false ts h fails = h
 
-fits_state_step : (m : ℕ) (H : List Event) (time : ℕ) (k : EventKind) (t : Tag) → IsAllowed m H k → FitsState H t → FitsState (event time k ∷ H) t
+fits_state_step : (width m : ℕ) (H : List Event) (time : ℕ) (k : EventKind) (t : Tag) → IsAllowedWithin width m H k → FitsState H t → FitsState (event time k ∷ H) t
 unfolding is_unsettled
-fits_state_step m H time (Intent u) t allowed h opened = by_test (same_tag t u)
+fits_state_step width m H time (Intent u) t allowed h opened = by_test (same_tag t u)
     (λ same. let is : t ≡ u = same_tag-true t u same in subst (λ (y : Tag). state H y.occ ≡ works_in y.way) (sym is) allowed.works)
     (λ other. h (begun_open u t (is_unsettled H u) (open_tags H) opened other))
-fits_state_step m H time (Settled u out) t allowed h opened =
+fits_state_step width m H time (Settled u out) t allowed h opened =
     h (any_of_filter (same_tag t) (λ x. not (same_tag x u)) (open_tags H)
     (subst (λ (ts : List Tag). list_any (same_tag t) ts ≡ true) (open_tags-settled H time u out) opened))
-fits_state_step m H time (Moved occ to) t allowed h opened = fits_moved H time occ to t allowed.1 h opened
-fits_state_step m H time _ t allowed h opened = h opened
+fits_state_step width m H time (Moved occ to) t allowed h opened = fits_moved H time occ to t allowed.1 h opened
+fits_state_step width m H time _ t allowed h opened = h opened
 
 -- an open attempt is in the state in which attempts in its way are made
-pub open_state : (m : ℕ) (H : List Event) → IsLegal m H → (t : Tag) → is_open H t ≡ true → state H t.occ ≡ works_in t.way
-open_state m H legal t =
-    legal_induction m (λ H. FitsState H t) (λ opened. cc) (λ H time k legal allowed h. fits_state_step m H time k t allowed h) H legal
+pub open_state : (width m : ℕ) (H : List Event) → IsLegalWithin width m H → (t : Tag) → is_open H t ≡ true → state H t.occ ≡ works_in t.way
+open_state width m H legal t =
+    legal_induction width m (λ H. FitsState H t) (λ opened. cc) (λ H time k legal allowed h. fits_state_step width m H time k t allowed h) H legal
 
 -- an occurrence that isn't asked for is STARTING
 abbrev Unasked : List Event → ℕ → Type 0
@@ -86,34 +86,34 @@ unasked_find : (a : Operation) (o : ℕ) (xs : List Operation) (b : Bool) → co
 unasked_find a o xs true e = cc
 unasked_find a o xs false e = e
 
-unasked_step : (m : ℕ) (H : List Event) (time : ℕ) (k : EventKind) (o : ℕ) → IsAllowed m H k → Unasked H o → Unasked (event time k ∷ H) o
-unasked_step m H time (Asked a) o allowed h none = h (unasked_find a o (operations H) (a.occ == o) none)
-unasked_step m H time (Moved occ to) o allowed h none = by_test (occ == o)
+unasked_step : (width m : ℕ) (H : List Event) (time : ℕ) (k : EventKind) (o : ℕ) → IsAllowedWithin width m H k → Unasked H o → Unasked (event time k ∷ H) o
+unasked_step width m H time (Asked a) o allowed h none = h (unasked_find a o (operations H) (a.occ == o) none)
+unasked_step width m H time (Moved occ to) o allowed h none = by_test (occ == o)
     (λ same.
     let is : occ ≡ o = eqb-true occ o same in
     let asked : is_some (operation H o) ≡ true = subst (λ (n : ℕ). is_some (operation H n) ≡ true) is allowed.0 in
     let missing : is_some {T = Operation} None ≡ true = subst (λ (a : Option Operation). is_some a ≡ true) none asked in
     cc)
     (λ other. state-moved H time o occ to false other ∙ h none)
-unasked_step m H time _ o allowed h none = h none
+unasked_step width m H time _ o allowed h none = h none
 
-pub unasked_starting : (m : ℕ) (H : List Event) → IsLegal m H → (o : ℕ) → operation H o ≡ None → state H o ≡ Starting
-unasked_starting m H legal o =
-    legal_induction m (λ H. Unasked H o) (λ none. refl) (λ H time k legal allowed h. unasked_step m H time k o allowed h) H legal
+pub unasked_starting : (width m : ℕ) (H : List Event) → IsLegalWithin width m H → (o : ℕ) → operation H o ≡ None → state H o ≡ Starting
+unasked_starting width m H legal o =
+    legal_induction width m (λ H. Unasked H o) (λ none. refl) (λ H time k legal allowed h. unasked_step width m H time k o allowed h) H legal
 
 -- an operation was asked for where its state isn't STARTING
-pub asked_for : (m : ℕ) (H : List Event) → IsLegal m H → (o : ℕ) (s : OpState) → state H o ≡ s → (s ≡ Starting → ⊥) → (a : Operation) × (operation H o ≡ Some a)
-asked_for m H legal o s is fails = found (operation H o) refl where
+pub asked_for : (width m : ℕ) (H : List Event) → IsLegalWithin width m H → (o : ℕ) (s : OpState) → state H o ≡ s → (s ≡ Starting → ⊥) → (a : Operation) × (operation H o ≡ Some a)
+asked_for width m H legal o s is fails = found (operation H o) refl where
   found : (x : Option Operation) → operation H o ≡ x → (a : Operation) × (operation H o ≡ Some a)
-  found None e = absurd (fails (sym is ∙ unasked_starting m H legal o e))
+  found None e = absurd (fails (sym is ∙ unasked_starting width m H legal o e))
   found (Some a) e = (a, e)
 
 -- where the state isn't STARTING, the next event leaves the changes
-pub changes-next : (m : ℕ) (H : List Event) (time : ℕ) (k : EventKind) (o : ℕ) (s : OpState) → IsLegal m H → IsAllowed m H k
+pub changes-next : (width m : ℕ) (H : List Event) (time : ℕ) (k : EventKind) (o : ℕ) (s : OpState) → IsLegalWithin width m H → IsAllowedWithin width m H k
     → state H o ≡ s → (s ≡ Starting → ⊥) → changes (event time k ∷ H) o ≡ changes H o
-changes-next m H time k o s legal allowed is fails =
-    let a : (a : Operation) × (operation H o ≡ Some a) = asked_for m H legal o s is fails in
-    rw (operation-next m H time k o a.0 legal allowed a.1, a.1) refl
+changes-next width m H time k o s legal allowed is fails =
+    let a : (a : Operation) × (operation H o ≡ Some a) = asked_for width m H legal o s is fails in
+    rw (operation-next width m H time k o a.0 legal allowed a.1, a.1) refl
 
 -- what an attempt that ends does to the net of a change of another occurrence: nothing
 net-settled : (H : List Event) (time : ℕ) (t : Tag) (out : Outcome) (o c : ℕ) → (t.occ == o) ≡ false
@@ -122,19 +122,19 @@ net-settled H time t out o c fails =
     let other : is_of o c t ≡ false = rw fails refl in
     rw (done_count-other Forward H time t out o c other, done_count-other Undo H time t out o c other) refl
 
-elsewhere : (m : ℕ) (H : List Event) → IsLegal m H → (t : Tag) (o : ℕ) (s : OpState) → is_open H t ≡ true → state H o ≡ s
+elsewhere : (width m : ℕ) (H : List Event) → IsLegalWithin width m H → (t : Tag) (o : ℕ) (s : OpState) → is_open H t ≡ true → state H o ≡ s
     → ((w : Way) → s ≡ works_in w → ⊥) → (t.occ == o) ≡ false
-elsewhere m H legal t o s opened is fails = by_test (t.occ == o)
+elsewhere width m H legal t o s opened is fails = by_test (t.occ == o)
     (λ same.
     let at : t.occ ≡ o = eqb-true t.occ o same in
-    absurd (fails t.way (sym is ∙ subst (λ (n : ℕ). state H n ≡ works_in t.way) at (open_state m H legal t opened))))
+    absurd (fails t.way (sym is ∙ subst (λ (n : ℕ). state H n ≡ works_in t.way) at (open_state width m H legal t opened))))
     (λ other. other)
 
 -- where the work of an occurrence is done, the next event leaves the nets, unless it moves the occurrence
-pub net-next : (m : ℕ) (H : List Event) (time : ℕ) (k : EventKind) (o c : ℕ) (s : OpState) → IsLegal m H → IsAllowed m H k → state H o ≡ s
+pub net-next : (width m : ℕ) (H : List Event) (time : ℕ) (k : EventKind) (o c : ℕ) (s : OpState) → IsLegalWithin width m H → IsAllowedWithin width m H k → state H o ≡ s
     → ((w : Way) → s ≡ works_in w → ⊥) → net (event time k ∷ H) o c ≡ net H o c
-net-next m H time (Settled t out) o c s legal allowed is fails = net-settled H time t out o c (elsewhere m H legal t o s allowed is fails)
-net-next m H time _ o c s legal allowed is fails = refl
+net-next width m H time (Settled t out) o c s legal allowed is fails = net-settled H time t out o c (elsewhere width m H legal t o s allowed is fails)
+net-next width m H time _ o c s legal allowed is fails = refl
 
 not_at_work : (s : OpState) → (s ≡ Processing → ⊥) → (s ≡ RollingBack → ⊥) → (w : Way) → s ≡ works_in w → ⊥
 not_at_work s f g Forward e = f e
@@ -148,19 +148,19 @@ never_starting : (H : List Event) (o : ℕ) (from : OpState) → MayMove H o fro
 never_starting H o Starting h = h
 never_starting H o _ h = h
 
-untouched_step : (m : ℕ) (H : List Event) (time : ℕ) (k : EventKind) (o : ℕ) → IsLegal m H → IsAllowed m H k → Untouched H o → Untouched (event time k ∷ H) o
-untouched_step m H time (Moved occ to) o legal allowed h starting c = by_test (occ == o)
+untouched_step : (width m : ℕ) (H : List Event) (time : ℕ) (k : EventKind) (o : ℕ) → IsLegalWithin width m H → IsAllowedWithin width m H k → Untouched H o → Untouched (event time k ∷ H) o
+untouched_step width m H time (Moved occ to) o legal allowed h starting c = by_test (occ == o)
     (λ same.
     let is : to ≡ Starting = sym (state-moved H time o occ to true same) ∙ starting in
     absurd (never_starting H occ (state H occ) (subst (λ (s : OpState). MayMove H occ (state H occ) s) is allowed.1)))
     (λ other. h (sym (state-moved H time o occ to false other) ∙ starting) c)
-untouched_step m H time (Settled t out) o legal allowed h starting c =
-    net-next m H time (Settled t out) o c Starting legal allowed starting (not_at_work Starting (λ e. cc) (λ e. cc)) ∙ h starting c
-untouched_step m H time _ o legal allowed h starting c = h starting c
+untouched_step width m H time (Settled t out) o legal allowed h starting c =
+    net-next width m H time (Settled t out) o c Starting legal allowed starting (not_at_work Starting (λ e. cc) (λ e. cc)) ∙ h starting c
+untouched_step width m H time _ o legal allowed h starting c = h starting c
 
-pub starting_untouched : (m : ℕ) (H : List Event) → IsLegal m H → (o : ℕ) → state H o ≡ Starting → (c : ℕ) → net H o c ≡ 0
-starting_untouched m H legal o =
-    legal_induction m (λ H. Untouched H o) (λ e c. refl) (λ H time k legal allowed h. untouched_step m H time k o legal allowed h) H legal
+pub starting_untouched : (width m : ℕ) (H : List Event) → IsLegalWithin width m H → (o : ℕ) → state H o ≡ Starting → (c : ℕ) → net H o c ≡ 0
+starting_untouched width m H legal o =
+    legal_induction width m (λ H. Untouched H o) (λ e c. refl) (λ H time k legal allowed h. untouched_step width m H time k o legal allowed h) H legal
 
 each_net : (H : List Event) (o n : ℕ) → list_all (has_net H o n) (enumerate_from 0 (changes H o)) ≡ true → EachNetIs H o n
 unfolding has_net
@@ -174,18 +174,18 @@ abbrev Ends : List Event → ℕ → OpState → ℕ → Type 0
 Ends H o s n = state H o ≡ s → EachNetIs H o n
 
 -- what has ended stays as it ended
-ends_kept : (m : ℕ) (H : List Event) (time : ℕ) (k : EventKind) (o n : ℕ) (s : OpState) → IsLegal m H → IsAllowed m H k → state H o ≡ s
+ends_kept : (width m : ℕ) (H : List Event) (time : ℕ) (k : EventKind) (o n : ℕ) (s : OpState) → IsLegalWithin width m H → IsAllowedWithin width m H k → state H o ≡ s
     → (s ≡ Starting → ⊥) → ((w : Way) → s ≡ works_in w → ⊥) → EachNetIs H o n → EachNetIs (event time k ∷ H) o n
-ends_kept m H time k o n s legal allowed is no_start no_work h c within =
-    let same : changes (event time k ∷ H) o ≡ changes H o = changes-next m H time k o s legal allowed is no_start in
-    net-next m H time k o c s legal allowed is no_work ∙ h c (subst (λ xs. c < length xs) same within)
+ends_kept width m H time k o n s legal allowed is no_start no_work h c within =
+    let same : changes (event time k ∷ H) o ≡ changes H o = changes-next width m H time k o s legal allowed is no_start in
+    net-next width m H time k o c s legal allowed is no_work ∙ h c (subst (λ xs. c < length xs) same within)
 
 -- a move to the end
-ends_moved : (m : ℕ) (H : List Event) (time occ : ℕ) (to : OpState) (o n : ℕ) (s : OpState) → IsLegal m H → IsAllowed m H (Moved occ to)
+ends_moved : (width m : ℕ) (H : List Event) (time occ : ℕ) (to : OpState) (o n : ℕ) (s : OpState) → IsLegalWithin width m H → IsAllowedWithin width m H (Moved occ to)
     → (s ≡ Starting → ⊥) → ((w : Way) → s ≡ works_in w → ⊥)
     → ((from : OpState) → state H o ≡ from → MayMove H o from s → EachNetIs H o n) → Ends H o s n
     → Ends (event time (Moved occ to) ∷ H) o s n
-ends_moved m H time occ to o n s legal allowed no_start no_work arrives h ended = by_test (occ == o)
+ends_moved width m H time occ to o n s legal allowed no_start no_work arrives h ended = by_test (occ == o)
     (λ same.
     let is : occ ≡ o = eqb-true occ o same in
     let there : to ≡ s = sym (state-moved H time o occ to true same) ∙ ended in
@@ -194,38 +194,38 @@ ends_moved m H time occ to o n s legal allowed no_start no_work arrives h ended 
     arrives (state H o) refl may)
     (λ other.
     let before : state H o ≡ s = sym (state-moved H time o occ to false other) ∙ ended in
-    ends_kept m H time (Moved occ to) o n s legal allowed before no_start no_work (h before))
+    ends_kept width m H time (Moved occ to) o n s legal allowed before no_start no_work (h before))
 
-ends_step : (m : ℕ) (H : List Event) (time : ℕ) (k : EventKind) (o n : ℕ) (s : OpState) → IsLegal m H → IsAllowed m H k
+ends_step : (width m : ℕ) (H : List Event) (time : ℕ) (k : EventKind) (o n : ℕ) (s : OpState) → IsLegalWithin width m H → IsAllowedWithin width m H k
     → (s ≡ Starting → ⊥) → ((w : Way) → s ≡ works_in w → ⊥)
     → ((from : OpState) → state H o ≡ from → MayMove H o from s → EachNetIs H o n) → Ends H o s n → Ends (event time k ∷ H) o s n
-ends_step m H time (Moved occ to) o n s legal allowed no_start no_work arrives h ended =
-    ends_moved m H time occ to o n s legal allowed no_start no_work arrives h ended
-ends_step m H time (Asked a) o n s legal allowed no_start no_work arrives h ended =
-    ends_kept m H time (Asked a) o n s legal allowed ended no_start no_work (h ended)
-ends_step m H time (Settled t out) o n s legal allowed no_start no_work arrives h ended =
-    ends_kept m H time (Settled t out) o n s legal allowed ended no_start no_work (h ended)
-ends_step m H time _ o n s legal allowed no_start no_work arrives h ended = h ended
+ends_step width m H time (Moved occ to) o n s legal allowed no_start no_work arrives h ended =
+    ends_moved width m H time occ to o n s legal allowed no_start no_work arrives h ended
+ends_step width m H time (Asked a) o n s legal allowed no_start no_work arrives h ended =
+    ends_kept width m H time (Asked a) o n s legal allowed ended no_start no_work (h ended)
+ends_step width m H time (Settled t out) o n s legal allowed no_start no_work arrives h ended =
+    ends_kept width m H time (Settled t out) o n s legal allowed ended no_start no_work (h ended)
+ends_step width m H time _ o n s legal allowed no_start no_work arrives h ended = h ended
 
 completed_arrives : (H : List Event) (o : ℕ) (from : OpState) → MayMove H o from Completed → EachNetIs H o 1
 completed_arrives H o Processing may = each_net H o 1 may.1
 completed_arrives H o _ may = absurd may
 
-rolled_arrives : (m : ℕ) (H : List Event) (o : ℕ) (from : OpState) → IsLegal m H → state H o ≡ from → MayMove H o from RolledBack → EachNetIs H o 0
-rolled_arrives m H o RollingBack legal is may = each_net H o 0 may.1
-rolled_arrives m H o Starting legal is may = λ c within. starting_untouched m H legal o is c
-rolled_arrives m H o _ legal is may = absurd may
+rolled_arrives : (width m : ℕ) (H : List Event) (o : ℕ) (from : OpState) → IsLegalWithin width m H → state H o ≡ from → MayMove H o from RolledBack → EachNetIs H o 0
+rolled_arrives width m H o RollingBack legal is may = each_net H o 0 may.1
+rolled_arrives width m H o Starting legal is may = λ c within. starting_untouched width m H legal o is c
+rolled_arrives width m H o _ legal is may = absurd may
 
 -- every change of a COMPLETED occurrence is made
-pub completed_made : (m : ℕ) (H : List Event) → IsLegal m H → (o : ℕ) → state H o ≡ Completed → EachNetIs H o 1
-completed_made m H legal o =
-    legal_induction m (λ H. Ends H o Completed 1) (λ e. cc)
-    (λ H time k legal allowed h. ends_step m H time k o 1 Completed legal allowed (λ e. cc) (not_at_work Completed (λ e. cc) (λ e. cc))
+pub completed_made : (width m : ℕ) (H : List Event) → IsLegalWithin width m H → (o : ℕ) → state H o ≡ Completed → EachNetIs H o 1
+completed_made width m H legal o =
+    legal_induction width m (λ H. Ends H o Completed 1) (λ e. cc)
+    (λ H time k legal allowed h. ends_step width m H time k o 1 Completed legal allowed (λ e. cc) (not_at_work Completed (λ e. cc) (λ e. cc))
     (λ from is may. completed_arrives H o from may) h) H legal
 
 -- no change of a ROLLED_BACK occurrence is made
-pub rolled_back_undone : (m : ℕ) (H : List Event) → IsLegal m H → (o : ℕ) → state H o ≡ RolledBack → EachNetIs H o 0
-rolled_back_undone m H legal o =
-    legal_induction m (λ H. Ends H o RolledBack 0) (λ e. cc)
-    (λ H time k legal allowed h. ends_step m H time k o 0 RolledBack legal allowed (λ e. cc) (not_at_work RolledBack (λ e. cc) (λ e. cc))
-    (λ from is may. rolled_arrives m H o from legal is may) h) H legal
+pub rolled_back_undone : (width m : ℕ) (H : List Event) → IsLegalWithin width m H → (o : ℕ) → state H o ≡ RolledBack → EachNetIs H o 0
+rolled_back_undone width m H legal o =
+    legal_induction width m (λ H. Ends H o RolledBack 0) (λ e. cc)
+    (λ H time k legal allowed h. ends_step width m H time k o 0 RolledBack legal allowed (λ e. cc) (not_at_work RolledBack (λ e. cc) (λ e. cc))
+    (λ from is may. rolled_arrives width m H o from legal is may) h) H legal

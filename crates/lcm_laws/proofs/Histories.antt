@@ -2,24 +2,24 @@
 use Rattle.std.proofs.Common.{ℕ, List, [], ◌∷◌, ◌++◌}
 use Rattle.lcm_events.specs.declared.events.Event.{Event}
 use Rattle.lcm_events.specs.declared.events.EventKind.{EventKind}
-use Rattle.lcm_model.specs.Allowed.{IsAllowed, IsLegal}
+use Rattle.lcm_model.specs.Allowed.{IsAllowedWithin, IsLegalWithin}
 
 -- the beginning of a legal history is legal
-pub legal_before : (m : ℕ) (H later : List Event) → IsLegal m (later ++ H) → IsLegal m H
-legal_before m H [] h = h
-legal_before m H (e ∷ later) h = legal_before m H later h.1
+pub legal_before : (width m : ℕ) (H later : List Event) → IsLegalWithin width m (later ++ H) → IsLegalWithin width m H
+legal_before width m H [] h = h
+legal_before width m H (e ∷ later) h = legal_before width m H later h.1
 
 -- each event was allowed after those before it
-pub allowed_at : (m : ℕ) (H : List Event) (e : Event) (later : List Event) → IsLegal m (later ++ e ∷ H) → IsAllowed m H e.kind
-allowed_at m H e later h = (legal_before m (e ∷ H) later h).0
+pub allowed_at : (width m : ℕ) (H : List Event) (e : Event) (later : List Event) → IsLegalWithin width m (later ++ e ∷ H) → IsAllowedWithin width m H e.kind
+allowed_at width m H e later h = (legal_before width m (e ∷ H) later h).0
 
 -- an event by its parts
 abbrev pub event : ℕ → EventKind → Event
 event t k = record { moment = t; kind = k }
 
 -- what holds of the empty history and is kept by each allowed event holds of every legal history
-pub legal_induction : (m : ℕ) (P : List Event → Type 0) → P []
-    → ((H : List Event) (t : ℕ) (k : EventKind) → IsLegal m H → IsAllowed m H k → P H → P (event t k ∷ H))
-    → (H : List Event) → IsLegal m H → P H
-legal_induction m P none step [] h = none
-legal_induction m P none step (e ∷ H) h = step H e.moment e.kind h.1 h.0 (legal_induction m P none step H h.1)
+pub legal_induction : (width m : ℕ) (P : List Event → Type 0) → P []
+    → ((H : List Event) (t : ℕ) (k : EventKind) → IsLegalWithin width m H → IsAllowedWithin width m H k → P H → P (event t k ∷ H))
+    → (H : List Event) → IsLegalWithin width m H → P H
+legal_induction width m P none step [] h = none
+legal_induction width m P none step (e ∷ H) h = step H e.moment e.kind h.1 h.0 (legal_induction width m P none step H h.1)

@@ -17,3 +17,16 @@ pub mod AskLaws
 pub mod HoldLaws
 pub mod BoundLaws
 pub mod SerialLaws
+pub mod OpenLaws
+pub mod AboutLaws
+pub mod GrantLaws
+pub mod MakerLaws
+pub mod HoldingLaws
+pub mod PlannedLaws
+pub mod LevelTargets
+pub mod CoverLaws
+pub mod OrderLaws
+pub mod NeedLaws
+pub mod RootLaws
+pub mod WorldLaws
+pub mod RecordLaws

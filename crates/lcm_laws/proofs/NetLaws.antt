@@ -15,7 +15,7 @@ use Rattle.lcm_events.specs.declared.events.EventKind.TheVariants.{Intent, Settl
 use Rattle.lcm_model.specs.Attempts.{done, done_count, intents, is_of, is_open, is_settled, is_unsettled, net, open_attempts, open_tags}
 use Rattle.lcm_model.specs.Operations.{change_of}
 use Rattle.lcm_model.specs.Work.{IsTurnOf, net_before}
-use Rattle.lcm_model.specs.Allowed.{IsAllowed, IsLegal}
+use Rattle.lcm_model.specs.Allowed.{IsAllowedWithin, IsLegalWithin}
 use Rattle.lcm_laws.specs.Nets.{IsMadeAtMostOnce}
 use Rattle.lcm_laws.proofs.Histories.{event, legal_induction}
 use Rattle.lcm_laws.proofs.Lists.{by_test, any_filter, filter_both, filter_same, filter_swap, and_left, and_right, and_true, not-false}
@@ -162,10 +162,10 @@ pub filter_cond_other : {A : Type 0} → (p : A → Bool) (x : A) (b : Bool) (xs
 filter_cond_other p x true xs e = rw e refl
 filter_cond_other p x false xs e = refl
 
-fits_intent : (m : ℕ) (H : List Event) (time : ℕ) (t : Tag) (o c : ℕ) → IsAllowed m H (Intent t) → FitsAfter H o c
+fits_intent : (width m : ℕ) (H : List Event) (time : ℕ) (t : Tag) (o c : ℕ) → IsAllowedWithin width m H (Intent t) → FitsAfter H o c
     → FitsAfter (event time (Intent t) ∷ H) o c
 unfolding is_unsettled
-fits_intent m H time t o c allowed h = by_test (is_of o c t)
+fits_intent width m H time t o c allowed h = by_test (is_of o c t)
     (λ holds.
     let none : open_attempts H o c ≡ [] = at_own (λ o c. open_attempts H o c ≡ []) o c t holds allowed.none_open in
     let before : net H o c ≡ net_before t.way = at_own (λ o c. net H o c ≡ net_before t.way) o c t holds (turn_net H t (change_of H t) allowed.turn) in
@@ -178,16 +178,16 @@ fits_intent m H time t o c allowed h = by_test (is_of o c t)
     subst (λ (ts : List Tag). Fits ts (done_count Forward H o c) (done_count Undo H o c))
     (sym (filter_cond_other (is_of o c) t (is_unsettled H t) (open_tags H) fails)) h)
 
-fits_step : (m : ℕ) (H : List Event) (time : ℕ) (k : EventKind) (o c : ℕ) → IsAllowed m H k → FitsAfter H o c → FitsAfter (event time k ∷ H) o c
+fits_step : (width m : ℕ) (H : List Event) (time : ℕ) (k : EventKind) (o c : ℕ) → IsAllowedWithin width m H k → FitsAfter H o c → FitsAfter (event time k ∷ H) o c
 unfolding is_unsettled
-fits_step m H time (Intent t) o c allowed h = fits_intent m H time t o c allowed h
-fits_step m H time (Settled t out) o c allowed h = fits_settled H time t out o c allowed h
-fits_step m H time _ o c allowed h = h
+fits_step width m H time (Intent t) o c allowed h = fits_intent width m H time t o c allowed h
+fits_step width m H time (Settled t out) o c allowed h = fits_settled H time t out o c allowed h
+fits_step width m H time _ o c allowed h = h
 
 -- the open attempts of each change fit its counts
-pub fits : (m : ℕ) (H : List Event) → IsLegal m H → (o c : ℕ) → FitsAfter H o c
-fits m H legal o c =
-    legal_induction m (λ H. FitsAfter H o c) (omega arith, omega arith) (λ H t k legal allowed h. fits_step m H t k o c allowed h) H legal
+pub fits : (width m : ℕ) (H : List Event) → IsLegalWithin width m H → (o c : ℕ) → FitsAfter H o c
+fits width m H legal o c =
+    legal_induction width m (λ H. FitsAfter H o c) (omega arith, omega arith) (λ H t k legal allowed h. fits_step width m H t k o c allowed h) H legal
 
 fits_one : (w : Way) (made undone : ℕ) → made ≡ undone + net_before w → (undone ≤ made) × (made ≤ undone + 1)
 fits_one w made undone h = fits_still w made undone h
@@ -198,10 +198,10 @@ fits_bounds (t ∷ []) made undone h = fits_one t.way made undone h
 fits_bounds (t ∷ u ∷ ts) made undone h = absurd h
 
 -- each net is 0 or 1
-pub made_at_most_once : (m : ℕ) (H : List Event) → IsLegal m H → (o c : ℕ) → IsMadeAtMostOnce H o c
-made_at_most_once m H legal o c =
+pub made_at_most_once : (width m : ℕ) (H : List Event) → IsLegalWithin width m H → (o c : ℕ) → IsMadeAtMostOnce H o c
+made_at_most_once width m H legal o c =
     let bounds : (done_count Undo H o c ≤ done_count Forward H o c) × (done_count Forward H o c ≤ done_count Undo H o c + 1) =
-    fits_bounds (open_attempts H o c) (done_count Forward H o c) (done_count Undo H o c) (fits m H legal o c) in
+    fits_bounds (open_attempts H o c) (done_count Forward H o c) (done_count Undo H o c) (fits width m H legal o c) in
     record { net = less (done_count Forward H o c) (done_count Undo H o c) bounds.1; undone = bounds.0 } where
       less : (a b : ℕ) → a ≤ b + 1 → a - b ≤ 1
       less a b h = omega (arith, h)
@@ -212,14 +212,14 @@ fits_few (t ∷ []) made undone h = omega arith
 fits_few (t ∷ u ∷ ts) made undone h = absurd h
 
 -- a change has at most one open attempt
-pub one_open : (m : ℕ) (H : List Event) → IsLegal m H → (o c : ℕ) → length (open_attempts H o c) ≤ 1
-one_open m H legal o c = fits_few (open_attempts H o c) (done_count Forward H o c) (done_count Undo H o c) (fits m H legal o c)
+pub one_open : (width m : ℕ) (H : List Event) → IsLegalWithin width m H → (o c : ℕ) → length (open_attempts H o c) ≤ 1
+one_open width m H legal o c = fits_few (open_attempts H o c) (done_count Forward H o c) (done_count Undo H o c) (fits width m H legal o c)
 
 difference : (a b n : ℕ) → a ≡ b + n → a - b ≡ n
 difference a b n h = omega (arith, h)
 
 -- an open attempt fits the net of its change
-pub open_fits : (m : ℕ) (H : List Event) → IsLegal m H → (t : Tag) → is_open H t ≡ true → net H t.occ t.change ≡ net_before t.way
-open_fits m H legal t opened =
+pub open_fits : (width m : ℕ) (H : List Event) → IsLegalWithin width m H → (t : Tag) → is_open H t ≡ true → net H t.occ t.change ≡ net_before t.way
+open_fits width m H legal t opened =
     difference (done_count Forward H t.occ t.change) (done_count Undo H t.occ t.change) (net_before t.way)
-    (sole (open_attempts H t.occ t.change) t _ _ (fits m H legal t.occ t.change) (open_own H t opened)).1
+    (sole (open_attempts H t.occ t.change) t _ _ (fits width m H legal t.occ t.change) (open_own H t opened)).1

@@ -2,7 +2,7 @@
 use Rattle.std.proofs.Common.{◌≡◌, ◌≤◌, ◌<◌, ◌+◌, ◌&&◌, ◌||◌, ◌==◌, ◌∙◌, ℕ, List, [], ◌∷◌, Bool, true, false, not, Option, None, Some, is_some, refl, ap, sym, subst, length, arith, zero, suc, inl, inr, ◌⊎◌, ltb, ltb-true, eqb-true, eq-eqb, false-eqb, slice_get, unwrap_or, ◌≢◌}
 use Rattle.std.specs.List.{enumerate_from, list_all, range_with_len}
 use Rattle.std.specs.Option.{option_map_or}
-use Rattle.std.specs.Prelude.{option_map}
+use Rattle.std.specs.Prelude.{option_and_then, option_map}
 use Rattle.lcm_events.specs.Same.{same_tag}
 use Rattle.lcm_events.proofs.SameLaws.{same_tag-refl}
 use Rattle.lcm_events.specs.declared.attempts.Tag.{Tag}
@@ -26,8 +26,8 @@ use Rattle.lcm_model.specs.Grants.{has_ended, is_granted, location}
 use Rattle.lcm_model.specs.Since.{has_trouble, is_cancelled, is_forced}
 use Rattle.lcm_model.specs.Planned.{is_before}
 use Rattle.lcm_model.specs.Refusals.{case_in, situation}
-use Rattle.lcm_model.specs.Work.{HasStopped, IsQuiet, IsTurnOf, MayBegin, MayMove, all_have_net, all_through, gives_up, goes_before, has_net, is_through, net_after, net_before, works_in}
-use Rattle.lcm_model.specs.Allowed.{IsAllowed, IsAsking, IsLegal, IsPlanOf}
+use Rattle.lcm_model.specs.Work.{HasStopped, IsQuiet, IsTurnOf, MayBeginWithin, MayMove, all_have_net, all_through, gives_up, goes_before, has_net, is_through, net_after, net_before, works_in}
+use Rattle.lcm_model.specs.Allowed.{IsAllowedWithin, IsAsking, IsLegalWithin, IsPlanOf}
 use Rattle.lcm_model.specs.Lives.{descriptor}
 use Rattle.lcm_model.specs.Next.{Answer, BeginFailed, BeginRefused, BeginTaken, GrantCame, GrantDenied, GrantLater, GrantMissesSome, GrantTrouble, LookedAborted, LookedAbsent, LookedBroken, LookedDone, appended, begin_of, beginning, first_open, granting, is_at_net, look_at, looking, new_tag, next_action, next_at_work, next_in, next_while_asking, polling, with_net}
 use Rattle.lcm_laws.specs.Acting.{IsAnswer, with_events}
@@ -81,65 +81,66 @@ is_asking H o asked starting stays ungranted = record {
       (or_left_false (is_forced H o || (has_ended H o && not (is_granted H o))) (is_granted H o && is_cancelled H o) stays);
 }
 
-legal_granting : (m : ℕ) (H : List Event) (o now : ℕ) (answer : Answer) → IsLegal m H → IsAsking H o → location H o ≡ None → IsAnswer H o answer
-    → IsLegal m (with_events now (granting o answer) H)
-legal_granting m H o now (GrantCame grant places spots) legal asking none answer =
+legal_granting : (width m : ℕ) (H : List Event) (o now : ℕ) (answer : Answer) → IsLegalWithin width m H → IsAsking H o → location H o ≡ None → IsAnswer H o answer
+    → IsLegalWithin width m (with_events now (granting o answer) H)
+legal_granting width m H o now (GrantCame grant places spots) legal asking none answer =
     (record { asking = asking; named = answer.0; placed = answer.1 }, legal)
-legal_granting m H o now GrantMissesSome legal asking none answer = ((asking, tt), legal)
-legal_granting m H o now GrantDenied legal asking none answer = (asking, legal)
-legal_granting m H o now GrantTrouble legal asking none answer = ((asking, tt), legal)
-legal_granting m H o now (GrantLater (Some at)) legal asking none answer = ((asking, none), legal)
-legal_granting m H o now _ legal asking none answer = legal
+legal_granting width m H o now GrantMissesSome legal asking none answer = ((asking, tt), legal)
+legal_granting width m H o now GrantDenied legal asking none answer = (asking, legal)
+legal_granting width m H o now GrantTrouble legal asking none answer = ((asking, tt), legal)
+legal_granting width m H o now (GrantLater (Some at)) legal asking none answer = ((asking, none), legal)
+legal_granting width m H o now (GrantLater None) legal asking none answer = ((asking, tt), legal)
+legal_granting width m H o now _ legal asking none answer = legal
 
-legal_polling : (m : ℕ) (H : List Event) (o now : ℕ) (answer : Answer) → IsLegal m H → IsAsking H o → IsAnswer H o answer
-    → IsLegal m (with_events now (polling o answer) H)
-legal_polling m H o now (GrantCame grant places spots) legal asking answer =
+legal_polling : (width m : ℕ) (H : List Event) (o now : ℕ) (answer : Answer) → IsLegalWithin width m H → IsAsking H o → IsAnswer H o answer
+    → IsLegalWithin width m (with_events now (polling o answer) H)
+legal_polling width m H o now (GrantCame grant places spots) legal asking answer =
     (record { asking = asking; named = answer.0; placed = answer.1 }, legal)
-legal_polling m H o now GrantMissesSome legal asking answer = ((asking, tt), legal)
-legal_polling m H o now GrantDenied legal asking answer = (asking, legal)
-legal_polling m H o now GrantTrouble legal asking answer = ((asking, tt), legal)
-legal_polling m H o now _ legal asking answer = legal
+legal_polling width m H o now GrantMissesSome legal asking answer = ((asking, tt), legal)
+legal_polling width m H o now GrantDenied legal asking answer = (asking, legal)
+legal_polling width m H o now GrantTrouble legal asking answer = ((asking, tt), legal)
+legal_polling width m H o now _ legal asking answer = legal
 
 -- what the law says of an action
-abbrev IsFine : ℕ → List Event → ℕ → ℕ → Answer → Action → Type 0
-IsFine m H o now answer action = IsLegal m (with_events now (appended o action answer) H)
+abbrev IsFine : ℕ → ℕ → List Event → ℕ → ℕ → Answer → Action → Type 0
+IsFine width m H o now answer action = IsLegalWithin width m (with_events now (appended o action answer) H)
 
 may_move_in : (H : List Event) (o : ℕ) (from to : OpState) → state H o ≡ from → MayMove H o from to → MayMove H o (state H o) to
 may_move_in H o from to is may = subst (λ (s : OpState). MayMove H o s to) (sym is) may
 
-fine_move : (m : ℕ) (H : List Event) (o now : ℕ) (answer : Answer) (from to : OpState) → IsLegal m H → is_some (operation H o) ≡ true
-    → state H o ≡ from → MayMove H o from to → IsFine m H o now answer (MoveTo to)
-fine_move m H o now answer from to legal asked is may = ((asked, may_move_in H o from to is may), legal)
+fine_move : (width m : ℕ) (H : List Event) (o now : ℕ) (answer : Answer) (from to : OpState) → IsLegalWithin width m H → is_some (operation H o) ≡ true
+    → state H o ≡ from → MayMove H o from to → IsFine width m H o now answer (MoveTo to)
+fine_move width m H o now answer from to legal asked is may = ((asked, may_move_in H o from to is may), legal)
 
 none_known : {A : Type 0} → (o : Option A) → is_some o ≡ false → o ≡ None
 none_known None e = refl
 none_known (Some x) e = cc
 
-fine_starting : (m : ℕ) (H : List Event) (o now : ℕ) (answer : Answer) (action : Action) → IsLegal m H → is_some (operation H o) ≡ true
-    → state H o ≡ Starting → IsAnswer H o answer → next_while_asking H o ≡ Some action → IsFine m H o now answer action
-fine_starting m H o now answer action legal asked is good e = give_up (pick_when (gives_up H o) (MoveTo RolledBack) action _ e) where
+fine_starting : (width m : ℕ) (H : List Event) (o now : ℕ) (answer : Answer) (action : Action) → IsLegalWithin width m H → is_some (operation H o) ≡ true
+    → state H o ≡ Starting → IsAnswer H o answer → next_while_asking H o ≡ Some action → IsFine width m H o now answer action
+fine_starting width m H o now answer action legal asked is good e = give_up (pick_when (gives_up H o) (MoveTo RolledBack) action _ e) where
   ask : gives_up H o ≡ false → is_granted H o ≡ false → ((is_some (location H o) ≡ true) × (Poll ≡ action))
-      ⊎ ((is_some (location H o) ≡ false) × (first_some (Some AskForGrant ∷ []) ≡ Some action)) → IsFine m H o now answer action
+      ⊎ ((is_some (location H o) ≡ false) × (first_some (Some AskForGrant ∷ []) ≡ Some action)) → IsFine width m H o now answer action
   ask stays ungranted (inl h) =
-      subst (λ (a : Action). IsFine m H o now answer a) h.1 (legal_polling m H o now answer legal (is_asking H o asked is stays ungranted) good)
+      subst (λ (a : Action). IsFine width m H o now answer a) h.1 (legal_polling width m H o now answer legal (is_asking H o asked is stays ungranted) good)
   ask stays ungranted (inr h) =
       let same : AskForGrant ≡ action = cc in
-      subst (λ (a : Action). IsFine m H o now answer a) same
-      (legal_granting m H o now answer legal (is_asking H o asked is stays ungranted) (none_known (location H o) h.0) good)
+      subst (λ (a : Action). IsFine width m H o now answer a) same
+      (legal_granting width m H o now answer legal (is_asking H o asked is stays ungranted) (none_known (location H o) h.0) good)
 
   grant : gives_up H o ≡ false → ((is_granted H o ≡ true) × (MoveTo Processing ≡ action))
-      ⊎ ((is_granted H o ≡ false) × (first_some (when (is_some (location H o)) Poll ∷ Some AskForGrant ∷ []) ≡ Some action)) → IsFine m H o now answer action
+      ⊎ ((is_granted H o ≡ false) × (first_some (when (is_some (location H o)) Poll ∷ Some AskForGrant ∷ []) ≡ Some action)) → IsFine width m H o now answer action
   grant stays (inl h) =
       let uncancelled : is_cancelled H o ≡ false =
       not_both_second (is_granted H o) (is_cancelled H o)
       (or_right_false (is_forced H o || (has_ended H o && not (is_granted H o))) (is_granted H o && is_cancelled H o) stays) h.0 in
-      subst (λ (a : Action). IsFine m H o now answer a) h.1 (fine_move m H o now answer Starting Processing legal asked is (h.0, uncancelled))
+      subst (λ (a : Action). IsFine width m H o now answer a) h.1 (fine_move width m H o now answer Starting Processing legal asked is (h.0, uncancelled))
   grant stays (inr h) = ask stays h.0 (pick_when (is_some (location H o)) Poll action _ h.1)
 
   give_up : ((gives_up H o ≡ true) × (MoveTo RolledBack ≡ action))
       ⊎ ((gives_up H o ≡ false) × (first_some (when (is_granted H o) (MoveTo Processing) ∷ when (is_some (location H o)) Poll ∷ Some AskForGrant ∷ []) ≡ Some action))
-      → IsFine m H o now answer action
-  give_up (inl h) = subst (λ (a : Action). IsFine m H o now answer a) h.1 (fine_move m H o now answer Starting RolledBack legal asked is h.0)
+      → IsFine width m H o now answer action
+  give_up (inl h) = subst (λ (a : Action). IsFine width m H o now answer a) h.1 (fine_move width m H o now answer Starting RolledBack legal asked is h.0)
   give_up (inr h) = grant h.0 (pick_when (is_granted H o) (MoveTo Processing) action _ h.1)
 
 -- look
@@ -158,17 +159,17 @@ first_in : {A : Type 0} → (x : A) (xs : List A) → first xs ≡ Some x → Is
 first_in x [] e = cc
 first_in x (y ∷ xs) e = inl cc
 
-legal_looking : (m : ℕ) (H : List Event) (now : ℕ) (t : Tag) (answer : Answer) → IsLegal m H → is_open H t ≡ true → IsLegal m (with_events now (looking t answer) H)
-legal_looking m H now t (LookedDone name) legal h = (h, legal)
-legal_looking m H now t (LookedBroken code) legal h = (h, legal)
-legal_looking m H now t LookedAborted legal h = (h, legal)
-legal_looking m H now t LookedAbsent legal h = (h, legal)
-legal_looking m H now t _ legal h = legal
+legal_looking : (width m : ℕ) (H : List Event) (now : ℕ) (t : Tag) (answer : Answer) → IsLegalWithin width m H → is_open H t ≡ true → IsLegalWithin width m (with_events now (looking t answer) H)
+legal_looking width m H now t (LookedDone name) legal h = (h, legal)
+legal_looking width m H now t (LookedBroken code) legal h = (h, legal)
+legal_looking width m H now t LookedAborted legal h = (h, legal)
+legal_looking width m H now t LookedAbsent legal h = (h, legal)
+legal_looking width m H now t _ legal h = legal
 
-fine_look : (m : ℕ) (H : List Event) (o now : ℕ) (t : Tag) (answer : Answer) (force : Bool) → IsLegal m H → is_open H t ≡ true
-    → IsFine m H o now answer (look_at force t)
-fine_look m H o now t answer true legal h = legal_looking m H now t answer legal h
-fine_look m H o now t answer false legal h = legal_looking m H now t answer legal h
+fine_look : (width m : ℕ) (H : List Event) (o now : ℕ) (t : Tag) (answer : Answer) (force : Bool) → IsLegalWithin width m H → is_open H t ≡ true
+    → IsFine width m H o now answer (look_at force t)
+fine_look width m H o now t answer true legal h = legal_looking width m H now t answer legal h
+fine_look width m H o now t answer false legal h = legal_looking width m H now t answer legal h
 
 first_open-open : (H : List Event) (o : ℕ) (t : Tag) → first_open H o ≡ Some t → is_open H t ≡ true
 first_open-open H o t e =
@@ -178,29 +179,29 @@ first_open-open H o t e =
 abbrev Sorted : List Event → Type 0
 Sorted H = (a : Operation) → IsIn a (operations H) → Rises Before a.changes
 
-asked_sorted : (m : ℕ) (H : List Event) (a : Operation) → IsLegal m H → (d : Option Vnfd) → descriptor H a.instance ≡ d → IsPlanOf H a d → Rises Before a.changes
-asked_sorted m H a legal None is h = absurd h
-asked_sorted m H a legal (Some d) is h =
+asked_sorted : (width m : ℕ) (H : List Event) (a : Operation) → IsLegalWithin width m H → (d : Option Vnfd) → descriptor H a.instance ≡ d → IsPlanOf H a d → Rises Before a.changes
+asked_sorted width m H a legal None is h = absurd h
+asked_sorted width m H a legal (Some d) is h =
     subst (λ (xs : List Change). Rises Before xs) (sym h.1)
-    (plan_rises (case_in d (situation d H a.instance) a.ask) (descriptor_valid m H a.instance d legal is))
+    (plan_rises (case_in d (situation d H a.instance) a.ask) (descriptor_valid width m H a.instance d legal is))
 
-sorted_step : (m : ℕ) (H : List Event) (time : ℕ) (k : EventKind) → IsLegal m H → IsAllowed m H k → Sorted H → Sorted (event time k ∷ H)
-sorted_step m H time (Asked b) legal allowed h a (inl e) =
-    subst (λ (z : Operation). Rises Before z.changes) e (asked_sorted m H b legal (descriptor H b.instance) refl allowed.planned)
-sorted_step m H time (Asked b) legal allowed h a (inr g) = h a g
-sorted_step m H time _ legal allowed h a g = h a g
+sorted_step : (width m : ℕ) (H : List Event) (time : ℕ) (k : EventKind) → IsLegalWithin width m H → IsAllowedWithin width m H k → Sorted H → Sorted (event time k ∷ H)
+sorted_step width m H time (Asked b) legal allowed h a (inl e) =
+    subst (λ (z : Operation). Rises Before z.changes) e (asked_sorted width m H b legal (descriptor H b.instance) refl allowed.planned)
+sorted_step width m H time (Asked b) legal allowed h a (inr g) = h a g
+sorted_step width m H time _ legal allowed h a g = h a g
 
-sorted : (m : ℕ) (H : List Event) → IsLegal m H → Sorted H
-sorted m H legal = legal_induction m Sorted (λ a h. absurd h) (λ H time k legal allowed h. sorted_step m H time k legal allowed h) H legal
+sorted : (width m : ℕ) (H : List Event) → IsLegalWithin width m H → Sorted H
+sorted width m H legal = legal_induction width m Sorted (λ a h. absurd h) (λ H time k legal allowed h. sorted_step width m H time k legal allowed h) H legal
 
-changes_rise : (m : ℕ) (H : List Event) (o : ℕ) → IsLegal m H → Rises Before (changes H o)
-changes_rise m H o legal = rise (operation H o) refl where
+changes_rise : (width m : ℕ) (H : List Event) (o : ℕ) → IsLegalWithin width m H → Rises Before (changes H o)
+changes_rise width m H o legal = rise (operation H o) refl where
   rise : (a : Option Operation) → operation H o ≡ a → Rises Before (option_map_or (λ a. a.changes) a [])
   rise None is = tt
-  rise (Some a) is = sorted m H legal a (found_in (λ b. b.occ == o) (operations H) a is)
+  rise (Some a) is = sorted width m H legal a (found_in (λ b. b.occ == o) (operations H) a is)
 
 -- of two entries the one further on comes later
-rises_get : {A : Type 0} → (R : A → A → Type 0) (xs : List A) (i j : ℕ) (x y : A) → Rises R xs → slice_get xs i ≡ Some x → slice_get xs j ≡ Some y → i < j → R x y
+pub rises_get : {A : Type 0} → (R : A → A → Type 0) (xs : List A) (i j : ℕ) (x y : A) → Rises R xs → slice_get xs i ≡ Some x → slice_get xs j ≡ Some y → i < j → R x y
 rises_get R [] i j x y h ex ey less = cc
 rises_get R (z ∷ xs) i zero x y h ex ey less = absurd (omega (arith, less))
 rises_get {A} R (z ∷ xs) zero (suc j) x y h ex ey less =
@@ -310,24 +311,24 @@ or_true_right : (a b : Bool) → b ≡ true → (a || b) ≡ true
 or_true_right true b e = refl
 or_true_right false b e = e
 
-through : (m : ℕ) (H : List Event) (o : ℕ) (w : Way) (c : ℕ) (x : Change) → IsLegal m H → IsChosen H o w c → slice_get (changes H o) c ≡ Some x
+through : (width m : ℕ) (H : List Event) (o : ℕ) (w : Way) (c : ℕ) (x : Change) → IsLegalWithin width m H → IsChosen H o w c → slice_get (changes H o) c ≡ Some x
     → all_through H o w x.phase ≡ true
 unfolding is_through
-through m H o w c x legal chosen is =
+through width m H o w c x legal chosen is =
     all_placed (is_through H o w x.phase) 0 (changes H o) (λ j y e. by_test (goes_before w x.phase y)
     (λ goes.
     let shift : 0 + j ≡ j = omega arith in
     let after : net H o j ≡ net_after w =
-    other_net w (net H o j) (made_at_most_once m H legal o j).net (λ waits.
-    before_chosen w (changes H o) c j x y (changes_rise m H o legal) is e goes
+    other_net w (net H o j) (made_at_most_once width m H legal o j).net (λ waits.
+    before_chosen w (changes H o) c j x y (changes_rise width m H o legal) is e goes
     (chosen.1 j (in_with_net H o (net_before w) j (get_within y (changes H o) j e) waits))) in
     rw shift (or_true_right (not (goes_before w x.phase y)) (net H o j == net_after w) (eq-eqb (net H o j) (net_after w) after)))
     (λ stays. rw stays refl))
 
-turn_of : (m : ℕ) (H : List Event) (o : ℕ) (w : Way) (c : ℕ) → IsLegal m H → IsChosen H o w c → (x : Option Change) → slice_get (changes H o) c ≡ x
+turn_of : (width m : ℕ) (H : List Event) (o : ℕ) (w : Way) (c : ℕ) → IsLegalWithin width m H → IsChosen H o w c → (x : Option Change) → slice_get (changes H o) c ≡ x
     → IsTurnOf H (new_tag H o w c) x
-turn_of m H o w c legal chosen None is = get_missing (changes H o) c (of_with_net H o (net_before w) c chosen.0).0 is
-turn_of m H o w c legal chosen (Some x) is = ((of_with_net H o (net_before w) c chosen.0).1, through m H o w c x legal chosen is)
+turn_of width m H o w c legal chosen None is = get_missing (changes H o) c (of_with_net H o (net_before w) c chosen.0).0 is
+turn_of width m H o w c legal chosen (Some x) is = ((of_with_net H o (net_before w) c chosen.0).1, through width m H o w c x legal chosen is)
 
 none_of_change : (H : List Event) (o c : ℕ) → open_of H o ≡ [] → open_attempts H o c ≡ []
 none_of_change H o c none = empty (open_attempts H o c) (λ t h.
@@ -338,23 +339,23 @@ none_of_change H o c none = empty (open_attempts H o c) (λ t h.
       empty [] f = refl
       empty (t ∷ ts) f = absurd (f t (inl refl))
 
-may_begin : (m : ℕ) (H : List Event) (o : ℕ) (w : Way) (c : ℕ) → IsLegal m H → state H o ≡ works_in w → open_of H o ≡ []
-    → (has_trouble H o || is_cancelled H o) ≡ false → IsChosen H o w c → MayBegin H (new_tag H o w c)
-may_begin m H o w c legal works none quiet chosen = record {
+may_begin : (width m : ℕ) (H : List Event) (o : ℕ) (w : Way) (c : ℕ) → 1 ≤ width → IsLegalWithin width m H → state H o ≡ works_in w → open_of H o ≡ []
+    → (has_trouble H o || is_cancelled H o) ≡ false → IsChosen H o w c → MayBeginWithin width H (new_tag H o w c)
+may_begin width m H o w c wide legal works none quiet chosen = record {
   works = works;
   no_trouble = or_left_false (has_trouble H o) (is_cancelled H o) quiet;
   no_cancel = or_right_false (has_trouble H o) (is_cancelled H o) quiet;
-  room = (let n : length (open_of H o) ≡ 0 = ap length none in omega (arith, n));
+  room = (let n : length (open_of H o) ≡ 0 = ap length none in omega (arith, n, wide));
   none_open = none_of_change H o c none;
   number = refl;
-  turn = turn_of m H o w c legal chosen (slice_get (changes H o) c) refl;
+  turn = turn_of width m H o w c legal chosen (slice_get (changes H o) c) refl;
 }
 
-legal_beginning : (m : ℕ) (H : List Event) (now : ℕ) (t : Tag) (answer : Answer) → IsLegal m H → MayBegin H t → IsLegal m (with_events now (beginning t answer) H)
-legal_beginning m H now t BeginTaken legal may = (may, legal)
-legal_beginning m H now t (BeginRefused code) legal may = (fresh_open m H now legal t may.number, (may, legal))
-legal_beginning m H now t BeginFailed legal may = ((fresh_open m H now legal t may.number, fresh_unfailed m H legal t may.number), (may, legal))
-legal_beginning m H now t _ legal may = legal
+legal_beginning : (width m : ℕ) (H : List Event) (now : ℕ) (t : Tag) (answer : Answer) → IsLegalWithin width m H → MayBeginWithin width H t → IsLegalWithin width m (with_events now (beginning t answer) H)
+legal_beginning width m H now t BeginTaken legal may = (may, legal)
+legal_beginning width m H now t (BeginRefused code) legal may = (fresh_open width m H now legal t may.number, (may, legal))
+legal_beginning width m H now t BeginFailed legal may = ((fresh_open width m H now legal t may.number, fresh_unfailed width m H legal t may.number), (may, legal))
+legal_beginning width m H now t _ legal may = legal
 
 quiet_now : (H : List Event) (o : ℕ) → open_of H o ≡ [] → (has_trouble H o || is_cancelled H o) ≡ false → IsQuiet H o
 quiet_now H o none quiet = record {
@@ -363,13 +364,13 @@ quiet_now H o none quiet = record {
   no_cancel = or_right_false (has_trouble H o) (is_cancelled H o) quiet;
 }
 
-all_after : (m : ℕ) (H : List Event) (o : ℕ) (w : Way) → IsLegal m H → with_net H o (net_before w) ≡ [] → all_have_net H o (net_after w) ≡ true
+all_after : (width m : ℕ) (H : List Event) (o : ℕ) (w : Way) → IsLegalWithin width m H → with_net H o (net_before w) ≡ [] → all_have_net H o (net_after w) ≡ true
 unfolding has_net
-all_after m H o w legal none =
+all_after width m H o w legal none =
     all_placed (has_net H o (net_after w)) 0 (changes H o) (λ j y e.
     let shift : 0 + j ≡ j = omega arith in
     let after : net H o j ≡ net_after w =
-    other_net w (net H o j) (made_at_most_once m H legal o j).net (λ waits.
+    other_net w (net H o j) (made_at_most_once width m H legal o j).net (λ waits.
     absurd (subst (λ (ns : List ℕ). IsIn j ns) none (in_with_net H o (net_before w) j (get_within y (changes H o) j e) waits))) in
     rw shift (eq-eqb (net H o j) (net_after w) after))
 
@@ -378,10 +379,10 @@ abbrev end_of : Way → OpState
 end_of Forward = Completed
 end_of Undo = RolledBack
 
-may_end : (m : ℕ) (H : List Event) (o : ℕ) (w : Way) → IsLegal m H → open_of H o ≡ [] → (has_trouble H o || is_cancelled H o) ≡ false
+may_end : (width m : ℕ) (H : List Event) (o : ℕ) (w : Way) → IsLegalWithin width m H → open_of H o ≡ [] → (has_trouble H o || is_cancelled H o) ≡ false
     → with_net H o (net_before w) ≡ [] → MayMove H o (works_in w) (end_of w)
-may_end m H o Forward legal none quiet done = (quiet_now H o none quiet, all_after m H o Forward legal done)
-may_end m H o Undo legal none quiet done = (quiet_now H o none quiet, all_after m H o Undo legal done)
+may_end width m H o Forward legal none quiet done = (quiet_now H o none quiet, all_after width m H o Forward legal done)
+may_end width m H o Undo legal none quiet done = (quiet_now H o none quiet, all_after width m H o Undo legal done)
 
 may_stop : (H : List Event) (o : ℕ) (w : Way) → HasStopped H o → MayMove H o (works_in w) FailedTemp
 may_stop H o Forward h = h
@@ -404,46 +405,52 @@ chosen_none Undo ns e = last-none ns e
 abbrev work_lines : List Event → ℕ → Way → List (Option Action)
 work_lines H o w = option_map (begin_of H o w) (choice w (with_net H o (net_before w))) ∷ Some (MoveTo (end_of w)) ∷ []
 
-fine_work : (m : ℕ) (H : List Event) (o now : ℕ) (answer : Answer) (action : Action) (w : Way) → IsLegal m H → is_some (operation H o) ≡ true
-    → state H o ≡ works_in w → next_at_work H o (work_lines H o w) ≡ Some action → IsFine m H o now answer action
-fine_work m H o now answer action w legal asked is e = look (pick_map (look_at (is_forced H o)) (first_open H o) action _ e) where
+fine_work : (width m : ℕ) (H : List Event) (o now : ℕ) (answer : Answer) (action : Action) (w : Way) → 1 ≤ width → IsLegalWithin width m H → is_some (operation H o) ≡ true
+    → state H o ≡ works_in w → next_at_work H o (work_lines H o w) ≡ Some action → IsFine width m H o now answer action
+fine_work width m H o now answer action w wide legal asked is e = look (pick_map (look_at (is_forced H o)) (first_open H o) action _ e) where
   begin : open_of H o ≡ [] → (has_trouble H o || is_cancelled H o) ≡ false
       → ((c : ℕ) × (choice w (with_net H o (net_before w)) ≡ Some c) × (begin_of H o w c ≡ action))
-      ⊎ ((choice w (with_net H o (net_before w)) ≡ None) × (first_some (Some (MoveTo (end_of w)) ∷ []) ≡ Some action)) → IsFine m H o now answer action
+      ⊎ ((choice w (with_net H o (net_before w)) ≡ None) × (first_some (Some (MoveTo (end_of w)) ∷ []) ≡ Some action)) → IsFine width m H o now answer action
   begin none quiet (inl h) =
-      subst (λ (a : Action). IsFine m H o now answer a) h.2
-      (legal_beginning m H now (new_tag H o w h.0) answer legal (may_begin m H o w h.0 legal is none quiet (chosen_is H o w h.0 h.1)))
+      subst (λ (a : Action). IsFine width m H o now answer a) h.2
+      (legal_beginning width m H now (new_tag H o w h.0) answer legal (may_begin width m H o w h.0 wide legal is none quiet (chosen_is H o w h.0 h.1)))
   begin none quiet (inr h) =
       let same : MoveTo (end_of w) ≡ action = cc in
-      subst (λ (a : Action). IsFine m H o now answer a) same
-      (fine_move m H o now answer (works_in w) (end_of w) legal asked is (may_end m H o w legal none quiet (chosen_none w (with_net H o (net_before w)) h.0)))
+      subst (λ (a : Action). IsFine width m H o now answer a) same
+      (fine_move width m H o now answer (works_in w) (end_of w) legal asked is (may_end width m H o w legal none quiet (chosen_none w (with_net H o (net_before w)) h.0)))
 
   stop : open_of H o ≡ [] → (((has_trouble H o || is_cancelled H o) ≡ true) × (MoveTo FailedTemp ≡ action))
-      ⊎ (((has_trouble H o || is_cancelled H o) ≡ false) × (first_some (work_lines H o w) ≡ Some action)) → IsFine m H o now answer action
+      ⊎ (((has_trouble H o || is_cancelled H o) ≡ false) × (first_some (work_lines H o w) ≡ Some action)) → IsFine width m H o now answer action
   stop none (inl h) =
-      subst (λ (a : Action). IsFine m H o now answer a) h.1
-      (fine_move m H o now answer (works_in w) FailedTemp legal asked is (may_stop H o w (record { none_open = none; cause = h.0 })))
+      subst (λ (a : Action). IsFine width m H o now answer a) h.1
+      (fine_move width m H o now answer (works_in w) FailedTemp legal asked is (may_stop H o w (record { none_open = none; cause = h.0 })))
   stop none (inr h) = begin none h.0 (pick_map (begin_of H o w) (choice w (with_net H o (net_before w))) action _ h.1)
 
   look : ((t : Tag) × (first_open H o ≡ Some t) × (look_at (is_forced H o) t ≡ action))
       ⊎ ((first_open H o ≡ None) × (first_some (when (has_trouble H o || is_cancelled H o) (MoveTo FailedTemp) ∷ work_lines H o w) ≡ Some action))
-      → IsFine m H o now answer action
+      → IsFine width m H o now answer action
   look (inl h) =
-      subst (λ (a : Action). IsFine m H o now answer a) h.2 (fine_look m H o now h.0 answer (is_forced H o) legal (first_open-open H o h.0 h.1))
+      subst (λ (a : Action). IsFine width m H o now answer a) h.2 (fine_look width m H o now h.0 answer (is_forced H o) legal (first_open-open H o h.0 h.1))
   look (inr h) =
       stop (last-none (open_of H o) h.0) (pick_when (has_trouble H o || is_cancelled H o) (MoveTo FailedTemp) action _ h.1)
 
-fine_in : (m : ℕ) (H : List Event) (o now : ℕ) (answer : Answer) (action : Action) (s : OpState) → IsLegal m H → is_some (operation H o) ≡ true
-    → IsAnswer H o answer → state H o ≡ s → next_in s H o ≡ Some action → IsFine m H o now answer action
-fine_in m H o now answer action Starting legal asked good is e = fine_starting m H o now answer action legal asked is good e
-fine_in m H o now answer action Processing legal asked good is e = fine_work m H o now answer action Forward legal asked is e
-fine_in m H o now answer action RollingBack legal asked good is e = fine_work m H o now answer action Undo legal asked is e
-fine_in m H o now answer action _ legal asked good is e = cc
+fine_in : (width m : ℕ) (H : List Event) (o now : ℕ) (answer : Answer) (action : Action) (s : OpState) → 1 ≤ width → IsLegalWithin width m H → is_some (operation H o) ≡ true
+    → IsAnswer H o answer → state H o ≡ s → next_in s H o ≡ Some action → IsFine width m H o now answer action
+fine_in width m H o now answer action Starting wide legal asked good is e = fine_starting width m H o now answer action legal asked is good e
+fine_in width m H o now answer action Processing wide legal asked good is e = fine_work width m H o now answer action Forward wide legal asked is e
+fine_in width m H o now answer action RollingBack wide legal asked good is e = fine_work width m H o now answer action Undo wide legal asked is e
+fine_in width m H o now answer action _ wide legal asked good is e = cc
+
+-- an action of an occurrence is one of its state
+acted : (s : Option Action) (x : Option Operation) (action : Action) → option_and_then (λ a. s) x ≡ Some action → s ≡ Some action
+acted s None action e = cc
+acted s (Some a) action e = e
 
 -- the events of the next action are allowed
-pub next_legal : (m : ℕ) (H : List Event) → IsLegal m H → (o now : ℕ) (action : Action) (answer : Answer) → is_some (operation H o) ≡ true
-    → next_action H o ≡ Some action → IsAnswer H o answer → IsLegal m (with_events now (appended o action answer) H)
-next_legal m H legal o now action answer asked e good = fine_in m H o now answer action (state H o) legal asked good refl e
+pub next_legal : (width m : ℕ) (H : List Event) → 1 ≤ width → IsLegalWithin width m H → (o now : ℕ) (action : Action) (answer : Answer) → is_some (operation H o) ≡ true
+    → next_action H o ≡ Some action → IsAnswer H o answer → IsLegalWithin width m (with_events now (appended o action answer) H)
+next_legal width m H wide legal o now action answer asked e good =
+    fine_in width m H o now answer action (state H o) wide legal asked good refl (acted (next_in (state H o) H o) (operation H o) action e)
 
 some_line : {A : Type 0} → (o : Option A) (lines : List (Option A)) → is_some (first_some lines) ≡ true → is_some (first_some (o ∷ lines)) ≡ true
 some_line None lines h = h
@@ -461,6 +468,10 @@ active_acts_in H o RollingBack =
     (some_line (option_map (begin_of H o Undo) (last (with_net H o 1))) _ refl))
 active_acts_in H o _ = refl
 
--- an active occurrence has a next action
-pub active_acts : (H : List Event) (o : ℕ) → is_some (next_action H o) ≡ is_active (state H o)
-active_acts H o = active_acts_in H o (state H o)
+acts_where : (s : Option Action) (x : Option Operation) (b : Bool) → is_some s ≡ b → is_some (option_and_then (λ a. s) x) ≡ (is_some x && b)
+acts_where s None b e = refl
+acts_where s (Some a) b e = e
+
+-- an active occurrence that was asked for has a next action
+pub active_acts : (H : List Event) (o : ℕ) → is_some (next_action H o) ≡ (is_some (operation H o) && is_active (state H o))
+active_acts H o = acts_where (next_in (state H o) H o) (operation H o) (is_active (state H o)) (active_acts_in H o (state H o))

@@ -9,7 +9,7 @@ use Rattle.lcm_events.specs.declared.events.EventKind.TheVariants.{Asked, Create
 use Rattle.lcm_events.specs.declared.events.Operation.{Operation}
 use Rattle.lcm_model.specs.Lives.{creations, subscriptions}
 use Rattle.lcm_model.specs.Operations.{operation, operations, occurrences_made}
-use Rattle.lcm_model.specs.Allowed.{IsAllowed, IsLegal}
+use Rattle.lcm_model.specs.Allowed.{IsAllowedWithin, IsLegalWithin}
 use Rattle.lcm_laws.specs.Numbering.{IsNumbered, RunFromOne}
 use Rattle.lcm_laws.proofs.Histories.{event, legal_induction}
 use Rattle.lcm_laws.proofs.Lists.{by_test}
@@ -36,36 +36,36 @@ counted-range f (x ∷ xs) h =
     ∙ (ap (λ (k : ℕ). range_with_len 1 (length (map f xs)) ++ k ∷ []) here
     ∙ sym (range_end 1 (length (map f xs)))))
 
-counted_step : (m : ℕ) (H : List Event) (t : ℕ) (k : EventKind) → IsAllowed m H k → IsCounted (λ a. a.occ) (operations H)
+counted_step : (width m : ℕ) (H : List Event) (t : ℕ) (k : EventKind) → IsAllowedWithin width m H k → IsCounted (λ a. a.occ) (operations H)
     → IsCounted (λ a. a.occ) (operations (event t k ∷ H))
-counted_step m H t (Asked a) allowed h = (allowed.number, h)
-counted_step m H t _ allowed h = h
+counted_step width m H t (Asked a) allowed h = (allowed.number, h)
+counted_step width m H t _ allowed h = h
 
 -- the operations of a legal history are counted
-pub operations_counted : (m : ℕ) (H : List Event) → IsLegal m H → IsCounted (λ a. a.occ) (operations H)
-operations_counted m H legal = legal_induction m (λ H. IsCounted (λ a. a.occ) (operations H)) tt (λ H t k legal allowed h. counted_step m H t k allowed h) H legal
+pub operations_counted : (width m : ℕ) (H : List Event) → IsLegalWithin width m H → IsCounted (λ a. a.occ) (operations H)
+operations_counted width m H legal = legal_induction width m (λ H. IsCounted (λ a. a.occ) (operations H)) tt (λ H t k legal allowed h. counted_step width m H t k allowed h) H legal
 
-instances_step : (m : ℕ) (H : List Event) (t : ℕ) (k : EventKind) → IsAllowed m H k → IsCounted (λ x. x.instance) (creations H)
+instances_step : (width m : ℕ) (H : List Event) (t : ℕ) (k : EventKind) → IsAllowedWithin width m H k → IsCounted (λ x. x.instance) (creations H)
     → IsCounted (λ x. x.instance) (creations (event t k ∷ H))
-instances_step m H t (Created i vnfd name text) allowed h = (allowed.number, h)
-instances_step m H t _ allowed h = h
+instances_step width m H t (Created i vnfd name text) allowed h = (allowed.number, h)
+instances_step width m H t _ allowed h = h
 
-pub instances_counted : (m : ℕ) (H : List Event) → IsLegal m H → IsCounted (λ x. x.instance) (creations H)
-instances_counted m H legal = legal_induction m (λ H. IsCounted (λ x. x.instance) (creations H)) tt (λ H t k legal allowed h. instances_step m H t k allowed h) H legal
+pub instances_counted : (width m : ℕ) (H : List Event) → IsLegalWithin width m H → IsCounted (λ x. x.instance) (creations H)
+instances_counted width m H legal = legal_induction width m (λ H. IsCounted (λ x. x.instance) (creations H)) tt (λ H t k legal allowed h. instances_step width m H t k allowed h) H legal
 
-subscriptions_step : (m : ℕ) (H : List Event) (t : ℕ) (k : EventKind) → IsAllowed m H k → IsCounted (λ x. x.number) (subscriptions H)
+subscriptions_step : (width m : ℕ) (H : List Event) (t : ℕ) (k : EventKind) → IsAllowedWithin width m H k → IsCounted (λ x. x.number) (subscriptions H)
     → IsCounted (λ x. x.number) (subscriptions (event t k ∷ H))
-subscriptions_step m H t (Subscribed s role callback filter) allowed h = (allowed.number, h)
-subscriptions_step m H t _ allowed h = h
+subscriptions_step width m H t (Subscribed s role callback filter) allowed h = (allowed.number, h)
+subscriptions_step width m H t _ allowed h = h
 
-pub subscriptions_counted : (m : ℕ) (H : List Event) → IsLegal m H → IsCounted (λ x. x.number) (subscriptions H)
-subscriptions_counted m H legal = legal_induction m (λ H. IsCounted (λ x. x.number) (subscriptions H)) tt (λ H t k legal allowed h. subscriptions_step m H t k allowed h) H legal
+pub subscriptions_counted : (width m : ℕ) (H : List Event) → IsLegalWithin width m H → IsCounted (λ x. x.number) (subscriptions H)
+subscriptions_counted width m H legal = legal_induction width m (λ H. IsCounted (λ x. x.number) (subscriptions H)) tt (λ H t k legal allowed h. subscriptions_step width m H t k allowed h) H legal
 
-pub numbered : (m : ℕ) (H : List Event) → IsLegal m H → IsNumbered H
-numbered m H legal = record {
-  instances = counted-range (λ x. x.instance) (creations H) (instances_counted m H legal);
-  occurrences = counted-range (λ a. a.occ) (operations H) (operations_counted m H legal);
-  subscriptions = counted-range (λ x. x.number) (subscriptions H) (subscriptions_counted m H legal);
+pub numbered : (width m : ℕ) (H : List Event) → IsLegalWithin width m H → IsNumbered H
+numbered width m H legal = record {
+  instances = counted-range (λ x. x.instance) (creations H) (instances_counted width m H legal);
+  occurrences = counted-range (λ a. a.occ) (operations H) (operations_counted width m H legal);
+  subscriptions = counted-range (λ x. x.number) (subscriptions H) (subscriptions_counted width m H legal);
 }
 
 -- what is found has a number from 1 to how many there are
@@ -91,10 +91,10 @@ within_found f (x ∷ xs) n h low high = by_test (f x == n)
       below : (a b k : ℕ) → a ≡ k + 1 → (a == b) ≡ false → b ≤ suc k → b ≤ k
       below a b k e ne h = let no : a ≢ b = false-eqb a b (sym ne) in omega (arith, e, no, h)
 
-pub found_exactly : (m : ℕ) (H : List Event) → IsLegal m H → (o : ℕ) → (is_some (operation H o) ≡ true) ↔ (1 ≤ o) × (o ≤ occurrences_made H)
-found_exactly m H legal o = (
-  λ found. found_within (λ a. a.occ) (operations H) o (operations_counted m H legal) found,
-  λ within. within_found (λ a. a.occ) (operations H) o (operations_counted m H legal) within.0 within.1,
+pub found_exactly : (width m : ℕ) (H : List Event) → IsLegalWithin width m H → (o : ℕ) → (is_some (operation H o) ≡ true) ↔ (1 ≤ o) × (o ≤ occurrences_made H)
+found_exactly width m H legal o = (
+  λ found. found_within (λ a. a.occ) (operations H) o (operations_counted width m H legal) found,
+  λ within. within_found (λ a. a.occ) (operations H) o (operations_counted width m H legal) within.0 within.1,
 )
 
 pub find-skips : {A : Type 0} → (f : A → ℕ) (b : A) (xs : List A) (n : ℕ) (a : A) → f b ≡ length xs + 1 → IsCounted f xs
@@ -106,19 +106,19 @@ find-skips f b xs n a number h e = by_test (f b == n)
     absurd (omega (arith, number, is, (found_within f xs n h found).1)))
     (λ other. rw other e)
 
-stays_step : (m : ℕ) (H : List Event) (k : EventKind) (t o : ℕ) (a : Operation) → IsLegal m H → IsAllowed m H k
+stays_step : (width m : ℕ) (H : List Event) (k : EventKind) (t o : ℕ) (a : Operation) → IsLegalWithin width m H → IsAllowedWithin width m H k
     → operation H o ≡ Some a → operation (event t k ∷ H) o ≡ Some a
-stays_step m H (Asked b) t o a legal allowed e = find-skips (λ x. x.occ) b (operations H) o a allowed.number (operations_counted m H legal) e
-stays_step m H _ t o a legal allowed e = e
+stays_step width m H (Asked b) t o a legal allowed e = find-skips (λ x. x.occ) b (operations H) o a allowed.number (operations_counted width m H legal) e
+stays_step width m H _ t o a legal allowed e = e
 
 -- an operation that is found stays found by the next event
-pub operation-next : (m : ℕ) (H : List Event) (t : ℕ) (k : EventKind) (o : ℕ) (a : Operation) → IsLegal m H → IsAllowed m H k
+pub operation-next : (width m : ℕ) (H : List Event) (t : ℕ) (k : EventKind) (o : ℕ) (a : Operation) → IsLegalWithin width m H → IsAllowedWithin width m H k
     → operation H o ≡ Some a → operation (event t k ∷ H) o ≡ Some a
-operation-next m H t k o a legal allowed e = stays_step m H k t o a legal allowed e
+operation-next width m H t k o a legal allowed e = stays_step width m H k t o a legal allowed e
 
 -- an operation that is found stays found
-pub operation-later : (m : ℕ) (H later : List Event) (o : ℕ) (a : Operation) → IsLegal m (later ++ H) → operation H o ≡ Some a
+pub operation-later : (width m : ℕ) (H later : List Event) (o : ℕ) (a : Operation) → IsLegalWithin width m (later ++ H) → operation H o ≡ Some a
     → operation (later ++ H) o ≡ Some a
-operation-later m H [] o a legal e = e
-operation-later m H (x ∷ later) o a legal e =
-    operation-next m (later ++ H) x.moment x.kind o a legal.1 legal.0 (operation-later m H later o a legal.1 e)
+operation-later width m H [] o a legal e = e
+operation-later width m H (x ∷ later) o a legal e =
+    operation-next width m (later ++ H) x.moment x.kind o a legal.1 legal.0 (operation-later width m H later o a legal.1 e)

@@ -12,7 +12,7 @@ use Rattle.lcm_model.specs.Moves.{edge, is_final, state}
 use Rattle.lcm_model.specs.Operations.{goes_on, is_ongoing, ongoing, operations}
 use Rattle.lcm_model.specs.Refusals.{Situation, ask_refusal, content_refusal, instantiation_refusal, situation, state_refusal}
 use Rattle.lcm_model.specs.Work.{MayMove}
-use Rattle.lcm_model.specs.Allowed.{IsAllowed, IsLegal, IsPlanOf}
+use Rattle.lcm_model.specs.Allowed.{IsAllowedWithin, IsLegalWithin, IsPlanOf}
 use Rattle.lcm_laws.proofs.Histories.{event, legal_induction}
 use Rattle.lcm_laws.proofs.Lists.{by_test, filter_shorter, first-none, none_of-front, none_of-rest, not-false, and_left, and_right, and_true, when-none}
 use Rattle.lcm_laws.proofs.PathLaws.{may_move-edge}
@@ -56,35 +56,35 @@ planned_idle H a None h = absurd h
 planned_idle H a (Some d) h = first-none (ongoing H a.instance) (unbusy d (situation d H a.instance) a.ask h.0)
 
 -- an operation may be asked for only where none of the instance goes on
-pub asked_idle : (m : ℕ) (H : List Event) (a : Operation) → IsAllowed m H (Asked a) → ongoing H a.instance ≡ []
-asked_idle m H a allowed = planned_idle H a _ allowed.planned
+pub asked_idle : (width m : ℕ) (H : List Event) (a : Operation) → IsAllowedWithin width m H (Asked a) → ongoing H a.instance ≡ []
+asked_idle width m H a allowed = planned_idle H a _ allowed.planned
 
 one_more : (a : Operation) (b : Bool) (xs : List Operation) → xs ≡ [] → length (cond b (a ∷ xs) xs) ≤ 1
 one_more a true xs e = let n : length xs ≡ 0 = ap length e in omega arith
 one_more a false xs e = let n : length xs ≡ 0 = ap length e in omega arith
 
-ongoing_asked : (m : ℕ) (H : List Event) (t : ℕ) (a : Operation) (i : ℕ) → IsAllowed m H (Asked a)
+ongoing_asked : (width m : ℕ) (H : List Event) (t : ℕ) (a : Operation) (i : ℕ) → IsAllowedWithin width m H (Asked a)
     → length (ongoing H i) ≤ 1 → length (ongoing (event t (Asked a) ∷ H) i) ≤ 1
 unfolding goes_on
-ongoing_asked m H t a i allowed h = by_test (a.instance == i)
+ongoing_asked width m H t a i allowed h = by_test (a.instance == i)
     (λ same.
     let is : a.instance ≡ i = eqb-true a.instance i same in
-    let idle : ongoing H i ≡ [] = subst (λ (n : ℕ). ongoing H n ≡ []) is (asked_idle m H a allowed) in
+    let idle : ongoing H i ≡ [] = subst (λ (n : ℕ). ongoing H n ≡ []) is (asked_idle width m H a allowed) in
     one_more a (is_ongoing H i a) (ongoing H i) idle)
     (λ other. rw other h)
 
-ongoing_step : (m : ℕ) (H : List Event) (t : ℕ) (k : EventKind) (i : ℕ) → IsAllowed m H k
+ongoing_step : (width m : ℕ) (H : List Event) (t : ℕ) (k : EventKind) (i : ℕ) → IsAllowedWithin width m H k
     → length (ongoing H i) ≤ 1 → length (ongoing (event t k ∷ H) i) ≤ 1
 unfolding goes_on
-ongoing_step m H t (Asked a) i allowed h = ongoing_asked m H t a i allowed h
-ongoing_step m H t (Moved occ to) i allowed h =
+ongoing_step width m H t (Asked a) i allowed h = ongoing_asked width m H t a i allowed h
+ongoing_step width m H t (Moved occ to) i allowed h =
     let fewer : length (ongoing (event t (Moved occ to) ∷ H) i) ≤ length (ongoing H i) =
     filter_shorter (is_ongoing (event t (Moved occ to) ∷ H) i) (is_ongoing H i) (operations H)
     (λ a g. and_true (a.instance == i) (goes_on H a) (and_left (a.instance == i) (goes_on (event t (Moved occ to) ∷ H) a) g)
     (goes_on-before H t occ to a allowed.1 (and_right (a.instance == i) (goes_on (event t (Moved occ to) ∷ H) a) g))) in
     omega (arith, fewer, h)
-ongoing_step m H t _ i allowed h = h
+ongoing_step width m H t _ i allowed h = h
 
 -- at most one operation of an instance goes on
-pub one_ongoing : (m : ℕ) (H : List Event) → IsLegal m H → (i : ℕ) → length (ongoing H i) ≤ 1
-one_ongoing m H legal i = legal_induction m (λ H. length (ongoing H i) ≤ 1) (omega arith) (λ H t k legal allowed h. ongoing_step m H t k i allowed h) H legal
+pub one_ongoing : (width m : ℕ) (H : List Event) → IsLegalWithin width m H → (i : ℕ) → length (ongoing H i) ≤ 1
+one_ongoing width m H legal i = legal_induction width m (λ H. length (ongoing H i) ≤ 1) (omega arith) (λ H t k legal allowed h. ongoing_step width m H t k i allowed h) H legal

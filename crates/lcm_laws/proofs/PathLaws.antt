@@ -9,7 +9,7 @@ use Rattle.std.specs.List.{cons_option}
 use Rattle.lcm_model.specs.Words.{first}
 use Rattle.lcm_model.specs.Moves.{IsPath, edge, moved_to, moves, state}
 use Rattle.lcm_model.specs.Work.{MayMove}
-use Rattle.lcm_model.specs.Allowed.{IsAllowed, IsLegal}
+use Rattle.lcm_model.specs.Allowed.{IsAllowedWithin, IsLegalWithin}
 
 -- an occurrence that may move goes along an edge
 pub may_move-edge : (H : List Event) (o : ℕ) (from to : OpState) → MayMove H o from to → edge from to ≡ true
@@ -41,12 +41,12 @@ moved_step H o occ to true e may h =
     path_longer (filter_map (λ e. moved_to o e.kind) H) to (may_move-edge H o (state H o) to may_o) h
 moved_step H o occ to false e may h = h
 
-path_step : (m : ℕ) (H : List Event) (k : EventKind) (o : ℕ) → IsAllowed m H k → IsPath (moves H o)
+path_step : (width m : ℕ) (H : List Event) (k : EventKind) (o : ℕ) → IsAllowedWithin width m H k → IsPath (moves H o)
     → IsPath (cons_option (moved_to o k) (filter_map (λ e. moved_to o e.kind) H) ++ Starting ∷ [])
-path_step m H (Moved occ to) o a h = moved_step H o occ to (occ == o) refl a.1 h
-path_step m H _ o a h = h
+path_step width m H (Moved occ to) o a h = moved_step H o occ to (occ == o) refl a.1 h
+path_step width m H _ o a h = h
 
 -- the moves of an occurrence are a path
-pub path : (m : ℕ) (H : List Event) → IsLegal m H → (o : ℕ) → IsPath (moves H o)
-path m [] h o = refl
-path m (e ∷ H) h o = path_step m H e.kind o h.0 (path m H h.1 o)
+pub path : (width m : ℕ) (H : List Event) → IsLegalWithin width m H → (o : ℕ) → IsPath (moves H o)
+path width m [] h o = refl
+path width m (e ∷ H) h o = path_step width m H e.kind o h.0 (path width m H h.1 o)

@@ -22,7 +22,7 @@ use Rattle.lcm_model.specs.Vnfcs.{compute_def, is_there, there}
 use Rattle.lcm_model.specs.Plans.{Case, change, new, new_by, plan}
 use Rattle.lcm_model.specs.Planned.{IsLink, IsPlannedBy}
 use Rattle.lcm_model.specs.Refusals.{case_in, situation}
-use Rattle.lcm_model.specs.Allowed.{IsAllowed, IsLegal, IsPlanOf}
+use Rattle.lcm_model.specs.Allowed.{IsAllowedWithin, IsLegalWithin, IsPlanOf}
 use Rattle.lcm_laws.specs.Serials.{changes_asked}
 use Rattle.lcm_laws.proofs.BoundLaws.{Differ, few}
 use Rattle.lcm_laws.proofs.Histories.{event, legal_induction}
@@ -30,7 +30,7 @@ use Rattle.lcm_laws.proofs.Members.{Less, Rises, of_filter, of_map, of_range, ri
 use Rattle.lcm_laws.proofs.PlanMembers.{in_all, in_plan-planned, planned-in_plan}
 use Rattle.lcm_laws.proofs.StandLaws.{leaving_there, stay_there}
 
-range_length : (a n : ℕ) → length (range_with_len a n) ≡ n
+pub range_length : (a n : ℕ) → length (range_with_len a n) ≡ n
 range_length a zero = refl
 range_length a (suc n) = let rest = range_length (a + 1) n in omega (arith, rest)
 
@@ -118,19 +118,19 @@ grown false v a xs n own h = omega (arith, h)
 abbrev AreCounted : List Event → Type 0
 AreCounted H = (i v : ℕ) → top H i v ≤ changes_asked H
 
-own_within : (m : ℕ) (H : List Event) (b : Operation) → IsAllowed m H (Asked b) → AreCounted H → (v : ℕ) → top_in v b ≤ length b.changes + changes_asked H
+own_within : (width m : ℕ) (H : List Event) (b : Operation) → IsAllowedWithin width m H (Asked b) → AreCounted H → (v : ℕ) → top_in v b ≤ length b.changes + changes_asked H
 unfolding top_in
-own_within m H b allowed h v =
+own_within width m H b allowed h v =
     let own = asked_within H b (descriptor H b.instance) allowed.planned v in
     let before = h b.instance v in
     omega (arith, own, before)
 
-counted_step : (m : ℕ) (H : List Event) (time : ℕ) (k : EventKind) → IsAllowed m H k → AreCounted H → AreCounted (event time k ∷ H)
-counted_step m H time (Asked b) allowed h i v =
-    grown (is_of_instance i b) v b (filter (is_of_instance i) (operations H)) (changes_asked H) (own_within m H b allowed h v) (h i v)
-counted_step m H time _ allowed h i v = h i v
+counted_step : (width m : ℕ) (H : List Event) (time : ℕ) (k : EventKind) → IsAllowedWithin width m H k → AreCounted H → AreCounted (event time k ∷ H)
+counted_step width m H time (Asked b) allowed h i v =
+    grown (is_of_instance i b) v b (filter (is_of_instance i) (operations H)) (changes_asked H) (own_within width m H b allowed h v) (h i v)
+counted_step width m H time _ allowed h i v = h i v
 
 -- in a legal history no serial is greater than the number of changes
-pub serials_counted : (m : ℕ) (H : List Event) → IsLegal m H → (i v : ℕ) → top H i v ≤ changes_asked H
-serials_counted m H legal =
-    legal_induction m AreCounted (λ i v. omega arith) (λ H time k legal allowed h. counted_step m H time k allowed h) H legal
+pub serials_counted : (width m : ℕ) (H : List Event) → IsLegalWithin width m H → (i v : ℕ) → top H i v ≤ changes_asked H
+serials_counted width m H legal =
+    legal_induction width m AreCounted (λ i v. omega arith) (λ H time k legal allowed h. counted_step width m H time k allowed h) H legal

@@ -22,7 +22,7 @@ use Rattle.lcm_model.specs.Attempts.{done_count, is_of, is_open, net, open_attem
 use Rattle.lcm_model.specs.Operations.{goes_on, is_ongoing, ongoing, operation, operations}
 use Rattle.lcm_model.specs.Holding.{effect, effect_in, effects, is_effect_on, leaves_it, stands}
 use Rattle.lcm_model.specs.Work.{net_after, net_before, works_in}
-use Rattle.lcm_model.specs.Allowed.{IsLegal}
+use Rattle.lcm_model.specs.Allowed.{IsLegalWithin}
 use Rattle.lcm_laws.proofs.Histories.{event}
 use Rattle.lcm_laws.proofs.Lists.{and_true, by_test, not-false}
 use Rattle.lcm_laws.proofs.Members.{in_filter}
@@ -75,10 +75,10 @@ sole_entry (x ∷ []) a b h (inl ea) (inr g) = absurd g
 sole_entry (x ∷ y ∷ xs) a b h ga gb = absurd (omega (arith, h))
 
 -- two operations of an instance that go on are one
-pub one_going : (m : ℕ) (H : List Event) (i o n : ℕ) (a b : Operation) → IsLegal m H → operation H o ≡ Some a → a.instance ≡ i → is_final (state H o) ≡ false
+pub one_going : (width m : ℕ) (H : List Event) (i o n : ℕ) (a b : Operation) → IsLegalWithin width m H → operation H o ≡ Some a → a.instance ≡ i → is_final (state H o) ≡ false
     → operation H n ≡ Some b → b.instance ≡ i → is_final (state H n) ≡ false → n ≡ o
-one_going m H i o n a b legal fa ia ga fb ib gb =
-    let same : a ≡ b = sole_entry (ongoing H i) a b (one_ongoing m H legal i) (going_in H i o a fa ia ga) (going_in H i n b fb ib gb) in
+one_going width m H i o n a b legal fa ia ga fb ib gb =
+    let same : a ≡ b = sole_entry (ongoing H i) a b (one_ongoing width m H legal i) (going_in H i o a fa ia ga) (going_in H i n b fb ib gb) in
     sym (found_number (λ x. x.occ) (operations H) n b fb) ∙ (ap (λ (x : Operation). x.occ) (sym same) ∙ found_number (λ x. x.occ) (operations H) o a fa)
 
 pub works_on : (w : Way) → is_final (works_in w) ≡ false
@@ -90,11 +90,11 @@ works_later Forward e = cc
 works_later Undo e = cc
 
 -- the operation of an open attempt
-pub open_operation : (m : ℕ) (H : List Event) (u : Tag) → IsLegal m H → is_open H u ≡ true
+pub open_operation : (width m : ℕ) (H : List Event) (u : Tag) → IsLegalWithin width m H → is_open H u ≡ true
     → (a : Operation) × (operation H u.occ ≡ Some a) × (is_final (state H u.occ) ≡ false)
-open_operation m H u legal h =
-    let is : state H u.occ ≡ works_in u.way = open_state m H legal u h in
-    let found = asked_for m H legal u.occ (works_in u.way) is (works_later u.way) in
+open_operation width m H u legal h =
+    let is : state H u.occ ≡ works_in u.way = open_state width m H legal u h in
+    let found = asked_for width m H legal u.occ (works_in u.way) is (works_later u.way) in
     (found.0, found.1, subst (λ (s : OpState). is_final s ≡ false) (sym is) (works_on u.way))
 
 is_of_other : (o c : ℕ) (t : Tag) → (t.change == c) ≡ false → is_of o c t ≡ false
@@ -118,11 +118,11 @@ done_after Forward made undone made' undone' h e f = omega (arith, h, e, f)
 done_after Undo made undone made' undone' h e f = omega (arith, h, e, f)
 
 -- the net of a change once its open attempt is done
-pub net-done : (m : ℕ) (H : List Event) (time : ℕ) (t : Tag) (name : List ℕ) → IsLegal m H → is_open H t ≡ true
+pub net-done : (width m : ℕ) (H : List Event) (time : ℕ) (t : Tag) (name : List ℕ) → IsLegalWithin width m H → is_open H t ≡ true
     → net (event time (Settled t (Done name)) ∷ H) t.occ t.change ≡ net_after t.way
-net-done m H time t name legal h =
+net-done width m H time t name legal h =
     let alone = sole (open_attempts H t.occ t.change) t (done_count Forward H t.occ t.change) (done_count Undo H t.occ t.change)
-    (fits m H legal t.occ t.change) (open_own H t h) in
+    (fits width m H legal t.occ t.change) (open_own H t h) in
     done_after t.way (done_count Forward H t.occ t.change) (done_count Undo H t.occ t.change) _ _ alone.1
     (done_count-done Forward H time t name t.occ t.change (is_of-own t)) (done_count-done Undo H time t name t.occ t.change (is_of-own t))
 

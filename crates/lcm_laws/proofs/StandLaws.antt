@@ -30,7 +30,7 @@ use Rattle.lcm_model.specs.Vnfcs.{def_of, is_def_in, is_def_of, is_there, is_who
 use Rattle.lcm_model.specs.Plans.{Case, is_named, leaving, may_stay, new_by, plan, stay, stay_by, want}
 use Rattle.lcm_model.specs.Planned.{IsLink, IsOf, IsPlannedBy}
 use Rattle.lcm_model.specs.Refusals.{case_in, situation}
-use Rattle.lcm_model.specs.Allowed.{IsAllowed, IsLegal, IsPlanOf}
+use Rattle.lcm_model.specs.Allowed.{IsAllowedWithin, IsLegalWithin, IsPlanOf}
 use Rattle.lcm_laws.specs.Standing.{IsOfInstance}
 use Rattle.lcm_laws.proofs.Histories.{event, legal_induction}
 use Rattle.lcm_laws.proofs.Lists.{and_left, and_right, and_true, by_test}
@@ -150,20 +150,20 @@ onboarded-next : (H : List Event) (x d : Vnfd) (c : Option CreatedInstance) → 
 onboarded-next H x d None unknown e = cc
 onboarded-next H x d (Some c) unknown e = named-next H x d c.vnfd unknown e
 
-created-next : (m : ℕ) (H : List Event) (b : CreatedInstance) (i : ℕ) (d : Vnfd) (c : Option CreatedInstance) → IsLegal m H
+created-next : (width m : ℕ) (H : List Event) (b : CreatedInstance) (i : ℕ) (d : Vnfd) (c : Option CreatedInstance) → IsLegalWithin width m H
     → b.instance ≡ length (creations H) + 1 → creation H i ≡ c → option_and_then (λ c. descriptor_named H c.vnfd) c ≡ Some d
     → option_and_then (λ c. descriptor_named H c.vnfd) (find (λ x. x.instance == i) (b ∷ creations H)) ≡ Some d
-created-next m H b i d None legal number is e = cc
-created-next m H b i d (Some c) legal number is e =
-    rw (find-skips (λ x. x.instance) b (creations H) i c number (instances_counted m H legal) is) e
+created-next width m H b i d None legal number is e = cc
+created-next width m H b i d (Some c) legal number is e =
+    rw (find-skips (λ x. x.instance) b (creations H) i c number (instances_counted width m H legal) is) e
 
 -- the descriptor of an instance stays
-pub descriptor-next : (m : ℕ) (H : List Event) (time : ℕ) (k : EventKind) (i : ℕ) (d : Vnfd) → IsLegal m H → IsAllowed m H k
+pub descriptor-next : (width m : ℕ) (H : List Event) (time : ℕ) (k : EventKind) (i : ℕ) (d : Vnfd) → IsLegalWithin width m H → IsAllowedWithin width m H k
     → descriptor H i ≡ Some d → descriptor (event time k ∷ H) i ≡ Some d
-descriptor-next m H time (Onboarded x) i d legal allowed e = onboarded-next H x d (creation H i) allowed.unknown e
-descriptor-next m H time (Created j vnfd name text) i d legal allowed e =
-    created-next m H (record { instance = j; vnfd = vnfd; name = name; text = text }) i d (creation H i) legal allowed.number refl e
-descriptor-next m H time _ i d legal allowed e = e
+descriptor-next width m H time (Onboarded x) i d legal allowed e = onboarded-next H x d (creation H i) allowed.unknown e
+descriptor-next width m H time (Created j vnfd name text) i d legal allowed e =
+    created-next width m H (record { instance = j; vnfd = vnfd; name = name; text = text }) i d (creation H i) legal allowed.number refl e
+descriptor-next width m H time _ i d legal allowed e = e
 
 -- the serials that a plan names are 1 or more
 there_from_one : (p : Case) (v s : ℕ) → IsIn s (there p.vnfd p.held v) → 1 ≤ s
@@ -253,32 +253,32 @@ asked_described H a (Some d) is h c has =
     let p = case_in d (situation d H a.instance) a.ask in
     (d, is, in_plan-def p c (subst (λ (xs : List Change). IsIn c xs) h.1 has))
 
-described_later : (m : ℕ) (H : List Event) (time : ℕ) (k : EventKind) (a : Operation) (c : Change) → IsLegal m H → IsAllowed m H k
+described_later : (width m : ℕ) (H : List Event) (time : ℕ) (k : EventKind) (a : Operation) (c : Change) → IsLegalWithin width m H → IsAllowedWithin width m H k
     → DescribedAt H a c → DescribedAt (event time k ∷ H) a c
-described_later m H time k a c legal allowed h = (h.0, descriptor-next m H time k a.instance h.0 legal allowed h.1, h.2)
+described_later width m H time k a c legal allowed h = (h.0, descriptor-next width m H time k a.instance h.0 legal allowed h.1, h.2)
 
-described_step : (m : ℕ) (H : List Event) (time : ℕ) (k : EventKind) → IsLegal m H → IsAllowed m H k → Described H → Described (event time k ∷ H)
-described_step m H time (Asked b) legal allowed h a (inl e) c has =
+described_step : (width m : ℕ) (H : List Event) (time : ℕ) (k : EventKind) → IsLegalWithin width m H → IsAllowedWithin width m H k → Described H → Described (event time k ∷ H)
+described_step width m H time (Asked b) legal allowed h a (inl e) c has =
     subst (λ (z : Operation). DescribedAt (event time (Asked b) ∷ H) z c) e
-    (described_later m H time (Asked b) b c legal allowed
+    (described_later width m H time (Asked b) b c legal allowed
     (asked_described H b (descriptor H b.instance) refl allowed.planned c (subst (λ (z : Operation). IsIn c z.changes) (sym e) has)))
-described_step m H time (Asked b) legal allowed h a (inr g) c has = described_later m H time (Asked b) a c legal allowed (h a g c has)
-described_step m H time (Onboarded x) legal allowed h a g c has = described_later m H time (Onboarded x) a c legal allowed (h a g c has)
-described_step m H time (Created j vnfd name text) legal allowed h a g c has =
-    described_later m H time (Created j vnfd name text) a c legal allowed (h a g c has)
-described_step m H time _ legal allowed h a g c has = h a g c has
+described_step width m H time (Asked b) legal allowed h a (inr g) c has = described_later width m H time (Asked b) a c legal allowed (h a g c has)
+described_step width m H time (Onboarded x) legal allowed h a g c has = described_later width m H time (Onboarded x) a c legal allowed (h a g c has)
+described_step width m H time (Created j vnfd name text) legal allowed h a g c has =
+    described_later width m H time (Created j vnfd name text) a c legal allowed (h a g c has)
+described_step width m H time _ legal allowed h a g c has = h a g c has
 
-pub described : (m : ℕ) (H : List Event) → IsLegal m H → (a : Operation) → IsIn a (operations H) → (c : Change) → IsIn c a.changes → DescribedAt H a c
-described m H legal =
-    legal_induction m Described (λ a h. absurd h) (λ H time k legal allowed h. described_step m H time k legal allowed h) H legal
+pub described : (width m : ℕ) (H : List Event) → IsLegalWithin width m H → (a : Operation) → IsIn a (operations H) → (c : Change) → IsIn c a.changes → DescribedAt H a c
+described width m H legal =
+    legal_induction width m Described (λ a h. absurd h) (λ H time k legal allowed h. described_step width m H time k legal allowed h) H legal
 
 -- what stands is of the descriptor
-pub stands_of : (m : ℕ) (H : List Event) → IsLegal m H → (i : ℕ) (x : Def) → stands H i x ≡ true → IsOfInstance H i x
-stands_of m H legal i x h =
+pub stands_of : (width m : ℕ) (H : List Event) → IsLegalWithin width m H → (i : ℕ) (x : Def) → stands H i x ≡ true → IsOfInstance H i x
+stands_of width m H legal i x h =
     let from : NamedBy H i x = stands-named H i x h in
     let a = from.0 in
     let c = from.3.0 in
-    let of : DescribedAt H a c = described m H legal a from.1 c from.3.1 in
+    let of : DescribedAt H a c = described width m H legal a from.1 c from.3.1 in
     let serial : c.def.serial ≤ top H i c.def.vdu = serial_below_top H i a c from.1 from.2 from.3.1 in (
       of.0,
       subst (λ (j : ℕ). descriptor H j ≡ Some of.0) from.2 of.1,

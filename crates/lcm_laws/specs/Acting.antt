@@ -1,9 +1,9 @@
 -- The events that the next action of an occurrence appends (own rule).
-use Rattle.std.specs.Prelude.{List, Some, [], is_some, length, true, ℕ, ◌∷◌, ◌≡◌}
+use Rattle.std.specs.Prelude.{List, Some, [], is_some, length, true, ℕ, ◌&&◌, ◌∷◌, ◌≡◌, ◌≤◌}
 use Rattle.lcm_events.specs.declared.events.Event.{Event}
 use Rattle.lcm_events.specs.declared.events.EventKind.{EventKind}
 use Rattle.lcm_model.specs.declared.actions.Action.{Action}
-use Rattle.lcm_model.specs.Allowed.{IsLegal}
+use Rattle.lcm_model.specs.Allowed.{IsLegalWithin}
 use Rattle.lcm_model.specs.Descriptors.{is_given}
 use Rattle.lcm_model.specs.Grants.{IsPlacing}
 use Rattle.lcm_model.specs.Moves.{is_active, state}
@@ -23,9 +23,9 @@ IsAnswer H o _ = Unit {0}
 -- a legal history stays legal by the events that the next action of an occurrence appends, for each answer (own rule)
 abbrev pub NextActionsAreAllowed : Type 0
 NextActionsAreAllowed =
-    (m : ℕ) (H : List Event) → IsLegal m H → (o now : ℕ) (action : Action) (answer : Answer) → is_some (operation H o) ≡ true
-    → next_action H o ≡ Some action → IsAnswer H o answer → IsLegal m (with_events now (appended o action answer) H)
+    (width m : ℕ) (H : List Event) → 1 ≤ width → IsLegalWithin width m H → (o now : ℕ) (action : Action) (answer : Answer) → is_some (operation H o) ≡ true
+    → next_action H o ≡ Some action → IsAnswer H o answer → IsLegalWithin width m (with_events now (appended o action answer) H)
 
--- an active occurrence has exactly one next action, and another none (own rule)
+-- an occurrence that was asked for has exactly one next action while it is active, and another none (own rule)
 abbrev pub ActiveOccurrencesAct : Type 0
-ActiveOccurrencesAct = (H : List Event) (o : ℕ) → is_some (next_action H o) ≡ is_active (state H o)
+ActiveOccurrencesAct = (H : List Event) (o : ℕ) → is_some (next_action H o) ≡ (is_some (operation H o) && is_active (state H o))

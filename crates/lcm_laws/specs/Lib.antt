@@ -7,3 +7,10 @@ pub mod Planning
 pub mod Standing
 pub mod Acting
 pub mod Serials
+pub mod Attempting
+pub mod Asking
+pub mod Granting
+pub mod Holdings
+pub mod Levelling
+pub mod Needing
+pub mod Records

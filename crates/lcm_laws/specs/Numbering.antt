@@ -2,7 +2,7 @@
 use Rattle.std.specs.List.{range_with_len}
 use Rattle.std.specs.Prelude.{List, length, map, reverse, ℕ, ◌≡◌}
 use Rattle.lcm_events.specs.declared.events.Event.{Event}
-use Rattle.lcm_model.specs.Allowed.{IsLegal}
+use Rattle.lcm_model.specs.Allowed.{IsLegalWithin}
 use Rattle.lcm_model.specs.Lives.{creations, subscriptions}
 use Rattle.lcm_model.specs.Operations.{operations}
 
@@ -18,4 +18,4 @@ pub record IsNumbered (H : List Event) : Type 0 where
 
 -- in a legal history the n-th instance, occurrence and subscription have number n (own rule)
 abbrev pub NumbersRunFromOne : Type 0
-NumbersRunFromOne = (m : ℕ) (H : List Event) → IsLegal m H → IsNumbered H
+NumbersRunFromOne = (width m : ℕ) (H : List Event) → IsLegalWithin width m H → IsNumbered H

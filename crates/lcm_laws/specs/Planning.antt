@@ -1,12 +1,14 @@
 -- The changes of an operation are exactly what is planned, in order (own rule).
-use Rattle.std.specs.Prelude.{List, Some, [], length, ℕ, ◌++◌, ◌↔◌, ◌∷◌, ◌≡◌, ◌≤◌}
+use Rattle.std.specs.Prelude.{List, Some, [], false, length, true, ℕ, ◌++◌, ◌↔◌, ◌∷◌, ◌≡◌, ◌≤◌}
 use Rattle.lcm_events.specs.declared.changes.Change.{Change}
+use Rattle.lcm_events.specs.declared.changes.Verb.TheVariants.{Create}
 use Rattle.lcm_events.specs.declared.descriptor.Vnfd.{Vnfd}
 use Rattle.lcm_events.specs.declared.events.Event.{Event}
 use Rattle.lcm_events.specs.declared.events.EventKind.TheVariants.{Asked}
 use Rattle.lcm_events.specs.declared.events.Operation.{Operation}
-use Rattle.lcm_model.specs.Allowed.{IsLegal}
+use Rattle.lcm_model.specs.Allowed.{IsAllowedWithin, IsLegalWithin}
 use Rattle.lcm_model.specs.Descriptors.{IsValid}
+use Rattle.lcm_model.specs.Holding.{stands}
 use Rattle.lcm_model.specs.Lives.{descriptor}
 use Rattle.lcm_model.specs.Operations.{operations}
 use Rattle.lcm_model.specs.Planned.{AreInOrder, IsPlan, IsPlanned}
@@ -39,9 +41,20 @@ HasPlan H a =
 -- in a legal history each operation has the changes that were planned when it was asked for (own rule)
 abbrev pub OperationsHavePlans : Type 0
 OperationsHavePlans =
-    (m : ℕ) (H later : List Event) (time : ℕ) (a : Operation)
-    → IsLegal m (later ++ record { moment = time; kind = Asked a } ∷ H) → HasPlan H a
+    (width m : ℕ) (H later : List Event) (time : ℕ) (a : Operation)
+    → IsLegalWithin width m (later ++ record { moment = time; kind = Asked a } ∷ H) → HasPlan H a
 
 -- in a legal history no operation has more than 5,000 changes (own limit)
 abbrev pub PlansAreSmall : Type 0
-PlansAreSmall = (m : ℕ) (H : List Event) → IsLegal m H → (a : Operation) → IsIn a (operations H) → length a.changes ≤ 5000
+PlansAreSmall = (width m : ℕ) (H : List Event) → IsLegalWithin width m H → (a : Operation) → IsIn a (operations H) → length a.changes ≤ 5000
+
+-- a change that makes something is for what doesn't stand, and any other for what stands (own rule)
+pub record FitsWhatStands (H : List Event) (i : ℕ) (k : Change) : Type 0 where
+  pub makes : k.verb ≡ Create → stands H i k.def ≡ false
+  pub others : (k.verb ≡ Create → ⊥) → stands H i k.def ≡ true
+
+-- after a legal history each change of an operation that may be asked for fits what stands of the instance (own rule)
+abbrev pub PlansFitWhatStands : Type 0
+PlansFitWhatStands =
+    (width m : ℕ) (H : List Event) (a : Operation) → IsLegalWithin width m H → IsAllowedWithin width m H (Asked a)
+    → (k : Change) → IsIn k a.changes → FitsWhatStands H a.instance k

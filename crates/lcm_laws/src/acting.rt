@@ -9,7 +9,7 @@ pub fn next_actions_are_allowed()
     ensures { NextActionsAreAllowed }
 {}
 
-/// An active occurrence has exactly one next action, and one that isn't active has none.
+/// An occurrence that was asked for has exactly one next action while it is active, and any other has none.
 ///
 /// Source: own rule.
 pub fn active_occurrences_act()

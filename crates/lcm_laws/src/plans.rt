@@ -1,6 +1,6 @@
 //! The changes of an operation are exactly what is planned, in order.
 
-ghost use Rattle.lcm_laws.specs.Planning.{OperationsHavePlans, PlansAreDistinct, PlansAreExact, PlansAreSmall, PlansAreSorted};
+ghost use Rattle.lcm_laws.specs.Planning.{OperationsHavePlans, PlansAreDistinct, PlansAreExact, PlansAreSmall, PlansAreSorted, PlansFitWhatStands};
 
 /// A change is in the plan exactly where it is planned.
 ///
@@ -35,4 +35,11 @@ pub fn operations_have_plans()
 /// Source: own limit.
 pub fn plans_are_small()
     ensures { PlansAreSmall }
+{}
+
+/// What a plan makes doesn't stand when it is planned, and what its other changes are about stands.
+///
+/// Source: own rule.
+pub fn plans_fit_what_stands()
+    ensures { PlansFitWhatStands }
 {}

@@ -1,6 +1,6 @@
 //! What stands of an instance.
 
-ghost use Rattle.lcm_laws.specs.Standing.{DeletedInstancesHoldNothing, IdleInstancesHoldNothing, WhatStandsIsOfTheDescriptor};
+ghost use Rattle.lcm_laws.specs.Standing.{DeletedInstancesHoldNothing, IdleInstancesHoldNothing, WhatRunsIsAComputeThatStands, WhatStandsHasAPlace, WhatStandsIsOfTheDescriptor};
 
 /// What stands of an instance is of its descriptor, with a serial up to the greatest.
 ///
@@ -21,4 +21,18 @@ pub fn idle_instances_hold_nothing()
 /// Source: SOL 003 5.4.3 (Individual VNF instance).
 pub fn deleted_instances_hold_nothing()
     ensures { DeletedInstancesHoldNothing }
+{}
+
+/// What stands of an instance has a resource and a place.
+///
+/// Source: SOL 003 5.5.3 (the resource infos of an instance).
+pub fn what_stands_has_a_place()
+    ensures { WhatStandsHasAPlace }
+{}
+
+/// What runs of an instance is a compute, and stands.
+///
+/// Source: SOL 003 5.5.3 (the resource infos of an instance).
+pub fn what_runs_is_a_compute_that_stands()
+    ensures { WhatRunsIsAComputeThatStands }
 {}

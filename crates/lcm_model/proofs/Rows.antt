@@ -28,7 +28,7 @@ use Rattle.lcm_model.specs.Attempts.{net, is_unsettled}
 use Rattle.lcm_model.specs.Operations.{goes_on}
 use Rattle.lcm_model.specs.Lives.{is_kept, is_live_of}
 use Rattle.lcm_model.specs.Grants.{covers, distinct_places}
-use Rattle.lcm_model.specs.Holding.{effect_in, top_in, stands, top}
+use Rattle.lcm_model.specs.Holding.{effect_in, runs, top_in, stands, top}
 use Rattle.lcm_model.specs.Levels.{added, is_aspect, count, level_of}
 use Rattle.lcm_model.specs.Vnfcs.{def_of, link_def, is_in_step}
 use Rattle.lcm_model.specs.Instances.{moving, inventory, is_instantiated, is_started, levels}
@@ -38,7 +38,7 @@ use Rattle.lcm_model.specs.Refusals.{delete_refusal, task_refusal}
 use Rattle.lcm_model.specs.Notices.{next_notice, notices}
 use Rattle.lcm_model.specs.Allowed.{IsAllowed}
 use Rattle.lcm_model.specs.Work.{has_net, is_through}
-use Rattle.lcm_model.specs.Next.{is_at_net, next_action}
+use Rattle.lcm_model.specs.Next.{GrantLater, appended, is_at_net, next_action}
 use Rattle.lcm_model.specs.Fixture.{asks, at, attempt, begun, completes, does_first, granted, half_way, instantiate, planned, refused, router, running, scale_given_up, scale_in, scale_out, somewhere}
 
 -- The descriptor.
@@ -128,6 +128,14 @@ stop_makes_three_changes : planned running (Operate false None) ≡
 unfolding is_unsettled goes_on effect_in top_in moving is_kept is_live_of is_through has_net is_at_net added is_aspect
 stop_makes_three_changes = refl
 
+a_compute_runs : runs running 1 (def_of Compute 0 1 0) ≡ true
+unfolding is_unsettled goes_on effect_in top_in moving is_kept is_live_of is_through has_net is_at_net added is_aspect
+a_compute_runs = refl
+
+a_storage_stands_and_does_not_run : map (λ f. f running 1 (def_of Storage 0 1 0)) (stands ∷ runs ∷ []) ≡ true ∷ false ∷ []
+unfolding is_unsettled goes_on effect_in top_in moving is_kept is_live_of is_through has_net is_at_net added is_aspect
+a_storage_stands_and_does_not_run = refl
+
 -- Instantiate, step by step.
 
 the_grant_is_asked_for_first : next_action (asks 1 instantiate begun) 1 ≡ Some AskForGrant
@@ -137,6 +145,19 @@ the_grant_is_asked_for_first = refl
 a_told_location_is_polled : next_action (at (GrantTried 1 (Later (codes "/grant/v1/grants/g1"))) ∷ asks 1 instantiate begun) 1 ≡ Some Poll
 unfolding is_unsettled goes_on effect_in top_in moving is_kept is_live_of is_through has_net is_at_net added is_aspect
 a_told_location_is_polled = refl
+
+an_answer_later_tells_where : appended 1 AskForGrant (GrantLater (Some (codes "/grant/v1/grants/g1"))) ≡ GrantTried 1 (Later (codes "/grant/v1/grants/g1")) ∷ []
+an_answer_later_tells_where = refl
+
+an_answer_later_that_tells_no_place_is_trouble : appended 1 AskForGrant (GrantLater None) ≡ GrantTried 1 Trouble ∷ []
+an_answer_later_that_tells_no_place_is_trouble = refl
+
+an_answer_later_to_a_poll_appends_nothing : appended 1 Poll (GrantLater None) ≡ []
+an_answer_later_to_a_poll_appends_nothing = refl
+
+what_was_never_asked_for_has_no_action : next_action (asks 1 instantiate begun) 2 ≡ None
+unfolding is_unsettled goes_on effect_in top_in moving is_kept is_live_of is_through has_net is_at_net added is_aspect
+what_was_never_asked_for_has_no_action = refl
 
 a_denial_rolls_back : next_action (at (Denied 1) ∷ asks 1 instantiate begun) 1 ≡ Some (MoveTo RolledBack)
 unfolding is_unsettled goes_on effect_in top_in moving is_kept is_live_of is_through has_net is_at_net added is_aspect

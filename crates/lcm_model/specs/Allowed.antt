@@ -1,5 +1,5 @@
 -- Which event may follow a history, and which histories are legal (own rule over SOL 003 clause 5).
-use Rattle.std.specs.Prelude.{Bool, List, None, Option, Some, [], false, filter, is_some, length, true, ℕ, ◌+◌, ◌<◌, ◌∷◌, ◌≡◌}
+use Rattle.std.specs.Prelude.{List, None, Option, Some, [], false, filter, is_some, length, true, ℕ, ◌+◌, ◌<◌, ◌∷◌, ◌≡◌}
 use Rattle.lcm_events.specs.declared.descriptor.Vnfd.{Vnfd}
 use Rattle.lcm_events.specs.declared.events.Event.{Event}
 use Rattle.lcm_events.specs.declared.events.EventKind.{EventKind}
@@ -21,7 +21,7 @@ use Rattle.lcm_model.specs.Since.{has_call_failed, is_forced}
 use Rattle.lcm_model.specs.Plans.{plan}
 use Rattle.lcm_model.specs.Descriptors.{IsValid, is_given}
 use Rattle.lcm_model.specs.Refusals.{ask_refusal, case_in, delete_refusal, situation}
-use Rattle.lcm_model.specs.Work.{MayBegin, MayMove}
+use Rattle.lcm_model.specs.Work.{MayBeginWithin, MayMove, window}
 use Rattle.lcm_model.specs.Notices.{is_small_filter, next_notice}
 
 -- the descriptor may be onboarded: it is valid, new, and there is room (own rule)
@@ -82,25 +82,34 @@ pub record MayPost (m : ℕ) (H : List Event) (s : ℕ) (place : ℕ) : Type 0 w
   pub live : is_subscribed H s ≡ true
   pub next : next_notice m H s ≡ Some place
 
+-- the event may follow the history of manager m, where at most so many attempts of an occurrence may be open
+-- (own rule over SOL 003 clause 5)
+abbrev pub IsAllowedWithin : ℕ → ℕ → List Event → EventKind → Type 0
+IsAllowedWithin width m H (Onboarded d) = MayOnboard H d
+IsAllowedWithin width m H (Created instance vnfd name text) = MayCreate H instance vnfd
+IsAllowedWithin width m H (Deleted instance) = MayDelete H instance
+IsAllowedWithin width m H (Asked a) = MayAsk H a
+IsAllowedWithin width m H (GrantTried o answer) = IsAsking H o × IsNewTry H o answer
+IsAllowedWithin width m H (Granted o grant places spots) = MayGrant H o grant places spots
+IsAllowedWithin width m H (Denied o) = IsAsking H o
+IsAllowedWithin width m H (Intent tag) = MayBeginWithin width H tag
+IsAllowedWithin width m H (CallFailed tag) = (is_open H tag ≡ true) × (has_call_failed H tag ≡ false)
+IsAllowedWithin width m H (Settled tag outcome) = is_open H tag ≡ true
+IsAllowedWithin width m H (Moved o to) = (is_some (operation H o) ≡ true) × MayMove H o (state H o) to
+IsAllowedWithin width m H (CancelAsked o mode) = (is_some (operation H o) ≡ true) × (is_active (state H o) ≡ true)
+IsAllowedWithin width m H (Subscribed s role callback filter) = MaySubscribe H s role filter
+IsAllowedWithin width m H (Unsubscribed s) = is_subscribed H s ≡ true
+IsAllowedWithin width m H (Posted s place outcome) = MayPost m H s place
+
+-- every event was allowed after the events before it, where at most so many attempts of an occurrence may be open (own rule)
+abbrev pub IsLegalWithin : ℕ → ℕ → List Event → Type 0
+IsLegalWithin width m [] = Unit {0}
+IsLegalWithin width m (e ∷ H) = IsAllowedWithin width m H e.kind × IsLegalWithin width m H
+
 -- the event may follow the history of manager m (own rule over SOL 003 clause 5)
 abbrev pub IsAllowed : ℕ → List Event → EventKind → Type 0
-IsAllowed m H (Onboarded d) = MayOnboard H d
-IsAllowed m H (Created instance vnfd name text) = MayCreate H instance vnfd
-IsAllowed m H (Deleted instance) = MayDelete H instance
-IsAllowed m H (Asked a) = MayAsk H a
-IsAllowed m H (GrantTried o answer) = IsAsking H o × IsNewTry H o answer
-IsAllowed m H (Granted o grant places spots) = MayGrant H o grant places spots
-IsAllowed m H (Denied o) = IsAsking H o
-IsAllowed m H (Intent tag) = MayBegin H tag
-IsAllowed m H (CallFailed tag) = (is_open H tag ≡ true) × (has_call_failed H tag ≡ false)
-IsAllowed m H (Settled tag outcome) = is_open H tag ≡ true
-IsAllowed m H (Moved o to) = (is_some (operation H o) ≡ true) × MayMove H o (state H o) to
-IsAllowed m H (CancelAsked o mode) = (is_some (operation H o) ≡ true) × (is_active (state H o) ≡ true)
-IsAllowed m H (Subscribed s role callback filter) = MaySubscribe H s role filter
-IsAllowed m H (Unsubscribed s) = is_subscribed H s ≡ true
-IsAllowed m H (Posted s place outcome) = MayPost m H s place
+IsAllowed m H kind = IsAllowedWithin window m H kind
 
 -- every event was allowed after the events before it (own rule)
 abbrev pub IsLegal : ℕ → List Event → Type 0
-IsLegal m [] = Unit {0}
-IsLegal m (e ∷ H) = IsAllowed m H e.kind × IsLegal m H
+IsLegal m H = IsLegalWithin window m H

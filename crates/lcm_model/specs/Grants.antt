@@ -2,7 +2,7 @@
 use Rattle.std.specs.Cmp.Lexicographic.{pointwise}
 use Rattle.std.specs.Fmt.{decimal}
 use Rattle.std.specs.List.{enumerate_from, list_all, list_any}
-use Rattle.std.specs.Prelude.{Bool, List, None, Option, Some, [], false, filter, filter_map, length, map, nat_le, nat_lt, option_and_then, unwrap_or, if◌then◌else◌, slice_get, true, ℕ, ◌&&◌, ◌==◌, ◌||◌, ◌∷◌, ◌++◌, ◌≡◌, ◌≤◌}
+use Rattle.std.specs.Prelude.{Bool, List, None, Option, Some, [], false, filter, filter_map, find, length, map, nat_le, nat_lt, option_and_then, option_map, unwrap_or, if◌then◌else◌, slice_get, true, ℕ, ◌&&◌, ◌+◌, ◌==◌, ◌||◌, ◌∷◌, ◌++◌, ◌≡◌, ◌≤◌}
 use Rattle.lcm_events.specs.Same.{same_verb, same_name}
 use Rattle.lcm_events.specs.declared.changes.Change.{Change}
 use Rattle.lcm_events.specs.declared.changes.Verb.{Verb}
@@ -112,6 +112,21 @@ grant_in o c _ = None
 abbrev pub granted_place : List Event → ℕ → ℕ → Option Place
 granted_place H o c = unwrap_or (first (filter_map (λ e. grant_in o c e.kind) H)) None
 
+-- what a grant gave: its identifier, its places, and the number of the place of each change (SOL 003 9.5.2.3)
+pub record GivenGrant : Type 0 where
+  pub name : List ℕ
+  pub places : List Place
+  pub spots : List ℕ
+
+-- the grant of o that an event records (SOL 003 9.4.2)
+abbrev pub granted_in : ℕ → EventKind → Option GivenGrant
+granted_in o (Granted occ grant places spots) = when (occ == o) (record { name = grant; places = places; spots = spots })
+granted_in o _ = None
+
+-- the grant of an occurrence (SOL 003 9.4.2)
+abbrev pub grant : List Event → ℕ → Option GivenGrant
+grant H o = first (filter_map (λ e. granted_in o e.kind) H)
+
 -- the identifier of change number k in a grant request and a grant (own rule)
 abbrev pub change_id : ℕ → List ℕ
 change_id k = 100 ∷ decimal k
@@ -136,3 +151,35 @@ covers xs add remove update =
     names_each_once (ids_of (same_verb Create) xs) add && names_each_once (ids_of (same_verb Remove) xs) remove
     && names_each_once (ids_of is_update xs) update
     && nat_le (length (distinct_places (map (λ r. r.1) (add ++ remove ++ update)))) 32
+
+-- the rows, of those that add, remove and update, among which a change with this verb is named (SOL 003 9.5.2.3)
+abbrev pub rows_for : Verb → List (List ℕ × Place) → List (List ℕ × Place) → List (List ℕ × Place) → List (List ℕ × Place)
+rows_for Create add remove update = add
+rows_for Remove add remove update = remove
+rows_for _ add remove update = update
+
+-- the place that rows give to an identifier: that of the first row with it (own rule)
+abbrev pub place_in_rows : List (List ℕ × Place) → List ℕ → Option Place
+place_in_rows rows id = option_map (λ r. r.1) (find (λ r. same_name r.0 id) rows)
+
+-- the place that rows give to a change with its number (SOL 003 9.5.2.3)
+unfoldable pub place_of_row : List (List ℕ × Place) → List (List ℕ × Place) → List (List ℕ × Place) → ℕ × Change → Option Place
+place_of_row add remove update x = place_in_rows (rows_for x.1.verb add remove update) (change_id x.0)
+
+-- the places that rows give to the changes of a plan, in its order (SOL 003 9.5.2.3)
+abbrev pub row_places : List Change → List (List ℕ × Place) → List (List ℕ × Place) → List (List ℕ × Place) → List Place
+row_places xs add remove update = filter_map (place_of_row add remove update) (enumerate_from 0 xs)
+
+-- the number of a place in a list: that of the first that is the same (own rule)
+abbrev pub place_number : List Place → Place → Option ℕ
+place_number [] p = None
+place_number (q ∷ places) p = if same_place q p then Some 0 else option_map (λ n. n + 1) (place_number places p)
+
+-- the places that a grant by these rows records: each once, in the order of the first change that has it (own format)
+abbrev pub granted_places : List Change → List (List ℕ × Place) → List (List ℕ × Place) → List (List ℕ × Place) → List Place
+granted_places xs add remove update = distinct_places (row_places xs add remove update)
+
+-- the number of the place of each change that a grant by these rows records (own format)
+abbrev pub granted_spots : List Change → List (List ℕ × Place) → List (List ℕ × Place) → List (List ℕ × Place) → List ℕ
+granted_spots xs add remove update =
+    filter_map (place_number (granted_places xs add remove update)) (row_places xs add remove update)

@@ -1,13 +1,14 @@
 -- What stands of an instance: the effects of its attempts, the latest first (SOL 003 5.5.3, the resource infos of an instance).
 use Rattle.std.specs.Option.{option_map_or}
 use Rattle.std.specs.Prelude.{Bool, List, None, Option, false, filter, map, option_and_then, option_map, slice_get, true, ℕ, ◌&&◌, ◌==◌}
-use Rattle.lcm_events.specs.Same.{same_def, same_verb, same_way}
+use Rattle.lcm_events.specs.Same.{same_def, same_kind, same_verb, same_way}
 use Rattle.lcm_events.specs.declared.attempts.Outcome.{Outcome}
 use Rattle.lcm_events.specs.declared.attempts.Outcome.TheVariants.{Done}
 use Rattle.lcm_events.specs.declared.attempts.Tag.{Tag}
 use Rattle.lcm_events.specs.declared.attempts.Way.TheVariants.{Forward}
 use Rattle.lcm_events.specs.declared.changes.Change.{Change}
 use Rattle.lcm_events.specs.declared.changes.Def.{Def}
+use Rattle.lcm_events.specs.declared.changes.DefKind.TheVariants.{Compute}
 use Rattle.lcm_events.specs.declared.changes.Verb.{Verb}
 use Rattle.lcm_events.specs.declared.changes.Verb.TheVariants.{Create, Remove, Start}
 use Rattle.lcm_events.specs.declared.events.Event.{Event}
@@ -61,9 +62,9 @@ last_verb H i x = option_map (λ y. y.verb) (first (effects H i x))
 abbrev pub stands : List Event → ℕ → Def → Bool
 stands H i x = option_map_or leaves_it (last_verb H i x) false
 
--- a compute of the instance runs: it was last created or started (own rule)
+-- a definition of the instance runs: it is a compute, and was last created or started (own rule)
 abbrev pub runs : List Event → ℕ → Def → Bool
-runs H i x = option_map_or leaves_it_running (last_verb H i x) false
+runs H i x = same_kind x.kind Compute && option_map_or leaves_it_running (last_verb H i x) false
 
 -- the effect made its resource (own rule)
 abbrev pub is_creation : Effect → Bool

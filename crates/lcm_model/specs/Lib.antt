@@ -9,6 +9,7 @@ pub mod Since
 pub mod Levels
 pub mod Vnfcs
 pub mod Instances
+pub mod Needs
 pub mod Plans
 pub mod Planned
 pub mod Descriptors

@@ -1,6 +1,6 @@
 -- The next action of an active occurrence, and the events that it appends (own rule over SOL 003 5.6.2).
 use Rattle.std.specs.List.{range_with_len}
-use Rattle.std.specs.Prelude.{◌<◌, ◌≤◌, Bool, List, None, Option, Some, [], false, filter, is_some, length, option_map, true, ℕ, ◌+◌, ◌==◌, ◌||◌, ◌∷◌}
+use Rattle.std.specs.Prelude.{◌<◌, ◌≤◌, Bool, List, None, Option, Some, [], false, filter, is_some, length, option_and_then, option_map, true, ℕ, ◌+◌, ◌==◌, ◌||◌, ◌∷◌}
 use Rattle.lcm_events.specs.declared.attempts.Outcome.TheVariants.{Aborted, Broken, Done, NotBegun}
 use Rattle.lcm_events.specs.declared.attempts.Tag.{Tag}
 use Rattle.lcm_events.specs.declared.attempts.Way.{Way}
@@ -17,7 +17,7 @@ use Rattle.lcm_model.specs.declared.actions.Action.TheVariants.{AbortAndLook, As
 use Rattle.lcm_model.specs.Words.{first, first_some, last, when}
 use Rattle.lcm_model.specs.Moves.{state}
 use Rattle.lcm_model.specs.Attempts.{attempts, net, open_of}
-use Rattle.lcm_model.specs.Operations.{changes}
+use Rattle.lcm_model.specs.Operations.{changes, operation}
 use Rattle.lcm_model.specs.Grants.{is_granted, location}
 use Rattle.lcm_model.specs.Since.{has_trouble, is_cancelled, is_forced}
 use Rattle.lcm_model.specs.Work.{gives_up}
@@ -74,9 +74,9 @@ next_in Processing H o = next_at_work H o (option_map (begin_of H o Forward) (fi
 next_in RollingBack H o = next_at_work H o (option_map (begin_of H o Undo) (last (with_net H o 1)) ∷ Some (MoveTo RolledBack) ∷ [])
 next_in _ H o = None
 
--- the next action of an occurrence, which an active one has (own rule)
+-- the next action of an occurrence that was asked for, which an active one has (own rule)
 abbrev pub next_action : List Event → ℕ → Option Action
-next_action H o = next_in (state H o) H o
+next_action H o = option_and_then (λ a. next_in (state H o) H o) (operation H o)
 
 -- what the outside answers to an action (own rule)
 pub data Answer : Type 0 where
@@ -95,13 +95,15 @@ pub data Answer : Type 0 where
   LookedRunning : Answer
   LookFailed : Answer
 
--- the events that the answer to a grant request of o appends, the latest first (SOL 003 9.4.2)
+-- the events that the answer to a grant request of o appends, the latest first: one that comes later tells where, or is trouble
+-- (SOL 003 9.4.2)
 abbrev pub granting : ℕ → Answer → List EventKind
 granting o (GrantCame grant places spots) = Granted o grant places spots ∷ []
 granting o GrantMissesSome = GrantTried o NotCovering ∷ []
 granting o GrantDenied = Denied o ∷ []
 granting o GrantTrouble = GrantTried o Trouble ∷ []
 granting o (GrantLater (Some at)) = GrantTried o (Later at) ∷ []
+granting o (GrantLater None) = GrantTried o Trouble ∷ []
 granting o _ = []
 
 -- the events that the answer to a poll appends: none where the grant comes later still (SOL 003 9.4.3)

@@ -12,7 +12,7 @@ use Rattle.lcm_events.specs.declared.changes.Verb.{Verb}
 use Rattle.lcm_events.specs.declared.changes.Verb.TheVariants.{Create, Remove, Start, Stop}
 use Rattle.lcm_events.specs.declared.events.Event.{Event}
 use Rattle.lcm_events.specs.declared.events.EventKind.{EventKind}
-use Rattle.lcm_events.specs.declared.events.EventKind.TheVariants.{Asked}
+use Rattle.lcm_events.specs.declared.events.EventKind.TheVariants.{Asked, CallFailed, CancelAsked, Denied, GrantTried, Granted, Intent, Moved, Settled}
 use Rattle.lcm_events.specs.declared.events.Operation.{Operation}
 use Rattle.lcm_model.specs.Moves.{is_final, state}
 use Rattle.lcm_events.specs.declared.asks.OpKind.TheVariants as kinds
@@ -37,6 +37,18 @@ operation H o = find (λ a. a.occ == o) (operations H)
 -- the changes of an occurrence, in the order of its plan (own rule)
 abbrev pub changes : List Event → ℕ → List Change
 changes H o = option_map_or (λ a. a.changes) (operation H o) []
+
+-- the occurrence that an event is about, which was asked for before it (own rule)
+abbrev pub occurrence_of : EventKind → Option ℕ
+occurrence_of (GrantTried occ answer) = Some occ
+occurrence_of (Granted occ grant places spots) = Some occ
+occurrence_of (Denied occ) = Some occ
+occurrence_of (Intent tag) = Some tag.occ
+occurrence_of (CallFailed tag) = Some tag.occ
+occurrence_of (Settled tag outcome) = Some tag.occ
+occurrence_of (Moved occ to) = Some occ
+occurrence_of (CancelAsked occ mode) = Some occ
+occurrence_of _ = None
 
 -- the change that a tag names (own rule)
 abbrev pub change_of : List Event → Tag → Option Change

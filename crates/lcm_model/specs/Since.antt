@@ -1,6 +1,6 @@
 -- What happened to an occurrence since its last move: cancels and trouble (SOL 003 5.4.17, Cancel operation task).
 use Rattle.std.specs.List.{list_any}
-use Rattle.std.specs.Prelude.{Bool, List, None, Option, Some, [], false, filter_map, if◌then◌else◌, is_some, true, ℕ, ◌&&◌, ◌==◌, ◌∷◌}
+use Rattle.std.specs.Prelude.{Bool, List, None, Option, Some, [], false, filter_map, if◌then◌else◌, is_some, true, ℕ, ◌&&◌, ◌||◌, ◌==◌, ◌∷◌}
 use Rattle.lcm_events.specs.Same.{same_tag}
 use Rattle.lcm_events.specs.declared.attempts.Outcome.{Outcome}
 use Rattle.lcm_events.specs.declared.attempts.Outcome.TheVariants.{Aborted, Broken, Done, NotBegun}
@@ -56,11 +56,12 @@ is_trouble H t (Broken code) = true
 is_trouble H t Aborted = true
 is_trouble H t NotBegun = has_call_failed H t
 
--- the event is trouble of the occurrence (own rule)
+-- the event, after its past, is trouble of the occurrence (own rule)
 abbrev pub troubles : List Event → ℕ → EventKind → Bool
 troubles H o (Settled t outcome) = (t.occ == o) && is_trouble H t outcome
 troubles H o _ = false
 
--- there is trouble since the last move (own rule)
+-- there is trouble since the last move: an event behind it was trouble when it came (own rule)
 abbrev pub has_trouble : List Event → ℕ → Bool
-has_trouble H o = list_any (λ e. troubles H o e.kind) (since_move H o)
+has_trouble [] o = false
+has_trouble (e ∷ H) o = if is_some (moved_to o e.kind) then false else (troubles H o e.kind || has_trouble H o)

@@ -17,7 +17,7 @@ use Rattle.lcm_model.specs.Since.{has_trouble, is_cancelled, is_forced}
 use Rattle.lcm_model.specs.Plans.{phase}
 use Rattle.lcm_model.specs.Refusals.{is_terminate}
 
--- how many attempts of an occurrence may be open at once (own rule)
+-- how many attempts of an occurrence the product has open at once, at most (own rule)
 abbrev pub window : ℕ
 window = 1
 
@@ -54,15 +54,19 @@ abbrev pub IsTurnOf : List Event → Tag → Option Change → Type 0
 IsTurnOf H t None = ⊥
 IsTurnOf H t (Some x) = (net H t.occ t.change ≡ net_before t.way) × (all_through H t.occ t.way x.phase ≡ true)
 
--- the attempt may begin (own rule)
-pub record MayBegin (H : List Event) (t : Tag) : Type 0 where
+-- the attempt may begin, where at most so many of an occurrence may be open (own rule)
+pub record MayBeginWithin (width : ℕ) (H : List Event) (t : Tag) : Type 0 where
   pub works : state H t.occ ≡ works_in t.way
   pub no_trouble : has_trouble H t.occ ≡ false
   pub no_cancel : is_cancelled H t.occ ≡ false
-  pub room : length (open_of H t.occ) < window
+  pub room : length (open_of H t.occ) < width
   pub none_open : open_attempts H t.occ t.change ≡ []
   pub number : t.attempt ≡ length (attempts H t.occ t.change) + 1
   pub turn : IsTurnOf H t (change_of H t)
+
+-- the attempt may begin (own rule)
+abbrev pub MayBegin : List Event → Tag → Type 0
+MayBegin H t = MayBeginWithin window H t
 
 -- a change, with its number, has this net (own rule)
 unfoldable pub has_net : List Event → ℕ → ℕ → ℕ × Change → Bool

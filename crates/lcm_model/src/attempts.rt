@@ -42,9 +42,10 @@ pub fn is_open_in(events: &[Event], tag: &Tag) -> bool
     let mut open = false;
     for event in events {
         if let EventKind::Intent(begun) = &event.kind {
-            let unsettled = is_unsettled_in(events, begun);
-            if *tag == *begun && unsettled {
-                open = true;
+            if *tag == *begun {
+                if is_unsettled_in(events, begun) {
+                    open = true;
+                }
             }
         }
     }
@@ -60,9 +61,10 @@ pub fn count_open(events: &[Event], occ: u64) -> u64
     let mut count = 0;
     for event in events {
         if let EventKind::Intent(tag) = &event.kind {
-            let unsettled = is_unsettled_in(events, tag);
-            if tag.occ == occ && unsettled {
-                count += 1;
+            if tag.occ == occ {
+                if is_unsettled_in(events, tag) {
+                    count += 1;
+                }
             }
         }
     }
@@ -78,9 +80,10 @@ pub fn count_open_of_change(events: &[Event], occ: u64, change: u64) -> u64
     let mut count = 0;
     for event in events {
         if let EventKind::Intent(tag) = &event.kind {
-            let unsettled = is_unsettled_in(events, tag);
-            if tag.occ == occ && tag.change as u64 == change && unsettled {
-                count += 1;
+            if tag.occ == occ && tag.change as u64 == change {
+                if is_unsettled_in(events, tag) {
+                    count += 1;
+                }
             }
         }
     }
@@ -96,9 +99,10 @@ pub fn first_open_in(events: &[Event], occ: u64) -> Option<Tag>
     let mut first: Option<Tag> = None;
     for event in events {
         if let EventKind::Intent(tag) = &event.kind {
-            let unsettled = is_unsettled_in(events, tag);
-            if tag.occ == occ && unsettled {
-                first = Some(first.unwrap_or(*tag));
+            if tag.occ == occ {
+                if is_unsettled_in(events, tag) {
+                    first = Some(first.unwrap_or(*tag));
+                }
             }
         }
     }

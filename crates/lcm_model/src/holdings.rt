@@ -7,7 +7,7 @@ ghost use Rattle.lcm_model.specs.Holding.{effect_in, effects, is_creation, is_ef
 use crate::grants::granted_place_in;
 use crate::holding::Effect;
 use crate::operations::{operation_in, verb_in_way};
-use lcm_events::{Change, Def, Event, EventKind, Operation, Outcome, Place, Verb, Way};
+use lcm_events::{Change, Def, DefKind, Event, EventKind, Operation, Outcome, Place, Verb, Way};
 use vnfm_base::Name;
 
 /// The effect of an event after its past.
@@ -136,12 +136,15 @@ pub fn stands_in(events: &[Event], instance: u64, def: &Def) -> bool
     }
 }
 
-/// Whether a compute of the instance runs.
+/// Whether a definition of the instance is a compute that runs.
 ///
 /// Source: docs/MODEL.md, "What stands".
 pub fn runs_in(events: &[Event], instance: u64, def: &Def) -> bool
     ensures { result ≡ runs (reverse events.now) instance def.now }
 {
+    if def.kind != DefKind::Compute {
+        return false;
+    }
     match last_effect(events, instance, def) {
         Some(effect) => leaves_running(effect.verb),
         None => false,

@@ -9,7 +9,7 @@ use crate::actions::Action;
 use crate::attempts::{count_attempts, first_open_in, net_of};
 use crate::grants::{is_granted_in, location_in};
 use crate::moves::state_after;
-use crate::operations::changes_in;
+use crate::operations::{changes_in, operation_in};
 use crate::since::{has_trouble_in, is_cancelled_in, is_forced_in};
 use crate::work::gives_up_in;
 use lcm_events::{Event, OpState, Tag, Way};
@@ -106,8 +106,8 @@ pub fn next_action_in(events: &[Event], occ: u64) -> Option<Action>
     requires { HasFewAttempts (reverse events.now) occ }
     ensures { result ≡ next_action (reverse events.now) occ }
 {
-    let state = state_after(events, occ);
-    match state {
+    let _operation = operation_in(events, occ)?;
+    match state_after(events, occ) {
         OpState::Starting => Some(next_while_asking_in(events, occ)),
         OpState::Processing => Some(next_while_processing(events, occ)),
         OpState::RollingBack => Some(next_while_rolling_back(events, occ)),

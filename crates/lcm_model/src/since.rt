@@ -36,13 +36,13 @@ pub fn is_trouble_in(events: &[Event], tag: &Tag, outcome: &Outcome) -> bool
     }
 }
 
-/// Whether an event is trouble of the occurrence.
-fn is_trouble_of(events: &[Event], occ: u64, kind: &EventKind) -> bool
-    ensures { result ≡ troubles (reverse events.now) occ kind.now }
+/// Whether an event, after its past, is trouble of the occurrence.
+fn is_trouble_of(past: &[Event], occ: u64, kind: &EventKind) -> bool
+    ensures { result ≡ troubles (reverse past.now) occ kind.now }
 {
     match kind {
         EventKind::Settled { tag, outcome } => {
-            tag.occ == occ && is_trouble_in(events, tag, outcome)
+            tag.occ == occ && is_trouble_in(past, tag, outcome)
         }
         _ => false,
     }
@@ -62,10 +62,10 @@ pub fn has_trouble_in(events: &[Event], occ: u64) -> bool
     ensures { result ≡ has_trouble (reverse events.now) occ }
 {
     let mut trouble = false;
-    for event in events {
+    for (index, event) in events.iter().enumerate() {
         if moves_occurrence(occ, &event.kind) {
             trouble = false;
-        } else if is_trouble_of(events, occ, &event.kind) {
+        } else if is_trouble_of(&events[..index], occ, &event.kind) {
             trouble = true;
         }
     }

@@ -30,7 +30,7 @@ fn named_in<'a>(vnfd: &'a Vnfd, name: &Name) -> Option<&'a [u32]>
 }
 
 /// The levels of the default instantiation level.
-#[tactic(auto, using(crate::proofs::LevelLaws::default_levels))]
+#[tactic(auto, using(lcm_model::proofs::LevelLaws::default_levels))]
 fn default_in(vnfd: &Vnfd) -> &[u32]
     requires { IsValid vnfd.now }
     ensures value { result.now ≡ default_level vnfd.now }
@@ -76,7 +76,7 @@ fn replaced_in(
 }
 
 /// The levels, with that of a named aspect replaced.
-#[tactic(auto, using(crate::proofs::LevelLaws::levels_length, crate::proofs::LevelLaws::at_levels))]
+#[tactic(auto, using(lcm_model::proofs::LevelLaws::levels_length, lcm_model::proofs::LevelLaws::at_levels))]
 fn with_level(
     alloc: Global,
     vnfd: &Vnfd,
@@ -91,7 +91,7 @@ fn with_level(
 }
 
 /// The levels, with that of the aspect of this name moved out or in by steps.
-#[tactic(auto, using(crate::proofs::LevelLaws::levels_length, crate::proofs::LevelLaws::at_levels))]
+#[tactic(auto, using(lcm_model::proofs::LevelLaws::levels_length, lcm_model::proofs::LevelLaws::at_levels))]
 fn moved_in(
     alloc: Global,
     vnfd: &Vnfd,

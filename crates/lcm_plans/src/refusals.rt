@@ -356,7 +356,7 @@ fn names_absent(
 /// Why what an ask names is refused against what stands.
 ///
 /// Source: SOL 003 5.5.2.5 (ScaleVnfRequest), 5.5.2.9 (HealVnfRequest).
-#[tactic(auto, using(crate::proofs::LevelLaws::levels_length))]
+#[tactic(auto, using(lcm_model::proofs::LevelLaws::levels_length))]
 pub fn naming_refusal_in(
     alloc: Global,
     vnfd: &Vnfd,

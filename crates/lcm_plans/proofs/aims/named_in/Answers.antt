@@ -1,4 +1,4 @@
-use Rattle.lcm_plans.proofs.LevelLaws.{named_in_levels}
+use Rattle.lcm_model.proofs.LevelLaws.{named_in_levels}
 use Rattle.lcm_plans.proofs.aims.named_in.Goals as goal
 
 pub returns-clause-levels : goal.returns-clause-levels

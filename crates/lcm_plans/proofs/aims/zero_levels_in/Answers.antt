@@ -1,4 +1,4 @@
-use Rattle.lcm_plans.proofs.LevelLaws.{zero_levels}
+use Rattle.lcm_model.proofs.LevelLaws.{zero_levels}
 use Rattle.lcm_plans.proofs.aims.zero_levels_in.Goals as goal
 
 pub returns-clause-levels : goal.returns-clause-levels
