@@ -1,5 +1,6 @@
 #!/bin/sh
-# Measures reading of valid descriptors of three shapes: for each size the least of eleven runs, and the peak memory of one.
+# Measures reading of descriptors: of shapes that fill what a descriptor has at several sizes, and of the worst that we know at
+# the greatest size. Times are the least of some runs, and the peak memory is that of one.
 #
 # usage: bench/vnfd/run.sh [PROGRAM]     from the top; without PROGRAM it is built by `rt run` first
 set -eu
@@ -8,18 +9,31 @@ if [ $# -eq 0 ]; then
     (cd crates/vnfd_bench && rt run >/dev/null)
 fi
 document=/tmp/vnfd_bench.$$
-echo "| Shape | Bytes | Reading, ms | MB/s | Peak memory, MB |"
+trap 'rm -f "$document"' EXIT
+
+# row SHAPE BYTES RUNS
+row() {
+    python3 bench/vnfd/document.py "$1" "$2" >"$document"
+    memory=$(python3 bench/vnfd/peak.py "$program" "$document")
+    for _ in $(seq "$3"); do
+        "$program" "$document" times
+    done | awk -v shape="$1" -v bytes="$2" -v memory="$memory" '
+        BEGIN { answer = "read" }
+        $1 == "descriptor" { answer = substr($0, 21) }
+        $1 == "reading" && (!reading || $2 < reading) { reading = $2 }
+        END { printf "| %s | %d | %s | %.0f | %s |\n", shape, bytes, answer, reading / 1e6, memory }'
+}
+
+echo "| Shape | Bytes | Answer | Reading, ms | Peak memory, MB |"
 echo "|---|---|---|---|---|"
 for shape in full policies others; do
     for bytes in 131072 262144 524288 1048576; do
-        python3 bench/vnfd/document.py "$shape" "$bytes" >"$document"
-        memory=$(python3 bench/vnfd/peak.py "$program" "$document")
-        for _ in $(seq 11); do
-            "$program" "$document" times
-        done | awk -v shape="$shape" -v bytes="$bytes" -v memory="$memory" '
-            $1 == "descriptor" { print; exit 1 }
-            $1 == "reading" && (!reading || $2 < reading) { reading = $2 }
-            END { printf "| %s | %d | %.1f | %.1f | %s |\n", shape, bytes, reading / 1e6, bytes * 1e3 / reading, memory }'
+        row "$shape" "$bytes" 7
     done
 done
-rm -f "$document"
+for shape in $(python3 bench/vnfd/document.py); do
+    case $shape in
+        full | policies | others) ;;
+        *) row "$shape" 1048576 3 ;;
+    esac
+done

@@ -6,10 +6,12 @@
 
 use anyhow::{Context, Result, ensure};
 use lcm_events::Vnfd;
+use standard_streams::{NullFiles, hold_streams};
 use std::alloc::AllocGlobal;
 use std::env::Env;
-use std::fs::Files;
+use std::fs::File;
 use std::io::Print;
+use std::rt::Files;
 use std::time::CpuClock;
 use std::{env, fs};
 use vnfd_reader::{VnfdFault, read};
@@ -38,7 +40,8 @@ impl Words {
 }
 
 /// Reads the document that the words of the command line name.
-fn run(rt: &(impl Env + Files + CpuClock + Print + AllocGlobal)) -> Result<()> {
+fn run(rt: &(impl Env + Files<File = File> + CpuClock + Print + AllocGlobal)) -> Result<()> {
+    let _streams = hold_streams(&mut NullFiles::of(rt))?;
     let words = Words::read(rt)?;
     let bytes = fs::read(rt, words.path.as_str())?;
     let begun = rt.process_cpu_time()?;

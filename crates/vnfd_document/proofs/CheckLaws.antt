@@ -1,5 +1,5 @@
 -- What checks that pass say of what is built then: the laws that VDUs, ports and policies share.
-use Rattle.std.proofs.Common.{◌≡◌, ◌+◌, ◌&&◌, ℕ, List, [], ◌∷◌, length, Bool, true, false, cond, Option, Some, None, unwrap_or, option_and_then, nat_le, nat_lt, refl, arith, IfSome}
+use Rattle.std.proofs.Common.{◌≡◌, ◌+◌, ◌&&◌, ℕ, List, [], ◌∷◌, length, Bool, true, false, cond, Option, Some, None, unwrap_or, option_and_then, nat_le, nat_lt, refl, arith, IfSome, Result, Ok, Err, sym, subst}
 use Rattle.std.proofs.lemmas.Bool.{and_from, and_parts, le-leb, lt-ltb, leb-true}
 use Rattle.std.specs.List.{list_all}
 use Rattle.std.specs.Option.{option_or}
@@ -7,6 +7,8 @@ use Rattle.serde_json.specs.Data.{Data}
 use Rattle.lcm_events.specs.Descriptors.{is_rising}
 use Rattle.lcm_model.specs.Descriptors.{is_given}
 use Rattle.vnfd_document.specs.declared.fault.VnfdFault.{VnfdFault}
+use Rattle.vnfd_document.specs.declared.fault.VnfdFault.TheVariants.{NotJson, Lacks, Wrong, Unknown, TooMany, OutOfStep, Memory}
+use Rattle.vnfd_document.specs.Checks.{IsFault, Refuses, fault_of}
 use Rattle.vnfd_document.specs.Json.{whole, within}
 use Rattle.vnfd_document.specs.Names.{is_given_name, is_name, name_or_empty}
 use Rattle.vnfd_document.proofs.NameOrder.{name_or_empty-given}
@@ -15,6 +17,21 @@ use Rattle.vnfd_document.proofs.NameOrder.{name_or_empty-given}
 pub none_parts : {F : Type 0} (a b : Option F) → option_or a b ≡ None → (a ≡ None) × (b ≡ None)
 none_parts None b h = (refl, h)
 none_parts (Some x) b h = let no : ⊥ = cc in absurd no
+
+-- a fault is that fault
+pub same_fault : (fault : VnfdFault) → IsFault fault (Some fault)
+same_fault NotJson = refl
+same_fault (Lacks name) = refl
+same_fault (Wrong name) = refl
+same_fault (Unknown name) = refl
+same_fault (TooMany name) = refl
+same_fault (OutOfStep level vdu) = refl
+same_fault Memory = tt
+
+-- a check that answers just its fault refuses with it
+pub refuses_just : {A : Type 0} (result : Result A VnfdFault) (expected : Option VnfdFault) → fault_of result ≡ expected → Refuses result expected
+refuses_just (Ok x) expected h = sym h
+refuses_just (Err fault) expected h = subst (IsFault fault) h (same_fault fault)
 
 -- a check that passes: its test holds
 pub read_if : (b : Bool) (f : VnfdFault) → cond b None (Some f) ≡ None → b ≡ true

@@ -4,6 +4,7 @@ ghost use Rattle.serde_json.specs.Errors.{IsMemory};
 ghost use Rattle.serde_json.specs.View.{view};
 ghost use Rattle.vnfd_document.specs.Checks.{IsFault, fault_of};
 ghost use Rattle.vnfd_document.specs.Document.{document, object_of};
+ghost use Rattle.vnfd_document.specs.declared.document.TheConstants.{BYTES_MAX};
 
 use crate::VnfdFault;
 use crate::names::label;
@@ -11,7 +12,12 @@ use serde_json::Value;
 use std::alloc::Global;
 
 /// Bytes of a document. The largest valid descriptor is far shorter.
-const BYTES_MAX: usize = 1_048_576;
+pub const BYTES_MAX: usize = 1_048_576;
+
+/// The limit, as a number: a document has at most 1,048,576 bytes.
+pub fn limits()
+    ensures { BYTES_MAX ≡ 1048576 }
+{}
 
 /// The JSON object that the bytes are.
 ///

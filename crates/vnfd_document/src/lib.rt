@@ -12,7 +12,7 @@ mod policies;
 mod requirements;
 
 pub use checks::{Check, first_of};
-pub use document::read_document;
+pub use document::{limits, read_document};
 pub use entries::{Entry, members, members_in, of_type, only_member, templates_in};
 pub use fault::VnfdFault;
 pub use look_ups::{at, has_type, is_same_text, node_named, whole_in};

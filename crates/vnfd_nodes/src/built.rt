@@ -10,14 +10,12 @@ ghost use Rattle.vnfd_document.specs.Seen.{seen};
 ghost use Rattle.vnfd_nodes.specs.Built.{aimed_at as the_aimed_at, is_named as the_is_named, place_of as the_place_of, places_named as the_places_named, port_of, storage_of, vdu_of};
 ghost use Rattle.vnfd_nodes.specs.Nodes.{cpus_at as the_cpus, maximum_at as the_maximum, memory_at as the_memory, size, size_at as the_size};
 
+use crate::bounds::{CPUS, INSTANCES, NO_MAXIMUM};
 use crate::members::{cpus_at, maximum_at, memory_at, size_at, size_of_value};
 use lcm_events::{Listed, Names, Port, Storage, Vdu};
 use serde_json::Value;
 use std::alloc::{AllocError, Global};
 use vnfd_document::{Entry, is_same_text, name_or_empty, node_named, required, whole_in};
-
-/// The greatest number of instances where a VDU has none: no count exceeds it.
-const NO_MAXIMUM: u32 = 4_294_967_295;
 
 #[tactic(auto, unfolding(crate::specs::Built::vdu_of))]
 /// The VDU that a template is, with its number of instances at level 0 of every aspect.
@@ -53,13 +51,13 @@ fn memory_of(vdu: &Value) -> Option<u64>
 fn cpus_of(vdu: &Value) -> Option<u32>
     ensures { result ≡ option_and_then (whole 1 65535) (the_cpus (view vdu.now)) }
 {
-    whole_in(1, 65_535, cpus_at(vdu)?)
+    whole_in(1, CPUS, cpus_at(vdu)?)
 }
 
 fn maximum_of(vdu: &Value) -> Option<u32>
     ensures { result ≡ option_and_then (whole 0 65535) (the_maximum (view vdu.now)) }
 {
-    whole_in(0, 65_535, maximum_at(vdu)?)
+    whole_in(0, INSTANCES, maximum_at(vdu)?)
 }
 
 fn size_of(storage: &Value) -> Option<u64>

@@ -1,7 +1,7 @@
 //! The first thing that is wrong with the node templates, check after check.
 ghost use Rattle.std.specs.Prelude.{◌≡◌, codes, map, true};
 ghost use Rattle.serde_json.specs.View.{view};
-ghost use Rattle.vnfd_document.specs.Checks.{Refuses};
+ghost use Rattle.vnfd_document.specs.Checks.{Refuses, fault_of};
 ghost use Rattle.vnfd_document.specs.Json.{whole};
 ghost use Rattle.vnfd_document.specs.Members.{needed};
 ghost use Rattle.vnfd_document.specs.Places.{node_named as the_node_named};
@@ -10,6 +10,7 @@ ghost use Rattle.vnfd_document.specs.Seen.{seen};
 ghost use Rattle.vnfd_nodes.specs.Seen.{nodes_seen};
 ghost use Rattle.vnfd_nodes.specs.Nodes.{aim_refusal, aims_refusal, binding_refusal, compute_refusal, computes_refusal, empties_refusal, maxima_refusal, missing_refusal, ports_refusal, sizes_refusal, storage_refusal, cpus_at as the_cpus, memory_at as the_memory, size, count_refusal, counts_refusal, empty_refusal, have_names as names_are_given, have_all_names as all_names_are_given, is_known as the_known, maximum_refusal, port_refusal, product_refusal, properties_refusal, property_refusal, size_refusal, storages_refusal, templates_refusal};
 
+use crate::bounds::{CPUS, INSTANCES, LINKS, PORTS, STORAGES, VDUS};
 use crate::members::{
     cpus_at, maximum_at, memory_at, name_of_value, property_at, property_of, size_at, size_of_value,
 };
@@ -23,7 +24,7 @@ use vnfd_document::{
 
 /// Exactly one template describes the product.
 pub fn refuse_product(products: &[Entry]) -> Result<(), VnfdFault>
-    ensures { Refuses result (product_refusal (map seen products.now)) }
+    ensures { fault_of result ≡ product_refusal (map seen products.now) }
 {
     match products.len() {
         0 => Err(VnfdFault::Lacks(label("descriptor_id"))),
@@ -34,7 +35,7 @@ pub fn refuse_product(products: &[Entry]) -> Result<(), VnfdFault>
 
 /// The product's properties are there and names; the identifiers of the descriptor and its flavour aren't empty.
 pub fn refuse_properties(product: &Value) -> Result<(), VnfdFault>
-    ensures { Refuses result (properties_refusal (view product.now)) }
+    ensures { fault_of result ≡ properties_refusal (view product.now) }
 {
     refuse_missing(product)?;
     refuse_empties(product)
@@ -42,7 +43,7 @@ pub fn refuse_properties(product: &Value) -> Result<(), VnfdFault>
 
 #[tactic(auto, unfolding(crate::specs::Nodes::missing_refusal))]
 fn refuse_missing(product: &Value) -> Result<(), VnfdFault>
-    ensures { Refuses result (missing_refusal (view product.now)) }
+    ensures { fault_of result ≡ missing_refusal (view product.now) }
 {
     refuse_property(product, "descriptor_id")?;
     refuse_property(product, "provider")?;
@@ -54,7 +55,7 @@ fn refuse_missing(product: &Value) -> Result<(), VnfdFault>
 
 #[tactic(auto, unfolding(crate::specs::Nodes::empties_refusal))]
 fn refuse_empties(product: &Value) -> Result<(), VnfdFault>
-    ensures { Refuses result (empties_refusal (view product.now)) }
+    ensures { fault_of result ≡ empties_refusal (view product.now) }
 {
     refuse_empty(product, "descriptor_id")?;
     refuse_empty(product, "flavour_id")
@@ -62,7 +63,7 @@ fn refuse_empties(product: &Value) -> Result<(), VnfdFault>
 
 fn refuse_property(product: &Value, key: &str) -> Result<(), VnfdFault>
     requires { is_label key.now ≡ true }
-    ensures { Refuses result (property_refusal (view product.now) key.now) }
+    ensures { fault_of result ≡ property_refusal (view product.now) key.now }
 {
     let Some(found) = property_at(product, key) else {
         return Err(VnfdFault::Lacks(label(key)));
@@ -75,7 +76,7 @@ fn refuse_property(product: &Value, key: &str) -> Result<(), VnfdFault>
 
 fn refuse_empty(product: &Value, key: &str) -> Result<(), VnfdFault>
     requires { is_label key.now ≡ true }
-    ensures { Refuses result (empty_refusal (view product.now) key.now) }
+    ensures { fault_of result ≡ empty_refusal (view product.now) key.now }
 {
     if property_of(product, key).is_empty() {
         return Err(VnfdFault::Wrong(label(key)));
@@ -98,7 +99,7 @@ fn have_names(templates: &[Entry]) -> bool
 /// There are at most so many.
 fn refuse_count(what: &str, most: usize, templates: &[Entry]) -> Result<(), VnfdFault>
     requires { is_label what.now ≡ true }
-    ensures { Refuses result (count_refusal what.now most (map seen templates.now)) }
+    ensures { fault_of result ≡ count_refusal what.now most (map seen templates.now) }
 {
     if templates.len() > most {
         return Err(VnfdFault::TooMany(label(what)));
@@ -114,14 +115,14 @@ impl Check for ComputeCheck {
     ghost says = { λ check thing. compute_refusal thing };
 
     #[tactic(auto, unfolding(crate::specs::Nodes::compute_refusal))]
-    fn check(&self, alloc: Global, thing: &Entry) -> Result<(), VnfdFault> {
+    fn check(&self, thing: &Entry) -> Result<(), VnfdFault> {
         refuse_memory(thing.value)?;
         refuse_cpus(thing.value)
     }
 }
 
 fn refuse_memory(vdu: &Value) -> Result<(), VnfdFault>
-    ensures { Refuses result (needed (codes "virtual_mem_size") size (the_memory (view vdu.now))) }
+    ensures { fault_of result ≡ needed (codes "virtual_mem_size") size (the_memory (view vdu.now)) }
 {
     let Some(found) = memory_at(vdu) else {
         return Err(VnfdFault::Lacks(label("virtual_mem_size")));
@@ -133,12 +134,12 @@ fn refuse_memory(vdu: &Value) -> Result<(), VnfdFault>
 }
 
 fn refuse_cpus(vdu: &Value) -> Result<(), VnfdFault>
-    ensures { Refuses result (needed (codes "num_virtual_cpu") (whole 1 65535) (the_cpus (view vdu.now))) }
+    ensures { fault_of result ≡ needed (codes "num_virtual_cpu") (whole 1 65535) (the_cpus (view vdu.now)) }
 {
     let Some(found) = cpus_at(vdu) else {
         return Err(VnfdFault::Lacks(label("num_virtual_cpu")));
     };
-    if whole_in(1, 65_535, found).is_none() {
+    if whole_in(1, CPUS, found).is_none() {
         return Err(VnfdFault::Wrong(label("num_virtual_cpu")));
     }
     Ok(())
@@ -151,11 +152,11 @@ struct MaximumCheck;
 impl Check for MaximumCheck {
     ghost says = { λ check thing. maximum_refusal thing };
 
-    fn check(&self, alloc: Global, thing: &Entry) -> Result<(), VnfdFault> {
+    fn check(&self, thing: &Entry) -> Result<(), VnfdFault> {
         let Some(found) = maximum_at(thing.value) else {
             return Ok(());
         };
-        if whole_in(0, 65_535, found).is_none() {
+        if whole_in(0, INSTANCES, found).is_none() {
             return Err(VnfdFault::Wrong(label("max_number_of_instances")));
         }
         Ok(())
@@ -169,7 +170,7 @@ struct SizeCheck;
 impl Check for SizeCheck {
     ghost says = { λ check thing. size_refusal thing };
 
-    fn check(&self, alloc: Global, thing: &Entry) -> Result<(), VnfdFault> {
+    fn check(&self, thing: &Entry) -> Result<(), VnfdFault> {
         let Some(found) = size_at(thing.value) else {
             return Ok(());
         };
@@ -194,7 +195,7 @@ fn is_known(things: &[Entry], target: &str) -> bool
 
 /// What a requirement aims at is one of these.
 fn refuse_aim(known: &[Entry], requirement: &Value) -> Result<(), VnfdFault>
-    ensures { Refuses result (aim_refusal (map seen known.now) (the_node_named (view requirement.now))) }
+    ensures { fault_of result ≡ aim_refusal (map seen known.now) (the_node_named (view requirement.now)) }
 {
     let Some(target) = node_named(requirement) else {
         return Err(VnfdFault::Wrong(label("name")));
@@ -209,7 +210,7 @@ fn refuse_aim(known: &[Entry], requirement: &Value) -> Result<(), VnfdFault>
 /// What these requirements aim at is among these.
 #[tactic(auto, unfolding(crate::specs::Nodes::aims_refusal))]
 fn refuse_aims(known: &[Entry], requirements: &[&Value]) -> Result<(), VnfdFault>
-    ensures { Refuses result (aims_refusal (map seen known.now) (map (λ v. view v.now) requirements.now)) }
+    ensures { fault_of result ≡ aims_refusal (map seen known.now) (map (λ v. view v.now) requirements.now) }
 {
     for requirement in requirements {
         refuse_aim(known, requirement)?;
@@ -218,43 +219,33 @@ fn refuse_aims(known: &[Entry], requirements: &[&Value]) -> Result<(), VnfdFault
 }
 
 /// A VDU's storages are storages.
-#[derive(Drop)]
-struct StoragesCheck<'a> {
-    storages: &'a [Entry<'a>],
-}
-
-impl Check for StoragesCheck<'_> {
-    ghost says = { λ check thing. storage_refusal (map seen check.storages.now) thing };
-
-    fn check(&self, alloc: Global, thing: &Entry) -> Result<(), VnfdFault> {
-        let requirements = required(alloc, thing.value, "virtual_storage")?;
-        refuse_aims(self.storages, requirements.as_slice())
-    }
+fn refuse_storage(alloc: Global, storages: &[Entry], vdu: &Entry) -> Result<(), VnfdFault>
+    ensures { Refuses result (storage_refusal (map seen storages.now) (seen vdu.now)) }
+{
+    let requirements = required(alloc, vdu.value, "virtual_storage")?;
+    refuse_aims(storages, requirements.as_slice())
 }
 
 /// A port's VDU is known, and its link, where it has one.
-#[derive(Drop)]
-struct PortCheck<'a> {
-    vdus: &'a [Entry<'a>],
-    links: &'a [Entry<'a>],
-}
-
-impl Check for PortCheck<'_> {
-    ghost says = { λ check thing. port_refusal (map seen check.vdus.now) (map seen check.links.now) thing };
-
-    #[tactic(auto, unfolding(crate::specs::Nodes::port_refusal))]
-    fn check(&self, alloc: Global, thing: &Entry) -> Result<(), VnfdFault> {
-        let bindings = required(alloc, thing.value, "virtual_binding")?;
-        refuse_bindings(self.vdus, bindings.as_slice())?;
-        let links = required(alloc, thing.value, "virtual_link")?;
-        refuse_aims(self.links, links.as_slice())
-    }
+#[tactic(auto, unfolding(crate::specs::Nodes::port_refusal))]
+fn refuse_port(
+    alloc: Global,
+    vdus: &[Entry],
+    links: &[Entry],
+    port: &Entry,
+) -> Result<(), VnfdFault>
+    ensures { Refuses result (port_refusal (map seen vdus.now) (map seen links.now) (seen port.now)) }
+{
+    let bindings = required(alloc, port.value, "virtual_binding")?;
+    refuse_bindings(vdus, bindings.as_slice())?;
+    let linked = required(alloc, port.value, "virtual_link")?;
+    refuse_aims(links, linked.as_slice())
 }
 
 /// A port is bound to something, and what it is bound to is known.
 #[tactic(auto, unfolding(crate::specs::Nodes::binding_refusal))]
 fn refuse_bindings(vdus: &[Entry], bindings: &[&Value]) -> Result<(), VnfdFault>
-    ensures { Refuses result (binding_refusal (map seen vdus.now) (map (λ v. view v.now) bindings.now)) }
+    ensures { fault_of result ≡ binding_refusal (map seen vdus.now) (map (λ v. view v.now) bindings.now) }
 {
     if bindings.is_empty() {
         return Err(VnfdFault::Lacks(label("virtual_binding")));
@@ -276,37 +267,37 @@ pub fn have_all_names(nodes: &Templates) -> bool
 #[tactic(auto, unfolding(crate::specs::Nodes::counts_refusal))]
 /// There are at most 64 VDUs, 128 storages, 64 links and 256 ports.
 pub fn refuse_counts(nodes: &Templates) -> Result<(), VnfdFault>
-    ensures { Refuses result (counts_refusal (nodes_seen nodes.now)) }
+    ensures { fault_of result ≡ counts_refusal (nodes_seen nodes.now) }
 {
-    refuse_count("vdus", 64, nodes.vdus.as_slice())?;
-    refuse_count("storages", 128, nodes.storages.as_slice())?;
-    refuse_count("links", 64, nodes.links.as_slice())?;
-    refuse_count("ports", 256, nodes.ports.as_slice())
+    refuse_count("vdus", VDUS, nodes.vdus.as_slice())?;
+    refuse_count("storages", STORAGES, nodes.storages.as_slice())?;
+    refuse_count("links", LINKS, nodes.links.as_slice())?;
+    refuse_count("ports", PORTS, nodes.ports.as_slice())
 }
 
 /// The VDUs, storages and ports are as they should be, check after check, and within a check template after template.
 pub fn refuse_templates(alloc: Global, nodes: &Templates) -> Result<(), VnfdFault>
     ensures { Refuses result (templates_refusal (nodes_seen nodes.now)) }
 {
-    refuse_computes(alloc, nodes)?;
-    refuse_maxima(alloc, nodes)?;
+    refuse_computes(nodes)?;
+    refuse_maxima(nodes)?;
     refuse_storages(alloc, nodes)?;
-    refuse_sizes(alloc, nodes)?;
+    refuse_sizes(nodes)?;
     refuse_ports(alloc, nodes)
 }
 
 #[tactic(auto, unfolding(crate::specs::Nodes::computes_refusal))]
-fn refuse_computes(alloc: Global, nodes: &Templates) -> Result<(), VnfdFault>
-    ensures { Refuses result (computes_refusal (nodes_seen nodes.now)) }
+fn refuse_computes(nodes: &Templates) -> Result<(), VnfdFault>
+    ensures { fault_of result ≡ computes_refusal (nodes_seen nodes.now) }
 {
-    first_of(alloc, nodes.vdus.as_slice(), &ComputeCheck)
+    first_of(nodes.vdus.as_slice(), &ComputeCheck)
 }
 
 #[tactic(auto, unfolding(crate::specs::Nodes::maxima_refusal))]
-fn refuse_maxima(alloc: Global, nodes: &Templates) -> Result<(), VnfdFault>
-    ensures { Refuses result (maxima_refusal (nodes_seen nodes.now)) }
+fn refuse_maxima(nodes: &Templates) -> Result<(), VnfdFault>
+    ensures { fault_of result ≡ maxima_refusal (nodes_seen nodes.now) }
 {
-    first_of(alloc, nodes.vdus.as_slice(), &MaximumCheck)
+    first_of(nodes.vdus.as_slice(), &MaximumCheck)
 }
 
 #[tactic(auto, unfolding(crate::specs::Nodes::storages_refusal))]
@@ -314,14 +305,17 @@ fn refuse_storages(alloc: Global, nodes: &Templates) -> Result<(), VnfdFault>
     ensures { Refuses result (storages_refusal (nodes_seen nodes.now)) }
 {
     let storages = nodes.storages.as_slice();
-    first_of(alloc, nodes.vdus.as_slice(), &StoragesCheck { storages })
+    for vdu in nodes.vdus.as_slice() {
+        refuse_storage(alloc, storages, vdu)?;
+    }
+    Ok(())
 }
 
 #[tactic(auto, unfolding(crate::specs::Nodes::sizes_refusal))]
-fn refuse_sizes(alloc: Global, nodes: &Templates) -> Result<(), VnfdFault>
-    ensures { Refuses result (sizes_refusal (nodes_seen nodes.now)) }
+fn refuse_sizes(nodes: &Templates) -> Result<(), VnfdFault>
+    ensures { fault_of result ≡ sizes_refusal (nodes_seen nodes.now) }
 {
-    first_of(alloc, nodes.storages.as_slice(), &SizeCheck)
+    first_of(nodes.storages.as_slice(), &SizeCheck)
 }
 
 #[tactic(auto, unfolding(crate::specs::Nodes::ports_refusal))]
@@ -330,5 +324,8 @@ fn refuse_ports(alloc: Global, nodes: &Templates) -> Result<(), VnfdFault>
 {
     let vdus = nodes.vdus.as_slice();
     let links = nodes.links.as_slice();
-    first_of(alloc, nodes.ports.as_slice(), &PortCheck { vdus, links })
+    for port in nodes.ports.as_slice() {
+        refuse_port(alloc, vdus, links, port)?;
+    }
+    Ok(())
 }

@@ -6,8 +6,7 @@ ghost use Rattle.std.specs.Str.{all_ascii_digits};
 ghost use Rattle.std.specs.Str.Parse.{digits_value};
 ghost use Rattle.vnfd_nodes.specs.Sizes.{bytes_of_unit, is_space, is_unit as has_name, size_of};
 
-/// Bytes of the largest size, 2 ^ 60.
-const SIZE_MAX: u64 = 1_152_921_504_606_846_976;
+use crate::bounds::SIZE;
 
 #[tactic(auto, using(crate::proofs::SizeLemmas::size_steps))]
 /// The size that a text is, in bytes, where it is one: digits, any spaces, and a unit from B to TiB.
@@ -33,7 +32,7 @@ fn size_from(digits: &[u8], unit: u64) -> Option<u64>
 {
     let number = decimal(digits)?;
     let size = number.checked_mul(unit)?;
-    if size > SIZE_MAX { None } else { Some(size) }
+    if size > SIZE { None } else { Some(size) }
 }
 
 /// How many digits the text begins with.
@@ -71,7 +70,7 @@ fn decimal(digits: &[u8]) -> Option<u64>
     let mut number = 0;
     for digit in digits {
         number = number * 10 + digit_of(*digit);
-        if number > SIZE_MAX {
+        if number > SIZE {
             return None;
         }
     }

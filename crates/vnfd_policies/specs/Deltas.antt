@@ -1,14 +1,14 @@
 -- What each step of an aspect adds to a VDU, and why that is refused (SOL 001, VduScalingAspectDeltas; limits: own rule).
 use Rattle.std.specs.List.{flat_map, list_all, list_any}
 use Rattle.std.specs.Option.{option_map_or}
-use Rattle.std.specs.Prelude.{ℕ, List, [], ◌∷◌, length, ◌==◌, ◌&&◌, Bool, false, if◌then◌else◌, is_some, map, filter, find, Option, Some, None, option_and_then, unwrap_or, codes}
+use Rattle.std.specs.Prelude.{ℕ, List, [], ◌∷◌, length, nat_eq, ◌≡◌, ◌==◌, ◌&&◌, Bool, false, if◌then◌else◌, is_some, map, filter, find, Option, Some, None, option_and_then, unwrap_or, codes}
 use Rattle.std.specs.Str.{bytes_eq}
 use Rattle.serde_json.specs.Data.{Data}
 use Rattle.serde_json.specs.Find.{as_str}
 use Rattle.vnfd_document.specs.declared.fault.VnfdFault.{VnfdFault}
 use Rattle.vnfd_document.specs.declared.fault.VnfdFault.TheVariants.{Lacks, Wrong}
 use Rattle.vnfd_document.specs.Checks.{first_fault, first_failing}
-use Rattle.vnfd_document.specs.Json.{Named, at, whole}
+use Rattle.vnfd_document.specs.Json.{Named, at, is_text, whole}
 use Rattle.vnfd_document.specs.Members.{needed}
 use Rattle.vnfd_document.specs.Places.{of_type, property, targets}
 use Rattle.vnfd_policies.specs.Policies.{aspect_deltas, aims_at, targets_refusal, unknown_in, with_earlier}
@@ -46,6 +46,15 @@ aspect_refusal all (Some d) = text_refusal all (as_str d)
 -- the deltas, where each of these steps has one
 abbrev pub deltas_for : List Data → Data → Option Data
 deltas_for names d = if list_all (λ s. is_some (step_delta d s)) names then Some d else None
+
+-- the same steps, however often each stands: what holds of all of these holds of all of those, and there are some of both or none
+pub record AreSameSteps (these those : List Data) : Type 0 where
+  pub all : (test : Data → Bool) → list_all test these ≡ list_all test those
+  pub none : nat_eq (length these) 0 ≡ nat_eq (length those) 0
+
+-- the values are the same text
+abbrev pub are_same_text : Data → Data → Bool
+are_same_text a b = option_map_or (λ text. is_text text b) (as_str a) false
 
 -- why the deltas of a policy are refused, where there is a step to look up: they are missing, or one has no delta
 abbrev pub deltas_refusal : List Data → Option Data → Option VnfdFault

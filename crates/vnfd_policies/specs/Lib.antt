@@ -1,5 +1,7 @@
 pub mod Policies
 pub mod Aspects
+pub mod AspectsSeen
+pub mod ByType
 pub mod Cells
 pub mod Deltas
 pub mod Levels

@@ -12,9 +12,13 @@ use Rattle.vnfd_policies.specs.Policies.{aspect_deltas, aims_at}
 use Rattle.vnfd_policies.specs.Aspects.{aspects, maximum, steps}
 use Rattle.vnfd_policies.specs.Deltas.{aspect_name, step_delta}
 
+-- what a step adds by these deltas, and 0 where they are absent or have none for it
+abbrev pub delta_in : Option Data → Data → ℕ
+delta_in deltas step = unwrap_or (option_and_then (λ d. step_delta d step) deltas) 0
+
 -- what each of these steps adds by the deltas of a policy
 abbrev pub deltas_by : Data → List Data → List ℕ
-deltas_by policy names = map (λ s. unwrap_or (option_and_then (λ d. step_delta d s) (property (codes "deltas") policy)) 0) names
+deltas_by policy names = map (delta_in (property (codes "deltas") policy)) names
 
 -- the row of the VDU of this number and name: that of the policy that aims at it
 abbrev pub row_of : Data → List Named → ℕ → List ℕ → Option Row

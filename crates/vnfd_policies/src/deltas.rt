@@ -4,23 +4,26 @@ ghost use Rattle.std.specs.List.{list_all, list_any};
 ghost use Rattle.std.specs.Option.{option_map_or};
 ghost use Rattle.serde_json.specs.Find.{as_str, get};
 ghost use Rattle.serde_json.specs.View.{items_view, view};
-ghost use Rattle.vnfd_document.specs.Checks.{Refuses, first_failing};
+ghost use Rattle.vnfd_document.specs.Checks.{Refuses, fault_of, first_failing};
 ghost use Rattle.vnfd_document.specs.Json.{items_in};
 ghost use Rattle.vnfd_document.specs.Members.{needed};
 ghost use Rattle.vnfd_document.specs.Places.{property as the_property, targets as the_targets};
 ghost use Rattle.vnfd_document.specs.Seen.{seen};
 ghost use Rattle.vnfd_policies.specs.Aspects.{steps as the_steps};
+ghost use Rattle.vnfd_policies.specs.AspectsSeen.{aspect_seen};
 ghost use Rattle.vnfd_policies.specs.Cells.{cell};
 ghost use Rattle.vnfd_policies.specs.Deltas.{all_deltas_refusal, aspect_name as the_aspect_name, aspect_refusal, cells as the_cells, deltas_for, deltas_refusal, is_cell_in, policies_refusal_after, single_refusal, step_delta as the_step_delta, steps_of as the_steps_of, text_refusal};
+ghost use Rattle.vnfd_policies.specs.ByType.{HaveAspects, HaveDeltas};
 
+use crate::aspect_steps::Steps;
+use crate::bounds::INSTANCES;
+use crate::by_type::Policies;
 use crate::scaling::{aspects_in, maximum};
-use crate::words::{aims_at, known_targets, named, property, refuse_unknown};
+use crate::steps::{steps_named, steps_of_each};
+use crate::words::{aims_at, known_targets, property, refuse_unknown};
 use serde_json::Value;
 use std::alloc::{AllocError, Global};
-use vnfd_document::{Entry, VnfdFault, is_same_text, label, of_type, whole_in};
-
-/// The most instances that a step adds.
-const INSTANCES: u32 = 65_535;
+use vnfd_document::{Entry, VnfdFault, is_same_text, label, whole_in};
 
 /// An aspect and a VDU, by name, that a policy gives deltas for.
 #[derive(Clone, Copy)]
@@ -36,26 +39,36 @@ pub struct Cell<'a> {
 pub fn refuse_deltas<'a>(
     alloc: Global,
     vdus: &[Entry<'a>],
-    policies: &[Entry<'a>],
+    policies: &Policies<'a>,
 ) -> Result<(), VnfdFault>
-    ensures { Refuses result (all_deltas_refusal (map seen vdus.now) (map seen policies.now)) }
+    requires aspects { HaveAspects policies.now }
+    requires deltas { HaveDeltas policies.now }
+    ensures { Refuses result (all_deltas_refusal (map seen vdus.now) (map seen policies.now.all.items)) }
 {
     let aspects = aspects_in(alloc, policies)?;
-    let with_deltas = of_type(alloc, policies, "tosca.policies.nfv.VduScalingAspectDeltas")?;
-    refuse_each(alloc, vdus, aspects.as_slice(), with_deltas.as_slice())
+    let steps = steps_of_each(alloc, aspects.as_slice())?;
+    refuse_each(
+        alloc,
+        vdus,
+        aspects.as_slice(),
+        steps.as_slice(),
+        policies.with_deltas.as_slice(),
+    )
 }
 
 fn refuse_each<'a>(
     alloc: Global,
     vdus: &[Entry<'a>],
     aspects: &[Entry<'a>],
+    steps: &[Steps<'a>],
     policies: &[Entry<'a>],
 ) -> Result<(), VnfdFault>
+    requires { map aspect_seen steps.now ≡ map seen aspects.now }
     ensures { Refuses result (policies_refusal_after (map seen vdus.now) (map seen aspects.now) [] (map seen policies.now)) }
 {
     let mut taken: Vec<Cell> = Vec::new(alloc);
     for policy in policies {
-        refuse_policy(alloc, vdus, aspects, policy.value)?;
+        refuse_policy(alloc, vdus, aspects, steps, policy.value)?;
         let cells = cells(alloc, vdus, policy.value)?;
         if is_any_taken(taken.as_slice(), cells.as_slice()) {
             return Err(VnfdFault::Wrong(label("deltas")));
@@ -70,18 +83,20 @@ fn refuse_policy(
     alloc: Global,
     vdus: &[Entry],
     aspects: &[Entry],
+    steps: &[Steps],
     policy: &Value,
 ) -> Result<(), VnfdFault>
+    requires { map aspect_seen steps.now ≡ map seen aspects.now }
     ensures { Refuses result (single_refusal (map seen vdus.now) (map seen aspects.now) (view policy.now)) }
 {
     refuse_aspect(aspects, policy)?;
     known_targets(alloc, vdus, policy)?;
-    refuse_missing_deltas(aspects, policy)
+    refuse_missing_deltas(steps, policy)
 }
 
 /// The aspect that a policy is for is there, and one of the aspects.
 fn refuse_aspect(aspects: &[Entry], policy: &Value) -> Result<(), VnfdFault>
-    ensures { Refuses result (aspect_refusal (map seen aspects.now) (the_property (codes "aspect") (view policy.now))) }
+    ensures { fault_of result ≡ aspect_refusal (map seen aspects.now) (the_property (codes "aspect") (view policy.now)) }
 {
     match property(policy, "aspect") {
         Some(value) => refuse_aspect_name(aspects, value),
@@ -90,7 +105,7 @@ fn refuse_aspect(aspects: &[Entry], policy: &Value) -> Result<(), VnfdFault>
 }
 
 fn refuse_aspect_name(aspects: &[Entry], value: &Value) -> Result<(), VnfdFault>
-    ensures { Refuses result (text_refusal (map seen aspects.now) (as_str (view value.now))) }
+    ensures { fault_of result ≡ text_refusal (map seen aspects.now) (as_str (view value.now)) }
 {
     match value.as_str() {
         Some(name) => refuse_unknown(aspects, name),
@@ -109,20 +124,13 @@ pub fn aspect_name(policy: &Value) -> &str
 }
 
 /// Where there is a step of the policy's aspect to look up, its deltas are there, with one for each step.
-fn refuse_missing_deltas(aspects: &[Entry], policy: &Value) -> Result<(), VnfdFault>
-    ensures { Refuses result (deltas_refusal (the_steps_of (map seen aspects.now) (the_aspect_name (view policy.now))) (the_property (codes "deltas") (view policy.now))) }
+fn refuse_missing_deltas(steps: &[Steps], policy: &Value) -> Result<(), VnfdFault>
+    ensures { fault_of result ≡ deltas_refusal (the_steps_of (map aspect_seen steps.now) (the_aspect_name (view policy.now))) (the_property (codes "deltas") (view policy.now)) }
 {
-    match steps_of(aspects, aspect_name(policy)) {
-        Some(names) => refuse_deltas_of(names.as_slice(), policy),
+    match steps_named(steps, aspect_name(policy)) {
+        Some(steps) => refuse_deltas_of(steps.names.as_slice(), policy),
         None => Ok(()),
     }
-}
-
-/// The names of the steps of the aspect of this name.
-fn steps_of<'a>(aspects: &[Entry<'a>], name: &str) -> Option<&'a Vec<Value>>
-    ensures { the_steps_of (map seen aspects.now) name.now ≡ option_map_or (λ names. items_in (items_view names.now.items)) result [] }
-{
-    steps(named(aspects, name)?.value)
 }
 
 /// The names of an aspect's steps, where its greatest level isn't 0 and they are a list.
@@ -135,9 +143,9 @@ pub fn steps(aspect: &Value) -> Option<&Vec<Value>>
     aspect.get("step_deltas")?.as_array()
 }
 
-#[tactic(auto, using(crate::proofs::ListLaws::count_items))]
-fn refuse_deltas_of(names: &[Value], policy: &Value) -> Result<(), VnfdFault>
-    ensures { Refuses result (deltas_refusal (items_in (items_view names.now)) (the_property (codes "deltas") (view policy.now))) }
+#[tactic(auto, using(crate::proofs::StepLaws::count_seen))]
+fn refuse_deltas_of(names: &[&Value], policy: &Value) -> Result<(), VnfdFault>
+    ensures { fault_of result ≡ deltas_refusal (map (λ v. view v.now) names.now) (the_property (codes "deltas") (view policy.now)) }
 {
     if names.is_empty() {
         return Ok(());
@@ -146,8 +154,8 @@ fn refuse_deltas_of(names: &[Value], policy: &Value) -> Result<(), VnfdFault>
 }
 
 /// The deltas of a policy are there, with one for each of these steps.
-fn refuse_no_deltas(names: &[Value], policy: &Value) -> Result<(), VnfdFault>
-    ensures { Refuses result (needed (codes "deltas") (deltas_for (items_in (items_view names.now))) (the_property (codes "deltas") (view policy.now))) }
+fn refuse_no_deltas(names: &[&Value], policy: &Value) -> Result<(), VnfdFault>
+    ensures { fault_of result ≡ needed (codes "deltas") (deltas_for (map (λ v. view v.now) names.now)) (the_property (codes "deltas") (view policy.now)) }
 {
     let Some(deltas) = property(policy, "deltas") else {
         return Err(VnfdFault::Lacks(label("deltas")));
@@ -160,8 +168,8 @@ fn refuse_no_deltas(names: &[Value], policy: &Value) -> Result<(), VnfdFault>
 }
 
 /// Whether there is a delta for each of these steps.
-fn has_deltas(deltas: &Value, names: &[Value]) -> bool
-    ensures { result ≡ list_all (λ s. is_some (the_step_delta (view deltas.now) s)) (items_in (items_view names.now)) }
+fn has_deltas(deltas: &Value, names: &[&Value]) -> bool
+    ensures { result ≡ list_all (λ s. is_some (the_step_delta (view deltas.now) s)) (map (λ v. view v.now) names.now) }
 {
     for name in names {
         if step_delta(deltas, name).is_none() {

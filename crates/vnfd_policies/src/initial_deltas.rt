@@ -4,22 +4,22 @@ ghost use Rattle.std.specs.List.{list_any};
 ghost use Rattle.std.specs.Str.{bytes_eq};
 ghost use Rattle.serde_json.specs.Find.{get};
 ghost use Rattle.serde_json.specs.View.{view};
-ghost use Rattle.vnfd_document.specs.Checks.{Refuses, first_failing};
+ghost use Rattle.vnfd_document.specs.Checks.{Refuses, fault_of, first_failing};
 ghost use Rattle.vnfd_document.specs.Members.{needed};
 ghost use Rattle.vnfd_document.specs.Places.{of_type, property as the_property, targets as the_targets};
 ghost use Rattle.vnfd_document.specs.Seen.{seen};
 ghost use Rattle.vnfd_policies.specs.Levels.{default_name as the_default_name};
 ghost use Rattle.vnfd_policies.specs.Policies.{vdu_levels};
 ghost use Rattle.vnfd_policies.specs.Initial.{again_refusal, delta_of as the_delta_of, first_given as the_first_given, given_at as the_given_at, initial_of, initials_refusal, initials_refusal_after, instances as the_instances, is_aimed_at as one_aims_at, missing_refusal};
+ghost use Rattle.vnfd_policies.specs.ByType.{HaveDeltas, HaveInitials, HaveLevels, HaveNumbers};
 
+use crate::bounds::INSTANCES;
+use crate::by_type::Policies;
 use crate::instantiation::default_name;
 use crate::words::{aims_at, known_targets, property};
 use serde_json::Value;
 use std::alloc::{AllocError, Global};
-use vnfd_document::{Entry, VnfdFault, at, is_same_text, label, of_type, whole_in};
-
-/// The most instances that a policy gives a VDU.
-const INSTANCES: u32 = 65_535;
+use vnfd_document::{Entry, VnfdFault, at, is_same_text, label, whole_in};
 
 /// The instances in a value.
 fn instances(value: &Value) -> Option<u32>
@@ -35,14 +35,15 @@ fn instances(value: &Value) -> Option<u32>
 pub fn refuse_initials<'a>(
     alloc: Global,
     vdus: &[Entry<'a>],
-    policies: &[Entry<'a>],
+    policies: &Policies<'a>,
 ) -> Result<(), VnfdFault>
-    ensures { Refuses result (initials_refusal (map seen vdus.now) (map seen policies.now)) }
+    requires deltas { HaveDeltas policies.now }
+    requires initials { HaveInitials policies.now }
+    ensures { Refuses result (initials_refusal (map seen vdus.now) (map seen policies.now.all.items)) }
 {
-    let initials = of_type(alloc, policies, "tosca.policies.nfv.VduInitialDelta")?;
-    refuse_each(alloc, vdus, initials.as_slice())?;
-    let with_deltas = of_type(alloc, policies, "tosca.policies.nfv.VduScalingAspectDeltas")?;
-    refuse_missing(with_deltas.as_slice(), initials.as_slice(), vdus)
+    let initials = policies.with_initials.as_slice();
+    refuse_each(alloc, vdus, initials)?;
+    refuse_missing(policies.with_deltas.as_slice(), initials, vdus)
 }
 
 fn refuse_each<'a>(
@@ -89,7 +90,7 @@ fn is_among(names: &[&str], wanted: &str) -> bool
 
 /// The number of a policy is there, and a whole number to 65,535.
 fn refuse_number(policy: &Value) -> Result<(), VnfdFault>
-    ensures { Refuses result (needed (codes "initial_delta") the_instances (the_property (codes "initial_delta") (view policy.now))) }
+    ensures { fault_of result ≡ needed (codes "initial_delta") the_instances (the_property (codes "initial_delta") (view policy.now)) }
 {
     let Some(delta) = property(policy, "initial_delta") else {
         return Err(VnfdFault::Lacks(label("initial_delta")));
@@ -106,7 +107,7 @@ fn refuse_missing(
     initials: &[Entry],
     vdus: &[Entry],
 ) -> Result<(), VnfdFault>
-    ensures { Refuses result (first_failing (missing_refusal (map seen with_deltas.now) (map seen initials.now)) (map seen vdus.now)) }
+    ensures { fault_of result ≡ first_failing (missing_refusal (map seen with_deltas.now) (map seen initials.now)) (map seen vdus.now) }
 {
     for vdu in vdus {
         if is_aimed_at(with_deltas, vdu.name) && !is_aimed_at(initials, vdu.name) {
@@ -132,11 +133,13 @@ fn is_aimed_at(policies: &[Entry], vdu: &str) -> bool
 ///
 /// Source: SOL 001, tosca.policies.nfv.VduInitialDelta and tosca.policies.nfv.VduInstantiationLevels; defaults: own rule.
 #[tactic(auto, unfolding(crate::specs::Initial::initial_of))]
-pub fn initial(alloc: Global, policies: &[Entry], vdu: &str) -> Result<u32, AllocError>
-    ensures { IfOk result (λ n. n ≡ initial_of (map seen policies.now) vdu.now) }
+pub fn initial(alloc: Global, policies: &Policies, vdu: &str) -> Result<u32, AllocError>
+    requires initials { HaveInitials policies.now }
+    requires levels { HaveLevels policies.now }
+    requires numbers { HaveNumbers policies.now }
+    ensures { IfOk result (λ n. n ≡ initial_of (map seen policies.now.all.items) vdu.now) }
 {
-    let initials = of_type(alloc, policies, "tosca.policies.nfv.VduInitialDelta")?;
-    if let Some(delta) = delta_of(vdu, initials.as_slice()) {
+    if let Some(delta) = delta_of(vdu, policies.with_initials.as_slice()) {
         return Ok(delta);
     }
     let given = given_first(alloc, policies, vdu)?;
@@ -144,12 +147,13 @@ pub fn initial(alloc: Global, policies: &[Entry], vdu: &str) -> Result<u32, Allo
 }
 
 /// What the VDU is given at the default level by the first policy that gives it a number there.
-fn given_first(alloc: Global, policies: &[Entry], vdu: &str) -> Result<Option<u32>, AllocError>
-    ensures { IfOk result (λ n. n ≡ the_first_given (the_default_name (map seen policies.now)) vdu.now (of_type vdu_levels (map seen policies.now))) }
+fn given_first(alloc: Global, policies: &Policies, vdu: &str) -> Result<Option<u32>, AllocError>
+    requires levels { HaveLevels policies.now }
+    requires numbers { HaveNumbers policies.now }
+    ensures { IfOk result (λ n. n ≡ the_first_given (the_default_name (map seen policies.now.all.items)) vdu.now (of_type vdu_levels (map seen policies.now.all.items))) }
 {
     let level = default_name(alloc, policies)?;
-    let with_levels = of_type(alloc, policies, "tosca.policies.nfv.VduInstantiationLevels")?;
-    Ok(first_given(level, vdu, with_levels.as_slice()))
+    Ok(first_given(level, vdu, policies.with_numbers.as_slice()))
 }
 
 /// The initial delta of the policy that aims at the VDU.

@@ -5,36 +5,37 @@ ghost use Rattle.std.specs.Option.{option_map_or};
 ghost use Rattle.std.specs.Str.{bytes_eq};
 ghost use Rattle.serde_json.specs.Find.{as_str, get};
 ghost use Rattle.serde_json.specs.View.{view};
-ghost use Rattle.vnfd_document.specs.Checks.{Refuses, first_failing};
+ghost use Rattle.vnfd_document.specs.Checks.{Refuses, fault_of, first_failing};
 ghost use Rattle.vnfd_document.specs.Json.{whole, within};
 ghost use Rattle.vnfd_document.specs.Places.{property as the_property};
 ghost use Rattle.vnfd_document.specs.Seen.{seen};
 ghost use Rattle.vnfd_policies.specs.Levels.{default_by, default_name as the_default_name, default_name_by, default_name_in as the_default_name_in, default_number as the_default_number, default_of, default_refusal, default_text_refusal, first_name as the_first_name, level_of as the_level_of, level_of_refusal, level_refusal, levels_by as the_levels_by, levels_in as the_levels_in, levels_of, levels_refusal, none_refusal, number_at as the_number_at, number_refusal, policies_with_levels_refusal, policy_levels_refusal, scale_refusal};
 ghost use Rattle.vnfd_policies.specs.Policies.{members_at};
+ghost use Rattle.vnfd_policies.specs.ByType.{HaveAspects, HaveLevels};
 
+use crate::bounds::LEVELS;
+use crate::by_type::Policies;
 use crate::scaling::{aspects_in, maximum};
 use crate::words::{named, property, refuse_more, refuse_unknown};
 use lcm_events::{Level, Listed};
 use serde_json::Value;
 use std::alloc::{AllocError, Global};
 use vnfd_document::{
-    Check, Entry, VnfdFault, at, first_of, is_same_text, label, members_in, name_or_empty, of_type,
-    unknown, whole_in,
+    Check, Entry, VnfdFault, at, first_of, is_same_text, label, members_in, name_or_empty, unknown,
+    whole_in,
 };
-
-/// The most levels of a descriptor.
-const LEVELS: usize = 64;
 
 /// The first thing that is wrong with the instantiation levels: that there are two policies with levels, or none in the one,
 /// or too many; the scale levels of each level in turn; the default level.
 ///
 /// Source: SOL 001, tosca.policies.nfv.InstantiationLevels.
-pub fn refuse_levels(alloc: Global, policies: &[Entry]) -> Result<(), VnfdFault>
-    ensures { Refuses result (levels_refusal (map seen policies.now)) }
+pub fn refuse_levels(alloc: Global, policies: &Policies) -> Result<(), VnfdFault>
+    requires aspects { HaveAspects policies.now }
+    requires levels { HaveLevels policies.now }
+    ensures { Refuses result (levels_refusal (map seen policies.now.all.items)) }
 {
     let aspects = aspects_in(alloc, policies)?;
-    let with_levels = of_type(alloc, policies, "tosca.policies.nfv.InstantiationLevels")?;
-    refuse_policies(alloc, aspects.as_slice(), with_levels.as_slice())
+    refuse_policies(alloc, aspects.as_slice(), policies.with_levels.as_slice())
 }
 
 fn refuse_policies(alloc: Global, aspects: &[Entry], policies: &[Entry]) -> Result<(), VnfdFault>
@@ -66,7 +67,7 @@ fn levels_in<'a>(alloc: Global, policy: &'a Value) -> Result<Vec<Entry<'a>>, All
 
 /// There is a level.
 fn refuse_none(levels: &[Entry]) -> Result<(), VnfdFault>
-    ensures { Refuses result (none_refusal (map seen levels.now)) }
+    ensures { fault_of result ≡ none_refusal (map seen levels.now) }
 {
     match levels {
         [] => Err(VnfdFault::Lacks(label("levels"))),
@@ -92,7 +93,7 @@ fn refuse_level(alloc: Global, aspects: &[Entry], level: &Value) -> Result<(), V
 }
 
 fn refuse_scales(aspects: &[Entry], scales: &[Entry]) -> Result<(), VnfdFault>
-    ensures { Refuses result (first_failing (scale_refusal (map seen aspects.now)) (map seen scales.now)) }
+    ensures { fault_of result ≡ first_failing (scale_refusal (map seen aspects.now)) (map seen scales.now) }
 {
     for scale in scales {
         refuse_scale(aspects, scale)?;
@@ -102,7 +103,7 @@ fn refuse_scales(aspects: &[Entry], scales: &[Entry]) -> Result<(), VnfdFault>
 
 /// A scale level is of an aspect, and a whole number to its greatest level.
 fn refuse_scale(aspects: &[Entry], scale: &Entry) -> Result<(), VnfdFault>
-    ensures { Refuses result (scale_refusal (map seen aspects.now) (seen scale.now)) }
+    ensures { fault_of result ≡ scale_refusal (map seen aspects.now) (seen scale.now) }
 {
     match named(aspects, scale.name) {
         Some(aspect) => refuse_number(maximum(aspect.value), scale.value),
@@ -111,7 +112,7 @@ fn refuse_scale(aspects: &[Entry], scale: &Entry) -> Result<(), VnfdFault>
 }
 
 fn refuse_number(most: u32, scale: &Value) -> Result<(), VnfdFault>
-    ensures { Refuses result (number_refusal most (view scale.now)) }
+    ensures { fault_of result ≡ number_refusal most (view scale.now) }
 {
     if scale_level(most, scale).is_none() {
         return Err(VnfdFault::Wrong(label("scale_level")));
@@ -127,7 +128,7 @@ fn scale_level(most: u32, scale: &Value) -> Option<u32>
 
 /// The default level is there where there are several levels, and names one of them.
 fn refuse_default(levels: &[Entry], policy: &Value) -> Result<(), VnfdFault>
-    ensures { Refuses result (default_refusal (map seen levels.now) (the_property (codes "default_level") (view policy.now))) }
+    ensures { fault_of result ≡ default_refusal (map seen levels.now) (the_property (codes "default_level") (view policy.now)) }
 {
     match property(policy, "default_level") {
         Some(value) => refuse_default_name(levels, value),
@@ -137,7 +138,7 @@ fn refuse_default(levels: &[Entry], policy: &Value) -> Result<(), VnfdFault>
 }
 
 fn refuse_default_name(levels: &[Entry], value: &Value) -> Result<(), VnfdFault>
-    ensures { Refuses result (default_text_refusal (map seen levels.now) (as_str (view value.now))) }
+    ensures { fault_of result ≡ default_text_refusal (map seen levels.now) (as_str (view value.now)) }
 {
     match value.as_str() {
         Some(name) => refuse_unknown(levels, name),
@@ -149,12 +150,13 @@ fn refuse_default_name(levels: &[Entry], value: &Value) -> Result<(), VnfdFault>
 ///
 /// Source: SOL 001, tosca.policies.nfv.InstantiationLevels; default: own rule.
 #[tactic(auto, unfolding(crate::specs::Levels::levels_of))]
-pub fn levels(alloc: Global, policies: &[Entry]) -> Result<Listed<Level>, AllocError>
-    ensures { IfOk result (λ found. found ≡ levels_of (map seen policies.now)) }
+pub fn levels(alloc: Global, policies: &Policies) -> Result<Listed<Level>, AllocError>
+    requires aspects { HaveAspects policies.now }
+    requires levels { HaveLevels policies.now }
+    ensures { IfOk result (λ found. found ≡ levels_of (map seen policies.now.all.items)) }
 {
     let aspects = aspects_in(alloc, policies)?;
-    let with_levels = of_type(alloc, policies, "tosca.policies.nfv.InstantiationLevels")?;
-    match with_levels.as_slice() {
+    match policies.with_levels.as_slice() {
         [] => only_level(alloc, aspects.as_slice()),
         [policy, ..] => levels_of_policy(alloc, aspects.as_slice(), policy.value),
     }
@@ -233,11 +235,11 @@ fn number_at(level: &Value, aspect: &Entry) -> u32
 }
 
 /// The name of the default level.
-pub fn default_name<'a>(alloc: Global, policies: &[Entry<'a>]) -> Result<&'a str, AllocError>
-    ensures { IfOk result (λ name. name.now ≡ the_default_name (map seen policies.now)) }
+pub fn default_name<'a>(alloc: Global, policies: &Policies<'a>) -> Result<&'a str, AllocError>
+    requires levels { HaveLevels policies.now }
+    ensures { IfOk result (λ name. name.now ≡ the_default_name (map seen policies.now.all.items)) }
 {
-    let with_levels = of_type(alloc, policies, "tosca.policies.nfv.InstantiationLevels")?;
-    match with_levels.as_slice() {
+    match policies.with_levels.as_slice() {
         [] => Ok("default"),
         [policy, ..] => default_name_in(alloc, policy.value),
     }
@@ -274,11 +276,11 @@ fn first_name<'a>(levels: &[Entry<'a>]) -> &'a str
 ///
 /// Source: SOL 001, tosca.policies.nfv.InstantiationLevels, default_level; default: own rule.
 #[tactic(auto, unfolding(crate::specs::Levels::default_of))]
-pub fn default_level(alloc: Global, policies: &[Entry]) -> Result<u16, AllocError>
-    ensures { IfOk result (λ n. n ≡ default_of (map seen policies.now)) }
+pub fn default_level(alloc: Global, policies: &Policies) -> Result<u16, AllocError>
+    requires levels { HaveLevels policies.now }
+    ensures { IfOk result (λ n. n ≡ default_of (map seen policies.now.all.items)) }
 {
-    let with_levels = of_type(alloc, policies, "tosca.policies.nfv.InstantiationLevels")?;
-    match with_levels.as_slice() {
+    match policies.with_levels.as_slice() {
         [] => Ok(0),
         [policy, ..] => default_number(alloc, policy.value),
     }

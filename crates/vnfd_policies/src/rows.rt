@@ -10,15 +10,17 @@ ghost use Rattle.vnfd_document.specs.Seen.{seen};
 ghost use Rattle.vnfd_policies.specs.Aspects.{steps as the_steps};
 ghost use Rattle.vnfd_policies.specs.Deltas.{step_delta as the_step_delta};
 ghost use Rattle.vnfd_policies.specs.Policies.{aims_at as it_aims_at};
-ghost use Rattle.vnfd_policies.specs.Rows.{aspect_of as the_aspect_of, aspects_of, deltas_by as the_deltas_by, policies_for as those_for, row_of as the_row_of, rows_of as the_rows_of, step_count as the_step_count};
+ghost use Rattle.vnfd_policies.specs.Rows.{aspect_of as the_aspect_of, aspects_of, delta_in, deltas_by as the_deltas_by, policies_for as those_for, row_of as the_row_of, rows_of as the_rows_of, step_count as the_step_count};
+ghost use Rattle.vnfd_policies.specs.ByType.{HaveAspects, HaveDeltas};
 
+use crate::by_type::Policies;
 use crate::deltas::{aspect_name, step_delta, steps};
 use crate::scaling::{aspects_in, maximum};
 use crate::words::{aims_at, property};
 use lcm_events::{Aspect, Listed, Row};
 use serde_json::Value;
 use std::alloc::{AllocError, Global};
-use vnfd_document::{Entry, is_same_text, name_or_empty, of_type};
+use vnfd_document::{Entry, is_same_text, name_or_empty};
 
 /// The aspects, in byte order of their names.
 ///
@@ -27,14 +29,20 @@ use vnfd_document::{Entry, is_same_text, name_or_empty, of_type};
 pub fn aspects(
     alloc: Global,
     vdus: &[Entry],
-    policies: &[Entry],
+    policies: &Policies,
 ) -> Result<Listed<Aspect>, AllocError>
-    requires { length vdus.now ≤ 64 }
-    ensures { IfOk result (λ found. found ≡ aspects_of (map seen vdus.now) (map seen policies.now)) }
+    requires aspects { HaveAspects policies.now }
+    requires deltas { HaveDeltas policies.now }
+    requires vdus { length vdus.now ≤ 64 }
+    ensures { IfOk result (λ found. found ≡ aspects_of (map seen vdus.now) (map seen policies.now.all.items)) }
 {
     let aspects = aspects_in(alloc, policies)?;
-    let with_deltas = of_type(alloc, policies, "tosca.policies.nfv.VduScalingAspectDeltas")?;
-    each_aspect(alloc, vdus, with_deltas.as_slice(), aspects.as_slice())
+    each_aspect(
+        alloc,
+        vdus,
+        policies.with_deltas.as_slice(),
+        aspects.as_slice(),
+    )
 }
 
 fn each_aspect(
@@ -158,26 +166,31 @@ fn deltas_of(alloc: Global, policy: &Value, aspect: &Value) -> Result<Listed<u32
     ensures { IfOk result (λ found. found ≡ the_deltas_by (view policy.now) (the_steps (view aspect.now))) }
 {
     match steps(aspect) {
-        Some(names) => deltas_by(alloc, policy, names.as_slice()),
+        Some(names) => deltas_by(alloc, property(policy, "deltas"), names.as_slice()),
         None => Ok(Listed::new(alloc)),
     }
 }
 
-fn deltas_by(alloc: Global, policy: &Value, names: &[Value]) -> Result<Listed<u32>, AllocError>
-    ensures { IfOk result (λ found. found ≡ the_deltas_by (view policy.now) (items_in (items_view names.now))) }
+/// What each of these steps adds by the deltas of a policy.
+fn deltas_by(
+    alloc: Global,
+    deltas: Option<&Value>,
+    names: &[Value],
+) -> Result<Listed<u32>, AllocError>
+    ensures { IfOk result (λ found. found ≡ map (delta_in (option_map (λ v. view v.now) deltas.entry)) (items_in (items_view names.now))) }
 {
     let mut found = Vec::new(alloc);
     for name in names {
-        found.push(delta_of(policy, name))?;
+        found.push(delta_of(deltas, name))?;
     }
     Ok(Listed::of(found))
 }
 
 /// What a step adds by the deltas of a policy, or 0 where it has no delta.
-fn delta_of(policy: &Value, step: &Value) -> u32
-    ensures { result ≡ unwrap_or (option_and_then (λ d. the_step_delta d (view step.now)) (the_property (codes "deltas") (view policy.now))) 0 }
+fn delta_of(deltas: Option<&Value>, step: &Value) -> u32
+    ensures { result ≡ delta_in (option_map (λ v. view v.now) deltas.entry) (view step.now) }
 {
-    match property(policy, "deltas") {
+    match deltas {
         Some(deltas) => step_delta(deltas, step).unwrap_or(0),
         None => 0,
     }

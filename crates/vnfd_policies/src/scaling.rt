@@ -4,30 +4,27 @@ ghost use Rattle.std.specs.List.{flat_map, list_all};
 ghost use Rattle.serde_json.specs.Find.{as_object, as_str};
 ghost use Rattle.vnfd_document.specs.Members.{needed};
 ghost use Rattle.serde_json.specs.View.{items_view, view};
-ghost use Rattle.vnfd_document.specs.Checks.{Refuses, first_failing};
+ghost use Rattle.vnfd_document.specs.Checks.{Refuses, fault_of, first_failing};
 ghost use Rattle.vnfd_document.specs.Json.{items_in};
 ghost use Rattle.vnfd_document.specs.Places.{property as the_property};
 ghost use Rattle.vnfd_document.specs.Seen.{seen};
 ghost use Rattle.vnfd_policies.specs.Aspects.{are_steps, aspects as the_aspects, aspects_refusal, form_refusal, maximum as the_maximum, maximum_refusal, step_list, steps_refusal};
 ghost use Rattle.vnfd_policies.specs.Policies.{members_at};
+ghost use Rattle.vnfd_policies.specs.ByType.{HaveAspects};
 
+use crate::bounds::{ASPECTS, MAXIMUM};
+use crate::by_type::Policies;
 use crate::words::{property, refuse_more};
 use serde_json::Value;
 use std::alloc::{AllocError, Global};
-use vnfd_document::{Check, Entry, VnfdFault, first_of, label, members_in, of_type, whole_in};
-
-/// The most aspects of a descriptor.
-const ASPECTS: usize = 16;
-
-/// The greatest level of an aspect.
-const MAXIMUM: u32 = 1_000;
+use vnfd_document::{Check, Entry, VnfdFault, first_of, label, members_in, whole_in};
 
 /// The aspects of all policies that have some, in the order of the policies and in byte order of their names.
-pub fn aspects_in<'a>(alloc: Global, policies: &[Entry<'a>]) -> Result<Vec<Entry<'a>>, AllocError>
-    ensures { IfOk result (λ found. map seen found.items ≡ the_aspects (map seen policies.now)) }
+pub fn aspects_in<'a>(alloc: Global, policies: &Policies<'a>) -> Result<Vec<Entry<'a>>, AllocError>
+    requires aspects { HaveAspects policies.now }
+    ensures { IfOk result (λ found. map seen found.items ≡ the_aspects (map seen policies.now.all.items)) }
 {
-    let with_aspects = of_type(alloc, policies, "tosca.policies.nfv.ScalingAspects")?;
-    property_members(alloc, with_aspects.as_slice(), "aspects")
+    property_members(alloc, policies.with_aspects.as_slice(), "aspects")
 }
 
 /// The members of this property of the policies, in the order of the policies.
@@ -60,34 +57,34 @@ pub fn maximum(aspect: &Value) -> u32
 /// steps of each.
 ///
 /// Source: SOL 001, tosca.policies.nfv.ScalingAspects.
-pub fn refuse_aspects(alloc: Global, policies: &[Entry]) -> Result<(), VnfdFault>
-    ensures { Refuses result (aspects_refusal (map seen policies.now)) }
+pub fn refuse_aspects(alloc: Global, policies: &Policies) -> Result<(), VnfdFault>
+    requires aspects { HaveAspects policies.now }
+    ensures { Refuses result (aspects_refusal (map seen policies.now.all.items)) }
 {
-    let with_aspects = of_type(alloc, policies, "tosca.policies.nfv.ScalingAspects")?;
-    refuse_form(with_aspects.as_slice())?;
+    refuse_form(policies.with_aspects.as_slice())?;
     let aspects = aspects_in(alloc, policies)?;
     refuse_more(ASPECTS, "aspects", aspects.as_slice())?;
-    refuse_maxima(alloc, aspects.as_slice())?;
-    refuse_steps(alloc, aspects.as_slice())
+    refuse_maxima(aspects.as_slice())?;
+    refuse_steps(aspects.as_slice())
 }
 
 /// The greatest level of each aspect is a whole number to 1,000.
-fn refuse_maxima(alloc: Global, aspects: &[Entry]) -> Result<(), VnfdFault>
-    ensures { Refuses result (first_failing maximum_refusal (map seen aspects.now)) }
+fn refuse_maxima(aspects: &[Entry]) -> Result<(), VnfdFault>
+    ensures { fault_of result ≡ first_failing maximum_refusal (map seen aspects.now) }
 {
-    first_of(alloc, aspects, &MaximumCheck)
+    first_of(aspects, &MaximumCheck)
 }
 
 /// The steps of each aspect are named by one text, or by one each.
-fn refuse_steps(alloc: Global, aspects: &[Entry]) -> Result<(), VnfdFault>
-    ensures { Refuses result (first_failing steps_refusal (map seen aspects.now)) }
+fn refuse_steps(aspects: &[Entry]) -> Result<(), VnfdFault>
+    ensures { fault_of result ≡ first_failing steps_refusal (map seen aspects.now) }
 {
-    first_of(alloc, aspects, &StepsCheck)
+    first_of(aspects, &StepsCheck)
 }
 
 /// There is at most one policy with aspects, and its aspects are an object.
 fn refuse_form(with_aspects: &[Entry]) -> Result<(), VnfdFault>
-    ensures { Refuses result (form_refusal (map seen with_aspects.now)) }
+    ensures { fault_of result ≡ form_refusal (map seen with_aspects.now) }
 {
     match with_aspects {
         [] => Ok(()),
@@ -98,7 +95,7 @@ fn refuse_form(with_aspects: &[Entry]) -> Result<(), VnfdFault>
 
 /// The aspects of a policy are there, and an object.
 fn refuse_no_object(policy: &Value) -> Result<(), VnfdFault>
-    ensures { Refuses result (needed (codes "aspects") as_object (the_property (codes "aspects") (view policy.now))) }
+    ensures { fault_of result ≡ needed (codes "aspects") as_object (the_property (codes "aspects") (view policy.now)) }
 {
     let Some(aspects) = property(policy, "aspects") else {
         return Err(VnfdFault::Lacks(label("aspects")));
@@ -118,7 +115,7 @@ impl Check for MaximumCheck {
 
     ghost says = { λ check aspect. maximum_refusal aspect };
 
-    fn check(&self, _alloc: Global, aspect: &Entry) -> Result<(), VnfdFault> {
+    fn check(&self, aspect: &Entry) -> Result<(), VnfdFault> {
         let Some(value) = aspect.value.get("max_scale_level") else {
             return Err(VnfdFault::Lacks(label("max_scale_level")));
         };
@@ -137,7 +134,7 @@ impl Check for StepsCheck {
 
     ghost says = { λ check aspect. steps_refusal aspect };
 
-    fn check(&self, _alloc: Global, aspect: &Entry) -> Result<(), VnfdFault> {
+    fn check(&self, aspect: &Entry) -> Result<(), VnfdFault> {
         let most = maximum(aspect.value);
         if most == 0 {
             return Ok(());

@@ -4,7 +4,7 @@ ghost use Rattle.std.specs.List.{list_any};
 ghost use Rattle.std.specs.Option.{option_map_or};
 ghost use Rattle.std.specs.Str.{bytes_eq};
 ghost use Rattle.serde_json.specs.View.{items_view, view};
-ghost use Rattle.vnfd_document.specs.Checks.{Refuses, first_failing};
+ghost use Rattle.vnfd_document.specs.Checks.{Refuses, fault_of, first_failing};
 ghost use Rattle.vnfd_document.specs.Json.{items_in};
 ghost use Rattle.vnfm_base.specs.Text.{is_label};
 ghost use Rattle.vnfd_document.specs.Places.{property as the_property, targets as the_targets, texts_of};
@@ -76,7 +76,7 @@ fn are_texts_with(text: &str, values: &[Value]) -> bool
 /// There are at most so many of these.
 pub fn refuse_more(most: usize, what: &str, things: &[Entry]) -> Result<(), VnfdFault>
     requires { is_label what.now ≡ true }
-    ensures { Refuses result (too_many most what.now (map seen things.now)) }
+    ensures { fault_of result ≡ too_many most what.now (map seen things.now) }
 {
     if things.len() > most {
         return Err(VnfdFault::TooMany(label(what)));
@@ -86,7 +86,7 @@ pub fn refuse_more(most: usize, what: &str, things: &[Entry]) -> Result<(), Vnfd
 
 /// A text names one of these.
 pub fn refuse_unknown(things: &[Entry], name: &str) -> Result<(), VnfdFault>
-    ensures { Refuses result (unknown_in (map seen things.now) name.now) }
+    ensures { fault_of result ≡ unknown_in (map seen things.now) name.now }
 {
     if is_named(things, name) {
         Ok(())
@@ -97,7 +97,7 @@ pub fn refuse_unknown(things: &[Entry], name: &str) -> Result<(), VnfdFault>
 
 /// Each of these texts names a VDU.
 fn refuse_unknown_targets(vdus: &[Entry], names: &[&str]) -> Result<(), VnfdFault>
-    ensures { Refuses result (first_failing (unknown_in (map seen vdus.now)) (map (λ name. name.now) names.now)) }
+    ensures { fault_of result ≡ first_failing (unknown_in (map seen vdus.now)) (map (λ name. name.now) names.now) }
 {
     for name in names {
         refuse_unknown(vdus, *name)?;

@@ -1,3 +1,5 @@
 pub mod Answer
+pub mod Counted
+pub mod CountsSeen
 pub mod Ordered
 pub mod Steps

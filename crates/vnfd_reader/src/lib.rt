@@ -1,10 +1,9 @@
 //! Descriptors read: what bytes are as a descriptor, or the first thing that is wrong with them.
 #![tactic(auto)]
 
+mod counts;
 mod parts;
 mod steps;
-#[cfg(test)]
-mod tests;
 
 ghost use Rattle.std.specs.Prelude.{IfOk};
 ghost use Rattle.vnfd_document.specs.Checks.{Gives};

@@ -1,13 +1,14 @@
 //! What is wrong first with the parts of a document, and the descriptor that they are.
 ghost use Rattle.std.specs.Prelude.{◌≡◌, ◌≤◌, IfOk, length, map};
 ghost use Rattle.serde_json.specs.View.{view};
-ghost use Rattle.vnfd_document.specs.Checks.{Gives, Refuses};
+ghost use Rattle.vnfd_document.specs.Checks.{Gives, Refuses, fault_of};
 ghost use Rattle.vnfd_document.specs.Order.{AllInOrder, InOrder};
 ghost use Rattle.vnfd_document.specs.Seen.{seen};
 ghost use Rattle.vnfd_nodes.specs.Nodes.{product_refusal};
 ghost use Rattle.vnfd_nodes.specs.Seen.{nodes_seen};
 ghost use Rattle.vnfd_reader.specs.Ordered.{ComeInOrder};
 ghost use Rattle.vnfd_reader.specs.Answer.{document_answer, names_refusal, parts_answer, parts_refusal, product_of, vdus_of, vnfd_of};
+ghost use Rattle.vnfd_policies.specs.ByType.{HaveAspects, HaveDeltas, HaveInitials, HaveLevels, HaveNumbers};
 
 use crate::steps::refuse_steps;
 use lcm_events::{Listed, Vdu, Vnfd};
@@ -19,7 +20,7 @@ use vnfd_nodes::{
     refuse_properties, refuse_templates, storages, vdu,
 };
 use vnfd_policies::{
-    are_policy_names_given, aspects, default_level, initial, level_policies, levels,
+    Policies, are_policy_names_given, aspects, default_level, initial, levels, policies_by_type,
     refuse_policies,
 };
 
@@ -33,28 +34,38 @@ pub fn descriptor(alloc: Global, document: &Value) -> Result<Vnfd, VnfdFault>
         return Err(VnfdFault::Lacks(label("node_templates")));
     };
     let nodes = by_type(alloc, templates.as_slice())?;
-    let policies = policies_in(alloc, document)?;
-    descriptor_of(alloc, &nodes, policies.as_slice())
+    let listed = policies_in(alloc, document)?;
+    let policies = policies_by_type(alloc, listed)?;
+    descriptor_of(alloc, &nodes, &policies)
 }
 
 /// The descriptor that node templates and policies are.
-#[tactic(auto, unfolding(crate::specs::Answer::parts_answer))]
-fn descriptor_of(alloc: Global, nodes: &Templates, policies: &[Entry]) -> Result<Vnfd, VnfdFault>
+#[tactic(auto, unfolding(crate::specs::Answer::parts_answer, vnfd_policies::specs::Refusal::level_policies))]
+fn descriptor_of(alloc: Global, nodes: &Templates, policies: &Policies) -> Result<Vnfd, VnfdFault>
+    requires aspects { HaveAspects policies.now }
+    requires deltas { HaveDeltas policies.now }
+    requires initials { HaveInitials policies.now }
+    requires levels { HaveLevels policies.now }
+    requires numbers { HaveNumbers policies.now }
     requires nodes { ComeInOrder (nodes_seen nodes.now) }
-    requires policies { AllInOrder (map seen policies.now) }
-    ensures { Gives result (parts_answer (nodes_seen nodes.now) (map seen policies.now)) }
+    requires policies { AllInOrder (map seen policies.now.all.items) }
+    ensures { Gives result (parts_answer (nodes_seen nodes.now) (map seen policies.now.all.items)) }
 {
     let product = product_in(nodes.products.as_slice())?;
     refuse_parts(alloc, product, nodes, policies)?;
     let vnfd = built(alloc, product, nodes, policies)?;
-    let stating = level_policies(alloc, policies)?;
-    refuse_steps(alloc, &vnfd, nodes.vdus.as_slice(), stating.as_slice())?;
+    refuse_steps(
+        alloc,
+        &vnfd,
+        nodes.vdus.as_slice(),
+        policies.with_numbers.as_slice(),
+    )?;
     Ok(vnfd)
 }
 
 /// The one template that describes the product.
 fn product_in<'a>(products: &[Entry<'a>]) -> Result<&'a Value, VnfdFault>
-    ensures only { Refuses result (product_refusal (map seen products.now)) }
+    ensures only { fault_of result ≡ product_refusal (map seen products.now) }
     ensures found { IfOk result (λ product. view product.now ≡ product_of (map seen products.now)) }
 {
     refuse_product(products)?;
@@ -66,10 +77,14 @@ fn refuse_parts(
     alloc: Global,
     product: &Value,
     nodes: &Templates,
-    policies: &[Entry],
+    policies: &Policies,
 ) -> Result<(), VnfdFault>
-    requires { view product.now ≡ product_of (map seen nodes.now.products.items) }
-    ensures { Refuses result (parts_refusal (nodes_seen nodes.now) (map seen policies.now)) }
+    requires aspects { HaveAspects policies.now }
+    requires deltas { HaveDeltas policies.now }
+    requires initials { HaveInitials policies.now }
+    requires levels { HaveLevels policies.now }
+    requires product { view product.now ≡ product_of (map seen nodes.now.products.items) }
+    ensures { Refuses result (parts_refusal (nodes_seen nodes.now) (map seen policies.now.all.items)) }
 {
     refuse_properties(product)?;
     refuse_names(nodes, policies)?;
@@ -79,8 +94,10 @@ fn refuse_parts(
 }
 
 #[tactic(auto, unfolding(crate::specs::Answer::names_refusal))]
-fn refuse_names(nodes: &Templates, policies: &[Entry]) -> Result<(), VnfdFault>
-    ensures { Refuses result (names_refusal (nodes_seen nodes.now) (map seen policies.now)) }
+fn refuse_names(nodes: &Templates, policies: &Policies) -> Result<(), VnfdFault>
+    requires aspects { HaveAspects policies.now }
+    requires levels { HaveLevels policies.now }
+    ensures { fault_of result ≡ names_refusal (nodes_seen nodes.now) (map seen policies.now.all.items) }
 {
     if have_all_names(nodes) && are_policy_names_given(policies) {
         Ok(())
@@ -95,13 +112,18 @@ fn built(
     alloc: Global,
     product: &Value,
     nodes: &Templates,
-    policies: &[Entry],
+    policies: &Policies,
 ) -> Result<Vnfd, AllocError>
+    requires aspects { HaveAspects policies.now }
+    requires deltas { HaveDeltas policies.now }
+    requires initials { HaveInitials policies.now }
+    requires levels { HaveLevels policies.now }
+    requires numbers { HaveNumbers policies.now }
     requires product { view product.now ≡ product_of (map seen nodes.now.products.items) }
     requires vdus { length nodes.now.vdus.items ≤ 64 }
     requires storages { length nodes.now.storages.items ≤ 128 }
     requires links { length nodes.now.links.items ≤ 64 }
-    ensures { IfOk result (λ vnfd. vnfd ≡ vnfd_of (nodes_seen nodes.now) (map seen policies.now)) }
+    ensures { IfOk result (λ vnfd. vnfd ≡ vnfd_of (nodes_seen nodes.now) (map seen policies.now.all.items)) }
 {
     let vdus = vdus(
         alloc,
@@ -142,11 +164,14 @@ fn built(
 fn vdus(
     alloc: Global,
     storages: &[Entry],
-    policies: &[Entry],
+    policies: &Policies,
     templates: &[Entry],
 ) -> Result<Listed<Vdu>, AllocError>
-    requires { length storages.now ≤ 128 }
-    ensures { IfOk result (λ found. found ≡ vdus_of (map seen storages.now) (map seen policies.now) (map seen templates.now)) }
+    requires initials { HaveInitials policies.now }
+    requires levels { HaveLevels policies.now }
+    requires numbers { HaveNumbers policies.now }
+    requires storages { length storages.now ≤ 128 }
+    ensures { IfOk result (λ found. found ≡ vdus_of (map seen storages.now) (map seen policies.now.all.items) (map seen templates.now)) }
 {
     let mut found = Vec::new(alloc);
     for template in templates {

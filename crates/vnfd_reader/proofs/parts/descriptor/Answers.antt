@@ -17,6 +17,5 @@ descriptor_of-requires-clause-nodes c =
 
 pub descriptor_of-requires-clause-policies : goal.descriptor_of-requires-clause-policies
 descriptor_of-requires-clause-policies c =
-    let Ordered : List Entry → Type 0 = λ xs. AllInOrder (map seen xs) in
-    subst Ordered (sym c.as_slice-2.ensures.value)
-    (subst AllInOrder (sym c.in_ok-policies.ensures) (in_order-policies (view c.args.document.now) c.requires))
+    let listed = ap (λ (xs : List Entry). map seen xs) c.in_ok-policies.ensures.all ∙ c.in_ok-listed.ensures in
+    subst AllInOrder (sym listed) (in_order-policies (view c.args.document.now) c.requires)

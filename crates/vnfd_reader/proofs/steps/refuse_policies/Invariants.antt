@@ -3,7 +3,7 @@ use Rattle.std.proofs.Common.{◌≡◌, map, drop}
 use Rattle.vnfd_document.specs.Checks.{first_failing}
 use Rattle.vnfd_document.specs.Seen.{seen}
 use Rattle.vnfd_reader.specs.Steps.{policy_refusal}
-use Rattle.vnfd_reader.proofs.steps.refuse_steps.Given as goal
+use Rattle.vnfd_reader.proofs.steps.refuse_policies.Given as goal
 
 abbrev pub invariant-loop-policy : goal.invariant-loop-policy
 invariant-loop-policy l =
