@@ -1,3 +1,4 @@
+mod AskLemmas
 mod JudgeLemmas
 pub mod LawLemmas
 pub mod ManagerLemmas

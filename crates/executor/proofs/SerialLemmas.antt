@@ -18,6 +18,7 @@ use Rattle.lcm_judge.specs.Facts.{HasIdentNumber, HaveIdentNumbers}
 use Rattle.lcm_judge.specs.Judged.{HaveSmallSerials}
 use Rattle.lcm_laws.specs.Serials.{SerialsAreCounted, changes_asked}
 use Rattle.lcm_model.specs.Allowed.{IsAllowed, IsLegal}
+use Rattle.lcm_model.specs.Work.{window}
 use Rattle.lcm_model.specs.Lives.{instances_made, created_in}
 use Rattle.executor.specs.History.{spellings}
 use Rattle.executor.proofs.JudgeLemmas.{spellings-cons}
@@ -89,7 +90,7 @@ events_fit (e ∷ H) =
 -- the serials of a legal history that fits a file are small
 pub small_serials : (m : ℕ) (H : List Event) → SerialsAreCounted → IsLegal m H → size (spellings H) < 268435456 → HaveSmallSerials H
 small_serials m H law legal small i v =
-    let counted = law m H legal i v in
+    let counted = law window m H legal i v in
     let fit = changes_fit H in
     omega (arith, counted, fit, small)
 

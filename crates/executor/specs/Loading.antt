@@ -66,7 +66,7 @@ abbrev pub Finds : Result Judged OpenFault → Progress → SiteState → Type 0
 Finds (Ok j) l s = HasJudged j l s
 Finds (Err (fault.BadRecord n)) l s = IsBrokenAt l.manager n s.image × HasHeader l.manager s.image
 Finds (Err fault.Disk) l s = Unit {0}
-Finds (Err fault.Memory) l s = Unit {0}
+Finds (Err fault.Memory) l s = HasHeader l.manager s.image
 Finds (Err other) l s = ⊥
 
 pub record JudgesAll (result : Result Judged OpenFault) (l : Progress) (a b : SiteState) : Type 0 where

@@ -37,4 +37,4 @@ Opens (Err fault.Unmade) s = IsUnmade s.image
 Opens (Err (fault.Foreign place)) s = IsForeign place s.image
 Opens (Err (fault.BadRecord n)) s = IsBadRecord n s.image
 Opens (Err fault.Disk) s = Unit {0}
-Opens (Err fault.Memory) s = Unit {0}
+Opens (Err fault.Memory) s = (m : ℕ) × HasHeader m s.image

@@ -5,8 +5,6 @@ mod laws;
 mod manager;
 mod open;
 mod questions;
-#[cfg(test)]
-mod tests;
 
 pub use event_codec::TooLong;
 pub use laws::{

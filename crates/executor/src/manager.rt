@@ -14,7 +14,9 @@ ghost use Rattle.lcm_model.specs.Allowed.{IsAllowed};
 ghost use Rattle.vnfm_base.specs.Ident.{IsIdentNumber};
 ghost use Rattle.lcm_model.specs.Lives.{descriptor_named, descriptors, instances_made};
 ghost use Rattle.executor.specs.Questions.{is_made, live, made, may_be_live};
-ghost use Rattle.site_traits.specs.Counts.{Rose, OnlyDisk};
+ghost use Rattle.site_traits.specs.Counts.{Ask, asked, OnlyDiskFails};
+ghost use Rattle.journal_core.specs.Asking.{FailsWhere};
+ghost use Rattle.executor.specs.Asking.{CommitAsks};
 ghost use Rattle.executor.specs.Managed.{Managed, IsKept, StandsFor, Commits, is_settled};
 
 use crate::open::judge_all;
@@ -153,8 +155,7 @@ impl<S: Site> Manager<S> {
         ensures usable { IfOk result (λ m. (m.ledger.closed ≡ false) × IsKept m.ledger m.history) }
         ensures number { IfOk result (λ m. m.ledger.manager < 4294967296) }
         ensures told { S.tells → SyncsAndReads (S.state site.old) (S.state site.new) }
-        ensures disk { result ≡ Err OpenFault.Disk → Rose (S.counts site.old).disk (S.counts site.new).disk }
-        ensures counts { OnlyDisk (S.counts site.old) (S.counts site.new) }
+        ensures counts { FailsWhere (result ≡ Err OpenFault.Disk) (asked Ask.sync (S.counts site.old)) (S.counts site.new) }
     {
         let mut loading = Journal::open(alloc, site)?;
         let judged = judge_all(alloc, &mut loading, site)?;
@@ -174,7 +175,7 @@ impl<S: Site> Manager<S> {
     /// Conditions: the event is allowed after the history, and isn't a Settled; its spelling has at most 65,536 bytes; the
     /// manager isn't closed.
     /// Refusals, in this order: `Memory`; `Full {end, more}` (bytes). After these all is as before. `Disk`, after which the
-    /// manager is closed: load it again.
+    /// manager is closed, with the history that it had: load it again.
     pub fn commit(&mut self, alloc: Global, site: &mut S, e: &Event) -> Result<(), WorkFault>
         requires usable { self.old.ledger.closed ≡ false }
         requires rules { TypedEvent e.now → IsEvent e.now }
@@ -191,9 +192,10 @@ impl<S: Site> Manager<S> {
         ensures untouched { result ≢ Err WorkFault.Disk → OnErr result (site.new ≡ site.old) }
         ensures size { self.old.ledger.end ≡ size (spellings self.old.history) }
         ensures room { result ≡ Ok tt ⊎ (result ≡ Err WorkFault.Disk) → self.old.ledger.end + 6 + length (spelling e.now) ≤ 268435456 }
-        ensures disk { result ≡ Err WorkFault.Disk → Rose (S.counts site.old).disk (S.counts site.new).disk }
         ensures closed { result ≡ Err WorkFault.Disk → self.new.ledger.closed ≡ true }
-        ensures counts { OnlyDisk (S.counts site.old) (S.counts site.new) }
+        ensures history { OnErr result (self.new.history ≡ self.old.history) }
+        ensures asks { CommitAsks result (S.counts site.old) (S.counts site.new) }
+        ensures counts { OnlyDiskFails (result ≡ Err WorkFault.Disk) (S.counts site.old) (S.counts site.new) }
     {
         spell(&mut self.record, e);
         if put_copy(alloc, &mut self.events, self.record.as_slice()).is_err() {

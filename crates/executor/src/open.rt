@@ -4,7 +4,7 @@ ghost use Rattle.executor.specs.History.{spellings};
 ghost use Rattle.journal_core.specs.File.{size};
 ghost use Rattle.lcm_model.specs.Allowed.{IsAllowed, IsLegal};
 ghost use Rattle.journal_core.specs.Load.{IsBegun, Loads};
-ghost use Rattle.site_traits.specs.Counts.{Rose, OnlyDisk};
+ghost use Rattle.journal_core.specs.Asking.{FailsWhere};
 ghost use Rattle.executor.specs.Loading.{Judges, JudgesNext, IsJudged, JudgesAll};
 
 use crate::manager::OpenFault;
@@ -98,8 +98,7 @@ pub fn judge_all<S: Site>(
     ensures told { S.tells → JudgesAll result loading.new (S.state site.old) (S.state site.new) }
     ensures ended { OnOk result (loading.new.ended ≡ true) }
     ensures manager { loading.new.manager ≡ loading.old.manager }
-    ensures disk { result ≡ Err OpenFault.Disk → Rose (S.counts site.old).disk (S.counts site.new).disk }
-    ensures counts { OnlyDisk (S.counts site.old) (S.counts site.new) }
+    ensures counts { FailsWhere (result ≡ Err OpenFault.Disk) (S.counts site.old) (S.counts site.new) }
 {
     let mut judged = Judged {
         events: Vec::new(alloc),

@@ -1,5 +1,5 @@
 -- From the spans of a head to the request of the form.
-use Rattle.std.proofs.Common.{◌≡◌, ◌≤◌, ℕ, List, take, drop, map, length, ap, ◌∙◌, sym, subst, arith, Result, Ok, Err}
+use Rattle.std.proofs.Common.{◌≡◌, ◌≤◌, ℕ, List, take, drop, map, length, ap, ◌∙◌, sym, subst, refl, arith, Result, Ok, Err}
 use Rattle.std.proofs.lemmas.List.{length-take, length-map}
 use Rattle.std.specs.Result.{IfOk, IfErr}
 use Rattle.httparse.specs.declared.spans.HeaderSpan.{HeaderSpan}
@@ -34,5 +34,7 @@ pub reads_form : (bytes : List ℕ) (room : List HeaderSpan) (spans : RequestSpa
     → IsRequestOf bytes room spans → spans.headers ≤ 64 → IsFramed (map (header_bytes bytes) (take spans.headers room)) (length (drop spans.len bytes))
     → IfOk res (HasParts bytes spans) → IfErr res (λ fault. fault ≡ Memory) → ReadsForm bytes res
 reads_form bytes room spans (Ok r) short head few framed parts err = request-of_parts bytes room spans head.0 r short head.1 few framed parts
-reads_form bytes room spans (Err Memory) short head few framed parts err = tt
+reads_form bytes room spans (Err Memory) short head few framed parts err =
+    let r : Request = record { method = span_bytes bytes spans.method; target = span_bytes bytes spans.path; body = drop spans.len bytes } in
+    (r, request-of_parts bytes room spans head.0 r short head.1 few framed (record { method = refl; target = refl; body = refl }))
 reads_form bytes room spans (Err Malformed) short head few framed parts err = cc

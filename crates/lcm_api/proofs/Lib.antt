@@ -1,3 +1,4 @@
+pub mod DiskLemmas
 pub mod AddedLemmas
 mod FieldLemmas
 mod FormLemmas

@@ -3,11 +3,12 @@ use Rattle.std.proofs.Common.{◌≡◌, ◌≢◌, ◌<◌, ℕ, false, List, [
 use Rattle.std.specs.Option.{unwrap_or}
 use Rattle.executor.specs.Managed.{Managed, StandsFor}
 use Rattle.lcm_events.specs.declared.states.Role.{Role}
+use Rattle.site_traits.specs.Door.{DoorCounts, NoNextFault, closed}
 use Rattle.site_traits.specs.Site.{SiteState}
 use Rattle.lcm_api.specs.Answering.{Answers, Leads}
 use Rattle.lcm_api.specs.Mouth.{MouthState, Heard, heard_request}
 use Rattle.lcm_api.specs.Outcome.{Outcome, outcome, malformed}
-use Rattle.lcm_api.specs.Serving.{AtSite, Follows, IsTimed, IsTold, Responds, response}
+use Rattle.lcm_api.specs.Serving.{AtSite, EndsConnection, Follows, IsTimed, IsTold, Responds, response}
 use Rattle.lcm_api.specs.declared.answer.ApiFault.{ApiFault}
 use Rattle.lcm_api.specs.declared.answer.ApiFault.TheVariants as fault
 use Rattle.lcm_api.specs.declared.mouth.HearFault.{HearFault}
@@ -65,3 +66,11 @@ heard_hand tells role old new heard = hand_of heard.request new.hand heard.hand
 pub no_success : (r : Reply) → r ≡ malformed → r.status < 400 → ⊥
 unfolding malformed
 no_success r is less = let status : r.status ≡ 400 = ap (λ (x : Reply). x.status) is in omega (arith, status, less)
+
+-- a connection on which something was done, and which was ended then
+pub ends_connection : (a m n b : DoorCounts) → NoNextFault a m → NoNextFault m n → b ≡ closed n → EndsConnection a b
+ends_connection a m n b first second is = record {
+  faults = omega (arith, first.faults, second.faults, ap (λ (v : DoorCounts). v.faults) is);
+  next = ap (λ (v : DoorCounts). v.next) is ∙ second.next ∙ first.next;
+  down = ap (λ (v : DoorCounts). v.up) is;
+}

@@ -27,8 +27,8 @@ pub record HasParts (bytes : List ℕ) (spans : RequestSpans) (r : Request) : Ty
 abbrev pub IsOnlyHead : List ℕ → List HeaderSpan → RequestSpans → Type 0
 IsOnlyHead buf room spans = (h : RequestHead) (rest : List ℕ) → ReadsRequest buf h rest → length h.fields ≤ 64 → IsRequestAt buf room spans h
 
--- the answer is the request that the bytes are, or that they are none
+-- the answer is the request that the bytes are, or that they are none; there is no memory only for a request that they are
 abbrev pub ReadsForm : List ℕ → Result Request FormFault → Type 0
 ReadsForm bytes (Ok request) = IsRequest bytes request
 ReadsForm bytes (Err Malformed) = IsNoRequest bytes
-ReadsForm bytes (Err Memory) = Unit {0}
+ReadsForm bytes (Err Memory) = (r : Request) × IsRequest bytes r

@@ -21,4 +21,4 @@ abbrev pub Judged : List ℕ → Bool → Result Request HearFault → Type 0
 Judged bytes failed (Ok r) = IsRequest bytes r
 Judged bytes failed (Err Malformed) = IsNoRequest bytes × (failed ≡ false)
 Judged bytes failed (Err Read) = IsNoRequest bytes × (failed ≡ true)
-Judged bytes failed (Err Memory) = Unit {0}
+Judged bytes failed (Err Memory) = (r : Request) × IsRequest bytes r

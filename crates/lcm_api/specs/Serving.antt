@@ -1,11 +1,11 @@
 -- What serving one connection does: hearing its request, answering it, telling the reply, and ending the connection.
-use Rattle.std.specs.Prelude.{◌≡◌, ◌≢◌, ℕ, true, false, List, [], ◌++◌, Option, Some, None, Result, Ok, Err, min}
+use Rattle.std.specs.Prelude.{◌≡◌, ◌≢◌, ◌≤◌, ℕ, true, false, List, [], ◌++◌, Option, Some, None, Result, Ok, Err, min}
 use Rattle.executor.specs.Managed.{Managed, StandsFor}
 use Rattle.lcm_events.specs.declared.events.Event.{Event}
 use Rattle.lcm_events.specs.declared.states.Role.{Role}
 use Rattle.site_traits.specs.Clock.{Gives}
 use Rattle.site_traits.specs.Counts.{Rose}
-use Rattle.site_traits.specs.Door.{HangsUp, NoNextFault}
+use Rattle.site_traits.specs.Door.{DoorCounts, HangsUp, NoNextFault, closed}
 use Rattle.site_traits.specs.Site.{SiteState, LeavesOnly}
 use Rattle.lcm_api.specs.Answering.{HasOr}
 use Rattle.lcm_api.specs.Mouth.{MouthState, Heard}
@@ -38,10 +38,10 @@ response o (Err fault.Memory) = starved
 
 -- the reply where there is no request; after a read that failed there is none
 abbrev pub rejection : HearFault → Result (Unit {0}) ApiFault → Option Reply
-rejection cause (Err other) = Some starved
+rejection hearing.Read result = None
 rejection hearing.Malformed (Ok done) = Some malformed
-rejection hearing.Read (Ok done) = None
-rejection hearing.Memory (Ok done) = Some starved
+rejection hearing.Malformed (Err other) = Some starved
+rejection hearing.Memory result = Some starved
 
 -- the reply that is told
 abbrev pub reply_of : ℕ → List Event → Serving → Result (Unit {0}) ApiFault → Option Reply
@@ -97,7 +97,13 @@ pub record IsHeard (tells : Type 0) (role : Role) (result : Result (Unit {0}) He
 -- the connection was ended
 pub record IsEnded (tells : Type 0) (old new : MouthState) : Type 0 where
   pub gone : tells → HangsUp old.door new.door
-  pub counts : NoNextFault old.counts new.counts
+  pub counts : new.counts ≡ closed old.counts
+
+-- the count of faults did not fall, that of `next` stays, and the connection was ended
+pub record EndsConnection (a b : DoorCounts) : Type 0 where
+  pub faults : a.faults ≤ b.faults
+  pub next : b.next ≡ a.next
+  pub down : b.up ≡ false
 
 -- the connection was heard, its reply was told, and it was ended
 pub record IsServed (tells : Type 0) (role : Role) (serving : Serving) (reply : Option Reply) (old new : MouthState) : Type 0 where

@@ -4,7 +4,7 @@ ghost use Rattle.event_codec.specs.Spell.{spelling};
 ghost use Rattle.event_codec.specs.Valid.{IsEvent};
 ghost use Rattle.event_codec.specs.Typed.{TypedEvent};
 ghost use Rattle.lcm_events.specs.declared.events.Event.{Event};
-ghost use Rattle.site_traits.specs.Counts.{Rose, OnlyDisk};
+ghost use Rattle.site_traits.specs.Counts.{OnlyDiskFails};
 ghost use Rattle.executor.specs.Managed.{Managed, StandsFor};
 ghost use Rattle.lcm_api.specs.Answering.{Answers, Leads};
 ghost use Rattle.lcm_api.specs.Steps.{IsStep, MayCreateNow};
@@ -63,8 +63,7 @@ pub fn answer<S: Site>(
     ensures leads { Leads (outcome manager.old.ledger.manager manager.old.history now request.now) result manager.old manager.new }
     ensures number { manager.new.ledger.manager ≡ manager.old.ledger.manager }
     ensures told { S.tells → Answers (outcome manager.old.ledger.manager manager.old.history now request.now) result manager.old manager.new (S.state site.old) (S.state site.new) }
-    ensures disk { result ≡ Err ApiFault.Disk → Rose (S.counts site.old).disk (S.counts site.new).disk }
-    ensures counts { OnlyDisk (S.counts site.old) (S.counts site.new) }
+    ensures counts { OnlyDiskFails (result ≡ Err ApiFault.Disk) (S.counts site.old) (S.counts site.new) }
 {
     match judge(alloc, request) {
         Ok(Verdict::Refused(reply)) => Ok(reply),
@@ -86,8 +85,7 @@ fn create<S: Site>(
     ensures leads { Leads (create_outcome manager.old.ledger.manager manager.old.history now body) result manager.old manager.new }
     ensures number { manager.new.ledger.manager ≡ manager.old.ledger.manager }
     ensures told { S.tells → Answers (create_outcome manager.old.ledger.manager manager.old.history now body) result manager.old manager.new (S.state site.old) (S.state site.new) }
-    ensures disk { result ≡ Err ApiFault.Disk → Rose (S.counts site.old).disk (S.counts site.new).disk }
-    ensures counts { OnlyDisk (S.counts site.old) (S.counts site.new) }
+    ensures counts { OnlyDiskFails (result ≡ Err ApiFault.Disk) (S.counts site.old) (S.counts site.new) }
 {
     match prepare(alloc, manager, body, now) {
         Ok(Step::Refused(reply)) => Ok(reply),
@@ -157,8 +155,7 @@ fn record<S: Site>(
     ensures leads { Leads (record { reply = reply; after = event.now ∷ [] }) result manager.old manager.new }
     ensures number { manager.new.ledger.manager ≡ manager.old.ledger.manager }
     ensures told { S.tells → Answers (record { reply = reply; after = event.now ∷ [] }) result manager.old manager.new (S.state site.old) (S.state site.new) }
-    ensures disk { result ≡ Err ApiFault.Disk → Rose (S.counts site.old).disk (S.counts site.new).disk }
-    ensures counts { OnlyDisk (S.counts site.old) (S.counts site.new) }
+    ensures counts { OnlyDiskFails (result ≡ Err ApiFault.Disk) (S.counts site.old) (S.counts site.new) }
 {
     match manager.commit(alloc, site, event) {
         Ok(()) => Ok(reply),

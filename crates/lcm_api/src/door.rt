@@ -1,5 +1,5 @@
 //! Writing bytes to a connection until the door has taken them.
-ghost use Rattle.std.specs.Prelude.{◌≡◌, ◌≤◌, length};
+ghost use Rattle.std.specs.Prelude.{◌≡◌, ◌≤◌, length, true};
 ghost use Rattle.lcm_api.specs.Telling.{Tells, TellCause};
 
 use site_traits::{Door, WriteAnswer};
@@ -10,6 +10,7 @@ pub struct DoorFailed;
 
 /// Writes the bytes, with as few writes as the door takes.
 pub fn write_all<D: Door>(door: &mut D, bytes: &[u8]) -> Result<(), DoorFailed>
+    requires up { (D.counts door.old).up ≡ true }
     ensures told { D.tells → Tells bytes.now result (D.state door.old) (D.state door.new) }
     ensures cause { TellCause result (D.counts door.old) (D.counts door.new) }
 {

@@ -94,7 +94,7 @@ pub enum FormFault {
 
 /// The request that these bytes are.
 ///
-/// Refusals: `Malformed` exactly where they are none of the form; `Memory`.
+/// Refusals: `Malformed` exactly where they are none of the form; `Memory`, where they are one.
 pub fn read_request(
     alloc: Global,
     bytes: &[u8],

@@ -16,12 +16,9 @@ mod tell;
 
 pub use answer::{ApiFault, MAX_INSTANCES, MAX_REQUESTED};
 pub use door::DoorFailed;
-pub use laws::bytes_are_one_request;
+pub use laws::{bytes_are_one_request, limits_are_fixed};
 pub use listen::Reading;
 pub use mouth::{HearFault, Mouth};
 pub use reply::Reply;
 pub use request::Request;
 pub use session::answer_session;
-
-#[cfg(test)]
-mod tests;

@@ -1,7 +1,7 @@
 //! The mouth: a door, the request in hand, and the one call that writes to the door.
 ghost use Rattle.std.specs.Prelude.{◌≡◌, ◌≤◌, ◌<◌, length, take, IfOk, Some, None, is_some, true, false};
 ghost use Rattle.site_traits.specs.Counts.{Rose};
-ghost use Rattle.site_traits.specs.Door.{fresh, Nexts, ReadsIn, HangsUp, IsAmount, NextCause, ReadCause, NoNextFault};
+ghost use Rattle.site_traits.specs.Door.{fresh, Nexts, ReadsIn, HangsUp, IsAmount, NextCause, ReadCause, NoNextFault, closed};
 ghost use Rattle.lcm_api.specs.Answering.{IsAcknowledged, IsEverywhere};
 ghost use Rattle.lcm_api.specs.Hearing.{Hears};
 ghost use Rattle.lcm_api.specs.Mouth.{KeepsHand, Heard, Listens};
@@ -101,10 +101,11 @@ impl<D: Door> Mouth<D> {
         self.door.next()
     }
 
-    /// Ends the connection.
+    /// Ends the connection. Condition: it is up.
     pub fn hang_up(&mut self)
+        requires up { self.old.counts.up ≡ true }
         ensures told { D.tells → HangsUp self.old.door self.new.door }
-        ensures cause { NoNextFault self.old.counts self.new.counts }
+        ensures cause { self.new.counts ≡ closed self.old.counts }
         ensures kept { KeepsHand self.old self.new }
     {
         self.door.hang_up();
@@ -112,8 +113,10 @@ impl<D: Door> Mouth<D> {
 
     /// Reads the connection at hand to its end, or until the room is full. The request in hand stays.
     ///
+    /// Condition: the connection is up.
     /// Where a read failed, the answer says so, and the door's count of faults rose; the bytes before it were read.
     pub fn read_to_end(&mut self, room: &mut [u8]) -> Reading
+        requires up { self.old.counts.up ≡ true }
         ensures within { result.count ≤ length room.old }
         ensures told { D.tells → Hears (length room.old) (take result.count room.new) result.failed self.old.door self.new.door }
         ensures cause { NoNextFault self.old.counts self.new.counts }
@@ -125,10 +128,12 @@ impl<D: Door> Mouth<D> {
 
     /// Reads the connection to its end, or to its 65,537th byte, and takes the request that it is in hand, for this role.
     ///
-    /// Refusals: `Malformed` and `Read` where the bytes are no request of the form, by whether a read failed; `Memory`.
-    /// After a refusal no request is in hand.
+    /// Condition: the connection is up.
+    /// Refusals: `Malformed` and `Read` where the bytes are no request of the form, by whether a read failed; `Memory`, where they
+    /// are one. After a refusal no request is in hand.
     /// Source: RFC 9112 2.1; the limits are an own rule.
     pub fn hear(&mut self, alloc: Global, role: Role) -> Result<(), HearFault>
+        requires up { self.old.counts.up ≡ true }
         ensures heard { Heard D.tells role result self.old self.new }
         ensures cause { NoNextFault self.old.counts self.new.counts }
         ensures read { result ≡ Err HearFault.Read → Rose self.old.counts.faults self.new.counts.faults }
@@ -151,7 +156,7 @@ impl<D: Door> Mouth<D> {
 
     /// Tells a reply to the connection, with one write for every reply of at most 65,536 bytes.
     ///
-    /// Conditions of a reply below 400: it is the outcome of the request in hand, and its events end the manager's history,
+    /// Condition: the connection is up. Conditions of a reply below 400: it is the outcome of the request in hand, and its events end the manager's history,
     /// which every stop leaves.
     /// Refusal: `DoorFailed` where a write failed: the door's count of faults rose, and a front of the bytes went out.
     /// Source: RFC 9112 4, 5, 6.2.
@@ -161,6 +166,7 @@ impl<D: Door> Mouth<D> {
         site: &S,
         reply: &Reply,
     ) -> Result<(), DoorFailed>
+        requires up { self.old.counts.up ≡ true }
         requires usable { reply.now.status < 400 → manager.now.ledger.closed ≡ false }
         requires acknowledged { reply.now.status < 400 → IsAcknowledged manager.now self.old.hand reply.now }
         requires everywhere { S.tells → reply.now.status < 400 → IsEverywhere manager.now (S.state site.now) }
@@ -192,6 +198,7 @@ fn listen<D: Door>(
 ) -> Result<Request, HearFault>
     requires heard { length heard.old ≡ 65537 }
     requires spans { length spans.old ≡ 64 }
+    requires up { (D.counts door.old).up ≡ true }
     ensures listened { Listens D.tells result (D.state door.old) (D.state door.new) }
     ensures cause { NoNextFault (D.counts door.old) (D.counts door.new) }
     ensures read { result ≡ Err HearFault.Read → Rose (D.counts door.old).faults (D.counts door.new).faults }

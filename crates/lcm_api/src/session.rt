@@ -1,12 +1,12 @@
 //! Serving one connection: its request is heard, answered and told, and the connection ends.
 ghost use Rattle.std.specs.Prelude.{◌≡◌, ◌≢◌, ◌<◌, ℕ, Some, None, false, is_some, true, IfOk};
-ghost use Rattle.site_traits.specs.Counts.{Rose, OnlyDisk};
+ghost use Rattle.site_traits.specs.Counts.{OnlyDiskFails};
 ghost use Rattle.site_traits.specs.Door.{NoNextFault};
 ghost use Rattle.executor.specs.Managed.{StandsFor};
 ghost use Rattle.lcm_api.specs.Answering.{IsAcknowledged, IsEverywhere};
 ghost use Rattle.lcm_api.specs.Mouth.{KeepsHand};
 ghost use Rattle.lcm_api.specs.Outcome.{faulted, malformed, starved};
-ghost use Rattle.lcm_api.specs.Serving.{IsTold, IsToldOr, Responds, Serves, rejection};
+ghost use Rattle.lcm_api.specs.Serving.{EndsConnection, IsTold, IsToldOr, Responds, Serves, rejection};
 ghost use Rattle.lcm_api.specs.declared.request.Request.{Request};
 
 use crate::answer::{ApiFault, answer};
@@ -21,6 +21,7 @@ use vnfm_base::Moment;
 
 /// Serves the connection at hand for this role: hears its request, answers it, tells the reply, and ends the connection.
 ///
+/// Condition: the connection is up.
 /// Refusals: `Disk`, after which the manager is closed, and `Memory`, after which it is as before; 500 or 503 was told.
 /// Source: SOL 003 5.4.2; RFC 9112 9.3.
 pub fn answer_session<S: Site, D: Door, K: Clock>(
@@ -31,13 +32,13 @@ pub fn answer_session<S: Site, D: Door, K: Clock>(
     clock: &mut K,
     role: Role,
 ) -> Result<(), ApiFault>
+    requires up { mouth.old.counts.up ≡ true }
     requires usable { manager.old.ledger.closed ≡ false }
     requires stands { S.tells → StandsFor manager.old (S.state site.old) }
     ensures served { Serves S.tells D.tells K.tells role result manager.old manager.new (S.state site.old) (S.state site.new) mouth.old mouth.new (K.state clock.old) (K.state clock.new) }
     ensures number { manager.new.ledger.manager ≡ manager.old.ledger.manager }
-    ensures disk { result ≡ Err ApiFault.Disk → Rose (S.counts site.old).disk (S.counts site.new).disk }
-    ensures counts { OnlyDisk (S.counts site.old) (S.counts site.new) }
-    ensures cause { NoNextFault mouth.old.counts mouth.new.counts }
+    ensures counts { OnlyDiskFails (result ≡ Err ApiFault.Disk) (S.counts site.old) (S.counts site.new) }
+    ensures cause { EndsConnection mouth.old.counts mouth.new.counts }
 {
     match mouth.hear(alloc, role) {
         Ok(()) => {
@@ -61,13 +62,13 @@ fn respond<S: Site, D: Door, K: Clock>(
     mouth: &mut Mouth<D>,
     clock: &mut K,
 ) -> Result<(), ApiFault>
+    requires up { mouth.old.counts.up ≡ true }
     requires in_hand { is_some mouth.old.hand ≡ true }
     requires usable { manager.old.ledger.closed ≡ false }
     requires stands { S.tells → StandsFor manager.old (S.state site.old) }
     ensures responds { (r : Request) → mouth.old.hand ≡ Some r → Responds S.tells D.tells K.tells r result manager.old manager.new (S.state site.old) (S.state site.new) mouth.old mouth.new (K.state clock.old) (K.state clock.new) }
     ensures number { manager.new.ledger.manager ≡ manager.old.ledger.manager }
-    ensures disk { result ≡ Err ApiFault.Disk → Rose (S.counts site.old).disk (S.counts site.new).disk }
-    ensures counts { OnlyDisk (S.counts site.old) (S.counts site.new) }
+    ensures counts { OnlyDiskFails (result ≡ Err ApiFault.Disk) (S.counts site.old) (S.counts site.new) }
     ensures cause { NoNextFault mouth.old.counts mouth.new.counts }
 {
     let now = Moment::of(clock.now());
@@ -95,6 +96,7 @@ fn reject<S: Site, D: Door>(
     mouth: &mut Mouth<D>,
     fault: HearFault,
 ) -> Result<(), ApiFault>
+    requires up { mouth.old.counts.up ≡ true }
     ensures told { IsToldOr D.tells (rejection fault result) mouth.old mouth.new }
     ensures disk { result ≢ Err ApiFault.Disk }
     ensures cause { NoNextFault mouth.old.counts mouth.new.counts }
@@ -116,6 +118,7 @@ fn reject_malformed<S: Site, D: Door>(
     site: &S,
     mouth: &mut Mouth<D>,
 ) -> Result<(), ApiFault>
+    requires up { mouth.old.counts.up ≡ true }
     ensures told { IsToldOr D.tells (rejection HearFault.Malformed result) mouth.old mouth.new }
     ensures disk { result ≢ Err ApiFault.Disk }
     ensures cause { NoNextFault mouth.old.counts mouth.new.counts }
@@ -134,6 +137,7 @@ fn reject_malformed<S: Site, D: Door>(
 
 /// Tells a reply. Where the connection fails, it is told no more.
 fn say<S: Site, D: Door>(manager: &Manager<S>, site: &S, mouth: &mut Mouth<D>, reply: &Reply)
+    requires up { mouth.old.counts.up ≡ true }
     requires usable { reply.now.status < 400 → manager.now.ledger.closed ≡ false }
     requires acknowledged { reply.now.status < 400 → IsAcknowledged manager.now mouth.old.hand reply.now }
     requires everywhere { S.tells → reply.now.status < 400 → IsEverywhere manager.now (S.state site.now) }

@@ -1,5 +1,5 @@
 //! Telling a reply: its head and the front of its body in one write, and the rest of a longer body behind it.
-ghost use Rattle.std.specs.Prelude.{◌≡◌, ◌++◌, length};
+ghost use Rattle.std.specs.Prelude.{◌≡◌, ◌++◌, length, true};
 ghost use Rattle.lcm_api.specs.Response.{body_told, head_text, text};
 ghost use Rattle.lcm_api.specs.Telling.{Tells, TellCause};
 
@@ -14,6 +14,7 @@ pub fn tell_reply<D: Door>(
     outgoing: &mut Outgoing,
     reply: &Reply,
 ) -> Result<(), DoorFailed>
+    requires up { (D.counts door.old).up ≡ true }
     ensures told { D.tells → Tells (text reply.now) result (D.state door.old) (D.state door.new) }
     ensures cause { TellCause result (D.counts door.old) (D.counts door.new) }
 {
@@ -25,6 +26,7 @@ pub fn tell_reply<D: Door>(
 
 /// Writes these bytes, and then those.
 fn write_both<D: Door>(door: &mut D, first: &[u8], rest: &[u8]) -> Result<(), DoorFailed>
+    requires up { (D.counts door.old).up ≡ true }
     ensures told { D.tells → Tells (first.now ++ rest.now) result (D.state door.old) (D.state door.new) }
     ensures cause { TellCause result (D.counts door.old) (D.counts door.new) }
 {

@@ -2,7 +2,11 @@
 #![tactic(auto)]
 
 #[cfg(test)]
+mod connections;
+#[cfg(test)]
 mod house;
+#[cfg(test)]
+mod journals;
 #[cfg(test)]
 mod limits;
 #[cfg(test)]

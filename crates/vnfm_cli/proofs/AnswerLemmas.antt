@@ -1,7 +1,7 @@
 -- Where no call of the door failed, a connection that was served got its whole answer.
 use Rattle.std.proofs.Common.{◌≡◌, ◌≤◌, ◌+◌, ◌-◌, ◌^◌, ℕ, Bool, true, false, List, [], ◌++◌, Option, Some, None, Result, Ok, Err, ap, ◌∙◌, sym, subst, refl, arith}
 use Rattle.site_traits.specs.Counts.{Rose}
-use Rattle.site_traits.specs.Door.{Conn, DoorState, Comes, ConnIs, HangsUp, NoNextFault, fresh}
+use Rattle.site_traits.specs.Door.{Conn, DoorState, DoorCounts, Comes, ConnIs, HangsUp, NoNextFault, closed, fresh, opened}
 use Rattle.executor.specs.Managed.{Managed}
 use Rattle.site_traits.specs.Site.{SiteState}
 use Rattle.lcm_api.specs.Hearing.{heard_of}
@@ -38,13 +38,17 @@ heard_out : (n : ℕ) (failed : Bool) (c : Conn) → (heard_of n failed c).out �
 heard_out n true c = refl
 heard_out n false c = refl
 
+-- the end of a connection counts no fault
+ended_later : (D : Type 0) (a b : MouthState) → IsEnded D a b → a.counts.faults ≤ b.counts.faults
+ended_later D a b ended = let same = ap (λ (v : DoorCounts). v.faults) ended.counts in omega (arith, same)
+
 -- what went out, by how telling ended
 told_whole : (D : Type 0) (bytes : List ℕ) (result : Result (Unit {0}) DoorFailed) (a b n : MouthState) → D → a.door.conn.out ≡ [] → (D → Tells bytes result a.door b.door)
     → TellCause result a.counts b.counts → IsEnded D b n → (Rose a.counts.faults n.counts.faults → ⊥) → n.door.conn.out ≡ bytes
 told_whole D bytes (Ok done) a b n tells empty told cause ended fine =
     out_is _ b.door n.door (ended.gone tells) ∙ out_is _ a.door b.door (told tells) ∙ ap (λ (x : List ℕ). x ++ bytes) empty
 told_whole D bytes (Err failed) a b n tells empty told cause ended fine =
-    absurd (fine (rose_then a.counts.faults b.counts.faults n.counts.faults cause.1 ended.counts.faults))
+    absurd (fine (rose_then a.counts.faults b.counts.faults n.counts.faults cause.1 (ended_later D b n ended)))
 
 -- the same, where a reply was told
 answered_by : (D : Type 0) (reply : Option Reply) (a b n : MouthState) → D → a.door.conn.out ≡ [] → IsToldOr D reply a b → IsEnded D b n
@@ -55,10 +59,10 @@ answered_by D (Some reply) a b n tells empty told ended fine some = told_whole D
 -- only after a failed read is nothing told
 reply_none : (m : ℕ) (H : List Event) (serving : Serving) (result : Result (Unit {0}) ApiFault) → reply_of m H serving result ≡ None → serving ≡ refused Read
 reply_none m H (judged r now) result none = cc
-reply_none m H (refused cause) (Err other) none = cc
+reply_none m H (refused Read) result none = refl
 reply_none m H (refused Malformed) (Ok done) none = cc
-reply_none m H (refused Read) (Ok done) none = refl
-reply_none m H (refused Memory) (Ok done) none = cc
+reply_none m H (refused Malformed) (Err other) none = cc
+reply_none m H (refused Memory) result none = cc
 
 heard_read : (serving : Serving) (result : Result (Unit {0}) HearFault) (hand : Option Request) → HeardAs serving result hand → serving ≡ refused Read → result ≡ Err Read
 heard_read (judged r now) (Ok done) hand is read = cc
@@ -82,11 +86,11 @@ whole_answer D role serving result m H b n is tells empty fine =
     answered_by D (reply_of m H serving result) is.between is.behind n tells between is.told is.ended later some
   where
     behind_between : (D : Type 0) (reply : Option Reply) (a b n : MouthState) → IsToldOr D reply a b → IsEnded D b n → a.counts.faults ≤ n.counts.faults
-    behind_between D None a b n told ended = let P : MouthState → Type 0 = λ x. x.counts.faults ≤ n.counts.faults in subst P told ended.counts.faults
+    behind_between D None a b n told ended = let P : MouthState → Type 0 = λ x. x.counts.faults ≤ n.counts.faults in subst P told (ended_later D b n ended)
     behind_between D (Some reply) a b n told ended = told_later told.result told.cause where
       told_later : (result : Result (Unit {0}) DoorFailed) → TellCause result a.counts b.counts → a.counts.faults ≤ n.counts.faults
-      told_later (Ok done) cause = let x = cause.faults in let y = ended.counts.faults in omega (arith, x, y)
-      told_later (Err failed) cause = let x = cause.0.faults in let y = ended.counts.faults in omega (arith, x, y)
+      told_later (Ok done) cause = let x = cause.faults in let y = ended_later D b n ended in omega (arith, x, y)
+      told_later (Err failed) cause = let x = cause.0.faults in let y = ended_later D b n ended in omega (arith, x, y)
 
 -- a connection that just came has no bytes out
 pub fresh_out : (role : Role) (a b : DoorState) → Comes role a b → b.conn.out ≡ []
@@ -98,7 +102,7 @@ brought_out n failed role a b c d comes hears gone = out_is _ c d gone ∙ out_i
 
 -- a connection came, and was served
 attended : (D : Type 0) (role came : Role) (serving : Serving) (result : Result (Unit {0}) ApiFault) (m : ℕ) (H : List Event) (a b n : MouthState) → (D → Comes came a.door b.door)
-    → NoNextFault a.counts b.counts → IsServed D role serving (reply_of m H serving result) b n
+    → b.counts ≡ opened a.counts → IsServed D role serving (reply_of m H serving result) b n
     → IsAttended D (record { role = role; number = m; history = H }) serving result a n
 attended D role came serving result m H a b n comes counts is = record {
   came = came;
@@ -108,12 +112,12 @@ attended D role came serving result m H a b n comes counts is = record {
   served = is;
   whole = λ tells fine.
       whole_answer D role serving result m H b n is tells (fresh_out came a.door b.door (comes tells))
-      (λ rose. fine (rose_late a.counts.faults b.counts.faults n.counts.faults counts.faults rose));
+      (λ rose. fine (rose_late a.counts.faults b.counts.faults n.counts.faults (let same = ap (λ (v : DoorCounts). v.faults) counts in omega (arith, same)) rose));
 }
 
 -- a round in which a connection came
 pub round_made : (S D K : Type 0) (role came : Role) (result : Result (Unit {0}) ApiFault) (m n : Managed) (a b : SiteState) (c d e : MouthState) (ks ls ms : List ℕ)
-    → (D → Comes came c.door d.door) → NoNextFault c.counts d.counts → (serves : Serves S D K role result m n a b d e ks ls) → n.ledger.manager ≡ m.ledger.manager
+    → (D → Comes came c.door d.door) → d.counts ≡ opened c.counts → (serves : Serves S D K role result m n a b d e ks ls) → n.ledger.manager ≡ m.ledger.manager
     → (K → Timed serves.serving ks ls → RoundAtClock (served serves.serving result) ks ms) → MakesRound S D K role (served serves.serving result) m n a b c e ks ms
 round_made S D K role came result m n a b c d e ks ls ms comes counts serves number clock = record {
   managed = serves.managed;

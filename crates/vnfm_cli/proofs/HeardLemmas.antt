@@ -103,3 +103,9 @@ door_untold v (Err fault.Memory) ending told is door = let no : NoMemory ≡ Doo
 pub unheard_cause : (A B : Type 0) (why : Unheard) (result : Result ℕ Unheard) → result ≡ Err why → (result ≡ Err Waiting → A) → (result ≡ Err Reading → B) → A ⊎ B
 unheard_cause A B Waiting result is waiting reading = inl (waiting is)
 unheard_cause A B Reading result is waiting reading = inr (reading is)
+
+-- the run ends with a site fault exactly where the disk failed
+pub disk_told : (answer : Result Ending ApiFault) (ending : Ending) → IsEndingOf answer ending → answer ≡ Err fault.Disk → ending ≡ SiteFault
+disk_told (Ok e) ending is disk = absurd (cc disk)
+disk_told (Err fault.Disk) ending is disk = is
+disk_told (Err fault.Memory) ending is disk = absurd (cc disk)

@@ -1,4 +1,5 @@
 mod AnswerLemmas
+mod DiskLemmas
 mod EndingLemmas
 mod ExactLemmas
 mod HeardLemmas

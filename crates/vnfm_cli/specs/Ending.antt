@@ -1,6 +1,6 @@
 -- How a run ends: its status, and the line that it prints (own rule, docs/FORMATS.md).
 use Rattle.std.specs.Prelude.{◌≡◌, ◌≤◌, ◌⊎◌, ℕ, ◌==◌, List, [], ◌∷◌, ◌++◌, codes, decimal, if◌then◌else◌, Bool, true, false}
-use Rattle.site_traits.specs.Counts.{Rose}
+use Rattle.site_traits.specs.Counts.{CallCounts, called, called_in_vain}
 use Rattle.vnfm_cli.specs.declared.ending.Ending.{Ending}
 use Rattle.vnfm_cli.specs.declared.ending.Ending.TheVariants.{Done, Made, Onboarded, Usage, SiteFault, DoorFault, NoJournal, NotAJournal, NoMemory, BadRecord, JournalFull, DescriptorRefused, Taken}
 
@@ -53,9 +53,9 @@ told_status false status = if status == 0 then 7 else status
 abbrev pub IsStatus : ℕ → Type 0
 IsStatus status = (status ≡ 0) ⊎ ((2 ≤ status) × (status ≤ 11))
 
--- The line of the ending was put, or none of it, which the sink counts; the status says so where it would be 0.
-pub record Ends (tells : Type 0) (ending : Ending) (status : ℕ) (old new : List ℕ) (before now : ℕ) : Type 0 where
+-- The line of the ending was put in one call, or none of it, which the sink counts; the status says so where it would be 0.
+pub record Ends (tells : Type 0) (ending : Ending) (status : ℕ) (old new : List ℕ) (before now : CallCounts) : Type 0 where
   pub put : Bool
   pub status_is : status ≡ told_status put (status_of ending)
   pub line : tells → new ≡ (if put then old ++ line_of ending else old)
-  pub failed : put ≡ false → Rose before now
+  pub counts : now ≡ (if put then called before else called_in_vain before)

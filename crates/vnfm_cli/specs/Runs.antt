@@ -20,7 +20,7 @@ use Rattle.lcm_events.specs.declared.states.Role.{Role}
 use Rattle.lcm_model.specs.Allowed.{IsLegal}
 use Rattle.site_traits.specs.Clock.{Gives}
 use Rattle.site_traits.specs.Counts.{Rose}
-use Rattle.site_traits.specs.Door.{DoorCounts, DoorState, Comes, ComesNot, NextFault, NoNextFault}
+use Rattle.site_traits.specs.Door.{DoorCounts, DoorState, Comes, ComesNot, NoNextFault, next_failed, opened as has_come}
 use Rattle.site_traits.specs.Site.{Pair, SiteState, IsSettled, LeavesOnly}
 use Rattle.site_traits.specs.declared.door.NextAnswer.{NextAnswer}
 use Rattle.site_traits.specs.declared.door.NextAnswer.TheVariants.{Nobody, Ended}
@@ -123,14 +123,14 @@ pub record IsAttended (tells : Type 0) (start : Opening) (serving : Serving) (re
   pub came : Role
   pub between : MouthState
   pub comes : tells → Comes came a.door between.door
-  pub counts : NoNextFault a.counts between.counts
+  pub counts : between.counts ≡ has_come a.counts
   pub served : IsServed tells start.role serving (reply_of start.number start.history serving result) between b
   pub whole : tells → ¬ (Rose a.counts.faults b.counts.faults) → IsAnswered (reply_of start.number start.history serving result) b
 
 -- waiting for a connection failed, and was counted
 pub record IsUnreached (tells : Type 0) (a b : MouthState) : Type 0 where
   pub same : tells → b.door ≡ a.door
-  pub counts : NextFault a.counts b.counts
+  pub counts : b.counts ≡ next_failed a.counts
 
 -- what a round does at the door
 abbrev pub RoundAtDoor : Type 0 → Opening → Round → MouthState → MouthState → Type 0
@@ -144,7 +144,7 @@ pub record Brings (tells : Type 0) (bytes : List ℕ) (failed : Bool) (a b : Mou
   pub came : Role
   pub between : MouthState
   pub comes : tells → Comes came a.door between.door
-  pub counts : NoNextFault a.counts between.counts
+  pub counts : between.counts ≡ has_come a.counts
   pub behind : MouthState
   pub hears : tells → Hears 1048577 bytes failed between.door behind.door
   pub broke : failed ≡ true → Rose between.counts.faults behind.counts.faults
@@ -156,7 +156,7 @@ pub record Brings (tells : Type 0) (bytes : List ℕ) (failed : Bool) (a b : Mou
 pub record BringsNothing (tells : Type 0) (bytes : List ℕ) (a b : MouthState) : Type 0 where
   pub none : bytes ≡ []
   pub nobody : tells → IsNobody a.door b.door
-  pub counts : NoNextFault a.counts b.counts
+  pub counts : b.counts ≡ a.counts
 
 -- what onboarding does at the door
 abbrev pub OnboardingAtDoor : Type 0 → Onboarding → MouthState → MouthState → Type 0

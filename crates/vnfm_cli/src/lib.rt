@@ -10,6 +10,7 @@ mod words;
 
 pub use descriptor::DescriptorRefusal;
 pub use ending::Ending;
+pub use onboard::limits_are_fixed;
 pub use options::{Command, Settings, SettingsFault};
 pub use top::run;
 pub use words::settings;

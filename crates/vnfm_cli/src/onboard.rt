@@ -8,8 +8,7 @@ ghost use Rattle.lcm_api.specs.Serving.{AtSite, Follows};
 ghost use Rattle.lcm_events.specs.declared.descriptor.Vnfd.{Vnfd};
 ghost use Rattle.lcm_events.specs.declared.events.Event.{Event};
 ghost use Rattle.lcm_events.specs.declared.events.EventKind.TheVariants.{Onboarded};
-ghost use Rattle.site_traits.specs.Counts.{Rose, OnlyDisk};
-ghost use Rattle.site_traits.specs.Door.{NoNextFault};
+ghost use Rattle.site_traits.specs.Counts.{OnlyDiskFails, Rose};
 ghost use Rattle.vnfm_cli.specs.Course.{Onboarding, onboarding_ending, verdict_ending};
 ghost use Rattle.lcm_model.specs.Descriptors.{IsValid};
 ghost use Rattle.vnfm_cli.specs.Judging.{HearsDescriptor, IsJudgement, IsNewJudgement, IsEndingOf, IsRecordable, work_of};
@@ -32,6 +31,14 @@ const MAX_READ: usize = 1_048_577;
 
 /// Descriptors that a journal may have.
 const MAX_DESCRIPTORS: u64 = 256;
+
+/// That the limits of onboarding are these. It does nothing, and its contract is the law.
+///
+/// Source: own rule, docs/DESCRIPTORS.md.
+pub fn limits_are_fixed()
+    ensures read { MAX_READ ≡ 1048577 }
+    ensures descriptors { MAX_DESCRIPTORS ≡ 256 }
+{}
 
 /// Why no descriptor was heard.
 #[derive(Clone, Copy)]
@@ -65,7 +72,7 @@ pub fn onboard<S: Site, D: Door, K: Clock>(
     requires stands { S.tells → StandsFor manager.old (S.state site.old) }
     ensures onboards { (onboarding : Onboarding) × Onboards S.tells D.tells K.tells onboarding manager.old manager.new (S.state site.old) (S.state site.new) mouth.old mouth.new (K.state clock.old) (K.state clock.new)
         × (result ≡ onboarding_ending manager.old.history onboarding) }
-    ensures disk { result ≡ Ending.SiteFault → Rose (S.counts site.old).disk (S.counts site.new).disk }
+    ensures disk { OnlyDiskFails (result ≡ Ending.SiteFault) (S.counts site.old) (S.counts site.new) }
     ensures door { result ≡ Ending.DoorFault → Rose mouth.old.counts.next mouth.new.counts.next ⊎ Rose mouth.old.counts.faults mouth.new.counts.faults }
 {
     match vec![in alloc; 0; MAX_READ] {
@@ -88,7 +95,7 @@ fn onboard_into<S: Site, D: Door, K: Clock>(
     requires stands { S.tells → StandsFor manager.old (S.state site.old) }
     ensures onboards { (onboarding : Onboarding) × Onboards S.tells D.tells K.tells onboarding manager.old manager.new (S.state site.old) (S.state site.new) mouth.old mouth.new (K.state clock.old) (K.state clock.new)
         × (result ≡ onboarding_ending manager.old.history onboarding) }
-    ensures disk { result ≡ Ending.SiteFault → Rose (S.counts site.old).disk (S.counts site.new).disk }
+    ensures disk { OnlyDiskFails (result ≡ Ending.SiteFault) (S.counts site.old) (S.counts site.new) }
     ensures door { result ≡ Ending.DoorFault → Rose mouth.old.counts.next mouth.new.counts.next ⊎ Rose mouth.old.counts.faults mouth.new.counts.faults }
 {
     match hear(mouth, room) {
@@ -150,7 +157,7 @@ fn take_in<S: Site>(
     ensures follows { Follows (onboarded now (verdict manager.old.history now bytes.now)) (work_of result) manager.old manager.new }
     ensures number { manager.new.ledger.manager ≡ manager.old.ledger.manager }
     ensures told { S.tells → AtSite (onboarded now (verdict manager.old.history now bytes.now)) (work_of result) manager.old manager.new (S.state site.old) (S.state site.new) }
-    ensures disk { result ≡ Err ApiFault.Disk → Rose (S.counts site.old).disk (S.counts site.new).disk }
+    ensures disk { OnlyDiskFails (result ≡ Err ApiFault.Disk) (S.counts site.old) (S.counts site.new) }
 {
     match judge(alloc, manager, bytes, now) {
         Ok(Judgement::Refused(why)) => match refused_line(alloc, &why) {
@@ -241,7 +248,7 @@ fn record<S: Site>(
     ensures number { manager.new.ledger.manager ≡ manager.old.ledger.manager }
     ensures told { S.tells → (now : ℕ) (vnfd : Vnfd) → IsRecordable manager.old.history now vnfd event.now line
         → AtSite (onboarded now (room_verdict manager.old.history now vnfd)) (work_of result) manager.old manager.new (S.state site.old) (S.state site.new) }
-    ensures disk { result ≡ Err ApiFault.Disk → Rose (S.counts site.old).disk (S.counts site.new).disk }
+    ensures disk { OnlyDiskFails (result ≡ Err ApiFault.Disk) (S.counts site.old) (S.counts site.new) }
 {
     match manager.commit(alloc, site, event) {
         Ok(()) => Ok(Ending::Onboarded(line)),

@@ -1,12 +1,12 @@
 //! The top call: one command over the objects that it is handed.
-ghost use Rattle.std.specs.Prelude.{◌≡◌, ◌≢◌, ◌⊎◌, ◌↔◌, ℕ, List, None, false, Result};
+ghost use Rattle.std.specs.Prelude.{◌≡◌, ◌≢◌, ◌<◌, ◌⊎◌, ◌↔◌, ℕ, List, None, false, Result};
 ghost use Rattle.executor.specs.Managed.{StandsFor};
 ghost use Rattle.executor.specs.Open.{IsBadRecord};
 ghost use Rattle.journal_core.specs.Create.{Creates, IsMade};
 ghost use Rattle.journal_core.specs.Header.{IsUnfinished};
 ghost use Rattle.journal_core.specs.declared.create.CreateFault.{CreateFault};
 ghost use Rattle.lcm_events.specs.declared.events.Event.{Event};
-ghost use Rattle.site_traits.specs.Counts.{Rose};
+ghost use Rattle.site_traits.specs.Counts.{OnlyDiskFails, Rose, one_more};
 ghost use Rattle.vnfm_cli.specs.Course.{Course, Round, IsOf, ending_of, making_ending, round_ending, unopened_ending};
 ghost use Rattle.vnfm_cli.specs.Ending.{Ends, IsStatus};
 ghost use Rattle.vnfm_cli.specs.Runs.{Does, IsDoorCause, IsNoJournal, IsOrYields, IsRead, IsStartOf, MayEndWith, Runs};
@@ -36,7 +36,8 @@ use vnfm_base::Text;
 ///   once for the round.
 ///
 /// The orchestrator and the courier aren't asked yet.
-/// Statuses: 0 the command did its work; 2 the words are no command; 3 a disk call failed; 4 waiting for a connection
+/// Statuses: 0 the command did its work; 2 the words are no command; 3 exactly where a disk call failed, after which no other is
+/// made; 4 waiting for a connection
 /// failed, or a read of a descriptor; 5 the file is no journal; 6 there is no memory; 7 the line of status 0 couldn't be put; 8 a
 /// record is bad; 9 the journal has no room for the descriptor; 10 the descriptor is refused; 11 the file isn't unfinished for the
 /// manager of `init`. After 2, 4, 5, 8, 9, 10 and 11, and after 6, the file is as it was.
@@ -56,9 +57,11 @@ pub fn run<S: Site, D: Door, O: Orchestrator, C: Courier, K: Clock, W: Sink>(
     ensures asks_none { orchestrator.new ≡ orchestrator.old }
     ensures posts_none { courier.new ≡ courier.old }
     ensures usage { (result ≡ 2) ↔ (settings_of words.now ≡ None) }
-    ensures site { result ≡ 3 → Rose (S.counts site.old).disk (S.counts site.new).disk }
+    ensures site { OnlyDiskFails (result ≡ 3) (S.counts site.old) (S.counts site.new) }
+    ensures disk_fault { (S.counts site.old).disk < (S.counts site.new).disk → result ≡ 3 }
     ensures door { result ≡ 4 → Rose mouth.old.counts.next mouth.new.counts.next ⊎ (AreWordsOf Onboard words.now × Rose mouth.old.counts.faults mouth.new.counts.faults) }
-    ensures sink { result ≡ 7 → Rose (W.counts out.old) (W.counts out.new) }
+    ensures sink { result ≡ 7 → Rose (W.counts out.old).faults (W.counts out.new).faults }
+    ensures one_line { (W.counts out.new).calls ≡ one_more (W.counts out.old).calls }
     ensures journal { S.tells → result ≡ 5 → IsNoJournal (S.state site.old).image }
     ensures no_journal { S.tells → AreLoading words.now → IsNoJournal (S.state site.old).image → IsOrYields 5 result }
     ensures record { S.tells → result ≡ 8 → (n : ℕ) × IsBadRecord n (S.state site.old).image }
@@ -71,7 +74,7 @@ pub fn run<S: Site, D: Door, O: Orchestrator, C: Courier, K: Clock, W: Sink>(
     ensures only { IsStatus result }
     ensures complete { S.tells → (command : Command) → AreWordsOf command words.now → IsStartOf command (S.state site.old)
         → ¬ (Rose (S.counts site.old).disk (S.counts site.new).disk) → ¬ (IsDoorCause command mouth.old.counts mouth.new.counts)
-        → ¬ (Rose (W.counts out.old) (W.counts out.new)) → MayEndWith command result }
+        → ¬ (Rose (W.counts out.old).faults (W.counts out.new).faults) → MayEndWith command result }
 {
     let ending = obey(alloc, words, site, mouth, clock);
     finish(ending, out)
@@ -88,7 +91,7 @@ fn obey<S: Site, D: Door, K: Clock>(
     ensures runs { (course : Course) × Runs S.tells D.tells K.tells words.now course (S.state site.old) (S.state site.new) mouth.old mouth.new (K.state clock.old) (K.state clock.new)
         × (result ≡ ending_of course) }
     ensures usage { (result ≡ Ending.Usage) ↔ (settings_of words.now ≡ None) }
-    ensures disk { result ≡ Ending.SiteFault → Rose (S.counts site.old).disk (S.counts site.new).disk }
+    ensures disk { OnlyDiskFails (result ≡ Ending.SiteFault) (S.counts site.old) (S.counts site.new) }
     ensures door { result ≡ Ending.DoorFault → Rose mouth.old.counts.next mouth.new.counts.next ⊎ (AreWordsOf Onboard words.now × Rose mouth.old.counts.faults mouth.new.counts.faults) }
 {
     match settings(alloc, words) {
@@ -109,7 +112,7 @@ fn perform<S: Site, D: Door, K: Clock>(
     ensures does { (course : Course) × IsOf settings.now.command settings.now.manager settings.now.role course
         × Does S.tells D.tells K.tells course (S.state site.old) (S.state site.new) mouth.old mouth.new (K.state clock.old) (K.state clock.new)
         × (result ≡ ending_of course) }
-    ensures disk { result ≡ Ending.SiteFault → Rose (S.counts site.old).disk (S.counts site.new).disk }
+    ensures disk { OnlyDiskFails (result ≡ Ending.SiteFault) (S.counts site.old) (S.counts site.new) }
     ensures door { result ≡ Ending.DoorFault → IsDoorCause settings.now.command mouth.old.counts mouth.new.counts }
 {
     match settings.command {
@@ -122,7 +125,7 @@ fn perform<S: Site, D: Door, K: Clock>(
 /// Makes the journal of this manager.
 fn init<S: Site>(manager: u32, site: &mut S) -> Ending
     ensures makes { (making : Result (Unit {0}) CreateFault) × (S.tells → Creates manager making (S.state site.old) (S.state site.new)) × (result ≡ making_ending manager making) }
-    ensures disk { result ≡ Ending.SiteFault → Rose (S.counts site.old).disk (S.counts site.new).disk }
+    ensures disk { OnlyDiskFails (result ≡ Ending.SiteFault) (S.counts site.old) (S.counts site.new) }
     ensures door { result ≢ Ending.DoorFault }
 {
     match Journal::create(site, manager) {
@@ -142,7 +145,7 @@ fn bring_in<S: Site, D: Door, K: Clock>(
 ) -> Ending
     ensures does { (course : Course) × IsOf Onboard 0 role course × Does S.tells D.tells K.tells course (S.state site.old) (S.state site.new) mouth.old mouth.new (K.state clock.old) (K.state clock.new)
         × (result ≡ ending_of course) }
-    ensures disk { result ≡ Ending.SiteFault → Rose (S.counts site.old).disk (S.counts site.new).disk }
+    ensures disk { OnlyDiskFails (result ≡ Ending.SiteFault) (S.counts site.old) (S.counts site.new) }
     ensures door { result ≡ Ending.DoorFault → IsDoorCause Onboard mouth.old.counts mouth.new.counts }
 {
     match Manager::load(alloc, site) {
@@ -161,7 +164,7 @@ fn once<S: Site, D: Door, K: Clock>(
 ) -> Ending
     ensures does { (course : Course) × IsOf Once 0 role course × Does S.tells D.tells K.tells course (S.state site.old) (S.state site.new) mouth.old mouth.new (K.state clock.old) (K.state clock.new)
         × (result ≡ ending_of course) }
-    ensures disk { result ≡ Ending.SiteFault → Rose (S.counts site.old).disk (S.counts site.new).disk }
+    ensures disk { OnlyDiskFails (result ≡ Ending.SiteFault) (S.counts site.old) (S.counts site.new) }
     ensures door { result ≡ Ending.DoorFault → Rose mouth.old.counts.next mouth.new.counts.next }
 {
     match Manager::load(alloc, site) {
@@ -196,7 +199,7 @@ fn make_round<S: Site, D: Door, K: Clock>(
     requires stands { S.tells → StandsFor manager.old (S.state site.old) }
     ensures makes { (round : Round) × MakesRound S.tells D.tells K.tells role round manager.old manager.new (S.state site.old) (S.state site.new) mouth.old mouth.new (K.state clock.old) (K.state clock.new)
         × (result ≡ round_ending round) }
-    ensures disk { result ≡ Ending.SiteFault → Rose (S.counts site.old).disk (S.counts site.new).disk }
+    ensures disk { OnlyDiskFails (result ≡ Ending.SiteFault) (S.counts site.old) (S.counts site.new) }
     ensures door { result ≡ Ending.DoorFault → Rose mouth.old.counts.next mouth.new.counts.next }
 {
     match mouth.next() {

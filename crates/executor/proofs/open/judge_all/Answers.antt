@@ -1,5 +1,5 @@
 -- One record more was read and judged.
-use Rattle.std.proofs.Common.{rules, ◌∙◌}
+use Rattle.std.proofs.Common.{◌∙◌}
 use Rattle.site_traits.proofs.Moments.{reads-then}
 use Rattle.executor.proofs.JudgeLemmas.{step_judged, step_so_far}
 use Rattle.executor.proofs.open.judge_all.Goals as goal
@@ -12,7 +12,7 @@ loop-judged-preserved g c =
       judged = step_judged _ _ _ _ c.loop-judged.invariant.judged reads step;
       manager = reads.manager ∙ c.loop-judged.invariant.manager;
       within = c.next.ensures.within;
-      counts = search rules;
+      counts = c.in_ok-next.ensures.counts.stays (λ wrong. cc wrong) ∙ c.loop-judged.invariant.counts;
       so_far = λ tells.
           let so_far = c.loop-judged.invariant.so_far tells in
           step_so_far _ _ _ _ _ _ c.loop-judged.invariant.judged reads step so_far (rw c.in-Record.is at (c.in_ok-next.ensures.found tells so_far.rs so_far.loads));

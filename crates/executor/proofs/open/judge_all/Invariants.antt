@@ -1,5 +1,4 @@
 use Rattle.std.proofs.Common.{◌≡◌, ◌<◌, ◌-◌}
-use Rattle.site_traits.specs.Counts.{OnlyDisk}
 use Rattle.site_traits.specs.Site.{Reads}
 use Rattle.executor.specs.Loading.{IsJudged, JudgesSoFar}
 use Rattle.executor.proofs.open.judge_all.Given as goal
@@ -12,7 +11,7 @@ invariant-loop-judged g l =
       judged : IsJudged l.judged l.loading;
       manager : l.loading.manager ≡ l.fn.loading.manager;
       within : l.loading.end < 268435456;
-      counts : OnlyDisk (g.S.Site.counts l.fn.site) (g.S.Site.counts l.site);
+      counts : g.S.Site.counts l.site ≡ g.S.Site.counts l.fn.site;
       so_far : g.S.Site.tells → JudgesSoFar l.judged l.loading (g.S.Site.state l.site);
       reads : g.S.Site.tells → Reads start (g.S.Site.state l.site);
     }

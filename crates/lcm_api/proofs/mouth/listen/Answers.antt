@@ -15,6 +15,6 @@ pub returns-in-Err-Memory-clause-listened : goal.returns-in-Err-Memory-clause-li
 returns-in-Err-Memory-clause-listened g c = record {
   bytes = take c.read_to_end-reading.result.count c.read_to_end-reading.new.room;
   failed = c.read_to_end-reading.result.failed;
-  judged = tt;
+  judged = rw c.in-Err-Memory.field-0-is at c.in-Err-Memory.ensures;
   door = rw c.requires.heard at c.read_to_end-reading.ensures.told;
 }

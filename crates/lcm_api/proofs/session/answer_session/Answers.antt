@@ -1,7 +1,7 @@
 -- A request is judged and its reply told; without one there is nothing to ask the manager.
 use Rattle.std.proofs.Common.{Ok, Err, refl}
 use Rattle.lcm_api.specs.Serving.{judged, refused}
-use Rattle.lcm_api.proofs.ServeLemmas.{heard_hand, unasked}
+use Rattle.lcm_api.proofs.ServeLemmas.{ends_connection, heard_hand, unasked}
 use Rattle.lcm_api.proofs.StepLemmas.{leaves_history}
 use Rattle.lcm_api.proofs.session.answer_session.Goals as goal
 
@@ -41,3 +41,9 @@ returns-in-Err-clause-served g c = record {
   };
   clock = λ tells. refl;
 }
+
+pub returns-in-Ok-clause-cause : goal.returns-in-Ok-clause-cause
+returns-in-Ok-clause-cause g c = ends_connection _ _ _ _ c.in-Ok.ensures.cause c.respond-result.ensures.cause c.hang_up.ensures.cause
+
+pub returns-in-Err-clause-cause : goal.returns-in-Err-clause-cause
+returns-in-Err-clause-cause g c = ends_connection _ _ _ _ c.in-Err.ensures.cause c.reject-result.ensures.cause c.hang_up-in-Err.ensures.cause

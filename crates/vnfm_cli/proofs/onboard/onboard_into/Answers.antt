@@ -1,7 +1,8 @@
 -- What was heard is judged and recorded.
 use Rattle.std.proofs.Common.{refl, take}
 use Rattle.vnfm_cli.specs.Onboarding.{verdict}
-use Rattle.vnfm_cli.proofs.HeardLemmas.{door_untold, onboards_heard, onboards_unheard, site_told, unheard_cause}
+use Rattle.lcm_api.proofs.DiskLemmas.{fails_as}
+use Rattle.vnfm_cli.proofs.HeardLemmas.{disk_told, door_untold, onboards_heard, onboards_unheard, site_told, unheard_cause}
 use Rattle.vnfm_cli.proofs.onboard.onboard_into.Goals as goal
 
 pub returns-in-Ok-clause-onboards : goal.returns-in-Ok-clause-onboards
@@ -11,9 +12,11 @@ returns-in-Ok-clause-onboards g c =
     c.now.ensures.told c.of-now.ensures c.ended.ensures.ended
 
 pub returns-in-Ok-clause-disk : goal.returns-in-Ok-clause-disk
-returns-in-Ok-clause-disk g c = λ site.
-    c.take_in-answer.ensures.disk
-    (site_told (verdict c.args.manager.now.history c.of-now.result (take c.in-Ok.count c.hear.new.room)) c.take_in-answer.result c.ended.result c.take_in-answer.ensures.ending c.ended.ensures.ended site)
+returns-in-Ok-clause-disk g c =
+    fails_as _ _ _ _ c.take_in-answer.ensures.disk
+    (λ disk. disk_told c.take_in-answer.result c.ended.result c.ended.ensures.ended disk)
+    (λ site.
+    site_told (verdict c.args.manager.now.history c.of-now.result (take c.in-Ok.count c.hear.new.room)) c.take_in-answer.result c.ended.result c.take_in-answer.ensures.ending c.ended.ensures.ended site)
 
 pub returns-in-Ok-clause-door : goal.returns-in-Ok-clause-door
 returns-in-Ok-clause-door g c = λ door.

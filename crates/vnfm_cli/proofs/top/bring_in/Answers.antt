@@ -1,5 +1,7 @@
 -- The journal was opened and a descriptor was to be onboarded, or it wasn't opened.
 use Rattle.std.proofs.Common.{refl}
+use Rattle.lcm_api.proofs.DiskLemmas.{fails_after_sync}
+use Rattle.vnfm_cli.proofs.DiskLemmas.{unopened_fails}
 use Rattle.vnfm_cli.specs.Course.{tried, unopened}
 use Rattle.vnfm_cli.specs.Rounds.{opening_of}
 use Rattle.vnfm_cli.proofs.RunLemmas.{does_not_open, does_onboarding}
@@ -17,3 +19,9 @@ returns-in-Ok-clause-does g c =
 pub returns-in-Err-clause-does : goal.returns-in-Err-clause-does
 returns-in-Err-clause-does g c =
     (unopened c.in-Err.fault, tt, does_not_open _ _ _ c.in-Err.fault _ _ _ _ c.in-Err.ensures.told c.in-Err.ensures.opens, c.unopened.ensures)
+
+pub returns-in-Ok-clause-disk : goal.returns-in-Ok-clause-disk
+returns-in-Ok-clause-disk g c = fails_after_sync _ _ _ _ (c.in-Ok.ensures.counts.stays (λ wrong. cc wrong)) c.onboard.ensures.disk
+
+pub returns-in-Err-clause-disk : goal.returns-in-Err-clause-disk
+returns-in-Err-clause-disk g c = unopened_fails c.in-Err.fault _ _ _ c.in-Err.ensures.counts c.unopened.ensures

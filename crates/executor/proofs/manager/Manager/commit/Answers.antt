@@ -1,6 +1,7 @@
 -- The event is on the disk, and in the history where it is.
 use Rattle.std.proofs.Common.{reverse, ap, Err, ◌∙◌, sym}
 use Rattle.executor.specs.Managed.{Managed}
+use Rattle.executor.proofs.AskLemmas.{commit_asks, commit_fails}
 use Rattle.executor.proofs.ManagerLemmas.{kept_more, commit_moments, commit_stands, reverse-push, ok_of, full_of}
 use Rattle.executor.proofs.manager.Manager.commit.Goals as goal
 
@@ -40,3 +41,6 @@ returns-in-Err-clause-told g c = λ tells.
           let kept = c.in-Err.ensures.only_full end more (ap Err is) in
           rw (back, kept.1, kept.2) stands);
     })
+
+pub returns-in-Err-clause-counts : goal.returns-in-Err-clause-counts
+returns-in-Err-clause-counts g c = commit_fails (Err c.work_fault.result) _ _ (commit_asks c.in-Err.fault c.work_fault.result _ _ c.work_fault.ensures c.in-Err.ensures.asks)

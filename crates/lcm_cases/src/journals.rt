@@ -1,6 +1,6 @@
 //! Journals that are opened, and those in which a record isn't allowed after those before it.
 
-use crate::{Manager, OpenFault};
+use executor::{Manager, OpenFault};
 use site_traits::{MemSite, SitePlan};
 use std::alloc::{AllocError, Global};
 use std::test::Fail;

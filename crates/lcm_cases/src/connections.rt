@@ -1,8 +1,8 @@
 //! One connection through the objects in memory: what is told, and what the file has afterwards.
-use crate::{Mouth, answer_session};
 use executor::Manager;
+use lcm_api::{Mouth, answer_session};
 use lcm_events::Role;
-use site_traits::{DoorPlan, MemDoor, MemSite, SetClock, SitePlan};
+use site_traits::{DoorPlan, MemDoor, MemSite, NextAnswer, SetClock, SitePlan};
 use std::alloc::{AllocError, Global};
 use std::test::Fail;
 use vnfm_base::Bytes;
@@ -24,7 +24,7 @@ struct Served {
     answered: bool,
 }
 
-/// A mouth at the connection that has these bytes, and of which the second write fails.
+/// A mouth at the door to which a connection with these bytes will come, of which the second write fails.
 fn mouth_at(alloc: Global, bytes: &[u8]) -> Result<Mouth<MemDoor>, AllocError> {
     let mut pieces = Vec::new(alloc);
     pieces.push(Bytes::of(alloc, bytes)?)?;
@@ -35,9 +35,7 @@ fn mouth_at(alloc: Global, bytes: &[u8]) -> Result<Mouth<MemDoor>, AllocError> {
         failing_read: None,
         failing_write: Some(2),
     })?;
-    let mut mouth = Mouth::new(alloc, MemDoor::new(alloc, plans)?)?;
-    let _ = mouth.next();
-    Ok(mouth)
+    Mouth::new(alloc, MemDoor::new(alloc, plans)?)
 }
 
 /// What that journal's manager tells the connection with these bytes, and the length of its file afterwards.
@@ -54,6 +52,9 @@ fn serve(alloc: Global, bytes: &[u8]) -> Result<Option<Served>, AllocError> {
     let mut manager = match Manager::load(alloc, &mut site) {
         Ok(manager) => manager,
         Err(_) => return Ok(None),
+    };
+    let NextAnswer::Came(_) = mouth.next() else {
+        return Ok(None);
     };
     let result = answer_session(
         alloc,
