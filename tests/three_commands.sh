@@ -1,37 +1,83 @@
 #!/bin/sh
 # The three commands of the README on a real file: a journal is made, a descriptor onboarded, an instance created. Each is then
-# tried again.
+# tried again, with words too many, and for its help. Standard output and standard error are compared apart.
 . "$(dirname "$0")/common.sh"
 
 journal=$room/journal
 descriptor=$here/examples/vnfd.json
 
-# Runs a command with this input, and looks at its status, its line and the length of the journal.
-try() { # WHAT INPUT STATUS LINE BYTES COMMAND [OPTION VALUE]
-    what=$1 input=$2 status=$3 line=$4 bytes=$5 command=$6
+# Runs the program with this input, and looks at its status, the first line of its output, all of its standard error and the
+# length of the journal.
+try() { # WHAT INPUT STATUS OUTPUT ERRORS BYTES WORD..
+    what=$1 input=$2 status=$3 output=$4 errors=$5 bytes=$6
     shift 6
-    "$here/vnfm" "$command" --journal "$journal" "$@" <"$input" >"$room/out" 2>"$room/err"
+    "$here/vnfm" "$@" <"$input" >"$room/out" 2>"$room/err"
     expect "$what, status" "$?" "$status"
-    expect "$what, line" "$(cat "$room/err" "$room/out" | tr -d '\r' | head -n 1)" "$line"
+    expect "$what, standard output" "$(tr -d '\r' <"$room/out" | head -n 1)" "$output"
+    expect "$what, standard error" "$(cat "$room/err")" "$errors"
     expect "$what, bytes of the journal" "$(bytes_of "$journal")" "$bytes"
 }
 
-try "init" /dev/null 0 "journal made for manager 7" 33 init --manager 7
+# What stands on standard error behind the line of words that are no command.
+unclear() { # WORD
+    printf 'vnfm: "%s" isn'"'"'t understood; vnfm --help says more' "$1"
+}
+
+usage="usage: vnfm init|onboard|once|serve|check|trial"
+try "init" /dev/null 0 "journal made for manager 7" "" 33 init --journal "$journal" --manager 7
+expect "init, lines of standard output" "$(wc -l <"$room/out" | tr -d ' ')" 1
 expect "init, the journal" "$(od -An -tx1 -v "$journal" | tr -d ' \n')" \
     564e464d2d4c434d01000000070000000000000000000000000000000000000000
-try "init again" /dev/null 11 "taken" 33 init --manager 7
-try "a creation without a descriptor" "$request" 0 "done after 1 rounds" 33 once
+try "init again" /dev/null 11 "taken" \
+    "vnfm: \"$journal\": it is a journal already, or no file of this program's; give another path, or move it away" \
+    33 init --journal "$journal" --manager 7
+try "a creation without a descriptor" "$request" 0 "HTTP/1.1 422 Unprocessable Content" "done after 1 rounds" 33 \
+    once --journal "$journal"
 expect "a creation without a descriptor, answer" "$(tail -n 1 "$room/out")" '{"detail":"vnfdId is not onboarded","status":422}'
-try "onboard nothing" /dev/null 10 "descriptor refused: not JSON" 33 onboard
-try "onboard" "$descriptor" 0 "onboarded vnfd-1: 2 vdus, 1 aspects, 2 levels" 294 onboard
-try "onboard again" "$descriptor" 10 "descriptor refused: vnfdId is onboarded" 294 onboard
+try "onboard nothing" /dev/null 10 "descriptor refused: not JSON" "vnfm: the descriptor is not taken" 33 \
+    onboard --journal "$journal"
+try "onboard" "$descriptor" 0 "onboarded vnfd-1: 2 vdus, 1 aspects, 2 levels" "" 294 onboard --journal "$journal"
+expect "onboard, lines of standard output" "$(wc -l <"$room/out" | tr -d ' ')" 1
+try "onboard again" "$descriptor" 10 "descriptor refused: vnfdId is onboarded" "vnfm: the descriptor is not taken" 294 \
+    onboard --journal "$journal"
 sed 's/,"default_level":"normal"//' "$descriptor" >"$room/levels.json"
-try "onboard without a default level" "$room/levels.json" 10 "descriptor refused: missing default_level" 294 onboard
-try "once" "$request" 0 "done after 1 rounds" 332 once
-expect "once, answer" "$(head -n 1 "$room/out" | tr -d '\r')" "HTTP/1.1 201 Created"
+try "onboard without a default level" "$room/levels.json" 10 "descriptor refused: missing default_level" \
+    "vnfm: the descriptor is not taken" 294 onboard --journal "$journal"
+try "once" "$request" 0 "HTTP/1.1 201 Created" "done after 1 rounds" 332 once --journal "$journal"
 expect "once, bytes of the body" "$(sed -n 's/^Content-Length: //p' "$room/out" | tr -d '\r')" 422
-try "once again" "$request" 0 "done after 1 rounds" 370 once
+try "once again" "$request" 0 "HTTP/1.1 201 Created" "done after 1 rounds" 370 once --journal "$journal"
 expect "once again, Location" "$(sed -n 2p "$room/out" | tr -d '\r')" \
     "Location: /vnflcm/v1/vnf_instances/00000007-766d-8001-8000-000000000002"
+
+# Words too many, too few, or not understood: status 2, and the journal stays.
+try "once with a word too many" "$request" 2 "$usage" "$(unclear more)" 370 once --journal "$journal" more
+try "onboard with words too many" "$descriptor" 2 "$usage" "$(unclear --manager)" 370 \
+    onboard --journal "$journal" --manager 7
+try "init with a word too many" /dev/null 2 "$usage" "$(unclear 8)" 370 init --journal "$journal" --manager 7 8
+try "init without a manager" /dev/null 2 "$usage" "vnfm: --manager N is missing; vnfm --help says more" 370 \
+    init --journal "$journal"
+try "a manager past the last" /dev/null 2 "$usage" "$(unclear 4294967296)" 370 init --journal "$journal" --manager 4294967296
+try "no journal named" "$request" 2 "$usage" "vnfm: --journal PATH is missing; vnfm --help says more" 370 once
+try "an option for a path" "$request" 2 "$usage" "$(unclear --manager)" 370 once --journal --manager
+try "no word" "$request" 2 "$usage" "vnfm: a command is missing; vnfm --help says more" 370
+try "a word with a line feed" "$request" 2 "$usage" "$(unclear 'a\nb')" 370 "$(printf 'a\nb')"
+try "--help and a word" /dev/null 2 "$usage" "$(unclear --help)" 370 --help once
+
+# The texts, alone and of each command.
+try "--version" /dev/null 0 "vnfm 0.1.0" "" 370 --version
+try "--help" /dev/null 0 "vnfm: a VNF lifecycle manager after ETSI GS NFV-SOL 003 V2.6.1" "" 370 --help
+try "init --help" /dev/null 0 \
+    "vnfm init --journal PATH --manager N    make the journal of manager N, from 0 to 4294967295, at PATH" "" 370 init --help
+try "onboard --help" /dev/null 0 \
+    "vnfm onboard --journal PATH    onboard the descriptor on standard input, a JSON document" "" 370 onboard --help
+try "once --help" "$request" 0 \
+    "vnfm once --journal PATH    answer the request on standard input, and record what it asks for" "" 370 once --help
+
+# An answer that can't be delivered is recorded all the same.
+"$here/vnfm" once --journal "$journal" <"$request" >/dev/full 2>"$room/err"
+expect "once, output full, status" "$?" 0
+expect "once, output full, standard error" "$(cat "$room/err")" "done after 1 rounds
+vnfm: the answer couldn't be delivered; what it says is recorded"
+expect "once, output full, bytes of the journal" "$(bytes_of "$journal")" 408
 
 exit "$differs"

@@ -23,7 +23,8 @@ sleep 1
 
 "$here/vnfm" once --journal "$journal" <"$request" >"$room/second.out" 2>"$room/second.err" 3>&-
 expect "second manager, status" "$?" 3
-expect "second manager, line" "$(cat "$room/second.err")" "site fault"
+expect "second manager, line" "$(head -n 1 "$room/second.err")" "site fault"
+expect "second manager, why" "$(sed 1d "$room/second.err")" "vnfm: \"$journal\": another manager holds its lock"
 expect "second manager, answer" "$(cat "$room/second.out")" ""
 
 cat "$request" >&3

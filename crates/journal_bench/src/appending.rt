@@ -3,8 +3,10 @@ ghost use Rattle.std.specs.Prelude.{◌≡◌, OnOk, false};
 
 use crate::sample::record_of;
 use anyhow::{Result, bail};
+use host_calls::StdFiles;
 use journal_core::Journal;
-use outside_edges::RealSite;
+use outside_edges::{FolderSync, RealSite};
+use standard_streams::HeldStreams;
 use std::alloc::AllocGlobal;
 use std::fs::File;
 use std::io::Print;
@@ -35,10 +37,12 @@ impl Written {
 /// Makes a journal at a path where nothing is, and appends so many records.
 pub fn append_all(
     rt: &(impl Files<File = File> + Clock + AllocGlobal),
+    streams: &HeldStreams<File>,
     path: &str,
     records: u64,
 ) -> Result<Written> {
-    let mut site = RealSite::made(rt, path)?;
+    let mut site = RealSite::made();
+    site.open(&mut StdFiles::of(rt), streams, path, FolderSync::Always)?;
     if let Err(fault) = Journal::create(&mut site, MANAGER) {
         bail!("the journal can't be made: {fault:?}");
     }
@@ -57,7 +61,11 @@ pub fn append_all(
 }
 
 /// Appends the record with this number.
-fn append_one(journal: &mut Journal<RealSite>, site: &mut RealSite, number: u64) -> Result<()>
+fn append_one(
+    journal: &mut Journal<RealSite<File>>,
+    site: &mut RealSite<File>,
+    number: u64,
+) -> Result<()>
     requires { journal.old.closed ≡ false }
     ensures { OnOk result (journal.new.closed ≡ false) }
 {

@@ -3,6 +3,7 @@
 use crate::appending::Written;
 use crate::sample::{SIZE, record_of};
 use anyhow::Result;
+use standard_streams::HeldStreams;
 use std::fs::File;
 use std::os::unix::fs::FileExt;
 use std::rt::Files;
@@ -14,6 +15,7 @@ const STEP: u64 = 5 + SIZE as u64;
 /// Writes so many records to a new file, as an append does: the length, the content and a closed gate, a sync, the open gate, a sync.
 pub fn write_all(
     rt: &(impl Files<File = File> + Clock),
+    _streams: &HeldStreams<File>,
     path: &str,
     records: u64,
 ) -> Result<Written> {

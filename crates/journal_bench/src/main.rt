@@ -17,6 +17,7 @@ mod words;
 
 use crate::words::Words;
 use anyhow::Result;
+use standard_streams::{NullFiles, hold_streams};
 use std::alloc::AllocGlobal;
 use std::env::Env;
 use std::fs::File;
@@ -34,18 +35,21 @@ const USUAL_RECORDS: u64 = 100;
 fn run(
     rt: &(impl Env + Files<File = File> + Clock + CpuClock + Print + AllocGlobal),
 ) -> Result<()> {
+    let streams = hold_streams(&mut NullFiles::of(rt))?;
     match Words::read(rt)? {
         Words::Usual => {
-            let made = appending::append_all(rt, USUAL_PATH, USUAL_RECORDS)?;
+            let made = appending::append_all(rt, &streams, USUAL_PATH, USUAL_RECORDS)?;
             println!(rt; "records {}", made.records)?;
-            reading::read_all(rt, USUAL_PATH)?.print(rt)
+            reading::read_all(rt, &streams, USUAL_PATH)?.print(rt)
         }
-        Words::Append(path, records) => appending::append_all(rt, path.as_str(), records)?.print(
-            rt,
-        ),
-        Words::Bare(path, records) => bare::write_all(rt, path.as_str(), records)?.print(rt),
-        Words::Load(path) => reading::load(rt, path.as_str())?.print(rt),
-        Words::Read(path) => reading::read_all(rt, path.as_str())?.print(rt),
+        Words::Append(path, records) => {
+            appending::append_all(rt, &streams, path.as_str(), records)?.print(rt)
+        }
+        Words::Bare(path, records) => {
+            bare::write_all(rt, &streams, path.as_str(), records)?.print(rt)
+        }
+        Words::Load(path) => reading::load(rt, &streams, path.as_str())?.print(rt),
+        Words::Read(path) => reading::read_all(rt, &streams, path.as_str())?.print(rt),
     }
 }
 

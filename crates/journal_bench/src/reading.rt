@@ -1,9 +1,11 @@
 //! A journal is loaded.
 
 use anyhow::{Result, bail};
+use host_calls::StdFiles;
 use journal_core::{Found, Journal, Loading};
-use outside_edges::RealSite;
+use outside_edges::{FolderSync, RealSite};
 use sha2::{Digest, Sha256};
+use standard_streams::HeldStreams;
 use std::alloc::AllocGlobal;
 use std::fs::File;
 use std::io::Print;
@@ -27,8 +29,13 @@ impl Loaded {
 }
 
 /// Loads the journal at this path.
-pub fn load(rt: &(impl Files<File = File> + CpuClock + AllocGlobal), path: &str) -> Result<Loaded> {
-    let mut site = RealSite::made(rt, path)?;
+pub fn load(
+    rt: &(impl Files<File = File> + CpuClock + AllocGlobal),
+    streams: &HeldStreams<File>,
+    path: &str,
+) -> Result<Loaded> {
+    let mut site = RealSite::made();
+    site.open(&mut StdFiles::of(rt), streams, path, FolderSync::WhereMade)?;
     let begun = rt.process_cpu_time()?;
     match Journal::load(rt.alloc(), &mut site) {
         Ok(journal) => Ok(Loaded {
@@ -60,8 +67,13 @@ impl Content {
 }
 
 /// Reads the records of the journal at this path, one after the other.
-pub fn read_all(rt: &(impl Files<File = File> + AllocGlobal), path: &str) -> Result<Content> {
-    let mut site = RealSite::made(rt, path)?;
+pub fn read_all(
+    rt: &(impl Files<File = File> + AllocGlobal),
+    streams: &HeldStreams<File>,
+    path: &str,
+) -> Result<Content> {
+    let mut site = RealSite::made();
+    site.open(&mut StdFiles::of(rt), streams, path, FolderSync::WhereMade)?;
     let mut loading = match Journal::open(rt.alloc(), &mut site) {
         Ok(loading) => loading,
         Err(fault) => bail!("the journal can't be loaded: {fault:?}"),
@@ -80,7 +92,7 @@ pub fn read_all(rt: &(impl Files<File = File> + AllocGlobal), path: &str) -> Res
 }
 
 /// Reads the next record.
-fn read_next(loading: &mut Loading<RealSite>, site: &mut RealSite) -> Result<Found> {
+fn read_next(loading: &mut Loading<RealSite<File>>, site: &mut RealSite<File>) -> Result<Found> {
     match loading.next(site) {
         Ok(found) => Ok(found),
         Err(fault) => bail!("a record can't be read: {fault:?}"),

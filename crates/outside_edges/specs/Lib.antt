@@ -1,3 +1,4 @@
+pub mod Clock
 pub mod Door
 pub mod Faults
 pub mod Site

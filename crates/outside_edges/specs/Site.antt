@@ -1,12 +1,36 @@
 -- The journal's real file.
-use Rattle.std.specs.Prelude.{◌≡◌, None}
+use Rattle.std.specs.Prelude.{◌≡◌, ◌⊎◌, ℕ, List, [], true, Option, Some, None, IfSome, unwrap_or}
 use Rattle.site_traits.specs.Counts.{SiteCounts}
-use Rattle.outside_edges.specs.declared.real_site.RealSite.{RealSite}
+use Rattle.site_traits.specs.Site.{SiteState, untold}
+use Rattle.host_calls.specs.Files.{FilesState, Hold, free, whole}
+use Rattle.outside_edges.specs.declared.real_site.FolderSync.{FolderSync}
+use Rattle.outside_edges.specs.declared.real_site.FolderSync.TheVariants.{Always}
 
--- the file couldn't be had
-abbrev pub IsLost : RealSite → Type 0
-IsLost site = site.file ≡ None
+-- how often its disk calls failed, and what was asked of it
+abbrev pub counted_as : ℕ → ℕ → ℕ → ℕ → SiteCounts
+counted_as faults writes cuts syncs = record { disk = faults; vim = 0; look = 0; refusals = 0; writes = writes; cuts = cuts; syncs = syncs }
 
--- how often its disk calls failed
-abbrev pub counts_of : RealSite → SiteCounts
-counts_of site = record { disk = site.faults; vim = 0; look = 0; refusals = 0 }
+-- what the site tells: what its file does, or nothing where it has none
+abbrev pub state_in : {F : Type 0} → (F → SiteState) → Option F → SiteState
+state_in state None = untold
+state_in state (Some file) = state file
+
+-- the file's name is on the disk where its folder is to be synced each time, and where it was made
+abbrev pub IsNamed : List ℕ → FolderSync → FilesState → FilesState → Type 0
+IsNamed path folder old new = (folder ≡ Always) ⊎ (old.image path ≡ None) → new.named path ≡ true
+
+-- the file is what stood at the path, or an empty one where nothing did
+pub record IsFound {F : Type 0} (state : F → SiteState) (hold : F → Hold) (path : List ℕ) (folder : FolderSync) (file : F) (old new : FilesState) : Type 0 where
+  pub image : (state file).image ≡ unwrap_or (old.image path) []
+  pub hold_is : hold file ≡ free
+  pub named : IsNamed path folder old new
+
+-- it is that, is locked, and reads what the disk has
+pub record IsHad {F : Type 0} (state : F → SiteState) (hold : F → Hold) (path : List ℕ) (folder : FolderSync) (file : F) (old new : FilesState) : Type 0 where
+  pub image : (state file).image ≡ unwrap_or (old.image path) []
+  pub hold_is : hold file ≡ whole
+  pub named : IsNamed path folder old new
+
+-- where a file was opened, it is the one that is to be had
+abbrev pub IsHeld : {F : Type 0} → (F → SiteState) → (F → Hold) → List ℕ → FolderSync → Option F → FilesState → FilesState → Type 0
+IsHeld state hold path folder file old new = IfSome file (λ f. IsHad state hold path folder f old new)

@@ -1,5 +1,5 @@
 //! The outside as it is: the journal's file under its lock, a connection over a reader and a writer, the machine's clock, a stream,
-//! and what stands in for peers that can't be reached. Each meets its trait, tells nothing of its content, and counts its failures.
+//! and what stands in for peers that can't be reached. Each is over calls of std that host_calls states, tells what they tell, and counts its failures.
 #![tactic(auto)]
 
 mod counted;
@@ -13,4 +13,4 @@ pub use no_peers::{NoCourier, NoOrchestrator};
 pub use real_clock::RealClock;
 pub use real_door::RealDoor;
 pub use real_sink::RealSink;
-pub use real_site::RealSite;
+pub use real_site::{FolderSync, RealSite, WhyLost};

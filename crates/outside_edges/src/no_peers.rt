@@ -1,6 +1,7 @@
 //! An orchestrator and a courier that can't be had: each call fails and counts.
 ghost use Rattle.std.specs.Prelude.{◌≡◌};
 ghost use Rattle.site_traits.specs.Counts.{one_more};
+ghost use Rattle.outside_edges.specs.Faults.{counted};
 ghost use Rattle.site_traits.specs.Peers.{OrchestratorState, Post, CallCause, PostCause};
 
 use crate::counted::count_fault;
@@ -29,12 +30,12 @@ impl Orchestrator for NoOrchestrator {
 
     ghost state = { λ _. record { answers = []; asked = []; polled = [] } };
 
-    ghost counts = { λ o. o.faults };
+    ghost counts = { λ o. counted o.faults };
 
     fn ask(&mut self, _body: &[u8], _heard: &mut Heard) -> Call
         ensures fails { result ≡ Call.Failed }
         ensures counted { self.new.faults ≡ one_more self.old.faults }
-        ensures cause { CallCause result self.old.faults self.new.faults }
+        ensures cause { CallCause result (counted self.old.faults) (counted self.new.faults) }
     {
         count_fault(&mut self.faults);
         Call::Failed
@@ -43,7 +44,7 @@ impl Orchestrator for NoOrchestrator {
     fn poll(&mut self, _location: &Line, _heard: &mut Heard) -> Call
         ensures fails { result ≡ Call.Failed }
         ensures counted { self.new.faults ≡ one_more self.old.faults }
-        ensures cause { CallCause result self.old.faults self.new.faults }
+        ensures cause { CallCause result (counted self.old.faults) (counted self.new.faults) }
     {
         count_fault(&mut self.faults);
         Call::Failed
@@ -72,12 +73,12 @@ impl Courier for NoCourier {
 
     ghost state = { λ _. [] };
 
-    ghost counts = { λ c. c.faults };
+    ghost counts = { λ c. counted c.faults };
 
     fn post(&mut self, _uri: &Line, _body: &[u8]) -> PostAnswer
         ensures fails { result ≡ PostAnswer.Failed }
         ensures counted { self.new.faults ≡ one_more self.old.faults }
-        ensures cause { PostCause result self.old.faults self.new.faults }
+        ensures cause { PostCause result (counted self.old.faults) (counted self.new.faults) }
     {
         count_fault(&mut self.faults);
         PostAnswer::Failed

@@ -1,38 +1,48 @@
 //! The machine's clock.
 ghost use Rattle.std.specs.Prelude.{◌≡◌};
+ghost use Rattle.outside_edges.specs.Clock.{millis, moment_after};
 
+use host_calls::TimeOfDay;
 use site_traits::Clock;
-use std::time::{Clock as TimeSource, SystemTime, UNIX_EPOCH};
+use std::time::Duration;
 
 /// The machine's clock. Where it can't be read, it stands where it last stood, at first at 0.
 #[derive(Drop)]
-pub struct RealClock<'a, R: TimeSource> {
-    rt: &'a R,
+pub struct RealClock<T: TimeOfDay> {
+    time: T,
     last: u64,
 }
 
-impl<'a, R: TimeSource> RealClock<'a, R> {
-    /// The clock of this runtime.
-    pub fn made(rt: &'a R) -> RealClock<'a, R>
-        ensures { result.last ≡ 0 }
+impl<T: TimeOfDay> RealClock<T> {
+    /// The clock of this time of day.
+    pub fn made(time: T) -> RealClock<T>
+        ensures { result ≡ record { time = time; last = 0 } }
     {
-        RealClock { rt, last: 0 }
+        RealClock { time, last: 0 }
     }
 }
 
-impl<'a, R: TimeSource> Clock for RealClock<'a, R> {
+impl<T: TimeOfDay> Clock for RealClock<T> {
     ghost use Rattle.std.specs.Prelude.{[]};
 
     ghost tells = { ⊥ };
 
     ghost state = { λ _. [] };
 
-    fn now(&mut self) -> u64 {
-        if let Ok(time) = SystemTime::now(self.rt) {
-            if let Ok(since) = time.duration_since(UNIX_EPOCH) {
-                self.last = u64::try_from(since.as_millis()).unwrap_or(u64::MAX);
-            }
+    fn now(&mut self) -> u64
+        ensures moment { T.tells → result ≡ moment_after (T.reading self.old.time) self.old.last }
+        ensures last { self.new.last ≡ result }
+    {
+        if let Some(since) = self.time.since_1970() {
+            self.last = millis_of(since);
         }
         self.last
     }
+}
+
+/// How many whole milliseconds a duration has, as far as a u64 counts.
+fn millis_of(since: Duration) -> u64
+    ensures { result ≡ millis since }
+{
+    u64::try_from(since.as_millis()).unwrap_or(u64::MAX)
 }

@@ -1,60 +1,92 @@
 //! Standard input and output as a door with one connection.
-ghost use Rattle.std.specs.Prelude.{◌≡◌, ◌≤◌, IfOk, false, true, length};
-ghost use Rattle.site_traits.specs.Counts.{one_more};
-ghost use Rattle.site_traits.specs.Door.{NextCause, ReadCause, WriteCause, NoNextFault, IsAmount, IsTaken};
+ghost use Rattle.std.specs.Prelude.{◌≡◌, ◌≢◌, ◌≤◌, ◌<◌, ◌-◌, ◌^◌, [], IfOk, IfErr, false, true, length};
+ghost use Rattle.std.specs.IoError.{error_kind};
+ghost use Rattle.site_traits.specs.Door.{Nexts, NextCause};
+ghost use Rattle.host_calls.specs.Streams.{Gives, Takes};
+ghost use Rattle.outside_edges.specs.Door.{counted, state_of, IsDoor};
 
 use crate::counted::count_fault;
+use host_calls::{InStream, OutStream};
 use lcm_events::Role;
 use site_traits::{Door, NextAnswer, ReadAnswer, WriteAnswer};
 use std::io;
-use std::io::{ErrorKind, Read, Write};
+use std::io::ErrorKind;
 
-/// One connection: its bytes in are a reader's, its bytes out go to a writer.
+/// One connection: its bytes in are those of a stream, its bytes out go to another.
 #[derive(Drop)]
-pub struct RealDoor<R: Read, W: Write> {
-    input: R,
-    output: W,
+pub struct RealDoor<I: InStream, O: OutStream> {
+    input: I,
+    output: O,
     role: Role,
     came: bool,
+    up: bool,
+    ends: u64,
+    read_failed: bool,
+    write_failed: bool,
     faults: u64,
+    next_faults: u64,
+    ghost sound: { IsDoor I.tells O.tells came up ends read_failed write_failed (I.state input) (O.state output) },
 }
 
-impl<R: Read, W: Write> RealDoor<R, W> {
-    /// A door at which one connection of this role will come.
-    pub fn made(input: R, output: W, role: Role) -> RealDoor<R, W>
-        ensures { result ≡ record { input = input; output = output; role = role; came = false; faults = 0 } }
+impl<I: InStream, O: OutStream> RealDoor<I, O> {
+    /// A door at which one connection of this role will come. Nothing was read of its stream or written to it yet.
+    pub fn made(input: I, output: O, role: Role) -> RealDoor<I, O>
+        requires unread { I.tells → (I.state input).left ≡ (I.state input).bytes }
+        requires unwritten { O.tells → O.state output ≡ [] }
+        ensures streams { (result.input ≡ input) × (result.output ≡ output) }
+        ensures role { result.role ≡ role }
+        ensures none { (result.came ≡ false) × (result.up ≡ false) }
+        ensures counts { (result.faults ≡ 0) × (result.next_faults ≡ 0) }
     {
         RealDoor {
             input,
             output,
             role,
             came: false,
+            up: false,
+            ends: 0,
+            read_failed: false,
+            write_failed: false,
             faults: 0,
+            next_faults: 0,
         }
+    }
+
+    /// Whether a write on the connection failed.
+    pub fn write_failed(&self) -> bool
+        ensures { result ≡ self.now.write_failed }
+    {
+        self.write_failed
     }
 }
 
-impl<R: Read, W: Write> Door for RealDoor<R, W> {
-    ghost use Rattle.std.specs.Prelude.{[]};
-    ghost use Rattle.site_traits.specs.Door.{nobody};
-    ghost use Rattle.outside_edges.specs.Door.{next_of};
+impl<I: InStream, O: OutStream> Door for RealDoor<I, O> {
+    ghost use Rattle.outside_edges.specs.Door.{counted, state_of};
 
-    ghost tells = { ⊥ };
+    ghost tells = { I.tells × O.tells };
 
-    ghost state = { λ _. record { answers = []; conn = nobody; past = [] } };
+    ghost state = { λ d. state_of d.came d.role d.ends d.up d.read_failed d.write_failed (I.state d.input) (O.state d.output) };
 
-    ghost counts = { λ d. record { faults = d.faults; next = 0 } };
+    ghost counts = { λ d. counted d.faults d.next_faults d.up };
 
     fn next(&mut self) -> NextAnswer
-        ensures comes { result ≡ next_of self.old.came self.old.role }
-        ensures came { self.new ≡ record self.old { came = true } }
-        ensures cause { NextCause result (record { faults = self.old.faults; next = 0 }) (record { faults = self.new.faults; next = 0 }) }
+        ensures first { self.old.came ≡ false → result ≡ NextAnswer.Came self.old.role }
+        ensures later { self.old.came ≡ true → self.old.ends < 2 ^ 64 - 1 → result ≡ NextAnswer.Ended }
+        ensures told { I.tells × O.tells → Nexts result (state_of self.old.came self.old.role self.old.ends self.old.up self.old.read_failed self.old.write_failed (I.state self.old.input) (O.state self.old.output)) (state_of self.new.came self.new.role self.new.ends self.new.up self.new.read_failed self.new.write_failed (I.state self.new.input) (O.state self.new.output)) }
+        ensures cause { NextCause result (counted self.old.faults self.old.next_faults self.old.up) (counted self.new.faults self.new.next_faults self.new.up) }
     {
-        if self.came {
-            return NextAnswer::Ended;
+        if !self.came {
+            self.came = true;
+            self.up = true;
+            return NextAnswer::Came(self.role);
         }
-        self.came = true;
-        NextAnswer::Came(self.role)
+        if self.ends == u64::MAX {
+            count_fault(&mut self.faults);
+            count_fault(&mut self.next_faults);
+            return NextAnswer::Failed;
+        }
+        self.ends += 1;
+        NextAnswer::Ended
     }
 
     fn read(&mut self, into: &mut [u8]) -> ReadAnswer {
@@ -63,6 +95,7 @@ impl<R: Read, W: Write> Door for RealDoor<R, W> {
             Ok(count) => ReadAnswer::Got(count),
             Err(_) => {
                 count_fault(&mut self.faults);
+                self.read_failed = true;
                 ReadAnswer::Failed
             }
         }
@@ -70,24 +103,25 @@ impl<R: Read, W: Write> Door for RealDoor<R, W> {
 
     fn write(&mut self, bytes: &[u8]) -> WriteAnswer {
         match write_some(&mut self.output, bytes) {
-            Ok(0) => {
+            Ok(count) if count > 0 => WriteAnswer::Took(count),
+            _ => {
                 count_fault(&mut self.faults);
-                WriteAnswer::Failed
-            }
-            Ok(count) => WriteAnswer::Took(count),
-            Err(_) => {
-                count_fault(&mut self.faults);
+                self.write_failed = true;
                 WriteAnswer::Failed
             }
         }
     }
 
-    fn hang_up(&mut self) {}
+    fn hang_up(&mut self) {
+        self.up = false;
+    }
 }
 
 /// Reads once, and again where a signal interrupts the read.
-fn read_some<R: Read>(input: &mut R, into: &mut [u8]) -> io::Result<usize>
-    ensures { IfOk result (λ count. count ≤ length into.new) }
+fn read_some<I: InStream>(input: &mut I, into: &mut [u8]) -> io::Result<usize>
+    ensures most { IfOk result (λ count. count ≤ length into.old) }
+    ensures told { I.tells → Gives into.old into.new result (I.state input.old) (I.state input.new) }
+    ensures again { IfErr result (λ fault. error_kind fault ≢ ErrorKind.Interrupted) }
 {
     for _ in 0..u64::MAX {
         match input.read(into) {
@@ -95,12 +129,14 @@ fn read_some<R: Read>(input: &mut R, into: &mut [u8]) -> io::Result<usize>
             answer => return answer,
         }
     }
-    Err(io::Error::from(ErrorKind::Interrupted))
+    Err(io::Error::from(ErrorKind::Other))
 }
 
 /// Writes once, and again where a signal interrupts the write.
-fn write_some<W: Write>(output: &mut W, bytes: &[u8]) -> io::Result<usize>
-    ensures { IfOk result (λ count. count ≤ length bytes.now) }
+fn write_some<O: OutStream>(output: &mut O, bytes: &[u8]) -> io::Result<usize>
+    ensures most { IfOk result (λ count. count ≤ length bytes.now) }
+    ensures told { O.tells → Takes bytes.now result (O.state output.old) (O.state output.new) }
+    ensures again { IfErr result (λ fault. error_kind fault ≢ ErrorKind.Interrupted) }
 {
     for _ in 0..u64::MAX {
         match output.write(bytes) {
@@ -108,5 +144,5 @@ fn write_some<W: Write>(output: &mut W, bytes: &[u8]) -> io::Result<usize>
             answer => return answer,
         }
     }
-    Err(io::Error::from(ErrorKind::Interrupted))
+    Err(io::Error::from(ErrorKind::Other))
 }

@@ -1,199 +1,288 @@
 //! The journal's real file, under its exclusive lock.
-ghost use Rattle.std.specs.Prelude.{◌≡◌, ◌≤◌, IfOk, IsErr, None};
+ghost use Rattle.std.specs.Prelude.{◌≡◌, ◌≤◌, ◌+◌, IfOk, OnOk, IsErr, None, length, take, drop};
+ghost use Rattle.site_traits.specs.Counts.{Ask, asked, DiskCause, one_more};
+ghost use Rattle.site_traits.specs.Site.{Reads, Writes, Cuts, Syncs};
 ghost use Rattle.outside_edges.specs.Faults.{CountsOne};
+ghost use Rattle.outside_edges.specs.Site.{counted_as, state_in, IsFound, IsHad, IsHeld};
 
-use crate::counted::count_fault;
+use crate::counted::{count_call, count_fault};
+use host_calls::{HostFile, HostFiles};
 use site_traits::{DiskFailed, Site};
+use standard_streams::HeldStreams;
 use std::alloc::AllocError;
-use std::fs::{File, OpenOptions};
 use std::io;
 use std::io::ErrorKind;
-use std::os::unix::fs::FileExt;
-use std::path::Path;
-use std::rt::Files;
 
-/// The journal's file. Where it couldn't be had, every call fails and counts.
+/// When the folder of the journal's file is synced, so that the file's name is on the disk.
+#[derive(Clone, Copy, Debug, PartialEq, Eq)]
+pub enum FolderSync {
+    /// Each time, since the name of a file that is there already may never have reached the disk.
+    Always,
+    /// Where the file is made.
+    WhereMade,
+}
+
+/// Why the journal's file couldn't be had.
+#[derive(Clone, Copy, Debug, PartialEq, Eq)]
+pub enum WhyLost {
+    /// Another has its lock.
+    Locked,
+    /// There is no such folder.
+    NoFolder,
+    /// It may not be read or written.
+    NotPermitted,
+    /// It is no regular file.
+    NotAFile,
+    /// There was no memory.
+    Memory,
+    /// The disk failed, or something else did.
+    Other,
+}
+
+/// The journal's file. Until it is opened, and where it couldn't be had, every call fails and counts.
 ///
 /// It holds the file's exclusive lock until it is dropped, so that no second manager writes to it.
 #[derive(Drop)]
-pub struct RealSite {
-    file: Option<File>,
+pub struct RealSite<F: HostFile> {
+    file: Option<F>,
+    why: Option<WhyLost>,
     faults: u64,
+    writes: u64,
+    cuts: u64,
+    syncs: u64,
 }
 
-impl RealSite {
-    /// The file at this path, which is made empty where there is none; its folder is then synced, since a file whose name
-    /// is lost holds nothing. Its one refusal is want of memory.
-    pub fn made<R: Files<File = File>>(rt: &R, path: &str) -> Result<RealSite, AllocError>
-        ensures { IfOk result (λ site. site.faults ≡ 0) }
-    {
-        match locked(rt, path) {
-            Ok(file) => Ok(RealSite {
-                file: Some(file),
-                faults: 0,
-            }),
-            Err(fault) if fault.kind() == ErrorKind::OutOfMemory => Err(AllocError),
-            Err(_) => Ok(RealSite::none()),
-        }
-    }
-
-    /// A file that can't be had.
-    pub fn none() -> RealSite
-        ensures file { result.file ≡ None }
-        ensures faults { result.faults ≡ 0 }
+impl<F: HostFile + Drop> RealSite<F> {
+    /// A site of which no file was opened yet.
+    pub fn made() -> RealSite<F>
+        ensures { result ≡ record { file = None; why = None; faults = 0; writes = 0; cuts = 0; syncs = 0 } }
     {
         RealSite {
             file: None,
+            why: None,
             faults: 0,
+            writes: 0,
+            cuts: 0,
+            syncs: 0,
         }
     }
-}
 
-/// The file at this path, locked.
-fn locked<R: Files<File = File>>(rt: &R, path: &str) -> io::Result<File> {
-    let file = open_or_make(rt, path)?;
-    match file.try_lock() {
-        Ok(()) => Ok(file),
-        Err(_) => Err(io::Error::from(ErrorKind::WouldBlock)),
+    /// Opens the file at this path, which is made empty where there is none. Where that, or `folder`, asks for it, its folder is
+    /// synced, since a file whose name is lost holds nothing. What is opened is a regular file; it is locked, and read from the
+    /// disk. No file here is a standard stream, since those are held. Where it can't be had, `why` says the cause.
+    ///
+    /// Its one refusal is want of memory.
+    pub fn open<H: HostFiles<File = F>, T: Drop>(
+        &mut self,
+        host: &mut H,
+        streams: &HeldStreams<T>,
+        path: &str,
+        folder: FolderSync,
+    ) -> Result<(), AllocError>
+        ensures had { H.tells → F.tells → OnOk result (IsHeld F.state F.hold path.now folder self.new.file (H.state host.old) (H.state host.new)) }
+        ensures counts { counted_as self.new.faults self.new.writes self.new.cuts self.new.syncs ≡ counted_as self.old.faults self.old.writes self.old.cuts self.old.syncs }
+    {
+        match found(host, streams, path, folder) {
+            Ok(file) => {
+                self.file = Some(file);
+                self.why = None;
+                Ok(())
+            }
+            Err(WhyLost::Memory) => Err(AllocError),
+            Err(why) => {
+                self.file = None;
+                self.why = Some(why);
+                Ok(())
+            }
+        }
+    }
+
+    /// Why the file couldn't be had, where it was asked for and couldn't.
+    pub fn why(&self) -> Option<WhyLost>
+        ensures { result ≡ self.now.why }
+    {
+        self.why
     }
 }
 
-/// The file at this path, which is made where there is none.
-fn open_or_make<R: Files<File = File>>(rt: &R, path: &str) -> io::Result<File> {
-    match OpenOptions::new().read(true).write(true).open(rt, path) {
-        Err(fault) if fault.kind() == ErrorKind::NotFound => make(rt, path),
-        answer => answer,
+/// The file at this path, locked, and to be read from the disk.
+fn found<H: HostFiles, T: Drop>(
+    host: &mut H,
+    streams: &HeldStreams<T>,
+    path: &str,
+    folder: FolderSync,
+) -> Result<H::File, WhyLost>
+    ensures { H.tells → H.File.tells → IfOk result (λ file. IsHad H.File.state H.File.hold path.now folder file (H.state host.old) (H.state host.new)) }
+{
+    let mut file = at_path(host, streams, path, folder)?;
+    if !file.is_regular().map_err(why_of)? {
+        return Err(WhyLost::NotAFile);
     }
-}
-
-/// A new file at this path, whose name is on the disk.
-fn make<R: Files<File = File>>(rt: &R, path: &str) -> io::Result<File> {
-    let file = File::create_new(rt, path)?;
-    File::open(rt, folder_of(path))?.sync_all()?;
+    file.try_lock().map_err(why_of)?;
+    file.forget_pages().map_err(why_of)?;
     Ok(file)
 }
 
-/// The folder that a path's last name is in.
-fn folder_of(path: &str) -> Path<'_> {
-    match Path::new(path).parent() {
-        Some(folder) if folder.to_str() != Some("") => folder,
-        _ => Path::new("."),
-    }
-}
-
-/// The answer of a call on the file. A failed one is counted.
-fn counted<T: Drop>(answer: io::Result<T>, faults: &mut u64) -> Result<T, DiskFailed>
-    ensures fails { IsErr answer → IsErr result }
-    ensures later { faults.old ≤ faults.new }
-    ensures counts { CountsOne result faults.old faults.new }
+/// The file at this path, which is made where there is none.
+fn at_path<H: HostFiles, T: Drop>(
+    host: &mut H,
+    streams: &HeldStreams<T>,
+    path: &str,
+    folder: FolderSync,
+) -> Result<H::File, WhyLost>
+    ensures { H.tells → IfOk result (λ file. IsFound H.File.state H.File.hold path.now folder file (H.state host.old) (H.state host.new)) }
 {
-    match answer {
-        Ok(value) => Ok(value),
-        Err(_) => {
-            count_fault(faults);
-            Err(DiskFailed)
+    match host.open(streams, path) {
+        Ok(file) => {
+            if folder == FolderSync::Always {
+                host.sync_folder(streams, path).map_err(why_of)?;
+            }
+            Ok(file)
         }
+        Err(fault) if fault.kind() == ErrorKind::NotFound => {
+            let file = host.create_new(streams, path).map_err(why_of)?;
+            host.sync_folder(streams, path).map_err(why_of)?;
+            Ok(file)
+        }
+        Err(fault) => Err(why_of(fault)),
     }
 }
 
-/// The file, or the error that there is none.
-fn had(file: &Option<File>) -> io::Result<&File>
-    ensures { file.now ≡ None → IsErr result }
+/// Why a file couldn't be had, by the fault of the call that failed.
+fn why_of(fault: io::Error) -> WhyLost {
+    match fault.kind() {
+        ErrorKind::WouldBlock => WhyLost::Locked,
+        ErrorKind::NotFound | ErrorKind::NotADirectory => WhyLost::NoFolder,
+        ErrorKind::PermissionDenied | ErrorKind::ReadOnlyFilesystem => WhyLost::NotPermitted,
+        ErrorKind::IsADirectory => WhyLost::NotAFile,
+        ErrorKind::OutOfMemory => WhyLost::Memory,
+        _ => WhyLost::Other,
+    }
+}
+
+impl<F: HostFile> Site for RealSite<F> {
+    ghost use Rattle.outside_edges.specs.Site.{counted_as, state_in};
+
+    ghost tells = { F.tells };
+
+    ghost state = { λ site. state_in F.state site.file };
+
+    ghost counts = { λ site. counted_as site.faults site.writes site.cuts site.syncs };
+
+    fn length(&mut self) -> Result<u64, DiskFailed> {
+        length_of(&mut self.file, &mut self.faults)
+    }
+
+    fn read_at(&mut self, at: u64, into: &mut [u8]) -> Result<(), DiskFailed> {
+        read_from(&mut self.file, at, into, &mut self.faults)
+    }
+
+    fn write_at(&mut self, at: u64, bytes: &[u8]) -> Result<(), DiskFailed> {
+        count_call(&mut self.writes);
+        write_to(&mut self.file, at, bytes, &mut self.faults)
+    }
+
+    fn cut(&mut self, to: u64) -> Result<(), DiskFailed> {
+        count_call(&mut self.cuts);
+        cut_to(&mut self.file, to, &mut self.faults)
+    }
+
+    fn sync(&mut self) -> Result<(), DiskFailed> {
+        count_call(&mut self.syncs);
+        sync_of(&mut self.file, &mut self.faults)
+    }
+}
+
+/// A disk call that failed is counted.
+fn fail<T>(faults: &mut u64) -> Result<T, DiskFailed>
+    ensures fails { IsErr result }
+    ensures counted { faults.new ≡ one_more faults.old }
+{
+    count_fault(faults);
+    Err(DiskFailed)
+}
+
+fn length_of<F: HostFile>(file: &mut Option<F>, faults: &mut u64) -> Result<u64, DiskFailed>
+    ensures lost { file.old ≡ None → IsErr result }
+    ensures counted { CountsOne result faults.old faults.new }
+    ensures length { F.tells → IfOk result (λ n. n ≡ length (state_in F.state file.old).image) }
+    ensures told { F.tells → Reads (state_in F.state file.old) (state_in F.state file.new) }
 {
     match file {
-        Some(file) => Ok(file),
-        None => Err(io::Error::from(ErrorKind::NotFound)),
+        Some(file) => match file.length() {
+            Ok(length) => Ok(length),
+            Err(_) => fail(faults),
+        },
+        None => fail(faults),
     }
 }
 
-impl Site for RealSite {
-    ghost use Rattle.site_traits.specs.Site.{untold};
-    ghost use Rattle.site_traits.specs.Counts.{DiskCause};
-    ghost use Rattle.outside_edges.specs.Site.{counts_of, IsLost};
-
-    ghost tells = { ⊥ };
-
-    ghost state = { λ _. untold };
-
-    ghost counts = { counts_of };
-
-    fn length(&mut self) -> Result<u64, DiskFailed>
-        ensures lost { IsLost self.old → IsErr result }
-        ensures counted { CountsOne result self.old.faults self.new.faults }
-        ensures file { self.new.file ≡ self.old.file }
-        ensures cause { DiskCause (counts_of self.old) (counts_of self.new) result }
-    {
-        let answer = length_of(&self.file);
-        counted(answer, &mut self.faults)
-    }
-
-    fn read_at(&mut self, at: u64, into: &mut [u8]) -> Result<(), DiskFailed>
-        ensures lost { IsLost self.old → IsErr result }
-        ensures counted { CountsOne result self.old.faults self.new.faults }
-        ensures file { self.new.file ≡ self.old.file }
-        ensures cause { DiskCause (counts_of self.old) (counts_of self.new) result }
-    {
-        let answer = read_from(&self.file, at, into);
-        counted(answer, &mut self.faults)
-    }
-
-    fn write_at(&mut self, at: u64, bytes: &[u8]) -> Result<(), DiskFailed>
-        ensures lost { IsLost self.old → IsErr result }
-        ensures counted { CountsOne result self.old.faults self.new.faults }
-        ensures file { self.new.file ≡ self.old.file }
-        ensures cause { DiskCause (counts_of self.old) (counts_of self.new) result }
-    {
-        let answer = write_to(&self.file, at, bytes);
-        counted(answer, &mut self.faults)
-    }
-
-    fn cut(&mut self, to: u64) -> Result<(), DiskFailed>
-        ensures lost { IsLost self.old → IsErr result }
-        ensures counted { CountsOne result self.old.faults self.new.faults }
-        ensures file { self.new.file ≡ self.old.file }
-        ensures cause { DiskCause (counts_of self.old) (counts_of self.new) result }
-    {
-        let answer = cut_to(&self.file, to);
-        counted(answer, &mut self.faults)
-    }
-
-    fn sync(&mut self) -> Result<(), DiskFailed>
-        ensures lost { IsLost self.old → IsErr result }
-        ensures counted { CountsOne result self.old.faults self.new.faults }
-        ensures file { self.new.file ≡ self.old.file }
-        ensures cause { DiskCause (counts_of self.old) (counts_of self.new) result }
-    {
-        let answer = sync_of(&self.file);
-        counted(answer, &mut self.faults)
-    }
-}
-
-fn length_of(file: &Option<File>) -> io::Result<u64>
-    ensures { file.now ≡ None → IsErr result }
+fn read_from<F: HostFile>(
+    file: &mut Option<F>,
+    at: u64,
+    into: &mut [u8],
+    faults: &mut u64,
+) -> Result<(), DiskFailed>
+    requires { F.tells → at + length into.old ≤ length (state_in F.state file.old).image }
+    ensures lost { file.old ≡ None → IsErr result }
+    ensures counted { CountsOne result faults.old faults.new }
+    ensures bytes { F.tells → OnOk result (into.new ≡ take (length into.old) (drop at (state_in F.state file.old).image)) }
+    ensures told { F.tells → Reads (state_in F.state file.old) (state_in F.state file.new) }
 {
-    Ok(had(file)?.metadata()?.len())
+    match file {
+        Some(file) => match file.read_exact_at(into, at) {
+            Ok(()) => Ok(()),
+            Err(_) => fail(faults),
+        },
+        None => fail(faults),
+    }
 }
 
-fn read_from(file: &Option<File>, at: u64, into: &mut [u8]) -> io::Result<()>
-    ensures { file.now ≡ None → IsErr result }
+fn write_to<F: HostFile>(
+    file: &mut Option<F>,
+    at: u64,
+    bytes: &[u8],
+    faults: &mut u64,
+) -> Result<(), DiskFailed>
+    requires { F.tells → at ≤ length (state_in F.state file.old).image }
+    ensures lost { file.old ≡ None → IsErr result }
+    ensures counted { CountsOne result faults.old faults.new }
+    ensures told { F.tells → Writes at bytes.now result (state_in F.state file.old) (state_in F.state file.new) }
 {
-    had(file)?.read_exact_at(into, at)
+    match file {
+        Some(file) => match file.write_all_at(bytes, at) {
+            Ok(()) => Ok(()),
+            Err(_) => fail(faults),
+        },
+        None => fail(faults),
+    }
 }
 
-fn write_to(file: &Option<File>, at: u64, bytes: &[u8]) -> io::Result<()>
-    ensures { file.now ≡ None → IsErr result }
+fn cut_to<F: HostFile>(file: &mut Option<F>, to: u64, faults: &mut u64) -> Result<(), DiskFailed>
+    requires { F.tells → to ≤ length (state_in F.state file.old).image }
+    ensures lost { file.old ≡ None → IsErr result }
+    ensures counted { CountsOne result faults.old faults.new }
+    ensures told { F.tells → Cuts to result (state_in F.state file.old) (state_in F.state file.new) }
 {
-    had(file)?.write_all_at(bytes, at)
+    match file {
+        Some(file) => match file.set_len(to) {
+            Ok(()) => Ok(()),
+            Err(_) => fail(faults),
+        },
+        None => fail(faults),
+    }
 }
 
-fn cut_to(file: &Option<File>, to: u64) -> io::Result<()>
-    ensures { file.now ≡ None → IsErr result }
+fn sync_of<F: HostFile>(file: &mut Option<F>, faults: &mut u64) -> Result<(), DiskFailed>
+    ensures lost { file.old ≡ None → IsErr result }
+    ensures counted { CountsOne result faults.old faults.new }
+    ensures told { F.tells → Syncs result (state_in F.state file.old) (state_in F.state file.new) }
 {
-    had(file)?.set_len(to)
-}
-
-fn sync_of(file: &Option<File>) -> io::Result<()>
-    ensures { file.now ≡ None → IsErr result }
-{
-    had(file)?.sync_data()
+    match file {
+        Some(file) => match file.sync_data() {
+            Ok(()) => Ok(()),
+            Err(_) => fail(faults),
+        },
+        None => fail(faults),
+    }
 }

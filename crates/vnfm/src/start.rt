@@ -1,43 +1,19 @@
 //! From the words of the command line to a run over the real objects.
+use host_calls::{StdFiles, StdTime};
 use lcm_api::Mouth;
 use lcm_events::Role;
-use outside_edges::{NoCourier, NoOrchestrator, RealClock, RealDoor, RealSink, RealSite};
+use outside_edges::{
+    FolderSync, NoCourier, NoOrchestrator, RealClock, RealDoor, RealSink, RealSite,
+};
+use program_words::{Page, page_of, reason_of};
 use site_traits::Sink;
-use std::alloc::{AllocError, Global};
+use standard_streams::{HeldStreams, NullFiles, hold_streams};
+use std::alloc::AllocError;
+use std::env;
+use std::fs::File;
 use std::io::{ErrorKind, Write};
-use std::{env, io};
 use vnfm_base::Text;
 use vnfm_cli::{Command, Settings, SettingsFault, run, settings};
-
-/// What `--help` prints.
-const HELP: &str = "vnfm: a VNF lifecycle manager after ETSI GS NFV-SOL 003 V2.6.1
-
-    vnfm init --journal PATH --manager N    make the journal of manager N, from 0 to 4294967295, at PATH
-    vnfm onboard --journal PATH             onboard the descriptor on standard input, a JSON document
-    vnfm once --journal PATH                answer the request on standard input, and record what it asks for
-    vnfm --help                             print this text
-    vnfm --version                          print the version
-
-The answer of once goes to standard output. A last line, of once on standard error and else on standard output, says how it
-went:
-    0  journal made for manager N
-    0  onboarded ID: V vdus, A aspects, L levels
-    0  done after 1 rounds      the request was answered, with a refusal too
-    2  usage: ..                the words are no command
-    3  site fault               a disk call failed
-    4  door fault               there was no connection, or the descriptor couldn't be read
-    5  no journal               the file at PATH is unfinished
-    5  not a journal: byte N    its header differs first at byte N
-    6  no memory
-    7                           the line couldn't be written
-    8  bad record N             record N is broken, or isn't allowed after those before it
-    9  journal full: E + M bytes
-   10  descriptor refused: T    T is the first thing that is wrong with it
-   11  taken                    the file at PATH isn't an unfinished journal of manager N
-";
-
-/// What `--version` prints.
-const VERSION: &str = "vnfm 0.1.0\n";
 
 /// Obeys the words of the command line, and gives the program's status.
 pub fn start(rt: &HostRuntime) -> u8 {
@@ -63,25 +39,17 @@ fn words_of(rt: &HostRuntime) -> Result<Vec<Text>, AllocError> {
     }
 }
 
-/// The one word, where there is one.
-fn sole(words: &[Text]) -> Option<&str> {
-    match words {
-        [word] => Some(word.as_str()),
-        _ => None,
-    }
-}
-
+/// Prints the text that the words ask for, or runs.
 fn obey(rt: &HostRuntime, words: &[Text]) -> u8 {
-    match sole(words) {
-        Some("--help") => print(rt, HELP),
-        Some("--version") => print(rt, VERSION),
-        _ => command(rt, words),
+    match page_of(words) {
+        Some(page) => print(rt, page),
+        None => hold_and_run(rt, words),
     }
 }
 
 /// Prints a text to standard output.
-fn print(rt: &HostRuntime, text: &str) -> u8 {
-    match rt.stdout().write_all(text.as_bytes()) {
+fn print(rt: &HostRuntime, page: Page) -> u8 {
+    match rt.stdout().write_all(page.text().as_bytes()) {
         Ok(()) => 0,
         Err(_) => 7,
     }
@@ -89,62 +57,117 @@ fn print(rt: &HostRuntime, text: &str) -> u8 {
 
 /// Says that there is no memory.
 fn starved(rt: &HostRuntime) -> u8 {
-    let _ = rt.stderr().write_all(b"no memory\n");
+    let _ = rt
+        .stderr()
+        .write_all(b"no memory\nvnfm: there was no memory\n");
     6
 }
 
-/// Makes the objects that the words name, and runs over them. Words that are no command print to standard output.
-fn command(rt: &HostRuntime, words: &[Text]) -> u8 {
+/// Holds the standard streams, and runs. Where they can't be held no file is opened.
+fn hold_and_run(rt: &HostRuntime, words: &[Text]) -> u8 {
+    match hold_streams(&mut NullFiles::of(rt)) {
+        Ok(streams) => command(rt, words, Some(&streams)),
+        Err(_) => command(rt, words, None),
+    }
+}
+
+/// Opens the file that the words name, and runs over it. Words that are no command have their line on standard output.
+fn command(rt: &HostRuntime, words: &[Text], streams: Option<&HeldStreams<File>>) -> u8 {
+    let mut site = RealSite::made();
     match settings(rt.alloc(), words) {
-        Ok(settings) => match RealSite::made(rt, settings.journal.as_str()) {
-            Ok(site) => perform(rt, words, &settings, site),
+        Ok(settings) => match open(rt, streams, &settings, &mut site) {
+            Ok(()) => perform(rt, words, &settings, &mut site),
             Err(AllocError) => starved(rt),
         },
         Err(SettingsFault::Usage) => over(
             rt,
             words,
-            RealSite::none(),
+            &mut site,
             Role::Orchestrator,
-            RealSink::made(rt.stdout()),
+            &mut RealSink::made(rt.stdout()),
         ),
         Err(SettingsFault::Memory) => starved(rt),
     }
 }
 
+/// Opens the file that the settings name.
+fn open(
+    rt: &HostRuntime,
+    streams: Option<&HeldStreams<File>>,
+    settings: &Settings,
+    site: &mut RealSite<File>,
+) -> Result<(), AllocError> {
+    match streams {
+        Some(streams) => site.open(
+            &mut StdFiles::of(rt),
+            streams,
+            settings.journal.as_str(),
+            folder_sync(settings.command),
+        ),
+        None => Ok(()),
+    }
+}
+
+/// `init` says that the journal is made, so its name is on the disk. The other commands open what is there.
+fn folder_sync(command: Command) -> FolderSync {
+    match command {
+        Command::Init => FolderSync::Always,
+        Command::Onboard | Command::Once => FolderSync::WhereMade,
+    }
+}
+
 /// Runs over this file. The line of `once` goes to standard error, beside its answer, and every other to standard output.
-fn perform(rt: &HostRuntime, words: &[Text], settings: &Settings, site: RealSite) -> u8 {
+fn perform(rt: &HostRuntime, words: &[Text], settings: &Settings, site: &mut RealSite<File>) -> u8 {
     match settings.command {
-        Command::Once => over(rt, words, site, settings.role, RealSink::made(rt.stderr())),
+        Command::Once => over(
+            rt,
+            words,
+            site,
+            settings.role,
+            &mut RealSink::made(rt.stderr()),
+        ),
         Command::Init | Command::Onboard => over(
             rt,
             words,
             site,
             settings.role,
-            RealSink::made(rt.stdout()),
+            &mut RealSink::made(rt.stdout()),
         ),
     }
 }
 
-/// Runs over this file and the standard streams.
-fn over<W: Sink + Drop>(
+/// Runs over this file and the standard streams, and says on standard error why it ended as it did.
+fn over<W: Sink>(
     rt: &HostRuntime,
     words: &[Text],
-    mut site: RealSite,
+    site: &mut RealSite<File>,
     role: Role,
-    mut out: W,
+    out: &mut W,
 ) -> u8 {
     let door = RealDoor::made(rt.stdin(), rt.stdout(), role);
-    match Mouth::new(rt.alloc(), door) {
-        Ok(mut mouth) => run(
-            rt.alloc(),
-            words,
-            &mut site,
-            &mut mouth,
-            &mut NoOrchestrator::made(),
-            &mut NoCourier::made(),
-            &mut RealClock::made(rt),
-            &mut out,
-        ),
-        Err(_) => starved(rt),
+    let Ok(mut mouth) = Mouth::new(rt.alloc(), door) else {
+        return starved(rt);
+    };
+    let status = run(
+        rt.alloc(),
+        words,
+        site,
+        &mut mouth,
+        &mut NoOrchestrator::made(),
+        &mut NoCourier::made(),
+        &mut RealClock::made(StdTime::of(rt)),
+        out,
+    );
+    explain(rt, words, status, site, mouth.door().write_failed());
+    status
+}
+
+/// Says on standard error why the run ended with this status, where there is something to say and memory to say it.
+fn explain(rt: &HostRuntime, words: &[Text], status: u8, site: &RealSite<File>, undelivered: bool) {
+    let Some(reason) = reason_of(status, site.why(), undelivered) else {
+        return;
+    };
+    if let Ok(line) = reason.line(rt.alloc(), words) {
+        let _ = rt.stderr().write_all(line.as_bytes());
     }
 }

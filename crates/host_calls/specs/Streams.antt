@@ -1,0 +1,39 @@
+-- What calls of std on streams do to their bytes.
+use Rattle.std.specs.Prelude.{◌≡◌, ◌≤◌, ℕ, List, [], ◌++◌, length, take, drop, Result, IfOk, OnOk, OnErr}
+
+-- the bytes of a stream: all that come in, and those that are left to be read
+pub record Incoming : Type 0 where
+  pub bytes : List ℕ
+  pub left : List ℕ
+
+-- a stream in which nothing comes in
+abbrev pub nothing : Incoming
+nothing = record { bytes = []; left = [] }
+
+-- n bytes were read to the front of the piece, the rest of which stays; none only at the end or where the piece has no room (std, `Read::read`)
+pub record Got (before after : List ℕ) (n : ℕ) (old new : Incoming) : Type 0 where
+  pub within : n ≤ length old.left
+  pub piece : after ≡ take n old.left ++ drop n before
+  pub left : new.left ≡ drop n old.left
+  pub bytes : new.bytes ≡ old.bytes
+  pub end : n ≡ 0 → 1 ≤ length before → old.left ≡ []
+
+-- nothing was read
+pub record GotNothing (before after : List ℕ) (old new : Incoming) : Type 0 where
+  pub piece : after ≡ before
+  pub state : new ≡ old
+
+-- what a read does: a failed one has read nothing
+pub record Gives {E : Type 0} (before after : List ℕ) (result : Result ℕ E) (old new : Incoming) : Type 0 where
+  pub got : IfOk result (λ n. Got before after n old new)
+  pub failed : OnErr result (GotNothing before after old new)
+
+-- what a write does: a failed one has written nothing (std, `Write::write`)
+pub record Takes {E : Type 0} (bytes : List ℕ) (result : Result ℕ E) (old new : List ℕ) : Type 0 where
+  pub took : IfOk result (λ n. new ≡ old ++ take n bytes)
+  pub failed : OnErr result (new ≡ old)
+
+-- what a write of all bytes does: a failed one has written a front of them (std, `Write::write_all`)
+pub record TakesAll {T E : Type 0} (bytes : List ℕ) (result : Result T E) (old new : List ℕ) : Type 0 where
+  pub took : OnOk result (new ≡ old ++ bytes)
+  pub failed : OnErr result ((k : ℕ) × (new ≡ old ++ take k bytes))

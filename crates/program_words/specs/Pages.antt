@@ -1,0 +1,21 @@
+-- Which words ask for a text (own rule, docs/FORMATS.md).
+use Rattle.std.specs.Prelude.{ℕ, List, [], ◌∷◌, codes, if◌then◌else◌, Option, Some, None}
+use Rattle.std.specs.Str.{bytes_eq}
+use Rattle.program_words.specs.declared.page.Page.{Page}
+use Rattle.program_words.specs.declared.page.Page.TheVariants.{Help, Init, Onboard, Once, Version}
+
+-- the text that one word asks for
+abbrev pub sole_page : List ℕ → Option Page
+sole_page word = if bytes_eq word (codes "--help") then Some Help else (if bytes_eq word (codes "--version") then Some Version else None)
+
+-- the text on a command
+abbrev pub command_page : List ℕ → Option Page
+command_page command =
+    if bytes_eq command (codes "init") then Some Init
+    else (if bytes_eq command (codes "onboard") then Some Onboard else (if bytes_eq command (codes "once") then Some Once else None))
+
+-- the text that the words ask for
+abbrev pub page_of : List (List ℕ) → Option Page
+page_of (word ∷ []) = sole_page word
+page_of (command ∷ word ∷ []) = if bytes_eq word (codes "--help") then command_page command else None
+page_of words = None

@@ -1,0 +1,152 @@
+//! The texts that are asked for by words alone.
+ghost use Rattle.std.specs.Prelude.{◌≡◌};
+ghost use Rattle.program_words.specs.Pages.{command_page, page_of, sole_page};
+
+use vnfm_base::Text;
+
+/// A text that the program prints and then ends.
+#[derive(Clone, Copy, Debug, PartialEq, Eq)]
+pub enum Page {
+    /// What the program's words are.
+    Help,
+    /// What those of `init` are.
+    Init,
+    /// What those of `onboard` are.
+    Onboard,
+    /// What those of `once` are.
+    Once,
+    /// The program's version.
+    Version,
+}
+
+/// What `--help` prints.
+const HELP: &str = "vnfm: a VNF lifecycle manager after ETSI GS NFV-SOL 003 V2.6.1
+
+    vnfm init --journal PATH --manager N    make the journal of manager N, from 0 to 4294967295, at PATH
+    vnfm onboard --journal PATH             onboard the descriptor on standard input, a JSON document
+    vnfm once --journal PATH                answer the request on standard input, and record what it asks for
+    vnfm COMMAND --help                     print the words of a command, with an example
+    vnfm --help                             print this text
+    vnfm --version                          print the version
+
+init takes a file that isn't there, is empty or has one byte, begins with a small v, or was left unfinished by an init of the
+same manager. It overwrites what such a file holds. Any other file is taken, and stays as it is: look at what it is, and give
+another PATH, or move it away first.
+
+The answer of once goes to standard output. A last line, of once on standard error and else on standard output, says how it
+went:
+    0  journal made for manager N
+    0  onboarded ID: V vdus, A aspects, L levels
+    0  done after 1 rounds      the request was answered, with a refusal too
+    2  usage: ..                the words are no command
+    3  site fault               a disk call failed
+    4  door fault               there was no connection, or the descriptor couldn't be read
+    5  no journal               the file at PATH is unfinished
+    5  not a journal: byte N    its header differs first at byte N
+    6  no memory
+    7                           the line couldn't be written
+    8  bad record N             record N is broken, or isn't allowed after those before it
+    9  journal full: E + M bytes
+   10  descriptor refused: T    T is the first thing that is wrong with it
+   11  taken                    the file at PATH isn't an unfinished journal of manager N
+Behind the line of a status that isn't 0, a line on standard error that begins `vnfm: ` says why.
+";
+
+/// What `init --help` prints.
+const INIT: &str =
+    "vnfm init --journal PATH --manager N    make the journal of manager N, from 0 to 4294967295, at PATH
+
+    vnfm init --journal journal --manager 7
+
+PATH is made where nothing is. A file that is empty or has one byte, begins with a small v, or was left unfinished by an init
+of the same manager is overwritten. Any other file is taken, and stays as it is.
+";
+
+/// What `onboard --help` prints.
+const ONBOARD: &str =
+    "vnfm onboard --journal PATH    onboard the descriptor on standard input, a JSON document
+
+    vnfm onboard --journal journal <examples/vnfd.json
+
+PATH is a journal that init made. The descriptor is read to its end, of at most 1048576 bytes.
+";
+
+/// What `once --help` prints.
+const ONCE: &str =
+    "vnfm once --journal PATH    answer the request on standard input, and record what it asks for
+
+    vnfm once --journal journal <examples/create.http
+
+PATH is a journal that init made. The request is one of HTTP/1.1, read to its end, of at most 65536 bytes. Its answer goes to
+standard output.
+";
+
+/// What `--version` prints.
+const VERSION: &str = "vnfm 0.1.0\n";
+
+impl Page {
+    /// The text.
+    pub fn text(self) -> &'static str
+        ensures help { self ≡ Page.Help → result.now ≡ HELP.now }
+        ensures init { self ≡ Page.Init → result.now ≡ INIT.now }
+        ensures onboard { self ≡ Page.Onboard → result.now ≡ ONBOARD.now }
+        ensures once { self ≡ Page.Once → result.now ≡ ONCE.now }
+        ensures version { self ≡ Page.Version → result.now ≡ VERSION.now }
+    {
+        match self {
+            Page::Help => HELP,
+            Page::Init => INIT,
+            Page::Onboard => ONBOARD,
+            Page::Once => ONCE,
+            Page::Version => VERSION,
+        }
+    }
+}
+
+/// The text that the words ask for, where they do: `--help` and `--version` alone, and a command with `--help` alone.
+///
+/// Source: own rule, docs/FORMATS.md, "The program".
+pub fn page_of(words: &[Text]) -> Option<Page>
+    ensures { result ≡ page_of words.now }
+{
+    match words {
+        [word] => sole_page(word),
+        [command, word] => {
+            if word.as_str() == "--help" {
+                command_page(command)
+            } else {
+                None
+            }
+        }
+        _ => None,
+    }
+}
+
+/// The text that one word asks for.
+fn sole_page(word: &Text) -> Option<Page>
+    ensures { result ≡ sole_page word.now }
+{
+    if word.as_str() == "--help" {
+        return Some(Page::Help);
+    }
+    if word.as_str() == "--version" {
+        return Some(Page::Version);
+    }
+    None
+}
+
+/// The text on a command.
+fn command_page(command: &Text) -> Option<Page>
+    ensures { result ≡ command_page command.now }
+{
+    if command.as_str() == "init" {
+        return Some(Page::Init);
+    }
+    if command.as_str() == "onboard" {
+        return Some(Page::Onboard);
+    }
+    if command.as_str() == "once" {
+        return Some(Page::Once);
+    }
+    None
+}
