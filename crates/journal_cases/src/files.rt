@@ -242,9 +242,23 @@ const FAR: u64 = 268_390_427;
 struct FarSite {
     end: [u8; 5],
     len: u64,
+    writes: u64,
+    cuts: u64,
+    syncs: u64,
 }
 
 impl FarSite {
+    // A file of this length with these bytes at its end.
+    fn of(end: [u8; 5], len: u64) -> FarSite {
+        FarSite {
+            end,
+            len,
+            writes: 0,
+            cuts: 0,
+            syncs: 0,
+        }
+    }
+
     // The byte at this place. All but the headers of file and records are zeros.
     fn byte(&self, at: u64) -> u8 {
         if at < 32 {
@@ -272,7 +286,7 @@ impl Site for FarSite {
 
     ghost state = { λ _. untold };
 
-    ghost counts = { λ _. record { disk = 0; vim = 0; look = 0; refusals = 0 } };
+    ghost counts = { λ s. record { disk = 0; vim = 0; look = 0; refusals = 0; writes = s.writes; cuts = s.cuts; syncs = s.syncs } };
 
     fn length(&mut self) -> Result<u64, DiskFailed> {
         Ok(self.len)
@@ -289,14 +303,17 @@ impl Site for FarSite {
     }
 
     fn write_at(&mut self, _at: u64, _bytes: &[u8]) -> Result<(), DiskFailed> {
+        self.writes = self.writes.saturating_add(1);
         Ok(())
     }
 
     fn cut(&mut self, _to: u64) -> Result<(), DiskFailed> {
+        self.cuts = self.cuts.saturating_add(1);
         Ok(())
     }
 
     fn sync(&mut self) -> Result<(), DiskFailed> {
+        self.syncs = self.syncs.saturating_add(1);
         Ok(())
     }
 }
@@ -311,7 +328,7 @@ fn a_record_ends_before_the_limit(rt: HostRuntime) -> Result<(), Fail> {
         ([1, 0, 0, 0xaf, 0xe0], 300_000_000, Says::Broken(4_096)),
     ];
     for (end, len, says) in table {
-        let mut site = FarSite { end, len };
+        let mut site = FarSite::of(end, len);
         assert_eq!(rt; loaded(alloc, &mut site), says);
     }
     Ok(())
@@ -320,10 +337,7 @@ fn a_record_ends_before_the_limit(rt: HostRuntime) -> Result<(), Fail> {
 #[test]
 fn an_append_is_full_where_its_gate_would_pass_the_limit(rt: HostRuntime) -> Result<(), Fail> {
     let alloc = rt.alloc();
-    let mut site = FarSite {
-        end: [0; 5],
-        len: 268_390_428,
-    };
+    let mut site = FarSite::of([0; 5], 268_390_428);
     let bytes = vec![in alloc; 7u8; 45_024]?;
     match Journal::load(alloc, &mut site) {
         Ok(mut journal) => {
