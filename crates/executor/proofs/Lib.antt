@@ -1,6 +1,8 @@
 mod AskLemmas
+mod CommitLemmas
 mod JudgeLemmas
 pub mod LawLemmas
 pub mod ManagerLemmas
 mod SerialLemmas
 mod SpellingLemmas
+pub mod WorkLemmas

@@ -1,6 +1,6 @@
 -- What a load and a commit do, from what the journal's calls do.
-use Rattle.std.proofs.Common.{◌≡◌, ◌≢◌, ◌≤◌, ◌+◌, ℕ, List, [], ◌∷◌, ◌++◌, length, reverse, false, Ok, Err, Result, true≢false, ap, ◌∙◌, sym, subst, refl, inl, inr, arith, ⊎_elim, take, ◌-◌, length-append}
-use Rattle.std.specs.Result.{OnOk, is_err}
+use Rattle.std.proofs.Common.{◌≡◌, ◌≢◌, ◌≤◌, ◌+◌, ℕ, List, [], ◌∷◌, ◌++◌, length, reverse, true, false, Ok, Err, Result, true≢false, ap, ◌∙◌, sym, subst, refl, inl, inr, arith, ⊎_elim, take, ◌-◌, length-append}
+use Rattle.std.specs.Result.{OnOk, OnErr, IsErrAnd, is_err}
 use Rattle.std.specs.declared.alloc.AllocError.{AllocError}
 use Rattle.std.proofs.lemmas.List.{reverse-append, take_at}
 use Rattle.event_codec.specs.Spell.{spelling}
@@ -9,19 +9,20 @@ use Rattle.journal_core.specs.File.{records, size, HasRecords}
 use Rattle.journal_core.proofs.Records.{size_push}
 use Rattle.journal_core.specs.Journal as journal
 use Rattle.journal_core.specs.Journal.{Ledger, Stands, Appends}
-use Rattle.journal_core.specs.Load.{SyncsAndReads}
-use Rattle.journal_core.specs.declared.journal.AppendFault.{AppendFault}
-use Rattle.journal_core.specs.declared.journal.AppendFault.TheVariants as appending
+use Rattle.journal_core.specs.Load.{Progress, SyncsAndReads}
 use Rattle.lcm_events.specs.declared.events.Event.{Event}
 use Rattle.lcm_model.specs.Allowed.{IsAllowed, IsLegal}
 use Rattle.site_traits.specs.Site.{Pair, SiteState, LeavesOnly, Reads, Same}
 use Rattle.site_traits.proofs.Moments.{weakened, on_file-reads}
-use Rattle.executor.specs.Faults.{work_fault}
-use Rattle.executor.specs.History.{spellings, HasHistory, HasOrAdds}
+use Rattle.executor.specs.History.{spellings}
 use Rattle.executor.specs.Managed.{Managed, IsKept, StandsFor}
-use Rattle.executor.specs.declared.manager.WorkFault.{WorkFault}
-use Rattle.executor.specs.declared.manager.WorkFault.TheVariants as fault
+use Rattle.executor.specs.Work.{HasSome}
+use Rattle.executor.specs.Loading.{Finds}
+use Rattle.executor.specs.Open.{Opens, Refuses}
+use Rattle.executor.specs.declared.manager.OpenFault.{OpenFault}
+use Rattle.executor.specs.declared.manager.OpenFault.TheVariants as opening
 use Rattle.executor.proofs.JudgeLemmas.{spellings-cons}
+use Rattle.executor.proofs.WorkLemmas.{extends_refl, extends_one, some_of}
 
 -- a call that syncs and reads, and then one that only reads
 pub syncs_then : (a b c : SiteState) → SyncsAndReads a b → Reads b c → SyncsAndReads a c
@@ -52,31 +53,31 @@ kept_more l k H e kept usable manager count end event allowed = record {
 }
 
 -- a stop leaves the history, or it and the event
-leaves_event : (m : Managed) (e : Event) (a : SiteState) (p : Pair) → StandsFor m a → IsEvent e
-    → journal.HasOrAdds m.ledger.manager (spelling e) a p → HasOrAdds m.ledger.manager m.history e p
-leaves_event m e a p stands event left =
+leaves_event : (m : Managed) (H : List Event) (e : Event) (a : SiteState) (p : Pair) → StandsFor m H a → IsEvent e
+    → journal.HasOrAdds m.ledger.manager (spelling e) a p → HasSome m.ledger.manager H (e ∷ H) p
+leaves_event m H e a p stands event left =
     let events = stands.events in
     let R : List (List ℕ) → Type 0 = λ rs. HasRecords m.ledger.manager rs p.image in
-    record {
-      file = ⊎_elim
-          (λ (h : HasRecords m.ledger.manager (records a.image) p.image). inl (record { file = subst R stands.records h; events = events }))
-          (λ (h : HasRecords m.ledger.manager (records a.image ++ spelling e ∷ []) p.image).
-          inr (record { file = subst R (ap (λ rs. rs ++ spelling e ∷ []) stands.records ∙ sym (spellings-cons e m.history)) h; events = (event, events) }))
-          left.file;
-    }
+    ⊎_elim
+    (λ (h : HasRecords m.ledger.manager (records a.image) p.image).
+    some_of m.ledger.manager H H (e ∷ H) p (extends_refl H) (extends_one e H) (record { file = subst R stands.records h; events = events }))
+    (λ (h : HasRecords m.ledger.manager (records a.image ++ spelling e ∷ []) p.image).
+    some_of m.ledger.manager H (e ∷ H) (e ∷ H) p (extends_one e H) (extends_refl (e ∷ H))
+    (record { file = subst R (ap (λ rs. rs ++ spelling e ∷ []) stands.records ∙ sym (spellings-cons e H)) h; events = (event, events) }))
+    left.file
 
 -- what an append does, as a commit
-pub commit_moments : (m : Managed) (e : Event) (a b : SiteState) → StandsFor m a → IsEvent e
-    → LeavesOnly (journal.HasOrAdds m.ledger.manager (spelling e) a) a b → LeavesOnly (HasOrAdds m.ledger.manager m.history e) a b
-commit_moments m e a b stands event run =
-    weakened (HasOrAdds m.ledger.manager m.history e) (journal.HasOrAdds m.ledger.manager (spelling e) a) a b run (λ p left. leaves_event m e a p stands event left)
+pub commit_moments : (m : Managed) (H : List Event) (e : Event) (a b : SiteState) → StandsFor m H a → IsEvent e
+    → LeavesOnly (journal.HasOrAdds m.ledger.manager (spelling e) a) a b → LeavesOnly (HasSome m.ledger.manager H (e ∷ H)) a b
+commit_moments m H e a b stands event run =
+    weakened (HasSome m.ledger.manager H (e ∷ H)) (journal.HasOrAdds m.ledger.manager (spelling e) a) a b run (λ p left. leaves_event m H e a p stands event left)
 
-pub commit_stands : (m : Managed) (k : Ledger) (e : Event) (a b : SiteState) → IsEvent e → StandsFor m a → Stands b k → records b.image ≡ records a.image ++ spelling e ∷ []
-    → StandsFor (record { ledger = k; history = e ∷ m.history }) b
-commit_stands m k e a b event stands now added = record {
+pub commit_stands : (m n : Managed) (H : List Event) (e : Event) (a b : SiteState) → IsEvent e → StandsFor m H a → Stands b n.ledger
+    → records b.image ≡ records a.image ++ spelling e ∷ [] → StandsFor n (e ∷ H) b
+commit_stands m n H e a b event stands now added = record {
   journal = now;
   events = (event, stands.events);
-  records = added ∙ ap (λ rs. rs ++ spelling e ∷ []) stands.records ∙ sym (spellings-cons e m.history);
+  records = added ∙ ap (λ rs. rs ++ spelling e ∷ []) stands.records ∙ sym (spellings-cons e H);
 }
 
 -- the one event that is spelled so
@@ -89,19 +90,30 @@ pub ok_of : (r : Result (Unit {0}) AllocError) (P : Type 0) → is_err r ≡ fal
 ok_of (Ok done) P fine holds = holds
 ok_of (Err fault) P fine holds = absurd (true≢false fine)
 
--- the answer that the disk failed
-abbrev disk_fault : Result (Unit {0}) WorkFault
-disk_fault = Err fault.Disk
+-- what holds of an Err, where the answer is one
+pub err_of : (r : Result (Unit {0}) AllocError) (P : Type 0) → is_err r ≡ true → OnErr r P → P
+err_of (Ok done) P fault holds = absurd (true≢false (sym fault))
+err_of (Err e) P fault holds = holds
 
--- an append that failed, but not by the disk, found no room
-pub full_of : (why : AppendFault) (Q : Type 0) → (Err (work_fault why) ≢ disk_fault) → ((end more : ℕ) → why ≡ appending.Full end more → Q) → Q
-full_of (appending.Full end more) Q other full = full end more refl
-full_of appending.Disk Q other full = absurd (other refl)
+-- a fault of judging says the same of the file as one of opening
+pub refuses_of : (why : OpenFault) (l : Progress) (s : SiteState) → Finds (Err why) l s → Refuses why s.image
+refuses_of opening.Unmade l s found = absurd found
+refuses_of (opening.Foreign place) l s found = absurd found
+refuses_of (opening.BadRecord n) l s found = (l.manager, found.1, inl found.0)
+refuses_of opening.Disk l s found = tt
+refuses_of opening.Memory l s found = (l.manager, found)
 
--- whatever a stop leaves now has the manager's history
-pub stands_everywhere : (m : Managed) (s : SiteState) → StandsFor m s → (p : Pair) → s.since s.moment p → HasHistory m.ledger.manager m.history p.image
-stands_everywhere m s stands p left =
-    let R : List (List ℕ) → Type 0 = λ rs. HasRecords m.ledger.manager rs s.image in
-    let here : HasHistory m.ledger.manager m.history s.image = record { file = subst R stands.records stands.journal.file; events = stands.events } in
-    let Q : List ℕ → Type 0 = λ image. HasHistory m.ledger.manager m.history image in
-    subst Q (sym (stands.journal.settled.image p left)) here
+-- a journal that wasn't opened for this cause
+pub opens_err : (tells : Type 0) (r : Result Managed OpenFault) (why : OpenFault) (s : SiteState) → IsErrAnd r (λ e. e ≡ why)
+    → (tells → Refuses why s.image) → Opens tells r s
+opens_err tells (Ok m) why s is refuses = absurd is
+opens_err tells (Err e) why s is refuses = let P : OpenFault → Type 0 = λ f. tells → Refuses f s.image in subst P (sym is) refuses
+
+-- a kept history is kept by a ledger of the same manager that is closed
+pub kept_closed : (l k : Ledger) (H : List Event) → IsKept l H → k.manager ≡ l.manager → k.closed ≡ true → IsKept k H
+kept_closed l k H kept manager closed = record {
+  legal = let P : ℕ → Type 0 = λ m. IsLegal m H in subst P (sym manager) kept.legal;
+  events = kept.events;
+  count = λ usable. absurd (true≢false (sym closed ∙ usable));
+  end = λ usable. absurd (true≢false (sym closed ∙ usable));
+}

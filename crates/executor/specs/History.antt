@@ -1,12 +1,11 @@
 -- What a journal's file says happened (own rule, docs/JOURNAL.md). A history has the latest event first; the file has the
 -- oldest first.
-use Rattle.std.specs.Prelude.{◌⊎◌, ℕ, List, ◌∷◌, map, reverse}
+use Rattle.std.specs.Prelude.{ℕ, List, map, reverse}
 use Rattle.std.specs.List.{AllByRecursion}
 use Rattle.event_codec.specs.Spell.{spelling}
 use Rattle.event_codec.specs.Valid.{IsEvent}
 use Rattle.journal_core.specs.File.{HasRecords}
 use Rattle.lcm_events.specs.declared.events.Event.{Event}
-use Rattle.site_traits.specs.Site.{Pair}
 
 -- the spellings of the events, the oldest first
 abbrev pub spellings : List Event → List (List ℕ)
@@ -16,7 +15,3 @@ spellings H = map spelling (reverse H)
 pub record HasHistory (m : ℕ) (H : List Event) (image : List ℕ) : Type 0 where
   pub file : HasRecords m (spellings H) image
   pub events : AllByRecursion IsEvent H
-
--- a stop leaves this history, or it and this event
-pub record HasOrAdds (m : ℕ) (H : List Event) (e : Event) (p : Pair) : Type 0 where
-  pub file : HasHistory m H p.image ⊎ HasHistory m (e ∷ H) p.image

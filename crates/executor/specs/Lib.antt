@@ -6,3 +6,4 @@ pub mod Loading
 pub mod Managed
 pub mod Open
 pub mod Questions
+pub mod Work

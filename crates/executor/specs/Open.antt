@@ -10,7 +10,7 @@ use Rattle.lcm_events.specs.declared.events.Event.{Event}
 use Rattle.lcm_model.specs.Allowed.{IsAllowed, IsLegal}
 use Rattle.site_traits.specs.Site.{SiteState}
 use Rattle.executor.specs.History.{spellings}
-use Rattle.executor.specs.Managed.{Managed, StandsFor}
+use Rattle.executor.specs.Managed.{Managed, IsReady}
 use Rattle.executor.specs.declared.manager.OpenFault.{OpenFault}
 use Rattle.executor.specs.declared.manager.OpenFault.TheVariants as fault
 
@@ -30,11 +30,15 @@ abbrev pub IsBadRecord : ℕ → List ℕ → Type 0
 IsBadRecord n image =
     (m : ℕ) × HasHeader m image × (IsBrokenAt m n image ⊎ (HasRecords m (records image) image × IsBadAt m n (records image)))
 
--- what the file's bytes say
-abbrev pub Opens : Result Managed OpenFault → SiteState → Type 0
-Opens (Ok m) s = StandsFor m s
-Opens (Err fault.Unmade) s = IsUnmade s.image
-Opens (Err (fault.Foreign place)) s = IsForeign place s.image
-Opens (Err (fault.BadRecord n)) s = IsBadRecord n s.image
-Opens (Err fault.Disk) s = Unit {0}
-Opens (Err fault.Memory) s = (m : ℕ) × HasHeader m s.image
+-- why a journal wasn't opened, by the file's bytes
+abbrev pub Refuses : OpenFault → List ℕ → Type 0
+Refuses fault.Unmade image = IsUnmade image
+Refuses (fault.Foreign place) image = IsForeign place image
+Refuses (fault.BadRecord n) image = IsBadRecord n image
+Refuses fault.Disk image = Unit {0}
+Refuses fault.Memory image = (m : ℕ) × HasHeader m image
+
+-- A journal was opened as this manager, for some history; or it was refused, and the file's bytes say why.
+abbrev pub Opens : Type 0 → Result Managed OpenFault → SiteState → Type 0
+Opens tells (Ok m) s = (H : List Event) × IsReady tells m H s
+Opens tells (Err why) s = tells → Refuses why s.image

@@ -7,17 +7,15 @@ ghost use Rattle.event_codec.specs.Typed.{TypedEvent};
 ghost use Rattle.journal_core.specs.Load.{SyncsAndReads};
 ghost use Rattle.executor.specs.Open.{Opens};
 ghost use Rattle.executor.specs.Faults.{work_fault};
-ghost use Rattle.executor.specs.History.{spellings};
-ghost use Rattle.journal_core.specs.File.{size};
 ghost use Rattle.lcm_events.specs.declared.events.Event.{Event};
-ghost use Rattle.lcm_model.specs.Allowed.{IsAllowed};
 ghost use Rattle.vnfm_base.specs.Ident.{IsIdentNumber};
 ghost use Rattle.lcm_model.specs.Lives.{descriptor_named, descriptors, instances_made};
 ghost use Rattle.executor.specs.Questions.{is_made, live, made, may_be_live};
 ghost use Rattle.site_traits.specs.Counts.{Ask, asked, OnlyDiskFails};
 ghost use Rattle.journal_core.specs.Asking.{FailsWhere};
 ghost use Rattle.executor.specs.Asking.{CommitAsks};
-ghost use Rattle.executor.specs.Managed.{Managed, IsKept, StandsFor, Commits, is_settled};
+ghost use Rattle.executor.specs.Managed.{IsReady, Keeps, MayRecord};
+ghost use Rattle.executor.specs.Work.{Works, recorded};
 
 use crate::open::judge_all;
 use crate::questions::{count_live, count_made};
@@ -151,8 +149,7 @@ impl<S: Site> Manager<S> {
     /// After Ok nothing is pending on the site. The file is as it was, whatever the answer.
     /// Source: own format, docs/JOURNAL.md and docs/EVENTS.md.
     pub fn load(alloc: Global, site: &mut S) -> Result<Manager<S>, OpenFault>
-        ensures opens { S.tells → Opens result (S.state site.new) }
-        ensures usable { IfOk result (λ m. (m.ledger.closed ≡ false) × IsKept m.ledger m.history) }
+        ensures opens { Opens S.tells result (S.state site.new) }
         ensures number { IfOk result (λ m. m.ledger.manager < 4294967296) }
         ensures told { S.tells → SyncsAndReads (S.state site.old) (S.state site.new) }
         ensures counts { FailsWhere (result ≡ Err OpenFault.Disk) (asked Ask.sync (S.counts site.old)) (S.counts site.new) }
@@ -172,28 +169,18 @@ impl<S: Site> Manager<S> {
 
     /// Records an event: it is on the disk before it is in the history.
     ///
-    /// Conditions: the event is allowed after the history, and isn't a Settled; its spelling has at most 65,536 bytes; the
-    /// manager isn't closed.
+    /// Conditions: the manager isn't closed, and its file has its history; the event is allowed after that, and isn't a Settled; its
+    /// spelling has at most 65,536 bytes.
     /// Refusals, in this order: `Memory`; `Full {end, more}` (bytes). After these all is as before. `Disk`, after which the
     /// manager is closed, with the history that it had: load it again.
     pub fn commit(&mut self, alloc: Global, site: &mut S, e: &Event) -> Result<(), WorkFault>
-        requires usable { self.old.ledger.closed ≡ false }
-        requires rules { TypedEvent e.now → IsEvent e.now }
-        requires fits { IsEvent e.now → length (spelling e.now) ≤ 65536 }
-        requires allowed { IsAllowed self.old.ledger.manager self.old.history e.now.kind }
-        requires unsettled { is_settled e.now.kind ≡ false }
-        requires stands { S.tells → StandsFor self.old (S.state site.old) }
-        ensures ok { OnOk result ((self.new.history ≡ e.now ∷ self.old.history) × (self.new.ledger.closed ≡ false)) }
-        ensures manager { self.new.ledger.manager ≡ self.old.ledger.manager }
-        ensures refused { result ≢ Err WorkFault.Disk → OnErr result (self.new ≡ self.old) }
-        ensures told { S.tells → Commits e.now result self.old self.new (S.state site.old) (S.state site.new) }
+        requires may { (H : List Event) × IsReady S.tells self.old H (S.state site.old) × MayRecord self.old.ledger.manager H e.now }
+        ensures works { (H : List Event) → IsReady S.tells self.old H (S.state site.old)
+            → Works S.tells self.old.ledger.manager H (recorded H e.now result) self.new (S.state site.old) (S.state site.new) }
+        ensures refused { result ≢ Err WorkFault.Disk → OnErr result ((self.new ≡ self.old) × (site.new ≡ site.old)) }
         ensures full { (end more : ℕ) → result ≡ Err (WorkFault.Full end more)
             → (end ≡ self.old.ledger.end) × (more ≡ length (spelling e.now)) × (268435456 < end + 6 + more) }
-        ensures untouched { result ≢ Err WorkFault.Disk → OnErr result (site.new ≡ site.old) }
-        ensures size { self.old.ledger.end ≡ size (spellings self.old.history) }
         ensures room { result ≡ Ok tt ⊎ (result ≡ Err WorkFault.Disk) → self.old.ledger.end + 6 + length (spelling e.now) ≤ 268435456 }
-        ensures closed { result ≡ Err WorkFault.Disk → self.new.ledger.closed ≡ true }
-        ensures history { OnErr result (self.new.history ≡ self.old.history) }
         ensures asks { CommitAsks result (S.counts site.old) (S.counts site.new) }
         ensures counts { OnlyDiskFails (result ≡ Err WorkFault.Disk) (S.counts site.old) (S.counts site.new) }
     {
@@ -220,7 +207,7 @@ impl<S: Site> Manager<S> {
     /// How many events the history has. Condition: the manager isn't closed.
     pub fn records(&self) -> u64
         requires { self.now.ledger.closed ≡ false }
-        ensures { result ≡ length self.now.history }
+        ensures { (H : List Event) → Keeps self.now H → result ≡ length H }
     {
         self.journal.count()
     }
@@ -260,7 +247,7 @@ impl<S: Site> Manager<S> {
     /// Source: SOL 003 5.4.2 (VNF instances), 5.4.12 (VNF LCM operation occurrences), 5.4.18 (Subscriptions).
     pub fn made(&self, kind: Kind) -> u64
         requires { is_made kind ≡ true }
-        ensures { result ≡ made kind self.now.history }
+        ensures { (H : List Event) → Keeps self.now H → result ≡ made kind H }
     {
         count_made(self.events.as_slice(), kind)
     }
@@ -270,7 +257,7 @@ impl<S: Site> Manager<S> {
     /// Source: SOL 003 5.4.2 (VNF instances), 5.4.18 (Subscriptions).
     pub fn live(&self, kind: Kind) -> u64
         requires { may_be_live kind ≡ true }
-        ensures { result ≡ live kind self.now.history }
+        ensures { (H : List Event) → Keeps self.now H → result ≡ live kind H }
     {
         count_live(self.events.as_slice(), kind)
     }
@@ -279,7 +266,7 @@ impl<S: Site> Manager<S> {
     ///
     /// Source: own rule, docs/MODEL.md.
     pub fn descriptors(&self) -> u64
-        ensures { result ≡ length (descriptors self.now.history) }
+        ensures { (H : List Event) → Keeps self.now H → result ≡ length (descriptors H) }
     {
         count_descriptors(self.events.as_slice())
     }
@@ -288,7 +275,7 @@ impl<S: Site> Manager<S> {
     ///
     /// Source: own rule, docs/MODEL.md.
     pub fn vnfd(&self, id: &Name) -> Option<&Vnfd>
-        ensures { option_copied result ≡ descriptor_named self.now.history id.now }
+        ensures { (H : List Event) → Keeps self.now H → option_copied result ≡ descriptor_named H id.now }
     {
         descriptor_named_in(self.events.as_slice(), id)
     }
@@ -298,7 +285,7 @@ impl<S: Site> Manager<S> {
     /// Source: SOL 003 5.4.2 (VNF instances).
     pub fn next_instance(&self) -> u64
         requires { self.now.ledger.closed ≡ false }
-        ensures number { result ≡ instances_made self.now.history + 1 }
+        ensures number { (H : List Event) → Keeps self.now H → result ≡ instances_made H + 1 }
         ensures identifier { IsIdentNumber result }
     {
         let records = self.journal.count();
@@ -309,7 +296,6 @@ impl<S: Site> Manager<S> {
     /// Whether the journal with a record of `more` bytes and its closed gate ends at or before byte `limit` of the file.
     pub fn fits(&self, more: usize, limit: u64) -> bool
         ensures fits { IsTrue result ↔ (self.now.ledger.end + 6 + more ≤ limit) }
-        ensures size { self.now.ledger.closed ≡ false → self.now.ledger.end ≡ size (spellings self.now.history) }
     {
         self.journal.fits(more, limit)
     }

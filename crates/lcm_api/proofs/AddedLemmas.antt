@@ -11,49 +11,44 @@ use Rattle.lcm_events.specs.declared.descriptor.Vnfd.{Vnfd}
 use Rattle.lcm_model.specs.Allowed.{IsLegal}
 use Rattle.lcm_model.specs.Lives.{descriptor_named, instances_made, live_instances}
 use Rattle.lcm_api.specs.Outcome.{Outcome, outcome, body_outcome, create_outcome, described_outcome, created, creation, is_create, is_full, refused}
-use Rattle.lcm_api.specs.Serving.{Serving, judged, refused as no_request, added}
-use Rattle.lcm_api.specs.declared.request.Request.{Request}
+use Rattle.http_wire.specs.declared.request.Request.{Request}
 
 -- with what the outcome adds the history is legal
-abbrev AddsOn : ℕ → List Event → Outcome → Type 0
+abbrev pub AddsOn : ℕ → List Event → Outcome → Type 0
 AddsOn m H o = IsLegal m (o.after ++ H)
 
-described_legal : (m : ℕ) (H : List Event) (now : ℕ) (body : CreateBody) (vnfd : Vnfd) → descriptor_named H body.vnfd ≡ Some vnfd → IsLegal m H
-    → AddsOn m H (described_outcome m H now body (Some vnfd))
-described_legal m H now body vnfd known legal = of (nat_le 1000 (length (live_instances H))) refl where
+described_legal : (m : ℕ) (H : List Event) (now : ℕ) (body : CreateBody) (last : Bool) (vnfd : Vnfd) → descriptor_named H body.vnfd ≡ Some vnfd → IsLegal m H
+    → AddsOn m H (described_outcome m H now body last (Some vnfd))
+described_legal m H now body last vnfd known legal = of (nat_le 1000 (length (live_instances H))) refl where
   room : Outcome
-  room = record { reply = created m (instances_made H + 1) body vnfd; after = creation H now body ∷ [] }
+  room = record { reply = created m (instances_made H + 1) body vnfd last; after = creation H now body ∷ [] }
 
   of : (b : Bool) → nat_le 1000 (length (live_instances H)) ≡ b
-      → AddsOn m H (if b then refused 507 (codes "too many instances") else (if is_full H (creation H now body) then refused 507 (codes "journal full") else room))
+      → AddsOn m H (if b then refused 507 (codes "too many instances") last else (if is_full H (creation H now body) then refused 507 (codes "journal full") last else room))
   of true is = legal
   of false is =
-      elim (is_full H (creation H now body)) as (λ full. AddsOn m H (if full then refused 507 (codes "journal full") else room)) [
+      elim (is_full H (creation H now body)) as (λ full. AddsOn m H (if full then refused 507 (codes "journal full") last else room)) [
         | true ↦ legal
         | false ↦ (record { number = refl; onboarded = ap is_some known; room = leb-false 1000 (length (live_instances H)) is }, legal)
       ]
 
-create_legal : (m : ℕ) (H : List Event) (now : ℕ) (body : CreateBody) → IsLegal m H → AddsOn m H (create_outcome m H now body)
-create_legal m H now body legal = of (descriptor_named H body.vnfd) refl where
-  of : (found : Option Vnfd) → descriptor_named H body.vnfd ≡ found → AddsOn m H (described_outcome m H now body found)
+create_legal : (m : ℕ) (H : List Event) (now : ℕ) (body : CreateBody) (last : Bool) → IsLegal m H → AddsOn m H (create_outcome m H now body last)
+create_legal m H now body last legal = of (descriptor_named H body.vnfd) refl where
+  of : (found : Option Vnfd) → descriptor_named H body.vnfd ≡ found → AddsOn m H (described_outcome m H now body last found)
   of None is = legal
-  of (Some vnfd) is = described_legal m H now body vnfd is legal
+  of (Some vnfd) is = described_legal m H now body last vnfd is legal
 
-body_legal : (m : ℕ) (H : List Event) (now : ℕ) (body : Result CreateBody BodyFault) → IsLegal m H → AddsOn m H (body_outcome m H now body)
-body_legal m H now (Ok body) legal = create_legal m H now body legal
-body_legal m H now (Err Malformed) legal = legal
-body_legal m H now (Err (Lacks name)) legal = legal
-body_legal m H now (Err (Wrong name)) legal = legal
-body_legal m H now (Err Memory) legal = legal
+body_legal : (m : ℕ) (H : List Event) (now : ℕ) (body : Result CreateBody BodyFault) (last : Bool) → IsLegal m H → AddsOn m H (body_outcome m H now body last)
+body_legal m H now (Ok body) last legal = create_legal m H now body last legal
+body_legal m H now (Err Malformed) last legal = legal
+body_legal m H now (Err (Lacks name)) last legal = legal
+body_legal m H now (Err (Wrong name)) last legal = legal
+body_legal m H now (Err Memory) last legal = legal
 
-outcome_legal : (m : ℕ) (H : List Event) (now : ℕ) (r : Request) → IsLegal m H → AddsOn m H (outcome m H now r)
+-- with what a request adds the history is legal
+pub outcome_legal : (m : ℕ) (H : List Event) (now : ℕ) (r : Request) → IsLegal m H → AddsOn m H (outcome m H now r)
 outcome_legal m H now r legal =
-    elim (is_create r) as (λ creates. AddsOn m H (if creates then body_outcome m H now (create_of r.body) else refused 404 (codes "no such resource"))) [
-      | true ↦ body_legal m H now (create_of r.body) legal
+    elim (is_create r) as (λ creates. AddsOn m H (if creates then body_outcome m H now (create_of r.body) r.last else refused 404 (codes "no such resource") r.last)) [
+      | true ↦ body_legal m H now (create_of r.body) r.last legal
       | false ↦ legal
     ]
-
--- with what serving a connection adds the history is legal
-pub added_legal : (m : ℕ) (H : List Event) (serving : Serving) → IsLegal m H → IsLegal m (added m H serving ++ H)
-added_legal m H (judged r now) legal = outcome_legal m H now r legal
-added_legal m H (no_request cause) legal = legal

@@ -1,6 +1,6 @@
 -- What a create request comes to, by the numbers of the history.
 use Rattle.std.specs.Prelude.{is_some, true}
-use Rattle.std.proofs.Common.{◌≡◌, ◌≤◌, ◌<◌, ◌+◌, ℕ, List, [], ◌∷◌, length, Option, Some, None, arith, refl, ap, ◌∙◌, sym, codes, ◌++◌, inl}
+use Rattle.std.proofs.Common.{◌≡◌, ◌≤◌, ◌<◌, ◌+◌, ℕ, Bool, List, [], ◌∷◌, length, Option, Some, None, arith, refl, ap, ◌∙◌, sym, codes, ◌++◌, inl}
 use Rattle.site_traits.specs.Site.{SiteState, LeavesOnly}
 use Rattle.site_traits.proofs.Moments.{started}
 use Rattle.executor.specs.Managed.{Managed, StandsFor}
@@ -61,26 +61,26 @@ pub leaves_history : (m : Managed) (added : List Event) (s : SiteState) → Stan
 leaves_history m added s stands = started (HasOr m.ledger.manager m.history added) s (λ p left. record { file = inl (stands_everywhere m s stands p left) })
 
 -- its descriptor wasn't onboarded
-pub unknown_outcome : (m : ℕ) (H : List Event) (now : ℕ) (body : CreateBody) → descriptor_named H body.vnfd ≡ None
-    → create_outcome m H now body ≡ refused 422 (codes "vnfdId is not onboarded")
-unknown_outcome m H now body unknown = rw unknown refl
+pub unknown_outcome : (m : ℕ) (H : List Event) (now : ℕ) (body : CreateBody) (last : Bool) → descriptor_named H body.vnfd ≡ None
+    → create_outcome m H now body last ≡ refused 422 (codes "vnfdId is not onboarded") last
+unknown_outcome m H now body last unknown = rw unknown refl
 
 -- there is no room for one instance more
-pub crowded_outcome : (m : ℕ) (H : List Event) (now : ℕ) (body : CreateBody) (vnfd : Vnfd) → descriptor_named H body.vnfd ≡ Some vnfd → 1000 ≤ length (live_instances H)
-    → create_outcome m H now body ≡ refused 507 (codes "too many instances")
-crowded_outcome m H now body vnfd known crowded = rw (known, le-leb 1000 (length (live_instances H)) crowded) refl
+pub crowded_outcome : (m : ℕ) (H : List Event) (now : ℕ) (body : CreateBody) (last : Bool) (vnfd : Vnfd) → descriptor_named H body.vnfd ≡ Some vnfd → 1000 ≤ length (live_instances H)
+    → create_outcome m H now body last ≡ refused 507 (codes "too many instances") last
+crowded_outcome m H now body last vnfd known crowded = rw (known, le-leb 1000 (length (live_instances H)) crowded) refl
 
 -- there is no room for one record more
-pub full_outcome : (m : ℕ) (H : List Event) (now : ℕ) (body : CreateBody) (vnfd : Vnfd) → descriptor_named H body.vnfd ≡ Some vnfd → length (live_instances H) < 1000
-    → 201326592 < journal_size H + 6 + length (spelling (creation H now body)) → create_outcome m H now body ≡ refused 507 (codes "journal full")
-full_outcome m H now body vnfd known room full =
+pub full_outcome : (m : ℕ) (H : List Event) (now : ℕ) (body : CreateBody) (last : Bool) (vnfd : Vnfd) → descriptor_named H body.vnfd ≡ Some vnfd → length (live_instances H) < 1000
+    → 201326592 < journal_size H + 6 + length (spelling (creation H now body)) → create_outcome m H now body last ≡ refused 507 (codes "journal full") last
+full_outcome m H now body last vnfd known room full =
     rw (known, lt-leb 1000 (length (live_instances H)) room, lt-ltb 201326592 (journal_size H + 6 + length (spelling (creation H now body))) full) refl
 
 -- the instance is created
-pub room_outcome : (m : ℕ) (H : List Event) (now : ℕ) (body : CreateBody) (vnfd : Vnfd) → descriptor_named H body.vnfd ≡ Some vnfd → length (live_instances H) < 1000
+pub room_outcome : (m : ℕ) (H : List Event) (now : ℕ) (body : CreateBody) (last : Bool) (vnfd : Vnfd) → descriptor_named H body.vnfd ≡ Some vnfd → length (live_instances H) < 1000
     → journal_size H + 6 + length (spelling (creation H now body)) ≤ 201326592
-    → create_outcome m H now body ≡ record { reply = created m (instances_made H + 1) body vnfd; after = creation H now body ∷ [] }
-room_outcome m H now body vnfd known room fits =
+    → create_outcome m H now body last ≡ record { reply = created m (instances_made H + 1) body vnfd last; after = creation H now body ∷ [] }
+room_outcome m H now body last vnfd known room fits =
     rw (known, lt-leb 1000 (length (live_instances H)) room, le-ltb 201326592 (journal_size H + 6 + length (spelling (creation H now body))) fits) refl
 
 size_is : (H : List Event) → journal_size H ≡ size (spellings H)
@@ -99,20 +99,20 @@ may_create_now m now body known room fits = record {
 }
 
 -- the request creates the instance
-pub step_creates : (m : Managed) (now : ℕ) (body : CreateBody) (vnfd : Vnfd) (reply : Reply) (event : Event) → descriptor_named m.history body.vnfd ≡ Some vnfd → m.ledger.end ≡ size (spellings m.history)
+pub step_creates : (m : Managed) (now : ℕ) (body : CreateBody) (last : Bool) (vnfd : Vnfd) (reply : Reply) (event : Event) → descriptor_named m.history body.vnfd ≡ Some vnfd → m.ledger.end ≡ size (spellings m.history)
     → length (live_instances m.history) < 1000 → m.ledger.end + 6 + length (spelling event) ≤ 201326592 → event ≡ creation m.history now body
-    → reply ≡ created m.ledger.manager (instances_made m.history + 1) body vnfd → IsStep (create_outcome m.ledger.manager m.history now body) m (Creates event reply)
-step_creates m now body vnfd reply event known end room fits event_is reply_is =
+    → reply ≡ created m.ledger.manager (instances_made m.history + 1) body vnfd last → IsStep (create_outcome m.ledger.manager m.history now body last) m (Creates event reply)
+step_creates m now body last vnfd reply event known end room fits event_is reply_is =
     rw (event_is, reply_is)
     (let within : m.ledger.end + 6 + length (spelling (creation m.history now body)) ≤ 201326592 = rw event_is at fits in
     let full : journal_size m.history + 6 + length (spelling (creation m.history now body)) ≤ 201326592 = rw (size_is m.history, ← end) within in
-    (room_outcome m.ledger.manager m.history now body vnfd known room full, may_create_now m now body (ap is_some known) room within))
+    (room_outcome m.ledger.manager m.history now body last vnfd known room full, may_create_now m now body (ap is_some known) room within))
 
 -- the request finds the journal full
-pub step_full : (m : Managed) (now : ℕ) (body : CreateBody) (vnfd : Vnfd) (reply : Reply) (event : Event) → descriptor_named m.history body.vnfd ≡ Some vnfd → m.ledger.end ≡ size (spellings m.history)
+pub step_full : (m : Managed) (now : ℕ) (body : CreateBody) (last : Bool) (vnfd : Vnfd) (reply : Reply) (event : Event) → descriptor_named m.history body.vnfd ≡ Some vnfd → m.ledger.end ≡ size (spellings m.history)
     → length (live_instances m.history) < 1000 → 201326592 < m.ledger.end + 6 + length (spelling event) → event ≡ creation m.history now body
-    → reply ≡ refusal 507 (codes "journal full") → IsStep (create_outcome m.ledger.manager m.history now body) m (Refused reply)
-step_full m now body vnfd reply event known end room over event_is reply_is =
+    → reply ≡ refusal 507 (codes "journal full") last → IsStep (create_outcome m.ledger.manager m.history now body last) m (Refused reply)
+step_full m now body last vnfd reply event known end room over event_is reply_is =
     rw reply_is
     (let beyond : 201326592 < m.ledger.end + 6 + length (spelling (creation m.history now body)) = rw event_is at over in
-    full_outcome m.ledger.manager m.history now body vnfd known room (rw (size_is m.history, ← end) beyond))
+    full_outcome m.ledger.manager m.history now body last vnfd known room (rw (size_is m.history, ← end) beyond))

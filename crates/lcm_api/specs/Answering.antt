@@ -6,7 +6,7 @@ use Rattle.lcm_events.specs.declared.events.Event.{Event}
 use Rattle.site_traits.specs.Site.{Pair, SiteState, LeavesOnly}
 use Rattle.lcm_api.specs.Outcome.{Outcome, outcome}
 use Rattle.lcm_api.specs.declared.reply.Reply.{Reply}
-use Rattle.lcm_api.specs.declared.request.Request.{Request}
+use Rattle.http_wire.specs.declared.request.Request.{Request}
 use Rattle.lcm_api.specs.declared.answer.ApiFault.{ApiFault}
 use Rattle.lcm_api.specs.declared.answer.ApiFault.TheVariants as fault
 

@@ -1,10 +1,6 @@
--- What hearing a connection does.
-use Rattle.std.specs.Prelude.{◌≡◌, ◌≤◌, ℕ, List, length, take, drop, Bool, true, false, if◌then◌else◌, Result, Ok, Err}
+-- What reading a connection to its end does.
+use Rattle.std.specs.Prelude.{◌≡◌, ◌≤◌, ℕ, List, length, take, Bool, false, if◌then◌else◌}
 use Rattle.site_traits.specs.Door.{Conn, DoorState, ConnIs, has_read, read_broke}
-use Rattle.lcm_api.specs.Form.{IsRequest, IsNoRequest}
-use Rattle.lcm_api.specs.declared.request.Request.{Request}
-use Rattle.lcm_api.specs.declared.mouth.HearFault.{HearFault}
-use Rattle.lcm_api.specs.declared.mouth.HearFault.TheVariants.{Malformed, Read, Memory}
 
 -- the connection once n bytes more were read, and, where it failed, one read then failed
 abbrev pub heard_of : ℕ → Bool → Conn → Conn
@@ -15,10 +11,3 @@ pub record Hears (most : ℕ) (bytes : List ℕ) (failed : Bool) (a b : DoorStat
   pub conn : ConnIs (heard_of (length bytes) failed a.conn) a b
   pub front : bytes ≡ take (length bytes) a.conn.left
   pub whole : failed ≡ false → bytes ≡ take most a.conn.left
-
--- what is made of the bytes that were read
-abbrev pub Judged : List ℕ → Bool → Result Request HearFault → Type 0
-Judged bytes failed (Ok r) = IsRequest bytes r
-Judged bytes failed (Err Malformed) = IsNoRequest bytes × (failed ≡ false)
-Judged bytes failed (Err Read) = IsNoRequest bytes × (failed ≡ true)
-Judged bytes failed (Err Memory) = (r : Request) × IsRequest bytes r

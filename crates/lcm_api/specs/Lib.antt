@@ -1,12 +1,8 @@
 pub mod Answering
-pub mod Form
-pub mod Fields
 pub mod Hearing
 pub mod Judging
-pub mod Laws
 pub mod Mouth
 pub mod Outcome
 pub mod Response
-pub mod Serving
 pub mod Steps
 pub mod Telling

@@ -1,40 +1,42 @@
--- What a mouth stands for: its door, and the request in hand with its role.
-use Rattle.std.specs.Prelude.{◌≡◌, List, ℕ, Option, Some, None, Result, Ok, Err, Bool}
+-- What a mouth stands for, and what its calls do: a wire, and the request in hand with its role.
+use Rattle.std.specs.Prelude.{◌≡◌, List, [], Bool, true, false, Option, Some, None, Result, Ok, Err}
 use Rattle.lcm_events.specs.declared.states.Role.{Role}
-use Rattle.site_traits.specs.Door.{DoorState, DoorCounts}
-use Rattle.lcm_api.specs.Hearing.{Hears, Judged}
-use Rattle.lcm_api.specs.declared.request.Request.{Request}
-use Rattle.lcm_api.specs.declared.mouth.HearFault.{HearFault}
+use Rattle.http_wire.specs.declared.request.Request.{Request}
+use Rattle.http_wire.specs.declared.request.Taken.{Taken}
+use Rattle.http_wire.specs.declared.request.Taken.TheVariants as taken
+use Rattle.http_wire.specs.declared.request.WireFault.{WireFault}
+use Rattle.http_wire.specs.Exact.{IsExact}
+use Rattle.http_wire.specs.Wire.{WireState, TakenIs, bytes_of}
 
--- what the door tells, its counts, and the request in hand with the role that it was heard for
+-- what the wire stands for, and the request in hand with the role that it was heard for
 pub record MouthState : Type 0 where
-  pub door : DoorState
-  pub counts : DoorCounts
+  pub wire : WireState
   pub hand : Option Request
   pub role : Role
 
--- the request in hand and its role stay
-pub record KeepsHand (old new : MouthState) : Type 0 where
+-- Nothing changes but at the door: the bytes that were read and belong to no request yet stay, and so does what was taken, and
+-- what is in hand.
+pub record OnlyAtDoor (old new : MouthState) : Type 0 where
+  pub held : new.wire.intake.held ≡ old.wire.intake.held
+  pub taken : new.wire.taken ≡ old.wire.taken
+  pub ended : new.wire.ended ≡ old.wire.ended
   pub hand : new.hand ≡ old.hand
   pub role : new.role ≡ old.role
 
--- These bytes of the connection were read, and judged. Where the door tells, they are its bytes.
-pub record Listens (tells : Type 0) (result : Result Request HearFault) (a b : DoorState) : Type 0 where
-  pub bytes : List ℕ
-  pub failed : Bool
-  pub judged : Judged bytes failed result
-  pub door : tells → Hears 65537 bytes failed a b
+-- a connection begins: no byte of it is held, no request was taken, and none is in hand
+pub record Begins (new : MouthState) : Type 0 where
+  pub held : new.wire.intake.held ≡ []
+  pub taken : new.wire.taken ≡ 0
+  pub ended : new.wire.ended ≡ false
+  pub hand : new.hand ≡ None
 
--- the request that is in hand afterwards
-abbrev pub heard_request : Result (Unit {0}) HearFault → Option Request → Result Request HearFault → Type 0
-heard_request (Ok done) hand (Ok r) = hand ≡ Some r
-heard_request (Ok done) hand (Err fault) = ⊥
-heard_request (Err fault) hand (Ok r) = ⊥
-heard_request (Err fault) hand (Err other) = (hand ≡ None) × (other ≡ fault)
+-- this was taken out of the bytes of the connection, and it is just what they begin with
+pub record Takes (tells : Type 0) (answer : Result Taken WireFault) (old new : WireState) : Type 0 where
+  pub is : TakenIs tells old new answer
+  pub exact : tells → old.ended ≡ false → IsExact (bytes_of old.intake) answer
 
--- the connection was heard for this role, and the request that it is is in hand
-pub record Heard (tells : Type 0) (role : Role) (result : Result (Unit {0}) HearFault) (old new : MouthState) : Type 0 where
-  pub request : Result Request HearFault
-  pub hand : heard_request result new.hand request
-  pub role_is : new.role ≡ role
-  pub listens : Listens tells request old.door new.door
+-- what was heard, by the answer: a request was taken and is in hand, or the end or a fault was found and none is in hand
+abbrev pub Heard : Type 0 → Result Bool WireFault → MouthState → MouthState → Type 0
+Heard tells (Ok true) old new = (r : Request) × (new.hand ≡ Some r) × Takes tells (Ok (taken.Request r)) old.wire new.wire
+Heard tells (Ok false) old new = (new.hand ≡ None) × Takes tells (Ok taken.End) old.wire new.wire
+Heard tells (Err fault) old new = (new.hand ≡ None) × Takes tells (Err fault) old.wire new.wire

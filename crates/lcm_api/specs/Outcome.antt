@@ -15,24 +15,28 @@ use Rattle.json_views.specs.declared.body.CreateBody.{CreateBody}
 use Rattle.json_views.specs.declared.body.BodyFault.{BodyFault}
 use Rattle.json_views.specs.declared.body.BodyFault.TheVariants.{Malformed, Lacks, Wrong, Memory}
 use Rattle.lcm_api.specs.declared.reply.Reply.{Reply}
-use Rattle.lcm_api.specs.declared.request.Request.{Request}
+use Rattle.http_wire.specs.declared.request.Request.{Request}
 
 -- a reply, and the events that the request adds, the latest first
 pub record Outcome : Type 0 where
   pub reply : Reply
   pub after : List Event
 
--- a refusal with this status and this detail (RFC 9457 3)
-unfoldable pub refusal : ℕ → List ℕ → Reply
-refusal status detail = record { status = status; location = None; allow = None; problem = true; body = problem_text status detail; last = false }
+-- a refusal with this status and this detail, and whether the connection ends with it (RFC 9457 3)
+unfoldable pub refusal : ℕ → List ℕ → Bool → Reply
+refusal status detail last = record { status = status; location = None; allow = None; problem = true; body = problem_text status detail; last = last }
 
 -- a refused request adds nothing
-abbrev pub refused : ℕ → List ℕ → Outcome
-refused status detail = record { reply = refusal status detail; after = [] }
+abbrev pub refused : ℕ → List ℕ → Bool → Outcome
+refused status detail last = record { reply = refusal status detail last; after = [] }
 
 -- the refusal of bytes that are no request, after which the connection ends (RFC 9110 15.5.1)
-unfoldable pub malformed : Reply
-malformed = record { status = 400; location = None; allow = None; problem = true; body = problem_text 400 (codes "malformed request"); last = true }
+abbrev pub malformed : Reply
+malformed = refusal 400 (codes "malformed request") true
+
+-- the refusal of bytes that pass a limit, after which the connection ends (RFC 9110 15.5.14)
+abbrev pub too_large : Reply
+too_large = refusal 413 (codes "request too large") true
 
 -- a reply that is told without memory: its body is fixed by its status
 abbrev pub bare : ℕ → Reply
@@ -51,8 +55,8 @@ abbrev pub creation : List Event → ℕ → CreateBody → Event
 creation H now body = record { moment = now; kind = Created (instances_made H + 1) body.vnfd body.name body.text }
 
 -- the answer to it: the instance and where it is found (SOL 003 5.4.2, 5.5.2.2)
-unfoldable pub created : ℕ → ℕ → CreateBody → Vnfd → Reply
-created m n body vnfd = record { status = 201; location = Some (instance_path m n); allow = None; problem = false; body = created_text m n body vnfd; last = false }
+unfoldable pub created : ℕ → ℕ → CreateBody → Vnfd → Bool → Reply
+created m n body vnfd last = record { status = 201; location = Some (instance_path m n); allow = None; problem = false; body = created_text m n body vnfd; last = last }
 
 -- the bytes of the journal of this history up to its closed gate (own rule)
 unfoldable pub journal_size : List Event → ℕ
@@ -63,29 +67,30 @@ abbrev pub is_full : List Event → Event → Bool
 is_full H e = nat_lt 201326592 (journal_size H + 6 + length (spelling e))
 
 -- a create request whose body says this, where its descriptor was onboarded: whether there is room for the instance
-abbrev pub described_outcome : ℕ → List Event → ℕ → CreateBody → Option Vnfd → Outcome
-described_outcome m H now body None = refused 422 (codes "vnfdId is not onboarded")
-described_outcome m H now body (Some vnfd) =
-    if nat_le 1000 (length (live_instances H)) then refused 507 (codes "too many instances")
-    else (if is_full H (creation H now body) then refused 507 (codes "journal full")
-    else record { reply = created m (instances_made H + 1) body vnfd; after = creation H now body ∷ [] })
+abbrev pub described_outcome : ℕ → List Event → ℕ → CreateBody → Bool → Option Vnfd → Outcome
+described_outcome m H now body last None = refused 422 (codes "vnfdId is not onboarded") last
+described_outcome m H now body last (Some vnfd) =
+    if nat_le 1000 (length (live_instances H)) then refused 507 (codes "too many instances") last
+    else (if is_full H (creation H now body) then refused 507 (codes "journal full") last
+    else record { reply = created m (instances_made H + 1) body vnfd last; after = creation H now body ∷ [] })
 
 -- a create request whose body says this
-abbrev pub create_outcome : ℕ → List Event → ℕ → CreateBody → Outcome
-create_outcome m H now body = described_outcome m H now body (descriptor_named H body.vnfd)
+abbrev pub create_outcome : ℕ → List Event → ℕ → CreateBody → Bool → Outcome
+create_outcome m H now body last = described_outcome m H now body last (descriptor_named H body.vnfd)
 
 -- a create request with this body, as it is read
-abbrev pub body_outcome : ℕ → List Event → ℕ → Result CreateBody BodyFault → Outcome
-body_outcome m H now (Ok body) = create_outcome m H now body
-body_outcome m H now (Err Malformed) = refused 400 (codes "malformed JSON")
-body_outcome m H now (Err (Lacks name)) = refused 400 (codes "missing " ++ name)
-body_outcome m H now (Err (Wrong name)) = refused 400 (codes "bad " ++ name)
-body_outcome m H now (Err Memory) = record { reply = starved; after = [] }
+abbrev pub body_outcome : ℕ → List Event → ℕ → Result CreateBody BodyFault → Bool → Outcome
+body_outcome m H now (Ok body) last = create_outcome m H now body last
+body_outcome m H now (Err Malformed) last = refused 400 (codes "malformed JSON") last
+body_outcome m H now (Err (Lacks name)) last = refused 400 (codes "missing " ++ name) last
+body_outcome m H now (Err (Wrong name)) last = refused 400 (codes "bad " ++ name) last
+body_outcome m H now (Err Memory) last = record { reply = starved; after = [] }
 
 -- the request creates an instance (SOL 003 5.4.2.3.1)
 abbrev pub is_create : Request → Bool
 is_create r = bytes_eq r.method (codes "POST") && bytes_eq r.target (codes "/vnflcm/v1/vnf_instances")
 
--- what a request comes to, after history H of manager m, taken at this moment
+-- What a request comes to, after history H of manager m, taken at this moment. The connection ends with the reply where it ends
+-- with the request (RFC 9112 9.6).
 abbrev pub outcome : ℕ → List Event → ℕ → Request → Outcome
-outcome m H now r = if is_create r then body_outcome m H now (create_of r.body) else refused 404 (codes "no such resource")
+outcome m H now r = if is_create r then body_outcome m H now (create_of r.body) r.last else refused 404 (codes "no such resource") r.last

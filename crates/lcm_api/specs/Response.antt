@@ -49,17 +49,21 @@ content_fields status problem size =
     else (if size == 0 then field (codes "Content-Length") (decimal size)
     else field (codes "Content-Type") (media_type problem) ++ field (codes "Content-Length") (decimal size))
 
+-- the line that says that the connection ends with the answer (RFC 9110 7.6.1 Connection; RFC 9112 9.6 Tear-down)
+abbrev pub last_field : Bool → List ℕ
+last_field last = if last then field (codes "Connection") (codes "close") else []
+
 -- the body that is told (RFC 9457 3): that of 500 and of 503 is fixed, so that they can be told without memory
 unfoldable pub body_told : Reply → List ℕ
 body_told r =
     if r.status == 500 then codes "{\"detail\":\"journal fault\",\"status\":500}"
     else (if r.status == 503 then codes "{\"detail\":\"no memory\",\"status\":503}" else r.body)
 
--- the head of a reply with a body of this length: status line, Location, Allow, the lines on the body, an empty line
+-- the head of a reply with a body of this length: status line, Location, Allow, the lines on the body, Connection, an empty line
 unfoldable pub head_text : Reply → ℕ → List ℕ
 head_text r size =
     status_line r.status ++ optional_field (codes "Location") r.location ++ optional_field (codes "Allow") r.allow
-    ++ content_fields r.status r.problem size ++ line_end
+    ++ content_fields r.status r.problem size ++ last_field r.last ++ line_end
 
 -- the bytes of a reply
 abbrev pub text : Reply → List ℕ

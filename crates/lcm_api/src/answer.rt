@@ -13,8 +13,8 @@ ghost use Rattle.lcm_api.specs.Outcome.{outcome, create_outcome, creation, is_fu
 
 use crate::judge::{Verdict, created, judge, refusal};
 use crate::reply::Reply;
-use crate::request::Request;
 use executor::{Manager, WorkFault};
+use http_wire::Request;
 use json_views::CreateBody;
 use lcm_events::{Event, EventKind};
 use site_traits::Site;
@@ -67,7 +67,7 @@ pub fn answer<S: Site>(
 {
     match judge(alloc, request) {
         Ok(Verdict::Refused(reply)) => Ok(reply),
-        Ok(Verdict::Create(body)) => create(alloc, manager, site, body, now),
+        Ok(Verdict::Create(body)) => create(alloc, manager, site, body, now, request.last),
         Err(_) => Err(ApiFault::Memory),
     }
 }
@@ -79,15 +79,16 @@ fn create<S: Site>(
     site: &mut S,
     body: CreateBody,
     now: Moment,
+    last: bool,
 ) -> Result<Reply, ApiFault>
     requires usable { manager.old.ledger.closed ≡ false }
     requires stands { S.tells → StandsFor manager.old (S.state site.old) }
-    ensures leads { Leads (create_outcome manager.old.ledger.manager manager.old.history now body) result manager.old manager.new }
+    ensures leads { Leads (create_outcome manager.old.ledger.manager manager.old.history now body last) result manager.old manager.new }
     ensures number { manager.new.ledger.manager ≡ manager.old.ledger.manager }
-    ensures told { S.tells → Answers (create_outcome manager.old.ledger.manager manager.old.history now body) result manager.old manager.new (S.state site.old) (S.state site.new) }
+    ensures told { S.tells → Answers (create_outcome manager.old.ledger.manager manager.old.history now body last) result manager.old manager.new (S.state site.old) (S.state site.new) }
     ensures counts { OnlyDiskFails (result ≡ Err ApiFault.Disk) (S.counts site.old) (S.counts site.new) }
 {
-    match prepare(alloc, manager, body, now) {
+    match prepare(alloc, manager, body, now, last) {
         Ok(Step::Refused(reply)) => Ok(reply),
         Ok(Step::Creates(event, reply)) => {
             let answer = record(alloc, manager, site, &event, reply);
@@ -104,24 +105,25 @@ fn prepare<S: Site>(
     manager: &mut Manager<S>,
     body: CreateBody,
     now: Moment,
+    last: bool,
 ) -> Result<Step, AllocError>
     requires usable { manager.old.ledger.closed ≡ false }
     ensures kept { manager.new ≡ manager.old }
-    ensures step { IfOk result (IsStep (create_outcome manager.old.ledger.manager manager.old.history now body) manager.old) }
+    ensures step { IfOk result (IsStep (create_outcome manager.old.ledger.manager manager.old.history now body last) manager.old) }
 {
     let Some(vnfd) = manager.vnfd(&body.vnfd) else {
-        return Ok(Step::Refused(refusal(alloc, 422, "vnfdId is not onboarded")?));
+        return Ok(Step::Refused(refusal(alloc, 422, "vnfdId is not onboarded", last)?));
     };
     if manager.live(Kind::Instance) >= MAX_INSTANCES {
-        return Ok(Step::Refused(refusal(alloc, 507, "too many instances")?));
+        return Ok(Step::Refused(refusal(alloc, 507, "too many instances", last)?));
     }
     let n = manager.next_instance();
-    let reply = created(alloc, manager.number(), n, &body, vnfd)?;
+    let reply = created(alloc, manager.number(), n, &body, vnfd, last)?;
     let event = creation(n, now, body);
     let more = manager.length_of(&event);
     if !manager.fits(more, MAX_REQUESTED) {
         drop(event);
-        return Ok(Step::Refused(refusal(alloc, 507, "journal full")?));
+        return Ok(Step::Refused(refusal(alloc, 507, "journal full", last)?));
     }
     Ok(Step::Creates(event, reply))
 }

@@ -1,12 +1,12 @@
 //! What a request comes to before the history is asked: a refusal, or the body of a create request.
 ghost use Rattle.std.specs.Prelude.{◌≡◌, ◌++◌, codes, IfOk, IfErr, Option, Result, map};
-ghost use Rattle.lcm_api.specs.Outcome.{refusal, malformed, bare, faulted, starved, created, is_create};
+ghost use Rattle.lcm_api.specs.Outcome.{refusal, malformed, too_large, bare, faulted, starved, created, is_create};
 ghost use Rattle.lcm_api.specs.Judging.{IsVerdict, IsRefusedBody};
 ghost use Rattle.vnfm_base.specs.Ident.{IsIdentNumber};
 ghost use Rattle.std.specs.String.{string_bytes};
 
 use crate::reply::Reply;
-use crate::request::Request;
+use http_wire::Request;
 use json_views::{BodyFault, CreateBody, created_view, instance_path, problem_view, read_create};
 use lcm_events::Vnfd;
 use std::alloc::{AllocError, Global};
@@ -29,22 +29,27 @@ pub fn judge(alloc: Global, request: &Request) -> Result<Verdict, AllocError>
     ensures { IfOk result (IsVerdict request.now) }
 {
     if !is_create(request) {
-        return Ok(Verdict::Refused(refusal(alloc, 404, "no such resource")?));
+        return Ok(Verdict::Refused(refusal(
+            alloc,
+            404,
+            "no such resource",
+            request.last,
+        )?));
     }
     match read_create(alloc, request.body.as_slice()) {
         Ok(body) => Ok(Verdict::Create(body)),
-        Err(fault) => Ok(Verdict::Refused(refused_body(alloc, &fault)?)),
+        Err(fault) => Ok(Verdict::Refused(refused_body(alloc, &fault, request.last)?)),
     }
 }
 
 /// The refusal of a body that wasn't read.
-fn refused_body(alloc: Global, fault: &BodyFault) -> Result<Reply, AllocError>
-    ensures { IfOk result (IsRefusedBody fault.now) }
+fn refused_body(alloc: Global, fault: &BodyFault, last: bool) -> Result<Reply, AllocError>
+    ensures { IfOk result (IsRefusedBody fault.now last) }
 {
     match fault {
-        BodyFault::Malformed => refusal(alloc, 400, "malformed JSON"),
-        BodyFault::Lacks(name) => refusal_of(alloc, "missing ", name),
-        BodyFault::Wrong(name) => refusal_of(alloc, "bad ", name),
+        BodyFault::Malformed => refusal(alloc, 400, "malformed JSON", last),
+        BodyFault::Lacks(name) => refusal_of(alloc, "missing ", name, last),
+        BodyFault::Wrong(name) => refusal_of(alloc, "bad ", name, last),
         BodyFault::Memory => Err(AllocError),
     }
 }
@@ -55,10 +60,10 @@ fn is_create(request: &Request) -> bool
     request.method.as_str() == "POST" && request.target.as_str() == INSTANCES
 }
 
-/// A refusal with this status and this detail.
+/// A refusal with this status and this detail, and whether the connection ends with it.
 #[tactic(auto, unfolding(crate::specs::Outcome::refusal))]
-pub fn refusal(alloc: Global, status: u16, detail: &str) -> Result<Reply, AllocError>
-    ensures { IfOk result (λ reply. reply ≡ refusal status detail.now) }
+pub fn refusal(alloc: Global, status: u16, detail: &str, last: bool) -> Result<Reply, AllocError>
+    ensures { IfOk result (λ reply. reply ≡ refusal status detail.now last) }
 {
     let body = problem_view(alloc, status, detail)?;
     Ok(Reply {
@@ -67,33 +72,35 @@ pub fn refusal(alloc: Global, status: u16, detail: &str) -> Result<Reply, AllocE
         allow: None,
         problem: true,
         body,
-        last: false,
+        last,
     })
 }
 
 /// The refusal of a body for one member.
-fn refusal_of(alloc: Global, what: &str, member: &Name) -> Result<Reply, AllocError>
-    ensures { IfOk result (λ reply. reply ≡ refusal 400 (what.now ++ member.now)) }
+fn refusal_of(alloc: Global, what: &str, member: &Name, last: bool) -> Result<Reply, AllocError>
+    ensures { IfOk result (λ reply. reply ≡ refusal 400 (what.now ++ member.now) last) }
 {
     let mut detail = String::from_str(alloc, what)?;
     detail.push_str(member.as_str())?;
-    refusal(alloc, 400, detail.as_str())
+    refusal(alloc, 400, detail.as_str(), last)
 }
 
 /// The refusal of bytes that are no request.
-#[tactic(auto, unfolding(crate::specs::Outcome::malformed))]
+///
+/// Source: RFC 9110 15.5.1.
 pub fn malformed(alloc: Global) -> Result<Reply, AllocError>
     ensures { IfOk result (λ reply. reply ≡ malformed) }
 {
-    let body = problem_view(alloc, 400, "malformed request")?;
-    Ok(Reply {
-        status: 400,
-        location: None,
-        allow: None,
-        problem: true,
-        body,
-        last: true,
-    })
+    refusal(alloc, 400, "malformed request", true)
+}
+
+/// The refusal of bytes that pass a limit.
+///
+/// Source: RFC 9110 15.5.14.
+pub fn too_large(alloc: Global) -> Result<Reply, AllocError>
+    ensures { IfOk result (λ reply. reply ≡ too_large) }
+{
+    refusal(alloc, 413, "request too large", true)
 }
 
 /// A reply that is told without memory.
@@ -118,9 +125,10 @@ pub fn created(
     n: u64,
     body: &CreateBody,
     vnfd: &Vnfd,
+    last: bool,
 ) -> Result<Reply, AllocError>
     requires { IsIdentNumber n }
-    ensures { IfOk result (λ reply. reply ≡ created manager n body.now vnfd.now) }
+    ensures { IfOk result (λ reply. reply ≡ created manager n body.now vnfd.now last) }
 {
     let view = created_view(alloc, manager, n, body, vnfd)?;
     let path = instance_path(alloc, manager, n)?;
@@ -133,6 +141,6 @@ pub fn created(
         allow: None,
         problem: false,
         body: view,
-        last: false,
+        last,
     })
 }

@@ -1,6 +1,6 @@
 //! The head of an answer, put together in room that was taken beforehand, so that telling takes no memory.
 ghost use Rattle.std.specs.Prelude.{◌≡◌, ◌⊎◌, ◌≤◌, ◌+◌, ◌++◌, [], length, codes, decimal, IfOk};
-ghost use Rattle.lcm_api.specs.Response.{reason, field, optional_field, status_line, media_type, content_fields, head_text};
+ghost use Rattle.lcm_api.specs.Response.{reason, field, optional_field, status_line, media_type, content_fields, last_field, head_text};
 
 use crate::reply::Reply;
 use itoa::Buffer;
@@ -143,6 +143,16 @@ impl Outgoing {
         self.put_length(size);
     }
 
+    fn put_last(&mut self, last: bool)
+        requires { length self.old ≤ 65000 }
+        ensures bytes { self.new ≡ self.old ++ last_field last }
+        ensures short { length self.new ≤ length self.old + 19 }
+    {
+        if last {
+            self.put_field(b"Connection", b"close");
+        }
+    }
+
     /// Makes it the head of this reply, with a body of so many bytes.
     #[tactic(auto, unfolding(crate::specs::Response::head_text))]
     pub fn set_head(&mut self, reply: &Reply, size: usize)
@@ -154,6 +164,7 @@ impl Outgoing {
         self.put_location(&reply.location);
         self.put_allow(&reply.allow);
         self.put_content(reply.status, reply.problem, size);
+        self.put_last(reply.last);
         self.put(b"\r\n");
     }
 

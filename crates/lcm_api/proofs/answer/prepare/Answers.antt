@@ -18,7 +18,7 @@ returns-then-not-fits-clause-step g c =
     let live = c.live.ensures in
     let few = c.if-live-ge-MAX_INSTANCES.false in
     let more = c.length_of-more.ensures.length in
-    step_full c.args.manager.now c.args.now c.args.body c.in-Some.vnfd.now c.in_ok-refusal-3.field-0 c.creation-event.result (sym c.in-Some.ensures) ((rw kept at c.fits.ensures.size) c.requires.usable)
+    step_full c.args.manager.now c.args.now c.args.body c.args.last c.in-Some.vnfd.now c.in_ok-refusal-3.field-0 c.creation-event.result (sym c.in-Some.ensures) ((rw kept at c.fits.ensures.size) c.requires.usable)
     (omega (arith, live, few)) (omega (arith, over, more)) event c.in_ok-refusal-3.ensures
 
 pub returns-clause-step : goal.returns-clause-step
@@ -29,5 +29,5 @@ returns-clause-step g c =
     let live = c.live.ensures in
     let few = c.if-live-ge-MAX_INSTANCES.false in
     let more = c.length_of-more.ensures.length in
-    step_creates c.args.manager.now c.args.now c.args.body c.in-Some.vnfd.now c.in_ok-reply.reply c.creation-event.result (sym c.in-Some.ensures) ((rw kept at c.fits.ensures.size) c.requires.usable)
+    step_creates c.args.manager.now c.args.now c.args.body c.args.last c.in-Some.vnfd.now c.in_ok-reply.reply c.creation-event.result (sym c.in-Some.ensures) ((rw kept at c.fits.ensures.size) c.requires.usable)
     (omega (arith, live, few)) (omega (arith, fits, more)) event (rw (c.number.ensures, c.next_instance-n.ensures.number) at c.in_ok-reply.ensures)

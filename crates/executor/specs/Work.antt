@@ -1,0 +1,73 @@
+-- What work does to a manager's journal, said by the histories that it leads to (own rule). A history has the latest event first.
+use Rattle.std.specs.Prelude.{◌≡◌, ℕ, Bool, true, false, List, ◌∷◌, ◌++◌, Result, Ok, Err}
+use Rattle.executor.specs.History.{HasHistory}
+use Rattle.executor.specs.Managed.{Managed, Keeps, StandsFor}
+use Rattle.executor.specs.declared.manager.WorkFault.{WorkFault}
+use Rattle.executor.specs.declared.manager.WorkFault.TheVariants as fault
+use Rattle.lcm_events.specs.declared.events.Event.{Event}
+use Rattle.lcm_model.specs.Allowed.{IsLegal}
+use Rattle.site_traits.specs.Site.{Pair, SiteState, LeavesOnly}
+
+-- what became of work: it went well up to this history; or it did so, and then the disk failed on the way to that one
+pub data Work : Type 0 where
+  went : List Event → Work
+  broke : List Event → List Event → Work
+
+-- the history that stands: all of it was acknowledged
+abbrev pub stood : Work → List Event
+stood (went G) = G
+stood (broke G K) = G
+
+-- the history that the work aimed at
+abbrev pub aimed : Work → List Event
+aimed (went G) = G
+aimed (broke G K) = K
+
+-- the disk failed
+abbrev pub failed : Work → Bool
+failed (went G) = false
+failed (broke G K) = true
+
+-- the second history is the first, and more events
+pub record Extends (H G : List Event) : Type 0 where
+  pub more : List Event
+  pub is : G ≡ more ++ H
+
+-- the history grew to the one that stands, and that to the one that was aimed at, which is legal
+pub record Grows (m : ℕ) (H : List Event) (w : Work) : Type 0 where
+  pub to_stood : Extends H (stood w)
+  pub to_aimed : Extends (stood w) (aimed w)
+  pub legal : IsLegal m (aimed w)
+
+-- a stop leaves a history from the first of these to the second
+pub record HasSome (m : ℕ) (H K : List Event) (p : Pair) : Type 0 where
+  pub history : List Event
+  pub from : Extends H history
+  pub to : Extends history K
+  pub file : HasHistory m history p.image
+
+-- At each moment of the work a stop leaves a history from the one at its start to the one that it aimed at. At its end a stop leaves
+-- what stands, or more of what was aimed at; unless the disk failed, nothing is pending there, and the file has what stands.
+pub record AtSite (m : ℕ) (H : List Event) (w : Work) (n : Managed) (a b : SiteState) : Type 0 where
+  pub any_moment : LeavesOnly (HasSome m H (aimed w)) a b
+  pub at_exit : (p : Pair) → b.since b.moment p → HasSome m (stood w) (aimed w) p
+  pub stands : failed w ≡ false → StandsFor n (stood w) b
+
+-- The work did this to history H of manager m, which is now n: it keeps what stands, and is closed where the disk failed.
+pub record Works (tells : Type 0) (m : ℕ) (H : List Event) (w : Work) (n : Managed) (a b : SiteState) : Type 0 where
+  pub number : n.ledger.manager ≡ m
+  pub keeps : Keeps n (stood w)
+  pub closed : n.ledger.closed ≡ failed w
+  pub grows : Grows m H w
+  pub site : tells → AtSite m H w n a b
+
+-- what recording an event does to a history, by its answer: the event is in it, or the disk failed on the way there, or nothing was done
+abbrev pub recorded : List Event → Event → Result (Unit {0}) WorkFault → Work
+recorded H e (Ok done) = went (e ∷ H)
+recorded H e (Err fault.Disk) = broke H (e ∷ H)
+recorded H e (Err other) = went H
+
+-- Works in a row are one, which comes to what the last of them comes to.
+abbrev pub JoinsWorks : {S : Type 0} → Type 0 → (S → SiteState) → Type 0
+JoinsWorks {S} tells state = (m : ℕ) (H G : List Event) (w : Work) (n o : Managed) (a b c : S)
+    → Works tells m H (went G) n (state a) (state b) → Works tells m G w o (state b) (state c) → Works tells m H w o (state a) (state c)
