@@ -10,7 +10,7 @@ use Rattle.httparse.proofs.ChunkLemmas.{ReadsChunkLine-append}
 use Rattle.http_frames.specs.declared.TheConstants.{BODY_BYTES}
 use Rattle.http_frames.specs.Chunks.{Chunk, print_chunk, IsChunk, Chunks, content_of, BeginsCrLf, HasNoLineFeed, IsEmptyLine, Lines, ReadsChunks}
 use Rattle.http_frames.specs.Answers.{ChunksCut, ChunksBad, ChunksMuch, HasPassedChunks, HasPassedLines}
-use Rattle.http_frames.specs.Steps.{BeginsChunk, BeginsLast, BeginsLine, HasPassed}
+use Rattle.http_frames.specs.Steps.{BeginsChunk, BeginsLast, BeginsLine, HasMoreChunks, HasPassed}
 use Rattle.http_frames.proofs.StepLaws.{through_cut, through_bad, through_much, cut_in_trailer, much_line, bad_end, cut_in_content, whole_chunk}
 use Rattle.http_frames.proofs.TrailerLaws.{trailer_through, no_trailer, lines_push}
 
@@ -57,6 +57,16 @@ passed_chunk bytes at body start end next p b =
       content = ap (λ x. x ++ slice_range (drop at bytes) start end) p.content ∙ ap (λ x. content_of p.chunks ++ x) content ∙ sym (content_of-push p.chunks b.chunk);
       fits = omega arith;
     }
+
+-- a whole chunk that is next is content that wasn't passed
+pub more_chunks : (bytes : List ℕ) (at : ℕ) (body : List ℕ) (start end next : ℕ) → HasPassedChunks bytes at body
+    → BeginsChunk (length body) (drop at bytes) start end next → HasMoreChunks bytes (length body)
+more_chunks bytes at body start end next p b =
+    let sized = b.is.sized in
+    let some = b.is.some in
+    let as_long : length (body ++ slice_range (drop at bytes) start end) ≡ length body + length b.chunk.content =
+    length-append body (slice_range (drop at bytes) start end) ∙ ap (λ x. length body + length x) b.content in
+    (at + next, body ++ slice_range (drop at bytes) start end, passed_chunk bytes at body start end next p b, omega arith)
 
 -- the size line that says 0
 pub passed_last : (bytes : List ℕ) (at : ℕ) (body : List ℕ) (n : ℕ) → HasPassedChunks bytes at body → BeginsLast (drop at bytes) n

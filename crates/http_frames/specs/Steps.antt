@@ -62,6 +62,10 @@ HasPassed true bytes at body = HasPassedLines bytes at body
 abbrev pub HasDecoded : List ℕ → Decoder → Type 0
 HasDecoded bytes d = HasPassed d.in_trailer bytes d.at d.body.items
 
+-- whole chunks stand at the front of the bytes, with more content than so much, and within the limit
+abbrev pub HasMoreChunks : List ℕ → ℕ → Type 0
+HasMoreChunks bytes taken = (at : ℕ) × (body : List ℕ) × HasPassedChunks bytes at body × (taken < length body)
+
 -- what the bytes are, by the answer, with this content where they are whole
 abbrev pub VerdictIs : List ℕ → List ℕ → Verdict → Type 0
 VerdictIs bytes body (verdict.Whole n) = ReadsChunks bytes body (drop n bytes) × (n ≤ length bytes) × (length body ≤ BODY_BYTES)

@@ -1,9 +1,9 @@
 //! Passes over a chunked body as far as it is held, each of its bytes once.
-ghost use Rattle.std.specs.Prelude.{◌≡◌, ℕ, ◌≤◌, List, length, drop, IsTrue, IfOk, MatchOption, ◌↔◌, true, false};
+ghost use Rattle.std.specs.Prelude.{◌≡◌, ℕ, ◌≤◌, List, length, drop, IsTrue, IfOk, OnErr, MatchOption, ◌↔◌, true, false};
 ghost use Rattle.httparse.specs.Grammar.{ChunkLine};
 ghost use Rattle.httparse.specs.Spans.{IsChunkLineAt};
 ghost use Rattle.http_frames.specs.Chunks.{BeginsCrLf, IsEmptyLine};
-ghost use Rattle.http_frames.specs.Steps.{StepIs, LineIs, HasDecoded, VerdictIs, StopIs};
+ghost use Rattle.http_frames.specs.Steps.{StepIs, LineIs, HasDecoded, HasMoreChunks, VerdictIs, StopIs};
 
 use crate::BODY_BYTES;
 use httparse::Status;
@@ -47,13 +47,14 @@ impl Decoder {
 
     /// Goes on as far as these bytes allow, which are those behind the head.
     ///
-    /// After `AllocError` nothing is lost: the same call goes on.
+    /// After `AllocError`, which comes only where a whole chunk is to be kept, nothing is lost: the same call goes on.
     ///
     /// Source: RFC 9112 7.1; the limit is our own.
     pub fn decode(&mut self, bytes: &[u8]) -> Result<Verdict, AllocError>
         requires { HasDecoded bytes.now self.old }
         ensures kept { HasDecoded bytes.now self.new }
         ensures verdict { IfOk result (VerdictIs bytes.now self.new.body.items) }
+        ensures memory { OnErr result (HasMoreChunks bytes.now (length self.new.body.items)) }
     {
         if !self.in_trailer {
             if let Some(verdict) = self.pass_chunks(bytes)? {
@@ -69,6 +70,7 @@ impl Decoder {
         requires in_chunks { self.old.in_trailer ≡ false }
         ensures kept { HasDecoded bytes.now self.new }
         ensures stop { IfOk result (λ stop. MatchOption stop (self.new.in_trailer ≡ true) (StopIs bytes.now self.new.body.items self.new.in_trailer)) }
+        ensures memory { OnErr result (HasMoreChunks bytes.now (length self.new.body.items)) }
     {
         loop {
             let left = rest(bytes, self.at);

@@ -1,8 +1,10 @@
 -- Laws on reading.
-use Rattle.std.proofs.Common.{◌≡◌, ℕ, ◌≤◌, List, [], ◌++◌, length, take, drop, refl, sym, ap, ◌∙◌, arith, append_assoc, append-nil, length-append}
+use Rattle.std.proofs.Common.{◌≡◌, ℕ, ◌≤◌, List, [], ◌++◌, length, take, drop, refl, sym, ap, ◌∙◌, subst, arith, append_assoc, append-nil, length-append}
 use Rattle.std.proofs.lemmas.List.{take_at, take-append-drop, length-take-le}
-use Rattle.site_traits.specs.Counts.{Rose}
-use Rattle.site_traits.specs.Door.{DoorState, Gets}
+use Rattle.site_traits.specs.Counts.{Rose, one_more}
+use Rattle.site_traits.specs.Door.{DoorState, DoorCounts, Gets}
+use Rattle.http_wire.specs.declared.request.WireFault.{WireFault}
+use Rattle.http_wire.specs.Wire.{FaultCounts}
 use Rattle.http_wire.specs.Intake.{IntakeState, OnlyReads, TakesIn}
 
 -- what a read brought was read
@@ -51,6 +53,10 @@ takes_on tells a b c f s = record {
 pub takes_length : (tells : Type 0) (a b : IntakeState) → TakesIn tells a b → length a.held ≤ length b.held
 takes_length tells a b t = omega (arith, ap length t.held, length-append a.held t.more)
 
--- a count that rose later rose
-pub rose_since : (x y z : ℕ) → x ≤ y → Rose y z → Rose x z
+-- a count that one more was added to later rose
+pub rose_since : (x y z : ℕ) → x ≤ y → z ≡ one_more y → Rose x z
 rose_since x y z le rose = omega arith
+
+-- what a fault leaves of the counts, where nothing failed before it
+pub counts_since : (f : WireFault) (a b c : DoorCounts) → b ≡ a → FaultCounts f b c → FaultCounts f a c
+counts_since f a b c same counts = subst (λ (x : DoorCounts). FaultCounts f x c) same counts

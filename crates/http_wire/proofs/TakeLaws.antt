@@ -13,7 +13,7 @@ use Rattle.http_frames.specs.Framing.{fields_of}
 use Rattle.http_frames.specs.Heads.{HasHead, HeadIs, frame_as}
 use Rattle.http_frames.specs.Chunks.{ReadsChunks, ReadsChunked}
 use Rattle.http_frames.specs.Answers.{ChunksCut, ChunksBad, ChunksMuch}
-use Rattle.http_frames.specs.Steps.{HasDecoded}
+use Rattle.http_frames.specs.Steps.{HasDecoded, HasMoreChunks}
 use Rattle.http_frames.specs.Messages.{HasBody, ReadsMessage, HasNoMessage, BeginsBad, BeginsBig, IsCut, IsLongTarget}
 use Rattle.http_frames.proofs.ListLaws.{take_grows}
 use Rattle.http_frames.proofs.FieldLaws.{sized_fits}
@@ -28,7 +28,8 @@ use Rattle.http_frames.specs.declared.chunks.Verdict.TheVariants as verdict
 use Rattle.http_frames.specs.Steps.{VerdictIs}
 use Rattle.http_wire.specs.declared.request.Request.{Request}
 use Rattle.http_wire.specs.Intake.{IntakeState, TakesIn, OnlyReads, NeedsMore}
-use Rattle.http_wire.specs.Wire.{bytes_of, window, HasParts, TakesRequest, OnlyTakesIn}
+use Rattle.http_wire.specs.Wire.{bytes_of, window, HasParts, TakesRequest, OnlyTakesIn, WantsMemory}
+use Rattle.http_wire.specs.Wire.WantsMemory.{to_read_on, for_chunks, for_request}
 
 -- where no byte is left, the bytes are those that are held
 pub all_held : (b : IntakeState) → b.door.conn.left ≡ [] → bytes_of b ≡ b.held
@@ -174,17 +175,37 @@ window_grows tells a b p d t h decoded =
 
 -- ---- a whole request
 
+pub held_request : (held : List ℕ) (p : HeadParts) (content : List ℕ) (end : ℕ) (h : HasHead held p)
+    → HasBody (frame_as p.body) (drop p.len held) content (drop end held)
+    → ReadsMessage held (record { head = h.head; body = content }) (drop end held)
+held_request held p content end h has = record {
+  tail = drop p.len held;
+  reads = h.reads;
+  short = short_head held p h;
+  few = h.few;
+  body = subst (λ (f : Frame). HasBody f (drop p.len held) content (drop end held)) h.body has;
+}
+
 pub request_held : (b : IntakeState) (p : HeadParts) (content : List ℕ) (end : ℕ) (h : HasHead b.held p)
     → HasBody (frame_as p.body) (drop p.len b.held) content (drop end b.held)
     → ReadsMessage (bytes_of b) (record { head = h.head; body = content }) (drop end b.held ++ b.door.conn.left)
 request_held b p content end h has =
-    message_more b.held (record { head = h.head; body = content }) (drop end b.held) b.door.conn.left record {
-      tail = drop p.len b.held;
-      reads = h.reads;
-      short = short_head b.held p h;
-      few = h.few;
-      body = subst (λ (f : Frame). HasBody f (drop p.len b.held) content (drop end b.held)) h.body has;
-    }
+    message_more b.held (record { head = h.head; body = content }) (drop end b.held) b.door.conn.left (held_request b.held p content end h has)
+
+-- ---- want of memory
+
+-- to read on
+pub wants_to_read : (a b : IntakeState) → b ≡ a → NeedsMore a.held → WantsMemory b.held
+wants_to_read a b same needs = subst (λ (i : IntakeState). WantsMemory i.held) (sym same) (to_read_on needs)
+
+-- for a whole request
+pub wants_request : (held : List ℕ) (p : HeadParts) (content : List ℕ) (end : ℕ) → HasHead held p
+    → HasBody (frame_as p.body) (drop p.len held) content (drop end held) → WantsMemory held
+wants_request held p content end h has = for_request (record { head = h.head; body = content }) (drop end held) (held_request held p content end h has)
+
+-- for whole chunks
+pub wants_chunks : (held : List ℕ) (p : HeadParts) (taken : ℕ) → HasHead held p → p.body ≡ body.Chunked → HasMoreChunks (window held p) taken → WantsMemory held
+wants_chunks held p taken h is more = for_chunks p h is (more.0, more.1, more.2, omega (arith, more.3))
 
 pub chunked_held : (held : List ℕ) (p : HeadParts) (n : ℕ) (content : List ℕ) → HasHead held p → p.body ≡ body.Chunked
     → VerdictIs (window held p) content (verdict.Whole n)

@@ -3,8 +3,7 @@ use Rattle.std.specs.Prelude.{◌≡◌, ◌<◌, ◌⊎◌, ℕ, List, [], ◌+
 use Rattle.httparse.specs.Grammar.{EndsInTarget}
 use Rattle.http_frames.specs.Messages.{IsCut}
 use Rattle.std.specs.declared.alloc.AllocError.{AllocError}
-use Rattle.site_traits.specs.Counts.{Rose}
-use Rattle.site_traits.specs.Door.{DoorState, DoorCounts, NoNextFault}
+use Rattle.site_traits.specs.Door.{DoorState, DoorCounts, NoNextFault, call_failed}
 use Rattle.http_wire.specs.declared.intake.Came.{Came}
 use Rattle.http_wire.specs.declared.intake.Came.TheVariants as came
 
@@ -44,9 +43,9 @@ pub record TakesIn (tells : Type 0) (a b : IntakeState) : Type 0 where
 abbrev pub NeedsMore : List ℕ → Type 0
 NeedsMore bytes = (bytes ≡ []) ⊎ (IsCut bytes ⊎ EndsInTarget bytes)
 
--- what one read brought, by its answer
+-- what one read brought, by its answer: one that failed counts as one fault, and no other does
 abbrev pub CameIs : Type 0 → Result Came AllocError → IntakeState → IntakeState → Type 0
-CameIs tells (Ok came.Bytes) a b = length a.held < length b.held
-CameIs tells (Ok came.End) a b = (b.held ≡ a.held) × (tells → b.door.conn.left ≡ [])
-CameIs tells (Ok came.Failed) a b = (b.held ≡ a.held) × Rose a.counts.faults b.counts.faults
+CameIs tells (Ok came.Bytes) a b = (length a.held < length b.held) × (b.counts ≡ a.counts)
+CameIs tells (Ok came.End) a b = (b.held ≡ a.held) × (tells → b.door.conn.left ≡ []) × (b.counts ≡ a.counts)
+CameIs tells (Ok came.Failed) a b = (b.held ≡ a.held) × (b.counts ≡ call_failed a.counts)
 CameIs tells (Err e) a b = b ≡ a

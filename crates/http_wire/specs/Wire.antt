@@ -3,10 +3,12 @@ use Rattle.std.specs.Prelude.{◌≡◌, ◌≤◌, ◌+◌, ◌==◌, ◌||◌,
 use Rattle.http_frames.specs.declared.TheConstants.{CHUNKED_BYTES}
 use Rattle.httparse.specs.Spans.{span_bytes}
 use Rattle.site_traits.specs.Counts.{Rose}
-use Rattle.site_traits.specs.Door.{DoorState, DoorCounts, NoNextFault}
+use Rattle.site_traits.specs.Door.{DoorState, DoorCounts, NoNextFault, call_failed}
+use Rattle.http_frames.specs.declared.head.Body.TheVariants as framing
 use Rattle.http_frames.specs.declared.head.HeadParts.{HeadParts}
 use Rattle.http_frames.specs.Framing.{fields_of, media, closes}
 use Rattle.http_frames.specs.Heads.{HasHead, frame_as}
+use Rattle.http_frames.specs.Steps.{HasMoreChunks}
 use Rattle.http_frames.specs.Messages.{Message, HasBody, ReadsMessage, HasNoMessage, BeginsBad, BeginsBig, IsCut, IsLongTarget}
 use Rattle.httparse.specs.Grammar.{EndsInTarget}
 use Rattle.http_wire.specs.declared.TheConstants.{CONNECTION_REQUESTS}
@@ -16,7 +18,7 @@ use Rattle.http_wire.specs.declared.request.Taken.TheVariants as taken
 use Rattle.http_wire.specs.declared.request.WireFault.{WireFault}
 use Rattle.http_wire.specs.declared.request.WireFault.TheVariants as fault
 use Rattle.http_wire.specs.declared.take.Whole.{Whole}
-use Rattle.http_wire.specs.Intake.{with_door, IntakeState, OnlyReads}
+use Rattle.http_wire.specs.Intake.{with_door, IntakeState, OnlyReads, NeedsMore}
 
 -- what the intake holds, the number of requests of this connection so far, and whether the last of them was its last
 pub record WireState : Type 0 where
@@ -32,6 +34,17 @@ over_door state counts w door = record w { intake = with_door state counts w.int
 abbrev pub bytes_of : IntakeState → List ℕ
 bytes_of i = i.held ++ i.door.conn.left
 
+-- the bytes behind the head of a request, as far as a chunked body may go
+abbrev pub window : List ℕ → HeadParts → List ℕ
+window held p = take CHUNKED_BYTES (drop p.len held)
+
+-- What memory is wanted for, by the bytes that are held: to read on where more bytes are needed, to keep whole chunks, or for a whole
+-- request. So bytes that break the grammar or pass a limit are told as that, but behind a whole chunk that can't be kept (own rule).
+pub data WantsMemory (held : List ℕ) : Type 0 where
+  to_read_on : NeedsMore held → WantsMemory held
+  for_chunks : (p : HeadParts) → HasHead held p → p.body ≡ framing.Chunked → HasMoreChunks (window held p) 0 → WantsMemory held
+  for_request : (m : Message) (rest : List ℕ) → ReadsMessage held m rest → WantsMemory held
+
 -- What the bytes of the connection are, by the fault. The one place where the pieces may show is where they end inside a request
 -- target, or where the first bytes, as many as a head may have, do (own rule).
 abbrev pub FaultIs : Type 0 → IntakeState → IntakeState → WireFault → Type 0
@@ -39,7 +52,20 @@ FaultIs tells a b fault.Malformed = tells → BeginsBad (bytes_of b)
 FaultIs tells a b fault.TooLarge = tells → BeginsBig (bytes_of b) ⊎ IsLongTarget (bytes_of b)
 FaultIs tells a b fault.Unfinished = tells → IsCut (bytes_of b) ⊎ EndsInTarget (bytes_of b)
 FaultIs tells a b fault.Read = Rose a.counts.faults b.counts.faults × HasNoMessage b.held
-FaultIs tells a b fault.Memory = Unit {0}
+FaultIs tells a b fault.Memory = WantsMemory b.held
+
+-- what a fault leaves of the door's counts: one failed read where it is that, and else none (own rule)
+abbrev pub FaultCounts : WireFault → DoorCounts → DoorCounts → Type 0
+FaultCounts fault.Malformed a b = b ≡ a
+FaultCounts fault.TooLarge a b = b ≡ a
+FaultCounts fault.Unfinished a b = b ≡ a
+FaultCounts fault.Read a b = b ≡ call_failed a
+FaultCounts fault.Memory a b = b ≡ a
+
+-- what an answer leaves of the door's counts: one failed read where that is told, and else none (own rule)
+abbrev pub ReadCounts : {T : Type 0} → Result T WireFault → DoorCounts → DoorCounts → Type 0
+ReadCounts (Ok x) a b = b ≡ a
+ReadCounts (Err f) a b = FaultCounts f a b
 
 -- what came at the front of the bytes, by the answer: a head, or no byte
 abbrev pub HeadCame : Type 0 → IntakeState → IntakeState → Result (Option HeadParts) WireFault → Type 0
@@ -56,10 +82,6 @@ SizedCame tells a b due (Err f) = FaultIs tells a b f
 abbrev pub BodyCame : Type 0 → IntakeState → IntakeState → HeadParts → Result Whole WireFault → Type 0
 BodyCame tells a b p (Ok w) = HasBody (frame_as p.body) (drop p.len b.held) w.body.items (drop w.end b.held) × (w.end ≤ length b.held)
 BodyCame tells a b p (Err f) = FaultIs tells a b f
-
--- the bytes behind the head of a request, as far as a chunked body may go
-abbrev pub window : List ℕ → HeadParts → List ℕ
-window held p = take CHUNKED_BYTES (drop p.len held)
 
 -- The request has these parts of the bytes that begin with the head. It is the last one where it asks so or stands at the last place.
 pub record HasParts (held : List ℕ) (p : HeadParts) (content : List ℕ) (at_last : Bool) (r : Request) : Type 0 where

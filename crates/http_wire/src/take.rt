@@ -1,11 +1,11 @@
 //! Takes the head and the body of a request out of an intake, reading no more than they need.
-ghost use Rattle.std.specs.Prelude.{◌≡◌, ◌≤◌, ◌+◌, length, take, true, IfOk, IsOk, option_map};
+ghost use Rattle.std.specs.Prelude.{◌≡◌, ◌≤◌, ◌+◌, length, take, true, IfOk, OnErr, IsOk, option_map};
 ghost use Rattle.httparse.specs.Spans.{span_bytes};
 ghost use Rattle.http_frames.specs.declared.head.Body.TheVariants as bodies;
 ghost use Rattle.http_frames.specs.Heads.{HasHead};
-ghost use Rattle.http_frames.specs.Steps.{HasDecoded, VerdictIs};
+ghost use Rattle.http_frames.specs.Steps.{HasDecoded, HasMoreChunks, VerdictIs};
 ghost use Rattle.http_wire.specs.Intake.{TakesIn};
-ghost use Rattle.http_wire.specs.Wire.{OnlyTakesIn, RequestCame, HeadCame, SizedCame, BodyCame, HasParts, window};
+ghost use Rattle.http_wire.specs.Wire.{OnlyTakesIn, RequestCame, HeadCame, SizedCame, BodyCame, HasParts, ReadCounts, window};
 
 use crate::intake::{Came, Intake};
 use crate::request::{Request, WireFault};
@@ -38,6 +38,7 @@ pub fn take<D: Door>(
     requires up { intake.old.counts.up ≡ true }
     ensures reads { OnlyTakesIn D.tells intake.old intake.new }
     ensures came { RequestCame D.tells at_last intake.old intake.new result }
+    ensures counts { ReadCounts result intake.old.counts intake.new.counts }
 {
     let head = match take_head(intake, room) {
         Ok(Some(head)) => head,
@@ -65,6 +66,7 @@ fn take_head<D: Door>(
     requires up { intake.old.counts.up ≡ true }
     ensures takes { TakesIn D.tells intake.old intake.new }
     ensures came { HeadCame D.tells intake.old intake.new result }
+    ensures counts { ReadCounts result intake.old.counts intake.new.counts }
 {
     'looks: loop {
         let held = intake.held();
@@ -96,6 +98,7 @@ fn take_body<D: Door>(
     ensures takes { TakesIn D.tells intake.old intake.new }
     ensures head { HasHead intake.new.held head }
     ensures came { BodyCame D.tells intake.old intake.new head result }
+    ensures counts { ReadCounts result intake.old.counts intake.new.counts }
 {
     match head.body {
         Body::Empty => Ok(Whole {
@@ -127,6 +130,7 @@ fn take_sized<D: Door>(
     requires up { intake.old.counts.up ≡ true }
     ensures takes { TakesIn D.tells intake.old intake.new }
     ensures came { SizedCame D.tells intake.old intake.new (head.len + length) result }
+    ensures counts { ReadCounts result intake.old.counts intake.new.counts }
 {
     let end = head.len + length;
     'reads: while intake.held().len() < end {
@@ -151,6 +155,7 @@ fn take_chunked<D: Door>(
     requires up { intake.old.counts.up ≡ true }
     ensures takes { TakesIn D.tells intake.old intake.new }
     ensures came { BodyCame D.tells intake.old intake.new head result }
+    ensures counts { ReadCounts result intake.old.counts intake.new.counts }
 {
     let mut decoder = Decoder::new(alloc);
     'looks: loop {
@@ -184,6 +189,7 @@ fn decode_held(decoder: &mut Decoder, held: &[u8], head: HeadParts) -> Result<Ve
     requires decoded { HasDecoded (window held.now head) decoder.old }
     ensures kept { HasDecoded (window held.now head) decoder.new }
     ensures verdict { IfOk result (VerdictIs (window held.now head) decoder.new.body.items) }
+    ensures memory { OnErr result (HasMoreChunks (window held.now head) (length decoder.new.body.items)) }
 {
     let tail = rest(held, head.len);
     decoder.decode(front(tail))

@@ -1,9 +1,9 @@
 //! A connection's requests, one by one.
-ghost use Rattle.std.specs.Prelude.{◌≡◌, [], IfOk, true, false};
+ghost use Rattle.std.specs.Prelude.{◌≡◌, ◌≤◌, [], IfOk, true, false};
 ghost use Rattle.std.specs.Borrow.{Lends, sem};
 ghost use Rattle.http_wire.specs.contracts.wire.Wire.{the_row};
 ghost use Rattle.http_wire.specs.Exact.{IsExact};
-ghost use Rattle.http_wire.specs.Wire.{over_door, bytes_of, TakenIs, OnlyTakesIn};
+ghost use Rattle.http_wire.specs.Wire.{over_door, bytes_of, TakenIs, OnlyTakesIn, ReadCounts};
 
 use crate::CONNECTION_REQUESTS;
 use crate::intake::Intake;
@@ -104,6 +104,8 @@ impl<D: Door> Wire<D> {
         ensures reads { OnlyTakesIn D.tells self.old.intake self.new.intake }
         ensures behind_the_last { self.old.ended ≡ true → self.new ≡ self.old }
         ensures taken { TakenIs D.tells self.old self.new result }
+        ensures counts { ReadCounts result self.old.intake.counts self.new.intake.counts }
+        ensures few { self.new.taken ≤ CONNECTION_REQUESTS }
         ensures exact { D.tells → self.old.ended ≡ false → IsExact (bytes_of self.old.intake) result }
     {
         if self.ended {

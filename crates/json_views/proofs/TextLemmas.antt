@@ -1,7 +1,7 @@
 -- What the constructors of names and lines answer.
-use Rattle.std.proofs.Common.{◌≡◌, List, ℕ, Some, None, Option, refl, ap, ◌↔◌, IsSome}
+use Rattle.std.proofs.Common.{◌≡◌, List, ℕ, Some, None, Option, Bool, true, false, refl, ap, ◌↔◌, IsSome}
 use Rattle.std.specs.Option.{IfSome}
-use Rattle.vnfm_base.specs.Text.{IsName, IsLine}
+use Rattle.vnfm_base.specs.Text.{IsName, IsLine, is_short_text}
 use Rattle.vnfm_base.proofs.TextTests.{test-from_short_text, no_test-from_none}
 use Rattle.json_views.specs.Body.{name_in, line_in}
 
@@ -16,3 +16,10 @@ line_in-some bytes line h = rw (test-from_short_text 2048 bytes h.1) (ap Some h.
 
 pub line_in-none : (bytes : List ℕ) → (IsLine bytes → ⊥) → None ≡ line_in bytes
 line_in-none bytes none = rw (no_test-from_none 2048 bytes none) refl
+
+-- what isn't refused is a line
+pub line_in-there : (bytes : List ℕ) → ((IsLine bytes → ⊥) → ⊥) → IsSome (line_in bytes)
+line_in-there bytes there = of (is_short_text 2048 bytes) refl where
+  of : (b : Bool) → is_short_text 2048 bytes ≡ b → IsSome (line_in bytes)
+  of true e = rw e refl
+  of false e = absurd (there (λ is. let test = test-from_short_text 2048 bytes is in cc))

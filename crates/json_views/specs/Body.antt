@@ -1,9 +1,8 @@
 -- What a request body says. A body is a JSON object; a member that is null is as if absent, and members that aren't asked
 -- for are passed over (SOL 003 5.5.2; RFC 8259).
-use Rattle.std.specs.Prelude.{◌≡◌, ℕ, List, [], length, nat_le, codes, Bool, true, false, if◌then◌else◌, Option, Some, None, option_and_then, Result, Ok, Err, is_some}
-use Rattle.std.specs.Option.{option_map_or}
+use Rattle.std.specs.Prelude.{◌≡◌, ℕ, List, length, nat_le, codes, if◌then◌else◌, Option, Some, None, option_and_then, Result, Ok, Err, is_some}
 use Rattle.std.specs.Str.{is_utf8}
-use Rattle.serde_json.specs.Data.{Data, null, boolean, number, string, array, object}
+use Rattle.serde_json.specs.Data.{Data}
 use Rattle.serde_json.specs.Find.{get, as_str, as_object, as_null}
 use Rattle.serde_json.specs.Read.{read}
 use Rattle.vnfm_base.specs.Text.{is_short_text}

@@ -1,5 +1,5 @@
 -- The view of an instance (SOL 003 5.5.2.2 VnfInstance). Members stand in byte order of their names.
-use Rattle.std.specs.Prelude.{ℕ, List, [], ◌++◌, codes, Option, Some, None}
+use Rattle.std.specs.Prelude.{ℕ, List, ◌++◌, codes, Option, Some, None}
 use Rattle.serde_json.specs.Data.{Data, string, object, Members, no_members, member}
 use Rattle.serde_json.specs.Written.{compact_text}
 use Rattle.vnfm_base.specs.Ident.{ident, ident_text}

@@ -1,6 +1,6 @@
 -- The members of a view as they are put, one after another.
-use Rattle.std.specs.Prelude.{List, ℕ, [], codes}
-use Rattle.serde_json.specs.Data.{Data, string, object, Members, no_members, member, put}
+use Rattle.std.specs.Prelude.{List, ℕ, codes}
+use Rattle.serde_json.specs.Data.{Data, string, Members, no_members, member, put}
 use Rattle.lcm_events.specs.declared.descriptor.Vnfd.{Vnfd}
 
 -- the members on the descriptor's product put to these

@@ -1,5 +1,5 @@
 //! Request bodies: a JSON object, and its members in order.
-ghost use Rattle.std.specs.Prelude.{◌≡◌, codes, length, nat_le, true, IsUtf8, IfOk, IfErr, option_map, option_and_then};
+ghost use Rattle.std.specs.Prelude.{◌≡◌, codes, length, nat_le, true, IsUtf8, IfOk, IfErr, IsOk, IsSome, option_map, option_and_then};
 ghost use Rattle.serde_json.specs.Errors.{IsMemory};
 ghost use Rattle.serde_json.specs.View.{view};
 ghost use Rattle.vnfm_base.specs.Text.{is_label};
@@ -45,7 +45,8 @@ pub struct CreateBody {
 /// Reads the body of a create request.
 ///
 /// Refusals: `Malformed` exactly where the bytes are no JSON object; `Lacks` and `Wrong` with the first member that fails,
-/// in the order `vnfdId`, `vnfInstanceName`, `vnfInstanceDescription`; `Memory`.
+/// in the order `vnfdId`, `vnfInstanceName`, `vnfInstanceDescription`; `Memory`, where there was none to read the bytes as
+/// JSON, or for a body that would be taken.
 pub fn read_create(alloc: Global, bytes: &[u8]) -> Result<CreateBody, BodyFault>
     ensures { Gives result (create_of bytes.now) }
 {
@@ -54,7 +55,8 @@ pub fn read_create(alloc: Global, bytes: &[u8]) -> Result<CreateBody, BodyFault>
 }
 
 fn create_body(alloc: Global, value: &Value) -> Result<CreateBody, BodyFault>
-    ensures { Gives result (create_in (view value.now)) }
+    ensures gives { Gives result (create_in (view value.now)) }
+    ensures memory { result ≡ Err BodyFault.Memory → IsOk (create_in (view value.now)) }
 {
     let vnfd = needed_name(value, "vnfdId")?;
     let name = optional_name(value, "vnfInstanceName")?;
@@ -129,6 +131,7 @@ fn some_name_from(bytes: &[u8]) -> Option<Name>
 fn line_from(alloc: Global, bytes: &[u8]) -> Result<Option<Line>, BodyFault>
     ensures ok { IfOk result (λ line. line ≡ line_in bytes.now) }
     ensures err { IfErr result (λ fault. fault ≡ BodyFault.Memory) }
+    ensures memory { IfErr result (λ fault. IsSome (line_in bytes.now)) }
 {
     match Line::of(alloc, bytes) {
         Ok(line) => Ok(Some(line)),
@@ -169,7 +172,8 @@ fn optional_name(value: &Value, name: &str) -> Result<Option<Name>, BodyFault>
 /// A line that may be absent.
 fn optional_line(alloc: Global, value: &Value, name: &str) -> Result<Option<Line>, BodyFault>
     requires { is_label name.now ≡ true }
-    ensures { Gives result (optional line_in name.now (view value.now)) }
+    ensures gives { Gives result (optional line_in name.now (view value.now)) }
+    ensures memory { result ≡ Err BodyFault.Memory → IsOk (optional line_in name.now (view value.now)) }
 {
     let Some(found) = member(value, name) else {
         return Ok(None);

@@ -1,6 +1,6 @@
 -- Which answers tell that the disk failed.
-use Rattle.std.proofs.Common.{◌≡◌, ◌<◌, ℕ, refl, sym, subst, ap}
-use Rattle.site_traits.specs.Counts.{SiteCounts, Ask, asked, OnlyDiskFails}
+use Rattle.std.proofs.Common.{◌≡◌, refl, subst}
+use Rattle.site_traits.specs.Counts.{SiteCounts, asked, OnlyDiskFails}
 use Rattle.site_traits.specs.Counts.Ask.{sync}
 
 -- nothing was asked of the site

@@ -2,4 +2,6 @@ pub mod DiskLemmas
 pub mod AddedLemmas
 mod ListenLemmas
 mod StepLemmas
+mod StepsLemmas
+pub mod TalkLemmas
 pub mod TellLemmas

@@ -1,5 +1,5 @@
 -- Bytes that come in one piece after another.
-use Rattle.std.proofs.Common.{◌≡◌, ◌≤◌, ◌<◌, ◌+◌, ◌-◌, ℕ, List, [], ◌++◌, take, drop, length, ap, ◌∙◌, sym, subst, arith, refl, Bool, true, false}
+use Rattle.std.proofs.Common.{◌≡◌, ◌≤◌, ◌+◌, ◌-◌, ℕ, List, [], ◌++◌, take, drop, length, ap, ◌∙◌, sym, arith, false}
 use Rattle.std.proofs.Math.Seq.{take-add, take-append-add}
 use Rattle.std.proofs.lemmas.List.{drop-drop, length-append, length-drop, length-take-le, take-append-le, take-take, take_all}
 use Rattle.site_traits.specs.Door.{Conn, DoorState, ConnIs, Gets, has_read}

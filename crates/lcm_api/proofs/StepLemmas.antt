@@ -1,11 +1,7 @@
 -- What a create request comes to, by the numbers of the history.
 use Rattle.std.specs.Prelude.{is_some, true}
 use Rattle.std.proofs.Common.{◌≡◌, ◌≤◌, ◌<◌, ◌+◌, ℕ, Bool, List, [], ◌∷◌, length, Option, Some, None, arith, refl, ap, ◌∙◌, sym, codes, ◌++◌, inl}
-use Rattle.site_traits.specs.Site.{SiteState, LeavesOnly}
-use Rattle.site_traits.proofs.Moments.{started}
-use Rattle.executor.specs.Managed.{Managed, StandsFor}
-use Rattle.executor.proofs.ManagerLemmas.{stands_everywhere}
-use Rattle.lcm_api.specs.Answering.{HasOr}
+use Rattle.executor.specs.Managed.{Managed}
 use Rattle.std.proofs.lemmas.Bool.{lt-leb, le-leb, lt-ltb, le-ltb}
 use Rattle.std.proofs.lemmas.List.{length-append}
 use Rattle.event_codec.specs.Spell as spell
@@ -14,6 +10,7 @@ use Rattle.event_codec.specs.Valid.{IsEvent, Optionally}
 use Rattle.vnfm_base.specs.Text.{IsName, IsLine}
 use Rattle.json_views.specs.declared.body.CreateBody.{CreateBody}
 use Rattle.lcm_events.specs.declared.events.Event.{Event}
+use Rattle.lcm_events.specs.declared.events.EventKind.TheVariants.{Created}
 use Rattle.lcm_events.specs.declared.descriptor.Vnfd.{Vnfd}
 use Rattle.lcm_model.specs.Lives.{descriptor_named, instances_made, live_instances}
 use Rattle.lcm_api.specs.Outcome.{Outcome, create_outcome, creation, created, refused, refusal, journal_size}
@@ -22,6 +19,10 @@ use Rattle.lcm_api.specs.declared.reply.Reply.{Reply}
 use Rattle.lcm_api.specs.declared.answer.Step.TheVariants.{Refused, Creates}
 use Rattle.executor.specs.History.{spellings}
 use Rattle.journal_core.specs.File.{size}
+
+-- the creation of the instance of this number
+abbrev pub created_as : ℕ → ℕ → CreateBody → Event
+created_as n now body = record { moment = now; kind = Created n body.vnfd body.name body.text }
 
 length-u64 : (n : ℕ) → length (u64 n) ≡ 8
 unfolding u64
@@ -48,17 +49,13 @@ fields_short n v o t short name text =
     omega (arith, a, b, c, length-u64 n)
 
 -- a creation's spelling fits a record
-pub creation_fits : (H : List Event) (now : ℕ) (body : CreateBody) → IsEvent (creation H now body) → length (spelling (creation H now body)) ≤ 65536
+pub creation_fits : (n : ℕ) (now : ℕ) (body : CreateBody) → IsEvent (created_as n now body) → length (spelling (created_as n now body)) ≤ 65536
 unfolding spelling
-creation_fits H now body is =
+creation_fits n now body is =
     let vnfd : length body.vnfd ≤ 255 = is.1.1.short in
-    let short = fields_short (instances_made H + 1) body.vnfd body.name body.text vnfd (short_name body.name is.1.2) (short_line body.text is.1.3) in
-    let all = length-append (u64 now) (u64 (instances_made H + 1) ++ (spell.name body.vnfd ++ (spell.optional spell.name body.name ++ spell.optional spell.line body.text))) in
+    let short = fields_short n body.vnfd body.name body.text vnfd (short_name body.name is.1.2) (short_line body.text is.1.3) in
+    let all = length-append (u64 now) (u64 n ++ (spell.name body.vnfd ++ (spell.optional spell.name body.name ++ spell.optional spell.line body.text))) in
     omega (arith, all, short, length-u64 now)
-
--- where nothing changes, a stop leaves the history
-pub leaves_history : (m : Managed) (added : List Event) (s : SiteState) → StandsFor m s → LeavesOnly (HasOr m.ledger.manager m.history added) s s
-leaves_history m added s stands = started (HasOr m.ledger.manager m.history added) s (λ p left. record { file = inl (stands_everywhere m s stands p left) })
 
 -- its descriptor wasn't onboarded
 pub unknown_outcome : (m : ℕ) (H : List Event) (now : ℕ) (body : CreateBody) (last : Bool) → descriptor_named H body.vnfd ≡ None
@@ -88,31 +85,33 @@ unfolding journal_size
 size_is H = refl
 
 -- the event may be recorded now
-may_create_now : (m : Managed) (now : ℕ) (body : CreateBody) → is_some (descriptor_named m.history body.vnfd) ≡ true → length (live_instances m.history) < 1000
-    → m.ledger.end + 6 + length (spelling (creation m.history now body)) ≤ 201326592 → MayCreateNow m (creation m.history now body)
-may_create_now m now body known room fits = record {
-  rules = λ typed. typed;
-  fits = creation_fits m.history now body;
-  allowed = record { number = refl; onboarded = known; room = room };
-  unsettled = refl;
+may_create_now : (m : Managed) (H : List Event) (now : ℕ) (body : CreateBody) → is_some (descriptor_named H body.vnfd) ≡ true → length (live_instances H) < 1000
+    → m.ledger.end + 6 + length (spelling (creation H now body)) ≤ 201326592 → MayCreateNow m H (creation H now body)
+may_create_now m H now body known room fits = record {
+  may = record {
+    rules = λ typed. typed;
+    fits = creation_fits (instances_made H + 1) now body;
+    allowed = record { number = refl; onboarded = known; room = room };
+    unsettled = refl;
+  };
   room = fits;
 }
 
 -- the request creates the instance
-pub step_creates : (m : Managed) (now : ℕ) (body : CreateBody) (last : Bool) (vnfd : Vnfd) (reply : Reply) (event : Event) → descriptor_named m.history body.vnfd ≡ Some vnfd → m.ledger.end ≡ size (spellings m.history)
-    → length (live_instances m.history) < 1000 → m.ledger.end + 6 + length (spelling event) ≤ 201326592 → event ≡ creation m.history now body
-    → reply ≡ created m.ledger.manager (instances_made m.history + 1) body vnfd last → IsStep (create_outcome m.ledger.manager m.history now body last) m (Creates event reply)
-step_creates m now body last vnfd reply event known end room fits event_is reply_is =
+pub step_creates : (m : Managed) (H : List Event) (now : ℕ) (body : CreateBody) (last : Bool) (vnfd : Vnfd) (reply : Reply) (event : Event) → descriptor_named H body.vnfd ≡ Some vnfd → m.ledger.end ≡ size (spellings H)
+    → length (live_instances H) < 1000 → m.ledger.end + 6 + length (spelling event) ≤ 201326592 → event ≡ creation H now body
+    → reply ≡ created m.ledger.manager (instances_made H + 1) body vnfd last → IsStep (create_outcome m.ledger.manager H now body last) m H (Creates event reply)
+step_creates m H now body last vnfd reply event known end room fits event_is reply_is =
     rw (event_is, reply_is)
-    (let within : m.ledger.end + 6 + length (spelling (creation m.history now body)) ≤ 201326592 = rw event_is at fits in
-    let full : journal_size m.history + 6 + length (spelling (creation m.history now body)) ≤ 201326592 = rw (size_is m.history, ← end) within in
-    (room_outcome m.ledger.manager m.history now body last vnfd known room full, may_create_now m now body (ap is_some known) room within))
+    (let within : m.ledger.end + 6 + length (spelling (creation H now body)) ≤ 201326592 = rw event_is at fits in
+    let full : journal_size H + 6 + length (spelling (creation H now body)) ≤ 201326592 = rw (size_is H, ← end) within in
+    (room_outcome m.ledger.manager H now body last vnfd known room full, may_create_now m H now body (ap is_some known) room within))
 
 -- the request finds the journal full
-pub step_full : (m : Managed) (now : ℕ) (body : CreateBody) (last : Bool) (vnfd : Vnfd) (reply : Reply) (event : Event) → descriptor_named m.history body.vnfd ≡ Some vnfd → m.ledger.end ≡ size (spellings m.history)
-    → length (live_instances m.history) < 1000 → 201326592 < m.ledger.end + 6 + length (spelling event) → event ≡ creation m.history now body
-    → reply ≡ refusal 507 (codes "journal full") last → IsStep (create_outcome m.ledger.manager m.history now body last) m (Refused reply)
-step_full m now body last vnfd reply event known end room over event_is reply_is =
+pub step_full : (m : Managed) (H : List Event) (now : ℕ) (body : CreateBody) (last : Bool) (vnfd : Vnfd) (reply : Reply) (event : Event) → descriptor_named H body.vnfd ≡ Some vnfd → m.ledger.end ≡ size (spellings H)
+    → length (live_instances H) < 1000 → 201326592 < m.ledger.end + 6 + length (spelling event) → event ≡ creation H now body
+    → reply ≡ refusal 507 (codes "journal full") last → IsStep (create_outcome m.ledger.manager H now body last) m H (Refused reply)
+step_full m H now body last vnfd reply event known end room over event_is reply_is =
     rw reply_is
-    (let beyond : 201326592 < m.ledger.end + 6 + length (spelling (creation m.history now body)) = rw event_is at over in
-    full_outcome m.ledger.manager m.history now body last vnfd known room (rw (size_is m.history, ← end) beyond))
+    (let beyond : 201326592 < m.ledger.end + 6 + length (spelling (creation H now body)) = rw event_is at over in
+    full_outcome m.ledger.manager H now body last vnfd known room (rw (size_is H, ← end) beyond))

@@ -1,5 +1,5 @@
 -- What reading a connection to its end does.
-use Rattle.std.specs.Prelude.{◌≡◌, ◌≤◌, ℕ, List, length, take, Bool, false, if◌then◌else◌}
+use Rattle.std.specs.Prelude.{◌≡◌, ℕ, List, length, take, Bool, false, if◌then◌else◌}
 use Rattle.site_traits.specs.Door.{Conn, DoorState, ConnIs, has_read, read_broke}
 
 -- the connection once n bytes more were read, and, where it failed, one read then failed

@@ -1,8 +1,12 @@
 pub mod Answering
 pub mod Hearing
 pub mod Judging
+pub mod Laws
 pub mod Mouth
 pub mod Outcome
 pub mod Response
+pub mod Session
+pub mod Step
 pub mod Steps
+pub mod Talking
 pub mod Telling

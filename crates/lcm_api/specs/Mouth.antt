@@ -1,5 +1,5 @@
 -- What a mouth stands for, and what its calls do: a wire, and the request in hand with its role.
-use Rattle.std.specs.Prelude.{◌≡◌, List, [], Bool, true, false, Option, Some, None, Result, Ok, Err}
+use Rattle.std.specs.Prelude.{◌≡◌, [], Bool, true, false, Option, Some, None, Result, Ok, Err}
 use Rattle.lcm_events.specs.declared.states.Role.{Role}
 use Rattle.http_wire.specs.declared.request.Request.{Request}
 use Rattle.http_wire.specs.declared.request.Taken.{Taken}

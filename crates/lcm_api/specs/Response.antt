@@ -1,6 +1,5 @@
 -- The bytes of an answer (RFC 9112 4 Status Line, 5 Field Syntax; RFC 9110 8.3 Content-Type, 10.2.1 Allow, 10.2.2 Location).
 use Rattle.std.specs.Prelude.{ℕ, ◌==◌, List, [], ◌∷◌, ◌++◌, length, codes, decimal, if◌then◌else◌, Option, Some, None, Bool}
-use Rattle.std.specs.Option.{option_map_or}
 use Rattle.lcm_api.specs.declared.reply.Reply.{Reply}
 
 -- the reason of a status (RFC 9110 15 Status Codes)

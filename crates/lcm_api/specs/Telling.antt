@@ -1,5 +1,5 @@
 -- What telling bytes to a connection does.
-use Rattle.std.specs.Prelude.{◌≡◌, ℕ, List, [], take, Result, Ok, Err}
+use Rattle.std.specs.Prelude.{ℕ, List, take, Result, Ok, Err}
 use Rattle.site_traits.specs.Counts.{Rose}
 use Rattle.site_traits.specs.Door.{DoorState, DoorCounts, ConnIs, has_written, write_broke, NoNextFault}
 use Rattle.lcm_api.specs.declared.door.DoorFailed.{DoorFailed}

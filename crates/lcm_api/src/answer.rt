@@ -5,8 +5,9 @@ ghost use Rattle.event_codec.specs.Valid.{IsEvent};
 ghost use Rattle.event_codec.specs.Typed.{TypedEvent};
 ghost use Rattle.lcm_events.specs.declared.events.Event.{Event};
 ghost use Rattle.site_traits.specs.Counts.{OnlyDiskFails};
-ghost use Rattle.executor.specs.Managed.{Managed, StandsFor};
-ghost use Rattle.lcm_api.specs.Answering.{Answers, Leads};
+ghost use Rattle.executor.specs.Managed.{IsReady, Keeps};
+ghost use Rattle.executor.specs.Work.{Works};
+ghost use Rattle.lcm_api.specs.Answering.{answered};
 ghost use Rattle.lcm_api.specs.Steps.{IsStep, MayCreateNow};
 ghost use Rattle.lcm_events.specs.declared.events.EventKind.TheVariants.{Created};
 ghost use Rattle.lcm_api.specs.Outcome.{outcome, create_outcome, creation, is_full, refusal};
@@ -58,11 +59,10 @@ pub fn answer<S: Site>(
     request: &Request,
     now: Moment,
 ) -> Result<Reply, ApiFault>
-    requires usable { manager.old.ledger.closed ≡ false }
-    requires stands { S.tells → StandsFor manager.old (S.state site.old) }
-    ensures leads { Leads (outcome manager.old.ledger.manager manager.old.history now request.now) result manager.old manager.new }
-    ensures number { manager.new.ledger.manager ≡ manager.old.ledger.manager }
-    ensures told { S.tells → Answers (outcome manager.old.ledger.manager manager.old.history now request.now) result manager.old manager.new (S.state site.old) (S.state site.new) }
+    requires ready { (H : List Event) × IsReady S.tells manager.old H (S.state site.old) }
+    ensures reply { (H : List Event) → Keeps manager.old H → IfOk result (λ given. given ≡ (outcome manager.old.ledger.manager H now request.now).reply) }
+    ensures works { (H : List Event) → IsReady S.tells manager.old H (S.state site.old) → Works S.tells manager.old.ledger.manager H
+        (answered (outcome manager.old.ledger.manager H now request.now) H result) manager.new (S.state site.old) (S.state site.new) }
     ensures counts { OnlyDiskFails (result ≡ Err ApiFault.Disk) (S.counts site.old) (S.counts site.new) }
 {
     match judge(alloc, request) {
@@ -81,11 +81,10 @@ fn create<S: Site>(
     now: Moment,
     last: bool,
 ) -> Result<Reply, ApiFault>
-    requires usable { manager.old.ledger.closed ≡ false }
-    requires stands { S.tells → StandsFor manager.old (S.state site.old) }
-    ensures leads { Leads (create_outcome manager.old.ledger.manager manager.old.history now body last) result manager.old manager.new }
-    ensures number { manager.new.ledger.manager ≡ manager.old.ledger.manager }
-    ensures told { S.tells → Answers (create_outcome manager.old.ledger.manager manager.old.history now body last) result manager.old manager.new (S.state site.old) (S.state site.new) }
+    requires ready { (H : List Event) × IsReady S.tells manager.old H (S.state site.old) }
+    ensures reply { (H : List Event) → Keeps manager.old H → IfOk result (λ given. given ≡ (create_outcome manager.old.ledger.manager H now body last).reply) }
+    ensures works { (H : List Event) → IsReady S.tells manager.old H (S.state site.old) → Works S.tells manager.old.ledger.manager H
+        (answered (create_outcome manager.old.ledger.manager H now body last) H result) manager.new (S.state site.old) (S.state site.new) }
     ensures counts { OnlyDiskFails (result ≡ Err ApiFault.Disk) (S.counts site.old) (S.counts site.new) }
 {
     match prepare(alloc, manager, body, now, last) {
@@ -109,7 +108,7 @@ fn prepare<S: Site>(
 ) -> Result<Step, AllocError>
     requires usable { manager.old.ledger.closed ≡ false }
     ensures kept { manager.new ≡ manager.old }
-    ensures step { IfOk result (IsStep (create_outcome manager.old.ledger.manager manager.old.history now body last) manager.old) }
+    ensures step { (H : List Event) → Keeps manager.old H → IfOk result (IsStep (create_outcome manager.old.ledger.manager H now body last) manager.old H) }
 {
     let Some(vnfd) = manager.vnfd(&body.vnfd) else {
         return Ok(Step::Refused(refusal(alloc, 422, "vnfdId is not onboarded", last)?));
@@ -151,12 +150,10 @@ fn record<S: Site>(
     event: &Event,
     reply: Reply,
 ) -> Result<Reply, ApiFault>
-    requires usable { manager.old.ledger.closed ≡ false }
-    requires stands { S.tells → StandsFor manager.old (S.state site.old) }
-    requires creates { MayCreateNow manager.old event.now }
-    ensures leads { Leads (record { reply = reply; after = event.now ∷ [] }) result manager.old manager.new }
-    ensures number { manager.new.ledger.manager ≡ manager.old.ledger.manager }
-    ensures told { S.tells → Answers (record { reply = reply; after = event.now ∷ [] }) result manager.old manager.new (S.state site.old) (S.state site.new) }
+    requires creates { (H : List Event) × IsReady S.tells manager.old H (S.state site.old) × MayCreateNow manager.old H event.now }
+    ensures reply { IfOk result (λ given. given ≡ reply) }
+    ensures works { (H : List Event) → IsReady S.tells manager.old H (S.state site.old) → Works S.tells manager.old.ledger.manager H
+        (answered (record { reply = reply; after = event.now ∷ [] }) H result) manager.new (S.state site.old) (S.state site.new) }
     ensures counts { OnlyDiskFails (result ≡ Err ApiFault.Disk) (S.counts site.old) (S.counts site.new) }
 {
     match manager.commit(alloc, site, event) {

@@ -29,12 +29,7 @@ pub fn judge(alloc: Global, request: &Request) -> Result<Verdict, AllocError>
     ensures { IfOk result (IsVerdict request.now) }
 {
     if !is_create(request) {
-        return Ok(Verdict::Refused(refusal(
-            alloc,
-            404,
-            "no such resource",
-            request.last,
-        )?));
+        return Ok(Verdict::Refused(refusal(alloc, 404, "no such resource", request.last)?));
     }
     match read_create(alloc, request.body.as_slice()) {
         Ok(body) => Ok(Verdict::Create(body)),

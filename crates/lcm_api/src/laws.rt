@@ -1,7 +1,15 @@
-//! The limits of what a request may ask for, as the contract of a call that does nothing.
+//! What holds of every reply, and the limits of what a request may ask for, as the contracts of calls that do nothing.
 ghost use Rattle.std.specs.Prelude.{◌≡◌};
+ghost use Rattle.lcm_api.specs.Laws.{AreLastAsAsked};
 
 use crate::answer::{MAX_INSTANCES, MAX_REQUESTED};
+
+/// The connection ends with the reply to a request exactly where it ends with the request.
+///
+/// Source: RFC 9112 9.6.
+pub fn a_reply_is_last_where_its_request_is()
+    ensures { AreLastAsAsked }
+{}
 
 /// That the limits of what a request may ask for are these. It does nothing, and its contract is the law.
 ///

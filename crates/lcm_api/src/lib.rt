@@ -9,12 +9,14 @@ mod listen;
 mod mouth;
 mod outgoing;
 mod reply;
+mod session;
 mod tell;
 
 pub use answer::{ApiFault, MAX_INSTANCES, MAX_REQUESTED};
 pub use door::DoorFailed;
 pub use http_wire::{Request, WireFault};
-pub use laws::limits_are_fixed;
+pub use laws::{a_reply_is_last_where_its_request_is, limits_are_fixed};
 pub use listen::Reading;
 pub use mouth::Mouth;
 pub use reply::Reply;
+pub use session::{Closed, answer_session};

@@ -2,8 +2,8 @@
 ghost use Rattle.std.specs.Prelude.{◌≡◌, ◌≤◌, ◌<◌, length, take, IfOk, Some, is_some, true, false};
 ghost use Rattle.site_traits.specs.Counts.{Rose};
 ghost use Rattle.site_traits.specs.Door.{Nexts, HangsUp, NextCause, NoNextFault, closed};
-ghost use Rattle.http_wire.specs.Wire.{OnlyTakesIn};
-ghost use Rattle.lcm_api.specs.Answering.{IsAcknowledged, IsEverywhere};
+ghost use Rattle.http_wire.specs.Wire.{OnlyTakesIn, ReadCounts};
+ghost use Rattle.lcm_api.specs.Answering.{IsAcknowledged};
 ghost use Rattle.lcm_api.specs.Hearing.{Hears};
 ghost use Rattle.lcm_api.specs.Mouth.{Begins, Heard, OnlyAtDoor};
 ghost use Rattle.lcm_api.specs.Response.{text};
@@ -15,7 +15,7 @@ use crate::outgoing::Outgoing;
 use crate::reply::Reply;
 use crate::tell::tell_reply;
 use executor::Manager;
-use http_wire::{Request, Taken, Wire, WireFault};
+use http_wire::{CONNECTION_REQUESTS, Request, Taken, Wire, WireFault};
 use lcm_events::Role;
 use site_traits::{Door, NextAnswer, Site};
 use std::alloc::{AllocError, Global};
@@ -117,6 +117,8 @@ impl<D: Door> Mouth<D> {
         ensures behind_the_last { self.old.wire.ended ≡ true → self.new.wire ≡ self.old.wire }
         ensures heard { Heard D.tells result self.old self.new }
         ensures role { self.new.role ≡ role }
+        ensures counts { ReadCounts result self.old.wire.intake.counts self.new.wire.intake.counts }
+        ensures few { self.new.wire.taken ≤ CONNECTION_REQUESTS }
     {
         self.hand = None;
         self.role = role;
@@ -132,8 +134,8 @@ impl<D: Door> Mouth<D> {
 
     /// Tells a reply to the connection, with one write for every reply of at most 65,536 bytes.
     ///
-    /// Condition: the connection is up. Conditions of a reply below 400: it is the outcome of the request in hand, and its events
-    /// end the manager's history, which every stop leaves.
+    /// Condition: the connection is up. Condition of a reply below 400: the manager is open, the reply is the outcome of the request
+    /// in hand, and its events end the manager's history, which every stop leaves.
     /// Refusal: `DoorFailed` where a write failed: the door's count of faults rose, and a front of the bytes went out.
     /// Source: RFC 9112 4, 5, 6.2, 9.6.
     pub fn tell<S: Site>(
@@ -143,9 +145,7 @@ impl<D: Door> Mouth<D> {
         reply: &Reply,
     ) -> Result<(), DoorFailed>
         requires up { self.old.wire.intake.counts.up ≡ true }
-        requires usable { reply.now.status < 400 → manager.now.ledger.closed ≡ false }
-        requires acknowledged { reply.now.status < 400 → IsAcknowledged manager.now self.old.hand reply.now }
-        requires everywhere { S.tells → reply.now.status < 400 → IsEverywhere manager.now (S.state site.now) }
+        requires acknowledged { reply.now.status < 400 → IsAcknowledged S.tells manager.now (S.state site.now) self.old.hand reply.now }
         ensures told { D.tells → Tells (text reply.now) result self.old.wire.intake.door self.new.wire.intake.door }
         ensures cause { TellCause result self.old.wire.intake.counts self.new.wire.intake.counts }
         ensures kept { OnlyAtDoor self.old self.new }

@@ -1,7 +1,7 @@
 use Rattle.std.proofs.Common.{List, ℕ, subst}
 use Rattle.http_wire.specs.Wire.{HasParts}
 use Rattle.http_wire.proofs.IntakeLaws.{takes_on}
-use Rattle.http_wire.proofs.TakeLaws.{only_takes, only_takes_and_passes, takes_request}
+use Rattle.http_wire.proofs.TakeLaws.{only_takes, only_takes_and_passes, takes_request, bytes_stay, wants_request}
 use Rattle.http_wire.proofs.take.take.Goals as goal
 
 pub returns-in-Err-take_body-clause-reads : goal.returns-in-Err-take_body-clause-reads
@@ -23,3 +23,10 @@ returns-clause-came g c = takes_request g.D.Door.tells c.args.at_last c.args.int
     (takes_on g.D.Door.tells c.args.intake.now c.take_head.new.intake c.take_body.new.intake c.in-Ok-Some.ensures.takes c.in-Ok.ensures.takes)
     c.in-Ok.ensures.head c.in-Ok.ensures.came.0 c.pass.ensures.held c.pass.ensures.door
     (subst (λ (x : List ℕ). HasParts x c.in-Ok-Some.head c.in-Ok.whole.body.items c.args.at_last c.in-Ok-request_of.request) c.held.ensures c.in-Ok-request_of.ensures)
+
+pub returns-in-Err-request_of-clause-came : goal.returns-in-Err-request_of-clause-came
+returns-in-Err-request_of-clause-came g c = (
+  bytes_stay g.D.Door.tells c.args.intake.now c.take_body.new.intake
+      (takes_on g.D.Door.tells c.args.intake.now c.take_head.new.intake c.take_body.new.intake c.in-Ok-Some.ensures.takes c.in-Ok.ensures.takes),
+  wants_request c.take_body.new.intake.held c.in-Ok-Some.head c.in-Ok.whole.body.items c.in-Ok.whole.end c.in-Ok.ensures.head c.in-Ok.ensures.came.0,
+)

@@ -1,16 +1,16 @@
-use Rattle.std.proofs.Common.{◌≡◌, ◌+◌, ◌-◌, ◌≤◌, List, ℕ, length, drop, sym, ap, ◌∙◌, subst, arith}
+use Rattle.std.proofs.Common.{◌≡◌, ◌+◌, ◌-◌, ◌≤◌, List, ℕ, length, drop, refl, sym, ap, ◌∙◌, subst, arith}
 use Rattle.std.proofs.lemmas.List.{length-drop}
 use Rattle.http_frames.specs.declared.TheConstants.{HEAD_BYTES, CHUNKED_BYTES}
 use Rattle.http_frames.specs.declared.chunks.Verdict.TheVariants as verdict
-use Rattle.http_frames.specs.Steps.{VerdictIs, HasDecoded}
+use Rattle.http_frames.specs.Steps.{VerdictIs, HasDecoded, HasMoreChunks}
 use Rattle.http_frames.specs.Messages.{HasNoMessage}
 use Rattle.http_wire.specs.Wire.{window}
 use Rattle.http_wire.proofs.IntakeLaws.{takes_none, takes_on, rose_since}
-use Rattle.http_wire.proofs.TakeLaws.{head_stays, chunked_held, chunked_end_fits, chunked_breaks, chunked_overflows, chunked_goes_on, chunked_needs_more, chunked_breaks_off, chunked_has_none, window_grows}
+use Rattle.http_wire.proofs.TakeLaws.{head_stays, chunked_held, chunked_end_fits, chunked_breaks, chunked_overflows, chunked_goes_on, chunked_needs_more, chunked_breaks_off, chunked_has_none, window_grows, wants_to_read, wants_chunks}
 use Rattle.http_wire.proofs.take.take_chunked.Goals as goal
 
 pub looks-init : goal.looks-init
-looks-init g c = (takes_none g.D.Door.tells c.args.intake.now, c.requires.head, c.new-decoder.ensures (window c.args.intake.now.held c.args.head))
+looks-init g c = (takes_none g.D.Door.tells c.args.intake.now, c.requires.head, c.new-decoder.ensures (window c.args.intake.now.held c.args.head), refl)
 
 pub overflow_add-result : goal.overflow_add-result
 overflow_add-result g c =
@@ -62,6 +62,7 @@ looks-preserved g c =
       takes_on g.D.Door.tells c.args.intake.now c.looks.intake c.read_on.new.self c.looks.invariant.0 c.in-Ok-Bytes.ensures.takes,
       head_stays g.D.Door.tells c.looks.intake c.read_on.new.self c.args.head c.in-Ok-Bytes.ensures.takes c.looks.invariant.1,
       window_grows g.D.Door.tells c.looks.intake c.read_on.new.self c.args.head c.decode_held.new.decoder c.in-Ok-Bytes.ensures.takes c.looks.invariant.1 kept,
+      (rw c.in-Ok-Bytes.field-0-is at c.in-Ok-Bytes.ensures.came).1 ∙ c.looks.invariant.3,
     )
 
 pub returns-in-Ok-End-clause-takes : goal.returns-in-Ok-End-clause-takes
@@ -86,9 +87,23 @@ returns-in-Ok-Failed-clause-came g c =
     let behind : length (drop c.args.head.len c.looks.intake.held) ≡ length c.looks.intake.held - c.args.head.len = length-drop c.args.head.len c.looks.intake.held in
     let same : length c.held-held.result.now ≡ length c.looks.intake.held = ap length c.held-held.ensures in
     let came = rw c.in-Ok-Failed.field-0-is at c.in-Ok-Failed.ensures.came in (
-      rose_since c.args.intake.now.counts.faults c.looks.intake.counts.faults c.read_on.new.self.counts.faults c.looks.invariant.0.counts.faults came.1,
+      rose_since c.args.intake.now.counts.faults c.looks.intake.counts.faults c.read_on.new.self.counts.faults c.looks.invariant.0.counts.faults (ap (λ x. x.faults) came.1),
       subst (λ (x : List ℕ). HasNoMessage x) (sym came.0) (chunked_has_none c.looks.intake.held c.args.head c.looks.invariant.1 c.requires.chunked (omega arith) v),
     )
 
 pub read_on-requires-clause-up : goal.read_on-requires-clause-up
 read_on-requires-clause-up g c = c.looks.invariant.0.counts.up ∙ c.requires.up
+
+pub returns-in-Err-clause-came : goal.returns-in-Err-clause-came
+returns-in-Err-clause-came g c =
+    wants_chunks c.looks.intake.held c.args.head (length c.decode_held.new.decoder.body.items) c.looks.invariant.1 c.requires.chunked
+    (subst (λ (x : List ℕ). HasMoreChunks (window x c.args.head) (length c.decode_held.new.decoder.body.items)) c.held-held.ensures c.in-Err.ensures.memory)
+
+pub returns-in-Err-read_on-clause-came : goal.returns-in-Err-read_on-clause-came
+returns-in-Err-read_on-clause-came g c =
+    let v = subst (λ (x : List ℕ). VerdictIs (window x c.args.head) c.decode_held.new.decoder.body.items verdict.More) c.held-held.ensures
+    (rw c.in-Ok-More.field-0-is at c.in-Ok-More.ensures.verdict) in
+    let behind : length (drop c.args.head.len c.looks.intake.held) ≡ length c.looks.intake.held - c.args.head.len = length-drop c.args.head.len c.looks.intake.held in
+    let same : length c.held-held.result.now ≡ length c.looks.intake.held = ap length c.held-held.ensures in
+    wants_to_read c.looks.intake c.read_on.new.self c.in-Err-read_on.ensures.came
+    (chunked_needs_more c.looks.intake.held c.args.head c.looks.invariant.1 c.requires.chunked (omega arith) v)

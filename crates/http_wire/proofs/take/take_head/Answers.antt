@@ -1,7 +1,7 @@
 use Rattle.std.proofs.Common.{List, ℕ, length, ap, sym, ◌∙◌, subst}
 use Rattle.http_frames.specs.Heads.{HeadIs}
 use Rattle.http_frames.specs.declared.head.Head.TheVariants as answer
-use Rattle.http_wire.proofs.TakeLaws.{too_large_grows, head_needs_more, head_breaks_off, no_byte}
+use Rattle.http_wire.proofs.TakeLaws.{too_large_grows, head_needs_more, head_breaks_off, no_byte, wants_to_read}
 use Rattle.http_wire.proofs.take.take_head.Goals as goal
 
 pub returns-in-TooLarge-clause-came : goal.returns-in-TooLarge-clause-came
@@ -24,4 +24,8 @@ returns-in-Ok-End-2-clause-came g c = λ told.
     (λ none. c.if-count-eq0.false (ap length (c.held-held.ensures ∙ sym came.0 ∙ none))) (came.1 told)
 
 pub read_on-requires-clause-up : goal.read_on-requires-clause-up
-read_on-requires-clause-up g c = c.looks.invariant.counts.up ∙ c.requires.up
+read_on-requires-clause-up g c = c.looks.invariant.0.counts.up ∙ c.requires.up
+
+pub returns-in-Err-clause-came : goal.returns-in-Err-clause-came
+returns-in-Err-clause-came g c = wants_to_read c.looks.intake c.read_on.new.self c.in-Err.ensures.came
+    (head_needs_more c.looks.intake.held (subst (λ (x : List ℕ). HeadIs x answer.More) c.held-held.ensures c.in-More.ensures))

@@ -1,5 +1,5 @@
 -- What serde_json reads is the document, where it is an object.
-use Rattle.std.proofs.Common.{◌≡◌, sym}
+use Rattle.std.proofs.Common.{sym}
 use Rattle.json_views.proofs.DocumentLemmas.{document-object, document-none}
 use Rattle.json_views.proofs.body.object.Goals as goal
 

@@ -1,5 +1,5 @@
 -- One write more.
-use Rattle.std.proofs.Common.{ℕ, List, ◌+◌, ◌-◌, take, drop, length, subst, arith, rules, ◌≤◌, length-drop}
+use Rattle.std.proofs.Common.{ℕ, List, ◌+◌, length, subst, arith, rules, ◌≤◌, length-drop}
 use Rattle.site_traits.specs.Door.{ConnIs, has_written}
 use Rattle.lcm_api.proofs.TellLemmas.{front_more, tells_more}
 use Rattle.lcm_api.proofs.door.write_all.Goals as goal

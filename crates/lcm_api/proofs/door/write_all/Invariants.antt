@@ -1,4 +1,4 @@
-use Rattle.std.proofs.Common.{◌≡◌, ◌≤◌, ◌-◌, length, take}
+use Rattle.std.proofs.Common.{◌≤◌, ◌-◌, length, take}
 use Rattle.site_traits.specs.Door.{ConnIs, has_written, NoNextFault}
 use Rattle.lcm_api.proofs.door.write_all.Given as goal
 

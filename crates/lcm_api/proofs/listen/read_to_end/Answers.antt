@@ -1,8 +1,7 @@
 -- The reading ended, or the room is full.
-use Rattle.std.proofs.Common.{◌≡◌, ◌≤◌, ℕ, List, take, length, drop, ◌+◌, ◌-◌, ◌∙◌, arith, refl}
+use Rattle.std.proofs.Common.{◌≡◌, ◌≤◌, length, drop, ◌+◌, ◌-◌, ◌∙◌, arith, refl}
 use Rattle.std.proofs.lemmas.List.{length-drop, length-take-le}
 use Rattle.std.proofs.lemmas.Slice.{take-put_mid, take-put_mid_below}
-use Rattle.lcm_api.specs.Hearing.{Hears}
 use Rattle.lcm_api.proofs.ListenLemmas.{heard_all, heard_full, heard_more}
 use Rattle.lcm_api.proofs.listen.read_to_end.Goals as goal
 

@@ -1,5 +1,5 @@
-use Rattle.std.proofs.Common.{◌≡◌, ◌≤◌, ◌-◌, length, take}
-use Rattle.site_traits.specs.Door.{ConnIs, has_read, NoNextFault}
+use Rattle.std.proofs.Common.{◌≤◌, ◌-◌, length}
+use Rattle.site_traits.specs.Door.{NoNextFault}
 use Rattle.lcm_api.proofs.ListenLemmas.{HeardSoFar}
 use Rattle.lcm_api.proofs.listen.read_to_end.Given as goal
 
