@@ -61,6 +61,7 @@ talk_of_request t m H talk r n s c u ks v counts reads does about =
     let Q : List Ask → Type 0 = λ asks. AreRequests asks (remains_of c.wire) (remains_of v.mouth.wire) in
     record {
       works = does.works;
+      holds = record {
       requests = λ told.
           let replied = does.replies told in
           let same = remains_kept [] (said (replies m H talk.asks) ++ replied.final) u v.mouth does.kept replied.door in
@@ -79,6 +80,7 @@ talk_of_request t m H talk r n s c u ks v counts reads does about =
       clock = does.clock;
       ends = ends_since t.door talk.end c.wire u.wire v.mouth.wire reads.counts does.ends;
       counts = counts_then c.wire.intake.counts u.wire.intake.counts v.mouth.wire.intake.counts reads.counts does.counts;
+      };
     }
 
 -- what a telling at the end says
@@ -101,6 +103,7 @@ talk_of_end t m H role end answer s c u v ks ready takes reads none asked work e
     let later = reads.counts.faults in
     record {
       works = subst P (sym work) (idle t.site m H s ready);
+      holds = record {
       requests = λ told.
           let said_so = says told in
           let same = remains_kept [] said_so.0 u v kept said_so.2 in
@@ -125,6 +128,7 @@ talk_of_end t m H role end answer s c u v ks ready takes reads none asked work e
         bytes = λ told. ap (λ (z : Remains). z.bytes) (remains_kept [] (says told).0 u v kept (says told).2);
       });
       counts = counts_then c.wire.intake.counts u.wire.intake.counts v.wire.intake.counts reads.counts counts;
+      };
     }
 
 -- a reply that acknowledges what the manager's history ends with may be told

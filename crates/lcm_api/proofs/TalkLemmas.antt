@@ -151,11 +151,13 @@ talks_on t m H role xs ys end n o w u v first second =
     let R : List Ask → Type 0 = λ asks. GaveAll asks w.clock v.clock in
     record {
       works = subst P (sym (life_more (once_answered m) H ys xs)) (joined t.site m H G (work_by m (life (once_answered m) G ys) end) n o w.site u.site v.site first.works second.works);
-      requests = λ told. subst Q taken (requests_more xs (asked_by end ++ ys) (talking.remains_of w.mouth.wire) (talking.remains_of u.mouth.wire) (talking.remains_of v.mouth.wire) (first.requests told) (second.requests told));
-      speaks = λ told. speaks_on m H role xs ys end w.mouth.wire.intake.door u.mouth.wire.intake.door v.mouth.wire.intake.door (first.speaks told) (second.speaks told);
-      clock = λ told. subst R taken (gave_more xs (asked_by end ++ ys) w.clock u.clock v.clock (first.clock told) (second.clock told));
-      ends = ends_since t.door end w.mouth.wire u.mouth.wire v.mouth.wire first.counts second.ends;
-      counts = counts_then w.mouth.wire.intake.counts u.mouth.wire.intake.counts v.mouth.wire.intake.counts first.counts second.counts;
+      holds = record {
+      requests = λ told. subst Q taken (requests_more xs (asked_by end ++ ys) (talking.remains_of w.mouth.wire) (talking.remains_of u.mouth.wire) (talking.remains_of v.mouth.wire) (first.holds.requests told) (second.holds.requests told));
+      speaks = λ told. speaks_on m H role xs ys end w.mouth.wire.intake.door u.mouth.wire.intake.door v.mouth.wire.intake.door (first.holds.speaks told) (second.holds.speaks told);
+      clock = λ told. subst R taken (gave_more xs (asked_by end ++ ys) w.clock u.clock v.clock (first.holds.clock told) (second.holds.clock told));
+      ends = ends_since t.door end w.mouth.wire u.mouth.wire v.mouth.wire first.holds.counts second.holds.ends;
+      counts = counts_then w.mouth.wire.intake.counts u.mouth.wire.intake.counts v.mouth.wire.intake.counts first.holds.counts second.holds.counts;
+      };
     }
 
 -- The talk so far: so many requests were answered, and all replies to them were told whole.
@@ -173,11 +175,13 @@ none_so_far t role m w up = record {
     [],
     record {
       works = idle t.site m H w.site ready;
-      requests = λ told. refl;
-      speaks = λ told. record { read = []; final = []; final_is = refl; door = converses_none w.mouth.wire.intake.door };
-      clock = λ told. refl;
-      ends = tt;
-      counts = counts_left w.mouth.wire.intake.counts;
+      holds = record {
+        requests = λ told. refl;
+        speaks = λ told. record { read = []; final = []; final_is = refl; door = converses_none w.mouth.wire.intake.door };
+        clock = λ told. refl;
+        ends = tt;
+        counts = counts_left w.mouth.wire.intake.counts;
+      };
     },
     refl,
   );

@@ -29,11 +29,20 @@ pub record Tells : Type 1 where
   pub door : Type 0
   pub clock : Type 0
 
+-- the connection at hand and the clock
+pub record Peers : Type 0 where
+  pub mouth : MouthState
+  pub clock : List ℕ
+
 -- all that is outside of the manager
 pub record World : Type 1 where
   pub site : SiteState
   pub mouth : MouthState
   pub clock : List ℕ
+
+-- all of it but the site
+abbrev pub peers_of : World → Peers
+peers_of w = record { mouth = w.mouth; clock = w.clock }
 
 -- the world of these
 abbrev pub world : SiteState → MouthState → List ℕ → World
@@ -133,21 +142,30 @@ abbrev pub Ends : Type 0 → Option Ending → WireState → WireState → Type 
 Ends tells None a b = Unit {0}
 Ends tells (Some end) a b = EndsFor tells end.last end.told a b
 
--- What a session does, or as much of it as was done so far: to history H of manager m, which is now n, and to the world outside.
+-- What a session does to the connection and the clock, or as much of it as was done so far, over history H of manager m.
+pub record Holds (t : Tells) (m : ℕ) (H : List Event) (talk : Talk) (a b : Peers) : Type 0 where
+  pub requests : t.door → AreRequests (taken_by talk) (remains_of a.mouth.wire) (remains_of b.mouth.wire)
+  pub speaks : t.door → Speaks m H talk a.mouth.wire.intake.door b.mouth.wire.intake.door
+  pub clock : t.clock → GaveAll (taken_by talk) a.clock b.clock
+  pub ends : Ends t.door talk.end a.mouth.wire b.mouth.wire
+  pub counts : NoNextFault a.mouth.wire.intake.counts b.mouth.wire.intake.counts
+
+-- what it does to the journal too; the manager is now n
 pub record Talks (t : Tells) (m : ℕ) (H : List Event) (talk : Talk) (n : Managed) (w v : World) : Type 0 where
   pub works : Works t.site m H (work_of m H talk) n w.site v.site
-  pub requests : t.door → AreRequests (taken_by talk) (remains_of w.mouth.wire) (remains_of v.mouth.wire)
-  pub speaks : t.door → Speaks m H talk w.mouth.wire.intake.door v.mouth.wire.intake.door
-  pub clock : t.clock → GaveAll (taken_by talk) w.clock v.clock
-  pub ends : Ends t.door talk.end w.mouth.wire v.mouth.wire
-  pub counts : NoNextFault w.mouth.wire.intake.counts v.mouth.wire.intake.counts
+  pub holds : Holds t m H talk (peers_of w) (peers_of v)
 
--- the session was held, and then the connection was ended
-pub record Serves (t : Tells) (m : ℕ) (H : List Event) (talk : Talk) (n : Managed) (w v : World) : Type 0 where
+-- a session was held to its end, and then the connection was ended
+pub record Attends (t : Tells) (m : ℕ) (H : List Event) (talk : Talk) (a b : Peers) : Type 0 where
   pub between : MouthState
   pub end : Ending
   pub ended : talk.end ≡ Some end
-  pub talks : Talks t m H talk n w (world v.site between v.clock)
+  pub holds : Holds t m H talk a (record { mouth = between; clock = b.clock })
   pub role : between.role ≡ talk.role
-  pub gone : t.door → HangsUp between.wire.intake.door v.mouth.wire.intake.door
-  pub counts : v.mouth.wire.intake.counts ≡ closed between.wire.intake.counts
+  pub gone : t.door → HangsUp between.wire.intake.door b.mouth.wire.intake.door
+  pub counts : b.mouth.wire.intake.counts ≡ closed between.wire.intake.counts
+
+-- what serving a connection does
+pub record Serves (t : Tells) (m : ℕ) (H : List Event) (talk : Talk) (n : Managed) (w v : World) : Type 0 where
+  pub works : Works t.site m H (work_of m H talk) n w.site v.site
+  pub attends : Attends t m H talk (peers_of w) (peers_of v)
