@@ -1,5 +1,5 @@
 -- What one step of a session is.
-use Rattle.std.proofs.Common.{◌≡◌, ◌≤◌, ◌∙◌, ℕ, List, [], ◌∷◌, ◌++◌, Option, Some, None, Result, Ok, Err, true, false, sym, subst, refl, ap, append-nil, arith, if◌then◌else◌, take, Bool, ◌⊎◌, ⊎_elim, codes}
+use Rattle.std.proofs.Common.{◌≡◌, ◌≤◌, ◌∙◌, ℕ, List, [], ◌∷◌, ◌++◌, Option, Some, None, Result, Ok, Err, true, false, true≢false, sym, subst, refl, ap, append-nil, arith, if◌then◌else◌, take, Bool, ◌⊎◌, ⊎_elim, codes}
 use Rattle.std.specs.Result.{is_ok}
 use Rattle.executor.specs.Managed.{Managed, IsReady}
 use Rattle.executor.specs.Work.{Work, went, Works}
@@ -20,11 +20,11 @@ use Rattle.lcm_api.specs.declared.session.Step.{Step}
 use Rattle.lcm_api.specs.declared.session.Step.TheVariants as step
 use Rattle.site_traits.specs.Clock.{Gives}
 use Rattle.lcm_api.specs.Talking as talking
-use Rattle.lcm_api.specs.Talking.{World, world, Remains, remains_of, IsNext, AreRequests, GaveAll, Converses, IsSaid, SaysLast, Speaks, AsksLast, EndsFor, IsRejection, Talks}
+use Rattle.lcm_api.specs.Talking.{World, world, Remains, remains_of, IsNext, AreRequests, GaveAll, Converses, IsSaid, SaysLast, Speaks, AsksLast, EndsFor, IsLost, IsRejection, Talks}
 use Rattle.lcm_api.specs.Telling.{TellCause, Tells}
 use Rattle.lcm_api.specs.declared.door.DoorFailed.{DoorFailed}
 use Rattle.lcm_api.specs.declared.reply.Reply.{Reply}
-use Rattle.lcm_api.proofs.TalkLemmas.{converses_then, converses_read, converses_told, converses_front, counts_then, ends_since}
+use Rattle.lcm_api.proofs.TalkLemmas.{converses_then, converses_read, converses_told, converses_front, counts_then, ends_since, lost_since}
 use Rattle.lcm_events.specs.declared.events.Event.{Event}
 use Rattle.lcm_events.specs.declared.states.Role.{Role}
 use Rattle.site_traits.specs.Door.{DoorCounts, DoorState, NoNextFault}
@@ -53,6 +53,16 @@ next_taken tells r a b counts told = record {
   ended = counts.ended;
 }
 
+-- telling leaves the count of failed waits
+pub cause_counts : (result : Result (Unit {0}) DoorFailed) (a b : DoorCounts) → TellCause result a b → NoNextFault a b
+cause_counts (Ok done) a b cause = cause
+cause_counts (Err failed) a b cause = cause.0
+
+-- a telling that failed is counted
+pub cause_lost : (last : Last) (result : Result (Unit {0}) DoorFailed) (a b : DoorCounts) → TellCause result a b → IsLost (Some (record { last = last; told = result })) a b
+cause_lost last (Ok done) a b cause = λ failed. absurd (true≢false failed)
+cause_lost last (Err failed) a b cause = λ is. cause.1
+
 -- a request was taken and answered
 pub talk_of_request : (t : talking.Tells) (m : ℕ) (H : List Event) (talk : Talk) (r : Request) (n : Managed) (s : SiteState) (c u : MouthState) (ks : List ℕ) (v : World)
     → Counts t.door c.wire u.wire r → OnlyTakesIn t.door c.wire.intake u.wire.intake → Responds t m H talk n (world s u ks) v → IsAbout r talk → Talks t m H talk n (world s c ks) v
@@ -79,6 +89,7 @@ talk_of_request t m H talk r n s c u ks v counts reads does about =
           };
       clock = does.clock;
       ends = ends_since t.door talk.end c.wire u.wire v.mouth.wire reads.counts does.ends;
+        lost = lost_since talk.end c.wire.intake.counts u.wire.intake.counts v.mouth.wire.intake.counts reads.counts does.lost;
       counts = counts_then c.wire.intake.counts u.wire.intake.counts v.mouth.wire.intake.counts reads.counts does.counts;
       };
     }
@@ -95,8 +106,9 @@ pub talk_of_end : (t : talking.Tells) (m : Managed) (H : List Event) (role : Rol
     → IsReady t.site m H s → Takes t.door answer c.wire u.wire → OnlyTakesIn t.door c.wire.intake u.wire.intake → TakesNone t.door c.wire u.wire
     → asked_last end.last ≡ [] → work_last m.ledger.manager H end.last ≡ went H → (AsksLast t.door answer c.wire v.wire → EndsFor t.door end.last end.told c.wire v.wire)
     → (t.door → (final : List ℕ) × IsSaid (reply_last m.ledger.manager H end.last) end.told final × Converses [] final u.wire.intake.door v.wire.intake.door)
-    → OnlyAtDoor u v → NoNextFault u.wire.intake.counts v.wire.intake.counts → Talks t m.ledger.manager H (ended_so role end) m (world s c ks) (world s v ks)
-talk_of_end t m H role end answer s c u v ks ready takes reads none asked work ends says kept counts =
+    → OnlyAtDoor u v → IsLost (Some end) u.wire.intake.counts v.wire.intake.counts → NoNextFault u.wire.intake.counts v.wire.intake.counts
+    → Talks t m.ledger.manager H (ended_so role end) m (world s c ks) (world s v ks)
+talk_of_end t m H role end answer s c u v ks ready takes reads none asked work ends says kept lost counts =
     let P : Work → Type 0 = λ w. Works t.site m.ledger.manager H w m s s in
     let Q : List Ask → Type 0 = λ asks. AreRequests (asks ++ []) (remains_of c.wire) (remains_of v.wire) in
     let R : List Ask → Type 0 = λ asks. GaveAll (asks ++ []) ks ks in
@@ -127,6 +139,7 @@ talk_of_end t m H role end answer s c u v ks ready takes reads none asked work e
         until = counts.faults;
         bytes = λ told. ap (λ (z : Remains). z.bytes) (remains_kept [] (says told).0 u v kept (says told).2);
       });
+        lost = lost_since (Some end) c.wire.intake.counts u.wire.intake.counts v.wire.intake.counts reads.counts lost;
       counts = counts_then c.wire.intake.counts u.wire.intake.counts v.wire.intake.counts reads.counts counts;
       };
     }
@@ -162,6 +175,7 @@ responds_told t m H role x n reply w v works is gives told kept counts = record 
       record { final = []; final_is = refl; door = subst P is (subst Q (sym (append-nil (text reply))) (converses_told (text reply) _ _ (told tells))) };
   clock = λ tells. (w.clock, refl, gives tells);
   ends = tt;
+  lost = tt;
   kept = kept;
   counts = counts;
 }
@@ -170,8 +184,8 @@ responds_told t m H role x n reply w v works is gives told kept counts = record 
 pub responds_last : (t : talking.Tells) (m : ℕ) (H : List Event) (role : Role) (x : Ask) (last : Last) (result : Result (Unit {0}) DoorFailed) (n : Managed) (reply : Reply) (w v : World)
     → asked_last last ≡ x ∷ [] → Works t.site m H (work_last m H last) n w.site v.site → reply_last m H last ≡ Some reply → EndsFor t.door last result w.mouth.wire v.mouth.wire
     → (t.clock → Gives x.value w.clock v.clock) → (t.door → Tells (text reply) result w.mouth.wire.intake.door v.mouth.wire.intake.door)
-    → OnlyAtDoor w.mouth v.mouth → NoNextFault w.mouth.wire.intake.counts v.mouth.wire.intake.counts → Responds t m H (ended_so role (record { last = last; told = result })) n w v
-responds_last t m H role x last result n reply w v asked works is ends gives told kept counts =
+    → OnlyAtDoor w.mouth v.mouth → TellCause result w.mouth.wire.intake.counts v.mouth.wire.intake.counts → Responds t m H (ended_so role (record { last = last; told = result })) n w v
+responds_last t m H role x last result n reply w v asked works is ends gives told kept cause =
     let Q : List Ask → Type 0 = λ asks. GaveAll (asks ++ []) w.clock v.clock in
     record {
       works = works;
@@ -181,14 +195,10 @@ responds_last t m H role x last result n reply w v asked works is ends gives tol
           record { final = says.0; final_is = subst P (sym is) says.1; door = says.2 };
       clock = λ tells. subst Q (sym asked) (w.clock, refl, gives tells);
       ends = ends;
+      lost = cause_lost last result w.mouth.wire.intake.counts v.mouth.wire.intake.counts cause;
       kept = kept;
-      counts = counts;
+      counts = cause_counts result w.mouth.wire.intake.counts v.mouth.wire.intake.counts cause;
     }
-
--- telling leaves the count of failed waits
-pub cause_counts : (result : Result (Unit {0}) DoorFailed) (a b : DoorCounts) → TellCause result a b → NoNextFault a b
-cause_counts (Ok done) a b cause = cause
-cause_counts (Err failed) a b cause = cause.0
 
 -- a talk about a request, under another name of it
 pub about : (q r : Request) (value : ℕ) (talk : Talk) → q ≡ r → taken_by talk ≡ record { request = q; value = value } ∷ [] → IsAbout r talk

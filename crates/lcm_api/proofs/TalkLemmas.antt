@@ -10,7 +10,7 @@ use Rattle.lcm_api.specs.Response.{text}
 use Rattle.lcm_api.specs.Session.{Ask, Last, Ending, Talk, over, unheard, untold, starving, breaking, life, once_answered, outcome_of, replies, said, asked_by, work_by}
 use Rattle.lcm_api.specs.Step.{answered_one, ended_so}
 use Rattle.lcm_api.specs.Talking as talking
-use Rattle.lcm_api.specs.Talking.{World, Remains, IsNext, AreRequests, GaveAll, Converses, SaysLast, Speaks, AsksLast, EndsFor, Ends, Talks}
+use Rattle.lcm_api.specs.Talking.{World, Remains, IsNext, AreRequests, GaveAll, Converses, SaysLast, Speaks, AsksLast, EndsFor, Ends, IsLost, Talks}
 use Rattle.lcm_api.specs.Telling.{Tells}
 use Rattle.lcm_api.specs.declared.door.DoorFailed.{DoorFailed}
 use Rattle.lcm_api.specs.declared.reply.Reply.{Reply}
@@ -121,6 +121,11 @@ pub ends_since : (tells : Type 0) (end : Option Ending) (a b c : WireState) → 
 ends_since tells None a b c before ends = tt
 ends_since tells (Some end) a b c before ends = ends_for_since tells end.last end.told a b c before.faults ends
 
+-- a write that failed late failed in all
+pub lost_since : (end : Option Ending) (a b c : DoorCounts) → NoNextFault a b → IsLost end b c → IsLost end a c
+lost_since None a b c before lost = tt
+lost_since (Some end) a b c before lost = λ failed. let rose = lost failed in let earlier = before.faults in omega (arith, rose, earlier)
+
 speaks_on : (m : ℕ) (H : List Event) (role : Role) (xs ys : List Ask) (end : Option Ending) (a b c : DoorState) → Speaks m H (record { role = role; asks = xs; end = None }) a b
     → Speaks m (life (once_answered m) H xs) (record { role = role; asks = ys; end = end }) b c → Speaks m H (record { role = role; asks = ys ++ xs; end = end }) a c
 speaks_on m H role xs ys end a b c first second =
@@ -156,6 +161,7 @@ talks_on t m H role xs ys end n o w u v first second =
       speaks = λ told. speaks_on m H role xs ys end w.mouth.wire.intake.door u.mouth.wire.intake.door v.mouth.wire.intake.door (first.holds.speaks told) (second.holds.speaks told);
       clock = λ told. subst R taken (gave_more xs (asked_by end ++ ys) w.clock u.clock v.clock (first.holds.clock told) (second.holds.clock told));
       ends = ends_since t.door end w.mouth.wire u.mouth.wire v.mouth.wire first.holds.counts second.holds.ends;
+        lost = lost_since end w.mouth.wire.intake.counts u.mouth.wire.intake.counts v.mouth.wire.intake.counts first.holds.counts second.holds.lost;
       counts = counts_then w.mouth.wire.intake.counts u.mouth.wire.intake.counts v.mouth.wire.intake.counts first.holds.counts second.holds.counts;
       };
     }
@@ -180,6 +186,7 @@ none_so_far t role m w up = record {
         speaks = λ told. record { read = []; final = []; final_is = refl; door = converses_none w.mouth.wire.intake.door };
         clock = λ told. refl;
         ends = tt;
+        lost = tt;
         counts = counts_left w.mouth.wire.intake.counts;
       };
     },

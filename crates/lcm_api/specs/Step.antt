@@ -14,7 +14,7 @@ use Rattle.lcm_api.specs.declared.door.DoorFailed.{DoorFailed}
 use Rattle.lcm_api.specs.declared.reply.Reply.{Reply}
 use Rattle.lcm_api.specs.Session.{Ask, Ending, Talk, life, once_answered, replies, said, taken_by, told_last, breaks, work_of}
 use Rattle.lcm_api.specs.Talking as talking
-use Rattle.lcm_api.specs.Talking.{World, Converses, Ends, GaveAll, SaysLast}
+use Rattle.lcm_api.specs.Talking.{World, Converses, Ends, GaveAll, IsLost, SaysLast}
 use Rattle.lcm_api.specs.declared.session.Step.{Step}
 use Rattle.lcm_api.specs.declared.session.Step.TheVariants as step
 use Rattle.lcm_events.specs.declared.events.Event.{Event}
@@ -48,6 +48,7 @@ pub record Responds (t : talking.Tells) (m : ℕ) (H : List Event) (talk : Talk)
   pub replies : t.door → Replies m H talk w.mouth.wire.intake.door v.mouth.wire.intake.door
   pub clock : t.clock → GaveAll (taken_by talk) w.clock v.clock
   pub ends : Ends t.door talk.end w.mouth.wire v.mouth.wire
+  pub lost : IsLost talk.end w.mouth.wire.intake.counts v.mouth.wire.intake.counts
   pub kept : OnlyAtDoor w.mouth v.mouth
   pub counts : NoNextFault w.mouth.wire.intake.counts v.mouth.wire.intake.counts
 

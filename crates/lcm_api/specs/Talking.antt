@@ -20,7 +20,8 @@ use Rattle.lcm_api.specs.declared.door.DoorFailed.{DoorFailed}
 use Rattle.lcm_api.specs.declared.reply.Reply.{Reply}
 use Rattle.lcm_events.specs.declared.events.Event.{Event}
 use Rattle.site_traits.specs.Clock.{Gives}
-use Rattle.site_traits.specs.Door.{DoorState, HangsUp, NoNextFault, closed}
+use Rattle.site_traits.specs.Counts.{Rose}
+use Rattle.site_traits.specs.Door.{DoorCounts, DoorState, HangsUp, NoNextFault, closed}
 use Rattle.site_traits.specs.Site.{SiteState}
 
 -- which of the objects outside tell what is done to them
@@ -142,12 +143,18 @@ abbrev pub Ends : Type 0 → Option Ending → WireState → WireState → Type 
 Ends tells None a b = Unit {0}
 Ends tells (Some end) a b = EndsFor tells end.last end.told a b
 
+-- a write failed, and was counted, where what was to be told at the end wasn't told whole
+abbrev pub IsLost : Option Ending → DoorCounts → DoorCounts → Type 0
+IsLost None a b = Unit {0}
+IsLost (Some end) a b = is_ok end.told ≡ false → Rose a.faults b.faults
+
 -- What a session does to the connection and the clock, or as much of it as was done so far, over history H of manager m.
 pub record Holds (t : Tells) (m : ℕ) (H : List Event) (talk : Talk) (a b : Peers) : Type 0 where
   pub requests : t.door → AreRequests (taken_by talk) (remains_of a.mouth.wire) (remains_of b.mouth.wire)
   pub speaks : t.door → Speaks m H talk a.mouth.wire.intake.door b.mouth.wire.intake.door
   pub clock : t.clock → GaveAll (taken_by talk) a.clock b.clock
   pub ends : Ends t.door talk.end a.mouth.wire b.mouth.wire
+  pub lost : IsLost talk.end a.mouth.wire.intake.counts b.mouth.wire.intake.counts
   pub counts : NoNextFault a.mouth.wire.intake.counts b.mouth.wire.intake.counts
 
 -- what it does to the journal too; the manager is now n

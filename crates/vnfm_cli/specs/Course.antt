@@ -1,26 +1,37 @@
 -- How a run goes: what the words were, and what came of the command (own rule, docs/FORMATS.md).
-use Rattle.std.specs.Prelude.{◌≡◌, ◌≢◌, ℕ, List, [], ◌++◌, Result, Ok, Err, Option, Some, None}
+use Rattle.std.specs.Prelude.{◌≡◌, ◌<◌, ℕ, true, List, [], ◌∷◌, ◌++◌, length, Result, Ok, Err, Some, None}
+use Rattle.executor.specs.Work.{Work, went, broke, stood}
 use Rattle.executor.specs.declared.manager.OpenFault.{OpenFault}
 use Rattle.executor.specs.declared.manager.OpenFault.TheVariants as opening
 use Rattle.journal_core.specs.declared.create.CreateFault.{CreateFault}
 use Rattle.journal_core.specs.declared.create.CreateFault.TheVariants as creating
-use Rattle.lcm_api.specs.Serving.{Serving, added}
+use Rattle.lcm_api.specs.Session.{Talk, life, work_of}
 use Rattle.lcm_api.specs.declared.answer.ApiFault.{ApiFault}
 use Rattle.lcm_api.specs.declared.answer.ApiFault.TheVariants as fault
 use Rattle.lcm_events.specs.declared.events.Event.{Event}
 use Rattle.lcm_events.specs.declared.states.Role.{Role}
 use Rattle.vnfm_cli.specs.Onboarding.{Verdict, refused, full, accepted, verdict, onboarded, refused_line, onboarded_line}
-use Rattle.vnfm_cli.specs.Words.{IsCommand, settings_of}
+use Rattle.vnfm_cli.specs.Words.{IsCommand, loads, settings_of}
 use Rattle.vnfm_cli.specs.declared.ending.Ending.{Ending}
 use Rattle.vnfm_cli.specs.declared.ending.Ending.TheVariants.{Done, Made, Onboarded, Usage, SiteFault, DoorFault, NoJournal, NotAJournal, NoMemory, BadRecord, JournalFull, DescriptorRefused, Taken}
-use Rattle.vnfm_cli.specs.declared.options.Command.{Command}
 use Rattle.vnfm_cli.specs.declared.options.Command.TheVariants.{Init, Onboard, Once}
 use Rattle.vnfm_cli.specs.declared.options.Settings.{Settings}
 
--- What came of a round: waiting for a connection failed, none came, or one came and was served with this result.
+-- What came of a round: no connection came, or one came, from this role as the door tells, and this talk was held on it.
 pub data Round : Type 0 where
-  unreached unasked : Round
-  served : Serving → Result (Unit {0}) ApiFault → Round
+  unasked : Round
+  served : Role → Talk → Round
+
+-- How the rounds ended: all were made, waiting for a connection failed, or the disk failed in a talk on a connection from this role.
+pub data Close : Type 0 where
+  done unreached : Close
+  stopped : Role → Talk → Close
+
+-- the rounds that were made for whoever asks, the latest first, and how they ended
+pub record Service : Type 0 where
+  pub role : Role
+  pub rounds : List Round
+  pub close : Close
 
 -- What came of onboarding: there was no memory to read into, waiting for a connection failed, a read failed behind these
 -- bytes, or these bytes were heard and judged at this moment, with this result of the work on the journal.
@@ -29,58 +40,62 @@ pub data Onboarding : Type 0 where
   cut_off : List ℕ → Onboarding
   heard : List ℕ → ℕ → Result (Unit {0}) ApiFault → Onboarding
 
--- who asks, the manager's number and the history that its journal had when it was opened, the latest event first
+-- what was done with a journal that was opened
+pub data Deed : Type 0 where
+  serving : Service → Deed
+  onboarding : Onboarding → Deed
+
+-- the manager's number and the history that its journal had when it was opened, the latest event first
 pub record Opening : Type 0 where
-  pub role : Role
   pub number : ℕ
   pub history : List Event
 
 -- How a run went: the words were no command, there was no memory for what they set, a journal was to be made for this
--- manager, a journal wasn't opened, or it was opened and a round was made, or a descriptor was to be onboarded.
+-- manager, a journal wasn't opened, or it was opened and this was done.
 pub data Course : Type 0 where
   misused starved : Course
   making : ℕ → Result (Unit {0}) CreateFault → Course
   unopened : OpenFault → Course
-  opened : Opening → Round → Course
-  tried : Opening → Onboarding → Course
+  opened : Opening → Deed → Course
 
--- the events that a round adds to history H of manager m, the latest first
-abbrev pub events_of : ℕ → List Event → Round → List Event
-events_of m H unreached = []
-events_of m H unasked = []
-events_of m H (served serving result) = added m H serving
+-- the history once a round was made
+abbrev pub once_made : ℕ → List Event → Round → List Event
+once_made m H unasked = H
+once_made m H (served came talk) = stood (work_of m H talk)
 
--- how the round's work on the journal ended
-abbrev pub result_of : Round → Result (Unit {0}) ApiFault
-result_of unreached = Ok tt
-result_of unasked = Ok tt
-result_of (served serving result) = result
+-- the work of the last talk, behind the rounds that were made
+abbrev pub close_work : ℕ → List Event → Close → Work
+close_work m H done = went H
+close_work m H unreached = went H
+close_work m H (stopped came talk) = work_of m H talk
 
--- the events that onboarding adds to history H
-abbrev pub onboarding_events : List Event → Onboarding → List Event
-onboarding_events H unready = []
-onboarding_events H unheard = []
-onboarding_events H (cut_off bytes) = []
-onboarding_events H (heard bytes now result) = onboarded now (verdict H now bytes)
+-- the work of the rounds behind history H of manager m
+abbrev pub service_work : ℕ → List Event → Service → Work
+service_work m H service = close_work m (life (once_made m) H service.rounds) service.close
 
--- how its work on the journal ended
-abbrev pub onboarding_result : Onboarding → Result (Unit {0}) ApiFault
-onboarding_result unready = Ok tt
-onboarding_result unheard = Ok tt
-onboarding_result (cut_off bytes) = Ok tt
-onboarding_result (heard bytes now result) = result
+-- work that was to record these events: they were, or the disk failed on the way there, or there was no memory
+abbrev pub recorded_as : List Event → List Event → Result (Unit {0}) ApiFault → Work
+recorded_as H events (Ok done) = went (events ++ H)
+recorded_as H events (Err fault.Disk) = broke H (events ++ H)
+recorded_as H events (Err fault.Memory) = went H
 
--- how a run ends after a connection was served: a connection that was told 503 is served too
-abbrev pub served_ending : Result (Unit {0}) ApiFault → Ending
-served_ending (Ok done) = Done
-served_ending (Err fault.Disk) = SiteFault
-served_ending (Err fault.Memory) = Done
+-- the work of onboarding behind history H
+abbrev pub onboarding_work : List Event → Onboarding → Work
+onboarding_work H unready = went H
+onboarding_work H unheard = went H
+onboarding_work H (cut_off bytes) = went H
+onboarding_work H (heard bytes now result) = recorded_as H (onboarded now (verdict H now bytes)) result
 
--- how a run ends after a round
-abbrev pub round_ending : Round → Ending
-round_ending unreached = DoorFault
-round_ending unasked = Done
-round_ending (served serving result) = served_ending result
+-- the work of a deed
+abbrev pub deed_work : ℕ → List Event → Deed → Work
+deed_work m H (serving service) = service_work m H service
+deed_work m H (onboarding o) = onboarding_work H o
+
+-- how a run ends after so many rounds
+abbrev pub close_ending : ℕ → Close → Ending
+close_ending n done = Done n
+close_ending n unreached = DoorFault
+close_ending n (stopped came talk) = SiteFault
 
 -- how a run ends where a descriptor was judged so
 abbrev pub verdict_ending : Verdict → Ending
@@ -100,6 +115,11 @@ onboarding_ending H unready = NoMemory
 onboarding_ending H unheard = DoorFault
 onboarding_ending H (cut_off bytes) = DoorFault
 onboarding_ending H (heard bytes now result) = judged_ending (verdict H now bytes) result
+
+-- how a run ends after a deed
+abbrev pub deed_ending : List Event → Deed → Ending
+deed_ending H (serving service) = close_ending (length service.rounds) service.close
+deed_ending H (onboarding o) = onboarding_ending H o
 
 -- how a run ends where a journal was to be made
 abbrev pub making_ending : ℕ → Result (Unit {0}) CreateFault → Ending
@@ -121,23 +141,36 @@ ending_of misused = Usage
 ending_of starved = NoMemory
 ending_of (making manager result) = making_ending manager result
 ending_of (unopened why) = unopened_ending why
-ending_of (opened start round) = round_ending round
-ending_of (tried start onboarding) = onboarding_ending start.history onboarding
+ending_of (opened start deed) = deed_ending start.history deed
 
--- the course is one of this command, for this manager's number and this role
-abbrev pub IsOf : Command → ℕ → Role → Course → Type 0
-IsOf Init manager role (making number result) = number ≡ manager
-IsOf Onboard manager role (unopened why) = Unit {0}
-IsOf Onboard manager role (tried start onboarding) = start.role ≡ role
-IsOf Once manager role (unopened why) = Unit {0}
-IsOf Once manager role (opened start round) = start.role ≡ role
-IsOf command manager role other = ⊥
+-- so many rounds were made where all were, and fewer where they ended before
+abbrev pub IsCount : ℕ → ℕ → Close → Type 0
+IsCount wanted n done = n ≡ wanted
+IsCount wanted n other = n < wanted
+
+-- the deed is one of these settings
+pub record ServesAs (s : Settings) (service : Service) : Type 0 where
+  pub command : s.command ≡ Once
+  pub role : service.role ≡ s.role
+  pub count : IsCount s.rounds (length service.rounds) service.close
+
+abbrev pub IsDeedOf : Settings → Deed → Type 0
+IsDeedOf s (serving service) = ServesAs s service
+IsDeedOf s (onboarding o) = s.command ≡ Onboard
+
+-- the course is one of these settings
+abbrev pub IsOf : Settings → Course → Type 0
+IsOf s misused = ⊥
+IsOf s starved = ⊥
+IsOf s (making number result) = (s.command ≡ Init) × (number ≡ s.manager)
+IsOf s (unopened why) = loads s.command ≡ true
+IsOf s (opened start deed) = IsDeedOf s deed
 
 -- the course is one of what the words set
 pub record IsOfSettings (words : List (List ℕ)) (course : Course) : Type 0 where
   pub settings : Settings
   pub set : settings_of words ≡ Some settings
-  pub is : IsOf settings.command settings.manager settings.role course
+  pub is : IsOf settings course
 
 -- the course is one of these words: misused exactly where they are no command, else of what they set
 abbrev pub IsOfWords : List (List ℕ) → Course → Type 0

@@ -1,31 +1,87 @@
--- What one round does to a manager that stands for its journal.
-use Rattle.std.specs.Prelude.{◌≡◌, ◌<◌, ℕ, List, false}
-use Rattle.executor.specs.Managed.{Managed, IsKept, StandsFor}
-use Rattle.lcm_api.specs.Mouth.{MouthState}
-use Rattle.lcm_api.specs.Serving.{AtSite, Follows}
+-- What rounds do at the door and to the clock, and with the journal.
+use Rattle.std.specs.Prelude.{◌≡◌, ◌⊎◌, ℕ, Bool, true, false, List, [], ◌∷◌}
+use Rattle.executor.specs.Managed.{Managed}
+use Rattle.executor.specs.Work.{Works}
+use Rattle.lcm_api.specs.Mouth.{MouthState, Begins}
+use Rattle.lcm_api.specs.Session.{Talk, breaks, life}
+use Rattle.lcm_api.specs.Talking.{Tells, Peers, World, peers_of, Attends}
+use Rattle.lcm_events.specs.declared.events.Event.{Event}
 use Rattle.lcm_events.specs.declared.states.Role.{Role}
-use Rattle.site_traits.specs.Site.{SiteState}
-use Rattle.vnfm_cli.specs.Course.{Round, Onboarding, Opening, events_of, result_of, onboarding_events, onboarding_result}
-use Rattle.vnfm_cli.specs.Runs.{RoundAtDoor, RoundAtClock, OnboardingAtDoor, OnboardingAtClock}
+use Rattle.site_traits.specs.Clock.{Gives}
+use Rattle.site_traits.specs.Door.{DoorState, Comes, ComesNot, next_failed, opened as has_come}
+use Rattle.site_traits.specs.declared.door.NextAnswer.{NextAnswer}
+use Rattle.site_traits.specs.declared.door.NextAnswer.TheVariants.{Nobody, Ended}
+use Rattle.vnfm_cli.specs.Course.{Round, unasked, served, Close, done, unreached, stopped, Service, once_made, service_work}
 
--- what a manager was opened with, for this role
-abbrev pub opening_of : Role → Managed → Opening
-opening_of role m = record { role = role; number = m.ledger.manager; history = m.history }
+-- the door was asked for a connection, and none came
+pub record IsNobody (a b : DoorState) : Type 0 where
+  pub answer : NextAnswer
+  pub none : (answer ≡ Nobody) ⊎ (answer ≡ Ended)
+  pub told : ComesNot answer a b
 
--- what a round does
-pub record MakesRound (site_tells door_tells clock_tells : Type 0) (role : Role) (round : Round) (m n : Managed) (a b : SiteState)
-    (c d : MouthState) (ks ls : List ℕ) : Type 0 where
-  pub managed : Follows (events_of m.ledger.manager m.history round) (result_of round) m n
-  pub number : n.ledger.manager ≡ m.ledger.manager
-  pub site : site_tells → AtSite (events_of m.ledger.manager m.history round) (result_of round) m n a b
-  pub door : RoundAtDoor door_tells (opening_of role m) round c d
-  pub clock : clock_tells → RoundAtClock round ks ls
+-- the clock was read once
+abbrev pub IsRead : List ℕ → List ℕ → Type 0
+IsRead old new = (value : ℕ) × Gives value old new
 
--- what onboarding does
-pub record Onboards (site_tells door_tells clock_tells : Type 0) (onboarding : Onboarding) (m n : Managed) (a b : SiteState)
-    (c d : MouthState) (ks ls : List ℕ) : Type 0 where
-  pub managed : Follows (onboarding_events m.history onboarding) (onboarding_result onboarding) m n
-  pub number : n.ledger.manager ≡ m.ledger.manager
-  pub site : site_tells → AtSite (onboarding_events m.history onboarding) (onboarding_result onboarding) m n a b
-  pub door : OnboardingAtDoor door_tells onboarding c d
-  pub clock : clock_tells → OnboardingAtClock onboarding ks ls
+-- the clock was read for the round, and else nothing was done
+pub record Passes (t : Tells) (a b : Peers) : Type 0 where
+  pub mouth : b.mouth ≡ a.mouth
+  pub clock : t.clock → IsRead a.clock b.clock
+
+-- the door was asked, and nobody came
+pub record ComesNobody (t : Tells) (a b : Peers) : Type 0 where
+  pub nobody : t.door → IsNobody a.mouth.wire.intake.door b.mouth.wire.intake.door
+  pub counts : b.mouth.wire.intake.counts ≡ a.mouth.wire.intake.counts
+  pub clock : b.clock ≡ a.clock
+
+-- a connection came, from this role as the door tells, this talk was held on it, and it was ended
+pub record Receives (t : Tells) (m : ℕ) (H : List Event) (came : Role) (talk : Talk) (a b : Peers) : Type 0 where
+  pub between : MouthState
+  pub comes : t.door → Comes came a.mouth.wire.intake.door between.wire.intake.door
+  pub counts : between.wire.intake.counts ≡ has_come a.mouth.wire.intake.counts
+  pub begins : Begins between
+  pub attends : Attends t m H talk (record { mouth = between; clock = a.clock }) b
+
+-- waiting for a connection failed, and was counted
+pub record IsUnreached (tells : Type 0) (a b : MouthState) : Type 0 where
+  pub same : tells → b.wire.intake.door ≡ a.wire.intake.door
+  pub counts : b.wire.intake.counts ≡ next_failed a.wire.intake.counts
+
+-- what a round does, over history H; then the clock is read for it
+abbrev pub RoundDoes : Tells → ℕ → List Event → Round → Peers → Peers → Type 0
+RoundDoes t m H unasked a c = (b : Peers) × ComesNobody t a b × Passes t b c
+RoundDoes t m H (served came talk) a c = (b : Peers) × Receives t m H came talk a b × (breaks talk.end ≡ false) × Passes t b c
+
+-- the rounds were made, each over the history that those before it left, and from where they ended
+abbrev pub RoundsDo : Tells → ℕ → List Event → List Round → Peers → Peers → Type 0
+RoundsDo t m H [] a b = b ≡ a
+RoundsDo t m H (r ∷ before) a c = (b : Peers) × RoundsDo t m H before a b × RoundDoes t m (life (once_made m) H before) r b c
+
+-- what the end of the rounds does; after a disk fault the clock isn't read
+abbrev pub CloseDoes : Tells → ℕ → List Event → Close → Peers → Peers → Type 0
+CloseDoes t m H done a b = b ≡ a
+CloseDoes t m H unreached a b = IsUnreached t.door a.mouth b.mouth × (b.clock ≡ a.clock)
+CloseDoes t m H (stopped came talk) a b = Receives t m H came talk a b × (breaks talk.end ≡ true)
+
+-- all talks of these rounds were held for this role
+abbrev pub AreFor : Role → List Round → Type 0
+AreFor role [] = Unit {0}
+AreFor role (unasked ∷ before) = AreFor role before
+AreFor role (served came talk ∷ before) = (talk.role ≡ role) × AreFor role before
+
+abbrev pub ClosesFor : Role → Close → Type 0
+ClosesFor role (stopped came talk) = talk.role ≡ role
+ClosesFor role other = Unit {0}
+
+-- what the rounds do to the door and the clock
+pub record Attended (t : Tells) (m : ℕ) (H : List Event) (service : Service) (a b : Peers) : Type 0 where
+  pub between : Peers
+  pub rounds : RoundsDo t m H service.rounds a between
+  pub close : CloseDoes t m (life (once_made m) H service.rounds) service.close between b
+  pub roles : AreFor service.role service.rounds
+  pub role : ClosesFor service.role service.close
+
+-- what they do to the journal too; the manager is now n
+pub record Makes (t : Tells) (m : ℕ) (H : List Event) (service : Service) (n : Managed) (w v : World) : Type 0 where
+  pub works : Works t.site m H (service_work m H service) n w.site v.site
+  pub attended : Attended t m H service (peers_of w) (peers_of v)

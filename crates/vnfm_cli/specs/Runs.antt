@@ -1,31 +1,24 @@
 -- What a run does to the journal's file, the door and the clock.
-use Rattle.std.specs.Prelude.{◌≡◌, ◌≢◌, ◌<◌, ◌⊎◌, ℕ, List, [], ◌∷◌, ◌++◌, Bool, true, false, Option, Some, None, Result, Err}
+use Rattle.std.specs.Prelude.{◌≡◌, ◌<◌, ◌⊎◌, ℕ, List, [], Bool, true, false, min}
 use Rattle.executor.specs.History.{HasHistory}
-use Rattle.executor.specs.Open.{IsBadRecord}
+use Rattle.executor.specs.Open.{IsBadRecord, Refuses}
+use Rattle.executor.specs.Work.{Work, Grows, HasSome, aimed, failed, stood}
 use Rattle.executor.specs.declared.manager.OpenFault.{OpenFault}
-use Rattle.executor.specs.declared.manager.OpenFault.TheVariants as opening
-use Rattle.journal_core.specs.Header.{IsUnmade, IsForeign, IsUnfinished}
-use Rattle.journal_core.specs.Load.{SyncsAndReads}
 use Rattle.journal_core.specs.Create.{Creates}
-use Rattle.lcm_api.specs.Answering.{HasOr}
+use Rattle.journal_core.specs.Header.{IsUnmade, IsForeign}
+use Rattle.journal_core.specs.Load.{SyncsAndReads}
 use Rattle.lcm_api.specs.Hearing.{Hears}
 use Rattle.lcm_api.specs.Mouth.{MouthState}
-use Rattle.lcm_api.specs.Response.{text}
-use Rattle.lcm_api.specs.Serving.{Serving, IsEnded, IsServed, IsTimed, Timed, reply_of}
-use Rattle.lcm_api.specs.declared.answer.ApiFault.{ApiFault}
-use Rattle.lcm_api.specs.declared.answer.ApiFault.TheVariants as fault
-use Rattle.lcm_api.specs.declared.reply.Reply.{Reply}
+use Rattle.lcm_api.specs.Talking.{Tells, Peers, World, peers_of}
 use Rattle.lcm_events.specs.declared.events.Event.{Event}
 use Rattle.lcm_events.specs.declared.states.Role.{Role}
 use Rattle.lcm_model.specs.Allowed.{IsLegal}
 use Rattle.site_traits.specs.Clock.{Gives}
 use Rattle.site_traits.specs.Counts.{Rose}
-use Rattle.site_traits.specs.Door.{DoorCounts, DoorState, Comes, ComesNot, NoNextFault, next_failed, opened as has_come}
+use Rattle.site_traits.specs.Door.{DoorCounts, DoorState, Comes, HangsUp, NoNextFault, closed, opened as has_come}
 use Rattle.site_traits.specs.Site.{Pair, SiteState, IsSettled, LeavesOnly}
-use Rattle.site_traits.specs.declared.door.NextAnswer.{NextAnswer}
-use Rattle.site_traits.specs.declared.door.NextAnswer.TheVariants.{Nobody, Ended}
-use Rattle.vnfm_cli.specs.Course.{Course, misused, starved, making, unopened, opened, tried, Round, unreached, unasked, served, Onboarding, unready, unheard, cut_off, heard, Opening, events_of, result_of, onboarding_events, onboarding_result, IsOfWords}
-use Rattle.vnfm_cli.specs.Words.{AreInit}
+use Rattle.vnfm_cli.specs.Course.{Course, misused, starved, making, unopened, opened, Deed, serving, onboarding, Onboarding, unready, unheard, cut_off, heard, Opening, deed_work, IsOfWords}
+use Rattle.vnfm_cli.specs.Rounds.{Attended, IsNobody, IsUnreached}
 use Rattle.vnfm_cli.specs.declared.options.Command.{Command}
 use Rattle.vnfm_cli.specs.declared.options.Command.TheVariants.{Init, Onboard, Once}
 
@@ -35,14 +28,6 @@ pub record IsUntouched (a b : SiteState) : Type 0 where
   pub moment : b.moment ≡ a.moment
   pub since : (t : ℕ) (p : Pair) → b.since t p → a.since t p
   pub still : (t : ℕ) (p : Pair) → a.since t p → b.since t p
-
--- why a file of these bytes isn't opened
-abbrev pub Refuses : OpenFault → List ℕ → Type 0
-Refuses opening.Unmade image = IsUnmade image
-Refuses (opening.Foreign place) image = IsForeign place image
-Refuses (opening.BadRecord n) image = IsBadRecord n image
-Refuses opening.Disk image = Unit {0}
-Refuses opening.Memory image = Unit {0}
 
 -- the journal wasn't opened: its bytes are the cause, and they are as they were at every moment
 pub record IsRefused (why : OpenFault) (a b : SiteState) : Type 0 where
@@ -84,18 +69,18 @@ MayEndWith Init status = (status ≡ 0) ⊎ ((status ≡ 6) ⊎ (status ≡ 11))
 MayEndWith Onboard status = (status ≡ 0) ⊎ ((status ≡ 6) ⊎ ((status ≡ 9) ⊎ (status ≡ 10)))
 MayEndWith Once status = (status ≡ 0) ⊎ (status ≡ 6)
 
--- what the history keeps of the work's events: none where there was no memory
-abbrev pub kept_of : Result (Unit {0}) ApiFault → List Event → List Event
-kept_of (Err fault.Memory) events = []
-kept_of other events = events
+-- nothing is pending, and the file has this history
+pub record IsAtRest (m : ℕ) (H : List Event) (s : SiteState) : Type 0 where
+  pub settled : IsSettled s
+  pub file : HasHistory m H s.image
 
--- The journal was opened with this history, and work was done that has these events. At every moment a stop leaves the
--- history, or it and the events; unless the disk failed, nothing is pending, and the file has what the history keeps.
-pub record Recovers (start : Opening) (events : List Event) (result : Result (Unit {0}) ApiFault) (a b : SiteState) : Type 0 where
-  pub found : HasHistory start.number start.history a.image
-  pub any_moment : IsStart start.number start.history a → LeavesOnly (HasOr start.number start.history events) a b
-  pub settled : result ≢ Err fault.Disk → IsSettled b
-  pub history : result ≢ Err fault.Disk → HasHistory start.number (kept_of result events ++ start.history) b.image
+-- The journal was opened with history H, and this work was done. At every moment a stop leaves a history from H to what the work aimed
+-- at; at its end one that has all that was acknowledged; and unless the disk failed, nothing is pending and the file has just that.
+pub record Recovers (m : ℕ) (H : List Event) (w : Work) (a b : SiteState) : Type 0 where
+  pub found : HasHistory m H a.image
+  pub any_moment : IsStart m H a → LeavesOnly (HasSome m H (aimed w)) a b
+  pub at_exit : (p : Pair) → b.since b.moment p → HasSome m (stood w) (aimed w) p
+  pub rests : failed w ≡ false → IsAtRest m (stood w) b
 
 -- what a run does to the journal's file
 abbrev pub AtFile : Course → SiteState → SiteState → Type 0
@@ -103,60 +88,28 @@ AtFile misused a b = IsUntouched a b
 AtFile starved a b = IsUntouched a b
 AtFile (making manager result) a b = Creates manager result a b
 AtFile (unopened why) a b = IsRefused why a b
-AtFile (opened start round) a b = Recovers start (events_of start.number start.history round) (result_of round) a b
-AtFile (tried start onboarding) a b = Recovers start (onboarding_events start.history onboarding) (onboarding_result onboarding) a b
-
--- the door was asked for a connection, and none came
-pub record IsNobody (a b : DoorState) : Type 0 where
-  pub answer : NextAnswer
-  pub none : (answer ≡ Nobody) ⊎ (answer ≡ Ended)
-  pub told : ComesNot answer a b
-
--- these are all the bytes that went out
-abbrev pub IsAnswered : Option Reply → MouthState → Type 0
-IsAnswered (Some reply) m = m.door.conn.out ≡ text reply
-IsAnswered None m = ⊥
-
--- A connection came, and was served: its reply is that of the history at the opening. Where no call of the door failed, the
--- bytes out are the reply's.
-pub record IsAttended (tells : Type 0) (start : Opening) (serving : Serving) (result : Result (Unit {0}) ApiFault) (a b : MouthState) : Type 0 where
-  pub came : Role
-  pub between : MouthState
-  pub comes : tells → Comes came a.door between.door
-  pub counts : between.counts ≡ has_come a.counts
-  pub served : IsServed tells start.role serving (reply_of start.number start.history serving result) between b
-  pub whole : tells → ¬ (Rose a.counts.faults b.counts.faults) → IsAnswered (reply_of start.number start.history serving result) b
-
--- waiting for a connection failed, and was counted
-pub record IsUnreached (tells : Type 0) (a b : MouthState) : Type 0 where
-  pub same : tells → b.door ≡ a.door
-  pub counts : b.counts ≡ next_failed a.counts
-
--- what a round does at the door
-abbrev pub RoundAtDoor : Type 0 → Opening → Round → MouthState → MouthState → Type 0
-RoundAtDoor tells start unreached a b = IsUnreached tells a b
-RoundAtDoor tells start unasked a b = tells → IsNobody a.door b.door
-RoundAtDoor tells start (served serving result) a b = IsAttended tells start serving result a b
+AtFile (opened start deed) a b = Recovers start.number start.history (deed_work start.number start.history deed) a b
 
 -- A connection came, these bytes of it were read, up to its end or to one byte more than a descriptor may have, or up to where
 -- a read failed, and it was ended. Nothing was written to it.
 pub record Brings (tells : Type 0) (bytes : List ℕ) (failed : Bool) (a b : MouthState) : Type 0 where
   pub came : Role
   pub between : MouthState
-  pub comes : tells → Comes came a.door between.door
-  pub counts : between.counts ≡ has_come a.counts
+  pub comes : tells → Comes came a.wire.intake.door between.wire.intake.door
+  pub counts : between.wire.intake.counts ≡ has_come a.wire.intake.counts
   pub behind : MouthState
-  pub hears : tells → Hears 1048577 bytes failed between.door behind.door
-  pub broke : failed ≡ true → Rose between.counts.faults behind.counts.faults
-  pub reading : NoNextFault between.counts behind.counts
-  pub ended : IsEnded tells behind b
-  pub silent : tells → b.door.conn.out ≡ []
+  pub hears : tells → Hears 1048577 bytes failed between.wire.intake.door behind.wire.intake.door
+  pub broke : failed ≡ true → Rose between.wire.intake.counts.faults behind.wire.intake.counts.faults
+  pub reading : NoNextFault between.wire.intake.counts behind.wire.intake.counts
+  pub gone : tells → HangsUp behind.wire.intake.door b.wire.intake.door
+  pub down : b.wire.intake.counts ≡ closed behind.wire.intake.counts
+  pub silent : tells → b.wire.intake.door.conn.out ≡ []
 
 -- nobody came, and so there are no bytes
 pub record BringsNothing (tells : Type 0) (bytes : List ℕ) (a b : MouthState) : Type 0 where
   pub none : bytes ≡ []
-  pub nobody : tells → IsNobody a.door b.door
-  pub counts : b.counts ≡ a.counts
+  pub nobody : tells → IsNobody a.wire.intake.door b.wire.intake.door
+  pub counts : b.wire.intake.counts ≡ a.wire.intake.counts
 
 -- what onboarding does at the door
 abbrev pub OnboardingAtDoor : Type 0 → Onboarding → MouthState → MouthState → Type 0
@@ -165,61 +118,50 @@ OnboardingAtDoor tells unheard a b = IsUnreached tells a b
 OnboardingAtDoor tells (cut_off bytes) a b = Brings tells bytes true a b
 OnboardingAtDoor tells (heard bytes now result) a b = Brings tells bytes false a b ⊎ BringsNothing tells bytes a b
 
--- what a run does at the door
-abbrev pub AtDoor : Type 0 → Course → MouthState → MouthState → Type 0
-AtDoor tells (opened start round) a b = RoundAtDoor tells start round a b
-AtDoor tells (tried start onboarding) a b = OnboardingAtDoor tells onboarding a b
-AtDoor tells other a b = b ≡ a
-
--- the clock was read once
-abbrev pub IsRead : List ℕ → List ℕ → Type 0
-IsRead old new = (value : ℕ) × Gives value old new
-
--- the clock was read for the request, where one was taken, and once for the round
-pub record ReadsFor (serving : Serving) (old new : List ℕ) : Type 0 where
-  pub between : List ℕ
-  pub request : Timed serving old between
-  pub round : IsRead between new
-
--- what a round does to the clock; after a disk fault it isn't read for the round
-abbrev pub RoundAtClock : Round → List ℕ → List ℕ → Type 0
-RoundAtClock unreached old new = new ≡ old
-RoundAtClock unasked old new = IsRead old new
-RoundAtClock (served serving (Err fault.Disk)) old new = Timed serving old new
-RoundAtClock (served serving other) old new = ReadsFor serving old new
+-- the moment is that of the clock's next value
+pub record IsTimed (moment : ℕ) (old new : List ℕ) : Type 0 where
+  pub value : ℕ
+  pub gives : Gives value old new
+  pub moment_is : moment ≡ min value 253402300799999
 
 -- what onboarding does to the clock: it is read once, where bytes were heard
 abbrev pub OnboardingAtClock : Onboarding → List ℕ → List ℕ → Type 0
 OnboardingAtClock (heard bytes now result) old new = IsTimed now old new
 OnboardingAtClock other old new = new ≡ old
 
--- what a run does to the clock
-abbrev pub AtClock : Course → List ℕ → List ℕ → Type 0
-AtClock (opened start round) old new = RoundAtClock round old new
-AtClock (tried start onboarding) old new = OnboardingAtClock onboarding old new
-AtClock other old new = new ≡ old
+-- what onboarding does to both
+pub record BringsIn (t : Tells) (o : Onboarding) (a b : Peers) : Type 0 where
+  pub door : OnboardingAtDoor t.door o a.mouth b.mouth
+  pub clock : t.clock → OnboardingAtClock o a.clock b.clock
 
--- the history is legal, and stays so with the events that the work has
-pub record IsLegalRun (start : Opening) (events : List Event) : Type 0 where
-  pub number : start.number < 4294967296
-  pub before : IsLegal start.number start.history
-  pub after : IsLegal start.number (events ++ start.history)
+-- what a deed does to both
+abbrev pub AtPeersBy : Tells → Opening → Deed → Peers → Peers → Type 0
+AtPeersBy t start (serving service) a b = Attended t start.number start.history service a b
+AtPeersBy t start (onboarding o) a b = BringsIn t o a b
+
+-- what a run does to both
+abbrev pub AtPeers : Tells → Course → Peers → Peers → Type 0
+AtPeers t (opened start deed) a b = AtPeersBy t start deed a b
+AtPeers t other a b = b ≡ a
+
+-- the history is legal, and grows by the work as a legal one
+pub record IsLegalRun (m : ℕ) (H : List Event) (w : Work) : Type 0 where
+  pub number : m < 4294967296
+  pub before : IsLegal m H
+  pub grows : Grows m H w
 
 -- what was opened is a legal history, and stays one
 abbrev pub IsLegalCourse : Course → Type 0
-IsLegalCourse (opened start round) = IsLegalRun start (events_of start.number start.history round)
-IsLegalCourse (tried start onboarding) = IsLegalRun start (onboarding_events start.history onboarding)
+IsLegalCourse (opened start deed) = IsLegalRun start.number start.history (deed_work start.number start.history deed)
 IsLegalCourse other = Unit {0}
 
 -- what a run does, by the way that it went
-pub record Does (site_tells door_tells clock_tells : Type 0) (course : Course) (a b : SiteState) (c d : MouthState) (ks ls : List ℕ) : Type 0 where
+pub record Does (t : Tells) (course : Course) (w v : World) : Type 0 where
   pub legal : IsLegalCourse course
-  pub site : site_tells → AtFile course a b
-  pub door : AtDoor door_tells course c d
-  pub clock : clock_tells → AtClock course ks ls
+  pub site : t.site → AtFile course w.site v.site
+  pub peers : AtPeers t course (peers_of w) (peers_of v)
 
 -- a run of these words went so
-pub record Runs (site_tells door_tells clock_tells : Type 0) (words : List (List ℕ)) (course : Course) (a b : SiteState) (c d : MouthState)
-    (ks ls : List ℕ) : Type 0 where
+pub record Runs (t : Tells) (words : List (List ℕ)) (course : Course) (w v : World) : Type 0 where
   pub words_are : IsOfWords words course
-  pub does : Does site_tells door_tells clock_tells course a b c d ks ls
+  pub does : Does t course w v

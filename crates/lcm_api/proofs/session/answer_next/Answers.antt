@@ -1,11 +1,11 @@
 -- The next request was answered, or there is none and the session ends.
-use Rattle.std.proofs.Common.{[], Ok, Err, None, Some, refl, subst}
+use Rattle.std.proofs.Common.{[], Ok, Err, None, Some, refl, subst, true≢false}
 use Rattle.http_wire.specs.declared.request.Taken.TheVariants as taken
 use Rattle.lcm_api.specs.Session.{Ending, over, unheard}
 use Rattle.lcm_api.specs.Step.{IsStep, ended_so}
 use Rattle.lcm_events.specs.declared.states.Role.{Role}
 use Rattle.lcm_api.proofs.TalkLemmas.{converses_none, counts_left}
-use Rattle.lcm_api.proofs.StepsLemmas.{door_left, cause_counts, rejection_refuses, says_last, talk_of_end, talk_of_request, told_step}
+use Rattle.lcm_api.proofs.StepsLemmas.{door_left, cause_counts, cause_lost, rejection_refuses, says_last, talk_of_end, talk_of_request, told_step}
 use Rattle.lcm_api.proofs.session.answer_next.Goals as goal
 
 pub tell_last-requires-clause-refusal : goal.tell_last-requires-clause-refusal
@@ -24,7 +24,7 @@ returns-in-Ok-false-clause-talks g c = λ H ready.
     let heard = rw c.in-Ok-false.field-0-test at c.in-Ok-false.ensures.heard in (
       ended_so c.args.role end,
       talk_of_end _ _ H c.args.role end (Ok taken.End) _ c.args.mouth.now c.hear.new.self c.hear.new.self _ ready heard.1 c.in-Ok-false.ensures.reads heard.1.is.0 refl refl (λ asks. asks)
-          (λ told. ([], refl, converses_none _)) (door_left c.hear.new.self) (counts_left _),
+          (λ told. ([], refl, converses_none _)) (door_left c.hear.new.self) (λ failed. absurd (true≢false failed)) (counts_left _),
       (end, refl, refl, refl),
     )
 
@@ -36,7 +36,7 @@ returns-in-Some-clause-talks g c = λ H ready.
       ended_so c.args.role end,
       talk_of_end _ _ H c.args.role end (Err c.in-Err.fault) _ c.args.mouth.now c.hear.new.self c.tell_last.new.mouth _ ready heard.1 c.in-Err.ensures.reads heard.1.is.0 refl refl
           (λ asks. (asks, c.in-Some.ensures))
-          (λ tells. says_last c.in-Some.reply told.result _ _ (told.told tells)) c.tell_last.ensures.kept (cause_counts _ _ _ told.cause),
+          (λ tells. says_last c.in-Some.reply told.result _ _ (told.told tells)) c.tell_last.ensures.kept (cause_lost (unheard c.in-Err.fault (Some c.in-Some.reply)) told.result _ _ told.cause) (cause_counts _ _ _ told.cause),
       told_step c.args.role (unheard c.in-Err.fault (Some c.in-Some.reply)) told.result c.tell_last.result refl refl told.is,
     )
 
@@ -46,6 +46,6 @@ returns-in-None-clause-talks g c = λ H ready.
     let heard = c.in-Err.ensures.heard in (
       ended_so c.args.role end,
       talk_of_end _ _ H c.args.role end (Err c.in-Err.fault) _ c.args.mouth.now c.hear.new.self c.hear.new.self _ ready heard.1 c.in-Err.ensures.reads heard.1.is.0 refl refl
-          (λ asks. (asks, c.in-None.ensures)) (λ told. ([], refl, converses_none _)) (door_left c.hear.new.self) (counts_left _),
+          (λ asks. (asks, c.in-None.ensures)) (λ told. ([], refl, converses_none _)) (door_left c.hear.new.self) (λ failed. absurd (true≢false failed)) (counts_left _),
       (end, refl, refl, refl),
     )
