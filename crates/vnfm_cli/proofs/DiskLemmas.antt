@@ -34,7 +34,7 @@ unopened_fails opening.Disk ending a b f is = stops_fails (sync ∷ []) _ a b (s
 -- status 3 is that of a site fault alone
 pub site_status : (put : Bool) (ending : Ending) → told_status put (status_of ending) ≡ 3 → ending ≡ SiteFault
 site_status put SiteFault is = refl
-site_status true Done is = absurd (omega (arith, is))
+site_status true (Done rounds) is = absurd (omega (arith, is))
 site_status true (Made manager) is = absurd (omega (arith, is))
 site_status true (Onboarded line) is = absurd (omega (arith, is))
 site_status true Usage is = absurd (omega (arith, is))
@@ -46,7 +46,7 @@ site_status true (BadRecord n) is = absurd (omega (arith, is))
 site_status true (JournalFull end more) is = absurd (omega (arith, is))
 site_status true (DescriptorRefused line) is = absurd (omega (arith, is))
 site_status true Taken is = absurd (omega (arith, is))
-site_status false Done is = absurd (omega (arith, is))
+site_status false (Done rounds) is = absurd (omega (arith, is))
 site_status false (Made manager) is = absurd (omega (arith, is))
 site_status false (Onboarded line) is = absurd (omega (arith, is))
 site_status false Usage is = absurd (omega (arith, is))
@@ -96,7 +96,7 @@ seven_lost true ending is = absurd (never ending is)
   where
     never : (ending : Ending) → status_of ending ≡ 7 → ⊥
     never SiteFault is = omega (arith, is)
-    never Done is = omega (arith, is)
+    never (Done rounds) is = omega (arith, is)
     never (Made manager) is = omega (arith, is)
     never (Onboarded line) is = omega (arith, is)
     never Usage is = omega (arith, is)

@@ -24,7 +24,7 @@ told_same false s n is other = rw (ne_eqb s 0 (λ none. other (sym is ∙ none))
 
 -- each ending's status is one of those that there are
 status_is : (e : Ending) → IsStatus (status_of e)
-status_is Done = inl refl
+status_is (Done rounds) = inl refl
 status_is (Made manager) = inl refl
 status_is (Onboarded line) = inl refl
 status_is Usage = inr (omega arith, omega arith)
@@ -50,7 +50,7 @@ is_status false e =
 -- the line of a run that ends with 7 wasn't put
 pub unheard_status : (put : Bool) (e : Ending) → told_status put (status_of e) ≡ 7 → put ≡ false
 unheard_status false e is = refl
-unheard_status true Done is = absurd (omega (arith, is))
+unheard_status true (Done rounds) is = absurd (omega (arith, is))
 unheard_status true (Made manager) is = absurd (omega (arith, is))
 unheard_status true (Onboarded line) is = absurd (omega (arith, is))
 unheard_status true Usage is = absurd (omega (arith, is))
@@ -65,7 +65,7 @@ unheard_status true (DescriptorRefused line) is = absurd (omega (arith, is))
 unheard_status true Taken is = absurd (omega (arith, is))
 
 pub usage_status : (e : Ending) → status_of e ≡ 2 → e ≡ Usage
-usage_status Done is = absurd (omega (arith, is))
+usage_status (Done rounds) is = absurd (omega (arith, is))
 usage_status (Made manager) is = absurd (omega (arith, is))
 usage_status (Onboarded line) is = absurd (omega (arith, is))
 usage_status Usage is = refl
@@ -80,7 +80,7 @@ usage_status (DescriptorRefused line) is = absurd (omega (arith, is))
 usage_status Taken is = absurd (omega (arith, is))
 
 pub site_status : (e : Ending) → status_of e ≡ 3 → e ≡ SiteFault
-site_status Done is = absurd (omega (arith, is))
+site_status (Done rounds) is = absurd (omega (arith, is))
 site_status (Made manager) is = absurd (omega (arith, is))
 site_status (Onboarded line) is = absurd (omega (arith, is))
 site_status Usage is = absurd (omega (arith, is))
@@ -95,7 +95,7 @@ site_status (DescriptorRefused line) is = absurd (omega (arith, is))
 site_status Taken is = absurd (omega (arith, is))
 
 pub door_status : (e : Ending) → status_of e ≡ 4 → e ≡ DoorFault
-door_status Done is = absurd (omega (arith, is))
+door_status (Done rounds) is = absurd (omega (arith, is))
 door_status (Made manager) is = absurd (omega (arith, is))
 door_status (Onboarded line) is = absurd (omega (arith, is))
 door_status Usage is = absurd (omega (arith, is))
@@ -139,7 +139,7 @@ put_result true e f result is same put = is ∙ ap status_of same
 
 -- a run that ends with 7 would have ended with 0
 unheard_done : (put : Bool) (e : Ending) → told_status put (status_of e) ≡ 7 → status_of e ≡ 0
-unheard_done put Done is = refl
+unheard_done put (Done rounds) is = refl
 unheard_done put (Made manager) is = refl
 unheard_done put (Onboarded line) is = refl
 unheard_done true Usage is = absurd (omega (arith, is))

@@ -16,7 +16,7 @@ use Rattle.lcm_events.specs.declared.states.Role.{Role}
 use Rattle.site_traits.specs.Counts.{Rose}
 use Rattle.site_traits.specs.Door.{DoorCounts}
 use Rattle.site_traits.specs.Site.{SiteState}
-use Rattle.vnfm_cli.specs.Course.{Course, misused, starved, making, unopened, opened, tried, Round, unreached, unasked, served, Onboarding, unready, unheard, cut_off, heard, ending_of, judged_ending, onboarding_ending, round_ending, verdict_ending, Opening, unopened_ending, IsOf, IsOfSettings, IsOfWords}
+use Rattle.vnfm_cli.specs.Course.{Course, misused, starved, making, unopened, opened, Close, finished, unreached, stopped, Deed, serving, onboarding, Onboarding, unready, unheard, cut_off, heard, close_ending, ending_of, judged_ending, onboarding_ending, verdict_ending, unopened_ending, IsDeedOf, IsOf, IsOfSettings, IsOfWords}
 use Rattle.vnfm_cli.specs.Ending.{status_of, told_status, IsStatus}
 use Rattle.vnfm_cli.specs.Runs.{AtFile, IsDoorCause, IsLegalCourse, IsNoJournal, IsOrYields, IsSoundStart, IsStartOf, MayEndWith}
 use Rattle.journal_core.specs.Create.{IsMade}
@@ -56,21 +56,15 @@ commanded : (P : Type 0) (words : List (List ℕ)) (s : Settings) → settings_o
 commanded P words s some none = cc
 
 -- the course of words that set something is one of that
-of_settings : (words : List (List ℕ)) (course : Course) (s : Settings) → settings_of words ≡ Some s → IsOfSettings words course → IsOf s.command s.manager s.role course
+of_settings : (words : List (List ℕ)) (course : Course) (s : Settings) → settings_of words ≡ Some s → IsOfSettings words course → IsOf s course
 of_settings words course s set of =
-    let P : Settings → Type 0 = λ x. IsOf x.command x.manager x.role course in
+    let P : Settings → Type 0 = λ x. IsOf x course in
     subst P (set_once words of.settings s of.set set) of.is
-
--- a journal is made by `init` alone
-made_by_init : (command : Command) (manager number : ℕ) (role : Role) (result : Result (Unit {0}) CreateFault) → IsOf command manager role (making number result) → command ≡ Init
-made_by_init Init manager number role result is = refl
-made_by_init Onboard manager number role result is = absurd is
-made_by_init Once manager number role result is = absurd is
 
 -- words that load a journal don't make one
 not_making : (P : Type 0) (words : List (List ℕ)) (number : ℕ) (result : Result (Unit {0}) CreateFault) → AreLoading words → IsOfSettings words (making number result) → P
 not_making P words number result are of =
-    let init = made_by_init _ _ number _ result (of_settings words (making number result) are.settings are.set of) in
+    let init = (of_settings words (making number result) are.settings are.set of).0 in
     absurd (false≢true (ap loads (sym init) ∙ are.loading))
 
 -- a file that is no journal is told so
@@ -84,8 +78,7 @@ no_journal_ending (unopened (opening.Foreign place)) words a b are of at none = 
 no_journal_ending (unopened (opening.BadRecord n)) words a b are of at none = absurd (bad_journal n a.image at.because none)
 no_journal_ending (unopened opening.Disk) words a b are of at none = inr (inl refl)
 no_journal_ending (unopened opening.Memory) words a b are of at none = inr (inr refl)
-no_journal_ending (opened start round) words a b are of at none = absurd (whole_journal start.number _ a.image at.found.file none)
-no_journal_ending (tried start onboarding) words a b are of at none = absurd (whole_journal start.number _ a.image at.found.file none)
+no_journal_ending (opened start deed) words a b are of at none = absurd (whole_journal start.number _ a.image at.found.file none)
 
 -- a bad record is told so
 pub bad_record_ending : (course : Course) (words : List (List ℕ)) (a b : SiteState) (n : ℕ) → AreLoading words → IsOfWords words course → IsLegalCourse course → AtFile course a b
@@ -98,18 +91,14 @@ bad_record_ending (unopened (opening.Foreign place)) words a b n are of legal at
 bad_record_ending (unopened (opening.BadRecord k)) words a b n are of legal at bad = inl refl
 bad_record_ending (unopened opening.Disk) words a b n are of legal at bad = inr (inl refl)
 bad_record_ending (unopened opening.Memory) words a b n are of legal at bad = inr (inr refl)
-bad_record_ending (opened start round) words a b n are of legal at bad =
-    absurd (no_bad_record start.number n start.history a.image legal.number at.found legal.before bad)
-bad_record_ending (tried start onboarding) words a b n are of legal at bad =
+bad_record_ending (opened start deed) words a b n are of legal at bad =
     absurd (no_bad_record start.number n start.history a.image legal.number at.found legal.before bad)
 
--- a round ends with 0, 3 or 4
-round_status : (round : Round) (n : ℕ) → n ≢ 0 → n ≢ 3 → n ≢ 4 → status_of (round_ending round) ≡ n → ⊥
-round_status unreached n zero three four is = four (sym is)
-round_status unasked n zero three four is = zero (sym is)
-round_status (served serving (Ok done)) n zero three four is = zero (sym is)
-round_status (served serving (Err fault.Disk)) n zero three four is = three (sym is)
-round_status (served serving (Err fault.Memory)) n zero three four is = zero (sym is)
+-- rounds end with 0, 3 or 4
+close_status : (rounds : ℕ) (close : Close) (n : ℕ) → n ≢ 0 → n ≢ 3 → n ≢ 4 → status_of (close_ending rounds close) ≡ n → ⊥
+close_status rounds finished n zero three four is = zero (sym is)
+close_status rounds unreached n zero three four is = four (sym is)
+close_status rounds (stopped came talk) n zero three four is = three (sym is)
 
 -- a descriptor that was judged ends with 0, 9 or 10
 verdict_status : (v : Verdict) → (status_of (verdict_ending v) ≡ 0) ⊎ ((status_of (verdict_ending v) ≡ 9) ⊎ (status_of (verdict_ending v) ≡ 10))
@@ -118,7 +107,7 @@ verdict_status (full end more) = inr (inl refl)
 verdict_status (accepted vnfd) = inl refl
 
 -- onboarding ends with neither 5, 8 nor 11
-onboarding_status : (H : List Event) (onboarding : Onboarding) (n : ℕ) → (n ≡ 5) ⊎ ((n ≡ 8) ⊎ (n ≡ 11)) → status_of (onboarding_ending H onboarding) ≡ n → ⊥
+onboarding_status : (H : List Event) (o : Onboarding) (n : ℕ) → (n ≡ 5) ⊎ ((n ≡ 8) ⊎ (n ≡ 11)) → status_of (onboarding_ending H o) ≡ n → ⊥
 onboarding_status H unready n other is = omega (arith, other, is)
 onboarding_status H unheard n other is = omega (arith, other, is)
 onboarding_status H (cut_off bytes) n other is = omega (arith, other, is)
@@ -142,8 +131,8 @@ told_no_journal (unopened (opening.Foreign place)) a b at is = inr (place, at.be
 told_no_journal (unopened (opening.BadRecord n)) a b at is = absurd (omega (arith, is))
 told_no_journal (unopened opening.Disk) a b at is = absurd (omega (arith, is))
 told_no_journal (unopened opening.Memory) a b at is = absurd (omega (arith, is))
-told_no_journal (opened start round) a b at is = absurd (round_status round 5 (omega arith) (omega arith) (omega arith) is)
-told_no_journal (tried start onboarding) a b at is = absurd (onboarding_status start.history onboarding 5 (inl refl) is)
+told_no_journal (opened start (serving service)) a b at is = absurd (close_status _ service.close 5 (omega arith) (omega arith) (omega arith) is)
+told_no_journal (opened start (onboarding o)) a b at is = absurd (onboarding_status start.history o 5 (inl refl) is)
 
 -- status 8 is told of a file with a bad record
 pub told_bad_record : (course : Course) (a b : SiteState) → AtFile course a b → status_of (ending_of course) ≡ 8 → (n : ℕ) × IsBadRecord n a.image
@@ -155,8 +144,8 @@ told_bad_record (unopened (opening.Foreign place)) a b at is = absurd (omega (ar
 told_bad_record (unopened (opening.BadRecord n)) a b at is = (n, at.because)
 told_bad_record (unopened opening.Disk) a b at is = absurd (omega (arith, is))
 told_bad_record (unopened opening.Memory) a b at is = absurd (omega (arith, is))
-told_bad_record (opened start round) a b at is = absurd (round_status round 8 (omega arith) (omega arith) (omega arith) is)
-told_bad_record (tried start onboarding) a b at is = absurd (onboarding_status start.history onboarding 8 (inr (inl refl)) is)
+told_bad_record (opened start (serving service)) a b at is = absurd (close_status _ service.close 8 (omega arith) (omega arith) (omega arith) is)
+told_bad_record (opened start (onboarding o)) a b at is = absurd (onboarding_status start.history o 8 (inr (inl refl)) is)
 
 -- a course that ends with 9 or 10 is one of onboarding
 onboarding_alone : (n : ℕ) → (n ≡ 9) ⊎ (n ≡ 10) → (course : Course) (words : List (List ℕ)) → IsOfWords words course → status_of (ending_of course) ≡ n → AreWordsOf Onboard words
@@ -168,12 +157,8 @@ onboarding_alone n nine (unopened (opening.Foreign place)) words of is = absurd 
 onboarding_alone n nine (unopened (opening.BadRecord k)) words of is = absurd (omega (arith, nine, is))
 onboarding_alone n nine (unopened opening.Disk) words of is = absurd (omega (arith, nine, is))
 onboarding_alone n nine (unopened opening.Memory) words of is = absurd (omega (arith, nine, is))
-onboarding_alone n nine (opened start round) words of is = absurd (round_status round n (omega (arith, nine)) (omega (arith, nine)) (omega (arith, nine)) is)
-onboarding_alone n nine (tried start onboarding) words of is = record { settings = of.settings; set = of.set; is = onboard_of _ _ _ start onboarding of.is } where
-  onboard_of : (command : Command) (manager : ℕ) (role : Role) (start : Opening) (onboarding : Onboarding) → IsOf command manager role (tried start onboarding) → command ≡ Onboard
-  onboard_of Init manager role start onboarding is = absurd is
-  onboard_of Onboard manager role start onboarding is = refl
-  onboard_of Once manager role start onboarding is = absurd is
+onboarding_alone n nine (opened start (serving service)) words of is = absurd (close_status _ service.close n (omega (arith, nine)) (omega (arith, nine)) (omega (arith, nine)) is)
+onboarding_alone n nine (opened start (onboarding o)) words of is = record { settings = of.settings; set = of.set; is = of.is }
 
 -- status 9 is that of onboarding alone
 pub told_full : (course : Course) (words : List (List ℕ)) → IsOfWords words course → status_of (ending_of course) ≡ 9 → AreWordsOf Onboard words
@@ -185,11 +170,7 @@ told_refused course words of is = onboarding_alone 10 (inr refl) course words of
 
 -- the words of a course that makes a journal are `init`'s, for that manager
 init_words : (words : List (List ℕ)) (number : ℕ) (result : Result (Unit {0}) CreateFault) → IsOfSettings words (making number result) → AreInit number words
-init_words words number result of = record { settings = of.settings; set = of.set; is = made_by_init _ _ number _ result of.is; number = manager_is _ _ _ number result of.is } where
-  manager_is : (command : Command) (manager : ℕ) (role : Role) (number : ℕ) (result : Result (Unit {0}) CreateFault) → IsOf command manager role (making number result) → manager ≡ number
-  manager_is Init manager role number result is = sym is
-  manager_is Onboard manager role number result is = absurd is
-  manager_is Once manager role number result is = absurd is
+init_words words number result of = record { settings = of.settings; set = of.set; is = of.is.0; number = sym of.is.1 }
 
 -- status 11 is told where a journal was to be made of a file that isn't unfinished for its manager
 pub told_taken : (course : Course) (words : List (List ℕ)) (a b : SiteState) → IsOfWords words course → AtFile course a b → status_of (ending_of course) ≡ 11
@@ -204,22 +185,24 @@ told_taken (unopened (opening.Foreign place)) words a b of at is = absurd (omega
 told_taken (unopened (opening.BadRecord k)) words a b of at is = absurd (omega (arith, is))
 told_taken (unopened opening.Disk) words a b of at is = absurd (omega (arith, is))
 told_taken (unopened opening.Memory) words a b of at is = absurd (omega (arith, is))
-told_taken (opened start round) words a b of at is = absurd (round_status round 11 (omega arith) (omega arith) (omega arith) is)
-told_taken (tried start onboarding) words a b of at is = absurd (onboarding_status start.history onboarding 11 (inr (inr refl)) is)
+told_taken (opened start (serving service)) words a b of at is = absurd (close_status _ service.close 11 (omega arith) (omega arith) (omega arith) is)
+told_taken (opened start (onboarding o)) words a b of at is = absurd (onboarding_status start.history o 11 (inr (inr refl)) is)
 
--- the course of words of a command is one of that command
+-- the course of words of a command is one of settings of that command
 of_command : (command : Command) (words : List (List ℕ)) (course : Course) → AreWordsOf command words → IsOfSettings words course
-    → (manager : ℕ) × (role : Role) × IsOf command manager role course
-of_command command words course are of =
-    let P : Command → Type 0 = λ x. IsOf x are.settings.manager are.settings.role course in
-    (are.settings.manager, are.settings.role, subst P are.is (of_settings words course are.settings are.set of))
+    → (s : Settings) × (s.command ≡ command) × IsOf s course
+of_command command words course are of = (are.settings, are.is, of_settings words course are.settings are.set of)
 
 -- the course of `init`'s words is one of `init`, for their manager
-of_init : (m : ℕ) (words : List (List ℕ)) (course : Course) → AreInit m words → IsOfSettings words course → (role : Role) × IsOf Init m role course
-of_init m words course are of =
-    let P : Command → Type 0 = λ x. IsOf x are.settings.manager are.settings.role course in
-    let Q : ℕ → Type 0 = λ k. IsOf Init k are.settings.role course in
-    (are.settings.role, subst Q are.number (subst P are.is (of_settings words course are.settings are.set of)))
+of_init : (m : ℕ) (words : List (List ℕ)) (course : Course) → AreInit m words → IsOfSettings words course → (s : Settings) × (s.command ≡ Init) × (s.manager ≡ m) × IsOf s course
+of_init m words course are of = (are.settings, are.is, are.number, of_settings words course are.settings are.set of)
+
+-- settings of a command aren't those of another course
+never_unopened : (P : Type 0) (s : Settings) (why : OpenFault) → s.command ≡ Init → IsOf s (unopened why) → P
+never_unopened P s why init is = absurd (false≢true (ap loads (sym init) ∙ is))
+
+never_served : (P : Type 0) (s : Settings) (command : Command) (c : Command) → s.command ≡ command → s.command ≡ c → (command ≡ c → ⊥) → P
+never_served P s command c one other different = absurd (different (sym one ∙ other))
 
 -- a file that isn't unfinished for the manager is told so
 pub taken_ending : (course : Course) (words : List (List ℕ)) (a b : SiteState) (m : ℕ) → AreInit m words → IsOfWords words course → AtFile course a b
@@ -227,13 +210,13 @@ pub taken_ending : (course : Course) (words : List (List ℕ)) (a b : SiteState)
 taken_ending misused words a b m are of at not = commanded _ words are.settings are.set of
 taken_ending starved words a b m are of at not = inr (inr refl)
 taken_ending (making number (Ok done)) words a b m are of at not =
-    let same : number ≡ m = (of_init m words (making number (Ok done)) are of).1 in
+    let same : number ≡ m = (let it = of_init m words (making number (Ok done)) are of in it.3.1 ∙ it.2) in
     absurd ((at.kept (λ unfinished. not (subst (λ k. IsUnfinished k a.image) same unfinished))).1 refl)
 taken_ending (making number (Err creating.Taken)) words a b m are of at not = inl refl
 taken_ending (making number (Err creating.Disk)) words a b m are of at not = inr (inl refl)
-taken_ending (unopened why) words a b m are of at not = absurd (of_init m words (unopened why) are of).1
-taken_ending (opened start round) words a b m are of at not = absurd (of_init m words (opened start round) are of).1
-taken_ending (tried start onboarding) words a b m are of at not = absurd (of_init m words (tried start onboarding) are of).1
+taken_ending (unopened why) words a b m are of at not = let it = of_init m words (unopened why) are of in never_unopened _ it.0 why it.1 it.3
+taken_ending (opened start (serving service)) words a b m are of at not = let it = of_init m words (opened start (serving service)) are of in never_served _ it.0 Init Once it.1 it.3.command (λ wrong. cc)
+taken_ending (opened start (onboarding o)) words a b m are of at not = let it = of_init m words (opened start (onboarding o)) are of in never_served _ it.0 Init Onboard it.1 it.3 (λ wrong. cc)
 
 -- where `init` did its work the file is made
 pub made_ending : (course : Course) (words : List (List ℕ)) (a b : SiteState) (m : ℕ) → AreInit m words → IsOfWords words course → AtFile course a b
@@ -241,13 +224,13 @@ pub made_ending : (course : Course) (words : List (List ℕ)) (a b : SiteState) 
 made_ending misused words a b m are of at is = absurd (omega (arith, is))
 made_ending starved words a b m are of at is = absurd (omega (arith, is))
 made_ending (making number (Ok done)) words a b m are of at is =
-    let same : number ≡ m = (of_init m words (making number (Ok done)) are of).1 in
+    let same : number ≡ m = (let it = of_init m words (making number (Ok done)) are of in it.3.1 ∙ it.2) in
     subst (λ k. IsMade k b) same at.made
 made_ending (making number (Err creating.Taken)) words a b m are of at is = absurd (omega (arith, is))
 made_ending (making number (Err creating.Disk)) words a b m are of at is = absurd (omega (arith, is))
-made_ending (unopened why) words a b m are of at is = absurd (of_init m words (unopened why) are of).1
-made_ending (opened start round) words a b m are of at is = absurd (of_init m words (opened start round) are of).1
-made_ending (tried start onboarding) words a b m are of at is = absurd (of_init m words (tried start onboarding) are of).1
+made_ending (unopened why) words a b m are of at is = let it = of_init m words (unopened why) are of in never_unopened _ it.0 why it.1 it.3
+made_ending (opened start (serving service)) words a b m are of at is = let it = of_init m words (opened start (serving service)) are of in never_served _ it.0 Init Once it.1 it.3.command (λ wrong. cc)
+made_ending (opened start (onboarding o)) words a b m are of at is = let it = of_init m words (opened start (onboarding o)) are of in never_served _ it.0 Init Onboard it.1 it.3 (λ wrong. cc)
 
 -- a sound start is opened, unless the disk failed or there was no memory
 sound_unopened : (why : OpenFault) (m : ℕ) (H : List Event) (a b : SiteState) → IsSoundStart m H a → AtFile (unopened why) a b
@@ -267,9 +250,9 @@ complete_init starved words a b are of disk = inr (inl refl)
 complete_init (making number (Ok done)) words a b are of disk = inl refl
 complete_init (making number (Err creating.Taken)) words a b are of disk = inr (inr refl)
 complete_init (making number (Err creating.Disk)) words a b are of disk = absurd (disk refl)
-complete_init (unopened why) words a b are of disk = absurd (of_command Init words (unopened why) are of).2
-complete_init (opened start round) words a b are of disk = absurd (of_command Init words (opened start round) are of).2
-complete_init (tried start onboarding) words a b are of disk = absurd (of_command Init words (tried start onboarding) are of).2
+complete_init (unopened why) words a b are of disk = let it = of_command Init words (unopened why) are of in never_unopened _ it.0 why it.1 it.2
+complete_init (opened start (serving service)) words a b are of disk = let it = of_command Init words (opened start (serving service)) are of in never_served _ it.0 Init Once it.1 it.2.command (λ wrong. cc)
+complete_init (opened start (onboarding o)) words a b are of disk = let it = of_command Init words (opened start (onboarding o)) are of in never_served _ it.0 Init Onboard it.1 it.2 (λ wrong. cc)
 
 -- what a descriptor that was judged ends with
 judged_status : (v : Verdict) → MayEndWith Onboard (status_of (verdict_ending v))
@@ -282,33 +265,31 @@ complete_onboard : (course : Course) (words : List (List ℕ)) (a b : SiteState)
     → AtFile course a b → (ending_of course ≡ SiteFault → ⊥) → (ending_of course ≡ DoorFault → ⊥) → MayEndWith Onboard (status_of (ending_of course))
 complete_onboard misused words a b m H are sound of at disk door = commanded _ words are.settings are.set of
 complete_onboard starved words a b m H are sound of at disk door = inr (inl refl)
-complete_onboard (making number result) words a b m H are sound of at disk door = absurd (of_command Onboard words (making number result) are of).2
+complete_onboard (making number result) words a b m H are sound of at disk door = let it = of_command Onboard words (making number result) are of in never_served _ it.0 Onboard Init it.1 it.2.0 (λ wrong. cc)
 complete_onboard (unopened why) words a b m H are sound of at disk door = inr (inl (sound_unopened why m H a b sound at disk))
-complete_onboard (opened start round) words a b m H are sound of at disk door = absurd (of_command Onboard words (opened start round) are of).2
-complete_onboard (tried start unready) words a b m H are sound of at disk door = inr (inl refl)
-complete_onboard (tried start unheard) words a b m H are sound of at disk door = absurd (door refl)
-complete_onboard (tried start (cut_off bytes)) words a b m H are sound of at disk door = absurd (door refl)
-complete_onboard (tried start (heard bytes now (Ok done))) words a b m H are sound of at disk door = judged_status (verdict start.history now bytes)
-complete_onboard (tried start (heard bytes now (Err fault.Disk))) words a b m H are sound of at disk door = absurd (disk refl)
-complete_onboard (tried start (heard bytes now (Err fault.Memory))) words a b m H are sound of at disk door = inr (inl refl)
+complete_onboard (opened start (serving service)) words a b m H are sound of at disk door = let it = of_command Onboard words (opened start (serving service)) are of in never_served _ it.0 Onboard Once it.1 it.2.command (λ wrong. cc)
+complete_onboard (opened start (onboarding unready)) words a b m H are sound of at disk door = inr (inl refl)
+complete_onboard (opened start (onboarding unheard)) words a b m H are sound of at disk door = absurd (door refl)
+complete_onboard (opened start (onboarding (cut_off bytes))) words a b m H are sound of at disk door = absurd (door refl)
+complete_onboard (opened start (onboarding (heard bytes now (Ok done)))) words a b m H are sound of at disk door = judged_status (verdict start.history now bytes)
+complete_onboard (opened start (onboarding (heard bytes now (Err fault.Disk)))) words a b m H are sound of at disk door = absurd (disk refl)
+complete_onboard (opened start (onboarding (heard bytes now (Err fault.Memory)))) words a b m H are sound of at disk door = inr (inl refl)
 
--- a round does its work, unless the disk or the door failed
-round_done : (round : Round) → (round_ending round ≡ SiteFault → ⊥) → (round_ending round ≡ DoorFault → ⊥) → status_of (round_ending round) ≡ 0
-round_done unreached disk door = absurd (door refl)
-round_done unasked disk door = refl
-round_done (served serving (Ok done)) disk door = refl
-round_done (served serving (Err fault.Disk)) disk door = absurd (disk refl)
-round_done (served serving (Err fault.Memory)) disk door = refl
+-- rounds do their work, unless the disk or the door failed
+rounds_done : (rounds : ℕ) (close : Close) → (close_ending rounds close ≡ SiteFault → ⊥) → (close_ending rounds close ≡ DoorFault → ⊥) → status_of (close_ending rounds close) ≡ 0
+rounds_done rounds finished disk door = refl
+rounds_done rounds unreached disk door = absurd (door refl)
+rounds_done rounds (stopped came talk) disk door = absurd (disk refl)
 
 -- `once` ends with 0 or 6 from a sound start, unless the disk or the door failed
 complete_once : (course : Course) (words : List (List ℕ)) (a b : SiteState) (m : ℕ) (H : List Event) → AreWordsOf Once words → IsSoundStart m H a → IsOfWords words course
     → AtFile course a b → (ending_of course ≡ SiteFault → ⊥) → (ending_of course ≡ DoorFault → ⊥) → MayEndWith Once (status_of (ending_of course))
 complete_once misused words a b m H are sound of at disk door = commanded _ words are.settings are.set of
 complete_once starved words a b m H are sound of at disk door = inr refl
-complete_once (making number result) words a b m H are sound of at disk door = absurd (of_command Once words (making number result) are of).2
+complete_once (making number result) words a b m H are sound of at disk door = let it = of_command Once words (making number result) are of in never_served _ it.0 Once Init it.1 it.2.0 (λ wrong. cc)
 complete_once (unopened why) words a b m H are sound of at disk door = inr (sound_unopened why m H a b sound at disk)
-complete_once (opened start round) words a b m H are sound of at disk door = inl (round_done round disk door)
-complete_once (tried start onboarding) words a b m H are sound of at disk door = absurd (of_command Once words (tried start onboarding) are of).2
+complete_once (opened start (serving service)) words a b m H are sound of at disk door = inl (rounds_done _ service.close disk door)
+complete_once (opened start (onboarding o)) words a b m H are sound of at disk door = let it = of_command Once words (opened start (onboarding o)) are of in never_served _ it.0 Once Onboard it.1 it.2 (λ wrong. cc)
 
 -- from a sound start a command does its work or is refused, unless a call failed or there was no memory
 pub complete_ending : (command : Command) (course : Course) (words : List (List ℕ)) (a b : SiteState) → AreWordsOf command words → IsStartOf command a → IsOfWords words course

@@ -1,73 +1,58 @@
 -- What onboarding does, by what was heard at the door.
-use Rattle.std.proofs.Common.{◌≡◌, ◌≢◌, ◌≤◌, ◌⊎◌, ◌++◌, ℕ, List, [], length, take, min, Bool, true, false, Option, Result, Ok, Err, refl, sym, ◌∙◌, ap, inl, inr, ⊎_elim}
+use Rattle.std.proofs.Common.{◌≡◌, ◌⊎◌, ℕ, List, take, min, Result, Ok, Err, refl, sym, ◌∙◌, inl, inr, ⊎_elim}
 use Rattle.std.specs.Prelude.{IfOk}
-use Rattle.executor.specs.Managed.{Managed, StandsFor}
+use Rattle.executor.specs.Managed.{Managed, IsReady}
+use Rattle.executor.specs.Work.{Works}
+use Rattle.executor.proofs.WorkLemmas.{idle}
 use Rattle.lcm_api.specs.Mouth.{MouthState}
-use Rattle.lcm_api.specs.Serving.{AtSite, Follows}
+use Rattle.lcm_api.specs.Talking.{Tells, World, world}
 use Rattle.lcm_api.specs.declared.answer.ApiFault.{ApiFault}
 use Rattle.lcm_api.specs.declared.answer.ApiFault.TheVariants as fault
 use Rattle.lcm_events.specs.declared.events.Event.{Event}
 use Rattle.site_traits.specs.Clock.{Gives}
 use Rattle.site_traits.specs.Site.{SiteState}
-use Rattle.vnfm_cli.specs.Course.{Onboarding, unready, unheard, cut_off, heard, judged_ending, onboarding_ending, verdict_ending}
-use Rattle.vnfm_cli.specs.Judging.{HearsDescriptor, IsEndingOf, work_of}
+use Rattle.vnfm_cli.specs.Course.{Onboarding, unready, unheard, cut_off, heard, judged_ending, onboarding_ending, recorded_as, verdict_ending}
+use Rattle.vnfm_cli.specs.Judging.{HearsDescriptor, IsEndingOf, result_of}
 use Rattle.vnfm_cli.specs.Onboarding.{Verdict, refused, full, accepted, onboarded, verdict}
-use Rattle.vnfm_cli.specs.Rounds.{Onboards}
+use Rattle.vnfm_cli.specs.Runs.{Onboards}
 use Rattle.vnfm_cli.specs.declared.ending.Ending.{Ending}
 use Rattle.vnfm_cli.specs.declared.ending.Ending.TheVariants.{DoorFault, NoMemory, SiteFault}
 use Rattle.vnfm_cli.specs.declared.onboard.Unheard.{Unheard}
 use Rattle.vnfm_cli.specs.declared.onboard.Unheard.TheVariants.{Waiting, Reading}
-use Rattle.vnfm_cli.proofs.OnboardLemmas.{unchanged}
 
 -- how the run ends, by what the work on the journal answered
-ending_is : (v : Verdict) (answer : Result Ending ApiFault) (ending : Ending) → IfOk answer (λ e. e ≡ verdict_ending v) → IsEndingOf answer ending → ending ≡ judged_ending v (work_of answer)
+ending_is : (v : Verdict) (answer : Result Ending ApiFault) (ending : Ending) → IfOk answer (λ e. e ≡ verdict_ending v) → IsEndingOf answer ending → ending ≡ judged_ending v (result_of answer)
 ending_is v (Ok e) ending told is = is ∙ told
 ending_is v (Err fault.Disk) ending told is = is
 ending_is v (Err fault.Memory) ending told is = is
 
 -- bytes were heard, judged and recorded
-pub onboards_heard : (S D K : Type 0) (m n : Managed) (count now value : ℕ) (room : List ℕ) (answer : Result Ending ApiFault) (ending : Ending) (a b : SiteState) (c d : MouthState) (ks ls : List ℕ)
-    → HearsDescriptor D (Ok count) room c d
-    → IfOk answer (λ e. e ≡ verdict_ending (verdict m.history now (take count room)))
-    → Follows (onboarded now (verdict m.history now (take count room))) (work_of answer) m n → n.ledger.manager ≡ m.ledger.manager
-    → (S → AtSite (onboarded now (verdict m.history now (take count room))) (work_of answer) m n a b)
-    → (K → Gives value ks ls) → now ≡ min value 253402300799999 → IsEndingOf answer ending
-    → (onboarding : Onboarding) × Onboards S D K onboarding m n a b c d ks ls × (ending ≡ onboarding_ending m.history onboarding)
-onboards_heard S D K m n count now value room answer ending a b c d ks ls hears told follows number site gives moment is = (
-  heard (take count room) now (work_of answer),
-  record {
-    managed = follows;
-    number = number;
-    site = site;
-    door = hears;
-    clock = λ tells. record { value = value; gives = gives tells; moment_is = moment };
-  },
-  ending_is (verdict m.history now (take count room)) answer ending told is,
+pub onboards_heard : (t : Tells) (m : ℕ) (H : List Event) (n : Managed) (count now value : ℕ) (room : List ℕ) (answer : Result Ending ApiFault) (ending : Ending) (w v : World)
+    → HearsDescriptor t.door (Ok count) room w.mouth v.mouth
+    → IfOk answer (λ e. e ≡ verdict_ending (verdict H now (take count room)))
+    → Works t.site m H (recorded_as H (onboarded now (verdict H now (take count room))) (result_of answer)) n w.site v.site
+    → (t.clock → Gives value w.clock v.clock) → now ≡ min value 253402300799999 → IsEndingOf answer ending
+    → (o : Onboarding) × Onboards t m H o n w v × (ending ≡ onboarding_ending H o)
+onboards_heard t m H n count now value room answer ending w v hears told works gives moment is = (
+  heard (take count room) now (result_of answer),
+  record { works = works; brings = record { door = hears; clock = λ tells. record { value = value; gives = gives tells; moment_is = moment } } },
+  ending_is (verdict H now (take count room)) answer ending told is,
 )
 
 -- nothing was heard
-pub onboards_unheard : (S D K : Type 0) (m : Managed) (why : Unheard) (room : List ℕ) (a : SiteState) (c d : MouthState) (ks : List ℕ)
-    → HearsDescriptor D (Err why) room c d → m.ledger.closed ≡ false → (S → StandsFor m a)
-    → (onboarding : Onboarding) × Onboards S D K onboarding m m a a c d ks ks × (DoorFault ≡ onboarding_ending m.history onboarding)
-onboards_unheard S D K m Waiting room a c d ks hears usable stands = (
-  unheard,
-  record { managed = (refl, usable); number = refl; site = λ tells. unchanged [] (Ok tt) m m a a (stands tells) refl refl; door = hears; clock = λ tells. refl },
-  refl,
-)
-onboards_unheard S D K m Reading room a c d ks hears usable stands = (
-  cut_off hears.0,
-  record { managed = (refl, usable); number = refl; site = λ tells. unchanged [] (Ok tt) m m a a (stands tells) refl refl; door = hears.1; clock = λ tells. refl },
-  refl,
-)
+pub onboards_unheard : (t : Tells) (m : Managed) (H : List Event) (why : Unheard) (room : List ℕ) (s : SiteState) (c d : MouthState) (ks : List ℕ)
+    → HearsDescriptor t.door (Err why) room c d → IsReady t.site m H s
+    → (o : Onboarding) × Onboards t m.ledger.manager H o m (world s c ks) (world s d ks) × (DoorFault ≡ onboarding_ending H o)
+onboards_unheard t m H Waiting room s c d ks hears ready =
+    (unheard, record { works = idle t.site m H s ready; brings = record { door = hears; clock = λ tells. refl } }, refl)
+onboards_unheard t m H Reading room s c d ks hears ready =
+    (cut_off hears.0, record { works = idle t.site m H s ready; brings = record { door = hears.1; clock = λ tells. refl } }, refl)
 
 -- there was no memory to read into
-pub onboards_unready : (S D K : Type 0) (m : Managed) (a : SiteState) (c : MouthState) (ks : List ℕ) → m.ledger.closed ≡ false → (S → StandsFor m a)
-    → (onboarding : Onboarding) × Onboards S D K onboarding m m a a c c ks ks × (NoMemory ≡ onboarding_ending m.history onboarding)
-onboards_unready S D K m a c ks usable stands = (
-  unready,
-  record { managed = (refl, usable); number = refl; site = λ tells. unchanged [] (Ok tt) m m a a (stands tells) refl refl; door = refl; clock = λ tells. refl },
-  refl,
-)
+pub onboards_unready : (t : Tells) (m : Managed) (H : List Event) (s : SiteState) (c : MouthState) (ks : List ℕ) → IsReady t.site m H s
+    → (o : Onboarding) × Onboards t m.ledger.manager H o m (world s c ks) (world s c ks) × (NoMemory ≡ onboarding_ending H o)
+onboards_unready t m H s c ks ready =
+    (unready, record { works = idle t.site m H s ready; brings = record { door = refl; clock = λ tells. refl } }, refl)
 
 -- a descriptor that was judged ends with no fault
 no_fault : (v : Verdict) (e : Ending) → e ≡ verdict_ending v → (e ≡ SiteFault) ⊎ (e ≡ DoorFault) → ⊥

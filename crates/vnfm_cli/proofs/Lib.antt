@@ -4,6 +4,7 @@ mod EndingLemmas
 mod ExactLemmas
 mod HeardLemmas
 mod OnboardLemmas
+mod RoundLemmas
 mod RunLemmas
 mod ValidLemmas
 mod VerdictLemmas

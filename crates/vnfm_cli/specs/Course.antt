@@ -24,7 +24,7 @@ pub data Round : Type 0 where
 
 -- How the rounds ended: all were made, waiting for a connection failed, or the disk failed in a talk on a connection from this role.
 pub data Close : Type 0 where
-  done unreached : Close
+  finished unreached : Close
   stopped : Role → Talk → Close
 
 -- the rounds that were made for whoever asks, the latest first, and how they ended
@@ -65,7 +65,7 @@ once_made m H (served came talk) = stood (work_of m H talk)
 
 -- the work of the last talk, behind the rounds that were made
 abbrev pub close_work : ℕ → List Event → Close → Work
-close_work m H done = went H
+close_work m H finished = went H
 close_work m H unreached = went H
 close_work m H (stopped came talk) = work_of m H talk
 
@@ -93,7 +93,7 @@ deed_work m H (onboarding o) = onboarding_work H o
 
 -- how a run ends after so many rounds
 abbrev pub close_ending : ℕ → Close → Ending
-close_ending n done = Done n
+close_ending n finished = Done n
 close_ending n unreached = DoorFault
 close_ending n (stopped came talk) = SiteFault
 
@@ -145,7 +145,7 @@ ending_of (opened start deed) = deed_ending start.history deed
 
 -- so many rounds were made where all were, and fewer where they ended before
 abbrev pub IsCount : ℕ → ℕ → Close → Type 0
-IsCount wanted n done = n ≡ wanted
+IsCount wanted n finished = n ≡ wanted
 IsCount wanted n other = n < wanted
 
 -- the deed is one of these settings

@@ -6,7 +6,7 @@ use Rattle.vnfm_cli.specs.declared.ending.Ending.TheVariants.{Done, Made, Onboar
 
 -- the status of an ending
 abbrev pub status_of : Ending → ℕ
-status_of Done = 0
+status_of (Done rounds) = 0
 status_of (Made manager) = 0
 status_of (Onboarded line) = 0
 status_of Usage = 2
@@ -30,7 +30,7 @@ full_line end more = codes "journal full: " ++ decimal end ++ codes " + " ++ dec
 
 -- the line of an ending
 abbrev pub line_of : Ending → List ℕ
-line_of Done = codes "done after 1 rounds\n"
+line_of (Done rounds) = codes "done after " ++ decimal rounds ++ codes " rounds\n"
 line_of (Made manager) = numbered_line (codes "journal made for manager ") manager
 line_of (Onboarded line) = line
 line_of Usage = codes "usage: vnfm init|onboard|once|serve|check|trial\n"

@@ -10,7 +10,8 @@ use Rattle.lcm_events.specs.declared.descriptor.Vnfd.{Vnfd}
 use Rattle.lcm_events.specs.declared.events.Event.{Event}
 use Rattle.lcm_model.specs.Allowed.{MayOnboard}
 use Rattle.vnfm_cli.specs.Onboarding.{refused, new_verdict, onboarded_line, onboarding, room_verdict, verdict}
-use Rattle.vnfm_cli.specs.Runs.{Brings, BringsNothing, IsUnreached}
+use Rattle.vnfm_cli.specs.Rounds.{IsUnreached}
+use Rattle.vnfm_cli.specs.Runs.{Brings, BringsNothing}
 use Rattle.vnfm_cli.specs.declared.ending.Ending.{Ending}
 use Rattle.vnfm_cli.specs.declared.ending.Ending.TheVariants.{NoMemory, SiteFault}
 use Rattle.vnfm_cli.specs.declared.onboard.Judgement.{Judgement}
@@ -43,9 +44,9 @@ IsEndingOf (Err fault.Disk) e = e ≡ SiteFault
 IsEndingOf (Err fault.Memory) e = e ≡ NoMemory
 
 -- how the work on the journal ended
-abbrev pub work_of : Result Ending ApiFault → Result (Unit {0}) ApiFault
-work_of (Ok ending) = Ok tt
-work_of (Err fault) = Err fault
+abbrev pub result_of : Result Ending ApiFault → Result (Unit {0}) ApiFault
+result_of (Ok ending) = Ok tt
+result_of (Err fault) = Err fault
 
 -- so many bytes at the front of the room were heard, or why there are none
 abbrev pub HearsDescriptor : Type 0 → Result ℕ Unheard → List ℕ → MouthState → MouthState → Type 0

@@ -1,7 +1,7 @@
 -- What rounds do at the door and to the clock, and with the journal.
 use Rattle.std.specs.Prelude.{◌≡◌, ◌⊎◌, ℕ, Bool, true, false, List, [], ◌∷◌}
 use Rattle.executor.specs.Managed.{Managed}
-use Rattle.executor.specs.Work.{Works}
+use Rattle.executor.specs.Work.{Work, Works, went}
 use Rattle.lcm_api.specs.Mouth.{MouthState, Begins}
 use Rattle.lcm_api.specs.Session.{Talk, breaks, life}
 use Rattle.lcm_api.specs.Talking.{Tells, Peers, World, peers_of, Attends}
@@ -11,7 +11,9 @@ use Rattle.site_traits.specs.Clock.{Gives}
 use Rattle.site_traits.specs.Door.{DoorState, Comes, ComesNot, next_failed, opened as has_come}
 use Rattle.site_traits.specs.declared.door.NextAnswer.{NextAnswer}
 use Rattle.site_traits.specs.declared.door.NextAnswer.TheVariants.{Nobody, Ended}
-use Rattle.vnfm_cli.specs.Course.{Round, unasked, served, Close, done, unreached, stopped, Service, once_made, service_work}
+use Rattle.vnfm_cli.specs.Course.{Round, unasked, served, Close, finished, unreached, stopped, Service, close_work, once_made, service_work}
+use Rattle.vnfm_cli.specs.declared.rounds.RoundEnd.{RoundEnd}
+use Rattle.vnfm_cli.specs.declared.rounds.RoundEnd.TheVariants as ends
 
 -- the door was asked for a connection, and none came
 pub record IsNobody (a b : DoorState) : Type 0 where
@@ -59,7 +61,7 @@ RoundsDo t m H (r ∷ before) a c = (b : Peers) × RoundsDo t m H before a b × 
 
 -- what the end of the rounds does; after a disk fault the clock isn't read
 abbrev pub CloseDoes : Tells → ℕ → List Event → Close → Peers → Peers → Type 0
-CloseDoes t m H done a b = b ≡ a
+CloseDoes t m H finished a b = b ≡ a
 CloseDoes t m H unreached a b = IsUnreached t.door a.mouth b.mouth × (b.clock ≡ a.clock)
 CloseDoes t m H (stopped came talk) a b = Receives t m H came talk a b × (breaks talk.end ≡ true)
 
@@ -85,3 +87,34 @@ pub record Attended (t : Tells) (m : ℕ) (H : List Event) (service : Service) (
 pub record Makes (t : Tells) (m : ℕ) (H : List Event) (service : Service) (n : Managed) (w v : World) : Type 0 where
   pub works : Works t.site m H (service_work m H service) n w.site v.site
   pub attended : Attended t m H service (peers_of w) (peers_of v)
+
+-- what came of asking for one round more: it was made, or they ended so
+pub data One : Type 0 where
+  round : Round → One
+  end : Close → One
+
+-- its work behind history H
+abbrev pub one_work : ℕ → List Event → One → Work
+one_work m H (round r) = went (once_made m H r)
+one_work m H (end c) = close_work m H c
+
+abbrev pub OneDoes : Tells → ℕ → List Event → One → Peers → Peers → Type 0
+OneDoes t m H (round r) a b = RoundDoes t m H r a b
+OneDoes t m H (end c) a b = CloseDoes t m H c a b
+
+-- its talk was held for this role
+abbrev pub OneFor : Role → One → Type 0
+OneFor role (round r) = AreFor role (r ∷ [])
+OneFor role (end c) = ClosesFor role c
+
+-- what it was, by what it answers
+abbrev pub IsOne : RoundEnd → One → Type 0
+IsOne ends.Made (round r) = Unit {0}
+IsOne ends.Unreached (end unreached) = Unit {0}
+IsOne ends.Broken (end (stopped came talk)) = Unit {0}
+IsOne answer other = ⊥
+
+-- what it does
+pub record MakesOne (t : Tells) (m : ℕ) (H : List Event) (one : One) (n : Managed) (w v : World) : Type 0 where
+  pub works : Works t.site m H (one_work m H one) n w.site v.site
+  pub does : OneDoes t m H one (peers_of w) (peers_of v)

@@ -2,7 +2,8 @@
 use Rattle.std.specs.Prelude.{◌≡◌, ◌<◌, ◌⊎◌, ℕ, List, [], Bool, true, false, min}
 use Rattle.executor.specs.History.{HasHistory}
 use Rattle.executor.specs.Open.{IsBadRecord, Refuses}
-use Rattle.executor.specs.Work.{Work, Grows, HasSome, aimed, failed, stood}
+use Rattle.executor.specs.Work.{Work, Works, Grows, HasSome, aimed, failed, stood}
+use Rattle.executor.specs.Managed.{Managed}
 use Rattle.executor.specs.declared.manager.OpenFault.{OpenFault}
 use Rattle.journal_core.specs.Create.{Creates}
 use Rattle.journal_core.specs.Header.{IsUnmade, IsForeign}
@@ -17,7 +18,7 @@ use Rattle.site_traits.specs.Clock.{Gives}
 use Rattle.site_traits.specs.Counts.{Rose}
 use Rattle.site_traits.specs.Door.{DoorCounts, DoorState, Comes, HangsUp, NoNextFault, closed, opened as has_come}
 use Rattle.site_traits.specs.Site.{Pair, SiteState, IsSettled, LeavesOnly}
-use Rattle.vnfm_cli.specs.Course.{Course, misused, starved, making, unopened, opened, Deed, serving, onboarding, Onboarding, unready, unheard, cut_off, heard, Opening, deed_work, IsOfWords}
+use Rattle.vnfm_cli.specs.Course.{Course, misused, starved, making, unopened, opened, Deed, serving, onboarding, Onboarding, unready, unheard, cut_off, heard, Opening, deed_work, onboarding_work, IsOfWords}
 use Rattle.vnfm_cli.specs.Rounds.{Attended, IsNobody, IsUnreached}
 use Rattle.vnfm_cli.specs.declared.options.Command.{Command}
 use Rattle.vnfm_cli.specs.declared.options.Command.TheVariants.{Init, Onboard, Once}
@@ -133,6 +134,11 @@ OnboardingAtClock other old new = new ≡ old
 pub record BringsIn (t : Tells) (o : Onboarding) (a b : Peers) : Type 0 where
   pub door : OnboardingAtDoor t.door o a.mouth b.mouth
   pub clock : t.clock → OnboardingAtClock o a.clock b.clock
+
+-- what onboarding does to the journal too; the manager is now n
+pub record Onboards (t : Tells) (m : ℕ) (H : List Event) (o : Onboarding) (n : Managed) (w v : World) : Type 0 where
+  pub works : Works t.site m H (onboarding_work H o) n w.site v.site
+  pub brings : BringsIn t o (peers_of w) (peers_of v)
 
 -- what a deed does to both
 abbrev pub AtPeersBy : Tells → Opening → Deed → Peers → Peers → Type 0

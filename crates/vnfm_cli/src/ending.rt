@@ -11,8 +11,8 @@ use vnfm_base::Text;
 /// How a run ended.
 #[derive(Debug, Drop)]
 pub enum Ending {
-    /// The command did its work.
-    Done,
+    /// So many rounds were made.
+    Done(u32),
     /// A journal was made for this manager.
     Made(u32),
     /// A descriptor was onboarded, of which this is the line.
@@ -50,7 +50,7 @@ impl Ending {
         ensures { result ≡ status_of self.now }
     {
         match self {
-            Ending::Done => 0,
+            Ending::Done(_) => 0,
             Ending::Made(_) => 0,
             Ending::Onboarded(_) => 0,
             Ending::Usage => 2,
@@ -72,7 +72,7 @@ impl Ending {
         ensures cause { SinkCause (W.counts out.old) (W.counts out.new) result }
     {
         match self {
-            Ending::Done => out.put(b"done after 1 rounds\n"),
+            Ending::Done(rounds) => out.put(done_line(*rounds).as_str().as_bytes()),
             Ending::Made(manager) => { out.put(made_line(*manager).as_str().as_bytes()) }
             Ending::Onboarded(line) => out.put(line.as_bytes()),
             Ending::Usage => out.put(b"usage: vnfm init|onboard|once|serve|check|trial\n"),
@@ -91,6 +91,18 @@ impl Ending {
             Ending::Taken => out.put(b"taken\n"),
         }
     }
+}
+
+/// The line behind so many rounds.
+fn done_line(rounds: u32) -> ArrayString<64>
+    ensures { result.bytes ≡ codes "done after " ++ decimal rounds ++ codes " rounds\n" }
+{
+    let mut digits = Buffer::new();
+    let mut line = ArrayString::new();
+    line.push_str("done after ");
+    line.push_str(digits.format(rounds));
+    line.push_str(" rounds\n");
+    line
 }
 
 /// The line of a journal that was made.

@@ -5,6 +5,7 @@ mod descriptor;
 mod ending;
 mod onboard;
 mod options;
+mod rounds;
 mod top;
 mod words;
 

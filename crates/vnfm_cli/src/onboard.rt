@@ -1,19 +1,20 @@
 //! Onboarding: a connection's bytes are read as a descriptor, judged, and recorded.
 ghost use Rattle.std.specs.Prelude.{◌≡◌, ◌≤◌, ◌⊎◌, ◌++◌, ℕ, List, codes, length, string_bytes, IfOk, OnOk, Some, false, true};
-ghost use Rattle.executor.specs.Managed.{StandsFor};
+ghost use Rattle.executor.specs.Managed.{IsReady, Keeps};
+ghost use Rattle.executor.specs.Work.{Works};
 ghost use Rattle.event_codec.specs.Spell.{spelling};
 ghost use Rattle.event_codec.specs.Typed.{TypedEvent};
 ghost use Rattle.event_codec.specs.Valid.{IsEvent};
-ghost use Rattle.lcm_api.specs.Serving.{AtSite, Follows};
+ghost use Rattle.lcm_api.specs.Talking.{telling, world};
 ghost use Rattle.lcm_events.specs.declared.descriptor.Vnfd.{Vnfd};
 ghost use Rattle.lcm_events.specs.declared.events.Event.{Event};
 ghost use Rattle.lcm_events.specs.declared.events.EventKind.TheVariants.{Onboarded};
 ghost use Rattle.site_traits.specs.Counts.{OnlyDiskFails, Rose};
-ghost use Rattle.vnfm_cli.specs.Course.{Onboarding, onboarding_ending, verdict_ending};
+ghost use Rattle.vnfm_cli.specs.Course.{Onboarding, onboarding_ending, recorded_as, verdict_ending};
 ghost use Rattle.lcm_model.specs.Descriptors.{IsValid};
-ghost use Rattle.vnfm_cli.specs.Judging.{HearsDescriptor, IsJudgement, IsNewJudgement, IsEndingOf, IsRecordable, work_of};
+ghost use Rattle.vnfm_cli.specs.Judging.{HearsDescriptor, IsJudgement, IsNewJudgement, IsEndingOf, IsRecordable, result_of};
 ghost use Rattle.vnfm_cli.specs.Onboarding.{onboarded, onboarded_line, onboarding, refused_line, room_verdict, verdict, with_count};
-ghost use Rattle.vnfm_cli.specs.Rounds.{Onboards};
+ghost use Rattle.vnfm_cli.specs.Runs.{Onboards};
 
 use crate::descriptor::DescriptorRefusal;
 use crate::ending::Ending;
@@ -68,12 +69,13 @@ pub fn onboard<S: Site, D: Door, K: Clock>(
     mouth: &mut Mouth<D>,
     clock: &mut K,
 ) -> Ending
-    requires usable { manager.old.ledger.closed ≡ false }
-    requires stands { S.tells → StandsFor manager.old (S.state site.old) }
-    ensures onboards { (onboarding : Onboarding) × Onboards S.tells D.tells K.tells onboarding manager.old manager.new (S.state site.old) (S.state site.new) mouth.old mouth.new (K.state clock.old) (K.state clock.new)
-        × (result ≡ onboarding_ending manager.old.history onboarding) }
+    requires ready { (H : List Event) × IsReady S.tells manager.old H (S.state site.old) }
+    ensures onboards { (H : List Event) → IsReady S.tells manager.old H (S.state site.old) → (o : Onboarding)
+        × Onboards (telling S.tells D.tells K.tells) manager.old.ledger.manager H o manager.new
+        (world (S.state site.old) mouth.old (K.state clock.old)) (world (S.state site.new) mouth.new (K.state clock.new))
+        × (result ≡ onboarding_ending H o) }
     ensures disk { OnlyDiskFails (result ≡ Ending.SiteFault) (S.counts site.old) (S.counts site.new) }
-    ensures door { result ≡ Ending.DoorFault → Rose mouth.old.counts.next mouth.new.counts.next ⊎ Rose mouth.old.counts.faults mouth.new.counts.faults }
+    ensures door { result ≡ Ending.DoorFault → Rose mouth.old.wire.intake.counts.next mouth.new.wire.intake.counts.next ⊎ Rose mouth.old.wire.intake.counts.faults mouth.new.wire.intake.counts.faults }
 {
     match vec![in alloc; 0; MAX_READ] {
         Ok(mut room) => onboard_into(alloc, manager, site, mouth, clock, room.as_mut_slice()),
@@ -91,12 +93,13 @@ fn onboard_into<S: Site, D: Door, K: Clock>(
     room: &mut [u8],
 ) -> Ending
     requires room { length room.old ≡ 1048577 }
-    requires usable { manager.old.ledger.closed ≡ false }
-    requires stands { S.tells → StandsFor manager.old (S.state site.old) }
-    ensures onboards { (onboarding : Onboarding) × Onboards S.tells D.tells K.tells onboarding manager.old manager.new (S.state site.old) (S.state site.new) mouth.old mouth.new (K.state clock.old) (K.state clock.new)
-        × (result ≡ onboarding_ending manager.old.history onboarding) }
+    requires ready { (H : List Event) × IsReady S.tells manager.old H (S.state site.old) }
+    ensures onboards { (H : List Event) → IsReady S.tells manager.old H (S.state site.old) → (o : Onboarding)
+        × Onboards (telling S.tells D.tells K.tells) manager.old.ledger.manager H o manager.new
+        (world (S.state site.old) mouth.old (K.state clock.old)) (world (S.state site.new) mouth.new (K.state clock.new))
+        × (result ≡ onboarding_ending H o) }
     ensures disk { OnlyDiskFails (result ≡ Ending.SiteFault) (S.counts site.old) (S.counts site.new) }
-    ensures door { result ≡ Ending.DoorFault → Rose mouth.old.counts.next mouth.new.counts.next ⊎ Rose mouth.old.counts.faults mouth.new.counts.faults }
+    ensures door { result ≡ Ending.DoorFault → Rose mouth.old.wire.intake.counts.next mouth.new.wire.intake.counts.next ⊎ Rose mouth.old.wire.intake.counts.faults mouth.new.wire.intake.counts.faults }
 {
     match hear(mouth, room) {
         Ok(count) => {
@@ -113,8 +116,8 @@ fn hear<D: Door>(mouth: &mut Mouth<D>, room: &mut [u8]) -> Result<usize, Unheard
     requires room { length room.old ≡ 1048577 }
     ensures within { IfOk result (λ count. count ≤ length room.new) }
     ensures heard { HearsDescriptor D.tells result room.new mouth.old mouth.new }
-    ensures waiting { result ≡ Err Unheard.Waiting → Rose mouth.old.counts.next mouth.new.counts.next }
-    ensures reading { result ≡ Err Unheard.Reading → Rose mouth.old.counts.faults mouth.new.counts.faults }
+    ensures waiting { result ≡ Err Unheard.Waiting → Rose mouth.old.wire.intake.counts.next mouth.new.wire.intake.counts.next }
+    ensures reading { result ≡ Err Unheard.Reading → Rose mouth.old.wire.intake.counts.faults mouth.new.wire.intake.counts.faults }
 {
     match mouth.next() {
         NextAnswer::Came(_) => {
@@ -151,12 +154,10 @@ fn take_in<S: Site>(
     bytes: &[u8],
     now: Moment,
 ) -> Result<Ending, ApiFault>
-    requires usable { manager.old.ledger.closed ≡ false }
-    requires stands { S.tells → StandsFor manager.old (S.state site.old) }
-    ensures ending { IfOk result (λ ending. ending ≡ verdict_ending (verdict manager.old.history now bytes.now)) }
-    ensures follows { Follows (onboarded now (verdict manager.old.history now bytes.now)) (work_of result) manager.old manager.new }
-    ensures number { manager.new.ledger.manager ≡ manager.old.ledger.manager }
-    ensures told { S.tells → AtSite (onboarded now (verdict manager.old.history now bytes.now)) (work_of result) manager.old manager.new (S.state site.old) (S.state site.new) }
+    requires ready { (H : List Event) × IsReady S.tells manager.old H (S.state site.old) }
+    ensures ending { (H : List Event) → Keeps manager.old H → IfOk result (λ ending. ending ≡ verdict_ending (verdict H now bytes.now)) }
+    ensures works { (H : List Event) → IsReady S.tells manager.old H (S.state site.old) → Works S.tells manager.old.ledger.manager H
+        (recorded_as H (onboarded now (verdict H now bytes.now)) (result_of result)) manager.new (S.state site.old) (S.state site.new) }
     ensures disk { OnlyDiskFails (result ≡ Err ApiFault.Disk) (S.counts site.old) (S.counts site.new) }
 {
     match judge(alloc, manager, bytes, now) {
@@ -180,9 +181,8 @@ fn judge<S: Site>(
     bytes: &[u8],
     now: Moment,
 ) -> Result<Judgement, AllocError>
-    requires usable { manager.old.ledger.closed ≡ false }
     ensures kept { manager.new ≡ manager.old }
-    ensures judged { IfOk result (IsJudgement manager.old.history now bytes.now) }
+    ensures judged { (H : List Event) → Keeps manager.old H → IfOk result (IsJudgement H now bytes.now) }
 {
     match read(alloc, bytes) {
         Ok(vnfd) => judge_new(alloc, manager, vnfd, now),
@@ -198,10 +198,9 @@ fn judge_new<S: Site>(
     vnfd: Vnfd,
     now: Moment,
 ) -> Result<Judgement, AllocError>
-    requires usable { manager.old.ledger.closed ≡ false }
     requires valid { IsValid vnfd }
     ensures kept { manager.new ≡ manager.old }
-    ensures judged { IfOk result (IsNewJudgement manager.old.history now vnfd) }
+    ensures judged { (H : List Event) → Keeps manager.old H → IfOk result (IsNewJudgement H now vnfd) }
 {
     if manager.vnfd(&vnfd.descriptor_id).is_some() {
         return Ok(Judgement::Refused(DescriptorRefusal::IsOnboarded));
@@ -238,16 +237,11 @@ fn record<S: Site>(
     event: &Event,
     line: Text,
 ) -> Result<Ending, ApiFault>
-    requires usable { manager.old.ledger.closed ≡ false }
-    requires stands { S.tells → StandsFor manager.old (S.state site.old) }
-    requires recordable { (now : ℕ) × (vnfd : Vnfd) × IsRecordable manager.old.history now vnfd event.now line }
-    ensures ending { (now : ℕ) (vnfd : Vnfd) → IsRecordable manager.old.history now vnfd event.now line
-        → IfOk result (λ ending. ending ≡ verdict_ending (room_verdict manager.old.history now vnfd)) }
-    ensures follows { (now : ℕ) (vnfd : Vnfd) → IsRecordable manager.old.history now vnfd event.now line
-        → Follows (onboarded now (room_verdict manager.old.history now vnfd)) (work_of result) manager.old manager.new }
-    ensures number { manager.new.ledger.manager ≡ manager.old.ledger.manager }
-    ensures told { S.tells → (now : ℕ) (vnfd : Vnfd) → IsRecordable manager.old.history now vnfd event.now line
-        → AtSite (onboarded now (room_verdict manager.old.history now vnfd)) (work_of result) manager.old manager.new (S.state site.old) (S.state site.new) }
+    requires recordable { (H : List Event) × IsReady S.tells manager.old H (S.state site.old) × ((now : ℕ) × (vnfd : Vnfd) × IsRecordable H now vnfd event.now line) }
+    ensures ending { (H : List Event) → Keeps manager.old H → (now : ℕ) (vnfd : Vnfd) → IsRecordable H now vnfd event.now line
+        → IfOk result (λ ending. ending ≡ verdict_ending (room_verdict H now vnfd)) }
+    ensures works { (H : List Event) → IsReady S.tells manager.old H (S.state site.old) → (now : ℕ) (vnfd : Vnfd) → IsRecordable H now vnfd event.now line
+        → Works S.tells manager.old.ledger.manager H (recorded_as H (onboarded now (room_verdict H now vnfd)) (result_of result)) manager.new (S.state site.old) (S.state site.new) }
     ensures disk { OnlyDiskFails (result ≡ Err ApiFault.Disk) (S.counts site.old) (S.counts site.new) }
 {
     match manager.commit(alloc, site, event) {

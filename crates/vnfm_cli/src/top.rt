@@ -1,16 +1,15 @@
 //! The top call: one command over the objects that it is handed.
 ghost use Rattle.std.specs.Prelude.{◌≡◌, ◌≢◌, ◌<◌, ◌⊎◌, ◌↔◌, ℕ, List, None, false, Result};
-ghost use Rattle.executor.specs.Managed.{StandsFor};
 ghost use Rattle.executor.specs.Open.{IsBadRecord};
 ghost use Rattle.journal_core.specs.Create.{Creates, IsMade};
 ghost use Rattle.journal_core.specs.Header.{IsUnfinished};
 ghost use Rattle.journal_core.specs.declared.create.CreateFault.{CreateFault};
 ghost use Rattle.lcm_events.specs.declared.events.Event.{Event};
 ghost use Rattle.site_traits.specs.Counts.{OnlyDiskFails, Rose, one_more};
-ghost use Rattle.vnfm_cli.specs.Course.{Course, Round, IsOf, ending_of, making_ending, round_ending, unopened_ending};
+ghost use Rattle.lcm_api.specs.Talking.{telling, world};
+ghost use Rattle.vnfm_cli.specs.Course.{Course, IsOf, ending_of, making_ending, unopened_ending};
 ghost use Rattle.vnfm_cli.specs.Ending.{Ends, IsStatus};
-ghost use Rattle.vnfm_cli.specs.Runs.{Does, IsDoorCause, IsNoJournal, IsOrYields, IsRead, IsStartOf, MayEndWith, Runs};
-ghost use Rattle.vnfm_cli.specs.Rounds.{MakesRound};
+ghost use Rattle.vnfm_cli.specs.Runs.{Does, IsDoorCause, IsNoJournal, IsOrYields, IsStartOf, MayEndWith, Runs};
 ghost use Rattle.vnfm_cli.specs.Words.{AreInit, AreLoading, AreWordsOf, settings_of};
 ghost use Rattle.vnfm_cli.specs.declared.options.Command.{Command};
 ghost use Rattle.vnfm_cli.specs.declared.options.Command.TheVariants.{Onboard, Once};
@@ -18,12 +17,12 @@ ghost use Rattle.vnfm_cli.specs.declared.options.Command.TheVariants.{Onboard, O
 use crate::ending::{Ending, finish};
 use crate::onboard::onboard;
 use crate::options::{Command, Settings, SettingsFault};
+use crate::rounds::make_rounds;
 use crate::words::settings;
 use executor::{Manager, OpenFault};
 use journal_core::{CreateFault, Journal};
-use lcm_api::{ApiFault, Mouth, answer_session};
-use lcm_events::Role;
-use site_traits::{Clock, Courier, Door, NextAnswer, Orchestrator, Sink, Site};
+use lcm_api::Mouth;
+use site_traits::{Clock, Courier, Door, Orchestrator, Sink, Site};
 use std::alloc::Global;
 use vnfm_base::Text;
 
@@ -32,8 +31,8 @@ use vnfm_base::Text;
 /// The words are a command:
 /// - `init --journal PATH --manager N` makes the journal of manager N.
 /// - `onboard --journal PATH` opens the journal, reads the door's first connection, then the clock, and records the descriptor.
-/// - `once --journal PATH` opens the journal, serves one connection of the door, and reads the clock once for its request and
-///   once for the round.
+/// - `once --journal PATH` opens the journal and makes one round: it serves one connection of the door, whose requests are answered
+///   one by one, and reads the clock once for each request and once for the round.
 ///
 /// The orchestrator and the courier aren't asked yet.
 /// Statuses: 0 the command did its work; 2 the words are no command; 3 exactly where a disk call failed, after which no other is
@@ -52,14 +51,15 @@ pub fn run<S: Site, D: Door, O: Orchestrator, C: Courier, K: Clock, W: Sink>(
     clock: &mut K,
     out: &mut W,
 ) -> u8
-    ensures runs { (course : Course) × Runs S.tells D.tells K.tells words.now course (S.state site.old) (S.state site.new) mouth.old mouth.new (K.state clock.old) (K.state clock.new)
+    ensures runs { (course : Course) × Runs (telling S.tells D.tells K.tells) words.now course
+        (world (S.state site.old) mouth.old (K.state clock.old)) (world (S.state site.new) mouth.new (K.state clock.new))
         × Ends W.tells (ending_of course) result (W.state out.old) (W.state out.new) (W.counts out.old) (W.counts out.new) }
     ensures asks_none { orchestrator.new ≡ orchestrator.old }
     ensures posts_none { courier.new ≡ courier.old }
     ensures usage { (result ≡ 2) ↔ (settings_of words.now ≡ None) }
     ensures site { OnlyDiskFails (result ≡ 3) (S.counts site.old) (S.counts site.new) }
     ensures disk_fault { (S.counts site.old).disk < (S.counts site.new).disk → result ≡ 3 }
-    ensures door { result ≡ 4 → Rose mouth.old.counts.next mouth.new.counts.next ⊎ (AreWordsOf Onboard words.now × Rose mouth.old.counts.faults mouth.new.counts.faults) }
+    ensures door { result ≡ 4 → Rose mouth.old.wire.intake.counts.next mouth.new.wire.intake.counts.next ⊎ (AreWordsOf Onboard words.now × Rose mouth.old.wire.intake.counts.faults mouth.new.wire.intake.counts.faults) }
     ensures sink { result ≡ 7 → Rose (W.counts out.old).faults (W.counts out.new).faults }
     ensures one_line { (W.counts out.new).calls ≡ one_more (W.counts out.old).calls }
     ensures journal { S.tells → result ≡ 5 → IsNoJournal (S.state site.old).image }
@@ -73,7 +73,7 @@ pub fn run<S: Site, D: Door, O: Orchestrator, C: Courier, K: Clock, W: Sink>(
     ensures made { S.tells → (m : ℕ) → AreInit m words.now → (result ≡ 0) ⊎ (result ≡ 7) → IsMade m (S.state site.new) }
     ensures only { IsStatus result }
     ensures complete { S.tells → (command : Command) → AreWordsOf command words.now → IsStartOf command (S.state site.old)
-        → ¬ (Rose (S.counts site.old).disk (S.counts site.new).disk) → ¬ (IsDoorCause command mouth.old.counts mouth.new.counts)
+        → ¬ (Rose (S.counts site.old).disk (S.counts site.new).disk) → ¬ (IsDoorCause command mouth.old.wire.intake.counts mouth.new.wire.intake.counts)
         → ¬ (Rose (W.counts out.old).faults (W.counts out.new).faults) → MayEndWith command result }
 {
     let ending = obey(alloc, words, site, mouth, clock);
@@ -88,11 +88,12 @@ fn obey<S: Site, D: Door, K: Clock>(
     mouth: &mut Mouth<D>,
     clock: &mut K,
 ) -> Ending
-    ensures runs { (course : Course) × Runs S.tells D.tells K.tells words.now course (S.state site.old) (S.state site.new) mouth.old mouth.new (K.state clock.old) (K.state clock.new)
+    ensures runs { (course : Course) × Runs (telling S.tells D.tells K.tells) words.now course
+        (world (S.state site.old) mouth.old (K.state clock.old)) (world (S.state site.new) mouth.new (K.state clock.new))
         × (result ≡ ending_of course) }
     ensures usage { (result ≡ Ending.Usage) ↔ (settings_of words.now ≡ None) }
     ensures disk { OnlyDiskFails (result ≡ Ending.SiteFault) (S.counts site.old) (S.counts site.new) }
-    ensures door { result ≡ Ending.DoorFault → Rose mouth.old.counts.next mouth.new.counts.next ⊎ (AreWordsOf Onboard words.now × Rose mouth.old.counts.faults mouth.new.counts.faults) }
+    ensures door { result ≡ Ending.DoorFault → Rose mouth.old.wire.intake.counts.next mouth.new.wire.intake.counts.next ⊎ (AreWordsOf Onboard words.now × Rose mouth.old.wire.intake.counts.faults mouth.new.wire.intake.counts.faults) }
 {
     match settings(alloc, words) {
         Ok(settings) => perform(alloc, &settings, site, mouth, clock),
@@ -109,16 +110,16 @@ fn perform<S: Site, D: Door, K: Clock>(
     mouth: &mut Mouth<D>,
     clock: &mut K,
 ) -> Ending
-    ensures does { (course : Course) × IsOf settings.now.command settings.now.manager settings.now.role course
-        × Does S.tells D.tells K.tells course (S.state site.old) (S.state site.new) mouth.old mouth.new (K.state clock.old) (K.state clock.new)
+    ensures does { (course : Course) × IsOf settings.now course × Does (telling S.tells D.tells K.tells) course
+        (world (S.state site.old) mouth.old (K.state clock.old)) (world (S.state site.new) mouth.new (K.state clock.new))
         × (result ≡ ending_of course) }
     ensures disk { OnlyDiskFails (result ≡ Ending.SiteFault) (S.counts site.old) (S.counts site.new) }
-    ensures door { result ≡ Ending.DoorFault → IsDoorCause settings.now.command mouth.old.counts mouth.new.counts }
+    ensures door { result ≡ Ending.DoorFault → IsDoorCause settings.now.command mouth.old.wire.intake.counts mouth.new.wire.intake.counts }
 {
     match settings.command {
         Command::Init => init(settings.manager, site),
-        Command::Onboard => bring_in(alloc, settings.role, site, mouth, clock),
-        Command::Once => once(alloc, settings.role, site, mouth, clock),
+        Command::Onboard => bring_in(alloc, settings, site, mouth, clock),
+        Command::Once => once(alloc, settings, site, mouth, clock),
     }
 }
 
@@ -138,15 +139,17 @@ fn init<S: Site>(manager: u32, site: &mut S) -> Ending
 /// Opens the journal, and onboards a descriptor.
 fn bring_in<S: Site, D: Door, K: Clock>(
     alloc: Global,
-    role: Role,
+    settings: &Settings,
     site: &mut S,
     mouth: &mut Mouth<D>,
     clock: &mut K,
 ) -> Ending
-    ensures does { (course : Course) × IsOf Onboard 0 role course × Does S.tells D.tells K.tells course (S.state site.old) (S.state site.new) mouth.old mouth.new (K.state clock.old) (K.state clock.new)
+    requires command { settings.now.command ≡ Onboard }
+    ensures does { (course : Course) × IsOf settings.now course × Does (telling S.tells D.tells K.tells) course
+        (world (S.state site.old) mouth.old (K.state clock.old)) (world (S.state site.new) mouth.new (K.state clock.new))
         × (result ≡ ending_of course) }
     ensures disk { OnlyDiskFails (result ≡ Ending.SiteFault) (S.counts site.old) (S.counts site.new) }
-    ensures door { result ≡ Ending.DoorFault → IsDoorCause Onboard mouth.old.counts mouth.new.counts }
+    ensures door { result ≡ Ending.DoorFault → IsDoorCause Onboard mouth.old.wire.intake.counts mouth.new.wire.intake.counts }
 {
     match Manager::load(alloc, site) {
         Ok(mut manager) => onboard(alloc, &mut manager, site, mouth, clock),
@@ -154,21 +157,31 @@ fn bring_in<S: Site, D: Door, K: Clock>(
     }
 }
 
-/// Opens the journal, and makes one round for this role.
+/// Opens the journal, and makes the rounds that the words set.
 fn once<S: Site, D: Door, K: Clock>(
     alloc: Global,
-    role: Role,
+    settings: &Settings,
     site: &mut S,
     mouth: &mut Mouth<D>,
     clock: &mut K,
 ) -> Ending
-    ensures does { (course : Course) × IsOf Once 0 role course × Does S.tells D.tells K.tells course (S.state site.old) (S.state site.new) mouth.old mouth.new (K.state clock.old) (K.state clock.new)
+    requires command { settings.now.command ≡ Once }
+    ensures does { (course : Course) × IsOf settings.now course × Does (telling S.tells D.tells K.tells) course
+        (world (S.state site.old) mouth.old (K.state clock.old)) (world (S.state site.new) mouth.new (K.state clock.new))
         × (result ≡ ending_of course) }
     ensures disk { OnlyDiskFails (result ≡ Ending.SiteFault) (S.counts site.old) (S.counts site.new) }
-    ensures door { result ≡ Ending.DoorFault → Rose mouth.old.counts.next mouth.new.counts.next }
+    ensures door { result ≡ Ending.DoorFault → Rose mouth.old.wire.intake.counts.next mouth.new.wire.intake.counts.next }
 {
     match Manager::load(alloc, site) {
-        Ok(mut manager) => make_round(alloc, &mut manager, site, mouth, clock, role),
+        Ok(mut manager) => make_rounds(
+            alloc,
+            &mut manager,
+            site,
+            mouth,
+            clock,
+            settings.role,
+            settings.rounds,
+        ),
         Err(fault) => unopened(fault),
     }
 }
@@ -184,41 +197,4 @@ fn unopened(fault: OpenFault) -> Ending
         OpenFault::Disk => Ending::SiteFault,
         OpenFault::Memory => Ending::NoMemory,
     }
-}
-
-/// Waits for one connection, serves it, and reads the clock for the round.
-fn make_round<S: Site, D: Door, K: Clock>(
-    alloc: Global,
-    manager: &mut Manager<S>,
-    site: &mut S,
-    mouth: &mut Mouth<D>,
-    clock: &mut K,
-    role: Role,
-) -> Ending
-    requires usable { manager.old.ledger.closed ≡ false }
-    requires stands { S.tells → StandsFor manager.old (S.state site.old) }
-    ensures makes { (round : Round) × MakesRound S.tells D.tells K.tells role round manager.old manager.new (S.state site.old) (S.state site.new) mouth.old mouth.new (K.state clock.old) (K.state clock.new)
-        × (result ≡ round_ending round) }
-    ensures disk { OnlyDiskFails (result ≡ Ending.SiteFault) (S.counts site.old) (S.counts site.new) }
-    ensures door { result ≡ Ending.DoorFault → Rose mouth.old.counts.next mouth.new.counts.next }
-{
-    match mouth.next() {
-        NextAnswer::Came(_) => match answer_session(alloc, manager, site, mouth, clock, role) {
-            Ok(()) => pass_turn(clock),
-            Err(ApiFault::Disk) => Ending::SiteFault,
-            Err(ApiFault::Memory) => pass_turn(clock),
-        },
-        NextAnswer::Nobody => pass_turn(clock),
-        NextAnswer::Ended => pass_turn(clock),
-        NextAnswer::Failed => Ending::DoorFault,
-    }
-}
-
-/// Reads the clock for the round, in which there is no work yet.
-fn pass_turn<K: Clock>(clock: &mut K) -> Ending
-    ensures done { result ≡ Ending.Done }
-    ensures read { K.tells → IsRead (K.state clock.old) (K.state clock.new) }
-{
-    let _ = clock.now();
-    Ending::Done
 }

@@ -15,7 +15,8 @@ returns-then-reading-clause-heard g c = (
     hears = λ tells. rw (c.if-reading.true, c.requires.room) at (c.read_to_end-reading.ensures.told tells);
     broke = λ _. c.read_to_end-reading.ensures.failed c.if-reading.true;
     reading = c.read_to_end-reading.ensures.cause;
-    ended = record { gone = c.hang_up.ensures.told; counts = c.hang_up.ensures.cause };
+    gone = c.hang_up.ensures.told;
+    down = c.hang_up.ensures.cause;
     silent = λ tells.
         brought_out _ _ _ _ _ _ _ (c.in-Came.ensures.told tells) (c.read_to_end-reading.ensures.told tells).conn (c.hang_up.ensures.told tells);
   },

@@ -1,24 +1,25 @@
 -- The journal was opened and a descriptor was to be onboarded, or it wasn't opened.
-use Rattle.std.proofs.Common.{refl}
+use Rattle.std.proofs.Common.{refl, ap}
 use Rattle.lcm_api.proofs.DiskLemmas.{fails_after_sync}
 use Rattle.vnfm_cli.proofs.DiskLemmas.{unopened_fails}
-use Rattle.vnfm_cli.specs.Course.{tried, unopened}
-use Rattle.vnfm_cli.specs.Rounds.{opening_of}
-use Rattle.vnfm_cli.proofs.RunLemmas.{does_not_open, does_onboarding}
+use Rattle.vnfm_cli.specs.Course.{opened, onboarding, unopened}
+use Rattle.vnfm_cli.specs.Words.{loads}
+use Rattle.vnfm_cli.proofs.RunLemmas.{does_not_open, does_deed, opening_of}
 use Rattle.vnfm_cli.proofs.top.bring_in.Goals as goal
 
 pub returns-in-Ok-clause-does : goal.returns-in-Ok-clause-does
 returns-in-Ok-clause-does g c =
-    let made = c.onboard.ensures.onboards in (
-      tried (opening_of c.args.role c.in-Ok.manager) made.0,
-      refl,
-      does_onboarding _ _ _ c.args.role made.0 c.in-Ok.manager _ _ _ _ _ _ _ _ c.in-Ok.ensures.number c.in-Ok.ensures.usable.1.legal c.in-Ok.ensures.told c.in-Ok.ensures.opens made.1,
+    let start = c.in-Ok.ensures.opens in
+    let made = c.onboard.ensures.onboards start.0 start.1 in (
+      opened (opening_of c.in-Ok.manager start.0) (onboarding made.0),
+      c.requires.command,
+      does_deed _ c.in-Ok.manager _ start.0 (onboarding made.0) _ _ _ c.in-Ok.ensures.number c.in-Ok.ensures.told start.1 made.1.works made.1.brings,
       made.2,
     )
 
 pub returns-in-Err-clause-does : goal.returns-in-Err-clause-does
 returns-in-Err-clause-does g c =
-    (unopened c.in-Err.fault, tt, does_not_open _ _ _ c.in-Err.fault _ _ _ _ c.in-Err.ensures.told c.in-Err.ensures.opens, c.unopened.ensures)
+    (unopened c.in-Err.fault, ap loads c.requires.command, does_not_open _ c.in-Err.fault _ _ _ _ c.in-Err.ensures.told c.in-Err.ensures.opens, c.unopened.ensures)
 
 pub returns-in-Ok-clause-disk : goal.returns-in-Ok-clause-disk
 returns-in-Ok-clause-disk g c = fails_after_sync _ _ _ _ (c.in-Ok.ensures.counts.stays (λ wrong. cc wrong)) c.onboard.ensures.disk
