@@ -29,4 +29,6 @@ pub mod OrderLaws
 pub mod NeedLaws
 pub mod RootLaws
 pub mod WorldLaws
+pub mod BeginLaws
+pub mod PowerLaws
 pub mod RecordLaws

@@ -1,6 +1,7 @@
 -- A plan fits what stands: what it makes doesn't, and what else it touches does.
-use Rattle.std.proofs.Common.{◌≡◌, ◌<◌, ◌+◌, ℕ, List, false, Option, None, Some, subst, arith, inl, inr}
+use Rattle.std.proofs.Common.{◌≡◌, ◌≤◌, ◌<◌, ◌+◌, ◌-◌, ℕ, List, [], ◌∷◌, false, Option, None, Some, refl, ap, subst, arith, suc, zero, inl, inr, length, take}
 use Rattle.std.specs.List.{range_with_len}
+use Rattle.std.proofs.lemmas.List.FromFn.{length-range_with_len}
 use Rattle.lcm_events.specs.declared.asks.Ask.{Ask}
 use Rattle.lcm_events.specs.declared.asks.Ask.TheVariants.{Operate, Terminate}
 use Rattle.lcm_events.specs.declared.changes.Change.{Change}
@@ -14,11 +15,12 @@ use Rattle.lcm_events.specs.declared.events.Operation.{Operation}
 use Rattle.lcm_model.specs.Words.{IsIn}
 use Rattle.lcm_model.specs.Holding.{stands}
 use Rattle.lcm_model.specs.Lives.{descriptor}
-use Rattle.lcm_model.specs.Plans.{Case, new_by}
+use Rattle.lcm_model.specs.Levels.{count}
+use Rattle.lcm_model.specs.Plans.{Case, may_stay, new, new_by, stay, stay_by, want}
 use Rattle.lcm_model.specs.Planned.{IsPlannedBy}
 use Rattle.lcm_model.specs.Refusals.{case_in, situation}
 use Rattle.lcm_model.specs.Allowed.{IsAllowedWithin, IsLegalWithin, IsPlanOf}
-use Rattle.lcm_laws.specs.Planning.{FitsWhatStands}
+use Rattle.lcm_laws.specs.Planning.{AimsAtCounts, FitsWhatStands}
 use Rattle.lcm_laws.specs.Standing.{IsOfInstance}
 use Rattle.lcm_laws.proofs.Lists.{by_test}
 use Rattle.lcm_laws.proofs.Members.{of_range}
@@ -66,3 +68,22 @@ plan_fits width m H a legal allowed k has = record {
   makes = λ is. asked_absent width m H a legal allowed k has is;
   others = λ other. asked_stands width m H a allowed k has other;
 }
+
+-- as many machines stay or are new as are wanted
+stay_few : {A : Type 0} → (n : ℕ) (xs : List A) → length (take n xs) ≤ n
+stay_few zero xs = omega arith
+stay_few (suc n) [] = omega arith
+stay_few (suc n) (x ∷ xs) = let rest = stay_few n xs in omega (arith, rest)
+
+filled : (n a : ℕ) (xs : List ℕ) → length (take n xs) + length (range_with_len a (n - length (take n xs))) ≡ n
+filled n a xs = omega (arith, stay_few n xs, length-range_with_len a (n - length (take n xs)))
+
+counts_by : (p : Case) (v : ℕ) (ask : Ask) → p.ask ≡ ask → AimsAtCounts ask → length (stay_by ask p v) + length (new_by ask p v) ≡ want p v
+counts_by p v (Operate started stop) is h = absurd h
+counts_by p v (Terminate mode timeout) is h = absurd h
+counts_by p v ask is h =
+    let one : length (stay p v) ≡ length (stay_by ask p v) = ap (λ (z : Ask). length (stay_by z p v)) is in
+    rw one (filled (want p v) (p.held.top v + 1) (may_stay ask p v))
+
+pub counts_met : (p : Case) (v : ℕ) → AimsAtCounts p.ask → length (stay p v) + length (new p v) ≡ count p.vnfd v p.to
+counts_met p v h = counts_by p v p.ask refl h

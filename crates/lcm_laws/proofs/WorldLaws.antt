@@ -48,11 +48,11 @@ use Rattle.lcm_laws.proofs.SettledLaws.{net-done, net-other_occ, one_going, open
 use Rattle.lcm_laws.proofs.StandLaws.{descriptor-next, stands_of}
 
 -- an operation that goes on, with its plan and what it has done of it
-record Follows (H : List Event) (i o : ℕ) (a : Operation) : Type 0 where
-  p : Case
-  described : descriptor H i ≡ Some p.vnfd
-  over : IsPlannedOver p a
-  tracks : Tracks H i o a p.held.stands
+pub record Follows (H : List Event) (i o : ℕ) (a : Operation) : Type 0 where
+  pub p : Case
+  pub described : descriptor H i ≡ Some p.vnfd
+  pub over : IsPlannedOver p a
+  pub tracks : Tracks H i o a p.held.stands
 
 -- what stands of the instance is on what stands
 abbrev IsRooted : List Event → ℕ → Type 0
@@ -115,7 +115,7 @@ both_false true true e h = refl
 both_false true false e h = cc
 both_false false b e h = cc
 
-in_step : (d : Vnfd) (now : Situation) (ask : Ask) → ask_refusal d now ask ≡ None → needs_step ask ≡ true → is_in_step d now.held now.levels now.started ≡ true
+pub in_step : (d : Vnfd) (now : Situation) (ask : Ask) → ask_refusal d now ask ≡ None → needs_step ask ≡ true → is_in_step d now.held now.levels now.started ≡ true
 in_step d now ask e need =
     let state : state_refusal d now ask ≡ None = none_of-front (state_refusal d now ask) (plan_refusal d now ask ∷ []) (none_of-rest (content_refusal d ask) (state_refusal d now ask ∷ plan_refusal d now ask ∷ []) e) in
     let out = when (needs_step ask && not (is_in_step d now.held now.levels now.started)) refusals.OutOfStep in
@@ -280,13 +280,18 @@ pub computes_linked : (width m : ℕ) (H : List Event) → IsLegalWithin width m
     → (x : Def) → x.kind ≡ Compute → stands H i x ≡ true → (y : Def) → IsIn y (links d) → stands H i y ≡ true
 computes_linked width m H legal i d described = ((world width m H legal i).rooted d described).linked
 
+-- when an attempt may begin, its operation goes on
+pub follows_at : (width m : ℕ) (H : List Event) (t : Tag) → IsLegalWithin width m H → IsAllowedWithin width m H (Intent t)
+    → (a : Operation) → operation H t.occ ≡ Some a → Follows H a.instance t.occ a
+follows_at width m H t legal allowed a found =
+    (world width m H legal a.instance).follows t.occ a found refl (subst (λ (s : OpState). is_final s ≡ false) (sym allowed.works) (works_on t.way))
+
 -- when an attempt may begin, what its work needs stands
 pub work_needs : (width m : ℕ) (H : List Event) (t : Tag) → IsLegalWithin width m H → IsAllowedWithin width m H (Intent t)
     → (a : Operation) (k : Change) (d : Vnfd) → operation H t.occ ≡ Some a → slice_get a.changes t.change ≡ Some k → descriptor H a.instance ≡ Some d
     → (y : Def) → IsIn y (needs d (verb_done t.way k.verb) k.def) → stands H a.instance y ≡ true
 work_needs width m H t legal allowed a k d found is described y among =
-    let goes : is_final (state H t.occ) ≡ false = subst (λ (s : OpState). is_final s ≡ false) (sym allowed.works) (works_on t.way) in
-    let f : Follows H a.instance t.occ a = (world width m H legal a.instance).follows t.occ a found refl goes in
+    let f : Follows H a.instance t.occ a = follows_at width m H t legal allowed a found in
     let same : d ≡ f.p.vnfd = one_value (descriptor H a.instance) d f.p.vnfd described f.described in
     let at_turn = turn_at width m H t a k allowed found is in
     work_finds H a.instance t a k f.p t.way k.verb y (record { found = found; is = is; net = at_turn.0; through = at_turn.1 }) f.over f.tracks

@@ -33,7 +33,8 @@ pub use holdings::{few_definitions_stand, holdings_are_exact, holdings_are_of_th
 pub use levelling::levels_are_targets;
 pub use moves::moves_are_paths;
 pub use needing::{
-    computes_stand_beside_links, what_stands_is_on_what_stands, work_finds_what_it_needs,
+    computes_stand_beside_links, needs_are_exact, what_stands_is_on_what_stands,
+    work_finds_what_it_needs, work_fits_what_stands,
 };
 pub use nets::{
     completed_is_made, nets_are_zero_or_one, one_attempt_is_open, open_attempts_fit_nets,
@@ -43,12 +44,12 @@ pub use operations::{
     numbers_run_from_one, one_operation_goes_on, operations_are_found, operations_stay_found,
 };
 pub use plans::{
-    operations_have_plans, plans_are_distinct, plans_are_exact, plans_are_small, plans_are_sorted,
-    plans_fit_what_stands,
+    operations_begin_in_step, operations_have_plans, plans_are_distinct, plans_are_exact,
+    plans_are_small, plans_are_sorted, plans_fit_what_stands, plans_meet_their_counts,
 };
 pub use records::asked_events_fit_records;
 pub use serials::serials_are_counted;
 pub use standing::{
-    deleted_instances_hold_nothing, idle_instances_hold_nothing,
+    computes_run_as_they_were_left, deleted_instances_hold_nothing, idle_instances_hold_nothing,
     what_runs_is_a_compute_that_stands, what_stands_has_a_place, what_stands_is_of_the_descriptor,
 };

@@ -1,6 +1,14 @@
 //! What work needs stands, and what stands is on what stands.
 
-ghost use Rattle.lcm_laws.specs.Needing.{ComputesStandBesideLinks, WhatStandsIsOnWhatStands, WorkFindsWhatItNeeds};
+ghost use Rattle.lcm_laws.specs.Needing.{ComputesStandBesideLinks, NeedsAreExact, WhatStandsIsOnWhatStands, WorkFindsWhatItNeeds, WorkFitsWhatStands};
+
+/// What work on a definition needs: a compute that is made needs the storages of its machine, a port its compute and its link, and other work
+/// the definition itself.
+///
+/// Source: SOL 001 (Vdu.Compute, VduCp).
+pub fn needs_are_exact()
+    ensures { NeedsAreExact }
+{}
 
 /// When an attempt may begin, what its work is done on stands, whether it makes its change or undoes it.
 ///
@@ -21,4 +29,11 @@ pub fn what_stands_is_on_what_stands()
 /// Source: own rule.
 pub fn computes_stand_beside_links()
     ensures { ComputesStandBesideLinks }
+{}
+
+/// When an attempt may begin, what its work makes doesn't stand, and what it starts, stops or removes stands.
+///
+/// Source: own rule.
+pub fn work_fits_what_stands()
+    ensures { WorkFitsWhatStands }
 {}

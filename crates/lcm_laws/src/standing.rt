@@ -1,6 +1,6 @@
 //! What stands of an instance.
 
-ghost use Rattle.lcm_laws.specs.Standing.{DeletedInstancesHoldNothing, IdleInstancesHoldNothing, WhatRunsIsAComputeThatStands, WhatStandsHasAPlace, WhatStandsIsOfTheDescriptor};
+ghost use Rattle.lcm_laws.specs.Standing.{ComputesRunAsTheyWereLeft, DeletedInstancesHoldNothing, IdleInstancesHoldNothing, WhatRunsIsAComputeThatStands, WhatStandsHasAPlace, WhatStandsIsOfTheDescriptor};
 
 /// What stands of an instance is of its descriptor, with a serial up to the greatest.
 ///
@@ -35,4 +35,11 @@ pub fn what_stands_has_a_place()
 /// Source: SOL 003 5.5.3 (the resource infos of an instance).
 pub fn what_runs_is_a_compute_that_stands()
     ensures { WhatRunsIsAComputeThatStands }
+{}
+
+/// A compute runs once it is made or started, and doesn't once it is stopped or removed, by a change or by an undo.
+///
+/// Source: SOL 003 5.4.10 (Operate VNF task).
+pub fn computes_run_as_they_were_left()
+    ensures { ComputesRunAsTheyWereLeft }
 {}
