@@ -4,7 +4,7 @@ use Rattle.site_traits.specs.Counts.{SiteCounts}
 use Rattle.site_traits.specs.Site.{SiteState, untold}
 use Rattle.host_calls.specs.Files.{FilesState, Hold, free, whole}
 use Rattle.outside_edges.specs.declared.real_site.FolderSync.{FolderSync}
-use Rattle.outside_edges.specs.declared.real_site.FolderSync.TheVariants.{Always}
+use Rattle.outside_edges.specs.declared.real_site.FolderSync.TheVariants.{Always, WhereMade}
 
 -- how often its disk calls failed, and what was asked of it
 abbrev pub counted_as : ℕ → ℕ → ℕ → ℕ → SiteCounts
@@ -19,17 +19,23 @@ state_in state (Some file) = state file
 abbrev pub IsNamed : List ℕ → FolderSync → FilesState → FilesState → Type 0
 IsNamed path folder old new = (folder ≡ Always) ⊎ (old.image path ≡ None) → new.named path ≡ true
 
+-- where neither is so, the file is opened and nothing else is done
+abbrev pub IsUnasked : List ℕ → FolderSync → FilesState → FilesState → Type 0
+IsUnasked path folder old new = folder ≡ WhereMade → (old.image path ≡ None → ⊥) → new ≡ old
+
 -- the file is what stood at the path, or an empty one where nothing did
 pub record IsFound {F : Type 0} (state : F → SiteState) (hold : F → Hold) (path : List ℕ) (folder : FolderSync) (file : F) (old new : FilesState) : Type 0 where
   pub image : (state file).image ≡ unwrap_or (old.image path) []
   pub hold_is : hold file ≡ free
   pub named : IsNamed path folder old new
+  pub unasked : IsUnasked path folder old new
 
 -- it is that, is locked, and reads what the disk has
 pub record IsHad {F : Type 0} (state : F → SiteState) (hold : F → Hold) (path : List ℕ) (folder : FolderSync) (file : F) (old new : FilesState) : Type 0 where
   pub image : (state file).image ≡ unwrap_or (old.image path) []
   pub hold_is : hold file ≡ whole
   pub named : IsNamed path folder old new
+  pub unasked : IsUnasked path folder old new
 
 -- where a file was opened, it is the one that is to be had
 abbrev pub IsHeld : {F : Type 0} → (F → SiteState) → (F → Hold) → List ℕ → FolderSync → Option F → FilesState → FilesState → Type 0

@@ -68,7 +68,7 @@ impl<F: HostFile + Drop> RealSite<F> {
     }
 
     /// Opens the file at this path, which is made empty where there is none. Where that, or `folder`, asks for it, its folder is
-    /// synced, since a file whose name is lost holds nothing. What is opened is a regular file; it is locked, and read from the
+    /// synced, since a file whose name is lost holds nothing, and else it isn't. What is opened is a regular file; it is locked, and read from the
     /// disk. No file here is a standard stream, since those are held. Where it can't be had, `why` says the cause.
     ///
     /// Its one refusal is want of memory.

@@ -1,3 +1,4 @@
+pub mod Lines
 pub mod Pages
 pub mod Reasons
 pub mod Wrong

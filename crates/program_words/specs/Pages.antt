@@ -1,8 +1,9 @@
--- Which words ask for a text (own rule, docs/FORMATS.md).
+-- Which words ask for a text, and which text it is (own rule, docs/FORMATS.md).
 use Rattle.std.specs.Prelude.{ℕ, List, [], ◌∷◌, codes, if◌then◌else◌, Option, Some, None}
 use Rattle.std.specs.Str.{bytes_eq}
 use Rattle.program_words.specs.declared.page.Page.{Page}
 use Rattle.program_words.specs.declared.page.Page.TheVariants.{Help, Init, Onboard, Once, Version}
+use Rattle.program_words.specs.declared.page.TheConstants.{HELP, INIT, ONBOARD, ONCE, VERSION}
 
 -- the text that one word asks for
 abbrev pub sole_page : List ℕ → Option Page
@@ -19,3 +20,11 @@ abbrev pub page_of : List (List ℕ) → Option Page
 page_of (word ∷ []) = sole_page word
 page_of (command ∷ word ∷ []) = if bytes_eq word (codes "--help") then command_page command else None
 page_of words = None
+
+-- the text of a page
+abbrev pub text_of : Page → List ℕ
+text_of Help = HELP.now
+text_of Init = INIT.now
+text_of Onboard = ONBOARD.now
+text_of Once = ONCE.now
+text_of Version = VERSION.now

@@ -1,6 +1,6 @@
 //! The texts that are asked for by words alone.
 ghost use Rattle.std.specs.Prelude.{◌≡◌};
-ghost use Rattle.program_words.specs.Pages.{command_page, page_of, sole_page};
+ghost use Rattle.program_words.specs.Pages.{command_page, page_of, sole_page, text_of};
 
 use vnfm_base::Text;
 
@@ -87,11 +87,7 @@ const VERSION: &str = "vnfm 0.1.0\n";
 impl Page {
     /// The text.
     pub fn text(self) -> &'static str
-        ensures help { self ≡ Page.Help → result.now ≡ HELP.now }
-        ensures init { self ≡ Page.Init → result.now ≡ INIT.now }
-        ensures onboard { self ≡ Page.Onboard → result.now ≡ ONBOARD.now }
-        ensures once { self ≡ Page.Once → result.now ≡ ONCE.now }
-        ensures version { self ≡ Page.Version → result.now ≡ VERSION.now }
+        ensures { result.now ≡ text_of self }
     {
         match self {
             Page::Help => HELP,

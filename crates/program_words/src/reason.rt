@@ -1,6 +1,9 @@
 //! Why a run ended as it did, for a person.
-ghost use Rattle.std.specs.Prelude.{◌≡◌, Some};
+ghost use Rattle.std.specs.Prelude.{◌≡◌, ◌++◌, IfOk, Some, codes, slice_get};
+ghost use Rattle.std.specs.String.{string_bytes};
+ghost use Rattle.program_words.specs.Lines.{IsAboutJournal, IsAboutWord, IsLineOf, IsLineOn, IsWrongLine, plain_line};
 ghost use Rattle.program_words.specs.Reasons.{lost_reason, reason_of};
+ghost use Rattle.program_words.specs.Wrong.{wrong_of};
 
 use crate::wrong::{Wrong, wrong_of};
 use outside_edges::WhyLost;
@@ -87,7 +90,12 @@ fn lost_reason(lost: Option<WhyLost>) -> Reason
 
 impl Reason {
     /// The line that says it, of a run with these words.
-    pub fn line(self, alloc: Global, words: &[Text]) -> Result<String, AllocError> {
+    ///
+    /// Its one refusal is want of memory.
+    /// Source: own rule, docs/FORMATS.md, "The program".
+    pub fn line(self, alloc: Global, words: &[Text]) -> Result<String, AllocError>
+        ensures { IfOk result (λ line. IsLineOf self words.now (string_bytes line)) }
+    {
         match self {
             Reason::Words => wrong_line(alloc, words),
             Reason::Locked => about_journal(alloc, words, "another manager holds its lock"),
@@ -132,34 +140,62 @@ impl Reason {
 }
 
 /// A line that says this.
-fn plain(alloc: Global, text: &str) -> Result<String, AllocError> {
+fn plain(alloc: Global, text: &str) -> Result<String, AllocError>
+    ensures { IfOk result (λ line. string_bytes line ≡ plain_line text.now) }
+{
     format!(in alloc; "vnfm: {text}\n")
 }
 
+/// A line that says this of a word, which stands in it quoted, its control characters escaped.
+fn line_on(alloc: Global, word: &Text, joint: &str, text: &str) -> Result<String, AllocError>
+    ensures { IfOk result (λ line. IsLineOn joint.now text.now (string_bytes line)) }
+{
+    let quoted = quoted(alloc, word)?;
+    joined(alloc, quoted.as_str(), joint, text)
+}
+
+/// A line of these three.
+fn joined(alloc: Global, quoted: &str, joint: &str, text: &str) -> Result<String, AllocError>
+    ensures { IfOk result (λ line. string_bytes line ≡ codes "vnfm: " ++ (quoted.now ++ (joint.now ++ (text.now ++ codes "\n")))) }
+{
+    format!(in alloc; "vnfm: {quoted}{joint}{text}\n")
+}
+
+/// The word, quoted.
+fn quoted(alloc: Global, word: &Text) -> Result<String, AllocError> {
+    let word = word.as_str();
+    format!(in alloc; "{word:?}")
+}
+
 /// A line that says this of the journal's path.
-fn about_journal(alloc: Global, words: &[Text], text: &str) -> Result<String, AllocError> {
-    match words.get(2) {
-        Some(path) => {
-            let path = path.as_str();
-            format!(in alloc; "vnfm: {path:?}: {text}\n")
-        }
-        None => plain(alloc, text),
+fn about_journal(alloc: Global, words: &[Text], text: &str) -> Result<String, AllocError>
+    ensures { IfOk result (λ line. IsAboutJournal words.now text.now (string_bytes line)) }
+{
+    match words {
+        [_, _, path, ..] => line_on(alloc, path, ": ", text),
+        _ => plain(alloc, text),
     }
 }
 
 /// The line of words that are no command.
-fn wrong_line(alloc: Global, words: &[Text]) -> Result<String, AllocError> {
+fn wrong_line(alloc: Global, words: &[Text]) -> Result<String, AllocError>
+    ensures { IfOk result (λ line. IsWrongLine words.now (wrong_of words.now) (string_bytes line)) }
+{
     match wrong_of(words) {
-        Wrong::Word(place) => match words.get(place) {
-            Some(word) => {
-                let word = word.as_str();
-                format!(in alloc; "vnfm: {word:?} isn't understood; vnfm --help says more\n")
-            }
-            None => plain(alloc, "the words are no command; vnfm --help says more"),
-        },
+        Wrong::Word(place) => word_line(alloc, words, place),
         Wrong::NoCommand => plain(alloc, "a command is missing; vnfm --help says more"),
         Wrong::NoJournal => plain(alloc, "--journal PATH is missing; vnfm --help says more"),
         Wrong::NoManager => plain(alloc, "--manager N is missing; vnfm --help says more"),
         Wrong::Nothing => plain(alloc, "the words are no command; vnfm --help says more"),
+    }
+}
+
+/// The line of the word at this place, which isn't understood.
+fn word_line(alloc: Global, words: &[Text], place: usize) -> Result<String, AllocError>
+    ensures { IfOk result (λ line. IsAboutWord (slice_get words.now place) (string_bytes line)) }
+{
+    match words.get(place) {
+        Some(word) => line_on(alloc, word, " ", "isn't understood; vnfm --help says more"),
+        None => plain(alloc, "the words are no command; vnfm --help says more"),
     }
 }

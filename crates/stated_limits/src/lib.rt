@@ -1,0 +1,37 @@
+//! The limits of the lowest crates, as numbers, so that none of them changes unseen. Each law is the contract of a call that
+//! does nothing; it stands here, over these crates, and what is built on them need not be proved again for it.
+#![tactic(auto)]
+
+ghost use Rattle.std.specs.Prelude.{◌≡◌};
+ghost use Rattle.site_traits.specs.declared.log.TheConstants.{CALLS, BYTES};
+ghost use Rattle.site_traits.specs.declared.heard.TheConstants.{HEARD_MAX};
+ghost use Rattle.vnfm_base.specs.declared.name.TheConstants.{NAME_MAX};
+ghost use Rattle.vnfm_base.specs.declared.line.TheConstants.{LINE_MAX};
+ghost use Rattle.vnfm_base.specs.declared.moment.TheConstants.{MAX_MOMENT};
+ghost use Rattle.event_codec.specs.declared.record_buf.TheConstants.{RECORD_MAX};
+
+/// The limits of vnfm_base: a name has 255 bytes at most, a line 2,048, and the last moment is 9999-12-31T23:59:59.999Z.
+///
+/// Source: own rules; RFC 3339 for the moment.
+pub fn limits_of_words()
+    ensures name { NAME_MAX ≡ 255 }
+    ensures line { LINE_MAX ≡ 2048 }
+    ensures moment { MAX_MOMENT ≡ 253402300799999 }
+{}
+
+/// The limit of event_codec: an event's spelling has 65,536 bytes at most.
+///
+/// Source: own format, docs/EVENTS.md.
+pub fn limits_of_spellings()
+    ensures record { RECORD_MAX ≡ 65536 }
+{}
+
+/// The limits of site_traits: an answer that is heard has a body of 1,048,576 bytes at most, and an object in memory has room
+/// for 1,048,576 calls and for 67,108,864 bytes.
+///
+/// Source: own rule.
+pub fn limits_of_objects()
+    ensures heard { HEARD_MAX ≡ 1048576 }
+    ensures calls { CALLS ≡ 1048576 }
+    ensures bytes { BYTES ≡ 67108864 }
+{}

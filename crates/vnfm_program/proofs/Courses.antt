@@ -1,0 +1,53 @@
+-- From what a part of the program did to what the program did.
+use Rattle.std.proofs.Common.{◌≡◌, ℕ, List, Option, None, Ok, Err, sym, subst}
+use Rattle.host_calls.specs.Files.{FilesState, Hold}
+use Rattle.lcm_api.specs.Mouth.{MouthState}
+use Rattle.outside_edges.specs.Site.{IsHeld, state_in}
+use Rattle.outside_edges.specs.declared.real_site.FolderSync.{FolderSync}
+use Rattle.program_words.specs.Pages.{page_of}
+use Rattle.program_words.specs.declared.page.Page.{Page}
+use Rattle.site_traits.specs.Site.{SiteState}
+use Rattle.vnfm_cli.specs.Words.{Settles, settings_of}
+use Rattle.vnfm_cli.specs.declared.options.Settings.{Settings}
+use Rattle.vnfm_cli.specs.declared.options.SettingsFault.{SettingsFault}
+use Rattle.vnfm_cli.specs.declared.options.SettingsFault.TheVariants.{Usage}
+use Rattle.vnfm_program.specs.Program.{Goes, Meaning, Obeys, ObeysOrStarves, Opens, Performs, Starts, Objects, counts_of, folder_of, is_told_on_error}
+
+-- a file that is the one at this path is the one that the settings name
+pub held_as : {F : Type 0} (state : F → SiteState) (hold : F → Hold) (settings : Settings) (path : List ℕ) (folder : FolderSync) (file : Option F) (old new : FilesState)
+    → path ≡ settings.journal → folder ≡ folder_of settings.command
+    → IsHeld state hold path folder file old new → IsHeld state hold settings.journal (folder_of settings.command) file old new
+held_as state hold settings path folder file old new same_path same_folder held =
+    subst (λ (f : FolderSync). IsHeld state hold settings.journal f file old new) same_folder (subst (λ (p : List ℕ). IsHeld state hold p folder file old new) same_path held)
+
+-- where the words are no command they set nothing
+pub unset : (fault : SettingsFault) (set : Option Settings) → fault ≡ Usage → Settles (Err fault) set → set ≡ None
+unset fault set is settles = subst (λ (f : SettingsFault). Settles (Err f) set) is settles
+
+module _ {N H F K L E : Type 0} where
+  -- a run over what was opened for these settings obeys the words that set them
+  pub obeyed : (g : Meaning N H F K L E) (words : List (List ℕ)) (set : Option Settings) (status : ℕ) (a w b : Objects N H F K L E) (before after : MouthState)
+      → settings_of words ≡ set → Opens g set a w → a.mouth ≡ Ok before → b.mouth ≡ Ok after
+      → Performs g.file_tells g.door_tells g.clock_tells g.lines_tells g.errors_tells (is_told_on_error set) words status b.site.why
+      (state_in g.state w.site.file) (state_in g.state b.site.file) (counts_of w.site) (counts_of b.site) before after
+      (g.given w.clock) (g.given b.clock) (g.lines w.lines) (g.lines b.lines) (g.errors w.errors) (g.errors b.errors)
+      → b ≡ record w { site = b.site; mouth = b.mouth; clock = b.clock; lines = b.lines; errors = b.errors }
+      → Obeys g words status a b
+  obeyed g words set status a w b before after sets opens has_mouth mouth performs kept = record {
+    opened = w;
+    opens = subst (λ (s : Option Settings). Opens g s a w) (sym sets) opens;
+    before = before;
+    after = after;
+    has_mouth = has_mouth;
+    mouth = mouth;
+    performs = subst (λ (s : Option Settings). Performs g.file_tells g.door_tells g.clock_tells g.lines_tells g.errors_tells (is_told_on_error s) words status b.site.why
+        (state_in g.state w.site.file) (state_in g.state b.site.file) (counts_of w.site) (counts_of b.site) before after
+        (g.given w.clock) (g.given b.clock) (g.lines w.lines) (g.lines b.lines) (g.errors w.errors) (g.errors b.errors)) (sym sets) performs;
+    kept = kept;
+  }
+
+  -- words that ask for no page are obeyed
+  pub went : (g : Meaning N H F K L E) (given words : List (List ℕ)) (status : ℕ) (a b : Objects N H F K L E)
+      → given ≡ words → page_of given ≡ None → ObeysOrStarves g given status a b → Starts g words status a b
+  went g given words status a b same none obeys =
+      subst (λ (ws : List (List ℕ)). Starts g ws status a b) same (subst (λ (page : Option Page). Goes g page given status a b) (sym none) obeys)

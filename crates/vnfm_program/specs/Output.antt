@@ -1,0 +1,37 @@
+-- What a person and a program see of a run: the texts that go to standard output and standard error (own rule, docs/FORMATS.md).
+use Rattle.std.specs.Prelude.{◌≡◌, ◌⊎◌, ℕ, List, ◌++◌, codes, if◌then◌else◌, Bool, Option, Some, None}
+use Rattle.program_words.specs.declared.page.Page.{Page}
+use Rattle.program_words.specs.Lines.{IsLineOf}
+use Rattle.program_words.specs.Pages.{text_of}
+use Rattle.program_words.specs.declared.reason.Reason.{Reason}
+use Rattle.site_traits.specs.Counts.{CallCounts, called, called_in_vain}
+
+-- what a sink shows: its bytes so far, which count where it tells them, and how often it was put to
+pub record Output : Type 0 where
+  pub bytes : List ℕ
+  pub counts : CallCounts
+
+abbrev pub output_of : {W : Type 0} → (W → List ℕ) → (W → CallCounts) → W → Output
+output_of state counts sink = record { bytes = state sink; counts = counts sink }
+
+-- this text was put in one call, or none of it
+pub record PutsText (tells : Type 0) (text : List ℕ) (put : Bool) (a b : Output) : Type 0 where
+  pub bytes : tells → b.bytes ≡ (if put then a.bytes ++ text else a.bytes)
+  pub counts : b.counts ≡ (if put then called a.counts else called_in_vain a.counts)
+
+-- the page was put in one call, and the status says whether it was
+pub record Prints (tells : Type 0) (page : Page) (status : ℕ) (a b : Output) : Type 0 where
+  pub put : Bool
+  pub status_is : status ≡ (if put then 0 else 7)
+  pub text : PutsText tells (text_of page) put a b
+
+-- there was no memory, and the status and one put say so
+pub record Starves (tells : Type 0) (status : ℕ) (a b : Output) : Type 0 where
+  pub status_is : status ≡ 6
+  pub put : Bool
+  pub text : PutsText tells (codes "no memory\nvnfm: there was no memory\n") put a b
+
+-- The reason's line was put in one call, or there was no memory for it and nothing was put. Where there is nothing to say nothing was put.
+abbrev pub Explains : Type 0 → Option Reason → List (List ℕ) → Output → Output → Type 0
+Explains tells None words a b = b ≡ a
+Explains tells (Some reason) words a b = (b ≡ a) ⊎ ((line : List ℕ) × IsLineOf reason words line × (put : Bool) × PutsText tells line put a b)

@@ -1,0 +1,10 @@
+//! The program: from the words of the command line to a run over the file that they name, and to the words that say how it went.
+#![tactic(auto)]
+
+mod output;
+mod program;
+#[cfg(test)]
+mod tests;
+mod words;
+
+pub use program::start;

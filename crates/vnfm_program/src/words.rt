@@ -1,0 +1,32 @@
+//! The words of the command line.
+ghost use Rattle.std.specs.Prelude.{◌≡◌, IfErr, IfOk, IsErr};
+ghost use Rattle.std.specs.IoError.{error_kind};
+ghost use Rattle.vnfm_program.specs.Words.{words_in};
+
+use std::alloc::{AllocError, Global};
+use std::env::Args;
+use std::io;
+use std::io::ErrorKind;
+use vnfm_base::Text;
+
+/// The words behind the program's name. Where the arguments can't be had, as where one isn't UTF-8, there are none, which is no
+/// command.
+///
+/// Its one refusal is want of memory.
+pub fn words_of(alloc: Global, arguments: io::Result<Args>) -> Result<Vec<Text>, AllocError>
+    ensures words { IfOk result (λ words. words.items ≡ words_in arguments) }
+    ensures memory { IfErr arguments (λ fault. error_kind fault ≡ ErrorKind.OutOfMemory → IsErr result) }
+{
+    match arguments {
+        Ok(all) => behind_first(alloc, all),
+        Err(fault) if fault.kind() == ErrorKind::OutOfMemory => Err(AllocError),
+        Err(_) => Ok(Vec::new(alloc)),
+    }
+}
+
+/// The words behind the first.
+fn behind_first(alloc: Global, all: Args) -> Result<Vec<Text>, AllocError>
+    ensures { IfOk result (λ words. words.items ≡ words_in (Ok all)) }
+{
+    all.skip(1).map(|word| Text::of_string(word)).collect(alloc)
+}
