@@ -5,7 +5,7 @@ use Rattle.lcm_api.specs.Hearing.{heard_of}
 use Rattle.lcm_events.specs.declared.states.Role.{Role}
 
 -- the bytes out of a connection that is now this one
-out_is : (c : Conn) (a b : DoorState) → ConnIs c a b → b.conn.out ≡ c.out
+pub out_is : (c : Conn) (a b : DoorState) → ConnIs c a b → b.conn.out ≡ c.out
 out_is c a b is = ap (λ (x : Conn). x.out) is.conn
 
 -- hearing writes nothing
@@ -14,7 +14,7 @@ heard_out n true c = refl
 heard_out n false c = refl
 
 -- a connection that just came has no bytes out
-fresh_out : (role : Role) (a b : DoorState) → Comes role a b → b.conn.out ≡ []
+pub fresh_out : (role : Role) (a b : DoorState) → Comes role a b → b.conn.out ≡ []
 fresh_out role a b comes = ap (λ (x : Conn). x.out) comes.conn
 
 -- nothing was written to a connection that came, was read and was ended

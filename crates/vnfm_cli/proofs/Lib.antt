@@ -8,4 +8,5 @@ mod RoundLemmas
 mod RunLemmas
 mod ValidLemmas
 mod VerdictLemmas
+mod WholeLemmas
 mod WordLemmas

@@ -1,6 +1,8 @@
+pub mod Causes
 pub mod Course
 pub mod Ending
 pub mod Judging
+pub mod Laws
 pub mod Onboarding
 pub mod Rounds
 pub mod Runs

@@ -1,16 +1,15 @@
 //! The top call: one command over the objects that it is handed.
-ghost use Rattle.std.specs.Prelude.{◌≡◌, ◌≢◌, ◌<◌, ◌⊎◌, ◌↔◌, ℕ, List, None, false, Result};
-ghost use Rattle.executor.specs.Open.{IsBadRecord};
-ghost use Rattle.journal_core.specs.Create.{Creates, IsMade};
-ghost use Rattle.journal_core.specs.Header.{IsUnfinished};
+ghost use Rattle.std.specs.Prelude.{◌≡◌, ◌≢◌, ◌⊎◌, ◌↔◌, ℕ, List, None, Result};
+ghost use Rattle.journal_core.specs.Create.{Creates};
 ghost use Rattle.journal_core.specs.declared.create.CreateFault.{CreateFault};
 ghost use Rattle.lcm_events.specs.declared.events.Event.{Event};
-ghost use Rattle.site_traits.specs.Counts.{OnlyDiskFails, Rose, one_more};
+ghost use Rattle.site_traits.specs.Counts.{OnlyDiskFails, Rose};
 ghost use Rattle.lcm_api.specs.Talking.{telling, world};
 ghost use Rattle.vnfm_cli.specs.Course.{Course, IsOf, ending_of, making_ending, unopened_ending};
-ghost use Rattle.vnfm_cli.specs.Ending.{Ends, IsStatus};
-ghost use Rattle.vnfm_cli.specs.Runs.{Does, IsDoorCause, IsNoJournal, IsOrYields, IsStartOf, MayEndWith, Runs};
-ghost use Rattle.vnfm_cli.specs.Words.{AreInit, AreLoading, AreWordsOf, settings_of};
+ghost use Rattle.vnfm_cli.specs.Ending.{Ends};
+ghost use Rattle.vnfm_cli.specs.Causes.{HasCauses};
+ghost use Rattle.vnfm_cli.specs.Runs.{Does, IsDoorCause, IsStartOf, MayEndWith, Runs};
+ghost use Rattle.vnfm_cli.specs.Words.{AreWordsOf, settings_of};
 ghost use Rattle.vnfm_cli.specs.declared.options.Command.{Command};
 ghost use Rattle.vnfm_cli.specs.declared.options.Command.TheVariants.{Onboard, Once};
 
@@ -54,24 +53,10 @@ pub fn run<S: Site, D: Door, O: Orchestrator, C: Courier, K: Clock, W: Sink>(
     ensures runs { (course : Course) × Runs (telling S.tells D.tells K.tells) words.now course
         (world (S.state site.old) mouth.old (K.state clock.old)) (world (S.state site.new) mouth.new (K.state clock.new))
         × Ends W.tells (ending_of course) result (W.state out.old) (W.state out.new) (W.counts out.old) (W.counts out.new) }
-    ensures asks_none { orchestrator.new ≡ orchestrator.old }
-    ensures posts_none { courier.new ≡ courier.old }
-    ensures usage { (result ≡ 2) ↔ (settings_of words.now ≡ None) }
+    ensures untouched { (orchestrator.new ≡ orchestrator.old) × (courier.new ≡ courier.old) }
     ensures site { OnlyDiskFails (result ≡ 3) (S.counts site.old) (S.counts site.new) }
-    ensures disk_fault { (S.counts site.old).disk < (S.counts site.new).disk → result ≡ 3 }
-    ensures door { result ≡ 4 → Rose mouth.old.wire.intake.counts.next mouth.new.wire.intake.counts.next ⊎ (AreWordsOf Onboard words.now × Rose mouth.old.wire.intake.counts.faults mouth.new.wire.intake.counts.faults) }
-    ensures sink { result ≡ 7 → Rose (W.counts out.old).faults (W.counts out.new).faults }
-    ensures one_line { (W.counts out.new).calls ≡ one_more (W.counts out.old).calls }
-    ensures journal { S.tells → result ≡ 5 → IsNoJournal (S.state site.old).image }
-    ensures no_journal { S.tells → AreLoading words.now → IsNoJournal (S.state site.old).image → IsOrYields 5 result }
-    ensures record { S.tells → result ≡ 8 → (n : ℕ) × IsBadRecord n (S.state site.old).image }
-    ensures bad_record { S.tells → AreLoading words.now → (n : ℕ) → IsBadRecord n (S.state site.old).image → IsOrYields 8 result }
-    ensures full { result ≡ 9 → AreWordsOf Onboard words.now }
-    ensures refused { result ≡ 10 → AreWordsOf Onboard words.now }
-    ensures taken { S.tells → result ≡ 11 → (m : ℕ) × AreInit m words.now × ¬ (IsUnfinished m (S.state site.old).image) }
-    ensures is_taken { S.tells → (m : ℕ) → AreInit m words.now → ¬ (IsUnfinished m (S.state site.old).image) → IsOrYields 11 result }
-    ensures made { S.tells → (m : ℕ) → AreInit m words.now → (result ≡ 0) ⊎ (result ≡ 7) → IsMade m (S.state site.new) }
-    ensures only { IsStatus result }
+    ensures causes { HasCauses S.tells words.now result
+        (world (S.state site.old) mouth.old (K.state clock.old)) (world (S.state site.new) mouth.new (K.state clock.new)) (W.counts out.old) (W.counts out.new) }
     ensures complete { S.tells → (command : Command) → AreWordsOf command words.now → IsStartOf command (S.state site.old)
         → ¬ (Rose (S.counts site.old).disk (S.counts site.new).disk) → ¬ (IsDoorCause command mouth.old.wire.intake.counts mouth.new.wire.intake.counts)
         → ¬ (Rose (W.counts out.old).faults (W.counts out.new).faults) → MayEndWith command result }

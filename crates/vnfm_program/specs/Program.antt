@@ -3,6 +3,7 @@ use Rattle.std.specs.Prelude.{◌≡◌, ◌⊎◌, ◌↔◌, ◌<◌, ℕ, Lis
 use Rattle.std.specs.declared.alloc.AllocError.{AllocError}
 use Rattle.host_calls.specs.Files.{FilesState, Hold}
 use Rattle.lcm_api.specs.Mouth.{MouthState}
+use Rattle.lcm_api.specs.Talking.{telling, world}
 use Rattle.outside_edges.specs.Site.{IsHeld, counted_as, state_in}
 use Rattle.outside_edges.specs.declared.real_site.FolderSync.{FolderSync}
 use Rattle.outside_edges.specs.declared.real_site.FolderSync.TheVariants.{Always, WhereMade}
@@ -25,13 +26,13 @@ use Rattle.vnfm_program.specs.Output.{Explains, Output, Prints, Starves}
 
 -- a write on the mouth's connection failed
 abbrev pub is_undelivered : MouthState → Bool
-is_undelivered mouth = mouth.door.conn.write_failed
+is_undelivered mouth = mouth.wire.intake.door.conn.write_failed
 
 -- One run of these words went over a site with these counts, a mouth and a clock, and put its line to this output.
 pub record RunsOver (site_tells door_tells clock_tells out_tells : Type 0) (words : List (List ℕ)) (status : ℕ) (a b : SiteState) (m n : SiteCounts)
     (c d : MouthState) (ks ls : List ℕ) (x y : Output) : Type 0 where
   pub course : Course
-  pub runs : Runs site_tells door_tells clock_tells words course a b c d ks ls
+  pub runs : Runs (telling site_tells door_tells clock_tells) words course (world a c ks) (world b d ls)
   pub ends : Ends out_tells (ending_of course) status x.bytes y.bytes x.counts y.counts
   pub usage : (status ≡ 2) ↔ (settings_of words ≡ None)
   pub disk : OnlyDiskFails (status ≡ 3) m n

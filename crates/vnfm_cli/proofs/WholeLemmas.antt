@@ -1,0 +1,39 @@
+-- Where no call of the door failed, a connection got all that was to be told.
+use Rattle.std.proofs.Common.{◌≡◌, ◌∙◌, ◌≤◌, ℕ, List, [], ◌++◌, false, Option, Some, None, Result, Ok, Err, ap, sym, subst, refl, arith}
+use Rattle.std.specs.Result.{is_ok}
+use Rattle.lcm_api.specs.Response.{text}
+use Rattle.lcm_api.specs.Session.{Ending as Closing, Talk, life, once_answered, replies, reply_last, said}
+use Rattle.lcm_api.specs.Talking.{IsLost, IsSaid, Peers, SaysLast, Tells}
+use Rattle.lcm_api.specs.declared.door.DoorFailed.{DoorFailed}
+use Rattle.lcm_api.specs.declared.reply.Reply.{Reply}
+use Rattle.lcm_events.specs.declared.events.Event.{Event}
+use Rattle.lcm_events.specs.declared.states.Role.{Role}
+use Rattle.site_traits.specs.Counts.{Rose}
+use Rattle.site_traits.specs.Door.{Conn, DoorCounts, DoorState, ConnIs}
+use Rattle.vnfm_cli.specs.Laws.{AnswersAreWhole, HasWholeAnswer, optional_text, text_last}
+use Rattle.vnfm_cli.specs.Rounds.{Receives}
+use Rattle.vnfm_cli.proofs.AnswerLemmas.{fresh_out, out_is}
+
+said_whole : (reply : Option Reply) (told : Result (Unit {0}) DoorFailed) (bytes : List ℕ) → IsSaid reply told bytes → (is_ok told ≡ false → ⊥) → bytes ≡ optional_text reply
+said_whole (Some reply) (Ok done) bytes is fine = is
+said_whole None (Ok done) bytes is fine = is
+said_whole reply (Err failed) bytes is fine = absurd (fine refl)
+
+last_whole : (m : ℕ) (H : List Event) (closing : Option Closing) (a b : DoorCounts) (bytes : List ℕ) → SaysLast m H closing bytes → IsLost closing a b → (Rose a.faults b.faults → ⊥)
+    → bytes ≡ text_last m H closing
+last_whole m H None a b bytes is lost fine = is
+last_whole m H (Some closing) a b bytes is lost fine = said_whole (reply_last m H closing.last) closing.told bytes is (λ failed. fine (lost failed))
+
+pub whole_answer : (t : Tells) → AnswersAreWhole t
+whole_answer t m H came talk a b receives told fine =
+    let attends = receives.attends in
+    let speaks = attends.holds.speaks told in
+    let fresh : receives.between.wire.intake.door.conn.out ≡ [] = fresh_out came _ _ (receives.comes told) in
+    let before : receives.between.wire.intake.counts.faults ≡ a.mouth.wire.intake.counts.faults = ap (λ (k : DoorCounts). k.faults) receives.counts in
+    let behind : b.mouth.wire.intake.counts.faults ≡ attends.between.wire.intake.counts.faults = ap (λ (k : DoorCounts). k.faults) attends.counts in
+    let final = last_whole m (life (once_answered m) H talk.asks) talk.end receives.between.wire.intake.counts attends.between.wire.intake.counts speaks.final speaks.final_is attends.holds.lost
+    (λ rose. fine (rw (← before, behind) rose)) in
+    record {
+      out = out_is _ attends.between.wire.intake.door b.mouth.wire.intake.door (attends.gone told) ∙ speaks.door.out ∙ ap (λ (t : List ℕ). t ++ (said (replies m H talk.asks) ++ speaks.final)) fresh
+          ∙ ap (λ (t : List ℕ). said (replies m H talk.asks) ++ t) final;
+    }

@@ -1,0 +1,29 @@
+-- Why a run ends with a status (own rule, docs/FORMATS.md).
+use Rattle.std.specs.Prelude.{◌≡◌, ◌⊎◌, ◌↔◌, ℕ, List, None}
+use Rattle.executor.specs.Open.{IsBadRecord}
+use Rattle.journal_core.specs.Header.{IsUnfinished}
+use Rattle.lcm_api.specs.Talking.{World}
+use Rattle.site_traits.specs.Counts.{CallCounts, Rose}
+use Rattle.vnfm_cli.specs.Ending.{IsStatus}
+use Rattle.vnfm_cli.specs.Runs.{IsNoJournal, IsOrYields}
+use Rattle.vnfm_cli.specs.Words.{AreInit, AreLoading, AreWordsOf, settings_of}
+use Rattle.vnfm_cli.specs.declared.options.Command.TheVariants.{Onboard}
+
+-- Each status has its cause: 2 comes exactly where the words are no command; 4, 7, 9 and 10 only where waiting for a connection or a read of
+-- a descriptor failed, where the line couldn't be put, and for `onboard`; and where the site tells, 5 exactly where the file that is to be
+-- opened is no journal, 8 exactly where one of its records is bad, and 11 exactly where the file isn't unfinished for the manager of
+-- `init`, but that each of these yields to a disk fault and to want of memory.
+pub record HasCauses (tells : Type 0) (words : List (List ℕ)) (status : ℕ) (w v : World) (before now : CallCounts) : Type 0 where
+  pub usage : (status ≡ 2) ↔ (settings_of words ≡ None)
+  pub door : status ≡ 4 → Rose w.mouth.wire.intake.counts.next v.mouth.wire.intake.counts.next
+      ⊎ (AreWordsOf Onboard words × Rose w.mouth.wire.intake.counts.faults v.mouth.wire.intake.counts.faults)
+  pub sink : status ≡ 7 → Rose before.faults now.faults
+  pub journal : tells → status ≡ 5 → IsNoJournal w.site.image
+  pub no_journal : tells → AreLoading words → IsNoJournal w.site.image → IsOrYields 5 status
+  pub record_is_bad : tells → status ≡ 8 → (n : ℕ) × IsBadRecord n w.site.image
+  pub bad_record : tells → AreLoading words → (n : ℕ) → IsBadRecord n w.site.image → IsOrYields 8 status
+  pub full : status ≡ 9 → AreWordsOf Onboard words
+  pub refused : status ≡ 10 → AreWordsOf Onboard words
+  pub taken : tells → status ≡ 11 → (m : ℕ) × AreInit m words × ¬ (IsUnfinished m w.site.image)
+  pub is_taken : tells → (m : ℕ) → AreInit m words → ¬ (IsUnfinished m w.site.image) → IsOrYields 11 status
+  pub only : IsStatus status

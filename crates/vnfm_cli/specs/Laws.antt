@@ -1,0 +1,51 @@
+-- What holds of every run, by what it does and how it ends.
+use Rattle.std.specs.Prelude.{◌≡◌, ◌≢◌, ◌<◌, ◌⊎◌, ℕ, List, [], ◌++◌, Option, Some, None}
+use Rattle.journal_core.specs.Create.{IsMade}
+use Rattle.lcm_api.specs.Mouth.{MouthState}
+use Rattle.lcm_api.specs.Response.{text}
+use Rattle.lcm_api.specs.Session.{Ending as Closing, Talk, life, once_answered, replies, reply_last, said}
+use Rattle.lcm_api.specs.Talking.{Tells, Peers, world}
+use Rattle.lcm_api.specs.declared.reply.Reply.{Reply}
+use Rattle.lcm_events.specs.declared.events.Event.{Event}
+use Rattle.lcm_events.specs.declared.states.Role.{Role}
+use Rattle.site_traits.specs.Counts.{CallCounts, OnlyDiskFails, Rose, SiteCounts, one_more}
+use Rattle.site_traits.specs.Site.{SiteState}
+use Rattle.vnfm_cli.specs.Course.{Course, ending_of}
+use Rattle.vnfm_cli.specs.Ending.{Ends}
+use Rattle.vnfm_cli.specs.Rounds.{Receives}
+use Rattle.vnfm_cli.specs.Runs.{Runs}
+use Rattle.vnfm_cli.specs.Words.{AreInit}
+use Rattle.vnfm_cli.specs.declared.ending.Ending.{Ending}
+
+-- where the count of disk faults is greater behind a run, its status is 3
+abbrev pub DiskFaultsAreTold : Type 0
+DiskFaultsAreTold = (status : ℕ) (a b : SiteCounts) → OnlyDiskFails (status ≡ 3) a b → a.disk < b.disk → status ≡ 3
+
+-- a run puts one line
+abbrev pub OneLineIsPut : Type 0 → Type 0
+OneLineIsPut tells = (ending : Ending) (status : ℕ) (old new : List ℕ) (before now : CallCounts) → Ends tells ending status old new before now
+    → now.calls ≡ one_more before.calls
+
+-- where `init` ends with 0 or 7, the file is a made one of its manager, and nothing is pending
+abbrev pub InitMakes : {S : Type 0} → Tells → Type 0 → (S → SiteState) → Type 0
+InitMakes {S} t sink state = (words : List (List ℕ)) (course : Course) (status m : ℕ) (a b : S) (c d : MouthState) (ks ls old new : List ℕ) (before now : CallCounts)
+    → Runs t words course (world (state a) c ks) (world (state b) d ls) → Ends sink (ending_of course) status old new before now
+    → t.site → AreInit m words → (status ≡ 0) ⊎ (status ≡ 7) → IsMade m (state b)
+
+-- the bytes of a reply, where there is one
+abbrev pub optional_text : Option Reply → List ℕ
+optional_text None = []
+optional_text (Some reply) = text reply
+
+-- what is told at the end of a session
+abbrev pub text_last : ℕ → List Event → Option Closing → List ℕ
+text_last m H None = []
+text_last m H (Some closing) = optional_text (reply_last m H closing.last)
+
+-- Where no call of the door failed, the bytes out of a connection that came are the replies to its requests, and what is told at its end.
+pub record HasWholeAnswer (m : ℕ) (H : List Event) (talk : Talk) (b : Peers) : Type 0 where
+  pub out : b.mouth.wire.intake.door.conn.out ≡ said (replies m H talk.asks) ++ text_last m (life (once_answered m) H talk.asks) talk.end
+
+abbrev pub AnswersAreWhole : Tells → Type 0
+AnswersAreWhole t = (m : ℕ) (H : List Event) (came : Role) (talk : Talk) (a b : Peers) → Receives t m H came talk a b → t.door
+    → ¬ (Rose a.mouth.wire.intake.counts.faults b.mouth.wire.intake.counts.faults) → HasWholeAnswer m H talk b
