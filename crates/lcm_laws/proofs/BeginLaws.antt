@@ -1,5 +1,5 @@
 -- What an attempt finds when it begins, and what an operation finds when it is asked for.
-use Rattle.std.proofs.Common.{◌≡◌, ◌++◌, ◌∙◌, ℕ, List, [], ◌∷◌, true, false, Option, None, Some, refl, ap, sym, subst, inl, inr, ◌⊎◌, ◌↔◌, slice_get, option_and_then}
+use Rattle.std.proofs.Common.{◌≡◌, ◌++◌, ◌∙◌, ℕ, List, [], ◌∷◌, true, false, Option, None, Some, refl, ap, sym, subst, inl, inr, ◌↔◌, slice_get, option_and_then}
 use Rattle.std.specs.Option.{option_map_or}
 use Rattle.lcm_events.specs.declared.asks.Ask.{Ask}
 use Rattle.lcm_events.specs.declared.asks.Ask.TheVariants.{Heal, Instantiate, Operate, Scale, ScaleToLevel, Terminate}
@@ -29,7 +29,7 @@ use Rattle.lcm_model.specs.Plans.{Case, change}
 use Rattle.lcm_model.specs.Refusals.{needs_step, situation}
 use Rattle.lcm_model.specs.Allowed.{IsAllowedWithin, IsLegalWithin, IsPlanOf}
 use Rattle.lcm_model.specs.Work.{net_before}
-use Rattle.lcm_laws.specs.Needing.{IsLinkOf, IsMadeOn, IsNeeded, IsPartBeside}
+use Rattle.lcm_laws.specs.Needing.{IsMadeOn, IsNeeded, IsPartBeside}
 use Rattle.lcm_laws.specs.Planning.{FitsWhatStands, IsOfWholeMachines}
 use Rattle.lcm_laws.proofs.Histories.{allowed_at, event}
 use Rattle.lcm_laws.proofs.Lists.{by_test}

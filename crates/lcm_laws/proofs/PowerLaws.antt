@@ -1,5 +1,5 @@
 -- What work leaves running.
-use Rattle.std.proofs.Common.{◌≡◌, ◌==◌, ℕ, List, [], ◌∷◌, Bool, true, false, Some, refl, ap, ◌∙◌, slice_get, eq-eqb}
+use Rattle.std.proofs.Common.{◌≡◌, ◌==◌, ℕ, List, ◌∷◌, Bool, true, Some, refl, ap, slice_get, eq-eqb}
 use Rattle.lcm_events.specs.Same.{same_def, same_kind}
 use Rattle.lcm_events.proofs.SameLaws.{same_def-refl}
 use Rattle.lcm_events.specs.declared.attempts.Outcome.TheVariants.{Done}

@@ -1,5 +1,5 @@
 -- What the program does (own rule, docs/FORMATS.md).
-use Rattle.std.specs.Prelude.{◌≡◌, ◌⊎◌, ◌↔◌, ◌<◌, ℕ, List, Bool, true, false, Option, Some, None, Result, Ok}
+use Rattle.std.specs.Prelude.{◌≡◌, ◌⊎◌, ◌<◌, ℕ, List, Bool, true, false, Option, Some, None, Result, Ok}
 use Rattle.std.specs.declared.alloc.AllocError.{AllocError}
 use Rattle.host_calls.specs.Files.{FilesState, Hold}
 use Rattle.lcm_api.specs.Mouth.{MouthState}
@@ -12,13 +12,14 @@ use Rattle.outside_edges.specs.declared.real_site.WhyLost.{WhyLost}
 use Rattle.program_words.specs.Pages.{page_of}
 use Rattle.program_words.specs.Reasons.{reason_of}
 use Rattle.program_words.specs.declared.page.Page.{Page}
-use Rattle.site_traits.specs.Counts.{OnlyDiskFails, SiteCounts}
+use Rattle.site_traits.specs.Counts.{OnlyDiskFails, Rose, SiteCounts}
 use Rattle.site_traits.specs.Site.{SiteState}
 use Rattle.standard_streams.specs.Numbers.{AreStreamsTaken, Numbers}
+use Rattle.vnfm_cli.specs.Causes.{HasCauses}
 use Rattle.vnfm_cli.specs.Course.{Course, ending_of}
 use Rattle.vnfm_cli.specs.Ending.{Ends}
-use Rattle.vnfm_cli.specs.Runs.{Runs}
-use Rattle.vnfm_cli.specs.Words.{settings_of}
+use Rattle.vnfm_cli.specs.Runs.{IsDoorCause, IsStartOf, MayEndWith, Runs}
+use Rattle.vnfm_cli.specs.Words.{AreWordsOf, settings_of}
 use Rattle.vnfm_cli.specs.declared.options.Command.{Command}
 use Rattle.vnfm_cli.specs.declared.options.Command.TheVariants.{Init, Onboard, Once}
 use Rattle.vnfm_cli.specs.declared.options.Settings.{Settings}
@@ -34,8 +35,10 @@ pub record RunsOver (site_tells door_tells clock_tells out_tells : Type 0) (word
   pub course : Course
   pub runs : Runs (telling site_tells door_tells clock_tells) words course (world a c ks) (world b d ls)
   pub ends : Ends out_tells (ending_of course) status x.bytes y.bytes x.counts y.counts
-  pub usage : (status ≡ 2) ↔ (settings_of words ≡ None)
   pub disk : OnlyDiskFails (status ≡ 3) m n
+  pub complete : site_tells → (command : Command) → AreWordsOf command words → IsStartOf command a → ¬ (Rose m.disk n.disk)
+      → ¬ (IsDoorCause command c.wire.intake.counts d.wire.intake.counts) → ¬ (Rose x.counts.faults y.counts.faults) → MayEndWith command status
+  pub causes : HasCauses site_tells words status (world a c ks) (world b d ls) x.counts y.counts
 
 -- One run, with its line to standard output. Behind it, what explains its status went to standard error.
 pub record SpeaksOnOutput (site_tells door_tells clock_tells lines_tells errors_tells : Type 0) (words : List (List ℕ)) (status : ℕ) (why : Option WhyLost)
