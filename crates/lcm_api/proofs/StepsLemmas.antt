@@ -72,25 +72,25 @@ talk_of_request t m H talk r n s c u ks v counts reads does about =
     record {
       works = does.works;
       holds = record {
-      requests = λ told.
-          let replied = does.replies told in
-          let same = remains_kept [] (said (replies m H talk.asks) ++ replied.final) u v.mouth does.kept replied.door in
-          let P : Remains → Type 0 = λ z. IsNext r (remains_of c.wire) z in
-          subst Q (sym about.is) (remains_of c.wire, refl, subst P (sym same) (next_taken t.door r c.wire u.wire counts told));
-      speaks = λ told.
-          let replied = does.replies told in
-          let came = reads.door told in
-          record {
-            read = came.0 ++ [];
-            final = replied.final;
-            final_is = replied.final_is;
-            door = converses_then came.0 [] [] (said (replies m H talk.asks) ++ replied.final) c.wire.intake.door u.wire.intake.door v.mouth.wire.intake.door
-                (converses_read came.0 c.wire.intake.door u.wire.intake.door came.1) replied.door;
-          };
-      clock = does.clock;
-      ends = ends_since t.door talk.end c.wire u.wire v.mouth.wire reads.counts does.ends;
+        requests = λ told.
+            let replied = does.replies told in
+            let same = remains_kept [] (said (replies m H talk.asks) ++ replied.final) u v.mouth does.kept replied.door in
+            let P : Remains → Type 0 = λ z. IsNext r (remains_of c.wire) z in
+            subst Q (sym about.is) (remains_of c.wire, refl, subst P (sym same) (next_taken t.door r c.wire u.wire counts told));
+        speaks = λ told.
+            let replied = does.replies told in
+            let came = reads.door told in
+            record {
+              read = came.0 ++ [];
+              final = replied.final;
+              final_is = replied.final_is;
+              door = converses_then came.0 [] [] (said (replies m H talk.asks) ++ replied.final) c.wire.intake.door u.wire.intake.door v.mouth.wire.intake.door
+                  (converses_read came.0 c.wire.intake.door u.wire.intake.door came.1) replied.door;
+            };
+        clock = does.clock;
+        ends = ends_since t.door talk.end c.wire u.wire v.mouth.wire reads.counts does.ends;
         lost = lost_since talk.end c.wire.intake.counts u.wire.intake.counts v.mouth.wire.intake.counts reads.counts does.lost;
-      counts = counts_then c.wire.intake.counts u.wire.intake.counts v.mouth.wire.intake.counts reads.counts does.counts;
+        counts = counts_then c.wire.intake.counts u.wire.intake.counts v.mouth.wire.intake.counts reads.counts does.counts;
       };
     }
 
@@ -116,31 +116,34 @@ talk_of_end t m H role end answer s c u v ks ready takes reads none asked work e
     record {
       works = subst P (sym work) (idle t.site m H s ready);
       holds = record {
-      requests = λ told.
-          let said_so = says told in
-          let same = remains_kept [] said_so.0 u v kept said_so.2 in
-          let before : remains_of u.wire ≡ remains_of c.wire = rw (none.bytes told, none.taken, none.ended) refl in
-          subst Q (sym asked) (same ∙ before);
-      speaks = λ told.
-          let said_so = says told in
-          let came = reads.door told in
-          record {
-            read = came.0 ++ [];
-            final = said_so.0;
-            final_is = said_so.1;
-            door = converses_then came.0 [] [] said_so.0 c.wire.intake.door u.wire.intake.door v.wire.intake.door (converses_read came.0 c.wire.intake.door u.wire.intake.door came.1) said_so.2;
-          };
-      clock = λ told. subst R (sym asked) refl;
-      ends = ends (record {
-        before = c.wire;
-        behind = u.wire;
-        takes = takes;
-        since = omega arith;
-        until = counts.faults;
-        bytes = λ told. ap (λ (z : Remains). z.bytes) (remains_kept [] (says told).0 u v kept (says told).2);
-      });
+        requests = λ told.
+            let said_so = says told in
+            let same = remains_kept [] said_so.0 u v kept said_so.2 in
+            let before : remains_of u.wire ≡ remains_of c.wire = rw (none.bytes told, none.taken, none.ended) refl in
+            subst Q (sym asked) (same ∙ before);
+        speaks = λ told.
+            let said_so = says told in
+            let came = reads.door told in
+            record {
+              read = came.0 ++ [];
+              final = said_so.0;
+              final_is = said_so.1;
+              door = converses_then came.0 [] [] said_so.0 c.wire.intake.door u.wire.intake.door v.wire.intake.door (converses_read came.0 c.wire.intake.door u.wire.intake.door came.1) said_so.2;
+            };
+        clock = λ told. subst R (sym asked) refl;
+        ends = ends (record {
+          before = c.wire;
+          behind = u.wire;
+          takes = takes;
+          since = omega arith;
+          until = counts.faults;
+          bytes = λ told. ap (λ (z : Remains). z.bytes) (remains_kept [] (says told).0 u v kept (says told).2);
+          held = kept.held;
+          taken = kept.taken;
+          ended = kept.ended;
+        });
         lost = lost_since (Some end) c.wire.intake.counts u.wire.intake.counts v.wire.intake.counts reads.counts lost;
-      counts = counts_then c.wire.intake.counts u.wire.intake.counts v.wire.intake.counts reads.counts counts;
+        counts = counts_then c.wire.intake.counts u.wire.intake.counts v.wire.intake.counts reads.counts counts;
       };
     }
 

@@ -106,6 +106,9 @@ asks_since tells answer a b c before asks = let since = asks.since in record {
   since = omega (arith, before, since);
   until = asks.until;
   bytes = asks.bytes;
+  held = asks.held;
+  taken = asks.taken;
+  ended = asks.ended;
 }
 
 ends_for_since : (tells : Type 0) (last : Last) (told : Result (Unit {0}) DoorFailed) (a b c : WireState) → a.intake.counts.faults ≤ b.intake.counts.faults
@@ -157,12 +160,12 @@ talks_on t m H role xs ys end n o w u v first second =
     record {
       works = subst P (sym (life_more (once_answered m) H ys xs)) (joined t.site m H G (work_by m (life (once_answered m) G ys) end) n o w.site u.site v.site first.works second.works);
       holds = record {
-      requests = λ told. subst Q taken (requests_more xs (asked_by end ++ ys) (talking.remains_of w.mouth.wire) (talking.remains_of u.mouth.wire) (talking.remains_of v.mouth.wire) (first.holds.requests told) (second.holds.requests told));
-      speaks = λ told. speaks_on m H role xs ys end w.mouth.wire.intake.door u.mouth.wire.intake.door v.mouth.wire.intake.door (first.holds.speaks told) (second.holds.speaks told);
-      clock = λ told. subst R taken (gave_more xs (asked_by end ++ ys) w.clock u.clock v.clock (first.holds.clock told) (second.holds.clock told));
-      ends = ends_since t.door end w.mouth.wire u.mouth.wire v.mouth.wire first.holds.counts second.holds.ends;
+        requests = λ told. subst Q taken (requests_more xs (asked_by end ++ ys) (talking.remains_of w.mouth.wire) (talking.remains_of u.mouth.wire) (talking.remains_of v.mouth.wire) (first.holds.requests told) (second.holds.requests told));
+        speaks = λ told. speaks_on m H role xs ys end w.mouth.wire.intake.door u.mouth.wire.intake.door v.mouth.wire.intake.door (first.holds.speaks told) (second.holds.speaks told);
+        clock = λ told. subst R taken (gave_more xs (asked_by end ++ ys) w.clock u.clock v.clock (first.holds.clock told) (second.holds.clock told));
+        ends = ends_since t.door end w.mouth.wire u.mouth.wire v.mouth.wire first.holds.counts second.holds.ends;
         lost = lost_since end w.mouth.wire.intake.counts u.mouth.wire.intake.counts v.mouth.wire.intake.counts first.holds.counts second.holds.lost;
-      counts = counts_then w.mouth.wire.intake.counts u.mouth.wire.intake.counts v.mouth.wire.intake.counts first.holds.counts second.holds.counts;
+        counts = counts_then w.mouth.wire.intake.counts u.mouth.wire.intake.counts v.mouth.wire.intake.counts first.holds.counts second.holds.counts;
       };
     }
 

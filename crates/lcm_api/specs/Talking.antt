@@ -123,7 +123,8 @@ IsRejection fault.Unfinished reply = reply ≡ None
 IsRejection fault.Read reply = reply ≡ None
 IsRejection fault.Memory reply = reply ≡ Some starved
 
--- The wire gave this answer when it was asked for the last time, between the session's start and its end. Nothing is taken behind it.
+-- The wire gave this answer when it was asked for the last time, between the session's start and its end. Behind that nothing is taken, and
+-- what is held stays.
 pub record AsksLast (tells : Type 0) (answer : Result Taken WireFault) (a b : WireState) : Type 0 where
   pub before : WireState
   pub behind : WireState
@@ -131,6 +132,9 @@ pub record AsksLast (tells : Type 0) (answer : Result Taken WireFault) (a b : Wi
   pub since : a.intake.counts.faults ≤ before.intake.counts.faults
   pub until : behind.intake.counts.faults ≤ b.intake.counts.faults
   pub bytes : tells → bytes_of b.intake ≡ bytes_of behind.intake
+  pub held : b.intake.held ≡ behind.intake.held
+  pub taken : b.taken ≡ behind.taken
+  pub ended : b.ended ≡ behind.ended
 
 -- why it ended: no request was left; the bytes that are left are none, and that is told; or telling a reply failed
 abbrev pub EndsFor : Type 0 → Last → Result (Unit {0}) DoorFailed → WireState → WireState → Type 0
