@@ -5,12 +5,6 @@ ghost use Rattle.journal_core.specs.File.{header};
 ghost use Rattle.journal_core.specs.Header.{made, MayStand, DiffersAt, HasHeader};
 ghost use Rattle.journal_core.specs.Judged.{Judged, LongEnough};
 
-/// Bytes of the header, in front of the first gate.
-pub const HEADER_SIZE: usize = 32;
-
-/// Bytes of a made file with no record.
-pub const MADE_SIZE: usize = 33;
-
 /// The bytes of a header whose manager has the number 0.
 pub const HEADER: [u8; 32] = [
     86, 78, 70, 77, 45, 76, 67, 77, 1, 0, 0, 0, 0, 0, 0, 0, 0, 0, 0, 0, 0, 0, 0, 0, 0, 0, 0, 0, 0,
