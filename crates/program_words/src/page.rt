@@ -73,12 +73,12 @@ PATH is a journal that init made. The descriptor is read to its end, of at most 
 
 /// What `once --help` prints.
 const ONCE: &str =
-    "vnfm once --journal PATH    answer the request on standard input, and record what it asks for
+    "vnfm once --journal PATH    answer the requests on standard input, and record what they ask for
 
     vnfm once --journal journal <examples/create.http
 
-PATH is a journal that init made. The request is one of HTTP/1.1, read to its end, of at most 65536 bytes. Its answer goes to
-standard output.
+PATH is a journal that init made. Standard input is one connection of HTTP/1.1: its requests are answered one by one, up to its
+end or to the first that asks to close it. A body has at most 1048576 bytes. The answers go to standard output.
 ";
 
 /// What `--version` prints.

@@ -10,7 +10,7 @@ pub enum Command {
     Init,
     /// Onboards the descriptor on standard input.
     Onboard,
-    /// Answers the request on standard input.
+    /// Answers the requests on standard input.
     Once,
 }
 
