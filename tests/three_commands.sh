@@ -71,7 +71,7 @@ try "init --help" /dev/null 0 \
 try "onboard --help" /dev/null 0 \
     "vnfm onboard --journal PATH    onboard the descriptor on standard input, a JSON document" "" 370 onboard --help
 try "once --help" "$request" 0 \
-    "vnfm once --journal PATH    answer the request on standard input, and record what it asks for" "" 370 once --help
+    "vnfm once --journal PATH    answer the requests on standard input, and record what they ask for" "" 370 once --help
 
 # An answer that can't be delivered is recorded all the same.
 "$here/vnfm" once --journal "$journal" <"$request" >/dev/full 2>"$room/err"

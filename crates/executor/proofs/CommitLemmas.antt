@@ -1,5 +1,5 @@
 -- What recording an event does, from what the append does.
-use Rattle.std.proofs.Common.{◌≡◌, ◌∙◌, ℕ, List, ◌∷◌, true, false, true≢false, Ok, Err, sym, subst, refl, ap}
+use Rattle.std.proofs.Common.{◌≡◌, ◌∙◌, ℕ, List, ◌∷◌, true, false, true≢false, Ok, Err, subst, refl, ap}
 use Rattle.event_codec.specs.Spell.{spelling}
 use Rattle.event_codec.specs.Valid.{IsEvent}
 use Rattle.executor.specs.Faults.{work_fault}

@@ -1,5 +1,5 @@
 -- What a load and a commit do, from what the journal's calls do.
-use Rattle.std.proofs.Common.{◌≡◌, ◌≢◌, ◌≤◌, ◌+◌, ℕ, List, [], ◌∷◌, ◌++◌, length, reverse, true, false, Ok, Err, Result, true≢false, ap, ◌∙◌, sym, subst, refl, inl, inr, arith, ⊎_elim, take, ◌-◌, length-append}
+use Rattle.std.proofs.Common.{◌≡◌, ◌≤◌, ◌+◌, ℕ, List, [], ◌∷◌, ◌++◌, length, reverse, true, false, Ok, Err, Result, true≢false, ap, ◌∙◌, sym, subst, refl, inl, arith, ⊎_elim, take, ◌-◌, length-append}
 use Rattle.std.specs.Result.{OnOk, OnErr, IsErrAnd, is_err}
 use Rattle.std.specs.declared.alloc.AllocError.{AllocError}
 use Rattle.std.proofs.lemmas.List.{reverse-append, take_at}

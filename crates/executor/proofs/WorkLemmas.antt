@@ -2,7 +2,7 @@
 use Rattle.std.proofs.Common.{◌≡◌, ◌∙◌, ℕ, List, [], ◌∷◌, ◌++◌, false, sym, subst, refl, ap, append_assoc}
 use Rattle.executor.specs.History.{HasHistory}
 use Rattle.executor.specs.Managed.{Managed, Keeps, StandsFor, IsReady}
-use Rattle.executor.specs.Work.{Work, went, stood, aimed, failed, Extends, Grows, HasSome, AtSite, Works}
+use Rattle.executor.specs.Work.{Work, went, stood, aimed, failed, Extends, HasSome, Works}
 use Rattle.journal_core.specs.File.{HasRecords}
 use Rattle.lcm_events.specs.declared.events.Event.{Event}
 use Rattle.lcm_events.specs.declared.events.EventKind.{EventKind}

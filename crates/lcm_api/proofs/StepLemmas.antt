@@ -1,6 +1,6 @@
 -- What a create request comes to, by the numbers of the history.
 use Rattle.std.specs.Prelude.{is_some, true}
-use Rattle.std.proofs.Common.{◌≡◌, ◌≤◌, ◌<◌, ◌+◌, ℕ, Bool, List, [], ◌∷◌, length, Option, Some, None, arith, refl, ap, ◌∙◌, sym, codes, ◌++◌, inl}
+use Rattle.std.proofs.Common.{◌≡◌, ◌≤◌, ◌<◌, ◌+◌, ℕ, Bool, List, [], ◌∷◌, length, Option, Some, None, arith, refl, ap, codes, ◌++◌}
 use Rattle.executor.specs.Managed.{Managed}
 use Rattle.std.proofs.lemmas.Bool.{lt-leb, le-leb, lt-ltb, le-ltb}
 use Rattle.std.proofs.lemmas.List.{length-append}
@@ -13,7 +13,7 @@ use Rattle.lcm_events.specs.declared.events.Event.{Event}
 use Rattle.lcm_events.specs.declared.events.EventKind.TheVariants.{Created}
 use Rattle.lcm_events.specs.declared.descriptor.Vnfd.{Vnfd}
 use Rattle.lcm_model.specs.Lives.{descriptor_named, instances_made, live_instances}
-use Rattle.lcm_api.specs.Outcome.{Outcome, create_outcome, creation, created, refused, refusal, journal_size}
+use Rattle.lcm_api.specs.Outcome.{create_outcome, creation, created, refused, refusal, journal_size}
 use Rattle.lcm_api.specs.Steps.{IsStep, MayCreateNow}
 use Rattle.lcm_api.specs.declared.reply.Reply.{Reply}
 use Rattle.lcm_api.specs.declared.answer.Step.TheVariants.{Refused, Creates}

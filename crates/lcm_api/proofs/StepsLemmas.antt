@@ -4,7 +4,6 @@ use Rattle.std.specs.Result.{is_ok}
 use Rattle.executor.specs.Managed.{Managed, IsReady}
 use Rattle.executor.specs.Work.{Work, went, Works}
 use Rattle.executor.proofs.WorkLemmas.{idle, stands_everywhere}
-use Rattle.http_wire.specs.Intake.{IntakeState, OnlyReads}
 use Rattle.http_wire.specs.Wire.{WireState, bytes_of, Counts, OnlyTakesIn, TakesNone}
 use Rattle.http_wire.specs.declared.request.Request.{Request}
 use Rattle.http_wire.specs.declared.request.Taken.{Taken}
@@ -14,8 +13,8 @@ use Rattle.lcm_api.specs.Mouth.{MouthState, OnlyAtDoor, Takes}
 use Rattle.lcm_api.specs.Response.{text}
 use Rattle.lcm_api.specs.Answering.{IsAcknowledged, IsOutcomeOf}
 use Rattle.lcm_api.specs.Outcome.{outcome, refusal, starved}
-use Rattle.lcm_api.specs.Session.{Ask, Last, Ending, Talk, asked_last, has_reply, is_breaking, life, once_answered, outcome_of, replies, reply_last, said, taken_by, work_last, work_of}
-use Rattle.lcm_api.specs.Step.{Replies, Responds, IsAbout, IsStep, answered_one, ended_so}
+use Rattle.lcm_api.specs.Session.{Ask, Last, Ending, Talk, asked_last, has_reply, is_breaking, once_answered, outcome_of, replies, reply_last, said, taken_by, work_last}
+use Rattle.lcm_api.specs.Step.{Responds, IsAbout, IsStep, answered_one, ended_so}
 use Rattle.lcm_api.specs.declared.session.Step.{Step}
 use Rattle.lcm_api.specs.declared.session.Step.TheVariants as step
 use Rattle.site_traits.specs.Clock.{Gives}

@@ -1,7 +1,7 @@
 -- A talk behind another is one talk.
 use Rattle.std.proofs.Common.{◌≡◌, ◌≤◌, ◌∙◌, ℕ, List, [], ◌∷◌, ◌++◌, Option, Some, None, Result, Ok, Err, take, length, true, sym, subst, refl, ap, append_assoc, append-nil, arith, ◌+◌, ◌<◌, ◌⊎◌, inl, inr, ⊎_elim}
 use Rattle.executor.specs.Managed.{Managed, IsReady}
-use Rattle.executor.specs.Work.{Work, Works}
+use Rattle.executor.specs.Work.{Works}
 use Rattle.executor.proofs.WorkLemmas.{idle, joined, ready_again}
 use Rattle.http_wire.specs.declared.TheConstants.{CONNECTION_REQUESTS}
 use Rattle.http_wire.specs.Intake.{OnlyReads}
@@ -16,7 +16,6 @@ use Rattle.lcm_api.specs.declared.door.DoorFailed.{DoorFailed}
 use Rattle.lcm_api.specs.declared.reply.Reply.{Reply}
 use Rattle.lcm_events.specs.declared.events.Event.{Event}
 use Rattle.lcm_events.specs.declared.states.Role.{Role}
-use Rattle.site_traits.specs.Clock.{Gives}
 use Rattle.site_traits.specs.Counts.{SiteCounts, OnlyDiskFails, one_more}
 use Rattle.site_traits.specs.Door.{DoorState, DoorCounts, NoNextFault}
 

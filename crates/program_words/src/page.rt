@@ -24,7 +24,7 @@ const HELP: &str = "vnfm: a VNF lifecycle manager after ETSI GS NFV-SOL 003 V2.6
 
     vnfm init --journal PATH --manager N    make the journal of manager N, from 0 to 4294967295, at PATH
     vnfm onboard --journal PATH             onboard the descriptor on standard input, a JSON document
-    vnfm once --journal PATH                answer the request on standard input, and record what it asks for
+    vnfm once --journal PATH                answer the requests on standard input, and record what they ask for
     vnfm COMMAND --help                     print the words of a command, with an example
     vnfm --help                             print this text
     vnfm --version                          print the version

@@ -1,5 +1,5 @@
 -- What was heard of a connection, and that nothing was written to it.
-use Rattle.std.proofs.Common.{◌≡◌, ◌∙◌, ℕ, Bool, true, false, List, [], ap, refl}
+use Rattle.std.proofs.Common.{◌≡◌, ◌∙◌, ℕ, Bool, true, false, [], ap, refl}
 use Rattle.site_traits.specs.Door.{Conn, DoorState, Comes, ConnIs, HangsUp}
 use Rattle.lcm_api.specs.Hearing.{heard_of}
 use Rattle.lcm_events.specs.declared.states.Role.{Role}

@@ -2,7 +2,7 @@
 use Rattle.std.proofs.Common.{◌≡◌, ◌≢◌, ◌<◌, ℕ, Bool, true, false, refl, sym, subst, ap, ◌∙◌, arith, [], ◌∷◌, ⊎_elim, if◌then◌else◌, Result, Ok, Err}
 use Rattle.std.proofs.Math.Dec.{eqb}
 use Rattle.std.proofs.lemmas.Bool.Decides.{eqb_tells}
-use Rattle.site_traits.specs.Counts.{SiteCounts, Ask, asked, OnlyDiskFails, CallCounts, Rose, called, called_in_vain, one_more}
+use Rattle.site_traits.specs.Counts.{SiteCounts, asked, OnlyDiskFails, CallCounts, Rose, called, called_in_vain, one_more}
 use Rattle.site_traits.specs.Counts.Ask.{sync}
 use Rattle.executor.specs.declared.manager.OpenFault.{OpenFault}
 use Rattle.executor.specs.declared.manager.OpenFault.TheVariants as opening

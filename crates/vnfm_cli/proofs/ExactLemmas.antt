@@ -1,35 +1,31 @@
 -- Which endings the bytes of the file allow.
-use Rattle.std.proofs.Common.{◌≡◌, ◌≢◌, ◌<◌, ◌≤◌, ◌⊎◌, ℕ, Bool, true, false, List, Option, Some, None, Result, Ok, Err, ap, subst, refl, inl, inr, ⊎_elim, sym, ◌∙◌, arith}
+use Rattle.std.proofs.Common.{◌≡◌, ◌≢◌, ◌⊎◌, ℕ, List, Some, None, Result, Ok, Err, ap, subst, refl, inl, inr, ⊎_elim, sym, ◌∙◌, arith}
 use Rattle.std.proofs.lemmas.Bool.{false≢true}
-use Rattle.executor.specs.History.{HasHistory}
-use Rattle.executor.specs.Open.{IsBadAt, IsBadRecord}
+use Rattle.executor.specs.Open.{IsBadRecord}
 use Rattle.executor.proofs.LawLemmas.{no_bad_record}
 use Rattle.executor.specs.declared.manager.OpenFault.{OpenFault}
 use Rattle.executor.specs.declared.manager.OpenFault.TheVariants as opening
-use Rattle.journal_core.specs.File.{records, HasRecords}
-use Rattle.journal_core.specs.Head.{IsBrokenAt}
-use Rattle.journal_core.specs.Header.{HasHeader, IsForeign, IsUnmade}
+use Rattle.journal_core.specs.File.{HasRecords}
+use Rattle.journal_core.specs.Header.{IsForeign, IsUnmade}
 use Rattle.journal_core.proofs.Excluding.{headed_or_not, whole_or_foreign, whole_or_unmade}
 use Rattle.lcm_api.specs.declared.answer.ApiFault.TheVariants as fault
 use Rattle.lcm_events.specs.declared.events.Event.{Event}
-use Rattle.lcm_events.specs.declared.states.Role.{Role}
 use Rattle.site_traits.specs.Counts.{Rose}
 use Rattle.site_traits.specs.Door.{DoorCounts}
 use Rattle.site_traits.specs.Site.{SiteState}
-use Rattle.vnfm_cli.specs.Course.{Course, misused, starved, making, unopened, opened, Close, finished, unreached, stopped, Deed, serving, onboarding, Onboarding, unready, unheard, cut_off, heard, close_ending, ending_of, judged_ending, onboarding_ending, verdict_ending, unopened_ending, IsDeedOf, IsOf, IsOfSettings, IsOfWords}
-use Rattle.vnfm_cli.specs.Ending.{status_of, told_status, IsStatus}
+use Rattle.vnfm_cli.specs.Course.{Course, misused, starved, making, unopened, opened, Close, finished, unreached, stopped, serving, onboarding, Onboarding, unready, unheard, cut_off, heard, close_ending, ending_of, onboarding_ending, verdict_ending, unopened_ending, IsOf, IsOfSettings, IsOfWords}
+use Rattle.vnfm_cli.specs.Ending.{status_of}
 use Rattle.vnfm_cli.specs.Runs.{AtFile, IsDoorCause, IsLegalCourse, IsNoJournal, IsOrYields, IsSoundStart, IsStartOf, MayEndWith}
 use Rattle.journal_core.specs.Create.{IsMade}
 use Rattle.journal_core.specs.Header.{IsUnfinished}
 use Rattle.journal_core.specs.declared.create.CreateFault.{CreateFault}
 use Rattle.journal_core.specs.declared.create.CreateFault.TheVariants as creating
 use Rattle.vnfm_cli.specs.Onboarding.{Verdict, refused, full, accepted, verdict}
-use Rattle.vnfm_cli.specs.Words.{AreInit, AreLoading, AreWordsOf, IsCommand, loads, settings_of}
+use Rattle.vnfm_cli.specs.Words.{AreInit, AreLoading, AreWordsOf, loads, settings_of}
 use Rattle.vnfm_cli.specs.declared.options.Command.{Command}
 use Rattle.vnfm_cli.specs.declared.options.Command.TheVariants.{Init, Onboard, Once}
 use Rattle.vnfm_cli.specs.declared.options.Settings.{Settings}
-use Rattle.vnfm_cli.specs.declared.ending.Ending.{Ending}
-use Rattle.vnfm_cli.specs.declared.ending.Ending.TheVariants.{Done, Made, Onboarded, Usage, SiteFault, DoorFault, NoJournal, NotAJournal, NoMemory, BadRecord, JournalFull, DescriptorRefused, Taken}
+use Rattle.vnfm_cli.specs.declared.ending.Ending.TheVariants.{SiteFault, DoorFault}
 
 -- a whole file is a journal
 whole_journal : (m : ℕ) (rs : List (List ℕ)) (image : List ℕ) → HasRecords m rs image → IsNoJournal image → ⊥

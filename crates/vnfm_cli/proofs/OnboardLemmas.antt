@@ -1,5 +1,5 @@
 -- What recording a descriptor does, by what its commit answered.
-use Rattle.std.proofs.Common.{◌≡◌, ◌≤◌, ◌<◌, ◌+◌, ℕ, List, [], ◌∷◌, length, ◌∙◌, sym, subst, refl}
+use Rattle.std.proofs.Common.{◌≡◌, ◌≤◌, ◌<◌, ◌+◌, ℕ, List, [], ◌∷◌, length, sym, subst, refl}
 use Rattle.std.proofs.lemmas.Bool.{lt-ltb, le-ltb}
 use Rattle.event_codec.specs.Spell.{spelling}
 use Rattle.executor.specs.History.{spellings}

@@ -1,20 +1,19 @@
 -- One round, and the rounds so far.
-use Rattle.std.proofs.Common.{◌≡◌, ◌≤◌, ◌<◌, ◌+◌, ◌⊎◌, ℕ, true, false, true≢false, List, [], ◌∷◌, length, Option, Some, None, sym, subst, refl, ap, ◌∙◌, inl, inr, arith}
+use Rattle.std.proofs.Common.{◌≡◌, ◌<◌, ◌+◌, ◌⊎◌, ℕ, true, false, true≢false, List, [], ◌∷◌, length, Option, Some, None, sym, subst, refl, ap, ◌∙◌, arith}
 use Rattle.executor.specs.Managed.{Managed, IsReady}
 use Rattle.executor.specs.Work.{Work, Works, went, stood}
 use Rattle.executor.proofs.WorkLemmas.{idle, joined, ready_again}
 use Rattle.lcm_api.specs.Mouth.{MouthState, Begins}
 use Rattle.lcm_api.specs.Session.{Last, Ending, Talk, over, unheard, untold, starving, breaking, breaks, is_breaking, life, work_by, work_last, work_of}
-use Rattle.lcm_api.specs.Talking.{Tells, Peers, World, peers_of, world, Serves}
+use Rattle.lcm_api.specs.Talking.{Tells, World, peers_of, world, Serves}
 use Rattle.lcm_events.specs.declared.events.Event.{Event}
 use Rattle.lcm_events.specs.declared.states.Role.{Role}
-use Rattle.site_traits.specs.Counts.{Rose}
 use Rattle.site_traits.specs.Door.{DoorCounts, Comes, ComesNot, next_failed, opened as has_come}
 use Rattle.site_traits.specs.declared.door.NextAnswer.{NextAnswer}
 use Rattle.site_traits.specs.declared.door.NextAnswer.TheVariants.{Nobody, Ended}
 use Rattle.site_traits.specs.Site.{SiteState}
-use Rattle.vnfm_cli.specs.Course.{Round, unasked, served, Close, finished, unreached, stopped, Service, IsCount, close_ending, close_work, once_made, service_work}
-use Rattle.vnfm_cli.specs.Rounds.{AreFor, Attended, CloseDoes, ClosesFor, ComesNobody, IsOne, IsRead, Makes, MakesOne, One, round, end, OneFor, Passes, Receives, RoundDoes, RoundsDo, one_work}
+use Rattle.vnfm_cli.specs.Course.{Round, unasked, served, Close, finished, unreached, stopped, Service, IsCount, close_ending, close_work, once_made}
+use Rattle.vnfm_cli.specs.Rounds.{AreFor, IsOne, IsRead, Makes, MakesOne, One, round, end, OneFor, Receives, RoundsDo}
 use Rattle.vnfm_cli.specs.declared.ending.Ending.TheVariants.{DoorFault, SiteFault}
 use Rattle.vnfm_cli.specs.declared.rounds.RoundEnd.{RoundEnd}
 use Rattle.vnfm_cli.specs.declared.rounds.RoundEnd.TheVariants as ends

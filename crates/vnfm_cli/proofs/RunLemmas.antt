@@ -1,9 +1,9 @@
 -- Opening a journal, and what is then done with it.
-use Rattle.std.proofs.Common.{◌≡◌, ◌<◌, ℕ, List, [], false, sym, subst, refl}
+use Rattle.std.proofs.Common.{◌<◌, ℕ, List, sym, subst, refl}
 use Rattle.executor.specs.History.{HasHistory}
 use Rattle.executor.specs.Managed.{Managed, IsReady, StandsFor}
 use Rattle.executor.specs.Open.{Refuses}
-use Rattle.executor.specs.Work.{Work, Works, HasSome, aimed, failed, stood}
+use Rattle.executor.specs.Work.{Work, Works, HasSome, aimed, stood}
 use Rattle.executor.specs.declared.manager.OpenFault.{OpenFault}
 use Rattle.executor.proofs.WorkLemmas.{extends_refl, extends_trans, some_of}
 use Rattle.journal_core.specs.File.{HasRecords}

@@ -1,11 +1,11 @@
 -- A valid descriptor has a spelling.
-use Rattle.std.proofs.Common.{◌≡◌, ◌≤◌, ◌<◌, ◌+◌, ◌^◌, ℕ, List, [], ◌∷◌, length, map, Bool, true, false, Option, Some, None, refl, arith, sym, ap, ◌∙◌}
-use Rattle.std.specs.Prelude.{nat_le, nat_lt, ◌&&◌, ◌||◌, ◌==◌, if◌then◌else◌}
+use Rattle.std.proofs.Common.{◌≡◌, ◌≤◌, ◌+◌, ℕ, List, [], ◌∷◌, length, map, Bool, true, false, Option, Some, None, refl, arith}
+use Rattle.std.specs.Prelude.{nat_lt, ◌&&◌}
 use Rattle.std.specs.List.{AllByRecursion, list_all}
 use Rattle.std.proofs.lemmas.Bool.{eqb-true, leb-true, ltb-true}
 use Rattle.std.specs.Option.{option_map_or}
 use Rattle.event_codec.specs.Typed.{TypedAspect, TypedEvent, TypedLevel, TypedPort, TypedRow, TypedVdu, TypedVnfd}
-use Rattle.event_codec.specs.Valid.{AreMany, IsAspect, IsEvent, IsLevel, IsLink, IsPort, IsRow, IsStorage, IsU16, IsU32, IsVdu, IsVnfd, in_order, names_entries, optionally_below}
+use Rattle.event_codec.specs.Valid.{IsAspect, IsEvent, IsLevel, IsLink, IsPort, IsRow, IsVdu, IsVnfd, in_order, names_entries, optionally_below}
 use Rattle.lcm_events.specs.Descriptors.{is_name_before, is_rising, is_valid_steps}
 use Rattle.lcm_events.specs.declared.descriptor.Aspect.{Aspect}
 use Rattle.lcm_events.specs.declared.descriptor.Level.{Level}
@@ -15,8 +15,7 @@ use Rattle.lcm_events.specs.declared.descriptor.Storage.{Storage}
 use Rattle.lcm_events.specs.declared.descriptor.Vdu.{Vdu}
 use Rattle.lcm_events.specs.declared.descriptor.Vnfd.{Vnfd}
 use Rattle.lcm_model.proofs.ListLaws.{and_back, and_both, and_front, list_all_weaker}
-use Rattle.lcm_model.specs.Descriptors.{IsValid, are_levels_of, are_sorted, has_sorted_names, has_valid_counts, is_given, is_valid_aspect, is_valid_level, is_valid_maximum, is_valid_port, is_valid_row, is_valid_vdu}
-use Rattle.vnfm_base.specs.Text.{IsName}
+use Rattle.lcm_model.specs.Descriptors.{IsValid, has_sorted_names, has_valid_counts, is_valid_aspect, is_valid_level, is_valid_port, is_valid_row, is_valid_vdu}
 use Rattle.vnfm_cli.specs.Onboarding.{onboarding}
 
 -- both of two

@@ -1,21 +1,17 @@
 -- What a descriptor comes to, by the history and the size of its event.
-use Rattle.std.proofs.Common.{◌≡◌, ◌≤◌, ◌<◌, ◌+◌, ◌++◌, ℕ, List, [], ◌∷◌, length, Bool, true, false, Option, Some, None, Result, Ok, Err, refl, arith}
-use Rattle.std.specs.Prelude.{codes, decimal, is_some, nat_le, nat_lt, if◌then◌else◌}
-use Rattle.std.proofs.lemmas.Bool.{leb-false, lt-leb, le-leb, lt-ltb, le-ltb}
+use Rattle.std.proofs.Common.{◌≡◌, ◌≤◌, ◌<◌, ◌++◌, ℕ, List, length, false, Option, Some, None, refl}
+use Rattle.std.specs.Prelude.{is_some}
+use Rattle.std.proofs.lemmas.Bool.{lt-leb, lt-ltb, le-ltb}
 use Rattle.event_codec.specs.Spell.{spelling}
-use Rattle.lcm_api.specs.Outcome.{journal_size}
 use Rattle.lcm_events.specs.declared.descriptor.Vnfd.{Vnfd}
 use Rattle.lcm_events.specs.declared.events.Event.{Event}
-use Rattle.lcm_model.specs.Allowed.{IsLegal, MayOnboard}
+use Rattle.lcm_model.specs.Allowed.{IsLegal}
 use Rattle.lcm_model.specs.Descriptors.{IsValid}
 use Rattle.lcm_model.specs.Lives.{descriptor_named, descriptors}
-use Rattle.vnfd_reader.proofs.Valid.{answer_valid}
-use Rattle.vnfd_document.specs.declared.fault.VnfdFault.{VnfdFault}
-use Rattle.vnfd_reader.specs.Answer.{answer}
-use Rattle.vnfm_cli.specs.Onboarding.{Verdict, refused, full, accepted, new_verdict, onboarded, onboarded_line, onboarding, read_verdict, room_verdict, verdict}
+use Rattle.vnfm_cli.specs.Onboarding.{Verdict, refused, new_verdict, onboarded, onboarded_line, onboarding, room_verdict}
 use Rattle.vnfm_cli.specs.Judging.{IsRecordable}
 use Rattle.vnfm_cli.proofs.ValidLemmas.{valid_event}
-use Rattle.vnfm_cli.specs.declared.descriptor.DescriptorRefusal.TheVariants.{IsOnboarded, TooMany, TooLong}
+use Rattle.vnfm_cli.specs.declared.descriptor.DescriptorRefusal.TheVariants.{TooLong}
 
 none_named : (found : Option Vnfd) → is_some found ≡ false → found ≡ None
 none_named None is = refl

@@ -1,17 +1,14 @@
 -- Where no call of the door failed, a connection got all that was to be told.
-use Rattle.std.proofs.Common.{◌≡◌, ◌∙◌, ◌≤◌, ℕ, List, [], ◌++◌, false, Option, Some, None, Result, Ok, Err, ap, sym, subst, refl, arith}
+use Rattle.std.proofs.Common.{◌≡◌, ◌∙◌, ℕ, List, [], ◌++◌, false, Option, Some, None, Result, Ok, Err, ap, refl}
 use Rattle.std.specs.Result.{is_ok}
-use Rattle.lcm_api.specs.Response.{text}
-use Rattle.lcm_api.specs.Session.{Ending as Closing, Talk, life, once_answered, replies, reply_last, said}
-use Rattle.lcm_api.specs.Talking.{IsLost, IsSaid, Peers, SaysLast, Tells}
+use Rattle.lcm_api.specs.Session.{Ending as Closing, life, once_answered, replies, reply_last, said}
+use Rattle.lcm_api.specs.Talking.{IsLost, IsSaid, SaysLast, Tells}
 use Rattle.lcm_api.specs.declared.door.DoorFailed.{DoorFailed}
 use Rattle.lcm_api.specs.declared.reply.Reply.{Reply}
 use Rattle.lcm_events.specs.declared.events.Event.{Event}
-use Rattle.lcm_events.specs.declared.states.Role.{Role}
 use Rattle.site_traits.specs.Counts.{Rose}
-use Rattle.site_traits.specs.Door.{Conn, DoorCounts, DoorState, ConnIs}
-use Rattle.vnfm_cli.specs.Laws.{AnswersAreWhole, HasWholeAnswer, optional_text, text_last}
-use Rattle.vnfm_cli.specs.Rounds.{Receives}
+use Rattle.site_traits.specs.Door.{DoorCounts}
+use Rattle.vnfm_cli.specs.Laws.{AnswersAreWhole, optional_text, text_last}
 use Rattle.vnfm_cli.proofs.AnswerLemmas.{fresh_out, out_is}
 
 said_whole : (reply : Option Reply) (told : Result (Unit {0}) DoorFailed) (bytes : List ℕ) → IsSaid reply told bytes → (is_ok told ≡ false → ⊥) → bytes ≡ optional_text reply

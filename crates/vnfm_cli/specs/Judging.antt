@@ -1,5 +1,5 @@
 -- What is known of a descriptor that was judged and may be recorded, and of what was heard at the door.
-use Rattle.std.specs.Prelude.{◌≡◌, ◌≤◌, ◌⊎◌, ℕ, Bool, true, false, List, length, take, Result, Ok, Err}
+use Rattle.std.specs.Prelude.{◌≡◌, ◌≤◌, ◌⊎◌, ℕ, true, false, List, length, take, Result, Ok, Err}
 use Rattle.event_codec.specs.Spell.{spelling}
 use Rattle.event_codec.specs.Typed.{TypedEvent}
 use Rattle.event_codec.specs.Valid.{IsEvent}

@@ -1,5 +1,5 @@
 -- What holds of every run, by what it does and how it ends.
-use Rattle.std.specs.Prelude.{◌≡◌, ◌≢◌, ◌<◌, ◌⊎◌, ℕ, List, [], ◌++◌, Option, Some, None}
+use Rattle.std.specs.Prelude.{◌≡◌, ◌<◌, ◌⊎◌, ℕ, List, [], ◌++◌, Option, Some, None}
 use Rattle.journal_core.specs.Create.{IsMade}
 use Rattle.lcm_api.specs.Mouth.{MouthState}
 use Rattle.lcm_api.specs.Response.{text}

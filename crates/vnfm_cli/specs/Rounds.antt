@@ -1,5 +1,5 @@
 -- What rounds do at the door and to the clock, and with the journal.
-use Rattle.std.specs.Prelude.{◌≡◌, ◌⊎◌, ℕ, Bool, true, false, List, [], ◌∷◌}
+use Rattle.std.specs.Prelude.{◌≡◌, ◌⊎◌, ℕ, true, false, List, [], ◌∷◌}
 use Rattle.executor.specs.Managed.{Managed}
 use Rattle.executor.specs.Work.{Work, Works, went}
 use Rattle.lcm_api.specs.Mouth.{MouthState, Begins}

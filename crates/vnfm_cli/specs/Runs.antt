@@ -1,7 +1,7 @@
 -- What a run does to the journal's file, the door and the clock.
 use Rattle.std.specs.Prelude.{◌≡◌, ◌<◌, ◌⊎◌, ℕ, List, [], Bool, true, false, min}
 use Rattle.executor.specs.History.{HasHistory}
-use Rattle.executor.specs.Open.{IsBadRecord, Refuses}
+use Rattle.executor.specs.Open.{Refuses}
 use Rattle.executor.specs.Work.{Work, Works, Grows, HasSome, aimed, failed, stood}
 use Rattle.executor.specs.Managed.{Managed}
 use Rattle.executor.specs.declared.manager.OpenFault.{OpenFault}
@@ -16,7 +16,7 @@ use Rattle.lcm_events.specs.declared.states.Role.{Role}
 use Rattle.lcm_model.specs.Allowed.{IsLegal}
 use Rattle.site_traits.specs.Clock.{Gives}
 use Rattle.site_traits.specs.Counts.{Rose}
-use Rattle.site_traits.specs.Door.{DoorCounts, DoorState, Comes, HangsUp, NoNextFault, closed, opened as has_come}
+use Rattle.site_traits.specs.Door.{DoorCounts, Comes, HangsUp, NoNextFault, closed, opened as has_come}
 use Rattle.site_traits.specs.Site.{Pair, SiteState, IsSettled, LeavesOnly}
 use Rattle.vnfm_cli.specs.Course.{Course, misused, starved, making, unopened, opened, Deed, serving, onboarding, Onboarding, unready, unheard, cut_off, heard, Opening, deed_work, onboarding_work, IsOfWords}
 use Rattle.vnfm_cli.specs.Rounds.{Attended, IsNobody, IsUnreached}

@@ -1,9 +1,7 @@
 -- The numbers of the history decide.
-use Rattle.std.proofs.Common.{◌≡◌, ◌<◌, ◌≤◌, ◌+◌, ℕ, arith, length, ◌∙◌, ap, sym}
+use Rattle.std.proofs.Common.{arith, sym}
 use Rattle.std.proofs.lemmas.Bool.{iff_false}
-use Rattle.event_codec.specs.Spell.{spelling}
-use Rattle.lcm_model.specs.Lives.{live_instances}
-use Rattle.lcm_api.proofs.StepLemmas.{creation_fits, step_full, step_creates, unknown_outcome, crowded_outcome}
+use Rattle.lcm_api.proofs.StepLemmas.{creation_fits, step_full, step_creates}
 use Rattle.lcm_api.proofs.answer.prepare.Goals as goal
 
 pub length_of-more-requires-clause-fits : goal.length_of-more-requires-clause-fits

@@ -1,8 +1,6 @@
 -- The talk grows by a request, or ends.
-use Rattle.std.proofs.Common.{◌≡◌, ◌≤◌, ◌⊎◌, ⊎_elim, ℕ, arith, false, true, Some, refl}
-use Rattle.http_wire.specs.declared.TheConstants.{CONNECTION_REQUESTS}
+use Rattle.std.proofs.Common.{◌≡◌, arith, false, true, Some, refl}
 use Rattle.lcm_api.specs.Session.{Ending, breaks, told_last}
-use Rattle.lcm_api.specs.declared.session.Step.{Step}
 use Rattle.lcm_api.specs.declared.session.Step.TheVariants as step
 use Rattle.lcm_api.proofs.DiskLemmas.{fails_as, untouched}
 use Rattle.lcm_api.proofs.TalkLemmas.{ended_so_far, fails_last, none_so_far, one_more_told, ready_so_far, told_few}

@@ -1,9 +1,9 @@
 -- The first refusal that applies, or the event.
-use Rattle.std.proofs.Common.{◌≡◌, ◌<◌, ◌≤◌, false, length, arith, refl, rules}
+use Rattle.std.proofs.Common.{◌≡◌, ◌≤◌, false, length, arith, refl, rules}
 use Rattle.std.proofs.lemmas.Bool.{false≢true}
 use Rattle.std.specs.Prelude.{is_some}
 use Rattle.event_codec.specs.Spell.{spelling}
-use Rattle.lcm_model.specs.Lives.{descriptor_named, descriptors}
+use Rattle.lcm_model.specs.Lives.{descriptor_named}
 use Rattle.vnfm_cli.proofs.ValidLemmas.{valid_event}
 use Rattle.vnfm_cli.proofs.VerdictLemmas.{new_recordable, new_too_long}
 use Rattle.vnfm_cli.proofs.onboard.judge_new.Goals as goal

@@ -1,5 +1,5 @@
 -- What was heard is judged and recorded.
-use Rattle.std.proofs.Common.{refl, take}
+use Rattle.std.proofs.Common.{take}
 use Rattle.lcm_api.proofs.DiskLemmas.{fails_as}
 use Rattle.vnfm_cli.specs.Onboarding.{verdict}
 use Rattle.vnfm_cli.proofs.HeardLemmas.{disk_told, door_untold, onboards_heard, onboards_unheard, site_told, unheard_cause}

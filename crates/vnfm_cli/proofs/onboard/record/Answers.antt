@@ -1,5 +1,5 @@
 -- What the commit answered is what becomes of the descriptor.
-use Rattle.std.proofs.Common.{Err, ap, inl, inr, refl, ◌∙◌}
+use Rattle.std.proofs.Common.{Err, ap, inl, inr, refl}
 use Rattle.vnfm_cli.proofs.OnboardLemmas.{full_ending, full_events, recorded_ending, recorded_events}
 use Rattle.vnfm_cli.proofs.onboard.record.Goals as goal
 

@@ -1,7 +1,4 @@
 -- The descriptor that was judged is the one that is recorded.
-use Rattle.std.proofs.Common.{List, refl, subst, sym}
-use Rattle.executor.specs.Managed.{Managed, Keeps, IsReady}
-use Rattle.lcm_events.specs.declared.events.Event.{Event}
 use Rattle.vnfm_cli.proofs.OnboardLemmas.{keeps_still, ready_still}
 use Rattle.vnfm_cli.proofs.onboard.take_in.Goals as goal
 

@@ -1,9 +1,8 @@
 -- The rounds grow by one, or end.
-use Rattle.std.proofs.Common.{◌≡◌, ◌≤◌, ◌∙◌, ap, arith, refl, subst, sym}
+use Rattle.std.proofs.Common.{◌≡◌, ap, arith, refl}
 use Rattle.lcm_api.proofs.DiskLemmas.{fails_as, untouched}
 use Rattle.lcm_api.proofs.TalkLemmas.{fails_last}
-use Rattle.site_traits.specs.Counts.{Rose}
-use Rattle.vnfm_cli.specs.declared.ending.Ending.TheVariants.{Done, DoorFault, SiteFault}
+use Rattle.vnfm_cli.specs.declared.ending.Ending.TheVariants.{Done}
 use Rattle.vnfm_cli.specs.declared.rounds.RoundEnd.TheVariants as ends
 use Rattle.vnfm_cli.proofs.RoundLemmas.{all_made, broken_ending, none_made, one_round_more, ready_so_far, rounds_ended, unreached_ending}
 use Rattle.vnfm_cli.proofs.rounds.make_rounds.Goals as goal

@@ -1,5 +1,5 @@
 -- The journal was opened and a descriptor was to be onboarded, or it wasn't opened.
-use Rattle.std.proofs.Common.{refl, ap}
+use Rattle.std.proofs.Common.{ap}
 use Rattle.lcm_api.proofs.DiskLemmas.{fails_after_sync}
 use Rattle.vnfm_cli.proofs.DiskLemmas.{unopened_fails}
 use Rattle.vnfm_cli.specs.Course.{opened, onboarding, unopened}

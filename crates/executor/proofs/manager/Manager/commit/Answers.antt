@@ -1,6 +1,6 @@
 -- The event is on the disk, and in the history where it is.
-use Rattle.std.proofs.Common.{ℕ, List, reverse, ap, subst, Err, ◌≡◌, ◌∙◌, sym, refl}
-use Rattle.executor.specs.Managed.{Managed, IsReady, Keeps}
+use Rattle.std.proofs.Common.{reverse, ap, Err, ◌∙◌, sym}
+use Rattle.executor.specs.Managed.{Managed}
 use Rattle.executor.proofs.AskLemmas.{commit_asks, commit_fails}
 use Rattle.executor.proofs.CommitLemmas.{committed, not_committed}
 use Rattle.executor.proofs.ManagerLemmas.{kept_more, reverse-push, ok_of, err_of}
