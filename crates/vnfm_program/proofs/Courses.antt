@@ -2,7 +2,7 @@
 use Rattle.std.proofs.Common.{◌≡◌, ℕ, List, Option, None, Ok, Err, sym, subst}
 use Rattle.host_calls.specs.Files.{FilesState, Hold}
 use Rattle.lcm_api.specs.Mouth.{MouthState}
-use Rattle.outside_edges.specs.Site.{IsHeld, state_in}
+use Rattle.outside_edges.specs.Site.{IsHeld}
 use Rattle.outside_edges.specs.declared.real_site.FolderSync.{FolderSync}
 use Rattle.program_words.specs.Pages.{page_of}
 use Rattle.program_words.specs.declared.page.Page.{Page}
@@ -11,7 +11,7 @@ use Rattle.vnfm_cli.specs.Words.{Settles, settings_of}
 use Rattle.vnfm_cli.specs.declared.options.Settings.{Settings}
 use Rattle.vnfm_cli.specs.declared.options.SettingsFault.{SettingsFault}
 use Rattle.vnfm_cli.specs.declared.options.SettingsFault.TheVariants.{Usage}
-use Rattle.vnfm_program.specs.Program.{Goes, Meaning, Obeys, ObeysOrStarves, Opens, Performs, Starts, Objects, counts_of, folder_of, is_told_on_error}
+use Rattle.vnfm_program.specs.Program.{Goes, Meaning, Obeys, ObeysOrStarves, Opens, Performs, Starts, Objects, folder_of, is_told_on_error, outside_of, tells_of}
 
 -- a file that is the one at this path is the one that the settings name
 pub held_as : {F : Type 0} (state : F → SiteState) (hold : F → Hold) (settings : Settings) (path : List ℕ) (folder : FolderSync) (file : Option F) (old new : FilesState)
@@ -28,9 +28,7 @@ module _ {N H F K L E : Type 0} where
   -- a run over what was opened for these settings obeys the words that set them
   pub obeyed : (g : Meaning N H F K L E) (words : List (List ℕ)) (set : Option Settings) (status : ℕ) (a w b : Objects N H F K L E) (before after : MouthState)
       → settings_of words ≡ set → Opens g set a w → a.mouth ≡ Ok before → b.mouth ≡ Ok after
-      → Performs g.file_tells g.door_tells g.clock_tells g.lines_tells g.errors_tells (is_told_on_error set) words status b.site.why
-      (state_in g.state w.site.file) (state_in g.state b.site.file) (counts_of w.site) (counts_of b.site) before after
-      (g.given w.clock) (g.given b.clock) (g.lines w.lines) (g.lines b.lines) (g.errors w.errors) (g.errors b.errors)
+      → Performs (tells_of g) (is_told_on_error set) words status (outside_of g before w) (outside_of g after b)
       → b ≡ record w { site = b.site; mouth = b.mouth; clock = b.clock; lines = b.lines; errors = b.errors }
       → Obeys g words status a b
   obeyed g words set status a w b before after sets opens has_mouth mouth performs kept = record {
@@ -40,9 +38,7 @@ module _ {N H F K L E : Type 0} where
     after = after;
     has_mouth = has_mouth;
     mouth = mouth;
-    performs = subst (λ (s : Option Settings). Performs g.file_tells g.door_tells g.clock_tells g.lines_tells g.errors_tells (is_told_on_error s) words status b.site.why
-        (state_in g.state w.site.file) (state_in g.state b.site.file) (counts_of w.site) (counts_of b.site) before after
-        (g.given w.clock) (g.given b.clock) (g.lines w.lines) (g.lines b.lines) (g.errors w.errors) (g.errors b.errors)) (sym sets) performs;
+    performs = subst (λ (s : Option Settings). Performs (tells_of g) (is_told_on_error s) words status (outside_of g before w) (outside_of g after b)) (sym sets) performs;
     kept = kept;
   }
 

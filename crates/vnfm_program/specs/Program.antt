@@ -3,7 +3,7 @@ use Rattle.std.specs.Prelude.{◌≡◌, ◌⊎◌, ◌<◌, ℕ, List, Bool, tr
 use Rattle.std.specs.declared.alloc.AllocError.{AllocError}
 use Rattle.host_calls.specs.Files.{FilesState, Hold}
 use Rattle.lcm_api.specs.Mouth.{MouthState}
-use Rattle.lcm_api.specs.Talking.{telling, world}
+use Rattle.lcm_api.specs.Talking.{Tells as WorldTells, World, telling, world}
 use Rattle.outside_edges.specs.Site.{IsHeld, counted_as, state_in}
 use Rattle.outside_edges.specs.declared.real_site.FolderSync.{FolderSync}
 use Rattle.outside_edges.specs.declared.real_site.FolderSync.TheVariants.{Always, WhereMade}
@@ -12,6 +12,7 @@ use Rattle.outside_edges.specs.declared.real_site.WhyLost.{WhyLost}
 use Rattle.program_words.specs.Pages.{page_of}
 use Rattle.program_words.specs.Reasons.{reason_of}
 use Rattle.program_words.specs.declared.page.Page.{Page}
+use Rattle.program_words.specs.declared.reason.Reason.{Reason}
 use Rattle.site_traits.specs.Counts.{OnlyDiskFails, Rose, SiteCounts}
 use Rattle.site_traits.specs.Site.{SiteState}
 use Rattle.standard_streams.specs.Numbers.{AreStreamsTaken, Numbers}
@@ -29,30 +30,59 @@ use Rattle.vnfm_program.specs.Output.{Explains, Output, Prints, Starves}
 abbrev pub is_undelivered : MouthState → Bool
 is_undelivered mouth = mouth.wire.intake.door.conn.write_failed
 
--- One run of these words went over a site with these counts, a mouth and a clock, and put its line to this output.
-pub record RunsOver (site_tells door_tells clock_tells out_tells : Type 0) (words : List (List ℕ)) (status : ℕ) (a b : SiteState) (m n : SiteCounts)
-    (c d : MouthState) (ks ls : List ℕ) (x y : Output) : Type 0 where
+-- what tells of what a run is over: the site, the door and the clock, and where its texts go
+pub record Tells : Type 1 where
+  pub world : WorldTells
+  pub lines : Type 0
+  pub errors : Type 0
+
+-- What a run is over: the world and how often the calls of its site failed, why its file couldn't be had, standard output and standard error.
+pub record Outside : Type 1 where
+  pub world : World
+  pub counts : SiteCounts
+  pub why : Option WhyLost
+  pub lines : Output
+  pub errors : Output
+
+-- what a run sees of it: the world and its counts, and the output that its line goes to
+pub record Ground : Type 1 where
+  pub world : World
+  pub counts : SiteCounts
+  pub out : Output
+
+-- the ground on which a line goes to standard output, and the one on which it goes to standard error
+abbrev pub on_output : Outside → Ground
+on_output o = record { world = o.world; counts = o.counts; out = o.lines }
+
+abbrev pub on_error : Outside → Ground
+on_error o = record { world = o.world; counts = o.counts; out = o.errors }
+
+-- One run of these words went over the ground, and put its line to its output.
+pub record RunsOver (t : WorldTells) (out_tells : Type 0) (words : List (List ℕ)) (status : ℕ) (a b : Ground) : Type 0 where
   pub course : Course
-  pub runs : Runs (telling site_tells door_tells clock_tells) words course (world a c ks) (world b d ls)
-  pub ends : Ends out_tells (ending_of course) status x.bytes y.bytes x.counts y.counts
-  pub disk : OnlyDiskFails (status ≡ 3) m n
-  pub complete : site_tells → (command : Command) → AreWordsOf command words → IsStartOf command a → ¬ (Rose m.disk n.disk)
-      → ¬ (IsDoorCause command c.wire.intake.counts d.wire.intake.counts) → ¬ (Rose x.counts.faults y.counts.faults) → MayEndWith command status
-  pub causes : HasCauses site_tells words status (world a c ks) (world b d ls) x.counts y.counts
+  pub runs : Runs t words course a.world b.world
+  pub ends : Ends out_tells (ending_of course) status a.out.bytes b.out.bytes a.out.counts b.out.counts
+  pub disk : OnlyDiskFails (status ≡ 3) a.counts b.counts
+  pub complete : t.site → (command : Command) → AreWordsOf command words → IsStartOf command a.world.site → ¬ (Rose a.counts.disk b.counts.disk)
+      → ¬ (IsDoorCause command a.world.mouth.wire.intake.counts b.world.mouth.wire.intake.counts) → ¬ (Rose a.out.counts.faults b.out.counts.faults)
+      → MayEndWith command status
+  pub causes : HasCauses t.site words status a.world b.world a.out.counts b.out.counts
+
+-- what is to be said of a run with this status that left this
+abbrev pub reason_at : ℕ → Outside → Option Reason
+reason_at status o = reason_of status o.why (is_undelivered o.world.mouth)
 
 -- One run, with its line to standard output. Behind it, what explains its status went to standard error.
-pub record SpeaksOnOutput (site_tells door_tells clock_tells lines_tells errors_tells : Type 0) (words : List (List ℕ)) (status : ℕ) (why : Option WhyLost)
-    (a b : SiteState) (m n : SiteCounts) (c d : MouthState) (ks ls : List ℕ) (x y u v : Output) : Type 0 where
-  pub runs : RunsOver site_tells door_tells clock_tells lines_tells words status a b m n c d ks ls x y
-  pub explains : Explains errors_tells (reason_of status why (is_undelivered d)) words u v
+pub record SpeaksOnOutput (t : Tells) (words : List (List ℕ)) (status : ℕ) (a b : Outside) : Type 0 where
+  pub runs : RunsOver t.world t.lines words status (on_output a) (on_output b)
+  pub explains : Explains t.errors (reason_at status b) words a.errors b.errors
 
 -- the same, with the line to standard error too
-pub record SpeaksOnError (site_tells door_tells clock_tells errors_tells : Type 0) (words : List (List ℕ)) (status : ℕ) (why : Option WhyLost)
-    (a b : SiteState) (m n : SiteCounts) (c d : MouthState) (ks ls : List ℕ) (x y u v : Output) : Type 0 where
+pub record SpeaksOnError (t : WorldTells) (errors_tells : Type 0) (words : List (List ℕ)) (status : ℕ) (a b : Outside) : Type 0 where
   pub behind : Output
-  pub runs : RunsOver site_tells door_tells clock_tells errors_tells words status a b m n c d ks ls u behind
-  pub explains : Explains errors_tells (reason_of status why (is_undelivered d)) words behind v
-  pub silent : y ≡ x
+  pub runs : RunsOver t errors_tells words status (on_error a) (record { world = b.world; counts = b.counts; out = behind })
+  pub explains : Explains errors_tells (reason_at status b) words behind b.errors
+  pub silent : b.lines ≡ a.lines
 
 -- the line of this command goes to standard error, where its answer goes to standard output
 abbrev pub answers : Command → Bool
@@ -65,13 +95,10 @@ abbrev pub is_told_on_error : Option Settings → Bool
 is_told_on_error None = false
 is_told_on_error (Some settings) = answers settings.command
 
--- one run, and behind it what explains its status; where it is told on standard error or not
-abbrev pub Performs : Type 0 → Type 0 → Type 0 → Type 0 → Type 0 → Bool → List (List ℕ) → ℕ → Option WhyLost → SiteState → SiteState → SiteCounts → SiteCounts
-    → MouthState → MouthState → List ℕ → List ℕ → Output → Output → Output → Output → Type 0
-Performs site_tells door_tells clock_tells lines_tells errors_tells false words status why a b m n c d ks ls x y u v =
-    SpeaksOnOutput site_tells door_tells clock_tells lines_tells errors_tells words status why a b m n c d ks ls x y u v
-Performs site_tells door_tells clock_tells lines_tells errors_tells true words status why a b m n c d ks ls x y u v =
-    SpeaksOnError site_tells door_tells clock_tells errors_tells words status why a b m n c d ks ls x y u v
+-- one run, and behind it what explains its status, with the line to standard error or not
+abbrev pub Performs : Tells → Bool → List (List ℕ) → ℕ → Outside → Outside → Type 0
+Performs t false words status a b = SpeaksOnOutput t words status a b
+Performs t true words status a b = SpeaksOnError t.world t.errors words status a b
 
 -- What the program is handed: what opens the null device, the files, the site on which no file was opened yet, the mouth where there was
 -- memory for it, the clock, standard output and standard error.
@@ -112,6 +139,20 @@ folder_of Onboard = WhereMade
 folder_of Once = WhereMade
 
 module _ {N H F K L E : Type 0} where
+  -- what tells of what a run is over
+  abbrev pub tells_of : Meaning N H F K L E → Tells
+  tells_of g = record { world = telling g.file_tells g.door_tells g.clock_tells; lines = g.lines_tells; errors = g.errors_tells }
+
+  -- what a run over these is over, with this mouth
+  abbrev pub outside_of : Meaning N H F K L E → MouthState → Objects N H F K L E → Outside
+  outside_of g mouth o = record {
+    world = world (state_in g.state o.site.file) mouth (g.given o.clock);
+    counts = counts_of o.site;
+    why = o.site.why;
+    lines = g.lines o.lines;
+    errors = g.errors o.errors;
+  }
+
   -- there was no memory: that was said, and nothing else was done
   pub record IsStarved (g : Meaning N H F K L E) (status : ℕ) (a b : Objects N H F K L E) : Type 0 where
     pub starves : Starves g.errors_tells status (g.errors a.errors) (g.errors b.errors)
@@ -159,9 +200,7 @@ module _ {N H F K L E : Type 0} where
     pub after : MouthState
     pub has_mouth : a.mouth ≡ Ok before
     pub mouth : b.mouth ≡ Ok after
-    pub performs : Performs g.file_tells g.door_tells g.clock_tells g.lines_tells g.errors_tells (is_told_on_error (settings_of words)) words status b.site.why
-        (state_in g.state opened.site.file) (state_in g.state b.site.file) (counts_of opened.site) (counts_of b.site) before after
-        (g.given opened.clock) (g.given b.clock) (g.lines opened.lines) (g.lines b.lines) (g.errors opened.errors) (g.errors b.errors)
+    pub performs : Performs (tells_of g) (is_told_on_error (settings_of words)) words status (outside_of g before opened) (outside_of g after b)
     pub kept : b ≡ record opened { site = b.site; mouth = b.mouth; clock = b.clock; lines = b.lines; errors = b.errors }
 
   -- the same, or there was no memory

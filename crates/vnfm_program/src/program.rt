@@ -1,6 +1,7 @@
 //! The program's one call.
 ghost use Rattle.std.specs.Prelude.{◌≡◌, ◌⊎◌, IfErr, IfSome, None, Some};
 ghost use Rattle.std.specs.IoError.{error_kind};
+ghost use Rattle.lcm_api.specs.Talking.{telling, world};
 ghost use Rattle.outside_edges.specs.Site.{state_in};
 ghost use Rattle.program_words.specs.Pages.{page_of};
 ghost use Rattle.program_words.specs.Reasons.{reason_of};
@@ -226,11 +227,9 @@ fn perform<F: HostFile + Drop, I: InStream, O: OutStream, K: Clock, L: Sink, E: 
     lines: &mut L,
     errors: &mut E,
 ) -> u8
-    ensures { Performs F.tells (I.tells × O.tells) K.tells L.tells E.tells (answers command) words.now result site.new.why
-        (state_in F.state site.old.file) (state_in F.state site.new.file)
-        (counts_of site.old) (counts_of site.new)
-        mouth.old mouth.new (K.state clock.old) (K.state clock.new)
-        (output_of L.state L.counts lines.old) (output_of L.state L.counts lines.new) (output_of E.state E.counts errors.old) (output_of E.state E.counts errors.new) }
+    ensures { Performs (record { world = telling F.tells (I.tells × O.tells) K.tells; lines = L.tells; errors = E.tells }) (answers command) words.now result
+        (record { world = world (state_in F.state site.old.file) mouth.old (K.state clock.old); counts = counts_of site.old; why = site.old.why; lines = output_of L.state L.counts lines.old; errors = output_of E.state E.counts errors.old })
+        (record { world = world (state_in F.state site.new.file) mouth.new (K.state clock.new); counts = counts_of site.new; why = site.new.why; lines = output_of L.state L.counts lines.new; errors = output_of E.state E.counts errors.new }) }
 {
     match command {
         Command::Once => tell_on_error(alloc, words, site, mouth, clock, errors),
@@ -250,11 +249,9 @@ fn tell_on_output<F: HostFile + Drop, I: InStream, O: OutStream, K: Clock, L: Si
     lines: &mut L,
     errors: &mut E,
 ) -> u8
-    ensures { SpeaksOnOutput F.tells (I.tells × O.tells) K.tells L.tells E.tells words.now result site.new.why
-        (state_in F.state site.old.file) (state_in F.state site.new.file)
-        (counts_of site.old) (counts_of site.new)
-        mouth.old mouth.new (K.state clock.old) (K.state clock.new)
-        (output_of L.state L.counts lines.old) (output_of L.state L.counts lines.new) (output_of E.state E.counts errors.old) (output_of E.state E.counts errors.new) }
+    ensures { SpeaksOnOutput (record { world = telling F.tells (I.tells × O.tells) K.tells; lines = L.tells; errors = E.tells }) words.now result
+        (record { world = world (state_in F.state site.old.file) mouth.old (K.state clock.old); counts = counts_of site.old; why = site.old.why; lines = output_of L.state L.counts lines.old; errors = output_of E.state E.counts errors.old })
+        (record { world = world (state_in F.state site.new.file) mouth.new (K.state clock.new); counts = counts_of site.new; why = site.new.why; lines = output_of L.state L.counts lines.new; errors = output_of E.state E.counts errors.new }) }
 {
     let status = run_over(alloc, words, site, mouth, clock, lines);
     explain(alloc, words, reason(status, site, mouth), errors);
@@ -270,11 +267,9 @@ fn tell_on_error<F: HostFile + Drop, I: InStream, O: OutStream, K: Clock, E: Sin
     clock: &mut K,
     errors: &mut E,
 ) -> u8
-    ensures { (x : Output) → SpeaksOnError F.tells (I.tells × O.tells) K.tells E.tells words.now result site.new.why
-        (state_in F.state site.old.file) (state_in F.state site.new.file)
-        (counts_of site.old) (counts_of site.new)
-        mouth.old mouth.new (K.state clock.old) (K.state clock.new)
-        x x (output_of E.state E.counts errors.old) (output_of E.state E.counts errors.new) }
+    ensures { (x : Output) → SpeaksOnError (telling F.tells (I.tells × O.tells) K.tells) E.tells words.now result
+        (record { world = world (state_in F.state site.old.file) mouth.old (K.state clock.old); counts = counts_of site.old; why = site.old.why; lines = x; errors = output_of E.state E.counts errors.old })
+        (record { world = world (state_in F.state site.new.file) mouth.new (K.state clock.new); counts = counts_of site.new; why = site.new.why; lines = x; errors = output_of E.state E.counts errors.new }) }
 {
     let status = run_over(alloc, words, site, mouth, clock, errors);
     explain(alloc, words, reason(status, site, mouth), errors);
@@ -308,9 +303,9 @@ fn run_over<F: HostFile + Drop, I: InStream, O: OutStream, K: Clock, W: Sink>(
     clock: &mut K,
     out: &mut W,
 ) -> u8
-    ensures { RunsOver F.tells (I.tells × O.tells) K.tells W.tells words.now result (state_in F.state site.old.file) (state_in F.state site.new.file)
-        (counts_of site.old) (counts_of site.new)
-        mouth.old mouth.new (K.state clock.old) (K.state clock.new) (output_of W.state W.counts out.old) (output_of W.state W.counts out.new) }
+    ensures { RunsOver (telling F.tells (I.tells × O.tells) K.tells) W.tells words.now result
+        (record { world = world (state_in F.state site.old.file) mouth.old (K.state clock.old); counts = counts_of site.old; out = output_of W.state W.counts out.old })
+        (record { world = world (state_in F.state site.new.file) mouth.new (K.state clock.new); counts = counts_of site.new; out = output_of W.state W.counts out.new }) }
 {
     run(
         alloc,
