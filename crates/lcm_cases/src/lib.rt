@@ -2,10 +2,6 @@
 #![tactic(auto)]
 
 #[cfg(test)]
-mod connections;
-#[cfg(test)]
-mod house;
-#[cfg(test)]
 mod journals;
 #[cfg(test)]
 mod limits;

@@ -1,5 +1,5 @@
 //! How many instances may be live.
-use crate::house::{CREATE, JOURNAL, once, site_with};
+use memory_runs::{CREATE, JOURNAL, once, site_with};
 use std::alloc::{AllocError, Global};
 use std::test::Fail;
 

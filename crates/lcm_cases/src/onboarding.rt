@@ -1,5 +1,5 @@
 //! Making journals and onboarding descriptors.
-use crate::house::{
+use memory_runs::{
     DESCRIPTOR, JOURNAL, MADE, Ran, door_of, failing_door, init, onboard, run_over, site_with,
     words_of,
 };

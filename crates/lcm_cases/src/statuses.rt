@@ -1,6 +1,6 @@
 //! How a run ends, and what it leaves.
-use crate::house::{
-    CREATE, JOURNAL, MADE, door_of, failing_door, once, once_words, run_over, site_with, words_of,
+use memory_runs::{
+    CREATE, JOURNAL, MADE, door_of, once, once_words, run_over, site_with, words_of,
 };
 use site_traits::DoorPlan;
 use std::alloc::{AllocError, Global};
@@ -171,63 +171,5 @@ fn a_line_that_is_not_put_changes_status_0_alone(rt: HostRuntime) -> Result<(), 
     let mut empty = site_with(alloc, &[], Vec::new(alloc))?;
     let ran = run_over(alloc, &words, &mut empty, Vec::new(alloc), Some(1))?;
     assert_eq!(rt; ran.status, 5);
-    Ok(())
-}
-
-/// Whether `once` over this door ends with 0, tells nothing and hangs up, and the file then has this length.
-fn ends_untold(alloc: Global, door: Vec<DoorPlan>, file: usize) -> Result<bool, AllocError> {
-    let words = once_words(alloc)?;
-    let mut site = site_with(alloc, &JOURNAL, Vec::new(alloc))?;
-    let ran = run_over(alloc, &words, &mut site, door, None)?;
-    Ok(ran.status == 0 && ran.told.is_empty() && ran.ended && site.file().len() == file)
-}
-
-#[test]
-fn an_answer_that_is_not_told_is_kept(rt: HostRuntime) -> Result<(), Fail> {
-    let alloc = rt.alloc();
-    let unheard = failing_door(alloc, CREATE, None, Some(1))?;
-    assert!(rt; ends_untold(alloc, unheard, 149)?);
-    let unread = failing_door(alloc, CREATE, Some(1), None)?;
-    assert!(rt; ends_untold(alloc, unread, JOURNAL.len())?);
-    Ok(())
-}
-
-/// Whether `once` ends with a site fault where this disk call, from 1, fails, having told this and nothing else, and the next
-/// one finds the record or not.
-fn ends_with_a_site_fault(alloc: Global, call: u64, told: &[u8]) -> Result<bool, AllocError> {
-    let mut failing = Vec::new(alloc);
-    failing.push(call)?;
-    let mut site = site_with(alloc, &JOURNAL, failing)?;
-    let ran = once(alloc, &mut site, CREATE)?;
-    let mut left = site_with(alloc, site.file(), Vec::new(alloc))?;
-    let again = once(alloc, &mut left, CREATE)?;
-    Ok(
-        ran.status == 3
-            && ran.printed.as_slice() == b"site fault\n".as_slice()
-            && ran.told.as_slice() == told
-            && again.status == 0
-            && (left.file().len() == 149 || left.file().len() == 187),
-    )
-}
-
-#[test]
-fn each_disk_call_that_fails_ends_the_run_with_a_site_fault(rt: HostRuntime) -> Result<(), Fail> {
-    let alloc = rt.alloc();
-    let fault: &[u8] =
-        b"HTTP/1.1 500 Internal Server Error\r\nContent-Type: application/problem+json\r\nContent-Length: 39\r\n\r\n{\"detail\":\"journal fault\",\"status\":500}";
-    let mut whole = site_with(alloc, &JOURNAL, Vec::new(alloc))?;
-    let _ = once(alloc, &mut whole, CREATE)?;
-    let calls = whole.moment() as u64;
-    for before in 0..calls {
-        let told: &[u8] = if calls.saturating_sub(before) <= 4 {
-            fault
-        } else {
-            b""
-        };
-        assert!(rt;
-            ends_with_a_site_fault(alloc, before.saturating_add(1), told)?,
-            "{before} calls of {calls}"
-        );
-    }
     Ok(())
 }

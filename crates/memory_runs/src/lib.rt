@@ -1,4 +1,6 @@
-//! A house in memory, in which commands are run, and what a run did there.
+//! Runs of commands over the objects in memory, and what a run did there.
+#![tactic(auto)]
+
 use lcm_api::Mouth;
 use lcm_events::Role;
 use site_traits::{
@@ -81,10 +83,18 @@ pub fn failing_door(
     failing_read: Option<usize>,
     failing_write: Option<usize>,
 ) -> Result<Vec<DoorPlan>, AllocError> {
-    let mut pieces = Vec::new(alloc);
-    if !bytes.is_empty() {
-        pieces.push(Bytes::of(alloc, bytes)?)?;
-    }
+    door_in_pieces(alloc, bytes, bytes.len(), failing_read, failing_write)
+}
+
+/// The same door, where the bytes come in pieces of this size.
+pub fn door_in_pieces(
+    alloc: Global,
+    bytes: &[u8],
+    size: usize,
+    failing_read: Option<usize>,
+    failing_write: Option<usize>,
+) -> Result<Vec<DoorPlan>, AllocError> {
+    let pieces = pieces_of(alloc, bytes, size)?;
     let mut plans = Vec::new(alloc);
     plans.push(DoorPlan::Conn {
         role: Role::Orchestrator,
@@ -93,6 +103,15 @@ pub fn failing_door(
         failing_write,
     })?;
     Ok(plans)
+}
+
+/// These bytes in pieces of this size, of which the last may be shorter.
+fn pieces_of(alloc: Global, bytes: &[u8], size: usize) -> Result<Vec<Bytes>, AllocError> {
+    let mut pieces = Vec::new(alloc);
+    for piece in bytes.chunks(size.max(1)) {
+        pieces.push(Bytes::of(alloc, piece)?)?;
+    }
+    Ok(pieces)
 }
 
 /// The objects of a run, but for its site.
@@ -121,7 +140,7 @@ fn objects_of(
 }
 
 /// A clock that always gives 1,700,000,000,000.
-fn clock_of(alloc: Global) -> Result<SetClock, AllocError> {
+pub fn clock_of(alloc: Global) -> Result<SetClock, AllocError> {
     let mut times = Vec::new(alloc);
     times.push(1_700_000_000_000u64)?;
     SetClock::new(alloc, times)
