@@ -61,10 +61,10 @@ fn a_head_past_a_limit_ends_the_connection(rt: HostRuntime) -> Result<(), Fail> 
 /// The create request, whose body is padded with spaces to this length.
 fn padded(alloc: Global, length: usize) -> Result<Vec<u8>, AllocError> {
     let body = b"{\"vnfdId\":\"vnfd-1\",\"vnfInstanceName\":\"edge-1\"}";
-    let head = format!(in alloc;
+    let mut request = format!(in alloc;
         "POST /vnflcm/v1/vnf_instances HTTP/1.1\r\nContent-Length: {length}\r\n\r\n"
-    )?;
-    let mut request = joined(alloc, &[head.as_bytes(), body])?;
+    )?.into_bytes();
+    request.extend_from_slice(body)?;
     for _ in body.len()..length {
         request.push(b' ')?;
     }
