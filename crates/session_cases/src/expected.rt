@@ -13,10 +13,8 @@ pub const MALFORMED: &[u8] =
 pub const TOO_LARGE: &[u8] =
     b"HTTP/1.1 413 Content Too Large\r\nContent-Type: application/problem+json\r\nContent-Length: 43\r\nConnection: close\r\n\r\n{\"detail\":\"request too large\",\"status\":413}";
 
-/// The record of an instance, up to the last byte of its number.
-const RECORD_FRONT: [u8; 21] = [
-    1, 0, 0, 0, 33, 2, 0, 0, 1, 139, 207, 229, 104, 0, 0, 0, 0, 0, 0, 0, 0,
-];
+/// The record of an instance, up to its number.
+const RECORD_FRONT: [u8; 14] = [1, 0, 0, 0, 33, 2, 0, 0, 1, 139, 207, 229, 104, 0];
 
 /// The record of an instance `edge-1`, behind its number.
 const RECORD_BACK: [u8; 16] = [
@@ -49,7 +47,7 @@ pub fn journal_of(alloc: Global, creations: usize) -> Result<Vec<u8>, AllocError
     let mut file = Vec::from_slice(alloc, &JOURNAL[..110])?;
     for before in 0..creations {
         file.extend_from_slice(&RECORD_FRONT)?;
-        file.push(before.saturating_add(1) as u8)?;
+        file.extend_from_slice(&(before as u64).saturating_add(1).to_be_bytes())?;
         file.extend_from_slice(&RECORD_BACK)?;
     }
     file.push(0)?;

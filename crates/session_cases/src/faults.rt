@@ -59,7 +59,7 @@ fn left_behind(calls: usize, choice: Choice) -> usize {
 /// Whether a stop at this moment of a session leaves just so many creations, whatever is left of what isn't synced.
 fn leaves(alloc: Global, site: &MemSite, moment: usize, calls: usize) -> Result<bool, AllocError> {
     for choice in [Choice::Old, Choice::New, Choice::Torn] {
-        let mut left = site.stopped(alloc, moment, choice)?;
+        let mut left = site.stopped(alloc, moment.min(site.moment()), choice)?;
         if !goes_on_behind(alloc, &mut left, left_behind(calls, choice))? {
             return Ok(false);
         }
