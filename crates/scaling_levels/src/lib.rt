@@ -1,12 +1,12 @@
 //! How many machines a level means, and which levels steps lead to: each answer equals the definition of lcm_model.
 #![tactic(auto)]
 
-ghost use Rattle.std.specs.Prelude.{◌≡◌, ◌↔◌, ◌<◌, ◌+◌, IsTrue, IfOk, IsSomeAnd, length, true, ℕ};
-ghost use Rattle.lcm_model.specs.Levels.{aspect_at, at_aspect, count, level_of as levels_named, moved_by};
+ghost use Rattle.std.specs.Prelude.{◌≡◌, ◌↔◌, ◌<◌, ◌+◌, IsTrue, IfErr, IfOk, IsSomeAnd, length, true, ℕ};
+ghost use Rattle.lcm_model.specs.Levels.{aspect_at, at_aspect, count, level_of as levels_named, moved_by, target};
 ghost use Rattle.lcm_model.specs.Descriptors.{IsValid, are_levels_of};
-ghost use Rattle.scaling_levels.specs.Steps.{IsAbove, IsBelow};
+ghost use Rattle.scaling_levels.specs.Steps.{IsAbove, IsBelow, LacksAspect, LeadsAbove, LeadsBelow};
 
-use lcm_events::{Levels, Listed, ScaleWay, Vnfd};
+use lcm_events::{Ask, Holding, Levels, Listed, ScaleWay, Vnfd};
 use std::alloc::Global;
 use thiserror::Error;
 use vnfm_base::Name;
@@ -117,6 +117,45 @@ pub fn stepped(
     }
     match lcm_model::stepped_levels(alloc, aspects, levels.as_slice(), aspect, way, steps) {
         Ok(moved) => Ok(Listed::of(moved)),
+        Err(_) => Err(StepFault::Memory),
+    }
+}
+
+/// The levels that an operation aims at, beside what stands: those of a name for INSTANTIATE and SCALE_TO_LEVEL, or the present ones with
+/// some replaced; the present ones moved by steps for SCALE; else the present ones.
+///
+/// Refusals, of SCALE alone and in this order: `NoAspect`, `BelowZero` and `AboveMax`, each exactly where the descriptor and the levels say
+/// so; `Memory`.
+/// Source: SOL 003 5.4.4 to 5.4.10 (the tasks of an individual VNF instance).
+pub fn target(alloc: Global, vnfd: &Vnfd, holding: &Holding, ask: &Ask) -> Result<Levels, StepFault>
+    requires valid { IsValid vnfd.now }
+    requires levels { are_levels_of vnfd.now holding.now.levels ≡ true }
+    ensures target { IfOk result (λ levels. levels ≡ target vnfd.now holding.now.levels ask.now) }
+    ensures no_aspect { (result ≡ Err StepFault.NoAspect) ↔ LacksAspect vnfd.now holding.now.levels ask.now }
+    ensures below { (result ≡ Err StepFault.BelowZero) ↔ LeadsBelow vnfd.now holding.now.levels ask.now }
+    ensures above { (max : ℕ) → (result ≡ Err (StepFault.AboveMax max)) ↔ LeadsAbove vnfd.now holding.now.levels max ask.now }
+{
+    match ask {
+        Ask::Scale { way, aspect, steps } => {
+            stepped(alloc, vnfd, &holding.levels, aspect, *way, *steps)
+        }
+        Ask::Instantiate { .. } => unmoved(alloc, vnfd, holding, ask),
+        Ask::ScaleToLevel(_) => unmoved(alloc, vnfd, holding, ask),
+        Ask::Heal { .. } => unmoved(alloc, vnfd, holding, ask),
+        Ask::Operate { .. } => unmoved(alloc, vnfd, holding, ask),
+        Ask::Terminate { .. } => unmoved(alloc, vnfd, holding, ask),
+    }
+}
+
+/// The levels that an ask aims at that moves none by steps.
+fn unmoved(alloc: Global, vnfd: &Vnfd, holding: &Holding, ask: &Ask) -> Result<Levels, StepFault>
+    requires valid { IsValid vnfd.now }
+    requires levels { are_levels_of vnfd.now holding.now.levels ≡ true }
+    ensures target { IfOk result (λ levels. levels ≡ target vnfd.now holding.now.levels ask.now) }
+    ensures memory { IfErr result (λ fault. fault ≡ StepFault.Memory) }
+{
+    match lcm_plans::target_in(alloc, vnfd, holding.levels.as_slice(), ask) {
+        Ok(levels) => Ok(Listed::of(levels)),
         Err(_) => Err(StepFault::Memory),
     }
 }

@@ -1,6 +1,6 @@
 //! Levels that steps lead to.
-use lcm_events::{Aspect, Level, Listed, Row, ScaleWay, Vdu, Vnfd};
-use scaling_levels::{LevelFault, StepFault, count, level_of, stepped, vnfd_valid};
+use lcm_events::{Aim, Ask, Aspect, Holding, Level, Listed, Row, ScaleWay, StopType, Vdu, Vnfd};
+use scaling_levels::{LevelFault, StepFault, count, level_of, stepped, target, vnfd_valid};
 use std::alloc::Global;
 use std::process::Abort;
 use std::test::Fail;
@@ -108,6 +108,90 @@ fn levels_have_names_and_bounds(rt: HostRuntime) -> Result<(), Fail> {
         matches!(
             stepped(alloc, &vnfd, &levels, &name(&rt, "other"), ScaleWay::In, 0),
             Err(StepFault::NoAspect)
+        )
+    );
+    Ok(())
+}
+
+/// An instance of this level, of which nothing stands.
+fn standing_at(alloc: Global, level: u32) -> Result<Holding, Fail> {
+    Ok(Holding {
+        instantiated: true,
+        started: true,
+        levels: Listed::of(vec![in alloc; level]?),
+        items: Listed::new(alloc),
+        top: Listed::of(vec![in alloc; 0]?),
+    })
+}
+
+#[test]
+fn operations_aim_at_levels(rt: HostRuntime) -> Result<(), Fail> {
+    let alloc = rt.alloc();
+    let vnfd = growing(&rt, alloc)?;
+    assert!(rt; vnfd_valid(&vnfd));
+    let holding = standing_at(alloc, 1)?;
+    assert!(rt; lcm_model::are_levels_in(&vnfd, holding.levels.as_slice()));
+    let aspect = name(&rt, "size");
+    let large = name(&rt, "large");
+    let asks = [
+        (
+            Ask::Instantiate {
+                flavour: name(&rt, "simple"),
+                level: Some(large),
+            },
+            3,
+        ),
+        (
+            Ask::Scale {
+                way: ScaleWay::Out,
+                aspect,
+                steps: 2,
+            },
+            3,
+        ),
+        (
+            Ask::Scale {
+                way: ScaleWay::In,
+                aspect,
+                steps: 1,
+            },
+            0,
+        ),
+        (Ask::ScaleToLevel(Aim::Level(large)), 3),
+        (
+            Ask::Terminate {
+                mode: StopType::Forceful,
+                timeout: None,
+            },
+            1,
+        ),
+    ];
+    for (ask, level) in &asks {
+        let aimed = target(alloc, &vnfd, &holding, ask)
+            .ok()
+            .expect(&rt, "levels");
+        assert!(rt; aimed.as_slice() == [*level].as_slice());
+    }
+    let beyond = Ask::Scale {
+        way: ScaleWay::Out,
+        aspect,
+        steps: 3,
+    };
+    assert!(rt;
+        matches!(
+            target(alloc, &vnfd, &holding, &beyond),
+            Err(StepFault::AboveMax(3))
+        )
+    );
+    let below = Ask::Scale {
+        way: ScaleWay::In,
+        aspect,
+        steps: 2,
+    };
+    assert!(rt;
+        matches!(
+            target(alloc, &vnfd, &holding, &below),
+            Err(StepFault::BelowZero)
         )
     );
     Ok(())
