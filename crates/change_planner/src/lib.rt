@@ -1,0 +1,20 @@
+//! Which change of a plan is made next.
+#![tactic(auto)]
+
+ghost use Rattle.std.specs.Prelude.{◌≡◌, ◌<◌, IfSome, length, slice_get, ℕ};
+
+use lcm_events::Change;
+
+/// The least number, from 0, of a change whose net is 0, which is the one to make next. `nets` has the net of each change
+/// at the change's number; a change past its end has no net and is passed over.
+///
+/// `None` exactly where there is none: every change that has a net is made.
+/// Source: own rule: changes are made in the order of their plan.
+pub fn next_change(changes: &[Change], nets: &[u8]) -> Option<usize>
+    ensures known { IfSome result (λ number. number < length changes.now) }
+    ensures open { IfSome result (λ number. slice_get nets.now number ≡ Some 0) }
+    ensures least { IfSome result (λ number. (lower : ℕ) → lower < number → ¬ (slice_get nets.now lower ≡ Some 0)) }
+    ensures none { result ≡ None → (number : ℕ) → number < length changes.now → ¬ (slice_get nets.now number ≡ Some 0) }
+{
+    changes.iter().zip(nets).position(|(_, net)| *net == 0)
+}
