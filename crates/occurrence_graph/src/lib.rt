@@ -7,7 +7,7 @@ ghost use Rattle.lcm_events.specs.declared.states.Task.TheVariants.{Rollback};
 ghost use Rattle.lcm_model.specs.Moves.{edge as is_edge, is_active};
 ghost use Rattle.lcm_model.specs.Refusals.{has_task, serves, task_refusal};
 ghost use Rattle.lcm_model.specs.declared.refusals.TaskRefusal.{TaskRefusal as Why};
-ghost use Rattle.occurrence_graph.specs.Cancels.{Halts, Leaves, Waits};
+ghost use Rattle.occurrence_graph.specs.Cancels.{CancelsAreTaken, Halts, Leaves, Waits};
 
 use lcm_events::{CancelMode, OpKind, OpState, Task};
 pub use lcm_model::TaskRefusal;
@@ -91,3 +91,11 @@ pub fn cancel_step(state: OpState, mode: CancelMode, waiting: bool) -> CancelSte
         (_, CancelMode::Graceful) => CancelStep::Wait,
     }
 }
+
+/// After every history the next action of an active occurrence under a cancel is the step of `cancel_step`: `Leave` is
+/// the move, `Halt` aborts the open attempt, `Wait` goes on with what is under way.
+///
+/// Source: own rule.
+pub fn cancels_are_taken()
+    ensures { CancelsAreTaken }
+{}
