@@ -1,7 +1,12 @@
 //! Which change of a plan is made next.
 #![tactic(auto)]
 
-ghost use Rattle.std.specs.Prelude.{◌≡◌, ◌<◌, IfSome, length, slice_get, ℕ};
+ghost use Rattle.std.specs.Prelude.{◌≡◌, ◌<◌, IfSome, List, length, slice_get, ℕ};
+ghost use Rattle.lcm_events.specs.declared.events.Event.{Event};
+ghost use Rattle.lcm_model.specs.Attempts.{net};
+ghost use Rattle.lcm_model.specs.Next.{with_net};
+ghost use Rattle.lcm_model.specs.Operations.{changes as changes_of};
+ghost use Rattle.lcm_model.specs.Words.{first};
 
 use lcm_events::Change;
 
@@ -15,6 +20,7 @@ pub fn next_change(changes: &[Change], nets: &[u8]) -> Option<usize>
     ensures open { IfSome result (λ number. slice_get nets.now number ≡ Some 0) }
     ensures least { IfSome result (λ number. (lower : ℕ) → lower < number → ¬ (slice_get nets.now lower ≡ Some 0)) }
     ensures none { result ≡ None → (number : ℕ) → number < length changes.now → ¬ (slice_get nets.now number ≡ Some 0) }
+    ensures in_history { (H : List Event) (o : ℕ) → changes.now ≡ changes_of H o → ((number : ℕ) → number < length changes.now → slice_get nets.now number ≡ Some (net H o number)) → result ≡ first (with_net H o 0) }
 {
     changes.iter().zip(nets).position(|(_, net)| *net == 0)
 }
