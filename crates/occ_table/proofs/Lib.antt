@@ -1,0 +1,3 @@
+pub mod Updates
+pub mod RowSteps
+pub mod RowsSteps

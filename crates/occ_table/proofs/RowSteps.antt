@@ -1,0 +1,92 @@
+-- What each event makes of a row.
+use Rattle.std.proofs.Common.{◌≡◌, ◌<◌, ◌+◌, ◌||◌, ◌==◌, ◌∙◌, ℕ, List, ◌∷◌, suc, Bool, true, false, cond, Option, None, Some, refl, ap, subst, min, arith, nat_le, eqb-true, leb-false}
+use Rattle.std.specs.List.{list_any}
+use Rattle.std.specs.Option.{option_map_or}
+use Rattle.lcm_events.specs.declared.events.Event.{Event}
+use Rattle.lcm_events.specs.declared.events.EventKind.{EventKind}
+use Rattle.lcm_events.specs.declared.events.EventKind.TheVariants.{CancelAsked, Denied, GrantTried, Granted, Intent, CallFailed, Settled, Moved}
+use Rattle.lcm_events.specs.declared.events.GrantTry.{GrantTry}
+use Rattle.lcm_events.specs.declared.events.GrantTry.TheVariants.{Later, NotCovering, Trouble}
+use Rattle.lcm_events.specs.declared.events.Operation.{Operation}
+use Rattle.lcm_events.specs.declared.states.CancelMode.{CancelMode}
+use Rattle.lcm_events.specs.declared.states.CancelMode.TheVariants.{Forceful, Graceful}
+use Rattle.lcm_model.specs.Allowed.{IsAllowedWithin, IsLegalWithin}
+use Rattle.lcm_model.specs.Grants.{answers, has_ended, is_last, troubled_tries}
+use Rattle.lcm_model.specs.Since.{is_cancelled, is_forced}
+use Rattle.lcm_model.specs.Operations.{occurrence_of}
+use Rattle.lcm_laws.proofs.Histories.{event}
+use Rattle.lcm_laws.proofs.Lists.{by_test}
+use Rattle.occ_table.specs.Rows.{cancel, row}
+use Rattle.occ_table.specs.Steps.{after_answer, after_cancel, row_after}
+use Rattle.occ_table.specs.declared.rows.OccRow.{OccRow}
+
+-- what an event makes of the row of this occurrence
+abbrev pub row_by : EventKind → ℕ → OccRow → OccRow
+row_by k o r = cond (option_map_or (λ n. n == o) (occurrence_of k) false) (row_after k r) r
+
+by_own : (b : Bool) (r s : OccRow) → b ≡ true → r ≡ cond b r s
+by_own true r s e = refl
+by_own false r s e = cc
+
+-- an event that changes no row
+pub same_row : (b : Bool) (r : OccRow) → r ≡ cond b r r
+same_row true r = refl
+same_row false r = refl
+
+graceful : (f c : Bool) → cond f (Some Forceful) (Some Graceful) ≡ after_cancel Graceful (cond f (Some Forceful) (cond c (Some Graceful) None))
+graceful true c = refl
+graceful false true = refl
+graceful false false = refl
+
+-- one more cancel
+cancel-next : (mode : CancelMode) (H : List Event) (time n o : ℕ) → (n == o) ≡ true
+    → cancel (event time (CancelAsked n mode) ∷ H) o ≡ after_cancel mode (cancel H o)
+cancel-next Forceful H time n o same = rw same refl
+cancel-next Graceful H time n o same = rw same (graceful (is_forced H o) (is_cancelled H o))
+
+with_cancel : (r : OccRow) (c d : Option CancelMode) → c ≡ d → record r { cancel = c } ≡ record r { cancel = d }
+with_cancel r c d e = ap (λ (x : Option CancelMode). record r { cancel = x }) e
+
+cancelled : (H : List Event) (time n : ℕ) (mode : CancelMode) (a : Operation) → (n == a.occ) ≡ true
+    → row (event time (CancelAsked n mode) ∷ H) a ≡ row_after (CancelAsked n mode) (row H a)
+cancelled H time n mode a same = with_cancel (row H a) _ _ (cancel-next mode H time n a.occ same)
+
+-- one more try in trouble, where there were fewer than five
+tries-next : (a : Bool) (n : ℕ) → (a || nat_le 5 n) ≡ false → suc n ≡ min (n + 1) 255
+tries-next true n h = cc
+tries-next false n h = let few : n < 5 = leb-false 5 n h in omega (arith, few)
+
+ended-next : (a : Bool) (n : ℕ) → (a || nat_le 5 n) ≡ false → (a || nat_le 5 (suc n)) ≡ ((a || nat_le 5 n) || nat_le 5 (min (n + 1) 255))
+ended-next true n h = cc
+ended-next false n h = rw h (ap (λ (k : ℕ). nat_le 5 k) (tries-next false n h))
+
+with_tries : (r : OccRow) (m n : ℕ) (a b : Bool) → m ≡ n → a ≡ b → record r { tries = m; ended = a } ≡ record r { tries = n; ended = b }
+with_tries r m n a b e f = ap (λ (x : ℕ). record r { tries = x; ended = a }) e ∙ ap (λ (x : Bool). record r { tries = n; ended = x }) f
+
+answered : (H : List Event) (time n : ℕ) (answer : GrantTry) (a : Operation) → (n == a.occ) ≡ true → has_ended H a.occ ≡ false
+    → row (event time (GrantTried n answer) ∷ H) a ≡ after_answer answer (row H a)
+answered H time n (Later at) a same going = rw same refl
+answered H time n NotCovering a same going = rw same refl
+answered H time n Trouble a same going =
+    rw same (with_tries (row H a) _ _ _ _
+    (tries-next (list_any is_last (answers H a.occ)) (troubled_tries H a.occ) going)
+    (ended-next (list_any is_last (answers H a.occ)) (troubled_tries H a.occ) going))
+
+pub row-step : (width m : ℕ) (H : List Event) (time : ℕ) (k : EventKind) (a : Operation) → IsLegalWithin width m H → IsAllowedWithin width m H k
+    → row (event time k ∷ H) a ≡ row_by k a.occ (row H a)
+row-step width m H time (GrantTried n answer) a legal allowed = by_test (n == a.occ)
+    (λ same.
+    let is : n ≡ a.occ = eqb-true n a.occ same in
+    let going : has_ended H a.occ ≡ false = subst (λ (o : ℕ). has_ended H o ≡ false) is allowed.0.goes_on in
+    answered H time n answer a same going ∙ by_own (n == a.occ) _ _ same)
+    (λ other. rw other refl)
+row-step width m H time (Granted n grant places spots) a legal allowed = by_test (n == a.occ) (λ same. rw same refl) (λ other. rw other refl)
+row-step width m H time (Denied n) a legal allowed = by_test (n == a.occ) (λ same. rw same refl) (λ other. rw other refl)
+row-step width m H time (Moved n to) a legal allowed = by_test (n == a.occ) (λ same. rw same refl) (λ other. rw other refl)
+row-step width m H time (CancelAsked n mode) a legal allowed = by_test (n == a.occ)
+    (λ same. cancelled H time n mode a same ∙ by_own (n == a.occ) _ _ same)
+    (λ other. rw other refl)
+row-step width m H time (Intent t) a legal allowed = same_row (t.occ == a.occ) (row H a)
+row-step width m H time (CallFailed t) a legal allowed = same_row (t.occ == a.occ) (row H a)
+row-step width m H time (Settled t outcome) a legal allowed = same_row (t.occ == a.occ) (row H a)
+row-step width m H time _ a legal allowed = refl

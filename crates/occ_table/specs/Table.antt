@@ -1,0 +1,43 @@
+-- What the table shows, what is reserved beside its rows, and what its calls do (own rule).
+use Rattle.std.specs.Prelude.{Bool, List, Option, Some, false, true, ℕ, ◌∷◌, ◌<◌, ◌≡◌}
+use Rattle.lcm_events.specs.declared.events.Event.{Event}
+use Rattle.lcm_events.specs.declared.events.EventKind.{EventKind}
+use Rattle.lcm_events.specs.declared.events.EventKind.TheVariants.{Asked}
+use Rattle.lcm_model.specs.Allowed.{IsAllowedWithin, IsLegalWithin}
+use Rattle.lcm_model.specs.Operations.{occurrences_made}
+use Rattle.occ_table.specs.Rows.{StandsFor, occurrence}
+use Rattle.occ_table.specs.Steps.{first_row}
+use Rattle.occ_table.specs.declared.rows.OccRow.{OccRow}
+
+-- what is reserved: a row that is to come, and room for how many more
+pub record Reserved : Type 0 where
+  pub row : Option OccRow
+  pub spare : ℕ
+
+-- what a contract sees of the table: its rows, and what is reserved
+pub record Occurrences : Type 0 where
+  pub rows : List OccRow
+  pub reserved : Reserved
+
+-- the event needs a reservation
+abbrev pub needs_room : EventKind → Bool
+needs_room (Asked a) = true
+needs_room _ = false
+
+-- what the event needs is reserved
+abbrev pub HasRoom : EventKind → Reserved → Type 0
+HasRoom (Asked a) r = (r.row ≡ Some (first_row a)) × (0 < r.spare)
+HasRoom _ r = Unit {0}
+
+-- rows that stood for a legal history stand for it with the event that was allowed after it
+abbrev pub Applies : Event → List OccRow → List OccRow → Type 0
+Applies e old new =
+    (width m : ℕ) (H : List Event) → IsLegalWithin width m H → IsAllowedWithin width m H e.kind → StandsFor old H → StandsFor new (e ∷ H)
+
+-- what is found is the row of the occurrence of this number in each legal history that the rows stand for
+abbrev pub Looks : ℕ → Option OccRow → List OccRow → Type 0
+Looks n x rs = (width m : ℕ) (H : List Event) → IsLegalWithin width m H → StandsFor rs H → x ≡ occurrence H n
+
+-- this is how many operations each history asks for that the rows stand for
+abbrev pub Counts : ℕ → List OccRow → Type 0
+Counts n rs = (H : List Event) → StandsFor rs H → n ≡ occurrences_made H

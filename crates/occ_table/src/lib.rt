@@ -1,0 +1,8 @@
+//! The table of occurrences: what the history says of each, kept event by event, so that a question costs one look-up.
+#![tactic(auto)]
+
+mod rows;
+mod table;
+
+pub use rows::OccRow;
+pub use table::OccTable;
