@@ -7,3 +7,5 @@ mod judging;
 mod placing;
 #[cfg(test)]
 mod plans;
+#[cfg(test)]
+mod rules;
