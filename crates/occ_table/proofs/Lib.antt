@@ -1,3 +1,4 @@
 pub mod Updates
+pub mod PendingSteps
 pub mod RowSteps
 pub mod RowsSteps

@@ -1,5 +1,5 @@
 -- What each event makes of a row.
-use Rattle.std.proofs.Common.{◌≡◌, ◌<◌, ◌+◌, ◌||◌, ◌==◌, ◌∙◌, ℕ, List, ◌∷◌, suc, Bool, true, false, cond, Option, None, Some, refl, ap, subst, min, arith, nat_le, eqb-true, leb-false}
+use Rattle.std.proofs.Common.{◌≡◌, ◌<◌, ◌+◌, ◌||◌, ◌==◌, ◌∙◌, ℕ, List, ◌∷◌, suc, Bool, true, false, cond, Option, None, Some, refl, ap, subst, min, arith, nat_le, eqb-true, leb-false, ◌≤◌}
 use Rattle.std.specs.List.{list_any}
 use Rattle.std.specs.Option.{option_map_or}
 use Rattle.lcm_events.specs.declared.events.Event.{Event}
@@ -18,6 +18,9 @@ use Rattle.lcm_laws.proofs.Histories.{event}
 use Rattle.lcm_laws.proofs.Lists.{by_test}
 use Rattle.occ_table.specs.Rows.{cancel, row}
 use Rattle.occ_table.specs.Steps.{after_answer, after_cancel, row_after}
+use Rattle.lcm_model.specs.Attempts.{is_unsettled}
+use Rattle.occ_table.specs.declared.pending.Pending.{Pending}
+use Rattle.occ_table.proofs.PendingSteps.{pendings-begun, pendings-begun_other, pendings-ended, pendings-ended_other, pendings-failed, pendings-failed_other, trouble-settled, trouble-settled_other}
 use Rattle.occ_table.specs.declared.rows.OccRow.{OccRow}
 
 -- what an event makes of the row of this occurrence
@@ -28,10 +31,15 @@ by_own : (b : Bool) (r s : OccRow) → b ≡ true → r ≡ cond b r s
 by_own true r s e = refl
 by_own false r s e = cc
 
--- an event that changes no row
-pub same_row : (b : Bool) (r : OccRow) → r ≡ cond b r r
-same_row true r = refl
-same_row false r = refl
+by_other : (b : Bool) (r s : OccRow) → b ≡ false → s ≡ cond b r s
+by_other true r s e = cc
+by_other false r s e = refl
+
+with_pending : (r : OccRow) (p q : List Pending) → p ≡ q → record r { pending = p } ≡ record r { pending = q }
+with_pending r p q e = ap (λ (x : List Pending). record r { pending = x }) e
+
+with_settled : (r : OccRow) (a b : Bool) (p q : List Pending) → a ≡ b → p ≡ q → record r { trouble = a; pending = p } ≡ record r { trouble = b; pending = q }
+with_settled r a b p q e f = ap (λ (x : Bool). record r { trouble = x; pending = p }) e ∙ ap (λ (x : List Pending). record r { trouble = b; pending = x }) f
 
 graceful : (f c : Bool) → cond f (Some Forceful) (Some Graceful) ≡ after_cancel Graceful (cond f (Some Forceful) (cond c (Some Graceful) None))
 graceful true c = refl
@@ -49,6 +57,7 @@ with_cancel r c d e = ap (λ (x : Option CancelMode). record r { cancel = x }) e
 
 cancelled : (H : List Event) (time n : ℕ) (mode : CancelMode) (a : Operation) → (n == a.occ) ≡ true
     → row (event time (CancelAsked n mode) ∷ H) a ≡ row_after (CancelAsked n mode) (row H a)
+unfolding is_unsettled
 cancelled H time n mode a same = with_cancel (row H a) _ _ (cancel-next mode H time n a.occ same)
 
 -- one more try in trouble, where there were fewer than five
@@ -65,6 +74,7 @@ with_tries r m n a b e f = ap (λ (x : ℕ). record r { tries = x; ended = a }) 
 
 answered : (H : List Event) (time n : ℕ) (answer : GrantTry) (a : Operation) → (n == a.occ) ≡ true → has_ended H a.occ ≡ false
     → row (event time (GrantTried n answer) ∷ H) a ≡ after_answer answer (row H a)
+unfolding is_unsettled
 answered H time n (Later at) a same going = rw same refl
 answered H time n NotCovering a same going = rw same refl
 answered H time n Trouble a same going =
@@ -72,21 +82,30 @@ answered H time n Trouble a same going =
     (tries-next (list_any is_last (answers H a.occ)) (troubled_tries H a.occ) going)
     (ended-next (list_any is_last (answers H a.occ)) (troubled_tries H a.occ) going))
 
-pub row-step : (width m : ℕ) (H : List Event) (time : ℕ) (k : EventKind) (a : Operation) → IsLegalWithin width m H → IsAllowedWithin width m H k
+pub row-step : (width m : ℕ) (H : List Event) (time : ℕ) (k : EventKind) (a : Operation) → width ≤ 4 → IsLegalWithin width m H → IsAllowedWithin width m H k
     → row (event time k ∷ H) a ≡ row_by k a.occ (row H a)
-row-step width m H time (GrantTried n answer) a legal allowed = by_test (n == a.occ)
+unfolding is_unsettled
+row-step width m H time (GrantTried n answer) a wide legal allowed = by_test (n == a.occ)
     (λ same.
     let is : n ≡ a.occ = eqb-true n a.occ same in
     let going : has_ended H a.occ ≡ false = subst (λ (o : ℕ). has_ended H o ≡ false) is allowed.0.goes_on in
     answered H time n answer a same going ∙ by_own (n == a.occ) _ _ same)
     (λ other. rw other refl)
-row-step width m H time (Granted n grant places spots) a legal allowed = by_test (n == a.occ) (λ same. rw same refl) (λ other. rw other refl)
-row-step width m H time (Denied n) a legal allowed = by_test (n == a.occ) (λ same. rw same refl) (λ other. rw other refl)
-row-step width m H time (Moved n to) a legal allowed = by_test (n == a.occ) (λ same. rw same refl) (λ other. rw other refl)
-row-step width m H time (CancelAsked n mode) a legal allowed = by_test (n == a.occ)
+row-step width m H time (Granted n grant places spots) a wide legal allowed = by_test (n == a.occ) (λ same. rw same refl) (λ other. rw other refl)
+row-step width m H time (Denied n) a wide legal allowed = by_test (n == a.occ) (λ same. rw same refl) (λ other. rw other refl)
+row-step width m H time (Moved n to) a wide legal allowed = by_test (n == a.occ) (λ same. rw same refl) (λ other. rw other refl)
+row-step width m H time (CancelAsked n mode) a wide legal allowed = by_test (n == a.occ)
     (λ same. cancelled H time n mode a same ∙ by_own (n == a.occ) _ _ same)
     (λ other. rw other refl)
-row-step width m H time (Intent t) a legal allowed = same_row (t.occ == a.occ) (row H a)
-row-step width m H time (CallFailed t) a legal allowed = same_row (t.occ == a.occ) (row H a)
-row-step width m H time (Settled t outcome) a legal allowed = same_row (t.occ == a.occ) (row H a)
-row-step width m H time _ a legal allowed = refl
+row-step width m H time (Intent t) a wide legal allowed = by_test (t.occ == a.occ)
+    (λ same. with_pending (row H a) _ _ (pendings-begun width m H time t a.occ same wide legal allowed) ∙ by_own (t.occ == a.occ) _ _ same)
+    (λ other. with_pending (row H a) _ _ (pendings-begun_other width m H time t a.occ other legal allowed) ∙ by_other (t.occ == a.occ) _ _ other)
+row-step width m H time (CallFailed t) a wide legal allowed = by_test (t.occ == a.occ)
+    (λ same. with_pending (row H a) _ _ (pendings-failed H time t a.occ) ∙ by_own (t.occ == a.occ) _ _ same)
+    (λ other. with_pending (row H a) _ _ (pendings-failed_other H time t a.occ other) ∙ by_other (t.occ == a.occ) _ _ other)
+row-step width m H time (Settled t outcome) a wide legal allowed = by_test (t.occ == a.occ)
+    (λ same. with_settled (row H a) _ _ _ _ (trouble-settled H t outcome a.occ allowed same) (pendings-ended H time t outcome a.occ)
+    ∙ by_own (t.occ == a.occ) _ _ same)
+    (λ other. with_settled (row H a) _ _ _ _ (trouble-settled_other H t outcome a.occ other) (pendings-ended_other H time t outcome a.occ other)
+    ∙ by_other (t.occ == a.occ) _ _ other)
+row-step width m H time _ a wide legal allowed = refl

@@ -1,4 +1,5 @@
 -- What each event makes of the rows, and what is found among them.
+use Rattle.lcm_model.specs.Attempts.{is_unsettled}
 use Rattle.std.proofs.Common.{◌≡◌, ◌≢◌, ◌≤◌, ◌+◌, ◌-◌, ◌++◌, ◌==◌, ◌∙◌, ℕ, List, [], ◌∷◌, zero, suc, Bool, true, false, cond, Option, None, Some, is_some, refl, ap, sym, subst, length, map, reverse, find, arith, eqb-true, false-eqb, slice_get, option_map}
 use Rattle.std.specs.Option.{option_map_or}
 use Rattle.std.proofs.lemmas.List.{length-map, length-reverse}
@@ -43,12 +44,12 @@ changed f g h (x ∷ xs) n counted low e =
     ∙ ap (λ (zs : List OccRow). update h (n - 1) zs) (sym (reverse-cons (f x) (map f xs)))))
 
 -- an event about an occurrence changes its row alone
-about-step : (width m : ℕ) (H : List Event) (time : ℕ) (k : EventKind) (n : ℕ) → occurrence_of k ≡ Some n → IsLegalWithin width m H → IsAllowedWithin width m H k
+about-step : (width m : ℕ) (H : List Event) (time : ℕ) (k : EventKind) (n : ℕ) → occurrence_of k ≡ Some n → width ≤ 4 → IsLegalWithin width m H → IsAllowedWithin width m H k
     → reverse (map (row (event time k ∷ H)) (operations H)) ≡ update (row_after k) (n - 1) (rows H)
-about-step width m H time k n e legal allowed =
+about-step width m H time k n e wide legal allowed =
     changed (row H) (row (event time k ∷ H)) (row_after k) (operations H) n (operations_counted width m H legal)
     ((found_exactly width m H legal n).0 (about_asked width m H k legal allowed n e)).0
-    (λ a. row-step width m H time k a legal allowed
+    (λ a. row-step width m H time k a wide legal allowed
     ∙ ap (λ (o : Option ℕ). cond (option_map_or (λ n. n == a.occ) o false) (row_after k (row H a)) (row H a)) e)
 
 none_there : {A : Type 0} → (x : Option A) → (is_some x ≡ true → ⊥) → x ≡ None
@@ -61,28 +62,29 @@ first width m H a legal allowed =
     let none : operation H a.occ ≡ None = none_there (operation H a.occ) (λ there.
     let high = ((found_exactly width m H legal a.occ).0 there).1 in omega (arith, high, allowed.number)) in
     let still = unasked_untouched width m H legal a.occ none in
-    rw (still.moves, still.answers, still.cancels) refl
+    rw (still.moves, still.answers, still.cancels, still.no_trouble, still.none_open) refl
 
 -- what an event makes of the rows
-pub rows-step : (width m : ℕ) (H : List Event) (time : ℕ) (k : EventKind) → IsLegalWithin width m H → IsAllowedWithin width m H k
+pub rows-step : (width m : ℕ) (H : List Event) (time : ℕ) (k : EventKind) → width ≤ 4 → IsLegalWithin width m H → IsAllowedWithin width m H k
     → rows (event time k ∷ H) ≡ rows_after k (rows H)
-rows-step width m H time (Asked a) legal allowed =
+unfolding is_unsettled
+rows-step width m H time (Asked a) wide legal allowed =
     reverse-cons (row H a) (map (row H) (operations H)) ∙ ap (λ (r : OccRow). rows H ++ r ∷ []) (first width m H a legal allowed)
-rows-step width m H time (GrantTried n answer) legal allowed = about-step width m H time (GrantTried n answer) n refl legal allowed
-rows-step width m H time (Granted n grant places spots) legal allowed = about-step width m H time (Granted n grant places spots) n refl legal allowed
-rows-step width m H time (Denied n) legal allowed = about-step width m H time (Denied n) n refl legal allowed
-rows-step width m H time (Intent t) legal allowed = about-step width m H time (Intent t) t.occ refl legal allowed
-rows-step width m H time (CallFailed t) legal allowed = about-step width m H time (CallFailed t) t.occ refl legal allowed
-rows-step width m H time (Settled t outcome) legal allowed = about-step width m H time (Settled t outcome) t.occ refl legal allowed
-rows-step width m H time (Moved n to) legal allowed = about-step width m H time (Moved n to) n refl legal allowed
-rows-step width m H time (CancelAsked n mode) legal allowed = about-step width m H time (CancelAsked n mode) n refl legal allowed
-rows-step width m H time _ legal allowed = refl
+rows-step width m H time (GrantTried n answer) wide legal allowed = about-step width m H time (GrantTried n answer) n refl wide legal allowed
+rows-step width m H time (Granted n grant places spots) wide legal allowed = about-step width m H time (Granted n grant places spots) n refl wide legal allowed
+rows-step width m H time (Denied n) wide legal allowed = about-step width m H time (Denied n) n refl wide legal allowed
+rows-step width m H time (Intent t) wide legal allowed = about-step width m H time (Intent t) t.occ refl wide legal allowed
+rows-step width m H time (CallFailed t) wide legal allowed = about-step width m H time (CallFailed t) t.occ refl wide legal allowed
+rows-step width m H time (Settled t outcome) wide legal allowed = about-step width m H time (Settled t outcome) t.occ refl wide legal allowed
+rows-step width m H time (Moved n to) wide legal allowed = about-step width m H time (Moved n to) n refl wide legal allowed
+rows-step width m H time (CancelAsked n mode) wide legal allowed = about-step width m H time (CancelAsked n mode) n refl wide legal allowed
+rows-step width m H time _ wide legal allowed = refl
 
 -- rows that stood for a history stand for it with one event more
-pub applied : (width m : ℕ) (H : List Event) (e : Event) (old : List OccRow) → IsLegalWithin width m H → IsAllowedWithin width m H e.kind → StandsFor old H
+pub applied : (width m : ℕ) (H : List Event) (e : Event) (old : List OccRow) → width ≤ 4 → IsLegalWithin width m H → IsAllowedWithin width m H e.kind → StandsFor old H
     → StandsFor (rows_after e.kind old) (e ∷ H)
-applied width m H e old legal allowed stands =
-    ap (λ (rs : List OccRow). rows_after e.kind rs) stands ∙ sym (rows-step width m H e.moment e.kind legal allowed)
+applied width m H e old wide legal allowed stands =
+    ap (λ (rs : List OccRow). rows_after e.kind rs) stands ∙ sym (rows-step width m H e.moment e.kind wide legal allowed)
 
 -- an event is about a number from 1
 pub low : (width m : ℕ) (H : List Event) (k : EventKind) (n : ℕ) → occurrence_of k ≡ Some n → IsLegalWithin width m H → IsAllowedWithin width m H k → 1 ≤ n

@@ -1,5 +1,5 @@
 -- A list with one entry changed.
-use Rattle.std.proofs.Common.{true, false, Some, slice_get, ◌≡◌, ◌≢◌, ◌≤◌, ◌<◌, ◌++◌, ℕ, List, [], ◌∷◌, zero, suc, refl, ap, length, get_or, set, arith}
+use Rattle.std.proofs.Common.{◌+◌, ◌∙◌, Bool, cond, map, take, drop, true, false, Some, slice_get, ◌≡◌, ◌≢◌, ◌≤◌, ◌<◌, ◌++◌, ℕ, List, [], ◌∷◌, zero, suc, refl, ap, length, get_or, set, arith}
 use Rattle.occ_table.specs.Steps.{update}
 
 -- nothing changes beyond the end
@@ -53,3 +53,32 @@ get-front zero [] x e = absurd (e refl)
 get-front (suc n) [] x e = refl
 get-front zero (y ∷ ys) x e = refl
 get-front (suc n) (y ∷ ys) x e = get-front n ys x (λ same. e (ap suc same))
+
+mapped_more : {A : Type 0} → (f : A → A) (n : ℕ) (xs : List A) (d : A) → n < length xs
+    → take (suc n) (set xs n (f (get_or xs n d))) ++ map f (drop (suc n) (set xs n (f (get_or xs n d)))) ≡ take n xs ++ map f (drop n xs)
+mapped_more f n [] d h = absurd (omega (arith, h))
+mapped_more f zero (x ∷ xs) d h = refl
+mapped_more f (suc n) (x ∷ xs) d h = ap (λ ys. x ∷ ys) (mapped_more f n xs d (omega (arith, h)))
+
+-- the front changed and the rest to be changed, before and after one entry is
+pub mapped_step : {A : Type 0} → (f : A → A) (n : ℕ) (xs : List A) (d : A) → n < length xs
+    → take (n + 1) (set xs n (f (get_or xs n d))) ++ map f (drop (n + 1) (set xs n (f (get_or xs n d)))) ≡ take n xs ++ map f (drop n xs)
+mapped_step f n xs d h =
+    let more : n + 1 ≡ suc n = omega arith in
+    ap (λ (k : ℕ). take k (set xs n (f (get_or xs n d))) ++ map f (drop k (set xs n (f (get_or xs n d))))) more ∙ mapped_more f n xs d h
+
+-- at the end all is changed
+pub mapped_end : {A : Type 0} → (f : A → A) (n : ℕ) (xs : List A) → length xs ≤ n → take n xs ++ map f (drop n xs) ≡ xs
+mapped_end f zero [] h = refl
+mapped_end f (suc n) [] h = refl
+mapped_end f zero (x ∷ xs) h = absurd (omega (arith, h))
+mapped_end f (suc n) (x ∷ xs) h = ap (λ ys. x ∷ ys) (mapped_end f n xs (omega (arith, h)))
+
+-- what a test chooses
+pub chosen : {A : Type 0} → (b : Bool) (x y : A) → b ≡ true → x ≡ cond b x y
+chosen true x y e = refl
+chosen false x y e = cc
+
+pub passed_over : {A : Type 0} → (b : Bool) (x y : A) → b ≡ false → y ≡ cond b x y
+passed_over true x y e = cc
+passed_over false x y e = refl

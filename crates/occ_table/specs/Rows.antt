@@ -4,15 +4,26 @@ use Rattle.lcm_events.specs.declared.events.Event.{Event}
 use Rattle.lcm_events.specs.declared.events.Operation.{Operation}
 use Rattle.lcm_events.specs.declared.states.CancelMode.{CancelMode}
 use Rattle.lcm_events.specs.declared.states.CancelMode.TheVariants.{Forceful, Graceful}
+use Rattle.lcm_events.specs.declared.attempts.Tag.{Tag}
+use Rattle.lcm_model.specs.Attempts.{open_of}
 use Rattle.lcm_model.specs.Grants.{has_ended, troubled_tries}
 use Rattle.lcm_model.specs.Moves.{state}
 use Rattle.lcm_model.specs.Operations.{operation, operations}
-use Rattle.lcm_model.specs.Since.{is_cancelled, is_forced}
+use Rattle.lcm_model.specs.Since.{has_call_failed, has_trouble, is_cancelled, is_forced}
+use Rattle.occ_table.specs.declared.pending.Pending.{Pending}
 use Rattle.occ_table.specs.declared.rows.OccRow.{OccRow}
 
 -- the mode of the cancel in force: FORCEFUL where one of those in force is, or else GRACEFUL (SOL 003 5.4.17)
 abbrev pub cancel : List Event → ℕ → Option CancelMode
 cancel H o = if is_forced H o then Some Forceful else if is_cancelled H o then Some Graceful else None
+
+-- an open attempt, and whether the call that was to begin it has failed (own rule)
+abbrev pub pending_of : List Event → Tag → Pending
+pending_of H t = record { tag = t; failed = has_call_failed H t }
+
+-- the open attempts of an occurrence in the order in which they began (own rule)
+abbrev pub pendings : List Event → ℕ → List Pending
+pendings H o = reverse (map (pending_of H) (open_of H o))
 
 -- what the history says of an operation that was asked for (SOL 003 5.5.2.13)
 abbrev pub row : List Event → Operation → OccRow
@@ -24,6 +35,8 @@ row H a = record {
   tries = troubled_tries H a.occ;
   ended = has_ended H a.occ;
   cancel = cancel H a.occ;
+  trouble = has_trouble H a.occ;
+  pending = pendings H a.occ;
 }
 
 -- the rows of all operations, in the order in which they were asked for (SOL 003 5.4.12)

@@ -1,7 +1,8 @@
 -- What an event makes of a row, and of the rows. The proofs alone use these words: the table's contracts speak of rows.
-use Rattle.std.specs.Prelude.{List, None, Option, Some, [], false, min, nat_le, true, ℕ, ◌||◌, ◌+◌, ◌-◌, ◌++◌, ◌∷◌, zero, suc}
+use Rattle.std.specs.List.{list_any}
+use Rattle.std.specs.Prelude.{List, None, Option, Some, [], false, min, nat_le, true, ℕ, ◌||◌, ◌+◌, ◌-◌, ◌++◌, ◌∷◌, zero, suc, Bool, filter, map, if◌then◌else◌, length, nat_lt, not, ◌&&◌}
 use Rattle.lcm_events.specs.declared.events.EventKind.{EventKind}
-use Rattle.lcm_events.specs.declared.events.EventKind.TheVariants.{Asked, CancelAsked, Denied, GrantTried, Granted, Moved}
+use Rattle.lcm_events.specs.declared.events.EventKind.TheVariants.{Asked, CallFailed, CancelAsked, Denied, GrantTried, Granted, Intent, Moved, Settled}
 use Rattle.lcm_events.specs.declared.events.GrantTry.{GrantTry}
 use Rattle.lcm_events.specs.declared.events.GrantTry.TheVariants.{Later, NotCovering, Trouble}
 use Rattle.lcm_events.specs.declared.events.Operation.{Operation}
@@ -9,6 +10,11 @@ use Rattle.lcm_events.specs.declared.states.CancelMode.{CancelMode}
 use Rattle.lcm_events.specs.declared.states.CancelMode.TheVariants.{Forceful, Graceful}
 use Rattle.lcm_events.specs.declared.states.OpState.TheVariants.{Starting}
 use Rattle.lcm_model.specs.Operations.{occurrence_of}
+use Rattle.lcm_events.specs.Same.{same_tag}
+use Rattle.lcm_events.specs.declared.attempts.Outcome.{Outcome}
+use Rattle.lcm_events.specs.declared.attempts.Outcome.TheVariants.{Aborted, Broken, Done, NotBegun}
+use Rattle.lcm_events.specs.declared.attempts.Tag.{Tag}
+use Rattle.occ_table.specs.declared.pending.Pending.{Pending}
 use Rattle.occ_table.specs.declared.rows.OccRow.{OccRow}
 
 -- the row of an operation when it is asked for
@@ -21,6 +27,8 @@ first_row a = record {
   tries = 0;
   ended = false;
   cancel = None;
+  trouble = false;
+  pending = [];
 }
 
 -- the row after a try that led to no grant
@@ -34,13 +42,43 @@ abbrev pub after_cancel : CancelMode → Option CancelMode → Option CancelMode
 after_cancel Graceful (Some Forceful) = Some Forceful
 after_cancel mode _ = Some mode
 
+-- the open attempts with one more, where fewer than four are open
+abbrev pub begun : Tag → List Pending → List Pending
+begun t ps = if nat_lt (length ps) 4 then ps ++ record { tag = t; failed = false } ∷ [] else ps
+
+-- an open attempt after the call for the tag has failed
+abbrev pub failed_by : Tag → Pending → Pending
+failed_by t p = record p { failed = same_tag p.tag t || p.failed }
+
+-- the open attempts without one that ended
+abbrev pub ended : Tag → List Pending → List Pending
+ended t ps = filter (λ p. not (same_tag p.tag t)) ps
+
+-- the tag is open among these, and its call has failed
+abbrev pub has_failed_among : Tag → List Pending → Bool
+has_failed_among t ps = list_any (λ p. same_tag t p.tag && p.failed) ps
+
+-- it is trouble that one of these attempts ends so
+abbrev pub is_trouble_among : Tag → Outcome → List Pending → Bool
+is_trouble_among t (Done name) ps = false
+is_trouble_among t (Broken code) ps = true
+is_trouble_among t Aborted ps = true
+is_trouble_among t NotBegun ps = has_failed_among t ps
+
+-- the row after an attempt has ended
+abbrev pub after_settled : Tag → Outcome → OccRow → OccRow
+after_settled t outcome r = record r { trouble = is_trouble_among t outcome r.pending || r.trouble; pending = ended t r.pending }
+
 -- the row after an event that is about its occurrence
 abbrev pub row_after : EventKind → OccRow → OccRow
 row_after (GrantTried o answer) r = after_answer answer r
 row_after (Granted o grant places spots) r = record r { ended = true }
 row_after (Denied o) r = record r { ended = true }
-row_after (Moved o to) r = record r { state = to; cancel = None }
+row_after (Moved o to) r = record r { state = to; cancel = None; trouble = false }
 row_after (CancelAsked o mode) r = record r { cancel = after_cancel mode r.cancel }
+row_after (Intent t) r = record r { pending = begun t r.pending }
+row_after (CallFailed t) r = record r { pending = map (failed_by t) r.pending }
+row_after (Settled t outcome) r = after_settled t outcome r
 row_after _ r = r
 
 -- a list with the entry at this place changed

@@ -1,5 +1,5 @@
 -- What the table shows, what is reserved beside its rows, and what its calls do (own rule).
-use Rattle.std.specs.Prelude.{Bool, List, Option, Some, false, true, ℕ, ◌∷◌, ◌<◌, ◌≡◌}
+use Rattle.std.specs.Prelude.{Bool, List, Option, Some, false, true, ℕ, ◌∷◌, ◌<◌, ◌≡◌, ◌≤◌}
 use Rattle.lcm_events.specs.declared.events.Event.{Event}
 use Rattle.lcm_events.specs.declared.events.EventKind.{EventKind}
 use Rattle.lcm_events.specs.declared.events.EventKind.TheVariants.{Asked}
@@ -29,10 +29,11 @@ abbrev pub HasRoom : EventKind → Reserved → Type 0
 HasRoom (Asked a) r = (r.row ≡ Some (first_row a)) × (0 < r.spare)
 HasRoom _ r = Unit {0}
 
--- rows that stood for a legal history stand for it with the event that was allowed after it
+-- rows that stood for a legal history stand for it with the event that was allowed after it, where at most four attempts of an
+-- occurrence may be open
 abbrev pub Applies : Event → List OccRow → List OccRow → Type 0
 Applies e old new =
-    (width m : ℕ) (H : List Event) → IsLegalWithin width m H → IsAllowedWithin width m H e.kind → StandsFor old H → StandsFor new (e ∷ H)
+    (width m : ℕ) (H : List Event) → width ≤ 4 → IsLegalWithin width m H → IsAllowedWithin width m H e.kind → StandsFor old H → StandsFor new (e ∷ H)
 
 -- what is found is the row of the occurrence of this number in each legal history that the rows stand for
 abbrev pub Looks : ℕ → Option OccRow → List OccRow → Type 0

@@ -1,8 +1,10 @@
 //! The table of occurrences: what the history says of each, kept event by event, so that a question costs one look-up.
 #![tactic(auto)]
 
+mod pending;
 mod rows;
 mod table;
 
+pub use pending::{Pending, Pendings};
 pub use rows::OccRow;
 pub use table::OccTable;

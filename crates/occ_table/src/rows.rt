@@ -1,9 +1,12 @@
 //! The row of an occurrence, and what each event makes of it.
 
-ghost use Rattle.std.specs.Prelude.{◌≡◌, IfOk, None, true};
-ghost use Rattle.occ_table.specs.Steps.{after_answer, after_cancel, first_row, row_after};
+ghost use Rattle.std.specs.Prelude.{◌≡◌, IfOk, None, false, map, true};
+ghost use Rattle.occ_table.specs.Steps.{after_answer, after_cancel, after_settled, begun, failed_by, first_row, is_trouble_among, row_after};
 
-use lcm_events::{CancelMode, Changes, EventKind, GrantTry, Listed, OpState, Operation, Role};
+use crate::pending::Pendings;
+use lcm_events::{
+    CancelMode, Changes, EventKind, GrantTry, Listed, OpState, Operation, Outcome, Role, Tag,
+};
 use std::alloc::{AllocError, Global};
 
 /// Tries in trouble after which the grant exchange is given up.
@@ -28,6 +31,10 @@ pub struct OccRow {
     pub ended: bool,
     /// The mode of the cancel in force.
     pub cancel: Option<CancelMode>,
+    /// Whether there is trouble since the last move.
+    pub trouble: bool,
+    /// The open attempts in the order in which they began.
+    pub pending: Pendings,
 }
 
 impl OccRow {
@@ -36,6 +43,7 @@ impl OccRow {
         ensures { IfOk result (λ r. r ≡ first_row operation.now) }
     {
         let changes = operation.changes.as_slice().to_vec(alloc)?;
+        let pending = Pendings::new(alloc)?;
         Ok(OccRow {
             instance: operation.instance,
             role: operation.role,
@@ -44,6 +52,8 @@ impl OccRow {
             tries: 0,
             ended: false,
             cancel: None,
+            trouble: false,
+            pending,
         })
     }
 
@@ -81,10 +91,46 @@ impl OccRow {
 
     /// The occurrence moved to a state.
     fn move_to(&mut self, to: OpState)
-        ensures { self.new ≡ record self.old { state = to; cancel = None } }
+        ensures { self.new ≡ record self.old { state = to; cancel = None; trouble = false } }
     {
         self.state = to;
         self.cancel = None;
+        self.trouble = false;
+    }
+
+    /// Whether it is trouble that an open attempt ends so.
+    fn is_trouble(&self, tag: &Tag, outcome: &Outcome) -> bool
+        ensures { result ≡ is_trouble_among tag.now outcome.now self.now.pending }
+    {
+        match outcome {
+            Outcome::Done(_) => false,
+            Outcome::Broken(_) => true,
+            Outcome::Aborted => true,
+            Outcome::NotBegun => self.pending.has_failed(tag),
+        }
+    }
+
+    /// An attempt ended.
+    fn settle(&mut self, tag: &Tag, outcome: &Outcome)
+        ensures { self.new ≡ after_settled tag.now outcome.now self.old }
+    {
+        let trouble = self.is_trouble(tag, outcome);
+        self.trouble = trouble || self.trouble;
+        self.pending.end(tag);
+    }
+
+    /// An attempt begins.
+    fn begin(&mut self, tag: Tag)
+        ensures { self.new ≡ record self.old { pending = begun tag self.old.pending } }
+    {
+        self.pending.begin(tag);
+    }
+
+    /// The call that was to begin an attempt has failed.
+    fn fail_call(&mut self, tag: &Tag)
+        ensures { self.new ≡ record self.old { pending = map (failed_by tag.now) self.old.pending } }
+    {
+        self.pending.fail(tag);
     }
 
     /// An event about the occurrence came.
@@ -95,6 +141,9 @@ impl OccRow {
             EventKind::GrantTried { answer, .. } => self.record_answer(answer),
             EventKind::Granted { .. } => self.end_exchange(),
             EventKind::Denied { .. } => self.end_exchange(),
+            EventKind::Intent(tag) => self.begin(*tag),
+            EventKind::CallFailed(tag) => self.fail_call(tag),
+            EventKind::Settled { tag, outcome } => self.settle(tag, outcome),
             EventKind::Moved { to, .. } => self.move_to(*to),
             EventKind::CancelAsked { mode, .. } => self.record_cancel(*mode),
             _ => {}

@@ -8,19 +8,19 @@ use Rattle.occ_table.proofs.RowsSteps.{applied, followed}
 use Rattle.occ_table.proofs.table.OccTable.apply.Goals as goal
 
 pub returns-in-Asked-clause-applies : goal.returns-in-Asked-clause-applies
-returns-in-Asked-clause-applies c = λ width m H legal allowed stands.
+returns-in-Asked-clause-applies c = λ width m H wide legal allowed stands.
     let a : Operation = c.in-Asked.field-0 in
     let old : List OccRow = c.args.self.now.rows in
     let kept : Reserved = c.args.self.now.reserved in
     let room : (kept.row ≡ Some (first_row a)) × (0 < kept.spare) = subst (λ (k : EventKind). HasRoom k kept) c.in-Asked.is c.requires.room in
     c.put_row.ensures (first_row a) room.0
-    ∙ (ap (λ (k : EventKind). rows_after k old) (sym c.in-Asked.is) ∙ applied width m H c.args.e.now old legal allowed stands)
+    ∙ (ap (λ (k : EventKind). rows_after k old) (sym c.in-Asked.is) ∙ applied width m H c.args.e.now old wide legal allowed stands)
 
 pub returns-in_default : goal.returns-in_default
 returns-in_default c = record {
-  applies = λ width m H legal allowed stands.
+  applies = λ width m H wide legal allowed stands.
       followed width m H c.args.e.now.kind c.args.self.now.rows c.follow_about.new.self.rows c.in_default.not-Asked c.follow_about.ensures.numbered
       c.follow_about.ensures.none legal allowed
-      ∙ applied width m H c.args.e.now c.args.self.now.rows legal allowed stands;
+      ∙ applied width m H c.args.e.now c.args.self.now.rows wide legal allowed stands;
   stays = λ none. c.follow_about.ensures.reserved;
 }
