@@ -1,4 +1,4 @@
-//! Which change of a plan is made next.
+//! Which change of a plan is made next, and the work that makes it.
 #![tactic(auto)]
 
 ghost use Rattle.std.specs.Prelude.{◌≡◌, ◌<◌, IfSome, List, length, slice_get, ℕ};
@@ -8,6 +8,9 @@ ghost use Rattle.lcm_model.specs.Next.{with_net};
 ghost use Rattle.lcm_model.specs.Operations.{changes as changes_of};
 ghost use Rattle.lcm_model.specs.Words.{first};
 
+mod acts;
+
+pub use acts::{act_in, forward_act};
 use lcm_events::Change;
 
 /// The least number, from 0, of a change whose net is 0, which is the one to make next. `nets` has the net of each change
