@@ -1,14 +1,18 @@
-//! Which change of a plan is undone next.
+//! Which change of a plan is undone next, and the work that undoes it.
 #![tactic(auto)]
 
-ghost use Rattle.std.specs.Prelude.{◌≡◌, ◌<◌, IfSome, List, length, slice_get, ℕ};
+ghost use Rattle.std.specs.Prelude.{◌≡◌, ◌<◌, IfOk, IfSome, List, length, slice_get, ℕ};
+ghost use Rattle.change_planner.specs.Acts.{act};
 ghost use Rattle.lcm_events.specs.declared.events.Event.{Event};
 ghost use Rattle.lcm_model.specs.Attempts.{net};
 ghost use Rattle.lcm_model.specs.Next.{with_net};
-ghost use Rattle.lcm_model.specs.Operations.{changes as changes_of};
+ghost use Rattle.lcm_model.specs.Operations.{changes as changes_of, undo};
 ghost use Rattle.lcm_model.specs.Words.{last};
 
-use lcm_events::Change;
+use change_planner::act_in;
+use lcm_events::{Act, Change, Holding, Place, Vnfd, Way};
+use lcm_model::verb_in_way;
+use std::alloc::{AllocError, Global};
 
 /// The greatest number, from 0, of a change whose net is 1, which is the one to undo next. `nets` has the net of each
 /// change at the change's number; a change past its end has no net and is passed over.
@@ -24,4 +28,22 @@ pub fn next_undo(changes: &[Change], nets: &[u8]) -> Option<usize>
 {
     let count = changes.len().min(nets.len());
     nets[..count].iter().rposition(|net| *net == 1)
+}
+
+/// The work that undoes a change of the descriptor's plan, over what stands, at the place where its resource last stood:
+/// what was made is removed, what was removed is made again, what was started is stopped, what was stopped is started.
+///
+/// Source: SOL 003 5.4.15 (Rollback operation task); SOL 001, Vdu.Compute, Vdu.VirtualBlockStorage, VduCp,
+/// VnfVirtualLink; that a removal is undone by making anew is an own rule.
+pub fn undo_act(
+    alloc: Global,
+    vnfd: &Vnfd,
+    holding: &Holding,
+    change: &Change,
+    place: &Place,
+) -> Result<Act, AllocError>
+    ensures { IfOk result (λ work. work ≡ act vnfd.now holding.now (undo change.now.verb) change.now.def place.now) }
+{
+    let verb = verb_in_way(Way::Undo, change.verb);
+    act_in(alloc, vnfd, holding, verb, &change.def, place)
 }
