@@ -9,17 +9,17 @@ use Rattle.lcm_model.specs.Next.{is_at_net, with_net}
 use Rattle.lcm_model.specs.Operations.{changes}
 use Rattle.lcm_model.specs.Words.{first}
 
-by_test : {P : Type 0} → (b : Bool) → (b ≡ true → P) → (b ≡ false → P) → P
+pub by_test : {P : Type 0} → (b : Bool) → (b ≡ true → P) → (b ≡ false → P) → P
 by_test true f g = f refl
 by_test false f g = g refl
 
-passes-here : (p : ℕ → Bool) (i k : ℕ) → i ≡ k → p k ≡ true → p i ≡ true
+pub passes-here : (p : ℕ → Bool) (i k : ℕ) → i ≡ k → p k ≡ true → p i ≡ true
 passes-here p i k same e = rw same e
 
-some-here : (i k : ℕ) → i ≡ k → Some i ≡ Some k
+pub some-here : (i k : ℕ) → i ≡ k → Some i ≡ Some k
 some-here i k same = ap Some same
 
-is-below : (i k : ℕ) → i ≤ k → (i == k) ≡ false → i < k
+pub is-below : (i k : ℕ) → i ≤ k → (i == k) ≡ false → i < k
 is-below i k h other = grind arith
 
 -- where none passes, none is first
@@ -41,18 +41,18 @@ first-is : (p : ℕ → Bool) (n : ℕ) (r : Option ℕ) → IfSome r (λ k. k <
 first-is p n None known passes least none = sym (none-passes p 0 n (λ j h l. none refl j (omega (arith, l))))
 first-is p n (Some k) known passes least none = sym (least-passes p 0 n k (omega arith) (omega (arith, known)) passes (λ j h l. least j l))
 
-at-net : (H : List Event) (o n c : ℕ) → net H o c ≡ n → is_at_net H o n c ≡ true
+pub at-net : (H : List Event) (o n c : ℕ) → net H o c ≡ n → is_at_net H o n c ≡ true
 unfolding is_at_net
 at-net H o n c e = eq-eqb (net H o c) n e
 
-not-at-net : (H : List Event) (o n c : ℕ) → ¬ (net H o c ≡ n) → is_at_net H o n c ≡ false
+pub not-at-net : (H : List Event) (o n c : ℕ) → ¬ (net H o c ≡ n) → is_at_net H o n c ≡ false
 unfolding is_at_net
 not-at-net H o n c apart = by_test (net H o c == n) (λ same. absurd (apart (eqb-true (net H o c) n same))) (λ other. other)
 
-has-net : (ns : List ℕ) (k m n : ℕ) → slice_get ns k ≡ Some m → slice_get ns k ≡ Some n → m ≡ n
+pub has-net : (ns : List ℕ) (k m n : ℕ) → slice_get ns k ≡ Some m → slice_get ns k ≡ Some n → m ≡ n
 has-net ns k m n e f = cc
 
-has-no-net : (ns : List ℕ) (k m n : ℕ) → slice_get ns k ≡ Some m → ¬ (slice_get ns k ≡ Some n) → ¬ (m ≡ n)
+pub has-no-net : (ns : List ℕ) (k m n : ℕ) → slice_get ns k ≡ Some m → ¬ (slice_get ns k ≡ Some n) → ¬ (m ≡ n)
 has-no-net ns k m n e apart same = apart (rw (sym same) e)
 
 -- where these are the changes of an occurrence and their nets, the answer is that of the history

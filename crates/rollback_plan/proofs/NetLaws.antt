@@ -1,5 +1,5 @@
 -- The greatest number that passes a test is the last of those that pass.
-use Rattle.std.proofs.Common.{◌≡◌, ◌+◌, ◌<◌, ◌≤◌, ◌==◌, ℕ, zero, suc, arith, List, Bool, true, false, Option, None, Some, refl, ap, sym, eqb-true, eq-eqb, length, slice_get}
+use Rattle.std.proofs.Common.{◌≡◌, ◌+◌, ◌<◌, ◌≤◌, ◌==◌, ℕ, zero, suc, arith, List, Bool, true, false, Option, None, Some, refl, sym, eqb-true, length, slice_get}
 use Rattle.std.specs.List.{range_with_len}
 use Rattle.std.specs.Prelude.{IfSome, filter}
 use Rattle.lcm_events.specs.declared.changes.Change.{Change}
@@ -8,19 +8,7 @@ use Rattle.lcm_model.specs.Attempts.{net}
 use Rattle.lcm_model.specs.Next.{is_at_net, with_net}
 use Rattle.lcm_model.specs.Operations.{changes}
 use Rattle.lcm_model.specs.Words.{last}
-
-by_test : {P : Type 0} → (b : Bool) → (b ≡ true → P) → (b ≡ false → P) → P
-by_test true f g = f refl
-by_test false f g = g refl
-
-passes-here : (p : ℕ → Bool) (i k : ℕ) → i ≡ k → p k ≡ true → p i ≡ true
-passes-here p i k same e = rw same e
-
-some-here : (i k : ℕ) → i ≡ k → Some i ≡ Some k
-some-here i k same = ap Some same
-
-is-below : (i k : ℕ) → i ≤ k → (i == k) ≡ false → i < k
-is-below i k h other = grind arith
+use Rattle.change_planner.proofs.NetLaws.{at-net, by_test, has-net, has-no-net, is-below, not-at-net, passes-here, some-here}
 
 -- where none passes, none is last
 none-passes : (p : ℕ → Bool) (i n : ℕ) → ((j : ℕ) → i ≤ j → j < i + n → p j ≡ false) → last (filter p (range_with_len i n)) ≡ None
@@ -43,20 +31,6 @@ last-is : (p : ℕ → Bool) (n : ℕ) (r : Option ℕ) → IfSome r (λ k. k < 
     → (r ≡ None → (k : ℕ) → k < n → p k ≡ false) → r ≡ last (filter p (range_with_len 0 n))
 last-is p n None known passes greatest none = sym (none-passes p 0 n (λ j h l. none refl j (omega (arith, l))))
 last-is p n (Some k) known passes greatest none = sym (greatest-passes p 0 n k (omega arith) (omega (arith, known)) passes (λ j h l. greatest j h (omega (arith, l))))
-
-at-net : (H : List Event) (o n c : ℕ) → net H o c ≡ n → is_at_net H o n c ≡ true
-unfolding is_at_net
-at-net H o n c e = eq-eqb (net H o c) n e
-
-not-at-net : (H : List Event) (o n c : ℕ) → ¬ (net H o c ≡ n) → is_at_net H o n c ≡ false
-unfolding is_at_net
-not-at-net H o n c apart = by_test (net H o c == n) (λ same. absurd (apart (eqb-true (net H o c) n same))) (λ other. other)
-
-has-net : (ns : List ℕ) (k m n : ℕ) → slice_get ns k ≡ Some m → slice_get ns k ≡ Some n → m ≡ n
-has-net ns k m n e f = cc
-
-has-no-net : (ns : List ℕ) (k m n : ℕ) → slice_get ns k ≡ Some m → ¬ (slice_get ns k ≡ Some n) → ¬ (m ≡ n)
-has-no-net ns k m n e apart same = apart (rw (sym same) e)
 
 -- where these are the changes of an occurrence and their nets, the answer is that of the history
 pub last-in_history : (xs : List Change) (ns : List ℕ) (r : Option ℕ)
