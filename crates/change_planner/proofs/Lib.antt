@@ -1,1 +1,2 @@
+mod ActLaws
 pub mod NetLaws

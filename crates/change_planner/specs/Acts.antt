@@ -1,6 +1,6 @@
 -- The work that is asked of the infrastructure for a change, over what stands (SOL 001, Vdu.Compute, Vdu.VirtualBlockStorage, VduCp, VnfVirtualLink).
 use Rattle.std.specs.Option.{option_map_or}
-use Rattle.std.specs.Prelude.{List, Option, [], filter_map, find, option_map, slice_get, unwrap_or, ℕ}
+use Rattle.std.specs.Prelude.{List, Option, Some, [], filter_map, find, map, option_map, slice_get, unwrap_or, ℕ, ◌≡◌}
 use Rattle.lcm_events.specs.Same.{same_def}
 use Rattle.lcm_events.specs.declared.acts.Act.{Act}
 use Rattle.lcm_events.specs.declared.changes.Def.{Def}
@@ -9,10 +9,14 @@ use Rattle.lcm_events.specs.declared.changes.DefKind.TheVariants.{Compute, Link,
 use Rattle.lcm_events.specs.declared.changes.Verb.{Verb}
 use Rattle.lcm_events.specs.declared.changes.Verb.TheVariants.{Create}
 use Rattle.lcm_events.specs.declared.descriptor.Vnfd.{Vnfd}
+use Rattle.lcm_events.specs.declared.events.Event.{Event}
 use Rattle.lcm_events.specs.declared.held.Held.{Held}
 use Rattle.lcm_events.specs.declared.held.Holding.{Holding}
 use Rattle.lcm_events.specs.declared.places.Place.{Place}
+use Rattle.lcm_model.specs.Holding.{place, resource}
+use Rattle.lcm_model.specs.Instances.{holding}
 use Rattle.lcm_model.specs.Needs.{needs}
+use Rattle.lcm_model.specs.Words.{IsIn}
 
 -- the item of the holding with this definition (SOL 003 5.5.3)
 abbrev pub held : Holding → Def → Option Held
@@ -68,3 +72,14 @@ act d h verb x at = record {
 abbrev pub place_of : Holding → Verb → Def → Place → Place
 place_of h Create x at = at
 place_of h _ x at = option_map_or (λ y. y.place) (held h x) at
+
+-- the work is done on the resources that the history has, and where the definition last stood, where it isn't a making (own rule)
+pub record IsOnWhatStands (d : Vnfd) (H : List Event) (i : ℕ) (verb : Verb) (x : Def) : Type 0 where
+  pub on : done_on d (holding d H i) verb x ≡ filter_map (resource H i) (needs d verb x)
+  pub place : (at : Place) → ¬ (verb ≡ Create) → Some (place_of (holding d H i) verb x at) ≡ place H i x
+
+-- after every history, over the instance's holding: where all that work needs is held, it is on what stands (own rule)
+abbrev pub ActsAreOnWhatStands : Type 0
+ActsAreOnWhatStands =
+    (d : Vnfd) (H : List Event) (i : ℕ) (verb : Verb) (x : Def) → ((y : Def) → IsIn y (needs d verb x) → IsIn y (map (λ z. z.def) (holding d H i).items))
+    → IsOnWhatStands d H i verb x

@@ -3,7 +3,7 @@
 ghost use Rattle.std.specs.Prelude.{◌≡◌, ◌++◌, ◌∷◌, IfOk, OnOk, [], filter_map, map, option_copied, slice_get, unwrap_or};
 ghost use Rattle.std.specs.Option.{option_map_or};
 ghost use Rattle.lcm_model.specs.Vnfcs.{def_of, link_def, storages_of};
-ghost use Rattle.change_planner.specs.Acts.{act, done_on, held, place_of, processors, resource_held, size, template_name, vdu_name};
+ghost use Rattle.change_planner.specs.Acts.{ActsAreOnWhatStands, act, done_on, held, place_of, processors, resource_held, size, template_name, vdu_name};
 ghost use Rattle.lcm_model.specs.Needs.{port_links};
 
 use lcm_events::{Act, Change, Def, DefKind, Held, Holding, Names, Place, Verb, Vnfd};
@@ -290,3 +290,11 @@ pub fn forward_act(
     let place = place_in(holding, change.verb, &change.def, place);
     act_in(alloc, vnfd, holding, change.verb, &change.def, &place)
 }
+
+/// Over the holding of an instance after a history, an act whose needs are held names the resources that the history has,
+/// and the place where the history last had the definition, where it isn't a making.
+///
+/// Source: own rule.
+pub fn acts_are_on_what_stands()
+    ensures { ActsAreOnWhatStands }
+{}

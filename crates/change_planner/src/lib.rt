@@ -10,7 +10,7 @@ ghost use Rattle.lcm_model.specs.Words.{first};
 
 mod acts;
 
-pub use acts::{act_in, forward_act};
+pub use acts::{act_in, acts_are_on_what_stands, forward_act};
 use lcm_events::Change;
 
 /// The least number, from 0, of a change whose net is 0, which is the one to make next. `nets` has the net of each change
