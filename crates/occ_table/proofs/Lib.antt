@@ -1,4 +1,5 @@
 pub mod Updates
 pub mod PendingSteps
+pub mod ChangeSteps
 pub mod RowSteps
 pub mod RowsSteps

@@ -1,4 +1,5 @@
 -- What each event makes of a row.
+use Rattle.occ_table.proofs.ChangeSteps.{attempts-begun, attempts-begun_other, nets-ended, nets-ended_other}
 use Rattle.std.proofs.Common.{◌≡◌, ◌<◌, ◌+◌, ◌||◌, ◌==◌, ◌∙◌, ℕ, List, ◌∷◌, suc, Bool, true, false, cond, Option, None, Some, refl, ap, subst, min, arith, nat_le, eqb-true, leb-false, ◌≤◌}
 use Rattle.std.specs.List.{list_any}
 use Rattle.std.specs.Option.{option_map_or}
@@ -38,8 +39,16 @@ by_other false r s e = refl
 with_pending : (r : OccRow) (p q : List Pending) → p ≡ q → record r { pending = p } ≡ record r { pending = q }
 with_pending r p q e = ap (λ (x : List Pending). record r { pending = x }) e
 
-with_settled : (r : OccRow) (a b : Bool) (p q : List Pending) → a ≡ b → p ≡ q → record r { trouble = a; pending = p } ≡ record r { trouble = b; pending = q }
-with_settled r a b p q e f = ap (λ (x : Bool). record r { trouble = x; pending = p }) e ∙ ap (λ (x : List Pending). record r { trouble = b; pending = x }) f
+with_begun : (r : OccRow) (p q : List Pending) (m n : List ℕ) → p ≡ q → m ≡ n → record r { pending = p; attempts = m } ≡ record r { pending = q; attempts = n }
+with_begun r p q m n e f =
+    ap (λ (x : List Pending). record r { pending = x; attempts = m }) e ∙ ap (λ (x : List ℕ). record r { pending = q; attempts = x }) f
+
+with_settled : (r : OccRow) (a b : Bool) (p q : List Pending) (m n : List ℕ) → a ≡ b → p ≡ q → m ≡ n
+    → record r { trouble = a; pending = p; nets = m } ≡ record r { trouble = b; pending = q; nets = n }
+with_settled r a b p q m n e f g =
+    ap (λ (x : Bool). record r { trouble = x; pending = p; nets = m }) e
+    ∙ (ap (λ (x : List Pending). record r { trouble = b; pending = x; nets = m }) f
+    ∙ ap (λ (x : List ℕ). record r { trouble = b; pending = q; nets = x }) g)
 
 graceful : (f c : Bool) → cond f (Some Forceful) (Some Graceful) ≡ after_cancel Graceful (cond f (Some Forceful) (cond c (Some Graceful) None))
 graceful true c = refl
@@ -98,14 +107,14 @@ row-step width m H time (CancelAsked n mode) a wide legal allowed = by_test (n =
     (λ same. cancelled H time n mode a same ∙ by_own (n == a.occ) _ _ same)
     (λ other. rw other refl)
 row-step width m H time (Intent t) a wide legal allowed = by_test (t.occ == a.occ)
-    (λ same. with_pending (row H a) _ _ (pendings-begun width m H time t a.occ same wide legal allowed) ∙ by_own (t.occ == a.occ) _ _ same)
-    (λ other. with_pending (row H a) _ _ (pendings-begun_other width m H time t a.occ other legal allowed) ∙ by_other (t.occ == a.occ) _ _ other)
+    (λ same. with_begun (row H a) _ _ _ _ (pendings-begun width m H time t a.occ same wide legal allowed) (attempts-begun width m H time t a same allowed) ∙ by_own (t.occ == a.occ) _ _ same)
+    (λ other. with_begun (row H a) _ _ _ _ (pendings-begun_other width m H time t a.occ other legal allowed) (attempts-begun_other H time t a other) ∙ by_other (t.occ == a.occ) _ _ other)
 row-step width m H time (CallFailed t) a wide legal allowed = by_test (t.occ == a.occ)
     (λ same. with_pending (row H a) _ _ (pendings-failed H time t a.occ) ∙ by_own (t.occ == a.occ) _ _ same)
     (λ other. with_pending (row H a) _ _ (pendings-failed_other H time t a.occ other) ∙ by_other (t.occ == a.occ) _ _ other)
 row-step width m H time (Settled t outcome) a wide legal allowed = by_test (t.occ == a.occ)
-    (λ same. with_settled (row H a) _ _ _ _ (trouble-settled H t outcome a.occ allowed same) (pendings-ended H time t outcome a.occ)
+    (λ same. with_settled (row H a) _ _ _ _ _ _ (trouble-settled H t outcome a.occ allowed same) (pendings-ended H time t outcome a.occ) (nets-ended width m H time t outcome a same legal allowed)
     ∙ by_own (t.occ == a.occ) _ _ same)
-    (λ other. with_settled (row H a) _ _ _ _ (trouble-settled_other H t outcome a.occ other) (pendings-ended_other H time t outcome a.occ other)
+    (λ other. with_settled (row H a) _ _ _ _ _ _ (trouble-settled_other H t outcome a.occ other) (pendings-ended_other H time t outcome a.occ other) (nets-ended_other H time t outcome a other)
     ∙ by_other (t.occ == a.occ) _ _ other)
 row-step width m H time _ a wide legal allowed = refl

@@ -1,4 +1,5 @@
 -- What each event makes of the rows, and what is found among them.
+use Rattle.occ_table.proofs.ChangeSteps.{attempts-none, nets-none}
 use Rattle.lcm_model.specs.Attempts.{is_unsettled}
 use Rattle.std.proofs.Common.{◌≡◌, ◌≢◌, ◌≤◌, ◌+◌, ◌-◌, ◌++◌, ◌==◌, ◌∙◌, ℕ, List, [], ◌∷◌, zero, suc, Bool, true, false, cond, Option, None, Some, is_some, refl, ap, sym, subst, length, map, reverse, find, arith, eqb-true, false-eqb, slice_get, option_map}
 use Rattle.std.specs.Option.{option_map_or}
@@ -56,13 +57,17 @@ none_there : {A : Type 0} → (x : Option A) → (is_some x ≡ true → ⊥) �
 none_there None f = refl
 none_there (Some x) f = absurd (f refl)
 
+with_lists : (r : OccRow) {n k : List ℕ} → r.nets ≡ n → r.attempts ≡ k → r ≡ record r { nets = n; attempts = k }
+with_lists r {n} {k} e f = ap (λ (x : List ℕ). record r { nets = x }) e ∙ ap (λ (x : List ℕ). record r { nets = n; attempts = x }) f
+
 -- the row of an operation when it is asked for
 first : (width m : ℕ) (H : List Event) (a : Operation) → IsLegalWithin width m H → IsAllowedWithin width m H (Asked a) → row H a ≡ first_row a
 first width m H a legal allowed =
     let none : operation H a.occ ≡ None = none_there (operation H a.occ) (λ there.
     let high = ((found_exactly width m H legal a.occ).0 there).1 in omega (arith, high, allowed.number)) in
     let still = unasked_untouched width m H legal a.occ none in
-    rw (still.moves, still.answers, still.cancels, still.no_trouble, still.none_open) refl
+    with_lists (row H a) (nets-none H a still) (attempts-none H a still)
+    ∙ rw (still.moves, still.answers, still.cancels, still.no_trouble, still.none_open) refl
 
 -- what an event makes of the rows
 pub rows-step : (width m : ℕ) (H : List Event) (time : ℕ) (k : EventKind) → width ≤ 4 → IsLegalWithin width m H → IsAllowedWithin width m H k

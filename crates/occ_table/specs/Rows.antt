@@ -1,11 +1,12 @@
 -- What the rows of the table are: a function of the history (SOL 003 5.5.2.13, VnfLcmOpOcc).
-use Rattle.std.specs.Prelude.{List, None, Option, Some, if◌then◌else◌, map, option_map, reverse, ℕ, ◌≡◌}
+use Rattle.std.specs.List.{range_with_len}
+use Rattle.std.specs.Prelude.{List, None, Option, Some, if◌then◌else◌, map, option_map, reverse, ℕ, ◌≡◌, length}
 use Rattle.lcm_events.specs.declared.events.Event.{Event}
 use Rattle.lcm_events.specs.declared.events.Operation.{Operation}
 use Rattle.lcm_events.specs.declared.states.CancelMode.{CancelMode}
 use Rattle.lcm_events.specs.declared.states.CancelMode.TheVariants.{Forceful, Graceful}
 use Rattle.lcm_events.specs.declared.attempts.Tag.{Tag}
-use Rattle.lcm_model.specs.Attempts.{open_of}
+use Rattle.lcm_model.specs.Attempts.{open_of, attempts, net}
 use Rattle.lcm_model.specs.Grants.{has_ended, troubled_tries}
 use Rattle.lcm_model.specs.Moves.{state}
 use Rattle.lcm_model.specs.Operations.{operation, operations}
@@ -25,12 +26,18 @@ pending_of H t = record { tag = t; failed = has_call_failed H t }
 abbrev pub pendings : List Event → ℕ → List Pending
 pendings H o = reverse (map (pending_of H) (open_of H o))
 
+-- the numbers of the changes of an operation (own rule)
+abbrev pub numbers : Operation → List ℕ
+numbers a = range_with_len 0 (length a.changes)
+
 -- what the history says of an operation that was asked for (SOL 003 5.5.2.13)
 abbrev pub row : List Event → Operation → OccRow
 row H a = record {
   instance = a.instance;
   role = a.role;
   changes = a.changes;
+  nets = map (net H a.occ) (numbers a);
+  attempts = map (λ c. length (attempts H a.occ c)) (numbers a);
   state = state H a.occ;
   tries = troubled_tries H a.occ;
   ended = has_ended H a.occ;

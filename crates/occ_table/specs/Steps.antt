@@ -1,6 +1,7 @@
 -- What an event makes of a row, and of the rows. The proofs alone use these words: the table's contracts speak of rows.
+use Rattle.lcm_model.specs.Work.{net_after}
 use Rattle.std.specs.List.{list_any}
-use Rattle.std.specs.Prelude.{List, None, Option, Some, [], false, min, nat_le, true, ℕ, ◌||◌, ◌+◌, ◌-◌, ◌++◌, ◌∷◌, zero, suc, Bool, filter, map, if◌then◌else◌, length, nat_lt, not, ◌&&◌}
+use Rattle.std.specs.Prelude.{List, None, Option, Some, [], false, min, nat_le, true, ℕ, ◌||◌, ◌+◌, ◌-◌, ◌++◌, ◌∷◌, zero, suc, Bool, filter, map, if◌then◌else◌, length, nat_lt, not, ◌&&◌, replicate, slice_set}
 use Rattle.lcm_events.specs.declared.events.EventKind.{EventKind}
 use Rattle.lcm_events.specs.declared.events.EventKind.TheVariants.{Asked, CallFailed, CancelAsked, Denied, GrantTried, Granted, Intent, Moved, Settled}
 use Rattle.lcm_events.specs.declared.events.GrantTry.{GrantTry}
@@ -23,6 +24,8 @@ first_row a = record {
   instance = a.instance;
   role = a.role;
   changes = a.changes;
+  nets = replicate (length a.changes) 0;
+  attempts = replicate (length a.changes) 0;
   state = Starting;
   tries = 0;
   ended = false;
@@ -65,9 +68,19 @@ is_trouble_among t (Broken code) ps = true
 is_trouble_among t Aborted ps = true
 is_trouble_among t NotBegun ps = has_failed_among t ps
 
+-- the row after an attempt has begun
+abbrev pub after_begun : Tag → OccRow → OccRow
+after_begun t r = record r { pending = begun t r.pending; attempts = slice_set r.attempts t.change t.attempt }
+
+-- the nets after an attempt has ended so
+abbrev pub nets_after : Tag → Outcome → List ℕ → List ℕ
+nets_after t (Done name) ns = slice_set ns t.change (net_after t.way)
+nets_after t _ ns = ns
+
 -- the row after an attempt has ended
 abbrev pub after_settled : Tag → Outcome → OccRow → OccRow
-after_settled t outcome r = record r { trouble = is_trouble_among t outcome r.pending || r.trouble; pending = ended t r.pending }
+after_settled t outcome r =
+    record r { trouble = is_trouble_among t outcome r.pending || r.trouble; pending = ended t r.pending; nets = nets_after t outcome r.nets }
 
 -- the row after an event that is about its occurrence
 abbrev pub row_after : EventKind → OccRow → OccRow
@@ -76,7 +89,7 @@ row_after (Granted o grant places spots) r = record r { ended = true }
 row_after (Denied o) r = record r { ended = true }
 row_after (Moved o to) r = record r { state = to; cancel = None; trouble = false }
 row_after (CancelAsked o mode) r = record r { cancel = after_cancel mode r.cancel }
-row_after (Intent t) r = record r { pending = begun t r.pending }
+row_after (Intent t) r = after_begun t r
 row_after (CallFailed t) r = record r { pending = map (failed_by t) r.pending }
 row_after (Settled t outcome) r = after_settled t outcome r
 row_after _ r = r

@@ -1,10 +1,12 @@
 //! The table of occurrences: what the history says of each, kept event by event, so that a question costs one look-up.
 #![tactic(auto)]
 
+mod cells;
 mod pending;
 mod rows;
 mod table;
 
+pub use cells::Cells;
 pub use pending::{Pending, Pendings};
 pub use rows::OccRow;
 pub use table::OccTable;

@@ -1,11 +1,12 @@
 //! The row of an occurrence, and what each event makes of it.
 
 ghost use Rattle.std.specs.Prelude.{◌≡◌, IfOk, None, false, map, true};
-ghost use Rattle.occ_table.specs.Steps.{after_answer, after_cancel, after_settled, begun, failed_by, first_row, is_trouble_among, row_after};
+ghost use Rattle.occ_table.specs.Steps.{after_answer, after_cancel, after_settled, begun, failed_by, first_row, is_trouble_among, row_after, after_begun, nets_after};
 
+use crate::cells::Cells;
 use crate::pending::Pendings;
 use lcm_events::{
-    CancelMode, Changes, EventKind, GrantTry, Listed, OpState, Operation, Outcome, Role, Tag,
+    CancelMode, Changes, EventKind, GrantTry, Listed, OpState, Operation, Outcome, Role, Tag, Way,
 };
 use std::alloc::{AllocError, Global};
 
@@ -23,6 +24,10 @@ pub struct OccRow {
     pub role: Role,
     /// The changes in the order of the plan.
     pub changes: Changes,
+    /// The net of each change: 1 where it is made, 0 where it isn't or was undone.
+    pub nets: Cells<u8>,
+    /// How many attempts there were at each change.
+    pub attempts: Cells<u32>,
     /// The state that it is in.
     pub state: OpState,
     /// How many tries of its grant exchange were in trouble.
@@ -43,11 +48,15 @@ impl OccRow {
         ensures { IfOk result (λ r. r ≡ first_row operation.now) }
     {
         let changes = operation.changes.as_slice().to_vec(alloc)?;
+        let nets = vec![in alloc; 0u8; changes.len()]?;
+        let attempts = vec![in alloc; 0u32; changes.len()]?;
         let pending = Pendings::new(alloc)?;
         Ok(OccRow {
             instance: operation.instance,
             role: operation.role,
             changes: Listed::of(changes),
+            nets: Cells::of(nets),
+            attempts: Cells::of(attempts),
             state: OpState::Starting,
             tries: 0,
             ended: false,
@@ -110,6 +119,19 @@ impl OccRow {
         }
     }
 
+    /// A change was made or undone.
+    fn set_net(&mut self, tag: &Tag, outcome: &Outcome)
+        ensures { self.new ≡ record self.old { nets = nets_after tag.now outcome.now self.old.nets } }
+    {
+        if let Outcome::Done(_) = outcome {
+            let net = match tag.way {
+                Way::Forward => 1,
+                Way::Undo => 0,
+            };
+            self.nets.set(tag.change as usize, net);
+        }
+    }
+
     /// An attempt ended.
     fn settle(&mut self, tag: &Tag, outcome: &Outcome)
         ensures { self.new ≡ after_settled tag.now outcome.now self.old }
@@ -117,13 +139,15 @@ impl OccRow {
         let trouble = self.is_trouble(tag, outcome);
         self.trouble = trouble || self.trouble;
         self.pending.end(tag);
+        self.set_net(tag, outcome);
     }
 
     /// An attempt begins.
     fn begin(&mut self, tag: Tag)
-        ensures { self.new ≡ record self.old { pending = begun tag self.old.pending } }
+        ensures { self.new ≡ after_begun tag self.old }
     {
         self.pending.begin(tag);
+        self.attempts.set(tag.change as usize, tag.attempt);
     }
 
     /// The call that was to begin an attempt has failed.

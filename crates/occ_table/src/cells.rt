@@ -1,0 +1,51 @@
+//! A list with an entry for each change, whose entries are set in place.
+
+ghost use Rattle.std.specs.Prelude.{◌≡◌, slice_set};
+
+use std::marker::Model;
+
+/// A list of a fixed length, whose entries are set in place.
+#[derive(Debug, Drop)]
+pub struct Cells<T> {
+    entries: Vec<T>,
+}
+
+impl<T> Model for Cells<T> {
+    ghost use Rattle.std.specs.Prelude.{List};
+
+    ghost Value = { List T };
+
+    ghost view = { λ c. c.entries.items };
+}
+
+/// Sets the entry at this place. Nothing happens beyond the end.
+fn set_in<T: Copy>(entries: &mut Vec<T>, at: usize, value: T)
+    ensures { entries.new.items ≡ slice_set entries.old.items at value }
+{
+    if at < entries.len() {
+        entries[at] = value;
+    }
+}
+
+impl<T: Copy> Cells<T> {
+    /// The list of these entries, which isn't copied.
+    pub fn of(entries: Vec<T>) -> Self
+        ensures { result ≡ entries.items }
+    {
+        Cells { entries }
+    }
+
+    /// The entries in order.
+    pub fn as_slice(&self) -> &[T]
+        ensures { result.now ≡ self.now }
+    {
+        self.entries.as_slice()
+    }
+
+    /// Sets the entry at this place. Nothing happens beyond the end.
+    pub fn set(&mut self, at: usize, value: T)
+        ensures { self.new ≡ slice_set self.old at value }
+    {
+        set_in(&mut self.entries, at, value);
+    }
+}
