@@ -1,4 +1,5 @@
 -- What each event makes of the rows, and what is found among them.
+use Rattle.lcm_events.specs.declared.places.Place.{Place}
 use Rattle.occ_table.proofs.ChangeSteps.{attempts-none, nets-none}
 use Rattle.lcm_model.specs.Attempts.{is_unsettled}
 use Rattle.std.proofs.Common.{◌≡◌, ◌≢◌, ◌≤◌, ◌+◌, ◌-◌, ◌++◌, ◌==◌, ◌∙◌, ℕ, List, [], ◌∷◌, zero, suc, Bool, true, false, cond, Option, None, Some, is_some, refl, ap, sym, subst, length, map, reverse, find, arith, eqb-true, false-eqb, slice_get, option_map}
@@ -16,7 +17,7 @@ use Rattle.lcm_laws.proofs.Histories.{event}
 use Rattle.lcm_laws.proofs.Lists.{by_test}
 use Rattle.lcm_laws.proofs.NumberLaws.{IsCounted, found_exactly, operations_counted}
 use Rattle.occ_table.specs.Rows.{StandsFor, occurrence, row, rows}
-use Rattle.occ_table.specs.Steps.{first_row, row_after, rows_about, rows_after, update}
+use Rattle.occ_table.specs.Steps.{first_row, row_after, rows_about, rows_after, update, is_granting}
 use Rattle.occ_table.specs.declared.rows.OccRow.{OccRow}
 use Rattle.occ_table.proofs.RowSteps.{row-step}
 use Rattle.occ_table.proofs.Updates.{update-front, update-last, update-past, get-front, get-last}
@@ -67,7 +68,7 @@ first width m H a legal allowed =
     let high = ((found_exactly width m H legal a.occ).0 there).1 in omega (arith, high, allowed.number)) in
     let still = unasked_untouched width m H legal a.occ none in
     with_lists (row H a) (nets-none H a still) (attempts-none H a still)
-    ∙ rw (still.moves, still.answers, still.cancels, still.no_trouble, still.none_open) refl
+    ∙ rw (still.moves, still.answers, still.cancels, still.no_trouble, still.none_open, still.grant) refl
 
 -- what an event makes of the rows
 pub rows-step : (width m : ℕ) (H : List Event) (time : ℕ) (k : EventKind) → width ≤ 4 → IsLegalWithin width m H → IsAllowedWithin width m H k
@@ -141,3 +142,9 @@ followed width m H _ old new not g h legal allowed = h refl
 pub one_up : (n : ℕ) → (n ≡ 0 → ⊥) → 1 ≤ n
 one_up zero f = absurd (f refl)
 one_up (suc n) f = omega arith
+
+-- an event that is no grant
+pub not_granting : (k : EventKind) → ((n : ℕ) (name : List ℕ) (places : List Place) (spots : List ℕ) → k ≡ Granted n name places spots → ⊥)
+    → is_granting k ≡ false
+not_granting (Granted n name places spots) f = absurd (f n name places spots refl)
+not_granting _ f = refl

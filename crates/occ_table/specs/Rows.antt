@@ -1,4 +1,5 @@
 -- What the rows of the table are: a function of the history (SOL 003 5.5.2.13, VnfLcmOpOcc).
+use Rattle.occ_table.specs.declared.rows.Grant.{Grant}
 use Rattle.std.specs.List.{range_with_len}
 use Rattle.std.specs.Prelude.{List, None, Option, Some, if◌then◌else◌, map, option_map, reverse, ℕ, ◌≡◌, length}
 use Rattle.lcm_events.specs.declared.events.Event.{Event}
@@ -7,7 +8,7 @@ use Rattle.lcm_events.specs.declared.states.CancelMode.{CancelMode}
 use Rattle.lcm_events.specs.declared.states.CancelMode.TheVariants.{Forceful, Graceful}
 use Rattle.lcm_events.specs.declared.attempts.Tag.{Tag}
 use Rattle.lcm_model.specs.Attempts.{open_of, attempts, net}
-use Rattle.lcm_model.specs.Grants.{has_ended, troubled_tries}
+use Rattle.lcm_model.specs.Grants.{has_ended, troubled_tries, GivenGrant, grant}
 use Rattle.lcm_model.specs.Moves.{state}
 use Rattle.lcm_model.specs.Operations.{operation, operations}
 use Rattle.lcm_model.specs.Since.{has_call_failed, has_trouble, is_cancelled, is_forced}
@@ -25,6 +26,10 @@ pending_of H t = record { tag = t; failed = has_call_failed H t }
 -- the open attempts of an occurrence in the order in which they began (own rule)
 abbrev pub pendings : List Event → ℕ → List Pending
 pendings H o = reverse (map (pending_of H) (open_of H o))
+
+-- what a grant gave, as a row keeps it (SOL 003 9.5.2.3)
+abbrev pub kept_grant : GivenGrant → Grant
+kept_grant g = record { name = g.name; places = g.places; spots = g.spots }
 
 -- the numbers of the changes of an operation (own rule)
 abbrev pub numbers : Operation → List ℕ
@@ -44,6 +49,7 @@ row H a = record {
   cancel = cancel H a.occ;
   trouble = has_trouble H a.occ;
   pending = pendings H a.occ;
+  grant = option_map kept_grant (grant H a.occ);
 }
 
 -- the rows of all operations, in the order in which they were asked for (SOL 003 5.4.12)

@@ -1,4 +1,5 @@
 -- What an event makes of a row, and of the rows. The proofs alone use these words: the table's contracts speak of rows.
+use Rattle.occ_table.specs.declared.rows.Grant.{Grant}
 use Rattle.lcm_model.specs.Work.{net_after}
 use Rattle.std.specs.List.{list_any}
 use Rattle.std.specs.Prelude.{List, None, Option, Some, [], false, min, nat_le, true, ℕ, ◌||◌, ◌+◌, ◌-◌, ◌++◌, ◌∷◌, zero, suc, Bool, filter, map, if◌then◌else◌, length, nat_lt, not, ◌&&◌, replicate, slice_set}
@@ -32,6 +33,7 @@ first_row a = record {
   cancel = None;
   trouble = false;
   pending = [];
+  grant = None;
 }
 
 -- the row after a try that led to no grant
@@ -82,10 +84,19 @@ abbrev pub after_settled : Tag → Outcome → OccRow → OccRow
 after_settled t outcome r =
     record r { trouble = is_trouble_among t outcome r.pending || r.trouble; pending = ended t r.pending; nets = nets_after t outcome r.nets }
 
+-- the row after its occurrence was granted
+abbrev pub after_granted : Grant → OccRow → OccRow
+after_granted g r = record r { ended = true; grant = Some g }
+
+-- the event is a grant
+abbrev pub is_granting : EventKind → Bool
+is_granting (Granted o name places spots) = true
+is_granting _ = false
+
 -- the row after an event that is about its occurrence
 abbrev pub row_after : EventKind → OccRow → OccRow
 row_after (GrantTried o answer) r = after_answer answer r
-row_after (Granted o grant places spots) r = record r { ended = true }
+row_after (Granted o name places spots) r = after_granted (record { name = name; places = places; spots = spots }) r
 row_after (Denied o) r = record r { ended = true }
 row_after (Moved o to) r = record r { state = to; cancel = None; trouble = false }
 row_after (CancelAsked o mode) r = record r { cancel = after_cancel mode r.cancel }

@@ -1,17 +1,19 @@
 -- What the table shows, what is reserved beside its rows, and what its calls do (own rule).
+use Rattle.occ_table.specs.declared.rows.Grant.{Grant}
 use Rattle.std.specs.Prelude.{Bool, List, Option, Some, false, true, ℕ, ◌∷◌, ◌<◌, ◌≡◌, ◌≤◌}
 use Rattle.lcm_events.specs.declared.events.Event.{Event}
 use Rattle.lcm_events.specs.declared.events.EventKind.{EventKind}
-use Rattle.lcm_events.specs.declared.events.EventKind.TheVariants.{Asked}
+use Rattle.lcm_events.specs.declared.events.EventKind.TheVariants.{Asked, Granted}
 use Rattle.lcm_model.specs.Allowed.{IsAllowedWithin, IsLegalWithin}
 use Rattle.lcm_model.specs.Operations.{occurrences_made}
 use Rattle.occ_table.specs.Rows.{StandsFor, occurrence}
 use Rattle.occ_table.specs.Steps.{first_row}
 use Rattle.occ_table.specs.declared.rows.OccRow.{OccRow}
 
--- what is reserved: a row that is to come, and room for how many more
+-- what is reserved: a row that is to come, a grant that is to come, and room for how many more rows
 pub record Reserved : Type 0 where
   pub row : Option OccRow
+  pub grant : Option Grant
   pub spare : ℕ
 
 -- what a contract sees of the table: its rows, and what is reserved
@@ -22,11 +24,13 @@ pub record Occurrences : Type 0 where
 -- the event needs a reservation
 abbrev pub needs_room : EventKind → Bool
 needs_room (Asked a) = true
+needs_room (Granted o name places spots) = true
 needs_room _ = false
 
 -- what the event needs is reserved
 abbrev pub HasRoom : EventKind → Reserved → Type 0
 HasRoom (Asked a) r = (r.row ≡ Some (first_row a)) × (0 < r.spare)
+HasRoom (Granted o name places spots) r = r.grant ≡ Some (record { name = name; places = places; spots = spots })
 HasRoom _ r = Unit {0}
 
 -- rows that stood for a legal history stand for it with the event that was allowed after it, where at most four attempts of an

@@ -8,5 +8,5 @@ mod table;
 
 pub use cells::Cells;
 pub use pending::{Pending, Pendings};
-pub use rows::OccRow;
+pub use rows::{Grant, OccRow};
 pub use table::OccTable;

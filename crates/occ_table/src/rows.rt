@@ -1,17 +1,52 @@
 //! The row of an occurrence, and what each event makes of it.
 
 ghost use Rattle.std.specs.Prelude.{◌≡◌, IfOk, None, false, map, true};
-ghost use Rattle.occ_table.specs.Steps.{after_answer, after_cancel, after_settled, begun, failed_by, first_row, is_trouble_among, row_after, after_begun, nets_after};
+ghost use Rattle.occ_table.specs.Steps.{after_answer, after_cancel, after_settled, begun, failed_by, first_row, is_trouble_among, row_after, after_begun, nets_after, after_granted, is_granting};
 
 use crate::cells::Cells;
 use crate::pending::Pendings;
 use lcm_events::{
-    CancelMode, Changes, EventKind, GrantTry, Listed, OpState, Operation, Outcome, Role, Tag, Way,
+    CancelMode, Changes, EventKind, GrantTry, Listed, OpState, Operation, Outcome, Place, Role,
+    Tag, Way,
 };
 use std::alloc::{AllocError, Global};
+use vnfm_base::Name;
 
 /// Tries in trouble after which the grant exchange is given up.
 const TRIES: u8 = 5;
+
+/// What a grant gave to an occurrence.
+///
+/// Source: SOL 003 9.5.2.3 (Grant).
+#[derive(Debug, Drop)]
+pub struct Grant {
+    /// Its identifier.
+    pub name: Name,
+    /// The distinct places, in the order of the first change that has them.
+    pub places: Listed<Place>,
+    /// The number of the place of each change.
+    pub spots: Listed<u8>,
+}
+
+impl Grant {
+    /// The grant with this identifier, these places and these numbers of places, which are copied.
+    pub fn copied(
+        alloc: Global,
+        name: Name,
+        places: &Listed<Place>,
+        spots: &Listed<u8>,
+    ) -> Result<Grant, AllocError>
+        ensures { IfOk result (λ g. g ≡ record { name = name; places = places.now; spots = spots.now }) }
+    {
+        let places = places.as_slice().to_vec(alloc)?;
+        let spots = spots.as_slice().to_vec(alloc)?;
+        Ok(Grant {
+            name,
+            places: Listed::of(places),
+            spots: Listed::of(spots),
+        })
+    }
+}
 
 /// What the history says of an occurrence.
 ///
@@ -40,6 +75,8 @@ pub struct OccRow {
     pub trouble: bool,
     /// The open attempts in the order in which they began.
     pub pending: Pendings,
+    /// What was granted.
+    pub grant: Option<Grant>,
 }
 
 impl OccRow {
@@ -63,6 +100,7 @@ impl OccRow {
             cancel: None,
             trouble: false,
             pending,
+            grant: None,
         })
     }
 
@@ -157,13 +195,21 @@ impl OccRow {
         self.pending.fail(tag);
     }
 
-    /// An event about the occurrence came.
+    /// The occurrence was granted.
+    pub fn take_grant(&mut self, grant: Grant)
+        ensures { self.new ≡ after_granted grant self.old }
+    {
+        self.ended = true;
+        self.grant = Some(grant);
+    }
+
+    /// An event about the occurrence came, which is no grant.
     pub fn follow(&mut self, kind: &EventKind)
+        requires { is_granting kind.now ≡ false }
         ensures { self.new ≡ row_after kind.now self.old }
     {
         match kind {
             EventKind::GrantTried { answer, .. } => self.record_answer(answer),
-            EventKind::Granted { .. } => self.end_exchange(),
             EventKind::Denied { .. } => self.end_exchange(),
             EventKind::Intent(tag) => self.begin(*tag),
             EventKind::CallFailed(tag) => self.fail_call(tag),

@@ -1,15 +1,17 @@
 //! The table: a row for each occurrence, in the order of their numbers.
 
+ghost use Rattle.occ_table.specs.declared.rows.Grant.{Grant};
 ghost use Rattle.std.specs.Prelude.{◌≡◌, ◌-◌, ◌<◌, ◌≤◌, ℕ, List, [], ◌++◌, ◌∷◌, Some, None, false, length, option_copied, slice_get, OnOk, vec_len, vec_capacity};
 ghost use Rattle.lcm_model.specs.Operations.{occurrence_of};
-ghost use Rattle.occ_table.specs.Steps.{first_row, row_after, rows_about, update};
+ghost use Rattle.occ_table.specs.Steps.{first_row, row_after, rows_about, update, after_granted, is_granting};
 ghost use Rattle.occ_table.specs.Rows.{StandsFor};
 ghost use Rattle.occ_table.specs.Table.{Applies, Counts, HasRoom, Looks, Occurrences, Reserved, needs_room};
 
-use crate::rows::OccRow;
-use lcm_events::{Event, EventKind, Operation};
+use crate::rows::{Grant, OccRow};
+use lcm_events::{Event, EventKind, Listed, Operation, Place};
 use std::alloc::{AllocError, Global};
 use std::marker::Model;
+use vnfm_base::Name;
 
 /// The table of occurrences.
 ///
@@ -18,6 +20,7 @@ use std::marker::Model;
 pub struct OccTable {
     rows: Vec<OccRow>,
     row: Option<OccRow>,
+    grant: Option<Grant>,
 }
 
 impl Model for OccTable {
@@ -26,7 +29,7 @@ impl Model for OccTable {
 
     ghost Value = { Occurrences };
 
-    ghost view = { λ t. record { rows = t.rows.items; reserved = record { row = t.row; spare = vec_capacity t.rows - vec_len t.rows } } };
+    ghost view = { λ t. record { rows = t.rows.items; reserved = record { row = t.row; grant = t.grant; spare = vec_capacity t.rows - vec_len t.rows } } };
 }
 
 /// The number of the occurrence that an event is about.
@@ -48,6 +51,7 @@ fn occurrence_in(kind: &EventKind) -> Option<u64>
 
 /// Lets the row at this place follow an event. Nothing happens beyond the end.
 fn follow_at(rows: &mut Vec<OccRow>, at: usize, kind: &EventKind)
+    requires { is_granting kind.now ≡ false }
     ensures items { rows.new.items ≡ update (row_after kind.now) at rows.old.items }
     ensures length { vec_len rows.new ≡ vec_len rows.old }
     ensures capacity { vec_capacity rows.new ≡ vec_capacity rows.old }
@@ -58,15 +62,27 @@ fn follow_at(rows: &mut Vec<OccRow>, at: usize, kind: &EventKind)
     }
 }
 
+/// Gives the row at this place its grant. Nothing happens beyond the end.
+fn grant_at(rows: &mut Vec<OccRow>, at: usize, grant: Grant)
+    ensures { rows.new.items ≡ update (after_granted grant) at rows.old.items }
+{
+    match rows.get_mut(at) {
+        Some(row) => row.take_grant(grant),
+        None => {}
+    }
+}
+
 impl OccTable {
     /// A table with no row, which takes no memory until something is reserved.
     pub fn new(alloc: Global) -> Self
         ensures rows { result.rows ≡ [] }
         ensures row { result.reserved.row ≡ None }
+        ensures grant { result.reserved.grant ≡ None }
     {
         OccTable {
             rows: Vec::new(alloc),
             row: None,
+            grant: None,
         }
     }
 
@@ -82,6 +98,22 @@ impl OccTable {
         Ok(())
     }
 
+    /// Reserves a grant.
+    fn reserve_grant(
+        &mut self,
+        alloc: Global,
+        name: Name,
+        places: &Listed<Place>,
+        spots: &Listed<u8>,
+    ) -> Result<(), AllocError>
+        ensures kept { self.new.rows ≡ self.old.rows }
+        ensures grant { OnOk result (self.new.reserved.grant ≡ Some (record { name = name; places = places.now; spots = spots.now })) }
+    {
+        let grant = Grant::copied(alloc, name, places, spots)?;
+        self.grant = Some(grant);
+        Ok(())
+    }
+
     /// Reserves the memory that an event needs, so that `apply` takes none. The rows stay, also after an error.
     ///
     /// Source: own rule.
@@ -92,7 +124,24 @@ impl OccTable {
     {
         match &e.kind {
             EventKind::Asked(operation) => self.reserve_row(alloc, operation),
+            EventKind::Granted {
+                grant,
+                places,
+                spots,
+                ..
+            } => self.reserve_grant(alloc, *grant, places, spots),
             _ => Ok(()),
+        }
+    }
+
+    /// Puts the reserved grant into the row of its occurrence.
+    fn put_grant(&mut self, occ: u64)
+        ensures { (g : Grant) → self.old.reserved.grant ≡ Some g → 1 ≤ occ → self.new.rows ≡ update (after_granted g) (occ - 1) self.old.rows }
+    {
+        if let Some(grant) = self.grant.take() {
+            if occ > 0 {
+                grant_at(&mut self.rows, (occ - 1) as usize, grant);
+            }
         }
     }
 
@@ -108,7 +157,8 @@ impl OccTable {
 
     /// Lets the row of an occurrence follow an event.
     fn follow(&mut self, occ: u64, kind: &EventKind)
-        requires { 1 ≤ occ }
+        requires low { 1 ≤ occ }
+        requires no_grant { is_granting kind.now ≡ false }
         ensures rows { self.new.rows ≡ update (row_after kind.now) (occ - 1) self.old.rows }
         ensures reserved { self.new.reserved ≡ self.old.reserved }
     {
@@ -117,6 +167,7 @@ impl OccTable {
 
     /// Lets the row of the occurrence that an event is about follow it.
     fn follow_about(&mut self, kind: &EventKind)
+        requires { is_granting kind.now ≡ false }
         ensures numbered { (n : ℕ) → occurrence_of kind.now ≡ Some n → 1 ≤ n → self.new.rows ≡ rows_about (occurrence_of kind.now) kind.now self.old.rows }
         ensures none { occurrence_of kind.now ≡ None → self.new.rows ≡ self.old.rows }
         ensures reserved { self.new.reserved ≡ self.old.reserved }
@@ -141,6 +192,7 @@ impl OccTable {
     {
         match &e.kind {
             EventKind::Asked(_) => self.put_row(),
+            EventKind::Granted { occ, .. } => self.put_grant(*occ),
             kind => self.follow_about(kind),
         }
     }

@@ -1,10 +1,12 @@
-use Rattle.std.proofs.Common.{◌∙◌, ap, sym, subst, ◌≡◌, ◌<◌, List, Some}
+use Rattle.occ_table.specs.declared.rows.Grant.{Grant}
+use Rattle.lcm_model.specs.Operations.{occurrence_of}
+use Rattle.std.proofs.Common.{◌∙◌, ap, sym, subst, ◌≡◌, ◌<◌, List, Some, ℕ, true, false}
 use Rattle.lcm_events.specs.declared.events.EventKind.{EventKind}
 use Rattle.lcm_events.specs.declared.events.Operation.{Operation}
 use Rattle.occ_table.specs.declared.rows.OccRow.{OccRow}
 use Rattle.occ_table.specs.Steps.{first_row, rows_after}
-use Rattle.occ_table.specs.Table.{HasRoom, Reserved}
-use Rattle.occ_table.proofs.RowsSteps.{applied, followed}
+use Rattle.occ_table.specs.Table.{HasRoom, Reserved, needs_room}
+use Rattle.occ_table.proofs.RowsSteps.{applied, followed, low, not_granting}
 use Rattle.occ_table.proofs.table.OccTable.apply.Goals as goal
 
 pub returns-in-Asked-clause-applies : goal.returns-in-Asked-clause-applies
@@ -24,3 +26,19 @@ returns-in_default c = record {
       ∙ applied width m H c.args.e.now c.args.self.now.rows wide legal allowed stands;
   stays = λ none. c.follow_about.ensures.reserved;
 }
+
+pub returns-in-Granted : goal.returns-in-Granted
+returns-in-Granted c = record {
+  applies = λ width m H wide legal allowed stands.
+      let n : ℕ = c.in-Granted.occ in
+      let g : Grant = record { name = c.in-Granted.grant; places = c.in-Granted.places; spots = c.in-Granted.spots } in
+      let old : List OccRow = c.args.self.now.rows in
+      let kept : Reserved = c.args.self.now.reserved in
+      let room : kept.grant ≡ Some g = subst (λ (k : EventKind). HasRoom k kept) c.in-Granted.is c.requires.room in
+      c.put_grant.ensures g room (low width m H c.args.e.now.kind n (ap occurrence_of c.in-Granted.is) legal allowed)
+      ∙ (ap (λ (k : EventKind). rows_after k old) (sym c.in-Granted.is) ∙ applied width m H c.args.e.now old wide legal allowed stands);
+  stays = λ none. let yes : true ≡ false = sym (ap needs_room c.in-Granted.is) ∙ none in cc;
+}
+
+pub follow_about-requires : goal.follow_about-requires
+follow_about-requires c = not_granting c.args.e.now.kind c.in_default.not-Granted
