@@ -1,0 +1,5 @@
+//! Acts that were written out by hand, and that each call succeeds with ample memory.
+#![tactic(auto)]
+
+#[cfg(test)]
+mod acts;
