@@ -231,9 +231,9 @@ fn processors_in(vnfd: &Vnfd, def: &Def) -> u32
 /// The work with this verb on a definition of the descriptor, at a place.
 ///
 /// Its template is the descriptor's name of the link, storage or port, and the VDU's for a compute; its VDU is empty for a
-/// link; its size is in bytes. What it is done on are the resources that are held: for a compute that is made its storages
-/// by item, for a port that is made its compute and then its link, for all other work that isn't a making the definition's
-/// own. A name that the descriptor lacks is empty, and a resource that isn't held is left out.
+/// link; its size is in bytes. What it is done on are resources that are held: for a compute that is made its storages by
+/// item, for a port that is made its compute and then its link, for what is removed, started or stopped its own. A name
+/// that the descriptor lacks is empty, and a resource that isn't held is left out.
 ///
 /// Source: SOL 001, Vdu.Compute, Vdu.VirtualBlockStorage, VduCp, VnfVirtualLink; SOL 003 9.5.2.3 (Grant).
 pub fn act_in(
