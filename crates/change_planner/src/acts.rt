@@ -233,7 +233,7 @@ fn processors_in(vnfd: &Vnfd, def: &Def) -> u32
 /// Its template is the descriptor's name of the link, storage or port, and the VDU's for a compute; its VDU is empty for a
 /// link; its size is in bytes. What it is done on are resources that are held: for a compute that is made its storages by
 /// item, for a port that is made its compute and then its link, for what is removed, started or stopped its own. A name
-/// that the descriptor lacks is empty, and a resource that isn't held is left out.
+/// that the descriptor lacks is empty, and a resource that isn't held is left out. `AllocError` is want of memory.
 ///
 /// Source: SOL 001, Vdu.Compute, Vdu.VirtualBlockStorage, VduCp, VnfVirtualLink; SOL 003 9.5.2.3 (Grant).
 pub fn act_in(
@@ -275,7 +275,7 @@ fn place_in(holding: &Holding, verb: Verb, def: &Def, place: &Place) -> Place
 }
 
 /// The work that makes a change of the descriptor's plan, over what stands: a creation at this place, which is the
-/// grant's for it, all else where its resource is held.
+/// grant's for it, all else where its resource is held. `AllocError` is want of memory.
 ///
 /// Source: SOL 001, Vdu.Compute, Vdu.VirtualBlockStorage, VduCp, VnfVirtualLink; SOL 003 9.5.2.3 (Grant).
 pub fn forward_act(

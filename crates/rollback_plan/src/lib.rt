@@ -32,6 +32,7 @@ pub fn next_undo(changes: &[Change], nets: &[u8]) -> Option<usize>
 
 /// The work that undoes a change of the descriptor's plan, over what stands, at the place where its resource last stood:
 /// what was made is removed, what was removed is made again, what was started is stopped, what was stopped is started.
+/// `AllocError` is want of memory.
 ///
 /// Source: SOL 003 5.4.15 (Rollback operation task); SOL 001, Vdu.Compute, Vdu.VirtualBlockStorage, VduCp,
 /// VnfVirtualLink; that a removal is undone by making anew is an own rule.
