@@ -3,3 +3,4 @@ pub mod PendingSteps
 pub mod ChangeSteps
 pub mod RowSteps
 pub mod RowsSteps
+pub mod JudgeLaws

@@ -42,7 +42,7 @@ filter_reverse p (x ∷ xs) =
       nil_right [] = refl
       nil_right (y ∷ ys) = ap (λ zs. y ∷ zs) (nil_right ys)
 
-any_reverse : {A : Type 0} → (p : A → Bool) (xs : List A) → list_any p (reverse xs) ≡ list_any p xs
+pub any_reverse : {A : Type 0} → (p : A → Bool) (xs : List A) → list_any p (reverse xs) ≡ list_any p xs
 any_reverse p [] = refl
 any_reverse p (x ∷ xs) =
     ap (list_any p) (reverse-cons x xs)
@@ -142,7 +142,7 @@ any_failed H t (x ∷ ts) = by_test (same_tag t x)
     (λ other. rw other (any_failed H t ts))
 
 -- an open attempt is among those of its row, with what is known of its call
-known_failed : (H : List Event) (t : Tag) (o : ℕ) → is_open H t ≡ true → (t.occ == o) ≡ true → has_call_failed H t ≡ has_failed_among t (pendings H o)
+pub known_failed : (H : List Event) (t : Tag) (o : ℕ) → is_open H t ≡ true → (t.occ == o) ≡ true → has_call_failed H t ≡ has_failed_among t (pendings H o)
 known_failed H t o opened own =
     let among : list_any (same_tag t) (open_of H o) ≡ true =
     any_filter (same_tag t) (is_of_occurrence o) (open_tags H)

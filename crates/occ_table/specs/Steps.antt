@@ -59,6 +59,10 @@ failed_by t p = record p { failed = same_tag p.tag t || p.failed }
 abbrev pub ended : Tag → List Pending → List Pending
 ended t ps = filter (λ p. not (same_tag p.tag t)) ps
 
+-- the tag is open among these
+abbrev pub has_open_among : Tag → List Pending → Bool
+has_open_among t ps = list_any (λ p. same_tag t p.tag) ps
+
 -- the tag is open among these, and its call has failed
 abbrev pub has_failed_among : Tag → List Pending → Bool
 has_failed_among t ps = list_any (λ p. same_tag t p.tag && p.failed) ps

@@ -1,6 +1,6 @@
 -- What the table shows, what is reserved beside its rows, and what its calls do (own rule).
 use Rattle.occ_table.specs.declared.rows.Grant.{Grant}
-use Rattle.std.specs.Prelude.{Bool, List, Option, Some, false, true, ℕ, ◌∷◌, ◌<◌, ◌≡◌, ◌≤◌}
+use Rattle.std.specs.Prelude.{Bool, List, Option, Some, false, true, ℕ, ◌∷◌, ◌<◌, ◌≡◌, ◌≤◌, IsTrue, ◌↔◌}
 use Rattle.lcm_events.specs.declared.events.Event.{Event}
 use Rattle.lcm_events.specs.declared.events.EventKind.{EventKind}
 use Rattle.lcm_events.specs.declared.events.EventKind.TheVariants.{Asked, Granted}
@@ -46,3 +46,7 @@ Looks n x rs = (width m : ℕ) (H : List Event) → IsLegalWithin width m H → 
 -- this is how many operations each history asks for that the rows stand for
 abbrev pub Counts : ℕ → List OccRow → Type 0
 Counts n rs = (H : List Event) → StandsFor rs H → n ≡ occurrences_made H
+
+-- the answer is whether the event is allowed after each legal history that the rows stand for
+abbrev pub Judges : EventKind → Bool → List OccRow → Type 0
+Judges k answer rs = (width m : ℕ) (H : List Event) → IsLegalWithin width m H → StandsFor rs H → IsTrue answer ↔ IsAllowedWithin width m H k

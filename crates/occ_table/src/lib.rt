@@ -2,6 +2,7 @@
 #![tactic(auto)]
 
 mod cells;
+mod judges;
 mod pending;
 mod rows;
 mod table;

@@ -3,7 +3,7 @@
 ghost use Rattle.std.specs.Prelude.{◌≡◌, ◌<◌, ◌&&◌, [], filter, length, map, not, vec_capacity, vec_len, IfOk};
 ghost use Rattle.std.specs.List.{list_any};
 ghost use Rattle.lcm_events.specs.Same.{same_tag};
-ghost use Rattle.occ_table.specs.Steps.{begun, ended, failed_by, has_failed_among};
+ghost use Rattle.occ_table.specs.Steps.{begun, ended, failed_by, has_failed_among, has_open_among};
 
 use lcm_events::Tag;
 use std::alloc::{AllocError, Global};
@@ -75,6 +75,18 @@ fn is_failed_in(entries: &[Pending], tag: &Tag) -> bool
     false
 }
 
+/// Whether this attempt is among these.
+fn is_open_in(entries: &[Pending], tag: &Tag) -> bool
+    ensures { result ≡ has_open_among tag.now entries.now }
+{
+    for pending in entries {
+        if *tag == pending.tag {
+            return true;
+        }
+    }
+    false
+}
+
 /// Takes the attempt out that ended.
 fn end_in(entries: &mut Vec<Pending>, tag: &Tag)
     ensures items { entries.new.items ≡ ended tag.now entries.old.items }
@@ -122,10 +134,26 @@ impl Pendings {
         end_in(&mut self.entries, tag);
     }
 
+    /// Whether the attempt is open.
+    pub fn has_open(&self, tag: &Tag) -> bool
+        ensures { result ≡ has_open_among tag.now self.now }
+    {
+        is_open_in(self.entries.as_slice(), tag)
+    }
+
     /// Whether the attempt is open, and the call that was to begin it has failed.
     pub fn has_failed(&self, tag: &Tag) -> bool
         ensures { result ≡ has_failed_among tag.now self.now }
     {
         is_failed_in(self.entries.as_slice(), tag)
+    }
+
+    /// Whether the attempt is open, and the call that was to begin it has not failed.
+    pub fn is_waiting(&self, tag: &Tag) -> bool
+        ensures { result ≡ (has_open_among tag.now self.now && not (has_failed_among tag.now self.now)) }
+    {
+        let open = self.has_open(tag);
+        let failed = self.has_failed(tag);
+        open && !failed
     }
 }
