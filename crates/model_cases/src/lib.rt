@@ -1,4 +1,4 @@
-//! Plans, places and judgements that were written out by hand, and that each call succeeds with ample memory.
+//! Plans, places, judgements and rows that were written out by hand, and that each call succeeds with ample memory.
 #![tactic(auto)]
 
 #[cfg(test)]
@@ -8,4 +8,4 @@ mod placing;
 #[cfg(test)]
 mod plans;
 #[cfg(test)]
-mod rules;
+mod tables;

@@ -1,5 +1,7 @@
-//! Acts that were written out by hand, and that each call succeeds with ample memory.
+//! Acts and rules that were written out by hand, and that each call succeeds with ample memory.
 #![tactic(auto)]
 
 #[cfg(test)]
 mod acts;
+#[cfg(test)]
+mod rules;
