@@ -24,7 +24,7 @@ from_map : {A B : Type 0} → (f : A → B) (x : Option A) (y : B) → option_ma
 from_map f None y e = cc
 from_map f (Some a) y e = (a, refl, cc)
 
-none_of : {A B : Type 0} → (f : A → B) (x : Option A) → option_map f x ≡ None → x ≡ None
+pub none_of : {A B : Type 0} → (f : A → B) (x : Option A) → option_map f x ≡ None → x ≡ None
 none_of f None e = refl
 none_of f (Some a) e = cc
 
@@ -50,7 +50,7 @@ open_pending H t =
     ∙ (any_map (λ (p : Pending). same_tag t p.tag) (pending_of H) (open_of H t.occ) ∙ open_own H t)
 
 -- the row of an occurrence that is found
-found_row : (H : List Event) (n : ℕ) (r : OccRow) → occurrence H n ≡ Some r → (a : Operation) × (operation H n ≡ Some a) × (a.occ ≡ n) × (row H a ≡ r)
+pub found_row : (H : List Event) (n : ℕ) (r : OccRow) → occurrence H n ≡ Some r → (a : Operation) × (operation H n ≡ Some a) × (a.occ ≡ n) × (row H a ≡ r)
 found_row H n r e =
     let mine = from_map (row H) (operation H n) r e in
     (mine.0, mine.1, found_number (λ x. x.occ) (operations H) n mine.0 mine.1, mine.2)

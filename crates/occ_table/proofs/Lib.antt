@@ -4,3 +4,4 @@ pub mod ChangeSteps
 pub mod RowSteps
 pub mod RowsSteps
 pub mod JudgeLaws
+pub mod MoveLaws

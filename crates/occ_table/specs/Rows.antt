@@ -1,4 +1,5 @@
 -- What the rows of the table are: a function of the history (SOL 003 5.5.2.13, VnfLcmOpOcc).
+use Rattle.lcm_model.specs.Refusals.{is_terminate}
 use Rattle.occ_table.specs.declared.rows.Grant.{Grant}
 use Rattle.std.specs.List.{range_with_len}
 use Rattle.std.specs.Prelude.{List, None, Option, Some, if◌then◌else◌, map, option_map, reverse, ℕ, ◌≡◌, length}
@@ -40,6 +41,7 @@ abbrev pub row : List Event → Operation → OccRow
 row H a = record {
   instance = a.instance;
   role = a.role;
+  terminates = is_terminate a.ask;
   changes = a.changes;
   nets = map (net H a.occ) (numbers a);
   attempts = map (λ c. length (attempts H a.occ c)) (numbers a);

@@ -1,8 +1,10 @@
 -- What an event makes of a row, and of the rows. The proofs alone use these words: the table's contracts speak of rows.
+use Rattle.lcm_events.specs.declared.states.OpState.{OpState}
+use Rattle.lcm_model.specs.Refusals.{is_terminate}
 use Rattle.occ_table.specs.declared.rows.Grant.{Grant}
 use Rattle.lcm_model.specs.Work.{net_after}
-use Rattle.std.specs.List.{list_any}
-use Rattle.std.specs.Prelude.{List, None, Option, Some, [], false, min, nat_le, true, ℕ, ◌||◌, ◌+◌, ◌-◌, ◌++◌, ◌∷◌, zero, suc, Bool, filter, map, if◌then◌else◌, length, nat_lt, not, ◌&&◌, replicate, slice_set}
+use Rattle.std.specs.List.{list_any, list_all}
+use Rattle.std.specs.Prelude.{List, None, Option, Some, [], false, min, nat_le, true, ℕ, ◌||◌, ◌+◌, ◌-◌, ◌++◌, ◌∷◌, zero, suc, Bool, filter, map, if◌then◌else◌, length, nat_lt, not, ◌&&◌, replicate, slice_set, is_none, is_some, ◌==◌}
 use Rattle.lcm_events.specs.declared.events.EventKind.{EventKind}
 use Rattle.lcm_events.specs.declared.events.EventKind.TheVariants.{Asked, CallFailed, CancelAsked, Denied, GrantTried, Granted, Intent, Moved, Settled}
 use Rattle.lcm_events.specs.declared.events.GrantTry.{GrantTry}
@@ -10,7 +12,7 @@ use Rattle.lcm_events.specs.declared.events.GrantTry.TheVariants.{Later, NotCove
 use Rattle.lcm_events.specs.declared.events.Operation.{Operation}
 use Rattle.lcm_events.specs.declared.states.CancelMode.{CancelMode}
 use Rattle.lcm_events.specs.declared.states.CancelMode.TheVariants.{Forceful, Graceful}
-use Rattle.lcm_events.specs.declared.states.OpState.TheVariants.{Starting}
+use Rattle.lcm_events.specs.declared.states.OpState.TheVariants.{Starting, Completed, Failed, FailedTemp, Processing, RolledBack, RollingBack}
 use Rattle.lcm_model.specs.Operations.{occurrence_of}
 use Rattle.lcm_events.specs.Same.{same_tag}
 use Rattle.lcm_events.specs.declared.attempts.Outcome.{Outcome}
@@ -24,6 +26,7 @@ abbrev pub first_row : Operation → OccRow
 first_row a = record {
   instance = a.instance;
   role = a.role;
+  terminates = is_terminate a.ask;
   changes = a.changes;
   nets = replicate (length a.changes) 0;
   attempts = replicate (length a.changes) 0;
@@ -124,3 +127,42 @@ rows_about (Some o) k rs = update (row_after k) (o - 1) rs
 abbrev pub rows_after : EventKind → List OccRow → List OccRow
 rows_after (Asked a) rs = rs ++ first_row a ∷ []
 rows_after k rs = rows_about (occurrence_of k) k rs
+
+-- no attempt is open
+abbrev pub none_open : List Pending → Bool
+none_open [] = true
+none_open (p ∷ ps) = false
+
+-- the mode in force is FORCEFUL
+abbrev pub is_forced_mode : Option CancelMode → Bool
+is_forced_mode (Some Forceful) = true
+is_forced_mode _ = false
+
+-- the work of the row's occurrence is at rest
+abbrev pub is_quiet_row : OccRow → Bool
+is_quiet_row r = none_open r.pending && not r.trouble && is_none r.cancel
+
+-- the work of the row's occurrence has stopped
+abbrev pub has_stopped_row : OccRow → Bool
+has_stopped_row r = none_open r.pending && (r.trouble || is_some r.cancel)
+
+-- the grant exchange of the row's occurrence gives it up
+abbrev pub gives_up_row : OccRow → Bool
+gives_up_row r = is_forced_mode r.cancel || (r.ended && not (is_some r.grant)) || (is_some r.grant && is_some r.cancel)
+
+-- each net of the row is this one
+abbrev pub all_nets : ℕ → OccRow → Bool
+all_nets net r = list_all (λ n. n == net) r.nets
+
+-- the row's occurrence may move from the one state to the other
+abbrev pub may_move_from : OpState → OpState → OccRow → Bool
+may_move_from Starting Processing r = is_some r.grant && is_none r.cancel
+may_move_from Starting RolledBack r = gives_up_row r
+may_move_from Processing Completed r = is_quiet_row r && all_nets 1 r
+may_move_from RollingBack RolledBack r = is_quiet_row r && all_nets 0 r
+may_move_from Processing FailedTemp r = has_stopped_row r
+may_move_from RollingBack FailedTemp r = has_stopped_row r
+may_move_from FailedTemp RollingBack r = not r.terminates
+may_move_from FailedTemp Processing r = true
+may_move_from FailedTemp Failed r = true
+may_move_from _ _ r = false

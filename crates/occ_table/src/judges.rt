@@ -1,12 +1,12 @@
 //! Whether an event is allowed after the history that the table stands for, by the row of its occurrence alone.
 
 ghost use Rattle.lcm_events.specs.declared.attempts.Outcome.{Outcome};
-ghost use Rattle.lcm_events.specs.declared.events.EventKind.TheVariants.{CallFailed, CancelAsked, Settled};
+ghost use Rattle.lcm_events.specs.declared.events.EventKind.TheVariants.{CallFailed, CancelAsked, Moved, Settled};
 ghost use Rattle.lcm_events.specs.declared.states.CancelMode.{CancelMode};
 ghost use Rattle.occ_table.specs.Table.{Judges};
 
 use crate::table::OccTable;
-use lcm_events::Tag;
+use lcm_events::{OpState, Tag};
 use lcm_model::works;
 
 impl OccTable {
@@ -42,6 +42,18 @@ impl OccTable {
     {
         match self.occurrence(occ) {
             Some(row) => works(row.state),
+            None => false,
+        }
+    }
+
+    /// Whether an occurrence may move to this state.
+    ///
+    /// Source: SOL 003 5.6.2 (States and state transitions of a VNF LCM operation occurrence).
+    pub fn may_move(&self, occ: u64, to: OpState) -> bool
+        ensures judged { Judges (Moved occ to) result self.now.rows }
+    {
+        match self.occurrence(occ) {
+            Some(row) => row.may_move(to),
             None => false,
         }
     }

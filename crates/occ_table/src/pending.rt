@@ -3,7 +3,7 @@
 ghost use Rattle.std.specs.Prelude.{◌≡◌, ◌<◌, ◌&&◌, [], filter, length, map, not, vec_capacity, vec_len, IfOk};
 ghost use Rattle.std.specs.List.{list_any};
 ghost use Rattle.lcm_events.specs.Same.{same_tag};
-ghost use Rattle.occ_table.specs.Steps.{begun, ended, failed_by, has_failed_among, has_open_among};
+ghost use Rattle.occ_table.specs.Steps.{begun, ended, failed_by, has_failed_among, has_open_among, none_open};
 
 use lcm_events::Tag;
 use std::alloc::{AllocError, Global};
@@ -132,6 +132,13 @@ impl Pendings {
         ensures { self.new ≡ ended tag.now self.old }
     {
         end_in(&mut self.entries, tag);
+    }
+
+    /// Whether no attempt is open.
+    pub fn is_empty(&self) -> bool
+        ensures { result ≡ none_open self.now }
+    {
+        self.entries.is_empty()
     }
 
     /// Whether the attempt is open.

@@ -1,13 +1,14 @@
 //! The row of an occurrence, and what each event makes of it.
 
-ghost use Rattle.std.specs.Prelude.{◌≡◌, IfOk, None, false, map, true};
-ghost use Rattle.occ_table.specs.Steps.{after_answer, after_cancel, after_settled, begun, failed_by, first_row, is_trouble_among, row_after, after_begun, nets_after, after_granted, is_granting};
+ghost use Rattle.std.specs.List.{list_all};
+ghost use Rattle.std.specs.Prelude.{◌≡◌, IfOk, None, false, map, true, ◌==◌};
+ghost use Rattle.occ_table.specs.Steps.{after_answer, after_cancel, after_settled, begun, failed_by, first_row, is_trouble_among, row_after, after_begun, nets_after, after_granted, is_granting, gives_up_row, has_stopped_row, is_quiet_row, may_move_from};
 
 use crate::cells::Cells;
 use crate::pending::Pendings;
 use lcm_events::{
-    CancelMode, Changes, EventKind, GrantTry, Listed, OpState, Operation, Outcome, Place, Role,
-    Tag, Way,
+    Ask, CancelMode, Changes, EventKind, GrantTry, Listed, OpState, Operation, Outcome, Place,
+    Role, Tag, Way,
 };
 use std::alloc::{AllocError, Global};
 use vnfm_base::Name;
@@ -57,6 +58,8 @@ pub struct OccRow {
     pub instance: u64,
     /// Who asked.
     pub role: Role,
+    /// Whether it is a TERMINATE.
+    pub terminates: bool,
     /// The changes in the order of the plan.
     pub changes: Changes,
     /// The net of each change: 1 where it is made, 0 where it isn't or was undone.
@@ -84,6 +87,7 @@ impl OccRow {
     pub fn first(alloc: Global, operation: &Operation) -> Result<OccRow, AllocError>
         ensures { IfOk result (λ r. r ≡ first_row operation.now) }
     {
+        let terminates = matches!(operation.ask, Ask::Terminate { .. });
         let changes = operation.changes.as_slice().to_vec(alloc)?;
         let nets = vec![in alloc; 0u8; changes.len()]?;
         let attempts = vec![in alloc; 0u32; changes.len()]?;
@@ -91,6 +95,7 @@ impl OccRow {
         Ok(OccRow {
             instance: operation.instance,
             role: operation.role,
+            terminates,
             changes: Listed::of(changes),
             nets: Cells::of(nets),
             attempts: Cells::of(attempts),
@@ -219,4 +224,63 @@ impl OccRow {
             _ => {}
         }
     }
+
+    /// Whether its work is at rest: no open attempt, no trouble, no cancel.
+    fn is_quiet(&self) -> bool
+        ensures { result ≡ is_quiet_row self.now }
+    {
+        self.pending.is_empty() && !self.trouble && self.cancel.is_none()
+    }
+
+    /// Whether its work has stopped: no open attempt, and trouble or a cancel.
+    fn has_stopped(&self) -> bool
+        ensures { result ≡ has_stopped_row self.now }
+    {
+        self.pending.is_empty() && (self.trouble || self.cancel.is_some())
+    }
+
+    /// Whether its grant exchange gives it up.
+    fn gives_up(&self) -> bool
+        ensures { result ≡ gives_up_row self.now }
+    {
+        let granted = self.grant.is_some();
+        let forced = matches!(self.cancel, Some(CancelMode::Forceful));
+        forced || (self.ended && !granted) || (granted && self.cancel.is_some())
+    }
+
+    /// Whether it may move to this state.
+    pub fn may_move(&self, to: OpState) -> bool
+        ensures { result ≡ may_move_from self.now.state to self.now }
+    {
+        match (self.state, to) {
+            (OpState::Starting, OpState::Processing) => {
+                self.grant.is_some() && self.cancel.is_none()
+            }
+            (OpState::Starting, OpState::RolledBack) => self.gives_up(),
+            (OpState::Processing, OpState::Completed) => {
+                self.is_quiet() && all_are(self.nets.as_slice(), 1)
+            }
+            (OpState::RollingBack, OpState::RolledBack) => {
+                self.is_quiet() && all_are(self.nets.as_slice(), 0)
+            }
+            (OpState::Processing, OpState::FailedTemp) => self.has_stopped(),
+            (OpState::RollingBack, OpState::FailedTemp) => self.has_stopped(),
+            (OpState::FailedTemp, OpState::RollingBack) => !self.terminates,
+            (OpState::FailedTemp, OpState::Processing) => true,
+            (OpState::FailedTemp, OpState::Failed) => true,
+            _ => false,
+        }
+    }
+}
+
+/// Whether each net is this one.
+fn all_are(nets: &[u8], net: u8) -> bool
+    ensures { result ≡ list_all (λ n. n == net) nets.now }
+{
+    for other in nets {
+        if *other != net {
+            return false;
+        }
+    }
+    true
 }
