@@ -1,4 +1,5 @@
--- What an event makes of a row, and of the rows. The proofs alone use these words: the table's contracts speak of rows.
+-- What an event makes of a row, and of the rows. Of these words the table's contracts use those for what is reserved, a first row and
+-- a grant; what rows are after an event they say by the history.
 use Rattle.lcm_events.specs.declared.states.OpState.{OpState}
 use Rattle.lcm_model.specs.Refusals.{is_terminate}
 use Rattle.occ_table.specs.declared.rows.Grant.{Grant}
