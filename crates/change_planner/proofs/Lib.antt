@@ -1,2 +1,3 @@
 mod ActLaws
 pub mod NetLaws
+pub mod TagLaws

@@ -53,9 +53,9 @@ abbrev pub processors : Vnfd → DefKind → Def → ℕ
 processors d Compute x = option_map_or (λ u. u.cpus) (slice_get d.vdus x.vdu) 0
 processors d _ x = 0
 
--- the work with this verb on a definition at a place (own rule)
-abbrev pub act : Vnfd → Holding → Verb → Def → Place → Act
-act d h verb x at = record {
+-- the work with this verb on a definition at a place, done on the resources of these names (own rule)
+abbrev pub work : Vnfd → Verb → Def → Place → List (List ℕ) → Act
+work d verb x at on = record {
   verb = verb;
   kind = x.kind;
   template = template_name d x.kind x;
@@ -65,8 +65,12 @@ act d h verb x at = record {
   zone = at.zone;
   size = size d x.kind x;
   cpus = processors d x.kind x;
-  on = done_on d h verb x;
+  on = on;
 }
+
+-- the work with this verb on a definition at a place, over what stands (own rule)
+abbrev pub act : Vnfd → Holding → Verb → Def → Place → Act
+act d h verb x at = work d verb x at (done_on d h verb x)
 
 -- where a change does its work: what is made, at the place that the grant gives; all else, where it is held (SOL 003 9.5.2.3)
 abbrev pub place_of : Holding → Verb → Def → Place → Place

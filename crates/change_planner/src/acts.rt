@@ -1,12 +1,16 @@
 //! The work that is asked of the infrastructure for a change.
 
-ghost use Rattle.std.specs.Prelude.{◌≡◌, ◌++◌, ◌∷◌, IfOk, OnOk, [], filter_map, map, option_copied, slice_get, unwrap_or};
+ghost use Rattle.std.specs.Prelude.{◌≡◌, ◌++◌, ◌∷◌, IfOk, List, OnOk, [], filter_map, map, option_copied, slice_get, unwrap_or};
 ghost use Rattle.std.specs.Option.{option_map_or};
 ghost use Rattle.lcm_model.specs.Vnfcs.{def_of, link_def, storages_of};
 ghost use Rattle.change_planner.specs.Acts.{ActsAreOnWhatStands, act, done_on, held, place_of, processors, resource_held, size, template_name, vdu_name};
+ghost use Rattle.change_planner.specs.Tags.{IsOfAttempt, act_of};
+ghost use Rattle.lcm_events.specs.declared.attempts.Tag.{Tag};
+ghost use Rattle.lcm_events.specs.declared.events.Event.{Event};
+ghost use Rattle.lcm_model.specs.Grants.{granted_place};
 ghost use Rattle.lcm_model.specs.Needs.{port_links};
 
-use lcm_events::{Act, Change, Def, DefKind, Held, Holding, Names, Place, Verb, Vnfd};
+use lcm_events::{Act, Change, Def, DefKind, Held, Holding, Names, Place, Verb, Vnfd, Way};
 use std::alloc::{AllocError, Global};
 use vnfm_base::Name;
 
@@ -275,7 +279,8 @@ fn place_in(holding: &Holding, verb: Verb, def: &Def, place: &Place) -> Place
 }
 
 /// The work that makes a change of the descriptor's plan, over what stands: a creation at this place, which is the
-/// grant's for it, all else where its resource is held. `AllocError` is want of memory.
+/// grant's for it, all else where its resource is held. Where an attempt at the change may begin, it is the attempt's work.
+/// `AllocError` is want of memory.
 ///
 /// Source: SOL 001, Vdu.Compute, Vdu.VirtualBlockStorage, VduCp, VnfVirtualLink; SOL 003 9.5.2.3 (Grant).
 pub fn forward_act(
@@ -285,7 +290,8 @@ pub fn forward_act(
     change: &Change,
     place: &Place,
 ) -> Result<Act, AllocError>
-    ensures { IfOk result (λ work. work ≡ act vnfd.now holding.now change.now.verb change.now.def (place_of holding.now change.now.verb change.now.def place.now)) }
+    ensures work { IfOk result (λ work. work ≡ act vnfd.now holding.now change.now.verb change.now.def (place_of holding.now change.now.verb change.now.def place.now)) }
+    ensures of_attempt { (H : List Event) (t : Tag) → IsOfAttempt vnfd.now holding.now change.now H t → t.way ≡ Way.Forward → (change.now.verb ≡ Verb.Create → granted_place H t.occ t.change ≡ Some place.now) → IfOk result (λ work. act_of H t ≡ Some work) }
 {
     let place = place_in(holding, change.verb, &change.def, place);
     act_in(alloc, vnfd, holding, change.verb, &change.def, &place)
