@@ -3,8 +3,11 @@
 
 ghost use Rattle.std.specs.Prelude.{◌≡◌, ◌<◌, IfOk, IfSome, List, length, slice_get, ℕ};
 ghost use Rattle.change_planner.specs.Acts.{act};
+ghost use Rattle.change_planner.specs.Tags.{IsOfAttempt, act_of};
+ghost use Rattle.lcm_events.specs.declared.attempts.Tag.{Tag};
 ghost use Rattle.lcm_events.specs.declared.events.Event.{Event};
 ghost use Rattle.lcm_model.specs.Attempts.{net};
+ghost use Rattle.lcm_model.specs.Holding.{place as place_held};
 ghost use Rattle.lcm_model.specs.Next.{with_net};
 ghost use Rattle.lcm_model.specs.Operations.{changes as changes_of, undo};
 ghost use Rattle.lcm_model.specs.Words.{last};
@@ -32,7 +35,7 @@ pub fn next_undo(changes: &[Change], nets: &[u8]) -> Option<usize>
 
 /// The work that undoes a change of the descriptor's plan, over what stands, at the place where its resource last stood:
 /// what was made is removed, what was removed is made again, what was started is stopped, what was stopped is started.
-/// `AllocError` is want of memory.
+/// Where an attempt that undoes the change may begin, it is the attempt's work. `AllocError` is want of memory.
 ///
 /// Source: SOL 003 5.4.15 (Rollback operation task); SOL 001, Vdu.Compute, Vdu.VirtualBlockStorage, VduCp,
 /// VnfVirtualLink; that a removal is undone by making anew is an own rule.
@@ -43,7 +46,8 @@ pub fn undo_act(
     change: &Change,
     place: &Place,
 ) -> Result<Act, AllocError>
-    ensures { IfOk result (λ work. work ≡ act vnfd.now holding.now (undo change.now.verb) change.now.def place.now) }
+    ensures work { IfOk result (λ work. work ≡ act vnfd.now holding.now (undo change.now.verb) change.now.def place.now) }
+    ensures of_attempt { (H : List Event) (t : Tag) → (s : IsOfAttempt vnfd.now holding.now change.now H t) → t.way ≡ Way.Undo → place_held H s.asked.instance change.now.def ≡ Some place.now → IfOk result (λ work. act_of H t ≡ Some work) }
 {
     let verb = verb_in_way(Way::Undo, change.verb);
     act_in(alloc, vnfd, holding, verb, &change.def, place)
