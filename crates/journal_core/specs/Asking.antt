@@ -1,6 +1,6 @@
 -- What the calls of a journal ask of its site, and which faults they count (own rule).
 use Rattle.std.specs.Prelude.{◌≡◌, ◌≤◌, ℕ, zero, suc, List, [], ◌∷◌, Result, Ok, Err}
-use Rattle.site_traits.specs.Counts.{SiteCounts, Ask, asked, all_asked, disk_failed, StopsIn}
+use Rattle.site_traits.specs.Counts.{SiteCounts, Ask, asked, all_asked, disk_failed, OnlyDiskFails, StopsIn}
 use Rattle.site_traits.specs.Counts.Ask.{write, sync}
 use Rattle.journal_core.specs.declared.create.CreateFault.{CreateFault}
 use Rattle.journal_core.specs.declared.create.CreateFault.TheVariants as creating
@@ -38,3 +38,11 @@ abbrev pub CreateAsks : {T : Type 0} → Result T CreateFault → SiteCounts →
 CreateAsks (Ok done) a b = (stage : Stage) × (b ≡ all_asked (sync ∷ left_to_ask stage) a)
 CreateAsks (Err creating.Taken) a b = b ≡ asked sync a
 CreateAsks (Err creating.Disk) a b = (stage : Stage) × StopsIn (sync ∷ left_to_ask stage) a b
+
+-- an append counts one disk fault where it answers one, and none else
+abbrev pub AppendsCount : Type 0
+AppendsCount = (r : Result (Unit {0}) AppendFault) (a b : SiteCounts) → AppendAsks r a b → OnlyDiskFails (r ≡ Err appending.Disk) a b
+
+-- and so does the making of a file
+abbrev pub CreatesCount : Type 0
+CreatesCount = (r : Result (Unit {0}) CreateFault) (a b : SiteCounts) → CreateAsks r a b → OnlyDiskFails (r ≡ Err creating.Disk) a b

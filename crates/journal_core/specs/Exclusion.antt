@@ -1,6 +1,6 @@
 -- A file is one at most of the things that a load may find: whole, unmade, foreign or broken (own rule, docs/JOURNAL.md).
 use Rattle.std.specs.Prelude.{◌≡◌, ◌<◌, ℕ, List}
-use Rattle.journal_core.specs.File.{HasRecords}
+use Rattle.journal_core.specs.File.{records, HasRecords}
 use Rattle.journal_core.specs.Header.{IsUnmade, IsForeign, HasHeader}
 use Rattle.journal_core.specs.Head.{IsBrokenAt}
 
@@ -20,6 +20,14 @@ IsWholeOrBroken = (m k n : ℕ) (rs : List (List ℕ)) (image : List ℕ) → Ha
 abbrev pub IsWholeOnce : Type 0
 IsWholeOnce = (m n : ℕ) (rs qs : List (List ℕ)) (image : List ℕ) → m < 4294967296 → n < 4294967296 → HasRecords m rs image → HasRecords n qs image
     → (m ≡ n) × (rs ≡ qs)
+
+-- its records are those that are read of it
+abbrev pub ReadsItsRecords : Type 0
+ReadsItsRecords = (m : ℕ) (rs : List (List ℕ)) (image : List ℕ) → HasRecords m rs image → records image ≡ rs
+
+-- the manager of a file with a header is one
+abbrev pub IsHeadedOnce : Type 0
+IsHeadedOnce = (m n : ℕ) (image : List ℕ) → HasHeader m image → HasHeader n image → m ≡ n
 
 -- a file with a header isn't unfinished, nor foreign at any place
 abbrev pub IsHeadedOrNot : Type 0

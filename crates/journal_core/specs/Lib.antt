@@ -9,3 +9,4 @@ pub mod Journal
 pub mod Judged
 pub mod Load
 pub mod Marks
+pub mod Room

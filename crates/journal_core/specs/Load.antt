@@ -11,6 +11,7 @@ use Rattle.journal_core.specs.Head.{BeginsWith, IsBrokenAt}
 use Rattle.journal_core.specs.declared.marks.Mark.{Mark}
 use Rattle.journal_core.specs.Marks.{IsMark, first_mark}
 use Rattle.journal_core.specs.Journal.{Ledger, Stands}
+use Rattle.journal_core.specs.Room.{Adds}
 
 -- A journal that is being loaded: whose it is, how many records were read, where the gate behind them stands, how long the
 -- file is, the bytes of the last record read, whether the closed gate was found, and the places that it keeps.
@@ -72,7 +73,7 @@ pub record ReadsOn (old new : Progress) : Type 0 where
   pub manager : new.manager ≡ old.manager
   pub record_is : IsRecord new.record_bytes
   pub count : new.count ≡ old.count + 1
-  pub end : new.end ≡ old.end + 5 + length new.record_bytes
+  pub end : Adds new.record_bytes old.end new.end
   pub small : new.end < 268435456
   pub ended : new.ended ≡ false
 

@@ -1,5 +1,5 @@
 // The law that a file is one at most of the things that a load may find.
-ghost use Rattle.journal_core.specs.Exclusion.{IsWholeOrUnmade, IsWholeOrForeign, IsWholeOrBroken, IsWholeOnce, IsHeadedOrNot, IsForeignOnce, BreaksOnce};
+ghost use Rattle.journal_core.specs.Exclusion.{IsWholeOrUnmade, IsWholeOrForeign, IsWholeOrBroken, IsWholeOnce, ReadsItsRecords, IsHeadedOnce, IsHeadedOrNot, IsForeignOnce, BreaksOnce};
 
 /// That what a load finds of a file is one thing at most: so none of its answers can stand for another. It does nothing, and
 /// its contract is the law.
@@ -10,6 +10,8 @@ pub fn files_are_one_thing()
     ensures foreign { IsWholeOrForeign }
     ensures broken { IsWholeOrBroken }
     ensures once { IsWholeOnce }
+    ensures records { ReadsItsRecords }
+    ensures manager { IsHeadedOnce }
     ensures headed { IsHeadedOrNot }
     ensures foreign_once { IsForeignOnce }
     ensures breaks_once { BreaksOnce }

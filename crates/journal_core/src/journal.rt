@@ -5,6 +5,7 @@ ghost use Rattle.journal_core.specs.File.{piece};
 ghost use Rattle.journal_core.specs.Journal.{Stands, Appends};
 ghost use Rattle.journal_core.specs.Marks.{IsMark, first_mark};
 ghost use Rattle.journal_core.specs.Back.{ReadsBack, KeepsRecords};
+ghost use Rattle.journal_core.specs.Room.{Adds, HasRoom};
 
 use crate::back::{BackFault, record_from};
 use crate::marks::{FIRST, Mark, Marks};
@@ -109,9 +110,16 @@ impl<S: Site> Journal<S> {
         self.count
     }
 
+    /// The place of its closed gate, in bytes.
+    pub fn end(&self) -> u64
+        ensures { result ≡ self.now.end }
+    {
+        self.end
+    }
+
     /// Whether a record of `more` bytes and the closed gate behind it end at or before place `limit` of the file.
     pub fn fits(&self, more: usize, limit: u64) -> bool
-        ensures { IsTrue result ↔ (self.now.end + 6 + more ≤ limit) }
+        ensures { IsTrue result ↔ HasRoom self.now.end more limit }
     {
         limit >= self.end + 6 && more as u64 <= limit - (self.end + 6)
     }
@@ -128,7 +136,7 @@ impl<S: Site> Journal<S> {
         requires stands { S.tells → Stands (S.state site.old) self.old }
 
         ensures manager { self.new.manager ≡ self.old.manager }
-        ensures grown { OnOk result ((self.new.count ≡ self.old.count + 1) × (self.new.end ≡ self.old.end + 5 + length bytes.now) × (self.new.closed ≡ false)) }
+        ensures grown { OnOk result ((self.new.count ≡ self.old.count + 1) × (Adds bytes.now self.old.end self.new.end) × (self.new.closed ≡ false)) }
         ensures told { S.tells → Appends bytes.now result self.old self.new (S.state site.old) (S.state site.new) }
         ensures full { 268435456 < self.old.end + 6 + length bytes.now → result ≡ Err (AppendFault.Full self.old.end (length bytes.now)) }
         ensures only_full { (end more : ℕ) → result ≡ Err (AppendFault.Full end more) → (268435456 < self.old.end + 6 + length bytes.now) × (self.new ≡ self.old) × (site.new ≡ site.old) }

@@ -16,5 +16,5 @@ pub use back::BackFault;
 pub use create::CreateFault;
 pub use exclusion::files_are_one_thing;
 pub use journal::{AppendFault, Journal, MAX_FILE, MAX_RECORD};
-pub use limits::limits_are_fixed;
+pub use limits::{faults_are_counted, limits_are_fixed, records_add_up};
 pub use loading::{Found, LoadFault, Loading};

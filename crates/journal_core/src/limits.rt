@@ -1,5 +1,7 @@
-// The limits of a journal's file.
+// The limits of a journal's file, how its records add up, and which faults its calls count.
 ghost use Rattle.std.specs.Prelude.{◌≡◌};
+ghost use Rattle.journal_core.specs.Asking.{AppendsCount, CreatesCount};
+ghost use Rattle.journal_core.specs.Room.{AddsUp, HasRoomBefore, TakesMore};
 
 use crate::journal::{MAX_FILE, MAX_RECORD, ROOM};
 use crate::marks::MARKS;
@@ -12,4 +14,21 @@ pub fn limits_are_fixed()
     ensures record { MAX_RECORD ≡ 65536 }
     ensures room { ROOM ≡ 65541 }
     ensures marks { MARKS ≡ 65536 }
+{}
+
+/// How the records of a file add up. It does nothing, and its contract is the law.
+///
+/// Source: own format, docs/JOURNAL.md.
+pub fn records_add_up()
+    ensures adds { AddsUp }
+    ensures room { HasRoomBefore }
+    ensures longer { TakesMore }
+{}
+
+/// Which faults the calls that write count. It does nothing, and its contract is the law.
+///
+/// Source: own rule.
+pub fn faults_are_counted()
+    ensures append { AppendsCount }
+    ensures create { CreatesCount }
 {}

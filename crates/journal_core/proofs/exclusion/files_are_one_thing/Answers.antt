@@ -1,4 +1,5 @@
-use Rattle.journal_core.proofs.Excluding.{whole_or_unmade, whole_or_foreign, whole_or_broken, whole_once, headed_or_not, foreign_once, breaks_once}
+use Rattle.journal_core.proofs.Excluding.{whole_or_unmade, whole_or_foreign, whole_or_broken, whole_once, headed_or_not, foreign_once, breaks_once, same_manager}
+use Rattle.journal_core.proofs.Records.{records_of}
 use Rattle.journal_core.proofs.exclusion.files_are_one_thing.Goals as goal
 
 pub returns-clause-unmade : goal.returns-clause-unmade
@@ -21,3 +22,9 @@ returns-clause-foreign_once c = foreign_once
 
 pub returns-clause-breaks_once : goal.returns-clause-breaks_once
 returns-clause-breaks_once c = breaks_once
+
+pub returns-clause-records : goal.returns-clause-records
+returns-clause-records c = records_of
+
+pub returns-clause-manager : goal.returns-clause-manager
+returns-clause-manager c = λ m n image one other. same_manager m n image one.number other.number one.front other.front
