@@ -31,7 +31,13 @@ pub record Starves (tells : Type 0) (status : ℕ) (a b : Output) : Type 0 where
   pub put : Bool
   pub text : PutsText tells (codes "no memory\nvnfm: there was no memory\n") put a b
 
--- The reason's line was put in one call, or there was no memory for it and nothing was put. Where there is nothing to say nothing was put.
+-- this line was put in one call, or none of it
+pub record Says (tells : Type 0) (line : List ℕ) (a b : Output) : Type 0 where
+  pub put : Bool
+  pub text : PutsText tells line put a b
+
+-- The reason's line was put in one call, or, where there was no memory for it, one that says so. Where there is nothing to say nothing was put.
 abbrev pub Explains : Type 0 → Option Reason → List (List ℕ) → Output → Output → Type 0
 Explains tells None words a b = b ≡ a
-Explains tells (Some reason) words a b = (b ≡ a) ⊎ ((line : List ℕ) × IsLineOf reason words line × (put : Bool) × PutsText tells line put a b)
+Explains tells (Some reason) words a b = Says tells (codes "vnfm: there was no memory to say why\n") a b
+    ⊎ ((line : List ℕ) × IsLineOf reason words line × Says tells line a b)

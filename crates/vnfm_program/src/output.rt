@@ -4,11 +4,14 @@ ghost use Rattle.vnfm_program.specs.Output.{output_of, Explains, Prints, PutsTex
 
 use program_words::{Page, Reason};
 use site_traits::Sink;
-use std::alloc::Global;
+use std::alloc::{AllocError, Global};
 use vnfm_base::Text;
 
 /// The line of want of memory, and why the run ended so.
 const NO_MEMORY: &[u8] = b"no memory\nvnfm: there was no memory\n";
+
+/// What is said where there is no memory for the line that says why.
+const NO_LINE: &[u8] = b"vnfm: there was no memory to say why\n";
 
 /// Puts a text in one call, and says whether it was put.
 fn put<W: Sink>(out: &mut W, text: &[u8]) -> bool
@@ -36,14 +39,16 @@ pub fn starve<E: Sink>(errors: &mut E) -> u8
     6
 }
 
-/// Says why a run with these words ended as it did, where there is something to say and memory to say it.
+/// Says why a run with these words ended as it did, where there is something to say: by the reason's line, or, where there is no memory
+/// for it, by one that says so.
 pub fn explain<E: Sink>(alloc: Global, words: &[Text], reason: Option<Reason>, errors: &mut E)
     ensures { Explains E.tells reason words.now (output_of E.state E.counts errors.old) (output_of E.state E.counts errors.new) }
 {
     let Some(reason) = reason else {
         return;
     };
-    if let Ok(line) = reason.line(alloc, words) {
-        let _ = put(errors, line.as_bytes());
-    }
+    let _ = match reason.line(alloc, words) {
+        Ok(line) => put(errors, line.as_bytes()),
+        Err(AllocError) => put(errors, NO_LINE),
+    };
 }
