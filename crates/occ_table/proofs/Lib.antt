@@ -5,3 +5,4 @@ pub mod RowSteps
 pub mod RowsSteps
 pub mod JudgeLaws
 pub mod MoveLaws
+pub mod AskingLaws

@@ -43,7 +43,7 @@ mode_there (c ∷ cs) = either (list_any is_forceful (c ∷ cs)) where
 cancelled_row : (H : List Event) (o : ℕ) → is_some (cancel H o) ≡ is_cancelled H o
 cancelled_row H o = mode_there (cancels H o)
 
-forced_row : (H : List Event) (o : ℕ) → is_forced_mode (cancel H o) ≡ is_forced H o
+pub forced_row : (H : List Event) (o : ℕ) → is_forced_mode (cancel H o) ≡ is_forced H o
 forced_row H o = by (is_forced H o) (is_cancelled H o) where
   by : (f c : Bool) → is_forced_mode (cond f (Some Forceful) (cond c (Some Graceful) None)) ≡ f
   by true c = refl

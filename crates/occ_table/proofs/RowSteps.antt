@@ -1,7 +1,7 @@
 -- What each event makes of a row.
 use Rattle.occ_table.proofs.ChangeSteps.{attempts-begun, attempts-begun_other, nets-ended, nets-ended_other}
 use Rattle.std.proofs.Common.{◌≡◌, ◌<◌, ◌+◌, ◌||◌, ◌==◌, ◌∙◌, ℕ, List, ◌∷◌, suc, Bool, true, false, cond, Option, None, Some, refl, ap, subst, min, arith, nat_le, eqb-true, leb-false, ◌≤◌}
-use Rattle.std.specs.List.{list_any}
+use Rattle.std.specs.List.{cons_option, list_any}
 use Rattle.std.specs.Option.{option_map_or}
 use Rattle.lcm_events.specs.declared.events.Event.{Event}
 use Rattle.lcm_events.specs.declared.events.EventKind.{EventKind}
@@ -14,19 +14,26 @@ use Rattle.lcm_events.specs.declared.states.CancelMode.TheVariants.{Forceful, Gr
 use Rattle.lcm_model.specs.Allowed.{IsAllowedWithin, IsLegalWithin}
 use Rattle.lcm_model.specs.Grants.{answers, has_ended, is_last, troubled_tries}
 use Rattle.lcm_model.specs.Since.{is_cancelled, is_forced}
+use Rattle.lcm_model.specs.Words.{first, otherwise, told, when}
+use Rattle.lcm_events.specs.declared.attempts.Outcome.{Outcome}
+use Rattle.lcm_events.specs.declared.attempts.Outcome.TheVariants.{Aborted, Broken, Done, NotBegun}
+use Rattle.lcm_events.specs.declared.attempts.Tag.{Tag}
+use Rattle.lcm_model.specs.Attempts.{is_open}
+use Rattle.occ_table.specs.declared.causes.Cause.{Cause}
+use Rattle.occ_table.specs.declared.causes.Cause.TheVariants as causes
 use Rattle.lcm_model.specs.Operations.{occurrence_of}
 use Rattle.lcm_laws.proofs.Histories.{event}
 use Rattle.lcm_laws.proofs.Lists.{by_test}
-use Rattle.occ_table.specs.Rows.{cancel, row}
-use Rattle.occ_table.specs.Steps.{after_answer, after_cancel, row_after}
+use Rattle.occ_table.specs.Rows.{cancel, cause, cause_in, cause_of_end, pendings, row}
+use Rattle.occ_table.specs.Steps.{after_answer, after_cancel, cause_among, row_after}
 use Rattle.lcm_model.specs.Attempts.{is_unsettled}
 use Rattle.occ_table.specs.declared.pending.Pending.{Pending}
-use Rattle.occ_table.proofs.PendingSteps.{pendings-begun, pendings-begun_other, pendings-ended, pendings-ended_other, pendings-failed, pendings-failed_other, trouble-settled, trouble-settled_other}
+use Rattle.occ_table.proofs.PendingSteps.{known_failed, pendings-begun, pendings-begun_other, pendings-ended, pendings-ended_other, pendings-failed, pendings-failed_other, trouble-settled, trouble-settled_other}
 use Rattle.occ_table.specs.declared.rows.OccRow.{OccRow}
 
--- what an event makes of the row of this occurrence
-abbrev pub row_by : EventKind → ℕ → OccRow → OccRow
-row_by k o r = cond (option_map_or (λ n. n == o) (occurrence_of k) false) (row_after k r) r
+-- what an event of this moment makes of the row of this occurrence
+abbrev pub row_by : ℕ → EventKind → ℕ → OccRow → OccRow
+row_by time k o r = cond (option_map_or (λ n. n == o) (occurrence_of k) false) (row_after time k r) r
 
 by_own : (b : Bool) (r s : OccRow) → b ≡ true → r ≡ cond b r s
 by_own true r s e = refl
@@ -43,12 +50,35 @@ with_begun : (r : OccRow) (p q : List Pending) (m n : List ℕ) → p ≡ q → 
 with_begun r p q m n e f =
     ap (λ (x : List Pending). record r { pending = x; attempts = m }) e ∙ ap (λ (x : List ℕ). record r { pending = q; attempts = x }) f
 
-with_settled : (r : OccRow) (a b : Bool) (p q : List Pending) (m n : List ℕ) → a ≡ b → p ≡ q → m ≡ n
-    → record r { trouble = a; pending = p; nets = m } ≡ record r { trouble = b; pending = q; nets = n }
-with_settled r a b p q m n e f g =
-    ap (λ (x : Bool). record r { trouble = x; pending = p; nets = m }) e
-    ∙ (ap (λ (x : List Pending). record r { trouble = b; pending = x; nets = m }) f
-    ∙ ap (λ (x : List ℕ). record r { trouble = b; pending = q; nets = x }) g)
+with_settled : (r : OccRow) (a b : Bool) (x y : Option Cause) (p q : List Pending) (m n : List ℕ) → a ≡ b → x ≡ y → p ≡ q → m ≡ n
+    → record r { trouble = a; cause = x; pending = p; nets = m } ≡ record r { trouble = b; cause = y; pending = q; nets = n }
+with_settled r a b x y p q m n e f g h =
+    ap (λ (z : Bool). record r { trouble = z; cause = x; pending = p; nets = m }) e
+    ∙ (ap (λ (z : Option Cause). record r { trouble = b; cause = z; pending = p; nets = m }) f
+    ∙ (ap (λ (z : List Pending). record r { trouble = b; cause = y; pending = z; nets = m }) g
+    ∙ ap (λ (z : List ℕ). record r { trouble = b; cause = y; pending = q; nets = z }) h))
+
+-- the latest cause is that of the event, where it gives one
+first_cons : {A : Type 0} → (x : Option A) (xs : List A) → first (cons_option x xs) ≡ otherwise x (first xs)
+first_cons None xs = refl
+first_cons (Some x) xs = refl
+
+cause-known : (H : List Event) (t : Tag) (outcome : Outcome) (o : ℕ) → is_open H t ≡ true → (t.occ == o) ≡ true
+    → cause_of_end H t outcome ≡ cause_among t outcome (pendings H o)
+cause-known H t (Done name) o opened own = refl
+cause-known H t (Broken code) o opened own = refl
+cause-known H t Aborted o opened own = refl
+cause-known H t NotBegun o opened own = ap (λ (b : Bool). when b (causes.CallFailed t.change)) (known_failed H t o opened own)
+
+cause-settled : (H : List Event) (time : ℕ) (t : Tag) (outcome : Outcome) (o : ℕ) → is_open H t ≡ true → (t.occ == o) ≡ true
+    → cause (event time (Settled t outcome) ∷ H) o ≡ otherwise (cause_among t outcome (pendings H o)) (cause H o)
+cause-settled H time t outcome o opened own =
+    first_cons (cause_in o H (Settled t outcome)) (told (cause_in o) H)
+    ∙ ap (λ (x : Option Cause). otherwise x (cause H o)) (rw own (cause-known H t outcome o opened own))
+
+cause-settled_other : (H : List Event) (time : ℕ) (t : Tag) (outcome : Outcome) (o : ℕ) → (t.occ == o) ≡ false
+    → cause (event time (Settled t outcome) ∷ H) o ≡ cause H o
+cause-settled_other H time t outcome o other = rw other refl
 
 graceful : (f c : Bool) → cond f (Some Forceful) (Some Graceful) ≡ after_cancel Graceful (cond f (Some Forceful) (cond c (Some Graceful) None))
 graceful true c = refl
@@ -61,13 +91,17 @@ cancel-next : (mode : CancelMode) (H : List Event) (time n o : ℕ) → (n == o)
 cancel-next Forceful H time n o same = rw same refl
 cancel-next Graceful H time n o same = rw same (graceful (is_forced H o) (is_cancelled H o))
 
-with_cancel : (r : OccRow) (c d : Option CancelMode) → c ≡ d → record r { cancel = c } ≡ record r { cancel = d }
-with_cancel r c d e = ap (λ (x : Option CancelMode). record r { cancel = x }) e
+with_cancel : (r : OccRow) (c d : Option CancelMode) (x y : Option Cause) → c ≡ d → x ≡ y → record r { cancel = c; cause = x } ≡ record r { cancel = d; cause = y }
+with_cancel r c d x y e f =
+    ap (λ (z : Option CancelMode). record r { cancel = z; cause = x }) e ∙ ap (λ (z : Option Cause). record r { cancel = d; cause = z }) f
+
+caused : (H : List Event) (time n : ℕ) (mode : CancelMode) (o : ℕ) → (n == o) ≡ true → cause (event time (CancelAsked n mode) ∷ H) o ≡ Some causes.Cancelled
+caused H time n mode o same = rw same refl
 
 cancelled : (H : List Event) (time n : ℕ) (mode : CancelMode) (a : Operation) → (n == a.occ) ≡ true
-    → row (event time (CancelAsked n mode) ∷ H) a ≡ row_after (CancelAsked n mode) (row H a)
+    → row (event time (CancelAsked n mode) ∷ H) a ≡ row_after time (CancelAsked n mode) (row H a)
 unfolding is_unsettled
-cancelled H time n mode a same = with_cancel (row H a) _ _ (cancel-next mode H time n a.occ same)
+cancelled H time n mode a same = with_cancel (row H a) _ _ _ _ (cancel-next mode H time n a.occ same) (caused H time n mode a.occ same)
 
 -- one more try in trouble, where there were fewer than five
 tries-next : (a : Bool) (n : ℕ) → (a || nat_le 5 n) ≡ false → suc n ≡ min (n + 1) 255
@@ -78,8 +112,11 @@ ended-next : (a : Bool) (n : ℕ) → (a || nat_le 5 n) ≡ false → (a || nat_
 ended-next true n h = cc
 ended-next false n h = rw h (ap (λ (k : ℕ). nat_le 5 k) (tries-next false n h))
 
-with_tries : (r : OccRow) (m n : ℕ) (a b : Bool) → m ≡ n → a ≡ b → record r { tries = m; ended = a } ≡ record r { tries = n; ended = b }
-with_tries r m n a b e f = ap (λ (x : ℕ). record r { tries = x; ended = a }) e ∙ ap (λ (x : Bool). record r { tries = n; ended = x }) f
+with_tries : (r : OccRow) (m n : ℕ) (a b : Bool) (x y : Option Cause) → m ≡ n → a ≡ b → x ≡ y
+    → record r { tries = m; ended = a; cause = x } ≡ record r { tries = n; ended = b; cause = y }
+with_tries r m n a b x y e f g =
+    ap (λ (z : ℕ). record r { tries = z; ended = a; cause = x }) e
+    ∙ (ap (λ (z : Bool). record r { tries = n; ended = z; cause = x }) f ∙ ap (λ (z : Option Cause). record r { tries = n; ended = b; cause = z }) g)
 
 answered : (H : List Event) (time n : ℕ) (answer : GrantTry) (a : Operation) → (n == a.occ) ≡ true → has_ended H a.occ ≡ false
     → row (event time (GrantTried n answer) ∷ H) a ≡ after_answer answer (row H a)
@@ -87,34 +124,36 @@ unfolding is_unsettled
 answered H time n (Later at) a same going = rw same refl
 answered H time n NotCovering a same going = rw same refl
 answered H time n Trouble a same going =
-    rw same (with_tries (row H a) _ _ _ _
+    rw same (with_tries (row H a) _ _ _ _ _ _
     (tries-next (list_any is_last (answers H a.occ)) (troubled_tries H a.occ) going)
-    (ended-next (list_any is_last (answers H a.occ)) (troubled_tries H a.occ) going))
+    (ended-next (list_any is_last (answers H a.occ)) (troubled_tries H a.occ) going)
+    (first_cons (when (troubled_tries H a.occ == 4) causes.NoGrant) (told (cause_in a.occ) H)))
 
-pub row-step : (width m : ℕ) (H : List Event) (time : ℕ) (k : EventKind) (a : Operation) → width ≤ 4 → IsLegalWithin width m H → IsAllowedWithin width m H k
-    → row (event time k ∷ H) a ≡ row_by k a.occ (row H a)
+-- what an event about an occurrence makes of a row
+pub row-step : (width m : ℕ) (H : List Event) (time : ℕ) (k : EventKind) (n : ℕ) (a : Operation) → occurrence_of k ≡ Some n → width ≤ 4 → IsLegalWithin width m H
+    → IsAllowedWithin width m H k → row (event time k ∷ H) a ≡ row_by time k a.occ (row H a)
 unfolding is_unsettled
-row-step width m H time (GrantTried n answer) a wide legal allowed = by_test (n == a.occ)
+row-step width m H time (GrantTried o answer) n a e wide legal allowed = by_test (o == a.occ)
     (λ same.
-    let is : n ≡ a.occ = eqb-true n a.occ same in
-    let going : has_ended H a.occ ≡ false = subst (λ (o : ℕ). has_ended H o ≡ false) is allowed.0.goes_on in
-    answered H time n answer a same going ∙ by_own (n == a.occ) _ _ same)
+    let is : o ≡ a.occ = eqb-true o a.occ same in
+    let going : has_ended H a.occ ≡ false = subst (λ (i : ℕ). has_ended H i ≡ false) is allowed.0.goes_on in
+    answered H time o answer a same going ∙ by_own (o == a.occ) _ _ same)
     (λ other. rw other refl)
-row-step width m H time (Granted n grant places spots) a wide legal allowed = by_test (n == a.occ) (λ same. rw same refl) (λ other. rw other refl)
-row-step width m H time (Denied n) a wide legal allowed = by_test (n == a.occ) (λ same. rw same refl) (λ other. rw other refl)
-row-step width m H time (Moved n to) a wide legal allowed = by_test (n == a.occ) (λ same. rw same refl) (λ other. rw other refl)
-row-step width m H time (CancelAsked n mode) a wide legal allowed = by_test (n == a.occ)
-    (λ same. cancelled H time n mode a same ∙ by_own (n == a.occ) _ _ same)
+row-step width m H time (Granted o grant places spots) n a e wide legal allowed = by_test (o == a.occ) (λ same. rw same refl) (λ other. rw other refl)
+row-step width m H time (Denied o) n a e wide legal allowed = by_test (o == a.occ) (λ same. rw same refl) (λ other. rw other refl)
+row-step width m H time (Moved o to) n a e wide legal allowed = by_test (o == a.occ) (λ same. rw same refl) (λ other. rw other refl)
+row-step width m H time (CancelAsked o mode) n a e wide legal allowed = by_test (o == a.occ)
+    (λ same. cancelled H time o mode a same ∙ by_own (o == a.occ) _ _ same)
     (λ other. rw other refl)
-row-step width m H time (Intent t) a wide legal allowed = by_test (t.occ == a.occ)
+row-step width m H time (Intent t) n a e wide legal allowed = by_test (t.occ == a.occ)
     (λ same. with_begun (row H a) _ _ _ _ (pendings-begun width m H time t a.occ same wide legal allowed) (attempts-begun width m H time t a same allowed) ∙ by_own (t.occ == a.occ) _ _ same)
     (λ other. with_begun (row H a) _ _ _ _ (pendings-begun_other width m H time t a.occ other legal allowed) (attempts-begun_other H time t a other) ∙ by_other (t.occ == a.occ) _ _ other)
-row-step width m H time (CallFailed t) a wide legal allowed = by_test (t.occ == a.occ)
+row-step width m H time (CallFailed t) n a e wide legal allowed = by_test (t.occ == a.occ)
     (λ same. with_pending (row H a) _ _ (pendings-failed H time t a.occ) ∙ by_own (t.occ == a.occ) _ _ same)
     (λ other. with_pending (row H a) _ _ (pendings-failed_other H time t a.occ other) ∙ by_other (t.occ == a.occ) _ _ other)
-row-step width m H time (Settled t outcome) a wide legal allowed = by_test (t.occ == a.occ)
-    (λ same. with_settled (row H a) _ _ _ _ _ _ (trouble-settled H t outcome a.occ allowed same) (pendings-ended H time t outcome a.occ) (nets-ended width m H time t outcome a same legal allowed)
+row-step width m H time (Settled t outcome) n a e wide legal allowed = by_test (t.occ == a.occ)
+    (λ same. with_settled (row H a) _ _ _ _ _ _ _ _ (trouble-settled H t outcome a.occ allowed same) (cause-settled H time t outcome a.occ allowed same) (pendings-ended H time t outcome a.occ) (nets-ended width m H time t outcome a same legal allowed)
     ∙ by_own (t.occ == a.occ) _ _ same)
-    (λ other. with_settled (row H a) _ _ _ _ _ _ (trouble-settled_other H t outcome a.occ other) (pendings-ended_other H time t outcome a.occ other) (nets-ended_other H time t outcome a other)
+    (λ other. with_settled (row H a) _ _ _ _ _ _ _ _ (trouble-settled_other H t outcome a.occ other) (cause-settled_other H time t outcome a.occ other) (pendings-ended_other H time t outcome a.occ other) (nets-ended_other H time t outcome a other)
     ∙ by_other (t.occ == a.occ) _ _ other)
-row-step width m H time _ a wide legal allowed = refl
+row-step width m H time _ n a e wide legal allowed = cc

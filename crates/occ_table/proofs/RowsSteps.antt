@@ -2,7 +2,7 @@
 use Rattle.lcm_events.specs.declared.places.Place.{Place}
 use Rattle.occ_table.proofs.ChangeSteps.{attempts-none, nets-none}
 use Rattle.lcm_model.specs.Attempts.{is_unsettled}
-use Rattle.std.proofs.Common.{◌≡◌, ◌≢◌, ◌≤◌, ◌+◌, ◌-◌, ◌++◌, ◌==◌, ◌∙◌, ℕ, List, [], ◌∷◌, zero, suc, Bool, true, false, cond, Option, None, Some, is_some, refl, ap, sym, subst, length, map, reverse, find, arith, eqb-true, false-eqb, slice_get, option_map}
+use Rattle.std.proofs.Common.{◌≡◌, ◌≢◌, ◌≤◌, ◌<◌, ◌+◌, ◌-◌, ◌++◌, ◌==◌, ◌∙◌, ℕ, List, [], ◌∷◌, zero, suc, Bool, true, false, cond, Option, None, Some, is_some, refl, ap, sym, subst, length, map, reverse, find, arith, eqb-true, false-eqb, slice_get, option_map}
 use Rattle.std.specs.Option.{option_map_or}
 use Rattle.std.proofs.lemmas.List.{length-map, length-reverse}
 use mathlib.Core.List.{reverse-cons}
@@ -13,11 +13,15 @@ use Rattle.lcm_events.specs.declared.events.Operation.{Operation}
 use Rattle.lcm_model.specs.Allowed.{IsAllowedWithin, IsLegalWithin}
 use Rattle.lcm_model.specs.Operations.{occurrence_of, operation, operations}
 use Rattle.lcm_laws.proofs.AboutLaws.{about_asked, unasked_untouched}
-use Rattle.lcm_laws.proofs.Histories.{event}
+use Rattle.lcm_laws.proofs.Histories.{event, legal_induction}
 use Rattle.lcm_laws.proofs.Lists.{by_test}
 use Rattle.lcm_laws.proofs.NumberLaws.{IsCounted, found_exactly, operations_counted}
-use Rattle.occ_table.specs.Rows.{StandsFor, occurrence, row, rows}
-use Rattle.occ_table.specs.Steps.{first_row, row_after, rows_about, rows_after, update, is_granting}
+use Rattle.lcm_events.proofs.SameLaws.{eq-refl}
+use Rattle.lcm_events.specs.declared.events.GrantTry.{GrantTry}
+use Rattle.lcm_events.specs.declared.events.GrantTry.TheVariants.{Later, NotCovering, Trouble}
+use Rattle.occ_table.specs.Rows.{StandsFor, cause, cause_in, occurrence, row, rows}
+use Rattle.occ_table.specs.Steps.{first_row, row_after, rows_about, rows_after, update, after_told, is_bringing, is_later}
+use Rattle.occ_table.specs.Table.{needs_room}
 use Rattle.occ_table.specs.declared.rows.OccRow.{OccRow}
 use Rattle.occ_table.proofs.RowSteps.{row-step}
 use Rattle.occ_table.proofs.Updates.{update-front, update-last, update-past, get-front, get-last}
@@ -47,12 +51,12 @@ changed f g h (x ∷ xs) n counted low e =
 
 -- an event about an occurrence changes its row alone
 about-step : (width m : ℕ) (H : List Event) (time : ℕ) (k : EventKind) (n : ℕ) → occurrence_of k ≡ Some n → width ≤ 4 → IsLegalWithin width m H → IsAllowedWithin width m H k
-    → reverse (map (row (event time k ∷ H)) (operations H)) ≡ update (row_after k) (n - 1) (rows H)
+    → reverse (map (row (event time k ∷ H)) (operations H)) ≡ update (row_after time k) (n - 1) (rows H)
 about-step width m H time k n e wide legal allowed =
-    changed (row H) (row (event time k ∷ H)) (row_after k) (operations H) n (operations_counted width m H legal)
+    changed (row H) (row (event time k ∷ H)) (row_after time k) (operations H) n (operations_counted width m H legal)
     ((found_exactly width m H legal n).0 (about_asked width m H k legal allowed n e)).0
-    (λ a. row-step width m H time k a wide legal allowed
-    ∙ ap (λ (o : Option ℕ). cond (option_map_or (λ n. n == a.occ) o false) (row_after k (row H a)) (row H a)) e)
+    (λ a. row-step width m H time k n a e wide legal allowed
+    ∙ ap (λ (o : Option ℕ). cond (option_map_or (λ n. n == a.occ) o false) (row_after time k (row H a)) (row H a)) e)
 
 none_there : {A : Type 0} → (x : Option A) → (is_some x ≡ true → ⊥) → x ≡ None
 none_there None f = refl
@@ -61,21 +65,78 @@ none_there (Some x) f = absurd (f refl)
 with_lists : (r : OccRow) {n k : List ℕ} → r.nets ≡ n → r.attempts ≡ k → r ≡ record r { nets = n; attempts = k }
 with_lists r {n} {k} e f = ap (λ (x : List ℕ). record r { nets = x }) e ∙ ap (λ (x : List ℕ). record r { nets = n; attempts = x }) f
 
+-- an event that isn't about an occurrence gives it no cause
+not_caused : (H : List Event) (k : EventKind) (o : ℕ) → (occurrence_of k ≡ Some o → ⊥) → cause_in o H k ≡ None
+not_caused H (GrantTried n answer) o f = by_test (n == o) (λ same. absurd (f (ap Some (eqb-true n o same)))) (λ other. rw other refl)
+not_caused H (Denied n) o f = by_test (n == o) (λ same. absurd (f (ap Some (eqb-true n o same)))) (λ other. rw other refl)
+not_caused H (Settled t outcome) o f = by_test (t.occ == o) (λ same. absurd (f (ap Some (eqb-true t.occ o same)))) (λ other. rw other refl)
+not_caused H (CancelAsked n mode) o f = by_test (n == o) (λ same. absurd (f (ap Some (eqb-true n o same)))) (λ other. rw other refl)
+not_caused H _ o f = refl
+
+unasked_before : (H : List Event) (time : ℕ) (k : EventKind) (o : ℕ) → operation (event time k ∷ H) o ≡ None → operation H o ≡ None
+unasked_before H time (Asked a) o e = find_none (a.occ == o) e where
+  find_none : (b : Bool) → cond b (Some a) (operation H o) ≡ None → operation H o ≡ None
+  find_none true e = cc
+  find_none false e = e
+unasked_before H time _ o e = e
+
+uncaused_step : (width m : ℕ) (H : List Event) (time : ℕ) (k : EventKind) (o : ℕ) → IsLegalWithin width m H → IsAllowedWithin width m H k
+    → (operation H o ≡ None → cause H o ≡ None) → operation (event time k ∷ H) o ≡ None → cause (event time k ∷ H) o ≡ None
+uncaused_step width m H time k o legal allowed h e =
+    let none : operation H o ≡ None = unasked_before H time k o e in
+    let away : cause_in o H k ≡ None = not_caused H k o (λ about.
+    let asked : is_some (operation H o) ≡ true = about_asked width m H k legal allowed o about in
+    let clash : is_some {T = Operation} None ≡ true = subst (λ (a : Option Operation). is_some a ≡ true) none asked in
+    cc) in
+    rw away (h none)
+
+-- no event gave a cause to an occurrence that wasn't asked for
+uncaused : (width m : ℕ) (H : List Event) → IsLegalWithin width m H → (o : ℕ) → operation H o ≡ None → cause H o ≡ None
+uncaused width m H legal o none =
+    legal_induction width m (λ H. operation H o ≡ None → cause H o ≡ None) (λ e. refl)
+    (λ H time k legal allowed h. uncaused_step width m H time k o legal allowed h) H legal none
+
+asked_row : (H : List Event) (time : ℕ) (a : Operation) → row (event time (Asked a) ∷ H) a ≡ record (row H a) { asked = time; entered = time }
+unfolding is_unsettled
+asked_row H time a = let own : (a.occ == a.occ) ≡ true = eq-refl a.occ in rw own refl
+
 -- the row of an operation when it is asked for
-first : (width m : ℕ) (H : List Event) (a : Operation) → IsLegalWithin width m H → IsAllowedWithin width m H (Asked a) → row H a ≡ first_row a
-first width m H a legal allowed =
+first : (width m : ℕ) (H : List Event) (time : ℕ) (a : Operation) → IsLegalWithin width m H → IsAllowedWithin width m H (Asked a)
+    → row (event time (Asked a) ∷ H) a ≡ first_row time a
+first width m H time a legal allowed =
     let none : operation H a.occ ≡ None = none_there (operation H a.occ) (λ there.
     let high = ((found_exactly width m H legal a.occ).0 there).1 in omega (arith, high, allowed.number)) in
     let still = unasked_untouched width m H legal a.occ none in
-    with_lists (row H a) (nets-none H a still) (attempts-none H a still)
-    ∙ rw (still.moves, still.answers, still.cancels, still.no_trouble, still.none_open, still.grant) refl
+    let calm : cause H a.occ ≡ None = uncaused width m H legal a.occ none in
+    asked_row H time a
+    ∙ (with_lists (record (row H a) { asked = time; entered = time }) (nets-none H a still) (attempts-none H a still)
+    ∙ rw (still.moves, still.answers, still.cancels, still.no_trouble, still.none_open, still.grant, calm) refl)
+
+older_row : (H : List Event) (time : ℕ) (a x : Operation) → (a.occ == x.occ) ≡ false → row (event time (Asked a) ∷ H) x ≡ row H x
+unfolding is_unsettled
+older_row H time a x other = rw other refl
+
+-- the rows of operations that were asked for before
+older : (H : List Event) (time : ℕ) (a : Operation) (xs : List Operation) → IsCounted (λ x. x.occ) xs → length xs < a.occ
+    → map (row (event time (Asked a) ∷ H)) xs ≡ map (row H) xs
+older H time a [] counted less = refl
+older H time a (x ∷ xs) counted less =
+    let other : (a.occ == x.occ) ≡ false = by_test (a.occ == x.occ)
+    (λ same. let is : a.occ ≡ x.occ = eqb-true a.occ x.occ same in absurd (omega (arith, is, less, counted.0)))
+    (λ no. no) in
+    ap (λ (r : OccRow). r ∷ map (row (event time (Asked a) ∷ H)) xs) (older_row H time a x other)
+    ∙ ap (λ (rs : List OccRow). row H x ∷ rs) (older H time a xs counted.1 (omega (arith, less)))
 
 -- what an event makes of the rows
 pub rows-step : (width m : ℕ) (H : List Event) (time : ℕ) (k : EventKind) → width ≤ 4 → IsLegalWithin width m H → IsAllowedWithin width m H k
-    → rows (event time k ∷ H) ≡ rows_after k (rows H)
+    → rows (event time k ∷ H) ≡ rows_after time k (rows H)
 unfolding is_unsettled
 rows-step width m H time (Asked a) wide legal allowed =
-    reverse-cons (row H a) (map (row H) (operations H)) ∙ ap (λ (r : OccRow). rows H ++ r ∷ []) (first width m H a legal allowed)
+    let new : Operation → OccRow = row (event time (Asked a) ∷ H) in
+    let long : length (operations H) < a.occ = omega (arith, allowed.number) in
+    reverse-cons (new a) (map new (operations H))
+    ∙ (ap (λ (rs : List OccRow). reverse rs ++ new a ∷ []) (older H time a (operations H) (operations_counted width m H legal) long)
+    ∙ ap (λ (r : OccRow). rows H ++ r ∷ []) (first width m H time a legal allowed))
 rows-step width m H time (GrantTried n answer) wide legal allowed = about-step width m H time (GrantTried n answer) n refl wide legal allowed
 rows-step width m H time (Granted n grant places spots) wide legal allowed = about-step width m H time (Granted n grant places spots) n refl wide legal allowed
 rows-step width m H time (Denied n) wide legal allowed = about-step width m H time (Denied n) n refl wide legal allowed
@@ -88,9 +149,9 @@ rows-step width m H time _ wide legal allowed = refl
 
 -- rows that stood for a history stand for it with one event more
 pub applied : (width m : ℕ) (H : List Event) (e : Event) (old : List OccRow) → width ≤ 4 → IsLegalWithin width m H → IsAllowedWithin width m H e.kind → StandsFor old H
-    → StandsFor (rows_after e.kind old) (e ∷ H)
+    → StandsFor (rows_after e.moment e.kind old) (e ∷ H)
 applied width m H e old wide legal allowed stands =
-    ap (λ (rs : List OccRow). rows_after e.kind rs) stands ∙ sym (rows-step width m H e.moment e.kind wide legal allowed)
+    ap (λ (rs : List OccRow). rows_after e.moment e.kind rs) stands ∙ sym (rows-step width m H e.moment e.kind wide legal allowed)
 
 -- an event is about a number from 1
 pub low : (width m : ℕ) (H : List Event) (k : EventKind) (n : ℕ) → occurrence_of k ≡ Some n → IsLegalWithin width m H → IsAllowedWithin width m H k → 1 ≤ n
@@ -124,27 +185,55 @@ none-zero width m H legal =
     none_there (operation H 0) (λ there. let low = ((found_exactly width m H legal 0).0 there).0 in omega (arith, low))
 
 -- rows that followed an event that asks for no operation
-pub followed : (width m : ℕ) (H : List Event) (k : EventKind) (old new : List OccRow) → ((a : Operation) → k ≡ Asked a → ⊥)
-    → ((n : ℕ) → occurrence_of k ≡ Some n → 1 ≤ n → new ≡ rows_about (occurrence_of k) k old) → (occurrence_of k ≡ None → new ≡ old)
-    → IsLegalWithin width m H → IsAllowedWithin width m H k → new ≡ rows_after k old
-followed width m H (Asked a) old new not g h legal allowed = absurd (not a refl)
-followed width m H (GrantTried n answer) old new not g h legal allowed = g n refl (low width m H (GrantTried n answer) n refl legal allowed)
-followed width m H (Granted n grant places spots) old new not g h legal allowed = g n refl (low width m H (Granted n grant places spots) n refl legal allowed)
-followed width m H (Denied n) old new not g h legal allowed = g n refl (low width m H (Denied n) n refl legal allowed)
-followed width m H (Intent t) old new not g h legal allowed = g t.occ refl (low width m H (Intent t) t.occ refl legal allowed)
-followed width m H (CallFailed t) old new not g h legal allowed = g t.occ refl (low width m H (CallFailed t) t.occ refl legal allowed)
-followed width m H (Settled t outcome) old new not g h legal allowed = g t.occ refl (low width m H (Settled t outcome) t.occ refl legal allowed)
-followed width m H (Moved n to) old new not g h legal allowed = g n refl (low width m H (Moved n to) n refl legal allowed)
-followed width m H (CancelAsked n mode) old new not g h legal allowed = g n refl (low width m H (CancelAsked n mode) n refl legal allowed)
-followed width m H _ old new not g h legal allowed = h refl
+pub followed : (width m : ℕ) (H : List Event) (time : ℕ) (k : EventKind) (old new : List OccRow) → ((a : Operation) → k ≡ Asked a → ⊥)
+    → ((n : ℕ) → occurrence_of k ≡ Some n → 1 ≤ n → new ≡ rows_about (occurrence_of k) time k old) → (occurrence_of k ≡ None → new ≡ old)
+    → IsLegalWithin width m H → IsAllowedWithin width m H k → new ≡ rows_after time k old
+followed width m H time (Asked a) old new not g h legal allowed = absurd (not a refl)
+followed width m H time (GrantTried n answer) old new not g h legal allowed = g n refl (low width m H (GrantTried n answer) n refl legal allowed)
+followed width m H time (Granted n grant places spots) old new not g h legal allowed = g n refl (low width m H (Granted n grant places spots) n refl legal allowed)
+followed width m H time (Denied n) old new not g h legal allowed = g n refl (low width m H (Denied n) n refl legal allowed)
+followed width m H time (Intent t) old new not g h legal allowed = g t.occ refl (low width m H (Intent t) t.occ refl legal allowed)
+followed width m H time (CallFailed t) old new not g h legal allowed = g t.occ refl (low width m H (CallFailed t) t.occ refl legal allowed)
+followed width m H time (Settled t outcome) old new not g h legal allowed = g t.occ refl (low width m H (Settled t outcome) t.occ refl legal allowed)
+followed width m H time (Moved n to) old new not g h legal allowed = g n refl (low width m H (Moved n to) n refl legal allowed)
+followed width m H time (CancelAsked n mode) old new not g h legal allowed = g n refl (low width m H (CancelAsked n mode) n refl legal allowed)
+followed width m H time _ old new not g h legal allowed = h refl
 
 -- a number that isn't 0
 pub one_up : (n : ℕ) → (n ≡ 0 → ⊥) → 1 ≤ n
 one_up zero f = absurd (f refl)
 one_up (suc n) f = omega arith
 
--- an event that is no grant
-pub not_granting : (k : EventKind) → ((n : ℕ) (name : List ℕ) (places : List Place) (spots : List ℕ) → k ≡ Granted n name places spots → ⊥)
-    → is_granting k ≡ false
-not_granting (Granted n name places spots) f = absurd (f n name places spots refl)
-not_granting _ f = refl
+-- an event that brings nothing
+pub not_bringing : (k : EventKind) → ((n : ℕ) (name : List ℕ) (places : List Place) (spots : List ℕ) → k ≡ Granted n name places spots → ⊥)
+    → ((n : ℕ) (answer : GrantTry) → k ≡ GrantTried n answer → ⊥) → is_bringing k ≡ false
+not_bringing (Granted n name places spots) f g = absurd (f n name places spots refl)
+not_bringing (GrantTried n answer) f g = absurd (g n answer refl)
+not_bringing _ f g = refl
+
+-- what a try with a location makes of the rows
+pub told_rows : (time n : ℕ) (answer : GrantTry) (location : Option (List ℕ)) (old new : List OccRow) → is_later answer ≡ true
+    → ((at : List ℕ) → answer ≡ Later at → location ≡ Some at) → ((at : List ℕ) → location ≡ Some at → new ≡ update (after_told at) (n - 1) old)
+    → new ≡ update (row_after time (GrantTried n answer)) (n - 1) old
+told_rows time n (Later at) location old new later room put = put at (room at refl)
+told_rows time n Trouble location old new later room put = cc
+told_rows time n NotCovering location old new later room put = cc
+
+-- what a try makes of the rows
+pub tried : (time : ℕ) (k : EventKind) (n : ℕ) (answer : GrantTry) (old : List OccRow) → k ≡ GrantTried n answer
+    → update (row_after time k) (n - 1) old ≡ rows_after time k old
+tried time (GrantTried o answer) n given old is = let same : o ≡ n = cc in rw same refl
+tried time (Granted o name places spots) n given old is = cc
+tried time (Denied o) n given old is = cc
+tried time (Intent t) n given old is = cc
+tried time (CallFailed t) n given old is = cc
+tried time (Settled t outcome) n given old is = cc
+tried time (Moved o to) n given old is = cc
+tried time (CancelAsked o mode) n given old is = cc
+tried time _ n given old is = cc
+
+-- a try with a location needs room for it
+pub needs_location : (n : ℕ) (answer : GrantTry) → is_later answer ≡ true → needs_room (GrantTried n answer) ≡ true
+needs_location n (Later at) later = refl
+needs_location n Trouble later = cc
+needs_location n NotCovering later = cc

@@ -3,9 +3,10 @@
 use Rattle.lcm_events.specs.declared.states.OpState.{OpState}
 use Rattle.lcm_model.specs.Refusals.{is_terminate}
 use Rattle.occ_table.specs.declared.rows.Grant.{Grant}
+use Rattle.lcm_model.specs.Words.{otherwise, when}
 use Rattle.lcm_model.specs.Work.{net_after}
 use Rattle.std.specs.List.{list_any, list_all}
-use Rattle.std.specs.Prelude.{List, None, Option, Some, [], false, min, nat_le, true, ℕ, ◌||◌, ◌+◌, ◌-◌, ◌++◌, ◌∷◌, zero, suc, Bool, filter, map, if◌then◌else◌, length, nat_lt, not, ◌&&◌, replicate, slice_set, is_none, is_some, ◌==◌}
+use Rattle.std.specs.Prelude.{List, None, Option, Some, [], false, min, nat_le, true, ℕ, ◌||◌, ◌+◌, ◌-◌, ◌++◌, ◌∷◌, zero, suc, Bool, filter, map, if◌then◌else◌, length, nat_lt, not, ◌&&◌, replicate, slice_set, is_none, is_some, ◌==◌, ◌≡◌}
 use Rattle.lcm_events.specs.declared.events.EventKind.{EventKind}
 use Rattle.lcm_events.specs.declared.events.EventKind.TheVariants.{Asked, CallFailed, CancelAsked, Denied, GrantTried, Granted, Intent, Moved, Settled}
 use Rattle.lcm_events.specs.declared.events.GrantTry.{GrantTry}
@@ -19,32 +20,50 @@ use Rattle.lcm_events.specs.Same.{same_tag}
 use Rattle.lcm_events.specs.declared.attempts.Outcome.{Outcome}
 use Rattle.lcm_events.specs.declared.attempts.Outcome.TheVariants.{Aborted, Broken, Done, NotBegun}
 use Rattle.lcm_events.specs.declared.attempts.Tag.{Tag}
+use Rattle.lcm_events.specs.Same.{same_state}
+use Rattle.lcm_events.specs.declared.places.Place.{Place}
+use Rattle.lcm_model.specs.Descriptors.{is_given}
+use Rattle.lcm_model.specs.Grants.{IsPlacing}
+use Rattle.occ_table.specs.declared.causes.Cause.{Cause}
+use Rattle.occ_table.specs.declared.causes.Cause.TheVariants as causes
 use Rattle.occ_table.specs.declared.pending.Pending.{Pending}
 use Rattle.occ_table.specs.declared.rows.OccRow.{OccRow}
 
--- the row of an operation when it is asked for
-abbrev pub first_row : Operation → OccRow
-first_row a = record {
+-- the row of an operation that is asked for at this time
+abbrev pub first_row : ℕ → Operation → OccRow
+first_row time a = record {
   instance = a.instance;
   role = a.role;
-  terminates = is_terminate a.ask;
+  ask = a.ask;
   changes = a.changes;
   nets = replicate (length a.changes) 0;
   attempts = replicate (length a.changes) 0;
   state = Starting;
+  asked = time;
+  entered = time;
+  location = None;
   tries = 0;
   ended = false;
   cancel = None;
   trouble = false;
+  cause = None;
   pending = [];
   grant = None;
 }
 
+-- the row after a try in trouble
+abbrev pub after_trouble : OccRow → OccRow
+after_trouble r = record r {
+  tries = min (r.tries + 1) 255;
+  ended = r.ended || nat_le 5 (min (r.tries + 1) 255);
+  cause = otherwise (when (r.tries == 4) causes.NoGrant) r.cause;
+}
+
 -- the row after a try that led to no grant
 abbrev pub after_answer : GrantTry → OccRow → OccRow
-after_answer (Later at) r = r
-after_answer Trouble r = record r { tries = min (r.tries + 1) 255; ended = r.ended || nat_le 5 (min (r.tries + 1) 255) }
-after_answer NotCovering r = record r { ended = true }
+after_answer (Later at) r = record r { location = Some at }
+after_answer Trouble r = after_trouble r
+after_answer NotCovering r = record r { ended = true; cause = Some causes.NotCovering }
 
 -- the mode in force after one more cancel
 abbrev pub after_cancel : CancelMode → Option CancelMode → Option CancelMode
@@ -78,6 +97,13 @@ is_trouble_among t (Broken code) ps = true
 is_trouble_among t Aborted ps = true
 is_trouble_among t NotBegun ps = has_failed_among t ps
 
+-- the cause that it is that one of these attempts ends so
+abbrev pub cause_among : Tag → Outcome → List Pending → Option Cause
+cause_among t (Done name) ps = None
+cause_among t (Broken code) ps = Some (causes.Broken t.change code)
+cause_among t Aborted ps = Some (causes.Aborted t.change)
+cause_among t NotBegun ps = when (has_failed_among t ps) (causes.CallFailed t.change)
+
 -- the row after an attempt has begun
 abbrev pub after_begun : Tag → OccRow → OccRow
 after_begun t r = record r { pending = begun t r.pending; attempts = slice_set r.attempts t.change t.attempt }
@@ -89,29 +115,43 @@ nets_after t _ ns = ns
 
 -- the row after an attempt has ended
 abbrev pub after_settled : Tag → Outcome → OccRow → OccRow
-after_settled t outcome r =
-    record r { trouble = is_trouble_among t outcome r.pending || r.trouble; pending = ended t r.pending; nets = nets_after t outcome r.nets }
+after_settled t outcome r = record r {
+  trouble = is_trouble_among t outcome r.pending || r.trouble;
+  cause = otherwise (cause_among t outcome r.pending) r.cause;
+  pending = ended t r.pending;
+  nets = nets_after t outcome r.nets;
+}
 
 -- the row after its occurrence was granted
 abbrev pub after_granted : Grant → OccRow → OccRow
 after_granted g r = record r { ended = true; grant = Some g }
 
--- the event is a grant
-abbrev pub is_granting : EventKind → Bool
-is_granting (Granted o name places spots) = true
-is_granting _ = false
+-- the row after it was told where its grant will be
+abbrev pub after_told : List ℕ → OccRow → OccRow
+after_told at r = record r { location = Some at }
 
--- the row after an event that is about its occurrence
-abbrev pub row_after : EventKind → OccRow → OccRow
-row_after (GrantTried o answer) r = after_answer answer r
-row_after (Granted o name places spots) r = after_granted (record { name = name; places = places; spots = spots }) r
-row_after (Denied o) r = record r { ended = true }
-row_after (Moved o to) r = record r { state = to; cancel = None; trouble = false }
-row_after (CancelAsked o mode) r = record r { cancel = after_cancel mode r.cancel }
-row_after (Intent t) r = after_begun t r
-row_after (CallFailed t) r = record r { pending = map (failed_by t) r.pending }
-row_after (Settled t outcome) r = after_settled t outcome r
-row_after _ r = r
+-- the answer tells where the grant will be
+abbrev pub is_later : GrantTry → Bool
+is_later (Later at) = true
+is_later _ = false
+
+-- the event brings what is laid aside for it: a grant, or the location of one
+abbrev pub is_bringing : EventKind → Bool
+is_bringing (Granted o name places spots) = true
+is_bringing (GrantTried o answer) = is_later answer
+is_bringing _ = false
+
+-- the row after an event of this moment that is about its occurrence
+abbrev pub row_after : ℕ → EventKind → OccRow → OccRow
+row_after time (GrantTried o answer) r = after_answer answer r
+row_after time (Granted o name places spots) r = after_granted (record { name = name; places = places; spots = spots }) r
+row_after time (Denied o) r = record r { ended = true; cause = Some causes.Denied }
+row_after time (Moved o to) r = record r { state = to; entered = time; cancel = None; trouble = false }
+row_after time (CancelAsked o mode) r = record r { cancel = after_cancel mode r.cancel; cause = Some causes.Cancelled }
+row_after time (Intent t) r = after_begun t r
+row_after time (CallFailed t) r = record r { pending = map (failed_by t) r.pending }
+row_after time (Settled t outcome) r = after_settled t outcome r
+row_after time _ r = r
 
 -- a list with the entry at this place changed
 abbrev pub update : {A : Type 0} → (A → A) → ℕ → List A → List A
@@ -119,15 +159,15 @@ update f n [] = []
 update f zero (x ∷ xs) = f x ∷ xs
 update f (suc n) (x ∷ xs) = x ∷ update f n xs
 
--- the rows after an event about this occurrence, or about none
-abbrev pub rows_about : Option ℕ → EventKind → List OccRow → List OccRow
-rows_about None k rs = rs
-rows_about (Some o) k rs = update (row_after k) (o - 1) rs
+-- the rows after an event of this moment about this occurrence, or about none
+abbrev pub rows_about : Option ℕ → ℕ → EventKind → List OccRow → List OccRow
+rows_about None time k rs = rs
+rows_about (Some o) time k rs = update (row_after time k) (o - 1) rs
 
--- the rows after an event
-abbrev pub rows_after : EventKind → List OccRow → List OccRow
-rows_after (Asked a) rs = rs ++ first_row a ∷ []
-rows_after k rs = rows_about (occurrence_of k) k rs
+-- the rows after an event of this moment
+abbrev pub rows_after : ℕ → EventKind → List OccRow → List OccRow
+rows_after time (Asked a) rs = rs ++ first_row time a ∷ []
+rows_after time k rs = rows_about (occurrence_of k) time k rs
 
 -- no attempt is open
 abbrev pub none_open : List Pending → Bool
@@ -155,6 +195,21 @@ gives_up_row r = is_forced_mode r.cancel || (r.ended && not (is_some r.grant)) |
 abbrev pub all_nets : ℕ → OccRow → Bool
 all_nets net r = list_all (λ n. n == net) r.nets
 
+-- the grant exchange of the row's occurrence goes on
+abbrev pub is_asking_row : OccRow → Bool
+is_asking_row r = same_state r.state Starting && not r.ended && not (is_forced_mode r.cancel)
+
+-- a try tells the row a location only where it has none
+abbrev pub is_new_try_row : GrantTry → OccRow → Bool
+is_new_try_row (Later at) r = is_none r.location
+is_new_try_row _ r = true
+
+-- the grant may be recorded in the row
+pub record MayTake (r : OccRow) (name : List ℕ) (places : List Place) (spots : List ℕ) : Type 0 where
+  pub asking : is_asking_row r ≡ true
+  pub named : is_given name ≡ true
+  pub placed : IsPlacing places spots (length r.changes)
+
 -- the row's occurrence may move from the one state to the other
 abbrev pub may_move_from : OpState → OpState → OccRow → Bool
 may_move_from Starting Processing r = is_some r.grant && is_none r.cancel
@@ -163,7 +218,7 @@ may_move_from Processing Completed r = is_quiet_row r && all_nets 1 r
 may_move_from RollingBack RolledBack r = is_quiet_row r && all_nets 0 r
 may_move_from Processing FailedTemp r = has_stopped_row r
 may_move_from RollingBack FailedTemp r = has_stopped_row r
-may_move_from FailedTemp RollingBack r = not r.terminates
+may_move_from FailedTemp RollingBack r = not (is_terminate r.ask)
 may_move_from FailedTemp Processing r = true
 may_move_from FailedTemp Failed r = true
 may_move_from _ _ r = false

@@ -3,17 +3,19 @@ use Rattle.occ_table.specs.declared.rows.Grant.{Grant}
 use Rattle.std.specs.Prelude.{Bool, List, Option, Some, false, true, ℕ, ◌∷◌, ◌<◌, ◌≡◌, ◌≤◌, IsTrue, ◌↔◌}
 use Rattle.lcm_events.specs.declared.events.Event.{Event}
 use Rattle.lcm_events.specs.declared.events.EventKind.{EventKind}
-use Rattle.lcm_events.specs.declared.events.EventKind.TheVariants.{Asked, Granted}
+use Rattle.lcm_events.specs.declared.events.EventKind.TheVariants.{Asked, GrantTried, Granted}
+use Rattle.lcm_events.specs.declared.events.GrantTry.TheVariants.{Later}
 use Rattle.lcm_model.specs.Allowed.{IsAllowedWithin, IsLegalWithin}
 use Rattle.lcm_model.specs.Operations.{occurrences_made}
 use Rattle.occ_table.specs.Rows.{StandsFor, occurrence}
 use Rattle.occ_table.specs.Steps.{first_row}
 use Rattle.occ_table.specs.declared.rows.OccRow.{OccRow}
 
--- what is reserved: a row that is to come, a grant that is to come, and room for how many more rows
+-- what is reserved: a row, a grant and a location that are to come, and room for how many more rows
 pub record Reserved : Type 0 where
   pub row : Option OccRow
   pub grant : Option Grant
+  pub location : Option (List ℕ)
   pub spare : ℕ
 
 -- what a contract sees of the table: its rows, and what is reserved
@@ -25,13 +27,19 @@ pub record Occurrences : Type 0 where
 abbrev pub needs_room : EventKind → Bool
 needs_room (Asked a) = true
 needs_room (Granted o name places spots) = true
+needs_room (GrantTried o (Later at)) = true
 needs_room _ = false
 
+-- what an event of this moment needs is reserved
+abbrev pub HasRoomFor : ℕ → EventKind → Reserved → Type 0
+HasRoomFor time (Asked a) r = (r.row ≡ Some (first_row time a)) × (0 < r.spare)
+HasRoomFor time (Granted o name places spots) r = r.grant ≡ Some (record { name = name; places = places; spots = spots })
+HasRoomFor time (GrantTried o (Later at)) r = r.location ≡ Some at
+HasRoomFor time _ r = Unit {0}
+
 -- what the event needs is reserved
-abbrev pub HasRoom : EventKind → Reserved → Type 0
-HasRoom (Asked a) r = (r.row ≡ Some (first_row a)) × (0 < r.spare)
-HasRoom (Granted o name places spots) r = r.grant ≡ Some (record { name = name; places = places; spots = spots })
-HasRoom _ r = Unit {0}
+abbrev pub HasRoom : Event → Reserved → Type 0
+HasRoom e r = HasRoomFor e.moment e.kind r
 
 -- rows that stood for a legal history stand for it with the event that was allowed after it, where at most four attempts of an
 -- occurrence may be open

@@ -1,15 +1,63 @@
 //! Whether an event is allowed after the history that the table stands for, by the row of its occurrence alone.
 
 ghost use Rattle.lcm_events.specs.declared.attempts.Outcome.{Outcome};
-ghost use Rattle.lcm_events.specs.declared.events.EventKind.TheVariants.{CallFailed, CancelAsked, Moved, Settled};
+ghost use Rattle.std.specs.Prelude.{IfOk};
+ghost use Rattle.lcm_events.specs.declared.events.EventKind.TheVariants.{CallFailed, CancelAsked, Denied, GrantTried, Granted, Moved, Settled};
 ghost use Rattle.lcm_events.specs.declared.states.CancelMode.{CancelMode};
 ghost use Rattle.occ_table.specs.Table.{Judges};
 
 use crate::table::OccTable;
-use lcm_events::{OpState, Tag};
+use lcm_events::{GrantTry, OpState, Place, Tag};
 use lcm_model::works;
+use std::alloc::{AllocError, Global};
+use vnfm_base::Name;
 
 impl OccTable {
+    /// Whether it may be recorded of an occurrence that a grant request didn't lead to a grant: the exchange goes on, and a location is told
+    /// only where none is known.
+    ///
+    /// Source: SOL 003 9.4.2 (Grants).
+    pub fn may_try(&self, occ: u64, answer: &GrantTry) -> bool
+        ensures judged { Judges (GrantTried occ answer.now) result self.now.rows }
+    {
+        match self.occurrence(occ) {
+            Some(row) => row.may_try(answer),
+            None => false,
+        }
+    }
+
+    /// Whether an occurrence may be denied: its exchange goes on.
+    ///
+    /// Source: SOL 003 9.4.2 (Grants).
+    pub fn may_deny(&self, occ: u64) -> bool
+        ensures judged { Judges (Denied occ) result self.now.rows }
+    {
+        match self.occurrence(occ) {
+            Some(row) => row.is_asking(),
+            None => false,
+        }
+    }
+
+    /// Whether a grant of an occurrence may be recorded: the exchange goes on, the grant has an identifier, and each change one of its places,
+    /// which stand in the order of the first change that has them.
+    ///
+    /// Source: SOL 003 9.5.2.3 (Grant).
+    pub fn may_grant(
+        &self,
+        alloc: Global,
+        occ: u64,
+        grant: &Name,
+        places: &[Place],
+        spots: &[u8],
+    ) -> Result<bool, AllocError>
+        ensures judged { IfOk result (λ yes. Judges (Granted occ grant.now places.now spots.now) yes self.now.rows) }
+    {
+        match self.occurrence(occ) {
+            Some(row) => row.may_take(alloc, grant, places, spots),
+            None => Ok(false),
+        }
+    }
+
     /// Whether an attempt may end: it is open.
     ///
     /// Source: own rule.

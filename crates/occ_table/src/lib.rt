@@ -1,12 +1,15 @@
 //! The table of occurrences: what the history says of each, kept event by event, so that a question costs one look-up.
 #![tactic(auto)]
 
+mod asks;
+mod causes;
 mod cells;
 mod judges;
 mod pending;
 mod rows;
 mod table;
 
+pub use causes::Cause;
 pub use cells::Cells;
 pub use pending::{Pending, Pendings};
 pub use rows::{Grant, OccRow};

@@ -1,17 +1,22 @@
 //! The row of an occurrence, and what each event makes of it.
 
 ghost use Rattle.std.specs.List.{list_all};
-ghost use Rattle.std.specs.Prelude.{◌≡◌, IfOk, None, false, map, true, ◌==◌};
-ghost use Rattle.occ_table.specs.Steps.{after_answer, after_cancel, after_settled, begun, failed_by, first_row, is_trouble_among, row_after, after_begun, nets_after, after_granted, is_granting, gives_up_row, has_stopped_row, is_quiet_row, may_move_from};
+ghost use Rattle.std.specs.Prelude.{◌≡◌, ◌&&◌, ◌↔◌, IfOk, IsTrue, None, Some, false, map, true, ◌==◌, ◌+◌, min};
+ghost use Rattle.lcm_model.specs.Words.{otherwise, when};
+ghost use Rattle.occ_table.specs.declared.causes.Cause.TheVariants as causes;
+ghost use Rattle.occ_table.specs.Steps.{after_answer, after_cancel, after_settled, after_told, after_trouble, begun, cause_among, failed_by, first_row, is_trouble_among, row_after, after_begun, nets_after, after_granted, is_bringing, is_later, gives_up_row, has_stopped_row, is_asking_row, is_new_try_row, MayTake, is_quiet_row, may_move_from};
 
+use crate::asks::copied_ask;
+use crate::causes::Cause;
 use crate::cells::Cells;
 use crate::pending::Pendings;
 use lcm_events::{
     Ask, CancelMode, Changes, EventKind, GrantTry, Listed, OpState, Operation, Outcome, Place,
     Role, Tag, Way,
 };
+use lcm_model::is_placing;
 use std::alloc::{AllocError, Global};
-use vnfm_base::Name;
+use vnfm_base::{Line, Moment, Name};
 
 /// Tries in trouble after which the grant exchange is given up.
 const TRIES: u8 = 5;
@@ -58,8 +63,8 @@ pub struct OccRow {
     pub instance: u64,
     /// Who asked.
     pub role: Role,
-    /// Whether it is a TERMINATE.
-    pub terminates: bool,
+    /// What was asked for.
+    pub ask: Ask,
     /// The changes in the order of the plan.
     pub changes: Changes,
     /// The net of each change: 1 where it is made, 0 where it isn't or was undone.
@@ -68,6 +73,12 @@ pub struct OccRow {
     pub attempts: Cells<u32>,
     /// The state that it is in.
     pub state: OpState,
+    /// When it was asked for.
+    pub asked: Moment,
+    /// When it came into its state.
+    pub entered: Moment,
+    /// Where its grant will be, where that was told.
+    pub location: Option<Line>,
     /// How many tries of its grant exchange were in trouble.
     pub tries: u8,
     /// Whether its grant exchange has ended.
@@ -76,6 +87,8 @@ pub struct OccRow {
     pub cancel: Option<CancelMode>,
     /// Whether there is trouble since the last move.
     pub trouble: bool,
+    /// Why its work stopped: the last cause that an event gave.
+    pub cause: Option<Cause>,
     /// The open attempts in the order in which they began.
     pub pending: Pendings,
     /// What was granted.
@@ -83,11 +96,11 @@ pub struct OccRow {
 }
 
 impl OccRow {
-    /// The row of an operation that is asked for.
-    pub fn first(alloc: Global, operation: &Operation) -> Result<OccRow, AllocError>
-        ensures { IfOk result (λ r. r ≡ first_row operation.now) }
+    /// The row of an operation that is asked for at this moment.
+    pub fn first(alloc: Global, moment: Moment, operation: &Operation) -> Result<OccRow, AllocError>
+        ensures { IfOk result (λ r. r ≡ first_row moment operation.now) }
     {
-        let terminates = matches!(operation.ask, Ask::Terminate { .. });
+        let ask = copied_ask(alloc, &operation.ask)?;
         let changes = operation.changes.as_slice().to_vec(alloc)?;
         let nets = vec![in alloc; 0u8; changes.len()]?;
         let attempts = vec![in alloc; 0u32; changes.len()]?;
@@ -95,57 +108,73 @@ impl OccRow {
         Ok(OccRow {
             instance: operation.instance,
             role: operation.role,
-            terminates,
+            ask,
             changes: Listed::of(changes),
             nets: Cells::of(nets),
             attempts: Cells::of(attempts),
             state: OpState::Starting,
+            asked: moment,
+            entered: moment,
+            location: None,
             tries: 0,
             ended: false,
             cancel: None,
             trouble: false,
+            cause: None,
             pending,
             grant: None,
         })
     }
 
-    /// A grant request didn't lead to a grant.
+    /// A try of the exchange was in trouble.
+    fn record_trouble(&mut self)
+        ensures { self.new ≡ after_trouble self.old }
+    {
+        if self.tries == TRIES - 1 {
+            self.cause = Some(Cause::NoGrant);
+        }
+        let tries = self.tries.saturating_add(1);
+        self.tries = tries;
+        self.ended = self.ended || tries >= TRIES;
+    }
+
+    /// The exchange has had its last answer, which is this cause.
+    fn end_exchange(&mut self, cause: Cause)
+        ensures { self.new ≡ record self.old { ended = true; cause = Some cause } }
+    {
+        self.ended = true;
+        self.cause = Some(cause);
+    }
+
+    /// A grant request didn't lead to a grant, and told no location.
     fn record_answer(&mut self, answer: &GrantTry)
+        requires { is_later answer.now ≡ false }
         ensures { self.new ≡ after_answer answer.now self.old }
     {
         match answer {
             GrantTry::Later(_) => {}
-            GrantTry::Trouble => {
-                let tries = self.tries.saturating_add(1);
-                self.tries = tries;
-                self.ended = self.ended || tries >= TRIES;
-            }
-            GrantTry::NotCovering => self.ended = true,
+            GrantTry::Trouble => self.record_trouble(),
+            GrantTry::NotCovering => self.end_exchange(Cause::NotCovering),
         }
-    }
-
-    /// The exchange has had its last answer.
-    fn end_exchange(&mut self)
-        ensures { self.new ≡ record self.old { ended = true } }
-    {
-        self.ended = true;
     }
 
     /// A cancel was asked for.
     fn record_cancel(&mut self, mode: CancelMode)
-        ensures { self.new ≡ record self.old { cancel = after_cancel mode self.old.cancel } }
+        ensures { self.new ≡ record self.old { cancel = after_cancel mode self.old.cancel; cause = Some causes.Cancelled } }
     {
+        self.cause = Some(Cause::Cancelled);
         self.cancel = match (mode, self.cancel) {
             (CancelMode::Graceful, Some(CancelMode::Forceful)) => Some(CancelMode::Forceful),
             _ => Some(mode),
         };
     }
 
-    /// The occurrence moved to a state.
-    fn move_to(&mut self, to: OpState)
-        ensures { self.new ≡ record self.old { state = to; cancel = None; trouble = false } }
+    /// The occurrence moved to a state at this moment.
+    fn move_to(&mut self, moment: Moment, to: OpState)
+        ensures { self.new ≡ record self.old { state = to; entered = moment; cancel = None; trouble = false } }
     {
         self.state = to;
+        self.entered = moment;
         self.cancel = None;
         self.trouble = false;
     }
@@ -159,6 +188,37 @@ impl OccRow {
             Outcome::Broken(_) => true,
             Outcome::Aborted => true,
             Outcome::NotBegun => self.pending.has_failed(tag),
+        }
+    }
+
+    /// The cause that it is that an open attempt ends so.
+    fn cause_of(&self, tag: &Tag, outcome: &Outcome) -> Option<Cause>
+        ensures { result ≡ cause_among tag.now outcome.now self.now.pending }
+    {
+        let change = tag.change;
+        match outcome {
+            Outcome::Done(_) => None,
+            Outcome::Broken(code) => Some(Cause::Broken {
+                change,
+                code: *code,
+            }),
+            Outcome::Aborted => Some(Cause::Aborted { change }),
+            Outcome::NotBegun => {
+                if self.pending.has_failed(tag) {
+                    Some(Cause::CallFailed { change })
+                } else {
+                    None
+                }
+            }
+        }
+    }
+
+    /// Work stopped for this cause, where there is one.
+    fn give_cause(&mut self, cause: Option<Cause>)
+        ensures { self.new ≡ record self.old { cause = otherwise cause self.old.cause } }
+    {
+        if cause.is_some() {
+            self.cause = cause;
         }
     }
 
@@ -180,7 +240,9 @@ impl OccRow {
         ensures { self.new ≡ after_settled tag.now outcome.now self.old }
     {
         let trouble = self.is_trouble(tag, outcome);
+        let cause = self.cause_of(tag, outcome);
         self.trouble = trouble || self.trouble;
+        self.give_cause(cause);
         self.pending.end(tag);
         self.set_net(tag, outcome);
     }
@@ -208,18 +270,25 @@ impl OccRow {
         self.grant = Some(grant);
     }
 
-    /// An event about the occurrence came, which is no grant.
-    pub fn follow(&mut self, kind: &EventKind)
-        requires { is_granting kind.now ≡ false }
-        ensures { self.new ≡ row_after kind.now self.old }
+    /// The occurrence was told where its grant will be.
+    pub fn take_location(&mut self, location: Line)
+        ensures { self.new ≡ after_told location self.old }
+    {
+        self.location = Some(location);
+    }
+
+    /// An event of this moment about the occurrence came, for which nothing is laid aside.
+    pub fn follow(&mut self, moment: Moment, kind: &EventKind)
+        requires { is_bringing kind.now ≡ false }
+        ensures { self.new ≡ row_after moment kind.now self.old }
     {
         match kind {
             EventKind::GrantTried { answer, .. } => self.record_answer(answer),
-            EventKind::Denied { .. } => self.end_exchange(),
+            EventKind::Denied { .. } => self.end_exchange(Cause::Denied),
             EventKind::Intent(tag) => self.begin(*tag),
             EventKind::CallFailed(tag) => self.fail_call(tag),
             EventKind::Settled { tag, outcome } => self.settle(tag, outcome),
-            EventKind::Moved { to, .. } => self.move_to(*to),
+            EventKind::Moved { to, .. } => self.move_to(moment, *to),
             EventKind::CancelAsked { mode, .. } => self.record_cancel(*mode),
             _ => {}
         }
@@ -248,6 +317,48 @@ impl OccRow {
         forced || (self.ended && !granted) || (granted && self.cancel.is_some())
     }
 
+    /// Whether its grant exchange goes on.
+    pub fn is_asking(&self) -> bool
+        ensures { result ≡ is_asking_row self.now }
+    {
+        let forced = matches!(self.cancel, Some(CancelMode::Forceful));
+        self.state == OpState::Starting && !self.ended && !forced
+    }
+
+    /// Whether a try of the exchange may be recorded that led to no grant.
+    pub fn may_try(&self, answer: &GrantTry) -> bool
+        ensures { result ≡ (is_asking_row self.now && is_new_try_row answer.now self.now) }
+    {
+        let new = self.is_new_try(answer);
+        self.is_asking() && new
+    }
+
+    /// Whether this grant may be recorded.
+    pub fn may_take(
+        &self,
+        alloc: Global,
+        grant: &Name,
+        places: &[Place],
+        spots: &[u8],
+    ) -> Result<bool, AllocError>
+        ensures { IfOk result (λ yes. IsTrue yes ↔ MayTake self.now grant.now places.now spots.now) }
+    {
+        let asking = self.is_asking();
+        let named = grant.len() > 0;
+        let placed = is_placing(alloc, places, spots, self.changes.len())?;
+        Ok(asking && named && placed)
+    }
+
+    /// Whether a try of the exchange tells a location only where none is known.
+    fn is_new_try(&self, answer: &GrantTry) -> bool
+        ensures { result ≡ is_new_try_row answer.now self.now }
+    {
+        match answer {
+            GrantTry::Later(_) => self.location.is_none(),
+            GrantTry::Trouble | GrantTry::NotCovering => true,
+        }
+    }
+
     /// Whether it may move to this state.
     pub fn may_move(&self, to: OpState) -> bool
         ensures { result ≡ may_move_from self.now.state to self.now }
@@ -265,7 +376,9 @@ impl OccRow {
             }
             (OpState::Processing, OpState::FailedTemp) => self.has_stopped(),
             (OpState::RollingBack, OpState::FailedTemp) => self.has_stopped(),
-            (OpState::FailedTemp, OpState::RollingBack) => !self.terminates,
+            (OpState::FailedTemp, OpState::RollingBack) => {
+                !matches!(self.ask, Ask::Terminate { .. })
+            }
             (OpState::FailedTemp, OpState::Processing) => true,
             (OpState::FailedTemp, OpState::Failed) => true,
             _ => false,

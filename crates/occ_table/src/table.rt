@@ -2,16 +2,17 @@
 
 ghost use Rattle.occ_table.specs.declared.rows.Grant.{Grant};
 ghost use Rattle.std.specs.Prelude.{◌≡◌, ◌-◌, ◌<◌, ◌≤◌, ℕ, List, [], ◌++◌, ◌∷◌, Some, None, false, length, option_copied, slice_get, OnOk, vec_len, vec_capacity};
+ghost use Rattle.lcm_events.specs.declared.events.EventKind.TheVariants.{GrantTried};
 ghost use Rattle.lcm_model.specs.Operations.{occurrence_of};
-ghost use Rattle.occ_table.specs.Steps.{first_row, row_after, rows_about, update, after_granted, is_granting};
+ghost use Rattle.occ_table.specs.Steps.{first_row, row_after, rows_about, update, after_granted, after_told, is_bringing, is_later};
 ghost use Rattle.occ_table.specs.Rows.{StandsFor};
-ghost use Rattle.occ_table.specs.Table.{Applies, Counts, HasRoom, Looks, Occurrences, Reserved, needs_room};
+ghost use Rattle.occ_table.specs.Table.{Applies, Counts, HasRoom, HasRoomFor, Looks, Occurrences, Reserved, needs_room};
 
 use crate::rows::{Grant, OccRow};
-use lcm_events::{Event, EventKind, Listed, Operation, Place};
+use lcm_events::{Event, EventKind, GrantTry, Listed, Operation, Place};
 use std::alloc::{AllocError, Global};
 use std::marker::Model;
-use vnfm_base::Name;
+use vnfm_base::{Line, Moment, Name};
 
 /// The table of occurrences.
 ///
@@ -21,6 +22,7 @@ pub struct OccTable {
     rows: Vec<OccRow>,
     row: Option<OccRow>,
     grant: Option<Grant>,
+    location: Option<Line>,
 }
 
 impl Model for OccTable {
@@ -29,7 +31,7 @@ impl Model for OccTable {
 
     ghost Value = { Occurrences };
 
-    ghost view = { λ t. record { rows = t.rows.items; reserved = record { row = t.row; grant = t.grant; spare = vec_capacity t.rows - vec_len t.rows } } };
+    ghost view = { λ t. record { rows = t.rows.items; reserved = record { row = t.row; grant = t.grant; location = t.location; spare = vec_capacity t.rows - vec_len t.rows } } };
 }
 
 /// The number of the occurrence that an event is about.
@@ -49,15 +51,15 @@ fn occurrence_in(kind: &EventKind) -> Option<u64>
     }
 }
 
-/// Lets the row at this place follow an event. Nothing happens beyond the end.
-fn follow_at(rows: &mut Vec<OccRow>, at: usize, kind: &EventKind)
-    requires { is_granting kind.now ≡ false }
-    ensures items { rows.new.items ≡ update (row_after kind.now) at rows.old.items }
+/// Lets the row at this place follow an event of this moment. Nothing happens beyond the end.
+fn follow_at(rows: &mut Vec<OccRow>, at: usize, moment: Moment, kind: &EventKind)
+    requires { is_bringing kind.now ≡ false }
+    ensures items { rows.new.items ≡ update (row_after moment kind.now) at rows.old.items }
     ensures length { vec_len rows.new ≡ vec_len rows.old }
     ensures capacity { vec_capacity rows.new ≡ vec_capacity rows.old }
 {
     match rows.get_mut(at) {
-        Some(row) => row.follow(kind),
+        Some(row) => row.follow(moment, kind),
         None => {}
     }
 }
@@ -72,28 +74,55 @@ fn grant_at(rows: &mut Vec<OccRow>, at: usize, grant: Grant)
     }
 }
 
+/// Tells the row at this place where its grant will be. Nothing happens beyond the end.
+fn tell_at(rows: &mut Vec<OccRow>, at: usize, location: Line)
+    ensures { rows.new.items ≡ update (after_told location) at rows.old.items }
+{
+    match rows.get_mut(at) {
+        Some(row) => row.take_location(location),
+        None => {}
+    }
+}
+
+/// Whether an answer tells where the grant will be.
+fn is_later(answer: &GrantTry) -> bool
+    ensures { result ≡ is_later answer.now }
+{
+    match answer {
+        GrantTry::Later(_) => true,
+        GrantTry::Trouble | GrantTry::NotCovering => false,
+    }
+}
+
 impl OccTable {
     /// A table with no row, which takes no memory until something is reserved.
     pub fn new(alloc: Global) -> Self
         ensures rows { result.rows ≡ [] }
         ensures row { result.reserved.row ≡ None }
         ensures grant { result.reserved.grant ≡ None }
+        ensures location { result.reserved.location ≡ None }
     {
         OccTable {
             rows: Vec::new(alloc),
             row: None,
             grant: None,
+            location: None,
         }
     }
 
-    /// Reserves what the row of an operation needs.
-    fn reserve_row(&mut self, alloc: Global, operation: &Operation) -> Result<(), AllocError>
+    /// Reserves what the row of an operation needs that is asked for at this moment.
+    fn reserve_row(
+        &mut self,
+        alloc: Global,
+        moment: Moment,
+        operation: &Operation,
+    ) -> Result<(), AllocError>
         ensures kept { self.new.rows ≡ self.old.rows }
-        ensures row { OnOk result (self.new.reserved.row ≡ Some (first_row operation.now)) }
+        ensures row { OnOk result (self.new.reserved.row ≡ Some (first_row moment operation.now)) }
         ensures spare { OnOk result (0 < self.new.reserved.spare) }
     {
         self.rows.reserve(1)?;
-        let row = OccRow::first(alloc, operation)?;
+        let row = OccRow::first(alloc, moment, operation)?;
         self.row = Some(row);
         Ok(())
     }
@@ -114,22 +143,36 @@ impl OccTable {
         Ok(())
     }
 
+    /// Reserves the location of a grant.
+    fn reserve_location(&mut self, location: &Line) -> Result<(), AllocError>
+        ensures kept { self.new.rows ≡ self.old.rows }
+        ensures location { OnOk result (self.new.reserved.location ≡ Some location.now) }
+    {
+        let location = location.clone()?;
+        self.location = Some(location);
+        Ok(())
+    }
+
     /// Reserves the memory that an event needs, so that `apply` takes none. The rows stay, also after an error.
     ///
     /// Source: own rule.
     pub fn reserve_for(&mut self, alloc: Global, e: &Event) -> Result<(), AllocError>
         ensures kept { self.new.rows ≡ self.old.rows }
-        ensures room { OnOk result (HasRoom e.now.kind self.new.reserved) }
+        ensures room { OnOk result (HasRoom e.now self.new.reserved) }
         ensures stays { needs_room e.now.kind ≡ false → self.new.reserved ≡ self.old.reserved }
     {
         match &e.kind {
-            EventKind::Asked(operation) => self.reserve_row(alloc, operation),
+            EventKind::Asked(operation) => self.reserve_row(alloc, e.moment, operation),
             EventKind::Granted {
                 grant,
                 places,
                 spots,
                 ..
             } => self.reserve_grant(alloc, *grant, places, spots),
+            EventKind::GrantTried {
+                answer: GrantTry::Later(location),
+                ..
+            } => self.reserve_location(location),
             _ => Ok(()),
         }
     }
@@ -145,6 +188,17 @@ impl OccTable {
         }
     }
 
+    /// Puts the reserved location into the row of its occurrence.
+    fn put_location(&mut self, occ: u64)
+        ensures { (at : List ℕ) → self.old.reserved.location ≡ Some at → 1 ≤ occ → self.new.rows ≡ update (after_told at) (occ - 1) self.old.rows }
+    {
+        if let Some(location) = self.location.take() {
+            if occ > 0 {
+                tell_at(&mut self.rows, (occ - 1) as usize, location);
+            }
+        }
+    }
+
     /// Puts the reserved row last.
     fn put_row(&mut self)
         requires { 0 < self.old.reserved.spare }
@@ -155,30 +209,43 @@ impl OccTable {
         }
     }
 
-    /// Lets the row of an occurrence follow an event.
-    fn follow(&mut self, occ: u64, kind: &EventKind)
+    /// Lets the row of an occurrence follow an event of this moment.
+    fn follow(&mut self, occ: u64, moment: Moment, kind: &EventKind)
         requires low { 1 ≤ occ }
-        requires no_grant { is_granting kind.now ≡ false }
-        ensures rows { self.new.rows ≡ update (row_after kind.now) (occ - 1) self.old.rows }
+        requires nothing_brought { is_bringing kind.now ≡ false }
+        ensures rows { self.new.rows ≡ update (row_after moment kind.now) (occ - 1) self.old.rows }
         ensures reserved { self.new.reserved ≡ self.old.reserved }
     {
-        follow_at(&mut self.rows, (occ - 1) as usize, kind);
+        follow_at(&mut self.rows, (occ - 1) as usize, moment, kind);
     }
 
-    /// Lets the row of the occurrence that an event is about follow it.
-    fn follow_about(&mut self, kind: &EventKind)
-        requires { is_granting kind.now ≡ false }
-        ensures numbered { (n : ℕ) → occurrence_of kind.now ≡ Some n → 1 ≤ n → self.new.rows ≡ rows_about (occurrence_of kind.now) kind.now self.old.rows }
+    /// Lets the row of the occurrence that an event of this moment is about follow it.
+    fn follow_about(&mut self, moment: Moment, kind: &EventKind)
+        requires { is_bringing kind.now ≡ false }
+        ensures numbered { (n : ℕ) → occurrence_of kind.now ≡ Some n → 1 ≤ n → self.new.rows ≡ rows_about (occurrence_of kind.now) moment kind.now self.old.rows }
         ensures none { occurrence_of kind.now ≡ None → self.new.rows ≡ self.old.rows }
         ensures reserved { self.new.reserved ≡ self.old.reserved }
     {
         match occurrence_in(kind) {
             Some(occ) => {
                 if occ > 0 {
-                    self.follow(occ, kind);
+                    self.follow(occ, moment, kind);
                 }
             }
             None => {}
+        }
+    }
+
+    /// Lets the row of an occurrence follow a try of its grant exchange.
+    fn follow_try(&mut self, moment: Moment, occ: u64, answer: &GrantTry, kind: &EventKind)
+        requires { kind.now ≡ GrantTried occ answer.now }
+        ensures numbered { HasRoomFor moment kind.now self.old.reserved → 1 ≤ occ → self.new.rows ≡ update (row_after moment kind.now) (occ - 1) self.old.rows }
+        ensures reserved { needs_room kind.now ≡ false → self.new.reserved ≡ self.old.reserved }
+    {
+        if is_later(answer) {
+            self.put_location(occ);
+        } else {
+            self.follow_about(moment, kind);
         }
     }
 
@@ -186,14 +253,17 @@ impl OccTable {
     ///
     /// Source: own rule.
     pub fn apply(&mut self, e: &Event)
-        requires room { HasRoom e.now.kind self.old.reserved }
+        requires room { HasRoom e.now self.old.reserved }
         ensures applies { Applies e.now self.old.rows self.new.rows }
         ensures stays { needs_room e.now.kind ≡ false → self.new.reserved ≡ self.old.reserved }
     {
         match &e.kind {
             EventKind::Asked(_) => self.put_row(),
             EventKind::Granted { occ, .. } => self.put_grant(*occ),
-            kind => self.follow_about(kind),
+            EventKind::GrantTried { occ, answer } => {
+                self.follow_try(e.moment, *occ, answer, &e.kind);
+            }
+            kind => self.follow_about(e.moment, kind),
         }
     }
 
