@@ -1,3 +1,4 @@
 mod ActLaws
 pub mod NetLaws
 pub mod TagLaws
+pub mod InventoryLaws

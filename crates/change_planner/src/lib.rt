@@ -9,8 +9,10 @@ ghost use Rattle.lcm_model.specs.Operations.{changes as changes_of};
 ghost use Rattle.lcm_model.specs.Words.{first};
 
 mod acts;
+mod holdings;
 
 pub use acts::{act_in, acts_are_on_what_stands, forward_act};
+pub use holdings::holdings_are_inventories;
 use lcm_events::Change;
 
 /// The least number, from 0, of a change whose net is 0, which is the one to make next. `nets` has the net of each change
