@@ -18,7 +18,7 @@ use Rattle.lcm_laws.proofs.SettledLaws.{net-done, net-other_change, net-other_oc
 use Rattle.occ_table.specs.Rows.{numbers}
 use Rattle.occ_table.specs.Steps.{nets_after}
 
-maps_same : (f g : ℕ → ℕ) (ns : List ℕ) → ((c : ℕ) → f c ≡ g c) → map f ns ≡ map g ns
+pub maps_same : (f g : ℕ → ℕ) (ns : List ℕ) → ((c : ℕ) → f c ≡ g c) → map f ns ≡ map g ns
 maps_same f g [] e = refl
 maps_same f g (n ∷ ns) e = ap (λ (k : ℕ). k ∷ map f ns) (e n) ∙ ap (λ (ks : List ℕ). g n ∷ ks) (maps_same f g ns e)
 
@@ -32,7 +32,7 @@ above f g k (suc n) x h e =
     ∙ ap (λ (vs : List ℕ). f k ∷ vs) (above f g (k + 1) n x (omega (arith, h)) e)
 
 -- what differs at one number of a range is set at one place
-differs : (f g : ℕ → ℕ) (k n j x v : ℕ) → k + j ≡ x → g x ≡ v → ((c : ℕ) → (x == c) ≡ false → g c ≡ f c)
+pub differs : (f g : ℕ → ℕ) (k n j x v : ℕ) → k + j ≡ x → g x ≡ v → ((c : ℕ) → (x == c) ≡ false → g c ≡ f c)
     → map g (range_with_len k n) ≡ set (map f (range_with_len k n)) j v
 differs f g k zero j x v at is e = refl
 differs f g k (suc n) zero x v at is e =

@@ -1,5 +1,5 @@
 -- What is allowed of an occurrence, by its row.
-use Rattle.std.proofs.Common.{◌≡◌, ◌||◌, ◌&&◌, ◌∙◌, ◌↔◌, ℕ, List, [], ◌∷◌, Bool, true, false, not, Option, None, Some, is_some, refl, ap, sym, subst, map, option_map, eq-eqb}
+use Rattle.std.proofs.Common.{◌≡◌, ◌||◌, ◌&&◌, ◌∙◌, ◌↔◌, ℕ, List, [], ◌∷◌, Bool, true, false, not, Option, None, Some, is_some, refl, ap, sym, subst, map, option_map, eq-eqb, find, ◌==◌, inl, inr}
 use Rattle.std.specs.List.{list_any}
 use Rattle.lcm_events.specs.Same.{same_tag}
 use Rattle.lcm_events.proofs.SameLaws.{same_tag-true}
@@ -11,8 +11,9 @@ use Rattle.lcm_model.specs.Attempts.{is_of_occurrence, is_open, open_of, open_ta
 use Rattle.lcm_model.specs.Moves.{is_active, state}
 use Rattle.lcm_model.specs.Operations.{operation, operations}
 use Rattle.lcm_model.specs.Since.{has_call_failed}
+use Rattle.lcm_model.specs.Words.{IsIn}
 use Rattle.lcm_laws.proofs.AboutLaws.{unasked_untouched}
-use Rattle.lcm_laws.proofs.Lists.{and_left, and_right, and_true, any_filter, any_of_filter, not-false, not-true}
+use Rattle.lcm_laws.proofs.Lists.{by_test, and_left, and_right, and_true, any_filter, any_of_filter, not-false, not-true}
 use Rattle.lcm_laws.proofs.SettledLaws.{found_number}
 use Rattle.occ_table.specs.Rows.{occurrence, pending_of, pendings, row}
 use Rattle.occ_table.specs.Steps.{has_failed_among, has_open_among}
@@ -27,6 +28,15 @@ from_map f (Some a) y e = (a, refl, cc)
 pub none_of : {A B : Type 0} → (f : A → B) (x : Option A) → option_map f x ≡ None → x ≡ None
 none_of f None e = refl
 none_of f (Some a) e = cc
+
+-- what is found is in the list
+pub found_in : {A : Type 0} → (f : A → ℕ) (xs : List A) (n : ℕ) (a : A) → find (λ x. f x == n) xs ≡ Some a → IsIn a xs
+found_in f [] n a e = cc
+found_in {A} f (x ∷ xs) n a e = by_test (f x == n)
+    (λ same. let is : Some x ≡ Some a = sym (rw same refl) ∙ e in inl (some_same is))
+    (λ other. let rest : find (λ x. f x == n) xs ≡ Some a = sym (rw other refl) ∙ e in inr (found_in f xs n a rest)) where
+      some_same : {x y : A} → Some x ≡ Some y → x ≡ y
+      some_same e = cc
 
 any_map : {A B : Type 0} → (p : B → Bool) (f : A → B) (xs : List A) → list_any p (map f xs) ≡ list_any (λ x. p (f x)) xs
 any_map p f [] = refl
@@ -55,7 +65,7 @@ found_row H n r e =
     let mine = from_map (row H) (operation H n) r e in
     (mine.0, mine.1, found_number (λ x. x.occ) (operations H) n mine.0 mine.1, mine.2)
 
-its_pendings : (H : List Event) (n : ℕ) (r : OccRow) → occurrence H n ≡ Some r → pendings H n ≡ r.pending
+pub its_pendings : (H : List Event) (n : ℕ) (r : OccRow) → occurrence H n ≡ Some r → pendings H n ≡ r.pending
 its_pendings H n r e =
     let mine = found_row H n r e in
     sym (ap (λ (o : ℕ). pendings H o) mine.2) ∙ ap (λ (x : OccRow). x.pending) mine.3

@@ -6,3 +6,6 @@ pub mod RowsSteps
 pub mod JudgeLaws
 pub mod MoveLaws
 pub mod AskingLaws
+pub mod PhaseLaws
+pub mod BeginLaws
+pub mod PlanPhases

@@ -20,11 +20,17 @@ use Rattle.lcm_model.specs.Work.{HasStopped, IsQuiet, MayMove, all_have_net, giv
 use Rattle.lcm_model.specs.Words.{first}
 use Rattle.lcm_laws.proofs.GrantLaws.{granted_grant}
 use Rattle.lcm_laws.proofs.Lists.{and_left, and_right, and_true, not-false, not-true}
-use Rattle.occ_table.specs.Rows.{cancel, kept_grant, occurrence, pending_of, pendings, row}
-use Rattle.occ_table.specs.Steps.{all_nets, gives_up_row, has_stopped_row, is_forced_mode, is_quiet_row, may_move_from, none_open}
+use Rattle.occ_table.specs.Rows.{cancel, kept_grant, nets, occurrence, pending_of, pendings, row}
+use Rattle.occ_table.specs.Steps.{gives_up_row, has_stopped_row, is_forced_mode, is_quiet_row, may_move_from, none_open}
+use Rattle.std.specs.Prelude.{zip}
+use Rattle.lcm_model.specs.Allowed.{IsLegalWithin}
+use Rattle.lcm_model.specs.Operations.{operations}
+use Rattle.occ_table.specs.Phases.{none_counted}
+use Rattle.occ_table.proofs.PhaseLaws.{none-counts, through}
+use Rattle.occ_table.proofs.PlanPhases.{sound_made, sound_undone}
 use Rattle.occ_table.specs.declared.pending.Pending.{Pending}
 use Rattle.occ_table.specs.declared.rows.OccRow.{OccRow}
-use Rattle.occ_table.proofs.JudgeLaws.{found_row, none_of}
+use Rattle.occ_table.proofs.JudgeLaws.{found_in, found_row, none_of}
 
 some_map : {A B : Type 0} → (f : A → B) (x : Option A) → is_some (option_map f x) ≡ is_some x
 some_map f None = refl
@@ -40,7 +46,7 @@ mode_there (c ∷ cs) = either (list_any is_forceful (c ∷ cs)) where
   either true = refl
   either false = refl
 
-cancelled_row : (H : List Event) (o : ℕ) → is_some (cancel H o) ≡ is_cancelled H o
+pub cancelled_row : (H : List Event) (o : ℕ) → is_some (cancel H o) ≡ is_cancelled H o
 cancelled_row H o = mode_there (cancels H o)
 
 pub forced_row : (H : List Event) (o : ℕ) → is_forced_mode (cancel H o) ≡ is_forced H o
@@ -60,17 +66,25 @@ none_long [] (t ∷ ts) e = absurd (omega (arith, e))
 none_long (p ∷ ps) [] e = absurd (omega (arith, e))
 none_long (p ∷ ps) (t ∷ ts) e = (λ h. cc, λ h. cc)
 
-none_row : (H : List Event) (o : ℕ) → (none_open (pendings H o) ≡ true) ↔ (open_of H o ≡ [])
+pub none_row : (H : List Event) (o : ℕ) → (none_open (pendings H o) ≡ true) ↔ (open_of H o ≡ [])
 none_row H o = none_long (pendings H o) (open_of H o) (length-reverse (map (pending_of H) (open_of H o)) ∙ length-map (open_of H o) (pending_of H))
 
 nets_all : (H : List Event) (o k j : ℕ) (xs : List Change)
-    → list_all (λ n. n == k) (map (net H o) (range_with_len j (length xs))) ≡ list_all (has_net H o k) (enumerate_from j xs)
+    → list_all (through (λ p. true) k) (zip xs (map (net H o) (range_with_len j (length xs)))) ≡ list_all (has_net H o k) (enumerate_from j xs)
 unfolding has_net
 nets_all H o k j [] = refl
 nets_all H o k j (x ∷ xs) = ap (λ (b : Bool). (net H o j == k) && b) (nets_all H o k (j + 1) xs)
 
-nets_row : (H : List Event) (a : Operation) (k : ℕ) → operation H a.occ ≡ Some a → all_nets k (row H a) ≡ all_have_net H a.occ k
+nets_row : (H : List Event) (a : Operation) (k : ℕ) → operation H a.occ ≡ Some a → list_all (through (λ p. true) k) (zip a.changes (nets H a)) ≡ all_have_net H a.occ k
 nets_row H a k e = nets_all H a.occ k 0 a.changes ∙ sym (rw e refl)
+
+all_made : (width m : ℕ) (H : List Event) (a : Operation) → IsLegalWithin width m H → operation H a.occ ≡ Some a → none_counted (row H a).waiting ≡ all_have_net H a.occ 1
+all_made width m H a legal e =
+    none-counts 1 0 a.changes (nets H a) (sound_made width m H a legal (found_in (λ x. x.occ) (operations H) a.occ a e)) ∙ nets_row H a 1 e
+
+all_undone : (width m : ℕ) (H : List Event) (a : Operation) → IsLegalWithin width m H → operation H a.occ ≡ Some a → none_counted (row H a).made ≡ all_have_net H a.occ 0
+all_undone width m H a legal e =
+    none-counts 0 1 a.changes (nets H a) (sound_undone width m H a legal (found_in (λ x. x.occ) (operations H) a.occ a e)) ∙ nets_row H a 0 e
 
 quiet_row : (H : List Event) (a : Operation) → (is_quiet_row (row H a) ≡ true) ↔ IsQuiet H a.occ
 quiet_row H a =
@@ -114,29 +128,29 @@ both_of x y z f e = (λ h. (f.0 (and_left x y h), sym e ∙ and_right x y h), λ
 not_same : (b c : Bool) → b ≡ c → (not b ≡ true) ↔ (c ≡ false)
 not_same b c e = (λ h. sym e ∙ not-true b h, λ h. not-false b (e ∙ h))
 
-moves_same : (H : List Event) (a : Operation) → operation H a.occ ≡ Some a → (from to : OpState)
+moves_same : (width m : ℕ) (H : List Event) (a : Operation) → IsLegalWithin width m H → operation H a.occ ≡ Some a → (from to : OpState)
     → (may_move_from from to (row H a) ≡ true) ↔ MayMove H a.occ from to
-moves_same H a e Starting Processing = (
+moves_same width m H a legal e Starting Processing = (
   λ h. (sym (granted_row H a) ∙ and_left _ _ h, not-true _ (ap not (sym (cancelled_row H a.occ)) ∙ (sym (none-some (cancel H a.occ)) ∙ and_right (is_some (row H a).grant) _ h))),
   λ h. and_true _ _ (granted_row H a ∙ h.0) (none-some (cancel H a.occ) ∙ not-false _ (cancelled_row H a.occ ∙ h.1)),
 )
-moves_same H a e Starting RolledBack = by_same _ _ (gives_up_same H a)
-moves_same H a e Processing Completed = both_of _ _ _ (quiet_row H a) (nets_row H a 1 e)
-moves_same H a e RollingBack RolledBack = both_of _ _ _ (quiet_row H a) (nets_row H a 0 e)
-moves_same H a e Processing FailedTemp = stopped_row H a
-moves_same H a e RollingBack FailedTemp = stopped_row H a
-moves_same H a e FailedTemp RollingBack = not_same _ _ (sym (ap is_termination e))
-moves_same H a e FailedTemp Processing = (λ h. tt, λ h. refl)
-moves_same H a e FailedTemp Failed = (λ h. tt, λ h. refl)
-moves_same H a e _ _ = (λ h. cc, λ h. absurd h)
+moves_same width m H a legal e Starting RolledBack = by_same _ _ (gives_up_same H a)
+moves_same width m H a legal e Processing Completed = both_of _ _ _ (quiet_row H a) (all_made width m H a legal e)
+moves_same width m H a legal e RollingBack RolledBack = both_of _ _ _ (quiet_row H a) (all_undone width m H a legal e)
+moves_same width m H a legal e Processing FailedTemp = stopped_row H a
+moves_same width m H a legal e RollingBack FailedTemp = stopped_row H a
+moves_same width m H a legal e FailedTemp RollingBack = not_same _ _ (sym (ap is_termination e))
+moves_same width m H a legal e FailedTemp Processing = (λ h. tt, λ h. refl)
+moves_same width m H a legal e FailedTemp Failed = (λ h. tt, λ h. refl)
+moves_same width m H a legal e _ _ = (λ h. cc, λ h. absurd h)
 
-pub move_there : (H : List Event) (n : ℕ) (to : OpState) (r : OccRow) (answer : Bool) → occurrence H n ≡ Some r → answer ≡ may_move_from r.state to r
+pub move_there : (width m : ℕ) (H : List Event) (n : ℕ) (to : OpState) (r : OccRow) (answer : Bool) → IsLegalWithin width m H → occurrence H n ≡ Some r → answer ≡ may_move_from r.state to r
     → (answer ≡ true) ↔ (is_some (operation H n) ≡ true) × MayMove H n (state H n) to
-move_there H n to r answer e is =
+move_there width m H n to r answer legal e is =
     let mine = found_row H n r e in
     let a : Operation = mine.0 in
     let here : operation H a.occ ≡ Some a = ap (λ (o : ℕ). operation H o) mine.2 ∙ mine.1 in
-    let by = moves_same H a here (state H a.occ) to in
+    let by = moves_same width m H a legal here (state H a.occ) to in
     let same : answer ≡ may_move_from (state H a.occ) to (row H a) = is ∙ ap (λ (x : OccRow). may_move_from x.state to x) (sym mine.3) in (
       λ h. (ap (λ (x : Option Operation). is_some x) mine.1, subst (λ (o : ℕ). MayMove H o (state H o) to) mine.2 (by.0 (sym same ∙ h))),
       λ h. same ∙ by.1 (subst (λ (o : ℕ). MayMove H o (state H o) to) (sym mine.2) h.1),

@@ -1,6 +1,6 @@
 -- What each event makes of a row.
 use Rattle.occ_table.proofs.ChangeSteps.{attempts-begun, attempts-begun_other, nets-ended, nets-ended_other}
-use Rattle.std.proofs.Common.{◌≡◌, ◌<◌, ◌+◌, ◌||◌, ◌==◌, ◌∙◌, ℕ, List, ◌∷◌, suc, Bool, true, false, cond, Option, None, Some, refl, ap, subst, min, arith, nat_le, eqb-true, leb-false, ◌≤◌}
+use Rattle.std.proofs.Common.{◌≡◌, ◌<◌, ◌+◌, ◌||◌, ◌==◌, ◌∙◌, ℕ, List, ◌∷◌, suc, Bool, true, false, cond, Option, None, Some, refl, ap, subst, min, arith, nat_le, eqb-true, leb-false, length, ◌≤◌}
 use Rattle.std.specs.List.{cons_option, list_any}
 use Rattle.std.specs.Option.{option_map_or}
 use Rattle.lcm_events.specs.declared.events.Event.{Event}
@@ -18,13 +18,20 @@ use Rattle.lcm_model.specs.Words.{first, otherwise, told, when}
 use Rattle.lcm_events.specs.declared.attempts.Outcome.{Outcome}
 use Rattle.lcm_events.specs.declared.attempts.Outcome.TheVariants.{Aborted, Broken, Done, NotBegun}
 use Rattle.lcm_events.specs.declared.attempts.Tag.{Tag}
-use Rattle.lcm_model.specs.Attempts.{is_open}
+use Rattle.lcm_model.specs.Attempts.{is_open, net}
+use Rattle.lcm_model.specs.Operations.{operations}
+use Rattle.lcm_model.specs.Words.{IsIn}
+use Rattle.lcm_model.specs.Work.{net_before}
+use Rattle.lcm_laws.proofs.BoundLaws.{plans_small}
+use Rattle.lcm_laws.proofs.NetLaws.{open_fits}
+use Rattle.occ_table.specs.Phases.{tallies, tally_after}
+use Rattle.occ_table.proofs.PhaseLaws.{tally-ended}
 use Rattle.occ_table.specs.declared.causes.Cause.{Cause}
 use Rattle.occ_table.specs.declared.causes.Cause.TheVariants as causes
 use Rattle.lcm_model.specs.Operations.{occurrence_of}
 use Rattle.lcm_laws.proofs.Histories.{event}
 use Rattle.lcm_laws.proofs.Lists.{by_test}
-use Rattle.occ_table.specs.Rows.{cancel, cause, cause_in, cause_of_end, pendings, row}
+use Rattle.occ_table.specs.Rows.{cancel, cause, cause_in, cause_of_end, nets, pendings, row}
 use Rattle.occ_table.specs.Steps.{after_answer, after_cancel, cause_among, row_after}
 use Rattle.lcm_model.specs.Attempts.{is_unsettled}
 use Rattle.occ_table.specs.declared.pending.Pending.{Pending}
@@ -50,13 +57,30 @@ with_begun : (r : OccRow) (p q : List Pending) (m n : List ℕ) → p ≡ q → 
 with_begun r p q m n e f =
     ap (λ (x : List Pending). record r { pending = x; attempts = m }) e ∙ ap (λ (x : List ℕ). record r { pending = q; attempts = x }) f
 
-with_settled : (r : OccRow) (a b : Bool) (x y : Option Cause) (p q : List Pending) (m n : List ℕ) → a ≡ b → x ≡ y → p ≡ q → m ≡ n
-    → record r { trouble = a; cause = x; pending = p; nets = m } ≡ record r { trouble = b; cause = y; pending = q; nets = n }
-with_settled r a b x y p q m n e f g h =
-    ap (λ (z : Bool). record r { trouble = z; cause = x; pending = p; nets = m }) e
-    ∙ (ap (λ (z : Option Cause). record r { trouble = b; cause = z; pending = p; nets = m }) f
-    ∙ (ap (λ (z : List Pending). record r { trouble = b; cause = y; pending = z; nets = m }) g
-    ∙ ap (λ (z : List ℕ). record r { trouble = b; cause = y; pending = q; nets = z }) h))
+with_settled : (r : OccRow) (a b : Bool) (x y : Option Cause) (p q : List Pending) (m n : List ℕ) (v w i j : List ℕ) → a ≡ b → x ≡ y → p ≡ q → m ≡ n → v ≡ w → i ≡ j
+    → record r { trouble = a; cause = x; pending = p; nets = m; waiting = v; made = i }
+    ≡ record r { trouble = b; cause = y; pending = q; nets = n; waiting = w; made = j }
+with_settled r a b x y p q m n v w i j e f g h k l =
+    ap (λ (z : Bool). record r { trouble = z; cause = x; pending = p; nets = m; waiting = v; made = i }) e
+    ∙ (ap (λ (z : Option Cause). record r { trouble = b; cause = z; pending = p; nets = m; waiting = v; made = i }) f
+    ∙ (ap (λ (z : List Pending). record r { trouble = b; cause = y; pending = z; nets = m; waiting = v; made = i }) g
+    ∙ (ap (λ (z : List ℕ). record r { trouble = b; cause = y; pending = q; nets = z; waiting = v; made = i }) h
+    ∙ (ap (λ (z : List ℕ). record r { trouble = b; cause = y; pending = q; nets = n; waiting = z; made = i }) k
+    ∙ ap (λ (z : List ℕ). record r { trouble = b; cause = y; pending = q; nets = n; waiting = w; made = z }) l))))
+
+-- the counts of an occurrence after an attempt at it has ended
+tallied : (width m : ℕ) (H : List Event) (time : ℕ) (t : Tag) (outcome : Outcome) (a : Operation) (n : ℕ) → n ≤ 1 → (t.occ == a.occ) ≡ true → length a.changes ≤ 5000
+    → IsLegalWithin width m H → is_open H t ≡ true
+    → tallies n a.changes (nets (event time (Settled t outcome) ∷ H) a) ≡ tally_after n t outcome a.changes (tallies n a.changes (nets H a))
+tallied width m H time t outcome a n low same few legal opened =
+    let is : t.occ ≡ a.occ = eqb-true t.occ a.occ same in
+    let was : net H a.occ t.change ≡ net_before t.way = subst (λ (o : ℕ). net H o t.change ≡ net_before t.way) is (open_fits width m H legal t opened) in
+    ap (λ (ns : List ℕ). tallies n a.changes ns) (nets-ended width m H time t outcome a same legal opened)
+    ∙ tally-ended n t outcome a.changes (net H a.occ) low few was
+
+tallied_other : (H : List Event) (time : ℕ) (t : Tag) (outcome : Outcome) (a : Operation) (n : ℕ) → (t.occ == a.occ) ≡ false
+    → tallies n a.changes (nets (event time (Settled t outcome) ∷ H) a) ≡ tallies n a.changes (nets H a)
+tallied_other H time t outcome a n other = ap (λ (ns : List ℕ). tallies n a.changes ns) (nets-ended_other H time t outcome a other)
 
 -- the latest cause is that of the event, where it gives one
 first_cons : {A : Type 0} → (x : Option A) (xs : List A) → first (cons_option x xs) ≡ otherwise x (first xs)
@@ -130,30 +154,34 @@ answered H time n Trouble a same going =
     (first_cons (when (troubled_tries H a.occ == 4) causes.NoGrant) (told (cause_in a.occ) H)))
 
 -- what an event about an occurrence makes of a row
-pub row-step : (width m : ℕ) (H : List Event) (time : ℕ) (k : EventKind) (n : ℕ) (a : Operation) → occurrence_of k ≡ Some n → width ≤ 4 → IsLegalWithin width m H
+pub row-step : (width m : ℕ) (H : List Event) (time : ℕ) (k : EventKind) (n : ℕ) (a : Operation) → occurrence_of k ≡ Some n → IsIn a (operations H) → width ≤ 4 → IsLegalWithin width m H
     → IsAllowedWithin width m H k → row (event time k ∷ H) a ≡ row_by time k a.occ (row H a)
 unfolding is_unsettled
-row-step width m H time (GrantTried o answer) n a e wide legal allowed = by_test (o == a.occ)
+row-step width m H time (GrantTried o answer) n a e among wide legal allowed = by_test (o == a.occ)
     (λ same.
     let is : o ≡ a.occ = eqb-true o a.occ same in
     let going : has_ended H a.occ ≡ false = subst (λ (i : ℕ). has_ended H i ≡ false) is allowed.0.goes_on in
     answered H time o answer a same going ∙ by_own (o == a.occ) _ _ same)
     (λ other. rw other refl)
-row-step width m H time (Granted o grant places spots) n a e wide legal allowed = by_test (o == a.occ) (λ same. rw same refl) (λ other. rw other refl)
-row-step width m H time (Denied o) n a e wide legal allowed = by_test (o == a.occ) (λ same. rw same refl) (λ other. rw other refl)
-row-step width m H time (Moved o to) n a e wide legal allowed = by_test (o == a.occ) (λ same. rw same refl) (λ other. rw other refl)
-row-step width m H time (CancelAsked o mode) n a e wide legal allowed = by_test (o == a.occ)
+row-step width m H time (Granted o grant places spots) n a e among wide legal allowed = by_test (o == a.occ) (λ same. rw same refl) (λ other. rw other refl)
+row-step width m H time (Denied o) n a e among wide legal allowed = by_test (o == a.occ) (λ same. rw same refl) (λ other. rw other refl)
+row-step width m H time (Moved o to) n a e among wide legal allowed = by_test (o == a.occ) (λ same. rw same refl) (λ other. rw other refl)
+row-step width m H time (CancelAsked o mode) n a e among wide legal allowed = by_test (o == a.occ)
     (λ same. cancelled H time o mode a same ∙ by_own (o == a.occ) _ _ same)
     (λ other. rw other refl)
-row-step width m H time (Intent t) n a e wide legal allowed = by_test (t.occ == a.occ)
+row-step width m H time (Intent t) n a e among wide legal allowed = by_test (t.occ == a.occ)
     (λ same. with_begun (row H a) _ _ _ _ (pendings-begun width m H time t a.occ same wide legal allowed) (attempts-begun width m H time t a same allowed) ∙ by_own (t.occ == a.occ) _ _ same)
     (λ other. with_begun (row H a) _ _ _ _ (pendings-begun_other width m H time t a.occ other legal allowed) (attempts-begun_other H time t a other) ∙ by_other (t.occ == a.occ) _ _ other)
-row-step width m H time (CallFailed t) n a e wide legal allowed = by_test (t.occ == a.occ)
+row-step width m H time (CallFailed t) n a e among wide legal allowed = by_test (t.occ == a.occ)
     (λ same. with_pending (row H a) _ _ (pendings-failed H time t a.occ) ∙ by_own (t.occ == a.occ) _ _ same)
     (λ other. with_pending (row H a) _ _ (pendings-failed_other H time t a.occ other) ∙ by_other (t.occ == a.occ) _ _ other)
-row-step width m H time (Settled t outcome) n a e wide legal allowed = by_test (t.occ == a.occ)
-    (λ same. with_settled (row H a) _ _ _ _ _ _ _ _ (trouble-settled H t outcome a.occ allowed same) (cause-settled H time t outcome a.occ allowed same) (pendings-ended H time t outcome a.occ) (nets-ended width m H time t outcome a same legal allowed)
+row-step width m H time (Settled t outcome) n a e among wide legal allowed = by_test (t.occ == a.occ)
+    (λ same.
+    let few : length a.changes ≤ 5000 = plans_small width m H legal a among in
+    with_settled (row H a) _ _ _ _ _ _ _ _ _ _ _ _ (trouble-settled H t outcome a.occ allowed same) (cause-settled H time t outcome a.occ allowed same) (pendings-ended H time t outcome a.occ) (nets-ended width m H time t outcome a same legal allowed)
+    (tallied width m H time t outcome a 0 (omega arith) same few legal allowed) (tallied width m H time t outcome a 1 (omega arith) same few legal allowed)
     ∙ by_own (t.occ == a.occ) _ _ same)
-    (λ other. with_settled (row H a) _ _ _ _ _ _ _ _ (trouble-settled_other H t outcome a.occ other) (cause-settled_other H time t outcome a.occ other) (pendings-ended_other H time t outcome a.occ other) (nets-ended_other H time t outcome a other)
+    (λ other. with_settled (row H a) _ _ _ _ _ _ _ _ _ _ _ _ (trouble-settled_other H t outcome a.occ other) (cause-settled_other H time t outcome a.occ other) (pendings-ended_other H time t outcome a.occ other) (nets-ended_other H time t outcome a other)
+    (tallied_other H time t outcome a 0 other) (tallied_other H time t outcome a 1 other)
     ∙ by_other (t.occ == a.occ) _ _ other)
-row-step width m H time _ n a e wide legal allowed = cc
+row-step width m H time _ n a e among wide legal allowed = cc

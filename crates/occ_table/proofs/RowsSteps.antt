@@ -2,7 +2,7 @@
 use Rattle.lcm_events.specs.declared.places.Place.{Place}
 use Rattle.occ_table.proofs.ChangeSteps.{attempts-none, nets-none}
 use Rattle.lcm_model.specs.Attempts.{is_unsettled}
-use Rattle.std.proofs.Common.{◌≡◌, ◌≢◌, ◌≤◌, ◌<◌, ◌+◌, ◌-◌, ◌++◌, ◌==◌, ◌∙◌, ℕ, List, [], ◌∷◌, zero, suc, Bool, true, false, cond, Option, None, Some, is_some, refl, ap, sym, subst, length, map, reverse, find, arith, eqb-true, false-eqb, slice_get, option_map}
+use Rattle.std.proofs.Common.{◌≡◌, ◌≢◌, ◌≤◌, ◌<◌, ◌+◌, ◌-◌, ◌++◌, ◌==◌, ◌∙◌, ℕ, List, [], ◌∷◌, zero, suc, Bool, true, false, cond, Option, None, Some, is_some, refl, ap, sym, subst, length, map, reverse, find, arith, eqb-true, false-eqb, slice_get, option_map, replicate, inl, inr}
 use Rattle.std.specs.Option.{option_map_or}
 use Rattle.std.proofs.lemmas.List.{length-map, length-reverse}
 use mathlib.Core.List.{reverse-cons}
@@ -19,32 +19,35 @@ use Rattle.lcm_laws.proofs.NumberLaws.{IsCounted, found_exactly, operations_coun
 use Rattle.lcm_events.proofs.SameLaws.{eq-refl}
 use Rattle.lcm_events.specs.declared.events.GrantTry.{GrantTry}
 use Rattle.lcm_events.specs.declared.events.GrantTry.TheVariants.{Later, NotCovering, Trouble}
-use Rattle.occ_table.specs.Rows.{StandsFor, cause, cause_in, occurrence, row, rows}
+use Rattle.occ_table.specs.Rows.{StandsFor, cause, cause_in, nets, occurrence, row, rows}
 use Rattle.occ_table.specs.Steps.{first_row, row_after, rows_about, rows_after, update, after_told, is_bringing, is_later}
 use Rattle.occ_table.specs.Table.{needs_room}
 use Rattle.occ_table.specs.declared.rows.OccRow.{OccRow}
+use Rattle.lcm_model.specs.Words.{IsIn}
+use Rattle.occ_table.specs.Phases.{tallies}
+use Rattle.occ_table.proofs.PhaseLaws.{made-fresh, waiting-fresh}
 use Rattle.occ_table.proofs.RowSteps.{row-step}
 use Rattle.occ_table.proofs.Updates.{update-front, update-last, update-past, get-front, get-last}
 
 -- the rows of counted operations, where one of them changes
 changed : (f g : Operation → OccRow) (h : OccRow → OccRow) (xs : List Operation) (n : ℕ) → IsCounted (λ a. a.occ) xs → 1 ≤ n
-    → ((a : Operation) → g a ≡ cond (n == a.occ) (h (f a)) (f a)) → reverse (map g xs) ≡ update h (n - 1) (reverse (map f xs))
+    → ((a : Operation) → IsIn a xs → g a ≡ cond (n == a.occ) (h (f a)) (f a)) → reverse (map g xs) ≡ update h (n - 1) (reverse (map f xs))
 changed f g h [] n counted low e = refl
 changed f g h (x ∷ xs) n counted low e =
     let ys : List OccRow = reverse (map f xs) in
     let long : length (reverse (map f xs)) ≡ length xs = length-reverse (map f xs) ∙ length-map xs f in
     let number : x.occ ≡ length xs + 1 = counted.0 in
     reverse-cons (g x) (map g xs)
-    ∙ (ap (λ (zs : List OccRow). zs ++ g x ∷ []) (changed f g h xs n counted.1 low e)
+    ∙ (ap (λ (zs : List OccRow). zs ++ g x ∷ []) (changed f g h xs n counted.1 low (λ a among. e a (inr among)))
     ∙ (by_test (n == x.occ)
     (λ same.
     let is : n ≡ x.occ = eqb-true n x.occ same in
-    let own : g x ≡ h (f x) = subst (λ (b : Bool). g x ≡ cond b (h (f x)) (f x)) same (e x) in
+    let own : g x ≡ h (f x) = subst (λ (b : Bool). g x ≡ cond b (h (f x)) (f x)) same (e x (inl refl)) in
     ap (λ (zs : List OccRow). zs ++ g x ∷ []) (update-past h (n - 1) ys (omega (arith, is, number, long)))
     ∙ (ap (λ (z : OccRow). ys ++ z ∷ []) own ∙ sym (update-last h (n - 1) ys (f x) (omega (arith, is, number, long)))))
     (λ other.
     let not : n ≢ x.occ = false-eqb n x.occ (sym other) in
-    let old : g x ≡ f x = subst (λ (b : Bool). g x ≡ cond b (h (f x)) (f x)) other (e x) in
+    let old : g x ≡ f x = subst (λ (b : Bool). g x ≡ cond b (h (f x)) (f x)) other (e x (inl refl)) in
     ap (λ (z : OccRow). update h (n - 1) ys ++ z ∷ []) old
     ∙ sym (update-front h (n - 1) ys (f x) (λ at. not (omega (arith, at, number, long, low)))))
     ∙ ap (λ (zs : List OccRow). update h (n - 1) zs) (sym (reverse-cons (f x) (map f xs)))))
@@ -55,15 +58,20 @@ about-step : (width m : ℕ) (H : List Event) (time : ℕ) (k : EventKind) (n : 
 about-step width m H time k n e wide legal allowed =
     changed (row H) (row (event time k ∷ H)) (row_after time k) (operations H) n (operations_counted width m H legal)
     ((found_exactly width m H legal n).0 (about_asked width m H k legal allowed n e)).0
-    (λ a. row-step width m H time k n a e wide legal allowed
+    (λ a among. row-step width m H time k n a e among wide legal allowed
     ∙ ap (λ (o : Option ℕ). cond (option_map_or (λ n. n == a.occ) o false) (row_after time k (row H a)) (row H a)) e)
 
 none_there : {A : Type 0} → (x : Option A) → (is_some x ≡ true → ⊥) → x ≡ None
 none_there None f = refl
 none_there (Some x) f = absurd (f refl)
 
-with_lists : (r : OccRow) {n k : List ℕ} → r.nets ≡ n → r.attempts ≡ k → r ≡ record r { nets = n; attempts = k }
-with_lists r {n} {k} e f = ap (λ (x : List ℕ). record r { nets = x }) e ∙ ap (λ (x : List ℕ). record r { nets = n; attempts = x }) f
+with_lists : (r : OccRow) {n k v w : List ℕ} → r.nets ≡ n → r.attempts ≡ k → r.waiting ≡ v → r.made ≡ w
+    → r ≡ record r { nets = n; attempts = k; waiting = v; made = w }
+with_lists r {n} {k} {v} {w} e f g h =
+    ap (λ (x : List ℕ). record r { nets = x }) e
+    ∙ (ap (λ (x : List ℕ). record r { nets = n; attempts = x }) f
+    ∙ (ap (λ (x : List ℕ). record r { nets = n; attempts = k; waiting = x }) g
+    ∙ ap (λ (x : List ℕ). record r { nets = n; attempts = k; waiting = v; made = x }) h))
 
 -- an event that isn't about an occurrence gives it no cause
 not_caused : (H : List Event) (k : EventKind) (o : ℕ) → (occurrence_of k ≡ Some o → ⊥) → cause_in o H k ≡ None
@@ -108,8 +116,11 @@ first width m H time a legal allowed =
     let high = ((found_exactly width m H legal a.occ).0 there).1 in omega (arith, high, allowed.number)) in
     let still = unasked_untouched width m H legal a.occ none in
     let calm : cause H a.occ ≡ None = uncaused width m H legal a.occ none in
+    let none_made : nets H a ≡ replicate (length a.changes) 0 = nets-none H a still in
     asked_row H time a
-    ∙ (with_lists (record (row H a) { asked = time; entered = time }) (nets-none H a still) (attempts-none H a still)
+    ∙ (with_lists (record (row H a) { asked = time; entered = time }) none_made (attempts-none H a still)
+    (ap (λ (ns : List ℕ). tallies 0 a.changes ns) none_made ∙ waiting-fresh a.changes)
+    (ap (λ (ns : List ℕ). tallies 1 a.changes ns) none_made ∙ made-fresh a.changes)
     ∙ rw (still.moves, still.answers, still.cancels, still.no_trouble, still.none_open, still.grant, calm) refl)
 
 older_row : (H : List Event) (time : ℕ) (a x : Operation) → (a.occ == x.occ) ≡ false → row (event time (Asked a) ∷ H) x ≡ row H x

@@ -19,6 +19,7 @@ use Rattle.lcm_model.specs.Moves.{state}
 use Rattle.lcm_model.specs.Operations.{operation, operations}
 use Rattle.lcm_model.specs.Since.{has_call_failed, has_trouble, is_cancelled, is_forced}
 use Rattle.lcm_model.specs.Words.{first, told, when}
+use Rattle.occ_table.specs.Phases.{tallies}
 use Rattle.occ_table.specs.declared.causes.Cause.{Cause}
 use Rattle.occ_table.specs.declared.causes.Cause.TheVariants as causes
 use Rattle.occ_table.specs.declared.pending.Pending.{Pending}
@@ -88,6 +89,10 @@ cause H o = first (told (cause_in o) H)
 abbrev pub numbers : Operation → List ℕ
 numbers a = range_with_len 0 (length a.changes)
 
+-- the nets of the changes of an operation, in the order of its plan (own rule)
+abbrev pub nets : List Event → Operation → List ℕ
+nets H a = map (net H a.occ) (numbers a)
+
 -- what the history says of an operation that was asked for (SOL 003 5.5.2.13)
 abbrev pub row : List Event → Operation → OccRow
 row H a = record {
@@ -95,7 +100,9 @@ row H a = record {
   role = a.role;
   ask = a.ask;
   changes = a.changes;
-  nets = map (net H a.occ) (numbers a);
+  nets = nets H a;
+  waiting = tallies 0 a.changes (nets H a);
+  made = tallies 1 a.changes (nets H a);
   attempts = map (λ c. length (attempts H a.occ c)) (numbers a);
   state = state H a.occ;
   asked = asked H a.occ;

@@ -4,9 +4,14 @@ use Rattle.lcm_events.specs.declared.states.OpState.{OpState}
 use Rattle.lcm_model.specs.Refusals.{is_terminate}
 use Rattle.occ_table.specs.declared.rows.Grant.{Grant}
 use Rattle.lcm_model.specs.Words.{otherwise, when}
-use Rattle.lcm_model.specs.Work.{net_after}
-use Rattle.std.specs.List.{list_any, list_all}
-use Rattle.std.specs.Prelude.{List, None, Option, Some, [], false, min, nat_le, true, ℕ, ◌||◌, ◌+◌, ◌-◌, ◌++◌, ◌∷◌, zero, suc, Bool, filter, map, if◌then◌else◌, length, nat_lt, not, ◌&&◌, replicate, slice_set, is_none, is_some, ◌==◌, ◌≡◌}
+use Rattle.lcm_model.specs.Work.{net_after, net_before, works_in}
+use Rattle.occ_table.specs.Phases.{in_phases, is_clear, none_counted, tally_after}
+use Rattle.lcm_events.specs.declared.changes.Change.{Change}
+use Rattle.lcm_events.specs.declared.attempts.Way.{Way}
+use Rattle.lcm_events.specs.declared.attempts.Way.TheVariants.{Forward, Undo}
+use Rattle.std.specs.Option.{option_map_or}
+use Rattle.std.specs.List.{list_any}
+use Rattle.std.specs.Prelude.{List, None, Option, Some, [], false, min, nat_le, true, ℕ, ◌||◌, ◌+◌, ◌-◌, ◌++◌, ◌∷◌, zero, suc, Bool, filter, map, if◌then◌else◌, length, nat_lt, not, ◌&&◌, replicate, slice_get, slice_set, is_none, is_some, ◌==◌, ◌≡◌, ◌<◌}
 use Rattle.lcm_events.specs.declared.events.EventKind.{EventKind}
 use Rattle.lcm_events.specs.declared.events.EventKind.TheVariants.{Asked, CallFailed, CancelAsked, Denied, GrantTried, Granted, Intent, Moved, Settled}
 use Rattle.lcm_events.specs.declared.events.GrantTry.{GrantTry}
@@ -37,6 +42,8 @@ first_row time a = record {
   ask = a.ask;
   changes = a.changes;
   nets = replicate (length a.changes) 0;
+  waiting = in_phases a.changes;
+  made = replicate 9 0;
   attempts = replicate (length a.changes) 0;
   state = Starting;
   asked = time;
@@ -120,6 +127,8 @@ after_settled t outcome r = record r {
   cause = otherwise (cause_among t outcome r.pending) r.cause;
   pending = ended t r.pending;
   nets = nets_after t outcome r.nets;
+  waiting = tally_after 0 t outcome r.changes r.waiting;
+  made = tally_after 1 t outcome r.changes r.made;
 }
 
 -- the row after its occurrence was granted
@@ -191,10 +200,6 @@ has_stopped_row r = none_open r.pending && (r.trouble || is_some r.cancel)
 abbrev pub gives_up_row : OccRow → Bool
 gives_up_row r = is_forced_mode r.cancel || (r.ended && not (is_some r.grant)) || (is_some r.grant && is_some r.cancel)
 
--- each net of the row is this one
-abbrev pub all_nets : ℕ → OccRow → Bool
-all_nets net r = list_all (λ n. n == net) r.nets
-
 -- the grant exchange of the row's occurrence goes on
 abbrev pub is_asking_row : OccRow → Bool
 is_asking_row r = same_state r.state Starting && not r.ended && not (is_forced_mode r.cancel)
@@ -210,12 +215,42 @@ pub record MayTake (r : OccRow) (name : List ℕ) (places : List Place) (spots :
   pub named : is_given name ≡ true
   pub placed : IsPlacing places spots (length r.changes)
 
+-- an attempt at the change of this number is among these
+abbrev pub has_open_at : ℕ → List Pending → Bool
+has_open_at c ps = list_any (λ p. p.tag.change == c) ps
+
+-- the number of an attempt is one more than these
+abbrev pub is_next : ℕ → Option ℕ → Bool
+is_next n None = false
+is_next n (Some k) = k + 1 == n
+
+-- the counts of the changes that an attempt in this way is for: those that wait, or those that are made
+abbrev pub counts_for : Way → OccRow → List ℕ
+counts_for Forward r = r.waiting
+counts_for Undo r = r.made
+
+-- it is the turn of a change: it has the net that the way begins with, and no such change is left in a phase that goes before
+abbrev pub is_turn : Tag → OccRow → Option Change → Bool
+is_turn t r None = false
+is_turn t r (Some x) =
+    option_map_or (λ n. n == net_before t.way) (slice_get r.nets t.change) false && is_clear t.way x.phase (counts_for t.way r)
+
+-- the attempt may begin at the row's occurrence, where at most so many may be open
+pub record MayBeginRow (width : ℕ) (t : Tag) (r : OccRow) : Type 0 where
+  pub works : r.state ≡ works_in t.way
+  pub no_trouble : r.trouble ≡ false
+  pub no_cancel : is_some r.cancel ≡ false
+  pub room : length r.pending < width
+  pub none_open : has_open_at t.change r.pending ≡ false
+  pub number : is_next t.attempt (slice_get r.attempts t.change) ≡ true
+  pub turn : is_turn t r (slice_get r.changes t.change) ≡ true
+
 -- the row's occurrence may move from the one state to the other
 abbrev pub may_move_from : OpState → OpState → OccRow → Bool
 may_move_from Starting Processing r = is_some r.grant && is_none r.cancel
 may_move_from Starting RolledBack r = gives_up_row r
-may_move_from Processing Completed r = is_quiet_row r && all_nets 1 r
-may_move_from RollingBack RolledBack r = is_quiet_row r && all_nets 0 r
+may_move_from Processing Completed r = is_quiet_row r && none_counted r.waiting
+may_move_from RollingBack RolledBack r = is_quiet_row r && none_counted r.made
 may_move_from Processing FailedTemp r = has_stopped_row r
 may_move_from RollingBack FailedTemp r = has_stopped_row r
 may_move_from FailedTemp RollingBack r = not (is_terminate r.ask)

@@ -55,6 +55,11 @@ Looks n x rs = (width m : ℕ) (H : List Event) → IsLegalWithin width m H → 
 abbrev pub Counts : ℕ → List OccRow → Type 0
 Counts n rs = (H : List Event) → StandsFor rs H → n ≡ occurrences_made H
 
--- the answer is whether the event is allowed after each legal history that the rows stand for
+-- the answer is whether the event is allowed after each legal history that the rows stand for, where at most so many attempts of an
+-- occurrence may be open
+abbrev pub JudgesWithin : ℕ → EventKind → Bool → List OccRow → Type 0
+JudgesWithin width k answer rs = (m : ℕ) (H : List Event) → IsLegalWithin width m H → StandsFor rs H → IsTrue answer ↔ IsAllowedWithin width m H k
+
+-- the answer is whether the event is allowed after each legal history that the rows stand for, however many attempts may be open
 abbrev pub Judges : EventKind → Bool → List OccRow → Type 0
-Judges k answer rs = (width m : ℕ) (H : List Event) → IsLegalWithin width m H → StandsFor rs H → IsTrue answer ↔ IsAllowedWithin width m H k
+Judges k answer rs = (width : ℕ) → JudgesWithin width k answer rs

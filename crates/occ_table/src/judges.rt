@@ -2,9 +2,9 @@
 
 ghost use Rattle.lcm_events.specs.declared.attempts.Outcome.{Outcome};
 ghost use Rattle.std.specs.Prelude.{IfOk};
-ghost use Rattle.lcm_events.specs.declared.events.EventKind.TheVariants.{CallFailed, CancelAsked, Denied, GrantTried, Granted, Moved, Settled};
+ghost use Rattle.lcm_events.specs.declared.events.EventKind.TheVariants.{CallFailed, CancelAsked, Denied, GrantTried, Granted, Intent, Moved, Settled};
 ghost use Rattle.lcm_events.specs.declared.states.CancelMode.{CancelMode};
-ghost use Rattle.occ_table.specs.Table.{Judges};
+ghost use Rattle.occ_table.specs.Table.{Judges, JudgesWithin};
 
 use crate::table::OccTable;
 use lcm_events::{GrantTry, OpState, Place, Tag};
@@ -55,6 +55,20 @@ impl OccTable {
         match self.occurrence(occ) {
             Some(row) => row.may_take(alloc, grant, places, spots),
             None => Ok(false),
+        }
+    }
+
+    /// Whether an attempt may begin, where at most so many attempts of an occurrence may be open: the occurrence is at such work, with neither
+    /// trouble nor a cancel since its last move; there is room for one more attempt, and none at this change is open; the attempt has the next
+    /// number; and it is the turn of its change.
+    ///
+    /// Source: SOL 003 5.6.2 (States and state transitions of a VNF LCM operation occurrence); phases and windows are own rules.
+    pub fn may_begin(&self, width: usize, tag: &Tag) -> bool
+        ensures judged { JudgesWithin width (Intent tag.now) result self.now.rows }
+    {
+        match self.occurrence(tag.occ) {
+            Some(row) => row.may_begin(width, tag),
+            None => false,
         }
     }
 

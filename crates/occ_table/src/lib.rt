@@ -6,11 +6,13 @@ mod causes;
 mod cells;
 mod judges;
 mod pending;
+mod phases;
 mod rows;
 mod table;
 
 pub use causes::Cause;
 pub use cells::Cells;
 pub use pending::{Pending, Pendings};
+pub use phases::PHASES;
 pub use rows::{Grant, OccRow};
 pub use table::OccTable;

@@ -3,7 +3,7 @@
 ghost use Rattle.std.specs.Prelude.{◌≡◌, ◌<◌, ◌&&◌, [], filter, length, map, not, vec_capacity, vec_len, IfOk};
 ghost use Rattle.std.specs.List.{list_any};
 ghost use Rattle.lcm_events.specs.Same.{same_tag};
-ghost use Rattle.occ_table.specs.Steps.{begun, ended, failed_by, has_failed_among, has_open_among, none_open};
+ghost use Rattle.occ_table.specs.Steps.{begun, ended, failed_by, has_failed_among, has_open_among, has_open_at, none_open};
 
 use lcm_events::Tag;
 use std::alloc::{AllocError, Global};
@@ -87,6 +87,18 @@ fn is_open_in(entries: &[Pending], tag: &Tag) -> bool
     false
 }
 
+/// Whether an attempt at this change is among these.
+fn has_open_in(entries: &[Pending], change: u16) -> bool
+    ensures { result ≡ has_open_at change entries.now }
+{
+    for pending in entries {
+        if pending.tag.change == change {
+            return true;
+        }
+    }
+    false
+}
+
 /// Takes the attempt out that ended.
 fn end_in(entries: &mut Vec<Pending>, tag: &Tag)
     ensures items { entries.new.items ≡ ended tag.now entries.old.items }
@@ -139,6 +151,20 @@ impl Pendings {
         ensures { result ≡ none_open self.now }
     {
         self.entries.is_empty()
+    }
+
+    /// How many attempts are open.
+    pub fn len(&self) -> usize
+        ensures { result ≡ length self.now }
+    {
+        self.entries.len()
+    }
+
+    /// Whether an attempt at this change is open.
+    pub fn has_open_at(&self, change: u16) -> bool
+        ensures { result ≡ has_open_at change self.now }
+    {
+        has_open_in(self.entries.as_slice(), change)
     }
 
     /// Whether the attempt is open.

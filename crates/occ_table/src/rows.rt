@@ -1,15 +1,18 @@
 //! The row of an occurrence, and what each event makes of it.
 
-ghost use Rattle.std.specs.List.{list_all};
-ghost use Rattle.std.specs.Prelude.{◌≡◌, ◌&&◌, ◌↔◌, IfOk, IsTrue, None, Some, false, map, true, ◌==◌, ◌+◌, min};
+ghost use Rattle.std.specs.Option.{option_map_or};
+ghost use Rattle.occ_table.specs.Phases.{is_clear, phase_at, shifted, tally_after};
+ghost use Rattle.lcm_model.specs.Work.{net_after, net_before, works_in};
+ghost use Rattle.std.specs.Prelude.{◌≡◌, ◌&&◌, ◌↔◌, IfOk, IsTrue, None, Some, false, map, true, ◌==◌, ◌+◌, min, slice_get, slice_set};
 ghost use Rattle.lcm_model.specs.Words.{otherwise, when};
 ghost use Rattle.occ_table.specs.declared.causes.Cause.TheVariants as causes;
-ghost use Rattle.occ_table.specs.Steps.{after_answer, after_cancel, after_settled, after_told, after_trouble, begun, cause_among, failed_by, first_row, is_trouble_among, row_after, after_begun, nets_after, after_granted, is_bringing, is_later, gives_up_row, has_stopped_row, is_asking_row, is_new_try_row, MayTake, is_quiet_row, may_move_from};
+ghost use Rattle.occ_table.specs.Steps.{after_answer, after_cancel, after_settled, after_told, after_trouble, begun, cause_among, failed_by, first_row, is_trouble_among, row_after, after_begun, nets_after, after_granted, is_bringing, is_later, gives_up_row, has_stopped_row, is_asking_row, is_new_try_row, MayTake, MayBeginRow, counts_for, is_next, is_turn, is_quiet_row, may_move_from};
 
 use crate::asks::copied_ask;
 use crate::causes::Cause;
 use crate::cells::Cells;
 use crate::pending::Pendings;
+use crate::phases::{PHASES, are_clear, are_none, count_phases, shift};
 use lcm_events::{
     Ask, CancelMode, Changes, EventKind, GrantTry, Listed, OpState, Operation, Outcome, Place,
     Role, Tag, Way,
@@ -69,6 +72,10 @@ pub struct OccRow {
     pub changes: Changes,
     /// The net of each change: 1 where it is made, 0 where it isn't or was undone.
     pub nets: Cells<u8>,
+    /// How many changes of each phase have net 0.
+    pub waiting: [u64; PHASES],
+    /// How many changes of each phase have net 1.
+    pub made: [u64; PHASES],
     /// How many attempts there were at each change.
     pub attempts: Cells<u32>,
     /// The state that it is in.
@@ -95,6 +102,36 @@ pub struct OccRow {
     pub grant: Option<Grant>,
 }
 
+/// The net that a change has once it is made, or once it is undone.
+fn net_when_through(way: Way) -> u8
+    ensures { result ≡ net_after way }
+{
+    match way {
+        Way::Forward => 1,
+        Way::Undo => 0,
+    }
+}
+
+/// The net that a change has before it is made, or before it is undone.
+fn net_to_begin(way: Way) -> u8
+    ensures { result ≡ net_before way }
+{
+    match way {
+        Way::Forward => 0,
+        Way::Undo => 1,
+    }
+}
+
+/// The state in which attempts in this way are made.
+fn state_of_work(way: Way) -> OpState
+    ensures { result ≡ works_in way }
+{
+    match way {
+        Way::Forward => OpState::Processing,
+        Way::Undo => OpState::RollingBack,
+    }
+}
+
 impl OccRow {
     /// The row of an operation that is asked for at this moment.
     pub fn first(alloc: Global, moment: Moment, operation: &Operation) -> Result<OccRow, AllocError>
@@ -104,6 +141,7 @@ impl OccRow {
         let changes = operation.changes.as_slice().to_vec(alloc)?;
         let nets = vec![in alloc; 0u8; changes.len()]?;
         let attempts = vec![in alloc; 0u32; changes.len()]?;
+        let waiting = count_phases(changes.as_slice());
         let pending = Pendings::new(alloc)?;
         Ok(OccRow {
             instance: operation.instance,
@@ -111,6 +149,8 @@ impl OccRow {
             ask,
             changes: Listed::of(changes),
             nets: Cells::of(nets),
+            waiting,
+            made: [0; PHASES],
             attempts: Cells::of(attempts),
             state: OpState::Starting,
             asked: moment,
@@ -222,16 +262,30 @@ impl OccRow {
         }
     }
 
-    /// A change was made or undone.
-    fn set_net(&mut self, tag: &Tag, outcome: &Outcome)
-        ensures { self.new ≡ record self.old { nets = nets_after tag.now outcome.now self.old.nets } }
+    /// The phase of the change of this number.
+    fn phase_at(&self, change: u16) -> Option<u8>
+        ensures { result ≡ phase_at change self.now.changes }
+    {
+        let change = self.changes.as_slice().get(change as usize)?;
+        Some(change.phase)
+    }
+
+    /// A change has this net from now on, which is not the one that it had.
+    fn set_net(&mut self, change: u16, net: u8)
+        ensures { self.new ≡ record self.old { nets = slice_set self.old.nets change net; waiting = shifted (net == 0) (phase_at change self.old.changes) self.old.waiting; made = shifted (net == 1) (phase_at change self.old.changes) self.old.made } }
+    {
+        let phase = self.phase_at(change);
+        shift(&mut self.waiting, net == 0, phase);
+        shift(&mut self.made, net == 1, phase);
+        self.nets.set(change as usize, net);
+    }
+
+    /// A change was made or undone, where the attempt did its work.
+    fn record_outcome(&mut self, tag: &Tag, outcome: &Outcome)
+        ensures { self.new ≡ record self.old { nets = nets_after tag.now outcome.now self.old.nets; waiting = tally_after 0 tag.now outcome.now self.old.changes self.old.waiting; made = tally_after 1 tag.now outcome.now self.old.changes self.old.made } }
     {
         if let Outcome::Done(_) = outcome {
-            let net = match tag.way {
-                Way::Forward => 1,
-                Way::Undo => 0,
-            };
-            self.nets.set(tag.change as usize, net);
+            self.set_net(tag.change, net_when_through(tag.way));
         }
     }
 
@@ -244,7 +298,7 @@ impl OccRow {
         self.trouble = trouble || self.trouble;
         self.give_cause(cause);
         self.pending.end(tag);
-        self.set_net(tag, outcome);
+        self.record_outcome(tag, outcome);
     }
 
     /// An attempt begins.
@@ -317,6 +371,62 @@ impl OccRow {
         forced || (self.ended && !granted) || (granted && self.cancel.is_some())
     }
 
+    /// Whether the number of an attempt at a change is the next.
+    fn is_next(&self, tag: &Tag) -> bool
+        ensures { result ≡ is_next tag.now.attempt (slice_get self.now.attempts tag.now.change) }
+    {
+        match self.attempts.as_slice().get(tag.change as usize) {
+            Some(attempts) => tag.attempt > 0 && tag.attempt - 1 == *attempts,
+            None => false,
+        }
+    }
+
+    /// Whether the change of this number has this net.
+    fn has_net(&self, change: u16, net: u8) -> bool
+        ensures { result ≡ option_map_or (λ n. n == net) (slice_get self.now.nets change) false }
+    {
+        match self.nets.as_slice().get(change as usize) {
+            Some(other) => *other == net,
+            None => false,
+        }
+    }
+
+    /// Whether no change is left in a phase that goes before this one.
+    fn is_clear(&self, way: Way, phase: u8) -> bool
+        ensures { result ≡ is_clear way phase (counts_for way self.now) }
+    {
+        match way {
+            Way::Forward => are_clear(self.waiting.as_slice(), way, phase),
+            Way::Undo => are_clear(self.made.as_slice(), way, phase),
+        }
+    }
+
+    /// Whether it is the turn of a change.
+    fn is_turn(&self, tag: &Tag) -> bool
+        ensures { result ≡ is_turn tag.now self.now (slice_get self.now.changes tag.now.change) }
+    {
+        match self.changes.as_slice().get(tag.change as usize) {
+            Some(change) => {
+                let clear = self.is_clear(tag.way, change.phase);
+                self.has_net(tag.change, net_to_begin(tag.way)) && clear
+            }
+            None => false,
+        }
+    }
+
+    /// Whether an attempt may begin, where at most so many may be open.
+    pub fn may_begin(&self, width: usize, tag: &Tag) -> bool
+        ensures { IsTrue result ↔ MayBeginRow width tag.now self.now }
+    {
+        let works = self.state == state_of_work(tag.way);
+        let cancelled = self.cancel.is_some();
+        let room = self.pending.len() < width;
+        let open = self.pending.has_open_at(tag.change);
+        let next = self.is_next(tag);
+        let turn = self.is_turn(tag);
+        works && !self.trouble && !cancelled && room && !open && next && turn
+    }
+
     /// Whether its grant exchange goes on.
     pub fn is_asking(&self) -> bool
         ensures { result ≡ is_asking_row self.now }
@@ -369,10 +479,10 @@ impl OccRow {
             }
             (OpState::Starting, OpState::RolledBack) => self.gives_up(),
             (OpState::Processing, OpState::Completed) => {
-                self.is_quiet() && all_are(self.nets.as_slice(), 1)
+                self.is_quiet() && are_none(self.waiting.as_slice())
             }
             (OpState::RollingBack, OpState::RolledBack) => {
-                self.is_quiet() && all_are(self.nets.as_slice(), 0)
+                self.is_quiet() && are_none(self.made.as_slice())
             }
             (OpState::Processing, OpState::FailedTemp) => self.has_stopped(),
             (OpState::RollingBack, OpState::FailedTemp) => self.has_stopped(),
@@ -384,16 +494,4 @@ impl OccRow {
             _ => false,
         }
     }
-}
-
-/// Whether each net is this one.
-fn all_are(nets: &[u8], net: u8) -> bool
-    ensures { result ≡ list_all (λ n. n == net) nets.now }
-{
-    for other in nets {
-        if *other != net {
-            return false;
-        }
-    }
-    true
 }
