@@ -21,7 +21,7 @@ fn copied_aim(alloc: Global, aim: &Aim) -> Result<Aim, AllocError>
 }
 
 /// A copy of a line, where there is one.
-fn copied_line(line: &Option<Line>) -> Result<Option<Line>, AllocError>
+pub fn copied_line(line: &Option<Line>) -> Result<Option<Line>, AllocError>
     ensures { IfOk result (λ l. l ≡ line.now) }
 {
     match line {

@@ -116,6 +116,15 @@ impl Pendings {
         Ok(Pendings { entries })
     }
 
+    /// Equal open attempts, with room for 4 more.
+    pub fn copy(&self, alloc: Global) -> Result<Self, AllocError>
+        ensures { IfOk result (λ p. p ≡ self.now) }
+    {
+        let mut entries = self.entries.as_slice().to_vec(alloc)?;
+        entries.reserve(ROOM)?;
+        Ok(Pendings { entries })
+    }
+
     /// The open attempts in the order in which they began.
     pub fn as_slice(&self) -> &[Pending]
         ensures { result.now ≡ self.now }

@@ -8,7 +8,7 @@ ghost use Rattle.lcm_model.specs.Words.{otherwise, when};
 ghost use Rattle.occ_table.specs.declared.causes.Cause.TheVariants as causes;
 ghost use Rattle.occ_table.specs.Steps.{after_answer, after_cancel, after_settled, after_told, after_trouble, begun, cause_among, failed_by, first_row, is_trouble_among, row_after, after_begun, nets_after, after_granted, is_bringing, is_later, gives_up_row, has_stopped_row, is_asking_row, is_new_try_row, MayTake, MayBeginRow, counts_for, is_next, is_turn, is_quiet_row, may_move_from};
 
-use crate::asks::copied_ask;
+use crate::asks::{copied_ask, copied_line};
 use crate::causes::Cause;
 use crate::cells::Cells;
 use crate::pending::Pendings;
@@ -54,6 +54,19 @@ impl Grant {
             places: Listed::of(places),
             spots: Listed::of(spots),
         })
+    }
+}
+
+/// A copy of what a grant gave, where there is one.
+fn copied_grant(alloc: Global, grant: &Option<Grant>) -> Result<Option<Grant>, AllocError>
+    ensures { IfOk result (λ g. g ≡ grant.now) }
+{
+    match grant {
+        Some(given) => {
+            let copy = Grant::copied(alloc, given.name, &given.places, &given.spots)?;
+            Ok(Some(copy))
+        }
+        None => Ok(None),
     }
 }
 
@@ -163,6 +176,42 @@ impl OccRow {
             cause: None,
             pending,
             grant: None,
+        })
+    }
+
+    /// An equal row, for a view that is made before its event is appended.
+    ///
+    /// Source: own rule.
+    pub fn copy(&self, alloc: Global) -> Result<OccRow, AllocError>
+        ensures { IfOk result (λ r. r ≡ self.now) }
+    {
+        let ask = copied_ask(alloc, &self.ask)?;
+        let changes = self.changes.as_slice().to_vec(alloc)?;
+        let nets = self.nets.as_slice().to_vec(alloc)?;
+        let attempts = self.attempts.as_slice().to_vec(alloc)?;
+        let location = copied_line(&self.location)?;
+        let pending = self.pending.copy(alloc)?;
+        let grant = copied_grant(alloc, &self.grant)?;
+        Ok(OccRow {
+            instance: self.instance,
+            role: self.role,
+            ask,
+            changes: Listed::of(changes),
+            nets: Cells::of(nets),
+            waiting: self.waiting,
+            made: self.made,
+            attempts: Cells::of(attempts),
+            state: self.state,
+            asked: self.asked,
+            entered: self.entered,
+            location,
+            tries: self.tries,
+            ended: self.ended,
+            cancel: self.cancel,
+            trouble: self.trouble,
+            cause: self.cause,
+            pending,
+            grant,
         })
     }
 
