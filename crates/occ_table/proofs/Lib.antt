@@ -9,3 +9,4 @@ pub mod AskingLaws
 pub mod PhaseLaws
 pub mod BeginLaws
 pub mod PlanPhases
+pub mod GoingLaws

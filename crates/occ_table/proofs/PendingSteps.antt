@@ -31,7 +31,7 @@ map_reverse f (x ∷ xs) =
     ∙ (map-append f (reverse xs) (x ∷ [])
     ∙ (ap (λ ys. ys ++ f x ∷ []) (map_reverse f xs) ∙ sym (reverse-cons (f x) (map f xs))))
 
-filter_reverse : {A : Type 0} → (p : A → Bool) (xs : List A) → filter p (reverse xs) ≡ reverse (filter p xs)
+pub filter_reverse : {A : Type 0} → (p : A → Bool) (xs : List A) → filter p (reverse xs) ≡ reverse (filter p xs)
 filter_reverse p [] = refl
 filter_reverse p (x ∷ xs) =
     ap (filter p) (reverse-cons x xs)
@@ -58,7 +58,7 @@ map_map : {A B C : Type 0} → (f : B → C) (g : A → B) (xs : List A) → map
 map_map f g [] = refl
 map_map f g (x ∷ xs) = ap (λ ys. f (g x) ∷ ys) (map_map f g xs)
 
-filter_map_swap : {A B : Type 0} → (p : B → Bool) (f : A → B) (xs : List A) → filter p (map f xs) ≡ map f (filter (λ x. p (f x)) xs)
+pub filter_map_swap : {A B : Type 0} → (p : B → Bool) (f : A → B) (xs : List A) → filter p (map f xs) ≡ map f (filter (λ x. p (f x)) xs)
 filter_map_swap p f [] = refl
 filter_map_swap p f (x ∷ xs) = by_test (p (f x))
     (λ yes. rw yes (ap (λ ys. f x ∷ ys) (filter_map_swap p f xs)))

@@ -10,6 +10,7 @@ use Rattle.lcm_events.specs.declared.events.Event.{Event}
 use Rattle.lcm_events.specs.declared.events.EventKind.{EventKind}
 use Rattle.lcm_events.specs.declared.events.EventKind.TheVariants.{Asked, CallFailed, CancelAsked, Denied, GrantTried, Granted, Intent, Moved, Settled}
 use Rattle.lcm_events.specs.declared.events.Operation.{Operation}
+use Rattle.lcm_events.specs.declared.states.OpState.{OpState}
 use Rattle.lcm_model.specs.Allowed.{IsAllowedWithin, IsLegalWithin}
 use Rattle.lcm_model.specs.Operations.{occurrence_of, operation, operations}
 use Rattle.lcm_laws.proofs.AboutLaws.{about_asked, unasked_untouched}
@@ -61,7 +62,7 @@ about-step width m H time k n e wide legal allowed =
     (λ a among. row-step width m H time k n a e among wide legal allowed
     ∙ ap (λ (o : Option ℕ). cond (option_map_or (λ n. n == a.occ) o false) (row_after time k (row H a)) (row H a)) e)
 
-none_there : {A : Type 0} → (x : Option A) → (is_some x ≡ true → ⊥) → x ≡ None
+pub none_there : {A : Type 0} → (x : Option A) → (is_some x ≡ true → ⊥) → x ≡ None
 none_there None f = refl
 none_there (Some x) f = absurd (f refl)
 
@@ -248,3 +249,15 @@ pub needs_location : (n : ℕ) (answer : GrantTry) → is_later answer ≡ true 
 needs_location n (Later at) later = refl
 needs_location n Trouble later = cc
 needs_location n NotCovering later = cc
+
+-- what a move makes of the rows
+pub moved : (time : ℕ) (k : EventKind) (n : ℕ) (to : OpState) (old : List OccRow) → k ≡ Moved n to → update (row_after time k) (n - 1) old ≡ rows_after time k old
+moved time (Moved o s) n to old is = let same : o ≡ n = cc in rw same refl
+moved time (GrantTried o answer) n to old is = cc
+moved time (Granted o name places spots) n to old is = cc
+moved time (Denied o) n to old is = cc
+moved time (Intent t) n to old is = cc
+moved time (CallFailed t) n to old is = cc
+moved time (Settled t outcome) n to old is = cc
+moved time (CancelAsked o mode) n to old is = cc
+moved time _ n to old is = cc

@@ -1,3 +1,4 @@
+pub mod Going
 pub mod Phases
 pub mod Steps
 pub mod Rows

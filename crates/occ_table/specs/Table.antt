@@ -3,24 +3,28 @@ use Rattle.occ_table.specs.declared.rows.Grant.{Grant}
 use Rattle.std.specs.Prelude.{Bool, List, Option, Some, false, true, ℕ, ◌∷◌, ◌<◌, ◌≡◌, ◌≤◌, IsTrue, ◌↔◌}
 use Rattle.lcm_events.specs.declared.events.Event.{Event}
 use Rattle.lcm_events.specs.declared.events.EventKind.{EventKind}
-use Rattle.lcm_events.specs.declared.events.EventKind.TheVariants.{Asked, GrantTried, Granted}
+use Rattle.lcm_events.specs.declared.events.EventKind.TheVariants.{Asked, GrantTried, Granted, Moved}
 use Rattle.lcm_events.specs.declared.events.GrantTry.TheVariants.{Later}
 use Rattle.lcm_model.specs.Allowed.{IsAllowedWithin, IsLegalWithin}
+use Rattle.lcm_model.specs.Moves.{is_active}
 use Rattle.lcm_model.specs.Operations.{occurrences_made}
+use Rattle.occ_table.specs.Going.{active, next_active}
 use Rattle.occ_table.specs.Rows.{StandsFor, occurrence}
 use Rattle.occ_table.specs.Steps.{first_row}
 use Rattle.occ_table.specs.declared.rows.OccRow.{OccRow}
 
--- what is reserved: a row, a grant and a location that are to come, and room for how many more rows
+-- what is reserved: a row, a grant and a location that are to come, and room for how many more rows and active occurrences
 pub record Reserved : Type 0 where
   pub row : Option OccRow
   pub grant : Option Grant
   pub location : Option (List ℕ)
   pub spare : ℕ
+  pub places : ℕ
 
--- what a contract sees of the table: its rows, and what is reserved
+-- what a contract sees of the table: its rows, the numbers of the active occurrences, and what is reserved
 pub record Occurrences : Type 0 where
   pub rows : List OccRow
+  pub active : List ℕ
   pub reserved : Reserved
 
 -- the event needs a reservation
@@ -28,13 +32,15 @@ abbrev pub needs_room : EventKind → Bool
 needs_room (Asked a) = true
 needs_room (Granted o name places spots) = true
 needs_room (GrantTried o (Later at)) = true
+needs_room (Moved o to) = true
 needs_room _ = false
 
 -- what an event of this moment needs is reserved
 abbrev pub HasRoomFor : ℕ → EventKind → Reserved → Type 0
-HasRoomFor time (Asked a) r = (r.row ≡ Some (first_row time a)) × (0 < r.spare)
+HasRoomFor time (Asked a) r = (r.row ≡ Some (first_row time a)) × (0 < r.spare) × (0 < r.places)
 HasRoomFor time (Granted o name places spots) r = r.grant ≡ Some (record { name = name; places = places; spots = spots })
 HasRoomFor time (GrantTried o (Later at)) r = r.location ≡ Some at
+HasRoomFor time (Moved o to) r = is_active to ≡ true → 0 < r.places
 HasRoomFor time _ r = Unit {0}
 
 -- what the event needs is reserved
@@ -46,6 +52,15 @@ HasRoom e r = HasRoomFor e.moment e.kind r
 abbrev pub Applies : Event → List OccRow → List OccRow → Type 0
 Applies e old new =
     (width m : ℕ) (H : List Event) → width ≤ 4 → IsLegalWithin width m H → IsAllowedWithin width m H e.kind → StandsFor old H → StandsFor new (e ∷ H)
+
+-- active numbers that were those of a legal history are those of it with the event that was allowed after it
+abbrev pub Activates : Event → Occurrences → Occurrences → Type 0
+Activates e old new =
+    (width m : ℕ) (H : List Event) → IsLegalWithin width m H → IsAllowedWithin width m H e.kind → StandsFor old.rows H → old.active ≡ active H → new.active ≡ active (e ∷ H)
+
+-- what is found is the least number above this one of an active occurrence, in each legal history whose active numbers these are
+abbrev pub Follows : ℕ → Option ℕ → List ℕ → Type 0
+Follows after x ns = (width m : ℕ) (H : List Event) → IsLegalWithin width m H → ns ≡ active H → x ≡ next_active H after
 
 -- what is found is the row of the occurrence of this number in each legal history that the rows stand for
 abbrev pub Looks : ℕ → Option OccRow → List OccRow → Type 0

@@ -4,6 +4,7 @@
 mod asks;
 mod causes;
 mod cells;
+mod going;
 mod judges;
 mod pending;
 mod phases;

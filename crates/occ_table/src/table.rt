@@ -1,15 +1,19 @@
 //! The table: a row for each occurrence, in the order of their numbers.
 
 ghost use Rattle.occ_table.specs.declared.rows.Grant.{Grant};
-ghost use Rattle.std.specs.Prelude.{◌≡◌, ◌-◌, ◌<◌, ◌≤◌, ℕ, List, [], ◌++◌, ◌∷◌, Some, None, false, length, option_copied, slice_get, OnOk, vec_len, vec_capacity};
+ghost use Rattle.std.specs.Prelude.{◌≡◌, ◌-◌, ◌<◌, ◌≤◌, ℕ, List, [], ◌++◌, ◌∷◌, Some, None, true, false, find, nat_lt, length, option_copied, slice_get, OnOk, vec_len, vec_capacity};
 ghost use Rattle.lcm_events.specs.declared.events.EventKind.TheVariants.{GrantTried};
+ghost use Rattle.lcm_model.specs.Moves.{is_active};
 ghost use Rattle.lcm_model.specs.Operations.{occurrence_of};
+ghost use Rattle.occ_table.specs.Going.{Rises, active_moved};
 ghost use Rattle.occ_table.specs.Steps.{first_row, row_after, rows_about, update, after_granted, after_told, is_bringing, is_later};
 ghost use Rattle.occ_table.specs.Rows.{StandsFor};
-ghost use Rattle.occ_table.specs.Table.{Applies, Counts, HasRoom, HasRoomFor, Looks, Occurrences, Reserved, needs_room};
+ghost use Rattle.occ_table.specs.Table.{Activates, Applies, Counts, Follows, HasRoom, HasRoomFor, Looks, Occurrences, Reserved, needs_room};
 
+use crate::going::{first_above, move_active};
 use crate::rows::{Grant, OccRow};
-use lcm_events::{Event, EventKind, GrantTry, Listed, Operation, Place};
+use lcm_events::{Event, EventKind, GrantTry, Listed, OpState, Operation, Place};
+use lcm_model::works;
 use std::alloc::{AllocError, Global};
 use std::marker::Model;
 use vnfm_base::{Line, Moment, Name};
@@ -20,6 +24,7 @@ use vnfm_base::{Line, Moment, Name};
 #[derive(Debug, Drop)]
 pub struct OccTable {
     rows: Vec<OccRow>,
+    active: Vec<u64>,
     row: Option<OccRow>,
     grant: Option<Grant>,
     location: Option<Line>,
@@ -31,7 +36,7 @@ impl Model for OccTable {
 
     ghost Value = { Occurrences };
 
-    ghost view = { λ t. record { rows = t.rows.items; reserved = record { row = t.row; grant = t.grant; location = t.location; spare = vec_capacity t.rows - vec_len t.rows } } };
+    ghost view = { λ t. record { rows = t.rows.items; active = t.active.items; reserved = record { row = t.row; grant = t.grant; location = t.location; spare = vec_capacity t.rows - vec_len t.rows; places = vec_capacity t.active - vec_len t.active } } };
 }
 
 /// The number of the occurrence that an event is about.
@@ -98,12 +103,14 @@ impl OccTable {
     /// A table with no row, which takes no memory until something is reserved.
     pub fn new(alloc: Global) -> Self
         ensures rows { result.rows ≡ [] }
+        ensures active { result.active ≡ [] }
         ensures row { result.reserved.row ≡ None }
         ensures grant { result.reserved.grant ≡ None }
         ensures location { result.reserved.location ≡ None }
     {
         OccTable {
             rows: Vec::new(alloc),
+            active: Vec::new(alloc),
             row: None,
             grant: None,
             location: None,
@@ -118,10 +125,13 @@ impl OccTable {
         operation: &Operation,
     ) -> Result<(), AllocError>
         ensures kept { self.new.rows ≡ self.old.rows }
+        ensures active { self.new.active ≡ self.old.active }
         ensures row { OnOk result (self.new.reserved.row ≡ Some (first_row moment operation.now)) }
         ensures spare { OnOk result (0 < self.new.reserved.spare) }
+        ensures places { OnOk result (0 < self.new.reserved.places) }
     {
         self.rows.reserve(1)?;
+        self.active.reserve(1)?;
         let row = OccRow::first(alloc, moment, operation)?;
         self.row = Some(row);
         Ok(())
@@ -136,6 +146,7 @@ impl OccTable {
         spots: &Listed<u8>,
     ) -> Result<(), AllocError>
         ensures kept { self.new.rows ≡ self.old.rows }
+        ensures active { self.new.active ≡ self.old.active }
         ensures grant { OnOk result (self.new.reserved.grant ≡ Some (record { name = name; places = places.now; spots = spots.now })) }
     {
         let grant = Grant::copied(alloc, name, places, spots)?;
@@ -143,9 +154,22 @@ impl OccTable {
         Ok(())
     }
 
+    /// Reserves a place among the active numbers, where a state is active.
+    fn reserve_place(&mut self, to: OpState) -> Result<(), AllocError>
+        ensures kept { self.new.rows ≡ self.old.rows }
+        ensures active { self.new.active ≡ self.old.active }
+        ensures places { OnOk result (is_active to ≡ true → 0 < self.new.reserved.places) }
+    {
+        if works(to) {
+            self.active.reserve(1)?;
+        }
+        Ok(())
+    }
+
     /// Reserves the location of a grant.
     fn reserve_location(&mut self, location: &Line) -> Result<(), AllocError>
         ensures kept { self.new.rows ≡ self.old.rows }
+        ensures active { self.new.active ≡ self.old.active }
         ensures location { OnOk result (self.new.reserved.location ≡ Some location.now) }
     {
         let location = location.clone()?;
@@ -158,6 +182,7 @@ impl OccTable {
     /// Source: own rule.
     pub fn reserve_for(&mut self, alloc: Global, e: &Event) -> Result<(), AllocError>
         ensures kept { self.new.rows ≡ self.old.rows }
+        ensures active { self.new.active ≡ self.old.active }
         ensures room { OnOk result (HasRoom e.now self.new.reserved) }
         ensures stays { needs_room e.now.kind ≡ false → self.new.reserved ≡ self.old.reserved }
     {
@@ -173,13 +198,15 @@ impl OccTable {
                 answer: GrantTry::Later(location),
                 ..
             } => self.reserve_location(location),
+            EventKind::Moved { to, .. } => self.reserve_place(*to),
             _ => Ok(()),
         }
     }
 
     /// Puts the reserved grant into the row of its occurrence.
     fn put_grant(&mut self, occ: u64)
-        ensures { (g : Grant) → self.old.reserved.grant ≡ Some g → 1 ≤ occ → self.new.rows ≡ update (after_granted g) (occ - 1) self.old.rows }
+        ensures active { self.new.active ≡ self.old.active }
+        ensures rows { (g : Grant) → self.old.reserved.grant ≡ Some g → 1 ≤ occ → self.new.rows ≡ update (after_granted g) (occ - 1) self.old.rows }
     {
         if let Some(grant) = self.grant.take() {
             if occ > 0 {
@@ -190,7 +217,8 @@ impl OccTable {
 
     /// Puts the reserved location into the row of its occurrence.
     fn put_location(&mut self, occ: u64)
-        ensures { (at : List ℕ) → self.old.reserved.location ≡ Some at → 1 ≤ occ → self.new.rows ≡ update (after_told at) (occ - 1) self.old.rows }
+        ensures active { self.new.active ≡ self.old.active }
+        ensures rows { (at : List ℕ) → self.old.reserved.location ≡ Some at → 1 ≤ occ → self.new.rows ≡ update (after_told at) (occ - 1) self.old.rows }
     {
         if let Some(location) = self.location.take() {
             if occ > 0 {
@@ -199,14 +227,30 @@ impl OccTable {
         }
     }
 
-    /// Puts the reserved row last.
-    fn put_row(&mut self)
-        requires { 0 < self.old.reserved.spare }
-        ensures { (r : OccRow) → self.old.reserved.row ≡ Some r → self.new.rows ≡ self.old.rows ++ r ∷ [] }
+    /// Puts the reserved row last, and its number last among the active ones.
+    fn put_row(&mut self, occ: u64)
+        requires spare { 0 < self.old.reserved.spare }
+        requires places { 0 < self.old.reserved.places }
+        ensures rows { (r : OccRow) → self.old.reserved.row ≡ Some r → self.new.rows ≡ self.old.rows ++ r ∷ [] }
+        ensures active { self.new.active ≡ self.old.active ++ occ ∷ [] }
     {
         if let Some(row) = self.row.take() {
             self.rows.push_reserved(row);
         }
+        self.active.push_reserved(occ);
+    }
+
+    /// Lets the row of an occurrence follow its move, and the active numbers too.
+    fn follow_move(&mut self, moment: Moment, occ: u64, to: OpState, kind: &EventKind)
+        requires places { is_active to ≡ true → 0 < self.old.reserved.places }
+        requires brings { is_bringing kind.now ≡ false }
+        ensures numbered { 1 ≤ occ → self.new.rows ≡ update (row_after moment kind.now) (occ - 1) self.old.rows }
+        ensures active { self.new.active ≡ active_moved occ to self.old.active }
+    {
+        if occ > 0 {
+            follow_at(&mut self.rows, (occ - 1) as usize, moment, kind);
+        }
+        move_active(&mut self.active, occ, to);
     }
 
     /// Lets the row of an occurrence follow an event of this moment.
@@ -214,6 +258,7 @@ impl OccTable {
         requires low { 1 ≤ occ }
         requires nothing_brought { is_bringing kind.now ≡ false }
         ensures rows { self.new.rows ≡ update (row_after moment kind.now) (occ - 1) self.old.rows }
+        ensures active { self.new.active ≡ self.old.active }
         ensures reserved { self.new.reserved ≡ self.old.reserved }
     {
         follow_at(&mut self.rows, (occ - 1) as usize, moment, kind);
@@ -224,6 +269,7 @@ impl OccTable {
         requires { is_bringing kind.now ≡ false }
         ensures numbered { (n : ℕ) → occurrence_of kind.now ≡ Some n → 1 ≤ n → self.new.rows ≡ rows_about (occurrence_of kind.now) moment kind.now self.old.rows }
         ensures none { occurrence_of kind.now ≡ None → self.new.rows ≡ self.old.rows }
+        ensures active { self.new.active ≡ self.old.active }
         ensures reserved { self.new.reserved ≡ self.old.reserved }
     {
         match occurrence_in(kind) {
@@ -240,6 +286,7 @@ impl OccTable {
     fn follow_try(&mut self, moment: Moment, occ: u64, answer: &GrantTry, kind: &EventKind)
         requires { kind.now ≡ GrantTried occ answer.now }
         ensures numbered { HasRoomFor moment kind.now self.old.reserved → 1 ≤ occ → self.new.rows ≡ update (row_after moment kind.now) (occ - 1) self.old.rows }
+        ensures active { self.new.active ≡ self.old.active }
         ensures reserved { needs_room kind.now ≡ false → self.new.reserved ≡ self.old.reserved }
     {
         if is_later(answer) {
@@ -255,14 +302,16 @@ impl OccTable {
     pub fn apply(&mut self, e: &Event)
         requires room { HasRoom e.now self.old.reserved }
         ensures applies { Applies e.now self.old.rows self.new.rows }
+        ensures activates { Activates e.now self.old self.new }
         ensures stays { needs_room e.now.kind ≡ false → self.new.reserved ≡ self.old.reserved }
     {
         match &e.kind {
-            EventKind::Asked(_) => self.put_row(),
+            EventKind::Asked(operation) => self.put_row(operation.occ),
             EventKind::Granted { occ, .. } => self.put_grant(*occ),
             EventKind::GrantTried { occ, answer } => {
                 self.follow_try(e.moment, *occ, answer, &e.kind);
             }
+            EventKind::Moved { occ, to } => self.follow_move(e.moment, *occ, *to, &e.kind),
             kind => self.follow_about(e.moment, kind),
         }
     }
@@ -284,6 +333,22 @@ impl OccTable {
             return None;
         }
         self.row_at(n - 1)
+    }
+
+    /// The least number above this one of an occurrence that the manager works on; none exactly where there is none.
+    ///
+    /// Source: SOL 003 5.6.2 (States and state transitions of a VNF LCM operation occurrence).
+    pub fn next_active(&self, after: u64) -> Option<u64>
+        ensures follows { Follows after result self.now.active }
+    {
+        self.first_above(after)
+    }
+
+    /// The first active number above this one, where they rise.
+    fn first_above(&self, after: u64) -> Option<u64>
+        ensures { Rises self.now.active → result ≡ find (λ n. nat_lt after n) self.now.active }
+    {
+        first_above(self.active.as_slice(), after)
     }
 
     /// How many operations were asked for.

@@ -4,19 +4,26 @@ use Rattle.std.proofs.Common.{◌∙◌, ap, sym, subst, ◌≡◌, ◌<◌, Lis
 use Rattle.lcm_events.specs.declared.events.EventKind.{EventKind}
 use Rattle.lcm_events.specs.declared.events.Operation.{Operation}
 use Rattle.occ_table.specs.declared.rows.OccRow.{OccRow}
-use Rattle.occ_table.specs.Steps.{first_row, rows_after}
+use Rattle.occ_table.specs.Steps.{is_bringing, first_row, rows_after}
 use Rattle.occ_table.specs.Table.{HasRoomFor, Reserved, needs_room}
-use Rattle.occ_table.proofs.RowsSteps.{applied, followed, low, not_bringing, tried}
+use Rattle.occ_table.specs.Going.{active_after}
+use Rattle.occ_table.proofs.GoingLaws.{activated, unmoved}
+use Rattle.occ_table.proofs.RowsSteps.{moved, applied, followed, low, not_bringing, tried}
 use Rattle.occ_table.proofs.table.OccTable.apply.Goals as goal
+
+pub returns-in-Asked-clause-activates : goal.returns-in-Asked-clause-activates
+returns-in-Asked-clause-activates c = λ width m H legal allowed stands was.
+    activated width m H c.args.e.now c.args.self.now.active c.put_row.new.self.active legal allowed was
+    (c.put_row.ensures.active ∙ ap (λ (k : EventKind). active_after k c.args.self.now.active) (sym c.in-Asked.is))
 
 pub returns-in-Asked-clause-applies : goal.returns-in-Asked-clause-applies
 returns-in-Asked-clause-applies c = λ width m H wide legal allowed stands.
     let time : ℕ = c.args.e.now.moment in
-    let a : Operation = c.in-Asked.field-0 in
+    let a : Operation = c.in-Asked.operation in
     let old : List OccRow = c.args.self.now.rows in
     let kept : Reserved = c.args.self.now.reserved in
-    let room : (kept.row ≡ Some (first_row time a)) × (0 < kept.spare) = subst (λ (k : EventKind). HasRoomFor time k kept) c.in-Asked.is c.requires.room in
-    c.put_row.ensures (first_row time a) room.0
+    let room : (kept.row ≡ Some (first_row time a)) × (0 < kept.spare) × (0 < kept.places) = subst (λ (k : EventKind). HasRoomFor time k kept) c.in-Asked.is c.requires.room in
+    c.put_row.ensures.rows (first_row time a) room.0
     ∙ (ap (λ (k : EventKind). rows_after time k old) (sym c.in-Asked.is) ∙ applied width m H c.args.e.now old wide legal allowed stands)
 
 pub returns-in_default : goal.returns-in_default
@@ -25,6 +32,9 @@ returns-in_default c = record {
       followed width m H c.args.e.now.moment c.args.e.now.kind c.args.self.now.rows c.follow_about.new.self.rows c.in_default.not-Asked c.follow_about.ensures.numbered
       c.follow_about.ensures.none legal allowed
       ∙ applied width m H c.args.e.now c.args.self.now.rows wide legal allowed stands;
+  activates = λ width m H legal allowed stands was.
+      activated width m H c.args.e.now c.args.self.now.active c.follow_about.new.self.active legal allowed was
+      (c.follow_about.ensures.active ∙ unmoved c.args.e.now.kind c.args.self.now.active c.in_default.not-Asked c.in_default.not-Moved);
   stays = λ none. c.follow_about.ensures.reserved;
 }
 
@@ -37,8 +47,11 @@ returns-in-Granted c = record {
       let old : List OccRow = c.args.self.now.rows in
       let kept : Reserved = c.args.self.now.reserved in
       let room : kept.grant ≡ Some g = subst (λ (k : EventKind). HasRoomFor time k kept) c.in-Granted.is c.requires.room in
-      c.put_grant.ensures g room (low width m H c.args.e.now.kind n (ap occurrence_of c.in-Granted.is) legal allowed)
+      c.put_grant.ensures.rows g room (low width m H c.args.e.now.kind n (ap occurrence_of c.in-Granted.is) legal allowed)
       ∙ (ap (λ (k : EventKind). rows_after time k old) (sym c.in-Granted.is) ∙ applied width m H c.args.e.now old wide legal allowed stands);
+  activates = λ width m H legal allowed stands was.
+      activated width m H c.args.e.now c.args.self.now.active c.put_grant.new.self.active legal allowed was
+      (c.put_grant.ensures.active ∙ ap (λ (k : EventKind). active_after k c.args.self.now.active) (sym c.in-Granted.is));
   stays = λ none. let yes : true ≡ false = sym (ap needs_room c.in-Granted.is) ∙ none in cc;
 }
 
@@ -52,8 +65,33 @@ returns-in-GrantTried c = record {
       c.follow_try.ensures.numbered c.requires.room (low width m H c.args.e.now.kind n about legal allowed)
       ∙ (tried time c.args.e.now.kind n c.in-GrantTried.answer old c.in-GrantTried.is
       ∙ applied width m H c.args.e.now old wide legal allowed stands);
+  activates = λ width m H legal allowed stands was.
+      activated width m H c.args.e.now c.args.self.now.active c.follow_try.new.self.active legal allowed was
+      (c.follow_try.ensures.active ∙ ap (λ (k : EventKind). active_after k c.args.self.now.active) (sym c.in-GrantTried.is));
   stays = λ none. c.follow_try.ensures.reserved none;
 }
+
+pub returns-in-Moved : goal.returns-in-Moved
+returns-in-Moved c = record {
+  applies = λ width m H wide legal allowed stands.
+      let time : ℕ = c.args.e.now.moment in
+      let n : ℕ = c.in-Moved.occ in
+      let old : List OccRow = c.args.self.now.rows in
+      let about : occurrence_of c.args.e.now.kind ≡ Some n = ap occurrence_of c.in-Moved.is in
+      c.follow_move.ensures.numbered (low width m H c.args.e.now.kind n about legal allowed)
+      ∙ (moved time c.args.e.now.kind n c.in-Moved.to old c.in-Moved.is
+      ∙ applied width m H c.args.e.now old wide legal allowed stands);
+  activates = λ width m H legal allowed stands was.
+      activated width m H c.args.e.now c.args.self.now.active c.follow_move.new.self.active legal allowed was
+      (c.follow_move.ensures.active ∙ ap (λ (k : EventKind). active_after k c.args.self.now.active) (sym c.in-Moved.is));
+  stays = λ none. let yes : true ≡ false = sym (ap needs_room c.in-Moved.is) ∙ none in cc;
+}
+
+pub follow_move-requires-clause-places : goal.follow_move-requires-clause-places
+follow_move-requires-clause-places c = subst (λ (k : EventKind). HasRoomFor c.args.e.now.moment k c.args.self.now.reserved) c.in-Moved.is c.requires.room
+
+pub follow_move-requires-clause-brings : goal.follow_move-requires-clause-brings
+follow_move-requires-clause-brings c = ap is_bringing c.in-Moved.is
 
 pub follow_about-requires : goal.follow_about-requires
 follow_about-requires c = not_bringing c.args.e.now.kind c.in_default.not-Granted c.in_default.not-GrantTried

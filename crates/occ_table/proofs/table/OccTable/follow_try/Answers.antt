@@ -20,8 +20,9 @@ returns-then-is_later c =
       numbered = λ room from.
           told_rows time n c.args.answer.now kept.location old c.put_location.new.self.rows later
           (λ at e. subst (λ (k : EventKind). HasRoomFor time k kept) (c.requires ∙ ap (λ (a : GrantTry). GrantTried n a) e) room)
-          (λ at e. c.put_location.ensures at e from)
+          (λ at e. c.put_location.ensures.rows at e from)
           ∙ ap (λ (k : EventKind). update (row_after time k) (n - 1) old) (sym c.requires);
+      active = c.put_location.ensures.active;
       reserved = λ none.
           let yes : true ≡ false = sym (needs_location n c.args.answer.now later) ∙ (sym (ap needs_room c.requires) ∙ none) in
           cc;
@@ -34,6 +35,7 @@ returns-else-is_later c =
       numbered = λ room from.
           c.follow_about.ensures.numbered c.args.occ about from
           ∙ ap (λ (o : Option ℕ). rows_about o c.args.moment c.args.kind.now c.args.self.now.rows) about;
+      active = c.follow_about.ensures.active;
       reserved = λ none. c.follow_about.ensures.reserved;
     }
 
