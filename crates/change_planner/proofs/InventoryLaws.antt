@@ -1,11 +1,10 @@
 -- The holding of an instance says what the history does.
-use Rattle.std.proofs.Common.{◌≡◌, ◌≤◌, ◌<◌, ◌+◌, ◌&&◌, ◌||◌, ◌==◌, ◌∙◌, ℕ, zero, suc, List, [], ◌∷◌, Bool, true, false, Option, None, Some, refl, ap, sym, subst, length, map, filter, arith, inl, inr, ltb, eqb-true, slice_get, ltb-true, ltb-false}
+use Rattle.std.proofs.Common.{◌≡◌, ◌≤◌, ◌<◌, ◌+◌, ◌&&◌, ◌||◌, ◌∙◌, ℕ, zero, suc, List, [], ◌∷◌, Bool, true, false, None, Some, refl, ap, sym, subst, length, map, filter, arith, inl, inr, ltb, eqb-true, slice_get, ltb-true, ltb-false}
 use Rattle.std.proofs.Math.Path.{fun_ext}
 use Rattle.std.specs.List.{list_any, range_with_len}
 use Rattle.std.specs.Prelude.{unwrap_or}
 use Rattle.lcm_events.specs.Same.{same_def}
 use Rattle.lcm_events.proofs.SameLaws.{same_def-refl, same_def-true}
-use Rattle.lcm_events.specs.declared.changes.Change.{Change}
 use Rattle.lcm_events.specs.declared.changes.Def.{Def}
 use Rattle.lcm_events.specs.declared.changes.DefKind.{DefKind}
 use Rattle.lcm_events.specs.declared.changes.DefKind.TheVariants.{Compute, Link, Port, Storage}
@@ -13,7 +12,6 @@ use Rattle.lcm_events.specs.declared.descriptor.Vnfd.{Vnfd}
 use Rattle.lcm_events.specs.declared.events.Event.{Event}
 use Rattle.lcm_events.specs.declared.events.Operation.{Operation}
 use Rattle.lcm_events.specs.declared.held.Held.{Held}
-use Rattle.lcm_events.specs.declared.held.Holding.{Holding}
 use Rattle.lcm_laws.proofs.AskLaws.{runs-stands}
 use Rattle.lcm_laws.proofs.HoldingLaws.{holding_exact}
 use Rattle.lcm_laws.proofs.Lists.{and_left, and_right, and_true, by_test}
@@ -22,11 +20,11 @@ use Rattle.lcm_laws.proofs.StandLaws.{described}
 use Rattle.lcm_laws.specs.Holdings.{HoldsWhatStands}
 use Rattle.lcm_model.specs.Allowed.{IsLegalWithin}
 use Rattle.lcm_model.specs.Holding.{is_of_instance, is_of_vdu, runs, serial_of, stands, top, top_in}
-use Rattle.lcm_model.specs.Instances.{holding, inventory, inventory_of}
+use Rattle.lcm_model.specs.Instances.{holding, inventory_of}
 use Rattle.lcm_model.specs.Lives.{descriptor}
 use Rattle.lcm_model.specs.Operations.{operations}
-use Rattle.lcm_model.specs.Vnfcs.{Inventory, is_def_in, is_def_of, items, vdu_numbers}
-use Rattle.lcm_model.specs.Words.{IsIn, greatest, is_among}
+use Rattle.lcm_model.specs.Vnfcs.{Inventory, is_def_in, is_def_of, vdu_numbers}
+use Rattle.lcm_model.specs.Words.{IsIn, greatest}
 use Rattle.change_planner.specs.Inventories.{HoldingsAreInventories}
 
 -- what passes a test is in the list
@@ -81,7 +79,7 @@ runs_said d H i x h e =
     any_in (λ y. same_def y.def x && y.running) from.0 (holding d H i).items from.1 (and_true _ _ same running)
 
 -- the greatest serials
-range_get : (a n v : ℕ) → v < n → slice_get (range_with_len a n) v ≡ Some (a + v)
+pub range_get : (a n v : ℕ) → v < n → slice_get (range_with_len a n) v ≡ Some (a + v)
 range_get a zero v h = absurd (omega (arith, h))
 range_get a (suc n) zero h = let e : a ≡ a + 0 = omega arith in ap Some e
 range_get a (suc n) (suc v) h = let e : (a + 1) + v ≡ a + suc v = omega arith in range_get (a + 1) n v (omega (arith, h)) ∙ ap Some e
@@ -91,7 +89,7 @@ range_past a zero v h = refl
 range_past a (suc n) zero h = absurd (omega (arith, h))
 range_past a (suc n) (suc v) h = range_past (a + 1) n v (omega (arith, h))
 
-map_get : {A B : Type 0} → (f : A → B) (xs : List A) (n : ℕ) (x : A) → slice_get xs n ≡ Some x → slice_get (map f xs) n ≡ Some (f x)
+pub map_get : {A B : Type 0} → (f : A → B) (xs : List A) (n : ℕ) (x : A) → slice_get xs n ≡ Some x → slice_get (map f xs) n ≡ Some (f x)
 map_get f [] n x e = absurd cc
 map_get f (y ∷ xs) zero x e = let is : y ≡ x = cc in ap (λ z. Some (f z)) is
 map_get f (y ∷ xs) (suc n) x e = map_get f xs n x e

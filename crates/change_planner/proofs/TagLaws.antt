@@ -1,6 +1,6 @@
 -- An act over the holding of an instance is the work of its attempt.
-use Rattle.std.proofs.Common.{◌≡◌, ℕ, List, Option, None, Some, refl, ap, sym, subst, ◌∙◌}
-use Rattle.std.specs.Prelude.{IfOk, Result, Ok, Err, filter_map, option_and_then, option_map, slice_get}
+use Rattle.std.proofs.Common.{◌≡◌, ℕ, List, Option, Some, refl, ap, sym, subst, ◌∙◌}
+use Rattle.std.specs.Prelude.{IfOk, Result, Ok, Err, option_and_then, option_map, slice_get}
 use Rattle.std.specs.declared.alloc.AllocError.{AllocError}
 use Rattle.lcm_events.specs.declared.acts.Act.{Act}
 use Rattle.lcm_events.specs.declared.attempts.Tag.{Tag}
@@ -21,7 +21,7 @@ use Rattle.lcm_model.specs.Grants.{granted_place}
 use Rattle.lcm_model.specs.Holding.{place}
 use Rattle.lcm_model.specs.Instances.{holding}
 use Rattle.lcm_model.specs.Lives.{descriptor}
-use Rattle.lcm_model.specs.Operations.{operation, undo, verb_done}
+use Rattle.lcm_model.specs.Operations.{undo, verb_done}
 use Rattle.change_planner.specs.Acts.{IsOnWhatStands, act, place_of, work}
 use Rattle.change_planner.specs.Tags.{IsOfAttempt, act_of, act_on, work_at, work_place}
 use Rattle.change_planner.proofs.ActLaws.{acts_on_what_stands}

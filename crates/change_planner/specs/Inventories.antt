@@ -5,7 +5,7 @@ use Rattle.lcm_events.specs.declared.descriptor.Vnfd.{Vnfd}
 use Rattle.lcm_events.specs.declared.events.Event.{Event}
 use Rattle.lcm_events.specs.declared.held.Holding.{Holding}
 use Rattle.lcm_model.specs.Allowed.{IsLegalWithin}
-use Rattle.lcm_model.specs.Instances.{holding, inventory, inventory_of, is_started, levels}
+use Rattle.lcm_model.specs.Instances.{holding, inventory, inventory_of}
 use Rattle.lcm_model.specs.Lives.{descriptor}
 use Rattle.lcm_model.specs.Plans.{Case}
 

@@ -1,3 +1,5 @@
 pub mod Acts
 pub mod Tags
 pub mod Inventories
+pub mod Planning
+pub mod Rolls

@@ -10,10 +10,16 @@ ghost use Rattle.lcm_model.specs.Words.{first};
 
 mod acts;
 mod holdings;
+mod planning;
+mod plans;
+mod refusals;
+mod rolls;
 
 pub use acts::{act_in, acts_are_on_what_stands, forward_act};
 pub use holdings::holdings_are_inventories;
 use lcm_events::Change;
+pub use planning::plan;
+pub use refusals::PlanRefusal;
 
 /// The least number, from 0, of a change whose net is 0, which is the one to make next. `nets` has the net of each change
 /// at the change's number; a change past its end has no net and is passed over.

@@ -1,0 +1,378 @@
+-- What stands of the machines of a VDU, read off a holding's items.
+use Rattle.std.proofs.Common.{◌≡◌, ◌≤◌, ◌<◌, ◌+◌, ◌++◌, ◌&&◌, ◌||◌, ◌==◌, ◌∙◌, ℕ, List, [], ◌∷◌, Bool, true, false, not, Option, None, Some, refl, ap, sym, subst, length, map, filter, arith, inl, inr, ◌⊎◌, ltb, ltb-true, eqb-true, eq-eqb, slice_get, length-append, ◌-◌, append_assoc}
+use Rattle.std.proofs.lemmas.Bool.{leb-true}
+use Rattle.std.proofs.lemmas.List.{length-map}
+use Rattle.std.specs.List.{list_all, list_any, range_with_len}
+use Rattle.std.specs.Option.{option_map_or}
+use Rattle.std.specs.Prelude.{if◌then◌else◌, nat_le, unwrap_or}
+use Rattle.lcm_events.specs.Same.{same_kind}
+use Rattle.lcm_events.proofs.SameLaws.{def_ext}
+use Rattle.lcm_events.specs.declared.changes.Def.{Def}
+use Rattle.lcm_events.specs.declared.changes.DefKind.{DefKind}
+use Rattle.lcm_events.specs.declared.changes.DefKind.TheVariants.{Compute, Link, Port, Storage}
+use Rattle.lcm_events.specs.declared.descriptor.Vdu.{Vdu}
+use Rattle.lcm_events.specs.declared.descriptor.Vnfd.{Vnfd}
+use Rattle.lcm_events.specs.declared.held.Held.{Held}
+use Rattle.lcm_events.specs.declared.held.Holding.{Holding}
+use Rattle.lcm_laws.proofs.BoundLaws.{Differ, all_parts, few}
+use Rattle.lcm_laws.proofs.CoverLaws.{all_in}
+use Rattle.lcm_laws.proofs.HoldingLaws.{all_of}
+use Rattle.lcm_laws.proofs.Lists.{and_left, and_right, and_true, by_test}
+use Rattle.lcm_laws.proofs.Members.{Less, Rises, among_in, any_in, get_in, in_either, in_filter, in_map, in_range, of_filter, of_map, of_range, rises_append, rises_filter, rises_map, rises_range, rising_rises}
+use Rattle.lcm_laws.proofs.PlanMembers.{OfMachine, in_all, of_defs}
+use Rattle.lcm_laws.proofs.PlanOrder.{items_rise}
+use Rattle.lcm_model.specs.Descriptors.{IsHoldingOf, IsValid, is_def_up_to, is_valid_vdu}
+use Rattle.lcm_model.specs.Instances.{inventory_of}
+use Rattle.lcm_model.specs.Vnfcs.{all_defs, def_of, defs, is_def_in, is_def_of, is_there, is_whole, items, storages_of, there}
+use Rattle.lcm_model.specs.Words.{IsIn, is_among}
+use Rattle.lcm_laws.proofs.SerialLaws.{range_length}
+use Rattle.lcm_model.proofs.ListLaws.{range_step}
+use Rattle.change_planner.specs.Rolls.{CanBePlanned, distinct, is_part, parts_of}
+use Rattle.change_planner.proofs.InventoryLaws.{of_any, said, same_test, says}
+use Rattle.change_planner.proofs.OrderLaws.{Sooner, items_in_order, serials_in_order, sooner_differs, unique}
+
+-- the serials that are read are above the one before them, and rise
+distinct_rises : (v last : ℕ) (ys : List Held) → Rises Sooner ys → ((y : Held) → IsIn y ys → y.def.vdu ≡ v → last ≤ y.def.serial)
+    → Rises Less (distinct v last ys) × ((s : ℕ) → IsIn s (distinct v last ys) → last < s)
+distinct_rises v last [] h f = (tt, λ s k. absurd k)
+distinct_rises v last (y ∷ ys) h f = by_test ((y.def.vdu == v) && not (y.def.serial == last))
+    (λ new.
+    let at : y.def.vdu ≡ v = eqb-true y.def.vdu v (and_left _ _ new) in
+    let other : not (y.def.serial == last) ≡ true = and_right (y.def.vdu == v) _ new in
+    let low : last ≤ y.def.serial = f y (inl refl) at in
+    let less : last < y.def.serial = is_above last y.def.serial low other in
+    let rest = distinct_rises v y.def.serial ys h.1 (λ z k e. serials_in_order v y z (h.0 z k) at e) in
+    rw new ((rest.1, rest.0), λ s k. above last y.def.serial s (distinct v y.def.serial ys) less rest.1 k))
+    (λ old. rw old (distinct_rises v last ys h.1 (λ z k e. f z (inr k) e))) where
+      is_above : (m n : ℕ) → m ≤ n → not (n == m) ≡ true → m < n
+      is_above m n low other = by_test (n == m)
+          (λ same. let never : not true ≡ true = subst (λ (b : Bool). not b ≡ true) same other in absurd cc)
+          (λ apart. grind arith)
+
+      above : (m n s : ℕ) (ns : List ℕ) → m < n → ((s : ℕ) → IsIn s ns → n < s) → (n ≡ s) ⊎ IsIn s ns → m < s
+      above m n s ns less g (inl e) = omega (arith, less, e)
+      above m n s ns less g (inr k) = let more = g s k in omega (arith, less, more)
+
+-- a serial that is read is one of an item
+distinct_from : (v last s : ℕ) (ys : List Held) → IsIn s (distinct v last ys) → (y : Held) × IsIn y ys × (y.def.vdu ≡ v) × (y.def.serial ≡ s)
+distinct_from v last s [] k = absurd k
+distinct_from v last s (y ∷ ys) k = by_test ((y.def.vdu == v) && not (y.def.serial == last))
+    (λ new. here (eqb-true y.def.vdu v (and_left _ _ new)) (subst (λ (b : Bool). IsIn s (if_then b)) new k) (λ j. distinct_from v y.def.serial s ys j))
+    (λ old. later (distinct_from v last s ys (subst (λ (b : Bool). IsIn s (if_then b)) old k))) where
+      if_then : Bool → List ℕ
+      if_then b = if b then y.def.serial ∷ distinct v y.def.serial ys else distinct v last ys
+
+      later : (z : Held) × IsIn z ys × (z.def.vdu ≡ v) × (z.def.serial ≡ s) → (z : Held) × IsIn z (y ∷ ys) × (z.def.vdu ≡ v) × (z.def.serial ≡ s)
+      later f = (f.0, inr f.1, f.2, f.3)
+
+      here : y.def.vdu ≡ v → (y.def.serial ≡ s) ⊎ IsIn s (distinct v y.def.serial ys) → (IsIn s (distinct v y.def.serial ys) → (z : Held) × IsIn z ys × (z.def.vdu ≡ v) × (z.def.serial ≡ s))
+          → (z : Held) × IsIn z (y ∷ ys) × (z.def.vdu ≡ v) × (z.def.serial ≡ s)
+      here at (inl e) on = (y, inl refl, at, e)
+      here at (inr j) on = later (on j)
+
+-- the serial of an item is read, where it isn't the one before
+distinct_has : (v last : ℕ) (y : Held) (ys : List Held) → IsIn y ys → y.def.vdu ≡ v → (y.def.serial ≡ last) ⊎ IsIn y.def.serial (distinct v last ys)
+distinct_has v last y [] k at = absurd k
+distinct_has v last y (z ∷ ys) k at = by_test ((z.def.vdu == v) && not (z.def.serial == last))
+    (λ new. rw new (at_new k (λ j. distinct_has v z.def.serial y ys j at)))
+    (λ old. rw old (at_old k old (λ j. distinct_has v last y ys j at))) where
+      at_new : (z ≡ y) ⊎ IsIn y ys → (IsIn y ys → (y.def.serial ≡ z.def.serial) ⊎ IsIn y.def.serial (distinct v z.def.serial ys))
+          → (y.def.serial ≡ last) ⊎ ((z.def.serial ≡ y.def.serial) ⊎ IsIn y.def.serial (distinct v z.def.serial ys))
+      at_new (inl e) on = inr (inl (ap (λ (w : Held). w.def.serial) e))
+      at_new (inr j) on = elim (on j) [ inl e ↦ inr (inl (sym e)) | inr i ↦ inr (inr i) ]
+
+      at_old : (z ≡ y) ⊎ IsIn y ys → ((z.def.vdu == v) && not (z.def.serial == last)) ≡ false → (IsIn y ys → (y.def.serial ≡ last) ⊎ IsIn y.def.serial (distinct v last ys))
+          → (y.def.serial ≡ last) ⊎ IsIn y.def.serial (distinct v last ys)
+      at_old (inr j) old on = on j
+      at_old (inl e) old on = by_test (y.def.serial == last)
+          (λ same. inl (eqb-true y.def.serial last same))
+          (λ apart.
+          let here : (y.def.vdu == v) ≡ true = eq-eqb y.def.vdu v at in
+          let test : ((y.def.vdu == v) && not (y.def.serial == last)) ≡ false = subst (λ (w : Held). ((w.def.vdu == v) && not (w.def.serial == last)) ≡ false) e old in
+          let yes : ((y.def.vdu == v) && not (y.def.serial == last)) ≡ true = and_true _ _ here (ap not apart) in
+          let clash : true ≡ false = sym yes ∙ test in absurd cc)
+
+-- what is known of an item that is no link
+pub record IsOfVdu (d : Vnfd) (h : Holding) (y : Held) : Type 0 where
+  pub vdu : y.def.vdu < length d.vdus
+  pub among : IsIn y.def (all_defs d y.def.vdu y.def.serial)
+  pub above : 0 < y.def.serial
+  pub low : y.def.serial ≤ (inventory_of h).top y.def.vdu
+
+item_in : (d : Vnfd) (kind : DefKind) (x : Def) → x.kind ≡ kind → IsIn x.item (items d kind x.vdu) → IsIn x (defs d kind x.vdu x.serial)
+item_in d kind x is h =
+    let same : def_of kind x.vdu x.serial x.item ≡ x = def_ext (sym is) refl refl refl in
+    subst (λ (y : Def). IsIn y (defs d kind x.vdu x.serial)) same (in_map (def_of kind x.vdu x.serial) x.item (items d kind x.vdu) h)
+
+machine_item : (d : Vnfd) (kind : DefKind) (x : Def) → x.kind ≡ kind
+    → (ltb x.vdu (length d.vdus) && is_among (items d kind x.vdu) x.item && ltb 0 x.serial) ≡ true
+    → (x.vdu < length d.vdus) × IsIn x (all_defs d x.vdu x.serial) × (0 < x.serial)
+machine_item d kind x is e = (
+  ltb-true x.vdu (length d.vdus) (and_left _ _ (and_left _ _ e)),
+  in_all d kind x.vdu x.serial x (item_in d kind x is (among_in (items d kind x.vdu) x.item (and_right _ _ (and_left _ _ e)))),
+  ltb-true 0 x.serial (and_right _ _ e),
+)
+
+kind_item : (d : Vnfd) (kind : DefKind) (x : Def) → x.kind ≡ kind → (same_kind kind Link ≡ false) → is_def_in d kind x ≡ true
+    → (x.vdu < length d.vdus) × IsIn x (all_defs d x.vdu x.serial) × (0 < x.serial)
+kind_item d Link x is other e = absurd cc
+kind_item d Storage x is other e = machine_item d Storage x is e
+kind_item d Compute x is other e = machine_item d Compute x is e
+kind_item d Port x is other e = machine_item d Port x is e
+
+pub known_item : (d : Vnfd) (h : Holding) (y : Held) → IsHoldingOf d h → IsIn y h.items → is_def_up_to d h.top y.def ≡ true
+known_item d h y is k = all_in (λ x. is_def_up_to d h.top x.def) y h.items is.known k
+
+pub machine_of : (d : Vnfd) (h : Holding) (y : Held) → IsHoldingOf d h → IsIn y h.items → same_kind y.def.kind Link ≡ false → IsOfVdu d h y
+machine_of d h y is k other =
+    let known = known_item d h y is k in
+    let facts = kind_item d y.def.kind y.def refl other (and_left _ _ known) in
+    let low : (same_kind y.def.kind Link || nat_le y.def.serial (unwrap_or (slice_get h.top y.def.vdu) 0)) ≡ true = and_right (is_def_of d y.def) _ known in
+    record {
+      vdu = facts.0;
+      among = facts.1;
+      above = facts.2;
+      low = leb-true y.def.serial (unwrap_or (slice_get h.top y.def.vdu) 0) (subst (λ (b : Bool). (b || nat_le y.def.serial (unwrap_or (slice_get h.top y.def.vdu) 0)) ≡ true) other low);
+    }
+
+pub few_vdus : (d : Vnfd) → IsValid d → length d.vdus ≤ 64
+few_vdus d valid = leb-true (length d.vdus) 64 (and_left _ _ (and_left _ _ (and_left _ _ (and_left _ _ (and_left _ _ (and_left _ _ valid.counts))))))
+
+link_item : (d : Vnfd) (kind : DefKind) (x : Def) → (same_kind kind Link ≡ true) → is_def_in d kind x ≡ true → x.vdu ≡ 65535
+link_item d Link x is e = eqb-true x.vdu 65535 (and_right _ _ (and_left _ _ e))
+link_item d Storage x is e = absurd cc
+link_item d Compute x is e = absurd cc
+link_item d Port x is e = absurd cc
+
+-- an item of a VDU of the descriptor is no link
+pub no_link : (d : Vnfd) (h : Holding) (y : Held) → IsValid d → IsHoldingOf d h → IsIn y h.items → y.def.vdu < length d.vdus → same_kind y.def.kind Link ≡ false
+no_link d h y valid is k within = by_test (same_kind y.def.kind Link)
+    (λ link.
+    let far = link_item d y.def.kind y.def link (and_left _ _ (known_item d h y is k)) in
+    let most = few_vdus d valid in
+    absurd (omega (arith, within, far, most)))
+    (λ other. other)
+
+-- an item of a machine says that something of it stands
+pub item_there : (d : Vnfd) (h : Holding) (y : Held) → IsOfVdu d h y → IsIn y h.items → is_there d (inventory_of h) y.def.vdu y.def.serial ≡ true
+item_there d h y is k =
+    any_in (inventory_of h).stands y.def (all_defs d y.def.vdu y.def.serial) is.among (said h.items y.def (in_map (λ (z : Held). z.def) y h.items k))
+
+-- where something of a machine stands, an item says so
+there_item : (d : Vnfd) (h : Holding) (v s : ℕ) → is_there d (inventory_of h) v s ≡ true
+    → (y : Held) × IsIn y h.items × OfMachine y.def.kind × (y.def.vdu ≡ v) × (y.def.serial ≡ s)
+there_item d h v s e =
+    let some = of_any (inventory_of h).stands (all_defs d v s) e in
+    let parts = all_parts d v s some.0 some.1 in
+    let from = of_map (λ (z : Held). z.def) some.0 h.items (says h.items some.0 some.2) in
+    let same : some.0 ≡ from.0.def = sym from.2 in
+    (from.0, from.1, subst (λ (x : Def). OfMachine x.kind) same parts.0, ap (λ (x : Def). x.vdu) from.2 ∙ parts.1, ap (λ (x : Def). x.serial) from.2 ∙ parts.2)
+
+less_once : (m n : ℕ) → m < n → n < m → ⊥
+less_once m n a b = absurd (omega (arith, a, b))
+
+-- the serials that are read off the items are those of which something stands
+pub distinct_there : (d : Vnfd) (h : Holding) (to : List ℕ) (v : ℕ) → CanBePlanned d h to → v < length d.vdus → distinct v 0 h.items ≡ there d (inventory_of h) v
+distinct_there d h to v can within =
+    let rises = distinct_rises v 0 h.items (items_in_order d h can.held) (λ y k e. omega arith) in
+    unique Less less_once (distinct v 0 h.items) (there d (inventory_of h) v) rises.0
+    (rises_filter Less (is_there d (inventory_of h) v) (range_with_len 1 ((inventory_of h).top v)) (rises_range 1 ((inventory_of h).top v)))
+    (λ s k.
+    let from = distinct_from v 0 s h.items k in
+    let y = from.0 in
+    let at : y.def.vdu ≡ v = from.2 in
+    let is : y.def.serial ≡ s = from.3 in
+    let other = no_link d h y can.valid can.held from.1 (omega (arith, at, within)) in
+    let facts = machine_of d h y can.held from.1 other in
+    let above = facts.above in
+    let low : y.def.serial ≤ (inventory_of h).top v = subst (λ (n : ℕ). y.def.serial ≤ (inventory_of h).top n) at facts.low in
+    let stands : is_there d (inventory_of h) v y.def.serial ≡ true = subst (λ (n : ℕ). is_there d (inventory_of h) n y.def.serial ≡ true) at (item_there d h y facts from.1) in
+    in_filter (is_there d (inventory_of h) v) s (range_with_len 1 ((inventory_of h).top v))
+    (in_range s 1 ((inventory_of h).top v) (omega (arith, is, above)) (omega (arith, is, low)))
+    (subst (λ (n : ℕ). is_there d (inventory_of h) v n ≡ true) is stands))
+    (λ s k.
+    let both = of_filter (is_there d (inventory_of h) v) s (range_with_len 1 ((inventory_of h).top v)) k in
+    let low = (of_range s 1 ((inventory_of h).top v) both.0).0 in
+    let item = there_item d h v s both.1 in
+    let is : item.0.def.serial ≡ s = item.4 in
+    elim (distinct_has v 0 item.0 h.items item.1 item.3) [
+      | inl none ↦ absurd (omega (arith, low, is, none))
+      | inr read ↦ subst (λ (n : ℕ). IsIn n (distinct v 0 h.items)) is read
+    ])
+
+of_machine-no_link : (kind : DefKind) → OfMachine kind → same_kind kind Link ≡ false
+of_machine-no_link Link (inl e) = cc
+of_machine-no_link Link (inr (inl e)) = cc
+of_machine-no_link Link (inr (inr e)) = cc
+of_machine-no_link Storage h = refl
+of_machine-no_link Compute h = refl
+of_machine-no_link Port h = refl
+
+part_says : (v s : ℕ) (y : Held) → is_part v s y ≡ true → (same_kind y.def.kind Link ≡ false) × (y.def.vdu ≡ v) × (y.def.serial ≡ s)
+part_says v s y e = (
+  is_not (same_kind y.def.kind Link) (and_left _ _ (and_left _ _ e)),
+  eqb-true y.def.vdu v (and_right _ _ (and_left _ _ e)),
+  eqb-true y.def.serial s (and_right _ _ e),
+) where
+  is_not : (b : Bool) → not b ≡ true → b ≡ false
+  is_not true e = cc
+  is_not false e = refl
+
+says_part : (v s : ℕ) (y : Held) → same_kind y.def.kind Link ≡ false → y.def.vdu ≡ v → y.def.serial ≡ s → is_part v s y ≡ true
+says_part v s y other at is = and_true _ _ (and_true _ _ (ap not other) (eq-eqb y.def.vdu v at)) (eq-eqb y.def.serial s is)
+
+-- something of a machine stands where an item is of it
+pub part_there : (d : Vnfd) (h : Holding) (to : List ℕ) (v s : ℕ) → CanBePlanned d h to → list_any (is_part v s) h.items ≡ is_there d (inventory_of h) v s
+part_there d h to v s can = same_test (list_any (is_part v s) h.items) (is_there d (inventory_of h) v s)
+    (λ e.
+    let from = of_any (is_part v s) h.items e in
+    let part = part_says v s from.0 from.2 in
+    let there : is_there d (inventory_of h) from.0.def.vdu from.0.def.serial ≡ true = item_there d h from.0 (machine_of d h from.0 can.held from.1 part.0) from.1 in
+    subst (λ (n : ℕ). is_there d (inventory_of h) v n ≡ true) part.2 (subst (λ (n : ℕ). is_there d (inventory_of h) n from.0.def.serial ≡ true) part.1 there))
+    (λ e.
+    let item = there_item d h v s e in
+    any_in (is_part v s) item.0 h.items item.1 (says_part v s item.0 (of_machine-no_link item.0.def.kind item.2) item.3 item.4))
+
+-- the definitions of a machine differ
+items_differ : (d : Vnfd) (kind : DefKind) (v s : ℕ) → IsValid d → Rises Differ (defs d kind v s)
+items_differ d kind v s valid =
+    rises_map Less Differ (def_of kind v s) (items d kind v) (λ a b ha hb less e.
+    let same : a ≡ b = ap (λ (x : Def). x.item) e in absurd (omega (arith, less, same))) (items_rise d kind v valid)
+
+kinds_differ : (d : Vnfd) (j k : DefKind) (v s : ℕ) (x y : Def) → (j ≡ k → ⊥) → IsIn x (defs d j v s) → IsIn y (defs d k v s) → Differ x y
+kinds_differ d j k v s x y no_way hx hy e =
+    no_way (sym (of_defs d j v s x hx).0 ∙ (ap (λ (z : Def). z.kind) e ∙ (of_defs d k v s y hy).0))
+
+pub machine_differs : (d : Vnfd) (v s : ℕ) → IsValid d → Rises Differ (all_defs d v s)
+machine_differs d v s valid =
+    rises_append Differ (defs d Storage v s ++ defs d Compute v s) (defs d Port v s)
+    (rises_append Differ (defs d Storage v s) (defs d Compute v s) (items_differ d Storage v s valid) (items_differ d Compute v s valid)
+    (λ x y hx hy. kinds_differ d Storage Compute v s x y (λ e. cc) hx hy))
+    (items_differ d Port v s valid)
+    (λ x y hx hy. elim (in_either x (defs d Storage v s) (defs d Compute v s) hx) [
+      | inl g ↦ kinds_differ d Storage Port v s x y (λ e. cc) g hy
+      | inr g ↦ kinds_differ d Compute Port v s x y (λ e. cc) g hy
+    ])
+
+-- what stands of a machine
+abbrev held_parts : Holding → ℕ → ℕ → List Def
+held_parts h v s = map (λ y. y.def) (filter (is_part v s) h.items)
+
+parts_differ : (d : Vnfd) (h : Holding) (v s : ℕ) → IsHoldingOf d h → Rises Differ (held_parts h v s)
+parts_differ d h v s is =
+    rises_map Sooner Differ (λ y. y.def) (filter (is_part v s) h.items) (λ x y hx hy sooner. sooner_differs x y sooner)
+    (rises_filter Sooner (is_part v s) h.items (items_in_order d h is))
+
+parts_among : (d : Vnfd) (h : Holding) (v s : ℕ) (x : Def) → IsHoldingOf d h → IsIn x (held_parts h v s) → IsIn x (all_defs d v s)
+parts_among d h v s x is k =
+    let from = of_map (λ (y : Held). y.def) x (filter (is_part v s) h.items) k in
+    let own = of_filter (is_part v s) from.0 h.items from.1 in
+    let part = part_says v s from.0 own.1 in
+    let facts = machine_of d h from.0 is own.0 part.0 in
+    let here : IsIn from.0.def (all_defs d v s) =
+    subst (λ (n : ℕ). IsIn from.0.def (all_defs d v n)) part.2 (subst (λ (n : ℕ). IsIn from.0.def (all_defs d n from.0.def.serial)) part.1 facts.among) in
+    subst (λ (z : Def). IsIn z (all_defs d v s)) from.2 here
+
+standing_part : (d : Vnfd) (h : Holding) (v s : ℕ) (x : Def) → IsIn x (all_defs d v s) → (inventory_of h).stands x ≡ true → IsIn x (held_parts h v s)
+standing_part d h v s x among stands =
+    let parts = all_parts d v s x among in
+    let from = of_map (λ (z : Held). z.def) x h.items (says h.items x stands) in
+    let same : x ≡ from.0.def = sym from.2 in
+    let other : same_kind from.0.def.kind Link ≡ false = of_machine-no_link from.0.def.kind (subst (λ (z : Def). OfMachine z.kind) same parts.0) in
+    let part : is_part v s from.0 ≡ true = says_part v s from.0 other (ap (λ (z : Def). z.vdu) from.2 ∙ parts.1) (ap (λ (z : Def). z.serial) from.2 ∙ parts.2) in
+    subst (λ (z : Def). IsIn z (held_parts h v s)) from.2 (in_map (λ (z : Held). z.def) from.0 (filter (is_part v s) h.items) (in_filter (is_part v s) from.0 h.items from.1 part))
+
+part_stands : (h : Holding) (v s : ℕ) (x : Def) → IsIn x (held_parts h v s) → (inventory_of h).stands x ≡ true
+part_stands h v s x k =
+    let from = of_map (λ (y : Held). y.def) x (filter (is_part v s) h.items) k in
+    let own = of_filter (is_part v s) from.0 h.items from.1 in
+    said h.items x (subst (λ (z : Def). IsIn z (map (λ y. y.def) h.items)) from.2 (in_map (λ (y : Held). y.def) from.0 h.items own.0))
+
+size_all : (d : Vnfd) (v s : ℕ) → length (all_defs d v s) ≡ parts_of d v
+size_all d v s =
+    let a = length-append (defs d Storage v s ++ defs d Compute v s) (defs d Port v s) in
+    let b = length-append (defs d Storage v s) (defs d Compute v s) in
+    let m = length-map (items d Storage v) (def_of Storage v s) in
+    let n = length-map (items d Compute v) (def_of Compute v s) in
+    let k = length-map (items d Port v) (def_of Port v s) in
+    omega (arith, a, b, m, n, k)
+
+with_first : {A : Type 0} → (z x : A) (ys zs : List A) → (x ≡ z) ⊎ IsIn z ys → IsIn x zs → (IsIn z ys → IsIn z zs) → IsIn z zs
+with_first {A} z x ys zs (inl e) among f = subst (λ (w : A). IsIn w zs) e among
+with_first z x ys zs (inr k) among f = f k
+
+-- a machine is whole where as many of its definitions stand as it has
+pub counted_whole : (d : Vnfd) (h : Holding) (to : List ℕ) (v s : ℕ) → CanBePlanned d h to
+    → (length (filter (is_part v s) h.items) == parts_of d v) ≡ is_whole d (inventory_of h) v s
+counted_whole d h to v s can =
+    let size = size_all d v s in
+    let held = length-map (filter (is_part v s) h.items) (λ y. y.def) in
+    let differ = parts_differ d h v s can.held in
+    let most : length (held_parts h v s) ≤ length (all_defs d v s) = few (held_parts h v s) (all_defs d v s) differ (λ x k. parts_among d h v s x can.held k) in
+    same_test (length (filter (is_part v s) h.items) == parts_of d v) (is_whole d (inventory_of h) v s)
+    (λ e.
+    let equal = eqb-true (length (filter (is_part v s) h.items)) (parts_of d v) e in
+    all_of (inventory_of h).stands (all_defs d v s) (λ x among. by_test ((inventory_of h).stands x)
+    (λ stands. stands)
+    (λ missing.
+    let more : length (x ∷ held_parts h v s) ≤ length (all_defs d v s) = few (x ∷ held_parts h v s) (all_defs d v s) (
+      λ z k same. let has : (inventory_of h).stands x ≡ true = subst (λ (w : Def). (inventory_of h).stands w ≡ true) (sym same) (part_stands h v s z k) in
+          let clash : true ≡ false = sym has ∙ missing in absurd cc,
+      differ,
+    )
+    (λ z k. with_first z x (held_parts h v s) (all_defs d v s) k among (λ g. parts_among d h v s z can.held g)) in
+    absurd (omega (arith, more, held, size, equal)))))
+    (λ whole.
+    let least : length (all_defs d v s) ≤ length (held_parts h v s) = few (all_defs d v s) (held_parts h v s) (machine_differs d v s can.valid)
+    (λ x among. standing_part d h v s x among (all_in (inventory_of h).stands x (all_defs d v s) whole among)) in
+    eq-eqb (length (filter (is_part v s) h.items)) (parts_of d v) (omega (arith, least, most, held, size)))
+
+map_same : (xs : List ℕ) → map (λ x. x) xs ≡ xs
+map_same [] = refl
+map_same (x ∷ xs) = ap (λ ys. x ∷ ys) (map_same xs)
+
+less_differs : (xs : List ℕ) → Rises Less xs → Rises Differ xs
+less_differs xs h =
+    subst (λ (ys : List ℕ). Rises Differ ys) (map_same xs) (rises_map Less Differ (λ x. x) xs (λ a b ha hb less e. absurd (omega (arith, less, e))) h)
+
+rising_few : (n : ℕ) (xs : List ℕ) → Rises Less xs → ((x : ℕ) → IsIn x xs → x < n) → length xs ≤ n
+rising_few n xs h f =
+    let most = few xs (range_with_len 0 n) (less_differs xs h) (λ x k. let low = f x k in in_range x 0 n (omega arith) (omega (arith, low))) in
+    let size = range_length 0 n in
+    omega (arith, most, size)
+
+storages_by : (d : Vnfd) (o : Option Vdu) → ((u : Vdu) → o ≡ Some u → is_valid_vdu d u ≡ true) → length d.storages ≤ 128 → length (option_map_or (λ u. u.storages) o []) ≤ 128
+storages_by d None f few_storages = omega arith
+storages_by d (Some u) f few_storages =
+    let valid = f u refl in
+    rising_few 128 u.storages (rising_rises u.storages (and_right _ _ (and_left _ _ valid)))
+    (λ x k. let low = ltb-true x (length d.storages) (all_in (λ n. ltb n (length d.storages)) x u.storages (and_right _ _ valid) k) in omega (arith, low, few_storages))
+
+-- a machine has few storages
+pub storages_few : (d : Vnfd) (v : ℕ) → IsValid d → length (storages_of d v) ≤ 128
+storages_few d v valid =
+    storages_by d (slice_get d.vdus v) (λ u e. all_in (is_valid_vdu d) u d.vdus valid.vdus (get_in u d.vdus v e))
+    (leb-true (length d.storages) 128 (and_right _ _ (and_left _ _ (and_left _ _ (and_left _ _ (and_left _ _ (and_left _ _ valid.counts)))))))
+
+pub ports_few : (d : Vnfd) → IsValid d → length d.ports ≤ 256
+ports_few d valid = leb-true (length d.ports) 256 (and_right _ _ (and_left _ _ (and_left _ _ (and_left _ _ valid.counts))))
+
+-- all pass, and one more does
+pub all_more : {A : Type 0} → (p : A → Bool) (xs : List A) (x : A) → list_all p xs ≡ true → p x ≡ true → list_all p (xs ++ x ∷ []) ≡ true
+all_more p [] x h e = and_true (p x) true e refl
+all_more p (y ∷ xs) x h e = and_true (p y) _ (and_left (p y) _ h) (all_more p xs x (and_right (p y) _ h) e)
+
+-- what a function gives of a number, and then of the next ones, is what it gives of all
+pub map_range_on : {A : Type 0} → (f : ℕ → A) (made whole : List A) (x : A) (i n : ℕ) → i < n → x ≡ f i → made ++ map f (range_with_len i (n - i)) ≡ whole
+    → (made ++ x ∷ []) ++ map f (range_with_len (i + 1) (n - (i + 1))) ≡ whole
+map_range_on f made whole x i n h is e =
+    let step : map f (range_with_len i (n - i)) ≡ f i ∷ map f (range_with_len (i + 1) (n - (i + 1))) = ap (map f) (range_step i n h) in
+    append_assoc made (x ∷ []) (map f (range_with_len (i + 1) (n - (i + 1))))
+    ∙ (ap (λ y. made ++ y ∷ map f (range_with_len (i + 1) (n - (i + 1)))) is ∙ (ap (λ ys. made ++ ys) (sym step) ∙ e))
+
+-- the greatest serial of a holding's VDU is within the limit
+pub small_top : (d : Vnfd) (h : Holding) (to : List ℕ) (v : ℕ) → CanBePlanned d h to → (inventory_of h).top v < 2147483648
+small_top d h to v can = by_answer (slice_get h.top v) refl where
+  by_answer : (o : Option ℕ) → slice_get h.top v ≡ o → unwrap_or (slice_get h.top v) 0 < 2147483648
+  by_answer None e = rw e (omega arith)
+  by_answer (Some n) e = rw e (ltb-true n 2147483648 (all_in (λ n. ltb n 2147483648) n h.top can.held.small (get_in n h.top v e)))

@@ -1,0 +1,319 @@
+//! What becomes of the machines of each VDU.
+
+ghost use Rattle.std.specs.Prelude.{◌≡◌, ◌+◌, ◌-◌, ◌<◌, ◌≤◌, ◌&&◌, ◌==◌, IfOk, filter, length, map, not, true};
+ghost use Rattle.std.specs.List.{enumerate_from, list_all, list_any};
+ghost use Rattle.lcm_model.specs.Descriptors.{IsValid};
+ghost use Rattle.lcm_model.specs.Instances.{inventory_of};
+ghost use Rattle.lcm_model.specs.Plans.{is_named, may_stay, stay, want};
+ghost use Rattle.lcm_model.specs.Vnfcs.{is_there, is_whole, storages_of, there, vdu_numbers};
+ghost use Rattle.change_planner.specs.Planning.{unknown_among, unknown_vnfc};
+ghost use Rattle.change_planner.specs.Rolls.{CanBePlanned, are_rising, case_in, distinct, is_part, is_small, missing_by, parts_of, roll_of};
+
+use lcm_events::{Ask, DefKind, Held, Holding, Listed, Port, Vnfc, Vnfd};
+use lcm_model::count_in;
+use std::alloc::{AllocError, Global};
+
+/// What a plan is made for.
+#[derive(Clone, Copy, Drop)]
+pub(crate) struct PlanCase<'a> {
+    /// The instance's descriptor.
+    pub(crate) vnfd: &'a Vnfd,
+    /// What stands.
+    pub(crate) holding: &'a Holding,
+    /// What is asked.
+    pub(crate) ask: &'a Ask,
+    /// The levels that it aims at.
+    pub(crate) to: &'a [u32],
+}
+
+/// What becomes of the machines of one VDU.
+#[derive(Debug, Drop)]
+pub(crate) struct Roll {
+    /// The serials that stay, rising.
+    pub(crate) staying: Listed<u32>,
+    /// The greatest serial that any change gave.
+    pub(crate) top: u32,
+    /// How many machines are made.
+    pub(crate) missing: u32,
+}
+
+/// The rising serials of the items of a VDU, each once.
+fn distinct_in(alloc: Global, items: &[Held], vdu: u16) -> Result<Vec<u32>, AllocError>
+    ensures { IfOk result (λ v. v.items ≡ distinct vdu 0 items.now) }
+{
+    let mut serials: Vec<u32> = Vec::new(alloc);
+    let mut last = 0;
+    for item in items {
+        if item.def.vdu == vdu && item.def.serial != last {
+            last = item.def.serial;
+            serials.push(last)?;
+        }
+    }
+    Ok(serials)
+}
+
+/// The serials of a VDU of which something stands, rising.
+#[tactic(auto, using(crate::proofs::RollLaws::distinct_there))]
+fn there_in(alloc: Global, case: &PlanCase, vdu: u16) -> Result<Vec<u32>, AllocError>
+    requires held { CanBePlanned case.now.vnfd.now case.now.holding.now case.now.to.now }
+    requires known { vdu < length case.now.vnfd.now.vdus }
+    ensures { IfOk result (λ v. v.items ≡ there case.now.vnfd.now (inventory_of case.now.holding.now) vdu) }
+{
+    distinct_in(alloc, case.holding.items.as_slice(), vdu)
+}
+
+/// Whether an item is of a machine.
+fn is_of_machine(item: &Held, vdu: u16, serial: u32) -> bool
+    ensures { result ≡ is_part vdu serial item.now }
+{
+    item.def.kind != DefKind::Link && item.def.vdu == vdu && item.def.serial == serial
+}
+
+/// How many items are of a machine.
+fn count_parts(items: &[Held], vdu: u16, serial: u32) -> usize
+    ensures value { result ≡ length (filter (is_part vdu serial) items.now) }
+    ensures bound { result ≤ length items.now }
+{
+    let mut count = 0;
+    for item in items {
+        if is_of_machine(item, vdu, serial) {
+            count += 1;
+        }
+    }
+    count
+}
+
+/// Whether one of the items is of a machine.
+fn has_part(items: &[Held], vdu: u16, serial: u32) -> bool
+    ensures { result ≡ list_any (is_part vdu serial) items.now }
+{
+    for item in items {
+        if is_of_machine(item, vdu, serial) {
+            return true;
+        }
+    }
+    false
+}
+
+/// How many of the ports are of a VDU.
+fn count_ports(ports: &[Port], vdu: u16) -> usize
+    ensures value { result ≡ length (map (λ x. x.0) (filter (λ x. x.1.vdu == vdu) (enumerate_from 0 ports.now))) }
+    ensures bound { result ≤ length ports.now }
+{
+    let mut count = 0;
+    for port in ports {
+        if port.vdu == vdu {
+            count += 1;
+        }
+    }
+    count
+}
+
+/// The numbers of a VDU's storages.
+pub(crate) fn storages_in(vnfd: &Vnfd, vdu: u16) -> &[u16]
+    ensures { result.now ≡ storages_of vnfd.now vdu }
+{
+    match vnfd.vdus.as_slice().get(vdu as usize) {
+        Some(kind) => kind.storages.as_slice(),
+        None => &[],
+    }
+}
+
+/// How many definitions each machine of a VDU has.
+#[tactic(auto, using(crate::proofs::RollLaws::storages_few, crate::proofs::RollLaws::ports_few))]
+pub(crate) fn size_of_machine(vnfd: &Vnfd, vdu: u16) -> usize
+    requires { IsValid vnfd.now }
+    ensures value { result ≡ parts_of vnfd.now vdu }
+    ensures bound { result ≤ 385 }
+{
+    storages_in(vnfd, vdu).len() + 1 + count_ports(vnfd.ports.as_slice(), vdu)
+}
+
+/// Whether a machine is named.
+fn is_named_in(named: &[Vnfc], vdu: u16, serial: u32) -> bool
+    ensures { result ≡ is_named named.now vdu serial }
+{
+    for vnfc in named {
+        if vnfc.vdu == vdu && vnfc.serial == serial {
+            return true;
+        }
+    }
+    false
+}
+
+/// Whether all definitions of a machine stand.
+#[tactic(auto, using(crate::proofs::RollLaws::counted_whole))]
+fn is_whole_in(case: &PlanCase, vdu: u16, serial: u32) -> bool
+    requires { CanBePlanned case.now.vnfd.now case.now.holding.now case.now.to.now }
+    ensures { result ≡ is_whole case.now.vnfd.now (inventory_of case.now.holding.now) vdu serial }
+{
+    let standing = count_parts(case.holding.items.as_slice(), vdu, serial);
+    standing == size_of_machine(case.vnfd, vdu)
+}
+
+/// Those of these serials whose machines are whole and aren't named.
+fn whole_unnamed(
+    alloc: Global,
+    case: &PlanCase,
+    vdu: u16,
+    named: &[Vnfc],
+    serials: &[u32],
+) -> Result<Vec<u32>, AllocError>
+    requires { CanBePlanned case.now.vnfd.now case.now.holding.now case.now.to.now }
+    ensures { IfOk result (λ v. v.items ≡ filter (λ s. is_whole case.now.vnfd.now (inventory_of case.now.holding.now) vdu s && not (is_named named.now vdu s)) serials.now) }
+{
+    let mut kept: Vec<u32> = Vec::new(alloc);
+    for serial in serials {
+        if is_whole_in(case, vdu, *serial) && !is_named_in(named, vdu, *serial) {
+            kept.push(*serial)?;
+        }
+    }
+    Ok(kept)
+}
+
+/// The serials of a VDU that the ask may leave.
+fn may_stay_in(alloc: Global, case: &PlanCase, vdu: u16) -> Result<Vec<u32>, AllocError>
+    requires held { CanBePlanned case.now.vnfd.now case.now.holding.now case.now.to.now }
+    requires known { vdu < length case.now.vnfd.now.vdus }
+    ensures { IfOk result (λ v. v.items ≡ may_stay case.now.ask.now (case_in case.now) vdu) }
+{
+    match case.ask {
+        Ask::Instantiate { .. } | Ask::Terminate { .. } => Ok(Vec::new(alloc)),
+        Ask::Heal { named, .. } => {
+            if named.is_empty() {
+                return Ok(Vec::new(alloc));
+            }
+            let there = there_in(alloc, case, vdu)?;
+            whole_unnamed(alloc, case, vdu, named.as_slice(), there.as_slice())
+        }
+        _ => there_in(alloc, case, vdu),
+    }
+}
+
+/// How many machines the VDU is to have.
+fn want_in(case: &PlanCase, vdu: u16) -> u32
+    requires { CanBePlanned case.now.vnfd.now case.now.holding.now case.now.to.now }
+    ensures value { result ≡ want (case_in case.now) vdu }
+    ensures bound { result ≤ 1048625535 }
+{
+    count_in(case.vnfd, vdu, case.to)
+}
+
+/// The serials of a VDU that stay.
+fn stay_in(alloc: Global, case: &PlanCase, vdu: u16) -> Result<Vec<u32>, AllocError>
+    requires held { CanBePlanned case.now.vnfd.now case.now.holding.now case.now.to.now }
+    requires known { vdu < length case.now.vnfd.now.vdus }
+    ensures { IfOk result (λ v. v.items ≡ stay (case_in case.now) vdu) }
+{
+    let mut serials = may_stay_in(alloc, case, vdu)?;
+    if !matches!(case.ask, Ask::Operate { .. }) {
+        serials.truncate(want_in(case, vdu) as usize);
+    }
+    Ok(serials)
+}
+
+/// How many machines a VDU is to have beside these.
+fn beside(want: u32, staying: usize) -> u32
+    requires { want ≤ 1048625535 }
+    ensures value { result ≡ want - staying }
+    ensures bound { result ≤ 1048625535 }
+{
+    if (want as usize) < staying {
+        0
+    } else {
+        want - staying as u32
+    }
+}
+
+/// How many machines of a VDU an ask makes, beside those that stay.
+fn missing_in(case: &PlanCase, vdu: u16, staying: &[u32]) -> u32
+    requires held { CanBePlanned case.now.vnfd.now case.now.holding.now case.now.to.now }
+    requires staying { staying.now ≡ stay (case_in case.now) vdu }
+    ensures value { result ≡ missing_by case.now.ask.now (case_in case.now) vdu }
+    ensures bound { result ≤ 1048625535 }
+{
+    if matches!(case.ask, Ask::Operate { .. } | Ask::Terminate { .. }) {
+        0
+    } else {
+        beside(want_in(case, vdu), staying.len())
+    }
+}
+
+/// The greatest serial of a VDU, which is within the limit.
+#[tactic(auto, using(crate::proofs::RollLaws::small_top))]
+fn top_in(case: &PlanCase, vdu: u16) -> u32
+    requires { CanBePlanned case.now.vnfd.now case.now.holding.now case.now.to.now }
+    ensures value { result ≡ (inventory_of case.now.holding.now).top vdu }
+    ensures small { result < 2147483648 }
+{
+    match case.holding.top.as_slice().get(vdu as usize) {
+        Some(top) => *top,
+        None => 0,
+    }
+}
+
+/// What becomes of the machines of a VDU.
+fn roll_in(alloc: Global, case: &PlanCase, vdu: u16) -> Result<Roll, AllocError>
+    requires held { CanBePlanned case.now.vnfd.now case.now.holding.now case.now.to.now }
+    requires known { vdu < length case.now.vnfd.now.vdus }
+    ensures roll { IfOk result (λ roll. roll ≡ roll_of (case_in case.now) vdu) }
+    ensures small { IfOk result (λ roll. is_small roll ≡ true) }
+{
+    let staying = stay_in(alloc, case, vdu)?;
+    let missing = missing_in(case, vdu, staying.as_slice());
+    Ok(Roll {
+        top: top_in(case, vdu),
+        missing,
+        staying: Listed::of(staying),
+    })
+}
+
+/// What becomes of the machines of each VDU.
+pub(crate) fn rolls_in(alloc: Global, case: &PlanCase) -> Result<Vec<Roll>, AllocError>
+    requires { CanBePlanned case.now.vnfd.now case.now.holding.now case.now.to.now }
+    ensures rolls { IfOk result (λ rolls. rolls.items ≡ map (roll_of (case_in case.now)) (vdu_numbers case.now.vnfd.now)) }
+    ensures small { IfOk result (λ rolls. list_all is_small rolls.items ≡ true) }
+    ensures few { IfOk result (λ rolls. length rolls.items ≤ 64) }
+    ensures rising { IfOk result (λ rolls. are_rising rolls.items ≡ true) }
+{
+    let count = case.vnfd.vdus.len();
+    let mut rolls: Vec<Roll> = Vec::new(alloc);
+    for vdu in 0..count {
+        rolls.push(roll_in(alloc, case, vdu as u16)?)?;
+    }
+    Ok(rolls)
+}
+
+/// Whether something of a machine stands.
+#[tactic(auto, using(crate::proofs::RollLaws::part_there))]
+fn is_there_in(vnfd: &Vnfd, holding: &Holding, to: &[u32], vnfc: &Vnfc) -> bool
+    requires { CanBePlanned vnfd.now holding.now to.now }
+    ensures { result ≡ is_there vnfd.now (inventory_of holding.now) vnfc.now.vdu vnfc.now.serial }
+{
+    let _to = to;
+    has_part(holding.items.as_slice(), vnfc.vdu, vnfc.serial)
+}
+
+/// The place, from 0, of the first of these machines of which nothing stands.
+fn first_unknown(case: &PlanCase, named: &[Vnfc]) -> Option<usize>
+    requires { CanBePlanned case.now.vnfd.now case.now.holding.now case.now.to.now }
+    ensures { result ≡ unknown_among case.now.vnfd.now case.now.holding.now named.now }
+{
+    for (place, vnfc) in named.iter().enumerate() {
+        if !is_there_in(case.vnfd, case.holding, case.to, vnfc) {
+            return Some(place);
+        }
+    }
+    None
+}
+
+/// The place, from 0, of the first machine that HEAL names and of which nothing stands.
+pub(crate) fn unknown_in(case: &PlanCase) -> Option<usize>
+    requires { CanBePlanned case.now.vnfd.now case.now.holding.now case.now.to.now }
+    ensures { result ≡ unknown_vnfc case.now.vnfd.now case.now.holding.now case.now.ask.now }
+{
+    match case.ask {
+        Ask::Heal { named, .. } => first_unknown(case, named.as_slice()),
+        _ => None,
+    }
+}
