@@ -5,6 +5,7 @@ use Rattle.std.specs.List.{list_any, range_with_len}
 use Rattle.std.specs.Prelude.{unwrap_or}
 use Rattle.lcm_events.specs.Same.{same_def}
 use Rattle.lcm_events.proofs.SameLaws.{same_def-refl, same_def-true}
+use Rattle.lcm_events.specs.declared.asks.Ask.{Ask}
 use Rattle.lcm_events.specs.declared.changes.Def.{Def}
 use Rattle.lcm_events.specs.declared.changes.DefKind.{DefKind}
 use Rattle.lcm_events.specs.declared.changes.DefKind.TheVariants.{Compute, Link, Port, Storage}
@@ -20,12 +21,14 @@ use Rattle.lcm_laws.proofs.StandLaws.{described}
 use Rattle.lcm_laws.specs.Holdings.{HoldsWhatStands}
 use Rattle.lcm_model.specs.Allowed.{IsLegalWithin}
 use Rattle.lcm_model.specs.Holding.{is_of_instance, is_of_vdu, runs, serial_of, stands, top, top_in}
-use Rattle.lcm_model.specs.Instances.{holding, inventory_of}
+use Rattle.lcm_model.specs.Instances.{holding, inventory_of, levels}
+use Rattle.lcm_model.specs.Levels.{target}
 use Rattle.lcm_model.specs.Lives.{descriptor}
 use Rattle.lcm_model.specs.Operations.{operations}
+use Rattle.lcm_model.specs.Plans.{Case, plan}
 use Rattle.lcm_model.specs.Vnfcs.{Inventory, is_def_in, is_def_of, vdu_numbers}
 use Rattle.lcm_model.specs.Words.{IsIn, greatest}
-use Rattle.change_planner.specs.Inventories.{HoldingsAreInventories}
+use Rattle.change_planner.specs.Inventories.{HoldingsAreInventories, PlansAreThoseOfHistories}
 
 -- what passes a test is in the list
 pub of_any : {A : Type 0} → (p : A → Bool) (xs : List A) → list_any p xs ≡ true → (x : A) × IsIn x xs × (p x ≡ true)
@@ -155,3 +158,12 @@ holding_tells width m H legal i d known =
     (fun_ext (λ x. stands_same d H i x exact))
     (fun_ext (λ x. same_test (says_runs (holding d H i).items x) (runs H i x) (runs_here d H i x exact) (runs_said d H i x exact)))
     (fun_ext (λ v. top_same width m H legal i d known v))
+
+case_with : Vnfd → Ask → List ℕ → Inventory → Case
+case_with d ask to held = record { vnfd = d; held = held; ask = ask; to = to }
+
+-- the plan over the holding is the plan over the history
+pub plans_agree : PlansAreThoseOfHistories
+unfolding case_with
+plans_agree width m H legal i d known ask =
+    ap (λ held. plan (case_with d ask (target d (levels d H i) ask) held)) (holding_tells width m H legal i d known)

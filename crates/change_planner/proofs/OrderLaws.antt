@@ -1,5 +1,5 @@
 -- Lists in order, and the order of a holding's items.
-use Rattle.std.proofs.Common.{◌≡◌, ◌≤◌, ◌<◌, ◌&&◌, ◌||◌, ◌==◌, ◌∙◌, ℕ, List, [], ◌∷◌, Bool, true, false, refl, ap, sym, subst, arith, inl, inr, ◌⊎◌, ltb, ltb-true, lt-ltb, eqb-true, eq-eqb}
+use Rattle.std.proofs.Common.{◌≡◌, ◌≤◌, ◌<◌, ◌&&◌, ◌||◌, ◌==◌, ◌∙◌, ℕ, List, [], ◌∷◌, Bool, true, false, refl, ap, sym, subst, arith, inl, inr, ◌⊎◌, ltb, ltb-true, lt-ltb, eqb-true, eq-eqb, get_or, drop, zero, ◌-◌, length, suc, ◌+◌}
 use Rattle.lcm_events.specs.Descriptors.{is_rising}
 use Rattle.lcm_events.specs.Same.{kind_number, same_kind}
 use Rattle.lcm_events.specs.declared.changes.Def.{Def}
@@ -131,3 +131,19 @@ pub sooner_differs : (x y : Held) → Sooner x y → x.def ≡ y.def → ⊥
 sooner_differs x y e same =
     let again : Sooner x x = subst (λ (z : Def). is_before (def_key x.def) (def_key z) ≡ true) (sym same) e in
     before_once (def_key x.def) (def_key x.def) again again
+
+-- where two items stand in order, the rest rises as the whole does
+pub rising_past : {A : Type 0} → (p : A → A → Bool) (xs : List A) (i : ℕ) (c d : A) (b : Bool) → 1 ≤ i → i < length xs → p (get_or xs (i - 1) c) (get_or xs i d) ≡ true
+    → is_rising p (drop (i - 1) xs) ≡ b → is_rising p (drop (i + 1 - 1) xs) ≡ b
+rising_past p [] i c d b from within e h = absurd (omega (arith, within))
+rising_past p (x ∷ []) i c d b from within e h = absurd (omega (arith, from, within))
+rising_past p (x ∷ y ∷ xs) zero c d b from within e h = absurd (omega (arith, from))
+rising_past p (x ∷ y ∷ xs) (suc zero) c d b from within e h = rw e at h
+rising_past p (x ∷ y ∷ xs) (suc (suc i)) c d b from within e h =
+    let a : suc (suc i) - 1 ≡ suc i = omega arith in
+    let k : suc (suc i) + 1 - 1 ≡ suc (suc i) = omega arith in
+    let j : suc i - 1 ≡ i = omega arith in
+    let m : suc i + 1 - 1 ≡ suc i = omega arith in
+    let e' : p (get_or (y ∷ xs) i c) (get_or (y ∷ xs) (suc i) d) ≡ true = rw a at e in
+    let h' : is_rising p (drop i (y ∷ xs)) ≡ b = rw a at h in
+    rw k (rw m at (rising_past p (y ∷ xs) (suc i) c d b (omega arith) (omega (arith, within)) (rw j e') (rw j h')))

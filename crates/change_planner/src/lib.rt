@@ -16,7 +16,7 @@ mod refusals;
 mod rolls;
 
 pub use acts::{act_in, acts_are_on_what_stands, forward_act};
-pub use holdings::holdings_are_inventories;
+pub use holdings::{can_be_planned, holdings_are_inventories, plans_are_those_of_histories};
 use lcm_events::Change;
 pub use planning::plan;
 pub use refusals::PlanRefusal;

@@ -121,7 +121,7 @@ fn held_links_in(alloc: Global, items: &[Held]) -> Result<Vec<u16>, AllocError>
 }
 
 /// Whether a number is in a list.
-fn is_in(numbers: &[u16], number: u16) -> bool
+pub(crate) fn is_in(numbers: &[u16], number: u16) -> bool
     ensures { result ≡ is_among numbers.now number }
 {
     for other in numbers {
