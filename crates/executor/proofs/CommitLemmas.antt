@@ -1,20 +1,59 @@
 -- What recording an event does, from what the append does.
-use Rattle.std.proofs.Common.{◌≡◌, ◌∙◌, ℕ, List, ◌∷◌, true, false, true≢false, Ok, Err, subst, refl, ap}
+use Rattle.std.proofs.Common.{◌≡◌, ◌≤◌, ◌<◌, ◌∙◌, ℕ, List, ◌∷◌, length, true, false, true≢false, Result, Ok, Err, sym, subst, refl, ap, ⊎_elim}
+use Rattle.std.proofs.lemmas.Bool.{cases_lt, le-leb, lt-leb}
 use Rattle.event_codec.specs.Spell.{spelling}
 use Rattle.event_codec.specs.Valid.{IsEvent}
 use Rattle.executor.specs.Faults.{work_fault}
 use Rattle.executor.specs.Managed.{Managed, IsKept, IsReady}
+use Rattle.executor.specs.Room.{HasRoomFor, TellsRoom, is_full, journal_end}
+use Rattle.executor.specs.declared.manager.WorkFault.{WorkFault}
+use Rattle.executor.specs.declared.manager.WorkFault.TheVariants as fault
+use Rattle.std.specs.Result.{IsErrAnd}
 use Rattle.executor.specs.Work.{went, broke, recorded, HasSome, Works}
+use Rattle.executor.specs.History.{spellings}
+use Rattle.executor.proofs.JudgeLemmas.{spellings-cons}
 use Rattle.executor.proofs.ManagerLemmas.{commit_moments, commit_stands, kept_closed}
 use Rattle.executor.proofs.WorkLemmas.{extends_refl, extends_one, some_everywhere}
 use Rattle.journal_core.specs.Journal as journal
 use Rattle.journal_core.specs.Journal.{Appends}
+use Rattle.journal_core.specs.Room.{HasRoom, HasRoomBefore}
 use Rattle.journal_core.specs.declared.journal.AppendFault.{AppendFault}
 use Rattle.journal_core.specs.declared.journal.AppendFault.TheVariants as appending
 use Rattle.lcm_events.specs.declared.events.Event.{Event}
 use Rattle.lcm_model.specs.Allowed.{IsAllowed, IsLegal}
 use Rattle.site_traits.specs.Site.{Pair, SiteState, LeavesOnly}
 use Rattle.site_traits.proofs.Moments.{is_since}
+
+-- there is room for the event
+pub room_told : HasRoomBefore → (limit end more : ℕ) (H : List Event) (e : Event) → end ≡ journal_end H → more ≡ length (spelling e) → HasRoom end more limit → is_full limit (e ∷ H) ≡ false
+unfolding is_full
+room_told before limit end more H e end_is more_is room =
+    let less : journal_end (e ∷ H) < limit = rw (spellings-cons e H) ((before (spellings H) (spelling e) limit).0 (rw (← end_is, ← more_is) room)) in
+    lt-leb limit (journal_end (e ∷ H)) less
+
+-- there is none
+pub full_told : HasRoomBefore → (limit end more : ℕ) (H : List Event) (e : Event) → end ≡ journal_end H → more ≡ length (spelling e) → (HasRoom end more limit → ⊥) → is_full limit (e ∷ H) ≡ true
+unfolding is_full
+full_told before limit end more H e end_is more_is none = ⊎_elim
+    (λ (less : journal_end (e ∷ H) < limit). absurd (none (rw (end_is, more_is) ((before (spellings H) (spelling e) limit).1 (rw (spellings-cons e H) at less)))))
+    (λ (most : limit ≤ journal_end (e ∷ H)). le-leb limit (journal_end (e ∷ H)) most)
+    (cases_lt (journal_end (e ∷ H)) limit)
+
+-- for want of memory nothing was done, and there was room
+pub starved_works : (tells : Type 0) (m n : Managed) (H : List Event) (e : Event) (r : Result (Unit {0}) WorkFault) (a : SiteState) → IsErrAnd r (λ why. why ≡ fault.Memory)
+    → Works tells m.ledger.manager H (went H) n a a → Works tells m.ledger.manager H (recorded H e r) n a a
+starved_works tells m n H e (Ok done) a is works = absurd is
+starved_works tells m n H e (Err why) a is works = let P : WorkFault → Type 0 = λ w. Works tells m.ledger.manager H (recorded H e (Err w)) n a a in subst P (sym is) works
+
+pub starved_room : (limit : ℕ) (H : List Event) (e : Event) (r : Result (Unit {0}) WorkFault) → IsErrAnd r (λ why. why ≡ fault.Memory) → HasRoomFor limit H e → TellsRoom limit H e r
+starved_room limit H e (Ok done) is room = absurd is
+starved_room limit H e (Err why) is room = let P : WorkFault → Type 0 = λ w. TellsRoom limit H e (Err w) in subst P (sym is) room
+
+-- an append that fails behind a test for room fails for the disk
+pub broken_room : (limit : ℕ) (H : List Event) (e : Event) (why : AppendFault) (w : WorkFault) → w ≡ work_fault why → ((end more : ℕ) → why ≡ appending.Full end more → ⊥)
+    → HasRoomFor limit H e → TellsRoom limit H e (Err w)
+broken_room limit H e (appending.Full end more) w is never room = absurd (never end more refl)
+broken_room limit H e appending.Disk w is never room = let P : WorkFault → Type 0 = λ v. TellsRoom limit H e (Err v) in subst P (sym is) room
 
 -- an event was recorded
 pub committed : (tells : Type 0) (m n : Managed) (H : List Event) (e : Event) (a b : SiteState) → IsReady tells m H a → n.history ≡ e ∷ m.history
@@ -51,12 +90,12 @@ broken tells m n H e a b ready history number kept shut event allowed left = rec
       record { any_moment = run; at_exit = is_since (HasSome m.ledger.manager H (e ∷ H)) a b run; stands = λ fine. absurd (true≢false fine) };
 }
 
--- An append failed. For want of room nothing was done.
+-- An append failed, behind a test for room.
 pub not_committed : (tells : Type 0) (m n : Managed) (H : List Event) (e : Event) (why : AppendFault) (a b : SiteState) → IsReady tells m H a → n.history ≡ m.history
     → n.ledger.manager ≡ m.ledger.manager → (why ≡ appending.Disk → n.ledger.closed ≡ true) → IsKept m.ledger m.history → IsEvent e → IsAllowed m.ledger.manager m.history e.kind
-    → ((end more : ℕ) → why ≡ appending.Full end more → Works tells m.ledger.manager H (went H) n a b)
+    → ((end more : ℕ) → why ≡ appending.Full end more → ⊥)
     → (tells → LeavesOnly (journal.HasOrAdds m.ledger.manager (spelling e) a) a b) → Works tells m.ledger.manager H (recorded H e (Err (work_fault why))) n a b
-not_committed tells m n H e (appending.Full end more) a b ready history number shut kept event allowed full left = full end more refl
-not_committed tells m n H e appending.Disk a b ready history number shut kept event allowed full left =
+not_committed tells m n H e (appending.Full end more) a b ready history number shut kept event allowed never left = absurd (never end more refl)
+not_committed tells m n H e appending.Disk a b ready history number shut kept event allowed never left =
     let P : List Event → Type 0 = λ G. IsAllowed m.ledger.manager G e.kind in
     broken tells m n H e a b ready history number (kept_closed m.ledger n.ledger m.history kept number (shut refl)) (shut refl) event (subst P ready.keeps.is allowed) left

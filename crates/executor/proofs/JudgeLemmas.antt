@@ -1,19 +1,23 @@
 -- One record more, as it was judged.
-use Rattle.std.proofs.Common.{◌≡◌, ◌+◌, ℕ, List, [], ◌∷◌, ◌++◌, length, map, reverse, Option, Some, None, ap, ◌∙◌, sym, subst, refl, arith, append_assoc}
+use Rattle.std.proofs.Common.{◌≡◌, ◌+◌, ℕ, List, [], ◌∷◌, ◌++◌, length, map, reverse, Option, Some, None, Result, Ok, Err, ap, ◌∙◌, sym, subst, refl, arith, append_assoc}
 use Rattle.std.specs.List.{AllByRecursion}
 use Rattle.std.proofs.lemmas.Grind.{reverse_onto}
 use Rattle.std.proofs.lemmas.List.{map_push}
 use Rattle.event_codec.specs.Spell.{spelling}
 use Rattle.event_codec.specs.Valid.{IsEvent}
 use Rattle.journal_core.specs.File.{size}
-use Rattle.journal_core.proofs.Records.{size_push}
+use Rattle.journal_core.specs.Room.{Adds, AddsUp}
 use Rattle.journal_core.specs.Load.{Progress, Loads, ReadsOn}
 use Rattle.lcm_events.specs.declared.events.Event.{Event}
 use Rattle.lcm_model.specs.Allowed.{IsLegal}
-use Rattle.site_traits.specs.Site.{SiteState}
+use Rattle.site_traits.specs.Site.{SiteState, Reads}
+use Rattle.std.specs.Result.{IsErrAnd}
+use Rattle.executor.specs.declared.manager.OpenFault.{OpenFault}
+use Rattle.executor.specs.declared.manager.OpenFault.TheVariants as opening
 use Rattle.executor.specs.History.{spellings}
-use Rattle.executor.specs.Loading.{IsNext, StepsFrom, JudgesNext, AreJudged, IsJudged, JudgesSoFar}
+use Rattle.executor.specs.Loading.{IsNext, StepsFrom, JudgesNext, AreJudged, IsJudged, JudgesAll, JudgesSoFar}
 use Rattle.executor.specs.Open.{IsBadAt}
+use Rattle.executor.specs.Room.{journal_end}
 use Rattle.executor.specs.declared.open.Judged.{Judged}
 
 -- the spellings with one event more
@@ -45,22 +49,19 @@ goes_on m n bytes None H (Some k) H' step none = cc
 count_more : (m : ℕ) (bytes : List ℕ) (bad : Option ℕ) (H H' : List Event) (k k' : ℕ) → GoesOn m bytes bad H H' → (bad ≡ None → k ≡ length H) → k' ≡ k + 1 → k' ≡ length H'
 count_more m bytes bad H H' k k' on count more = let before = count on.none in let after = ap length on.is in omega arith
 
-end_more : (m : ℕ) (bytes : List ℕ) (bad : Option ℕ) (H H' : List Event) (k k' : ℕ) → GoesOn m bytes bad H H' → (bad ≡ None → k ≡ size (spellings H)) → k' ≡ k + 5 + length bytes → k' ≡ size (spellings H')
-end_more m bytes bad H H' k k' on end more =
-    let before = end on.none in
-    let after : size (spellings H') ≡ size (spellings H) + 5 + length (spelling on.event) =
-    ap (λ G. size (spellings G)) on.is ∙ ap size (spellings-cons on.event H) ∙ size_push (spellings H) (spelling on.event) in
-    let long : length bytes ≡ length (spelling on.event) = ap length on.next.spelled in
-    omega arith
+end_more : AddsUp → (m : ℕ) (bytes : List ℕ) (bad : Option ℕ) (H H' : List Event) (k k' : ℕ) → GoesOn m bytes bad H H' → (bad ≡ None → k ≡ journal_end H) → Adds bytes k k' → k' ≡ journal_end H'
+end_more up m bytes bad H H' k k' on end more =
+    up (spellings H) bytes k k' (end on.none) more
+    ∙ ap size (ap (λ b. spellings H ++ b ∷ []) on.next.spelled ∙ sym (spellings-cons on.event H) ∙ ap spellings (sym on.is))
 
-pub step_judged : (j j' : Judged) (l l' : Progress) → IsJudged j l → ReadsOn l l' → JudgesNext l'.manager l'.count l'.record_bytes j j' → IsJudged j' l'
-step_judged j j' l l' judged reads step =
+pub step_judged : AddsUp → (j j' : Judged) (l l' : Progress) → IsJudged j l → ReadsOn l l' → JudgesNext l'.manager l'.count l'.record_bytes j j' → IsJudged j' l'
+step_judged up j j' l l' judged reads step =
     let on = goes_on l'.manager l'.count l'.record_bytes j.bad (reverse j.events.items) j'.bad (reverse j'.events.items) step in
     record {
       legal = steps_legal l'.manager l'.count l'.record_bytes j.bad (reverse j.events.items) j'.bad (reverse j'.events.items) step (rw reads.manager judged.legal);
       events = steps_events l'.manager l'.count l'.record_bytes j.bad (reverse j.events.items) j'.bad (reverse j'.events.items) step judged.events;
       count = λ none. count_more l'.manager l'.record_bytes j.bad (reverse j.events.items) (reverse j'.events.items) l.count l'.count (on none) judged.count reads.count;
-      end = λ none. end_more l'.manager l'.record_bytes j.bad (reverse j.events.items) (reverse j'.events.items) l.end l'.end (on none) judged.end reads.end;
+      end = λ none. end_more up l'.manager l'.record_bytes j.bad (reverse j.events.items) (reverse j'.events.items) l.end l'.end (on none) judged.end reads.end;
     }
 
 -- the records with one more, as they were judged
@@ -100,3 +101,9 @@ step_so_far j j' l l' a b is reads step so_far loads = record {
   judged = are_judged l'.manager l'.count l'.record_bytes j.bad (reverse j.events.items) j'.bad (reverse j'.events.items) so_far.rs step
       (rw reads.manager so_far.judged) (rw reads.manager is.legal) is.events (λ none. let count = is.count none in let more = reads.count in omega arith);
 }
+
+-- there was no memory to judge it
+pub judges_starved : (r : Result Judged OpenFault) (rs : List (List ℕ)) (l : Progress) (a b : SiteState) → IsErrAnd r (λ why. why ≡ opening.Memory) → Loads rs l b → Reads a b → JudgesAll r l a b
+judges_starved (Ok j) rs l a b is loads reads = absurd is
+judges_starved (Err why) rs l a b is loads reads =
+    let P : OpenFault → Type 0 = λ w. JudgesAll (Err w) l a b in subst P (sym is) (record { finds = loads.header; reads = reads })

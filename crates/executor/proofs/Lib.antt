@@ -1,4 +1,3 @@
-mod AskLemmas
 mod CommitLemmas
 mod JudgeLemmas
 pub mod LawLemmas

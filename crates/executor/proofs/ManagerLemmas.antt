@@ -1,12 +1,11 @@
 -- What a load and a commit do, from what the journal's calls do.
-use Rattle.std.proofs.Common.{◌≡◌, ◌≤◌, ◌+◌, ℕ, List, [], ◌∷◌, ◌++◌, length, reverse, true, false, Ok, Err, Result, true≢false, ap, ◌∙◌, sym, subst, refl, inl, arith, ⊎_elim, take, ◌-◌, length-append}
-use Rattle.std.specs.Result.{OnOk, OnErr, IsErrAnd, is_err}
-use Rattle.std.specs.declared.alloc.AllocError.{AllocError}
-use Rattle.std.proofs.lemmas.List.{reverse-append, take_at}
+use Rattle.std.proofs.Common.{◌≡◌, ◌≤◌, ◌+◌, ℕ, List, [], ◌∷◌, ◌++◌, length, reverse, true, false, Ok, Err, Result, true≢false, ap, ◌∙◌, sym, subst, refl, inl, arith, ⊎_elim}
+use Rattle.std.specs.Result.{IsErrAnd}
+use Rattle.std.proofs.lemmas.List.{reverse-append}
 use Rattle.event_codec.specs.Spell.{spelling}
 use Rattle.event_codec.specs.Valid.{IsEvent}
 use Rattle.journal_core.specs.File.{records, size, HasRecords}
-use Rattle.journal_core.proofs.Records.{size_push}
+use Rattle.journal_core.specs.Room.{Adds, AddsUp}
 use Rattle.journal_core.specs.Journal as journal
 use Rattle.journal_core.specs.Journal.{Ledger, Stands, Appends}
 use Rattle.journal_core.specs.Load.{Progress, SyncsAndReads}
@@ -41,15 +40,13 @@ unfolding spelling
 spelling-some e = omega arith
 
 -- a kept history, and the next event
-pub kept_more : (l k : Ledger) (H : List Event) (e : Event) → IsKept l H → l.closed ≡ false → k.manager ≡ l.manager → k.count ≡ l.count + 1
-    → k.end ≡ l.end + 5 + length (spelling e) → IsEvent e → IsAllowed l.manager H e.kind → IsKept k (e ∷ H)
-kept_more l k H e kept usable manager count end event allowed = record {
+pub kept_more : AddsUp → (l k : Ledger) (H : List Event) (e : Event) → IsKept l H → l.closed ≡ false → k.manager ≡ l.manager → k.count ≡ l.count + 1
+    → Adds (spelling e) l.end k.end → IsEvent e → IsAllowed l.manager H e.kind → IsKept k (e ∷ H)
+kept_more up l k H e kept usable manager count end event allowed = record {
   legal = let P : ℕ → Type 0 = λ m. IsLegal m (e ∷ H) in subst P (sym manager) (allowed, kept.legal);
   events = (event, kept.events);
   count = λ _. let before = kept.count usable in omega arith;
-  end = λ _. let before = kept.end usable in
-      let after : size (spellings (e ∷ H)) ≡ size (spellings H) + 5 + length (spelling e) = ap size (spellings-cons e H) ∙ size_push (spellings H) (spelling e) in
-      omega arith;
+  end = λ _. up (spellings H) (spelling e) l.end k.end (kept.end usable) end ∙ ap size (sym (spellings-cons e H));
 }
 
 -- a stop leaves the history, or it and the event
@@ -79,21 +76,6 @@ commit_stands m n H e a b event stands now added = record {
   events = (event, stands.events);
   records = added ∙ ap (λ rs. rs ++ spelling e ∷ []) stands.records ∙ sym (spellings-cons e H);
 }
-
--- the one event that is spelled so
-pub front_is : (xs front : List Event) (e : Event) → xs ≡ front ++ e ∷ [] → take (length xs - 1) xs ≡ front
-front_is xs front e is =
-    rw is (let count : length (front ++ e ∷ []) - 1 ≡ length front = omega (arith, length-append front (e ∷ [])) in rw count (take_at front (e ∷ []) (length front) refl))
-
--- what holds of an Ok, where the answer is no error
-pub ok_of : (r : Result (Unit {0}) AllocError) (P : Type 0) → is_err r ≡ false → OnOk r P → P
-ok_of (Ok done) P fine holds = holds
-ok_of (Err fault) P fine holds = absurd (true≢false fine)
-
--- what holds of an Err, where the answer is one
-pub err_of : (r : Result (Unit {0}) AllocError) (P : Type 0) → is_err r ≡ true → OnErr r P → P
-err_of (Ok done) P fault holds = absurd (true≢false (sym fault))
-err_of (Err e) P fault holds = holds
 
 -- a fault of judging says the same of the file as one of opening
 pub refuses_of : (why : OpenFault) (l : Progress) (s : SiteState) → Finds (Err why) l s → Refuses why s.image

@@ -1,5 +1,5 @@
 -- A history whose spellings fit a file has small numbers: each change that was asked for takes eleven bytes, and each event one.
-use Rattle.std.proofs.Common.{◌≡◌, ◌<◌, ◌≤◌, ◌+◌, ◌*◌, ◌∙◌, ℕ, List, [], ◌∷◌, ◌++◌, Option, Some, None, length, reverse, flat_map, ap, refl, sym, subst, arith, length-append}
+use Rattle.std.proofs.Common.{◌≡◌, ◌<◌, ◌≤◌, ◌+◌, ◌*◌, ℕ, List, [], ◌∷◌, ◌++◌, Option, Some, None, length, reverse, flat_map, refl, sym, subst, arith, length-append}
 use Rattle.std.specs.List.{All, filter_map}
 use Rattle.std.proofs.lemmas.List.Elements.{All-from_recursion, All-push}
 use Rattle.std.proofs.lemmas.Grind.{reverse_onto}
@@ -7,8 +7,8 @@ use Rattle.std.proofs.lemmas.List.{reverse-reverse}
 use Rattle.event_codec.specs.Numbers as number
 use Rattle.event_codec.specs.Spell as spell
 use Rattle.event_codec.specs.Spell.{u16, u32, spelling}
-use Rattle.journal_core.specs.File.{size}
-use Rattle.journal_core.proofs.Records.{size_push}
+use Rattle.journal_core.specs.Room.{TakesMore}
+use Rattle.journal_core.specs.declared.journal.TheConstants.{MAX_FILE}
 use Rattle.lcm_events.specs.declared.changes.Change.{Change}
 use Rattle.lcm_events.specs.declared.events.Event.{Event}
 use Rattle.lcm_events.specs.declared.events.EventKind.{EventKind}
@@ -21,6 +21,7 @@ use Rattle.lcm_model.specs.Allowed.{IsAllowed, IsLegal}
 use Rattle.lcm_model.specs.Work.{window}
 use Rattle.lcm_model.specs.Lives.{instances_made, created_in}
 use Rattle.executor.specs.History.{spellings}
+use Rattle.executor.specs.Room.{journal_end}
 use Rattle.executor.proofs.JudgeLemmas.{spellings-cons}
 
 filter_map-short : {X Y : Type 0} (h : X → Option Y) (xs : List X) → length (filter_map h xs) ≤ length xs
@@ -67,51 +68,51 @@ changes_step : (H : List Event) (t n : ℕ) (k : EventKind) → 11 * changes_ask
 changes_step H t n (Asked a) h = let long = asked_long t a in omega (arith, h, long)
 changes_step H t n _ h = omega (arith, h)
 
-size_more : (e : Event) (H : List Event) → size (spellings (e ∷ H)) ≡ size (spellings H) + 5 + length (spelling e)
-size_more e H = ap size (spellings-cons e H) ∙ size_push (spellings H) (spelling e)
+end_more : TakesMore → (e : Event) (H : List Event) → journal_end H + length (spelling e) < journal_end (e ∷ H)
+end_more longer e H = rw (spellings-cons e H) (longer (spellings H) (spelling e))
 
 -- each change that was asked for has its eleven bytes in the file
-changes_fit : (H : List Event) → 11 * changes_asked H ≤ size (spellings H)
-changes_fit [] = omega arith
-changes_fit (e ∷ H) =
-    let before = changes_fit H in
-    let step = changes_step H e.moment (size (spellings H)) e.kind before in
-    let after = size_more e H in
+changes_fit : TakesMore → (H : List Event) → 11 * changes_asked H ≤ journal_end H
+changes_fit longer [] = omega arith
+changes_fit longer (e ∷ H) =
+    let before = changes_fit longer H in
+    let step = changes_step H e.moment (journal_end H) e.kind before in
+    let after = end_more longer e H in
     omega (arith, step, after)
 
 -- each event has a byte in the file
-events_fit : (H : List Event) → length H ≤ size (spellings H)
-events_fit [] = omega arith
-events_fit (e ∷ H) =
-    let before = events_fit H in
-    let after = size_more e H in
+events_fit : TakesMore → (H : List Event) → length H ≤ journal_end H
+events_fit longer [] = omega arith
+events_fit longer (e ∷ H) =
+    let before = events_fit longer H in
+    let after = end_more longer e H in
     omega (arith, before, after)
 
 -- the serials of a legal history that fits a file are small
-pub small_serials : (m : ℕ) (H : List Event) → SerialsAreCounted → IsLegal m H → size (spellings H) < 268435456 → HaveSmallSerials H
-small_serials m H law legal small i v =
+pub small_serials : TakesMore → (m : ℕ) (H : List Event) → SerialsAreCounted → IsLegal m H → journal_end H < MAX_FILE → HaveSmallSerials H
+small_serials longer m H law legal small i v =
     let counted = law window m H legal i v in
-    let fit = changes_fit H in
+    let fit = changes_fit longer H in
     omega (arith, counted, fit, small)
 
-ident_number : (m : ℕ) (H : List Event) (k : EventKind) → IsAllowed m H k → length H < 268435456 → HasIdentNumber k
+ident_number : (m : ℕ) (H : List Event) (k : EventKind) → IsAllowed m H k → length H < MAX_FILE → HasIdentNumber k
 ident_number m H (Created i vnfd name text) allowed small =
     let number = allowed.number in
     let few = made_within H in
     (omega (arith, number), omega (arith, number, few, small))
 ident_number m H _ allowed small = tt
 
-ident_numbers : (m : ℕ) (H : List Event) → IsLegal m H → length H < 268435456 → All (λ e. HasIdentNumber e.kind) (reverse H)
+ident_numbers : (m : ℕ) (H : List Event) → IsLegal m H → length H < MAX_FILE → All (λ e. HasIdentNumber e.kind) (reverse H)
 ident_numbers m [] legal small = All-from_recursion (λ (e : Event). HasIdentNumber e.kind) [] tt
 ident_numbers m (e ∷ H) legal small =
-    let short : length H < 268435456 = omega (arith, small) in
+    let short : length H < MAX_FILE = omega (arith, small) in
     let P : List Event → Type 0 = All (λ (x : Event). HasIdentNumber x.kind) in
     subst P (sym (reverse_onto H e []))
     (All-push (λ (x : Event). HasIdentNumber x.kind) (reverse H) e (ident_numbers m H legal.1 short) (ident_number m H e.kind legal.0 short))
 
 -- the instances of a legal history that fits a file have numbers that identifiers carry
-pub small_numbers : (m : ℕ) (xs : List Event) → IsLegal m (reverse xs) → size (spellings (reverse xs)) < 268435456 → HaveIdentNumbers xs
-small_numbers m xs legal small =
-    let fit = events_fit (reverse xs) in
+pub small_numbers : TakesMore → (m : ℕ) (xs : List Event) → IsLegal m (reverse xs) → journal_end (reverse xs) < MAX_FILE → HaveIdentNumbers xs
+small_numbers longer m xs legal small =
+    let fit = events_fit longer (reverse xs) in
     let P : List Event → Type 0 = HaveIdentNumbers in
     subst P (reverse-reverse xs) (ident_numbers m (reverse xs) legal (omega (arith, fit, small)))

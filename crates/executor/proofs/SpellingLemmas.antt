@@ -3,18 +3,18 @@ use Rattle.std.proofs.Common.{◌≡◌, ℕ, List, [], ◌∙◌, sym, subst}
 use Rattle.std.proofs.lemmas.List.{append-nil}
 use Rattle.event_codec.specs.Spell.{spelling}
 use Rattle.event_codec.specs.Valid.{IsEvent}
-use Rattle.event_codec.proofs.KindLaws.{spelling-first}
+use Rattle.event_codec.specs.Prefix.{NoSpellingBeginsAnother}
 use Rattle.lcm_events.specs.declared.events.Event.{Event}
 use Rattle.lcm_model.specs.Allowed.{IsAllowed}
 use Rattle.executor.specs.Loading.{HasNoNext}
 
-pub same_event : (e f : Event) (bytes : List ℕ) → IsEvent e → IsEvent f → bytes ≡ spelling e → bytes ≡ spelling f → e ≡ f
-same_event e f bytes is_e is_f of_e of_f =
-    spelling-first e f [] [] is_e is_f (append-nil (spelling e) ∙ sym of_e ∙ of_f ∙ sym (append-nil (spelling f)))
+pub same_event : NoSpellingBeginsAnother → (e f : Event) (bytes : List ℕ) → IsEvent e → IsEvent f → bytes ≡ spelling e → bytes ≡ spelling f → e ≡ f
+same_event law e f bytes is_e is_f of_e of_f =
+    law e f [] [] is_e is_f (append-nil (spelling e) ∙ sym of_e ∙ of_f ∙ sym (append-nil (spelling f)))
 
 -- where the one event that is spelled so isn't allowed, none is
-pub no_next : (m : ℕ) (H : List Event) (bytes : List ℕ) (e : Event) → IsEvent e → bytes ≡ spelling e → (IsAllowed m H e.kind → ⊥) → HasNoNext m H bytes
-no_next m H bytes e is spelled refused f next =
-    let same = same_event f e bytes next.event is next.spelled spelled in
+pub no_next : NoSpellingBeginsAnother → (m : ℕ) (H : List Event) (bytes : List ℕ) (e : Event) → IsEvent e → bytes ≡ spelling e → (IsAllowed m H e.kind → ⊥) → HasNoNext m H bytes
+no_next law m H bytes e is spelled refused f next =
+    let same = same_event law f e bytes next.event is next.spelled spelled in
     let P : Event → Type 0 = λ g. IsAllowed m H g.kind in
     refused (subst P same next.allowed)

@@ -2,13 +2,14 @@
 use Rattle.std.proofs.Common.{◌≡◌, ◌∙◌, ℕ, List, [], ◌∷◌, ◌++◌, false, sym, subst, refl, ap, append_assoc}
 use Rattle.executor.specs.History.{HasHistory}
 use Rattle.executor.specs.Managed.{Managed, Keeps, StandsFor, IsReady}
-use Rattle.executor.specs.Work.{Work, went, stood, aimed, failed, Extends, HasSome, Works}
+use Rattle.executor.specs.Work.{Work, went, stood, aimed, failed, Extends, HasEverywhere, HasSome, Works}
 use Rattle.journal_core.specs.File.{HasRecords}
 use Rattle.lcm_events.specs.declared.events.Event.{Event}
 use Rattle.lcm_events.specs.declared.events.EventKind.{EventKind}
 use Rattle.lcm_model.specs.Allowed.{IsAllowed}
-use Rattle.site_traits.specs.Site.{Pair, SiteState, LeavesOnly}
-use Rattle.site_traits.proofs.Moments.{followed, started, weakened}
+use Rattle.journal_core.specs.Load.{SyncsAndReads}
+use Rattle.site_traits.specs.Site.{Pair, SiteState, LeavesOnly, Same, FileStep}
+use Rattle.site_traits.proofs.Moments.{followed, goes_on, started, weakened}
 
 pub extends_refl : (H : List Event) → Extends H H
 extends_refl H = record { more = []; is = refl }
@@ -34,17 +35,17 @@ some_wider m H G K L p before behind some = record {
   file = some.file;
 }
 
--- whatever a stop leaves now has the history that the manager stands for
-pub stands_everywhere : (m : Managed) (H : List Event) (s : SiteState) → StandsFor m H s → (p : Pair) → s.since s.moment p → HasHistory m.ledger.manager H p.image
-stands_everywhere m H s stands p left =
+-- what is read, and whatever a stop leaves now, has the history that the manager stands for
+pub everywhere : (m : Managed) (H : List Event) (s : SiteState) → StandsFor m H s → HasEverywhere m.ledger.manager H s
+everywhere m H s stands =
     let R : List (List ℕ) → Type 0 = λ rs. HasRecords m.ledger.manager rs s.image in
     let here : HasHistory m.ledger.manager H s.image = record { file = subst R stands.records stands.journal.file; events = stands.events } in
     let Q : List ℕ → Type 0 = λ image. HasHistory m.ledger.manager H image in
-    subst Q (sym (stands.journal.settled.image p left)) here
+    record { here = here; left = λ p left. subst Q (sym (stands.journal.settled.image p left)) here }
 
 -- and so it has some history from that one to that one
 pub some_everywhere : (m : Managed) (H : List Event) (s : SiteState) → StandsFor m H s → (p : Pair) → s.since s.moment p → HasSome m.ledger.manager H H p
-some_everywhere m H s stands p left = some_of m.ledger.manager H H H p (extends_refl H) (extends_refl H) (stands_everywhere m H s stands p left)
+some_everywhere m H s stands p left = some_of m.ledger.manager H H H p (extends_refl H) (extends_refl H) ((everywhere m H s stands).left p left)
 
 -- work that does nothing
 pub idle : (tells : Type 0) (m : Managed) (H : List Event) (s : SiteState) → IsReady tells m H s → Works tells m.ledger.manager H (went H) m s s
@@ -89,6 +90,18 @@ joined tells m H G w n o a b c first second =
             stands = two.stands;
           };
     }
+
+-- the opening of a journal, and then work on it
+pub opened_then : (tells : Type 0) (m : ℕ) (H : List Event) (w : Work) (n : Managed) (a b c : SiteState) → tells → SyncsAndReads a b → Works tells m H w n b c
+    → ((p : Pair) → a.since a.moment p → HasHistory m H p.image) → LeavesOnly (HasSome m H (aimed w)) a c
+opened_then tells m H w n a b c told reads works start =
+    let on : Extends H (aimed w) = extends_trans H (stood w) (aimed w) works.grows.to_stood works.grows.to_aimed in
+    let some : (p : Pair) → HasHistory m H p.image → HasSome m H (aimed w) p = λ p has. some_of m H H (aimed w) p (extends_refl H) on has in
+    let P : List ℕ → Type 0 = λ image. HasHistory m H image in
+    followed (HasSome m H (aimed w)) (HasSome m H (aimed w)) a b c
+    (goes_on (HasSome m H (aimed w)) (FileStep Same) a a b (started (HasSome m H (aimed w)) a (λ p left. some p (start p left))) reads.on_file.passes
+    (λ q p left step. some p (subst P (sym step.image) (start q left))))
+    (works.site told).any_moment (λ p has. has)
 
 -- an event that is allowed after the history that the manager keeps is allowed after its own
 pub same_allowed : (m : Managed) (k : ℕ) (H : List Event) (e : EventKind) → Keeps m H → IsAllowed k H e → IsAllowed k m.history e

@@ -6,4 +6,5 @@ pub mod Loading
 pub mod Managed
 pub mod Open
 pub mod Questions
+pub mod Room
 pub mod Work

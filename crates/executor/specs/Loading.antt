@@ -3,7 +3,6 @@ use Rattle.std.specs.Prelude.{◌≡◌, ℕ, Bool, true, false, List, ◌∷◌
 use Rattle.std.specs.List.{AllByRecursion}
 use Rattle.event_codec.specs.Spell.{spelling}
 use Rattle.event_codec.specs.Valid.{IsEvent}
-use Rattle.journal_core.specs.File.{size}
 use Rattle.journal_core.specs.Head.{IsBrokenAt}
 use Rattle.journal_core.specs.Header.{HasHeader}
 use Rattle.journal_core.specs.Load.{Progress, Loads, LoadsAll}
@@ -14,6 +13,7 @@ use Rattle.lcm_events.specs.declared.events.Event.{Event}
 use Rattle.lcm_model.specs.Allowed.{IsAllowed, IsLegal}
 use Rattle.executor.specs.History.{spellings}
 use Rattle.executor.specs.Open.{IsBadAt}
+use Rattle.executor.specs.Room.{journal_end}
 use Rattle.executor.specs.declared.open.Judged.{Judged}
 
 -- the bytes are the spelling of an event that is allowed after this history
@@ -47,7 +47,7 @@ pub record IsJudged (j : Judged) (l : Progress) : Type 0 where
   pub legal : IsLegal l.manager (reverse j.events.items)
   pub events : AllByRecursion IsEvent (reverse j.events.items)
   pub count : j.bad ≡ None → l.count ≡ length (reverse j.events.items)
-  pub end : j.bad ≡ None → l.end ≡ size (spellings (reverse j.events.items))
+  pub end : j.bad ≡ None → l.end ≡ journal_end (reverse j.events.items)
 
 -- the records read so far, as they were judged
 pub record JudgesSoFar (j : Judged) (l : Progress) (s : SiteState) : Type 0 where

@@ -1,10 +1,9 @@
 -- What a manager stands for: its journal, and the history of the events that it has.
-use Rattle.std.specs.Prelude.{◌≡◌, ◌≤◌, ℕ, Bool, true, false, List, length}
+use Rattle.std.specs.Prelude.{◌≡◌, ℕ, Bool, true, false, List, length}
 use Rattle.std.specs.List.{AllByRecursion}
-use Rattle.event_codec.specs.Spell.{spelling}
 use Rattle.event_codec.specs.Typed.{TypedEvent}
 use Rattle.event_codec.specs.Valid.{IsEvent}
-use Rattle.journal_core.specs.File.{records, size}
+use Rattle.journal_core.specs.File.{records}
 use Rattle.journal_core.specs.Journal.{Ledger, Stands}
 use Rattle.lcm_events.specs.declared.events.Event.{Event}
 use Rattle.lcm_events.specs.declared.events.EventKind.{EventKind}
@@ -12,6 +11,7 @@ use Rattle.lcm_events.specs.declared.events.EventKind.TheVariants.{Settled}
 use Rattle.lcm_model.specs.Allowed.{IsAllowed, IsLegal}
 use Rattle.site_traits.specs.Site.{SiteState}
 use Rattle.executor.specs.History.{spellings}
+use Rattle.executor.specs.Room.{journal_end}
 
 -- a manager: its journal's ledger, and its history, the latest event first
 pub record Managed : Type 0 where
@@ -23,7 +23,7 @@ pub record IsKept (ledger : Ledger) (history : List Event) : Type 0 where
   pub legal : IsLegal ledger.manager history
   pub events : AllByRecursion IsEvent history
   pub count : ledger.closed ≡ false → ledger.count ≡ length history
-  pub end : ledger.closed ≡ false → ledger.end ≡ size (spellings history)
+  pub end : ledger.closed ≡ false → ledger.end ≡ journal_end history
 
 -- the manager keeps this history
 pub record Keeps (m : Managed) (H : List Event) : Type 0 where
@@ -47,9 +47,8 @@ abbrev pub is_settled : EventKind → Bool
 is_settled (Settled tag outcome) = true
 is_settled _ = false
 
--- the event may be recorded behind this history of manager m: it is allowed there, a record holds its spelling, and it is no Settled
+-- the event may be recorded behind this history of manager m: it keeps the format's rules, is allowed there, and is no Settled
 pub record MayRecord (m : ℕ) (H : List Event) (e : Event) : Type 0 where
   pub rules : TypedEvent e → IsEvent e
-  pub fits : IsEvent e → length (spelling e) ≤ 65536
   pub allowed : IsAllowed m H e.kind
   pub unsettled : is_settled e.kind ≡ false

@@ -1,7 +1,9 @@
 //! What holds of every journal's file, as contracts of calls that do nothing.
 ghost use Rattle.executor.specs.Laws.{HasNoBadRecord, HasOneBadRecord, HasOneHistory};
-ghost use Rattle.executor.specs.Work.{JoinsWorks};
+ghost use Rattle.executor.specs.Work.{FollowsOpening, IdlesWell, JoinsWorks, LeadsToMore, StaysEverywhere};
 
+use event_codec::no_spelling_begins_another;
+use journal_core::files_are_one_thing;
 use site_traits::Site;
 
 /// A file has one history, and is one manager's.
@@ -9,25 +11,40 @@ use site_traits::Site;
 /// Source: own format, docs/JOURNAL.md and docs/EVENTS.md.
 pub fn a_file_has_one_history()
     ensures { HasOneHistory }
-{}
+{
+    no_spelling_begins_another();
+    files_are_one_thing();
+}
 
 /// Where a file's history is legal, none of its records is bad.
 ///
 /// Source: own rule.
 pub fn a_legal_history_has_no_bad_record()
     ensures { HasNoBadRecord }
-{}
+{
+    no_spelling_begins_another();
+    files_are_one_thing();
+}
 
 /// A file has one bad record at most, so that a refusal that names one names the first.
 ///
 /// Source: own rule.
 pub fn a_bad_record_is_the_only_one()
     ensures { HasOneBadRecord }
-{}
+{
+    no_spelling_begins_another();
+    files_are_one_thing();
+}
 
-/// Works in a row are one: whatever came of the last of them came of them all.
+/// How works add up: those in a row are one, and whatever came of the last of them came of them all; nothing is a work; behind one in
+/// which the disk didn't fail the manager is ready for more; what it stands for is in the file, whatever a stop leaves; and work follows
+/// the opening of a journal.
 ///
 /// Source: own rule.
-pub fn works_in_a_row_are_one<S: Site>()
-    ensures { JoinsWorks S.tells S.state }
+pub fn works_add_up<S: Site>()
+    ensures joins { JoinsWorks S.tells S.state }
+    ensures idles { IdlesWell S.tells S.state }
+    ensures leads { LeadsToMore S.tells S.state }
+    ensures stays { StaysEverywhere S.state }
+    ensures follows { FollowsOpening S.tells S.state }
 {}

@@ -1,12 +1,13 @@
 //! The manager: its journal, and the history of the events in it. What is acknowledged is on the disk before it is in the
 //! history.
-ghost use Rattle.std.specs.Prelude.{◌≡◌, ◌≢◌, ◌⊎◌, ◌≤◌, ◌<◌, ◌∷◌, ◌++◌, ◌↔◌, ◌+◌, ℕ, List, [], length, reverse, option_copied, IfErr, IfOk, IsOk, OnOk, OnErr, IsTrue, false, true};
+ghost use Rattle.std.specs.Prelude.{◌≡◌, ◌≢◌, ◌≤◌, ◌<◌, ◌∷◌, ◌++◌, ◌+◌, List, [], length, reverse, option_copied, IfErr, IfOk, OnOk, OnErr, false, true};
 ghost use Rattle.event_codec.specs.Spell.{spelling};
 ghost use Rattle.event_codec.specs.Valid.{IsEvent};
 ghost use Rattle.event_codec.specs.Typed.{TypedEvent};
 ghost use Rattle.journal_core.specs.Load.{SyncsAndReads};
 ghost use Rattle.executor.specs.Open.{Opens};
-ghost use Rattle.executor.specs.Faults.{work_fault};
+ghost use Rattle.executor.specs.Room.{TellsRoom};
+ghost use Rattle.journal_core.specs.declared.journal.TheConstants.{MAX_FILE, MAX_RECORD};
 ghost use Rattle.lcm_events.specs.declared.events.Event.{Event};
 ghost use Rattle.vnfm_base.specs.Ident.{IsIdentNumber};
 ghost use Rattle.lcm_model.specs.Lives.{descriptor_named, descriptors, instances_made};
@@ -19,8 +20,8 @@ ghost use Rattle.executor.specs.Work.{Works, recorded};
 
 use crate::open::judge_all;
 use crate::questions::{count_live, count_made};
-use event_codec::{RecordBuf, TooLong, decode, encode};
-use journal_core::{AppendFault, Journal, LoadFault};
+use event_codec::{RecordBuf, TooLong, decode, encode, no_spelling_begins_another};
+use journal_core::{AppendFault, Journal, LoadFault, faults_are_counted, records_add_up};
 use lcm_events::{Event, Vnfd};
 use lcm_model::{count_descriptors, count_instances, descriptor_named_in};
 use site_traits::Site;
@@ -70,13 +71,13 @@ pub enum OpenFault {
     Memory,
 }
 
-/// Why an event wasn't recorded.
+/// Why an event wasn't recorded. After all but `Disk` nothing has changed.
 #[derive(Debug, Drop, Error)]
 pub enum WorkFault {
-    /// A disk call failed. The manager is closed: whether the event was recorded is known once the journal is loaded again.
-    #[error("site fault")]
-    Disk,
-    /// Behind the closed gate at `end` the file has no room for `more` bytes. Nothing has changed.
+    /// The event's spelling has so many bytes, more than a record.
+    #[error("{0} bytes, more than a record holds")]
+    TooLong(u64),
+    /// Behind the closed gate at `end` there is no room for `more` bytes.
     #[error("journal full: {end} + {more} bytes")]
     Full {
         /// The place of the closed gate.
@@ -84,61 +85,12 @@ pub enum WorkFault {
         /// The bytes of the event's spelling.
         more: u32,
     },
-    /// There is no memory. Nothing has changed.
+    /// There is no memory.
     #[error("no memory")]
     Memory,
-}
-
-/// The number after so many, of which there are no more than records.
-fn after(made: u64, records: u64) -> u64
-    requires within { made ≤ records }
-    requires few { records < 268435456 }
-    ensures number { result ≡ made + 1 }
-    ensures identifier { IsIdentNumber result }
-{
-    made + 1
-}
-
-/// Puts the event's spelling into the buffer.
-fn spell(buffer: &mut RecordBuf, e: &Event)
-    requires rules { TypedEvent e.now → IsEvent e.now }
-    requires fits { IsEvent e.now → length (spelling e.now) ≤ 65536 }
-    ensures event { IsEvent e.now }
-    ensures spelled { buffer.new.kept ≡ spelling e.now }
-    ensures some { 1 ≤ length buffer.new.kept }
-{
-    match encode(e, buffer) {
-        Ok(()) => {}
-        Err(_) => unreachable!(),
-    }
-}
-
-/// Puts the event that is spelled so behind the others.
-fn put_copy(alloc: Global, events: &mut Vec<Event>, bytes: &[u8]) -> Result<(), AllocError>
-    ensures ok { (e : Event) → IsEvent e → bytes.now ≡ spelling e → OnOk result (events.new.items ≡ events.old.items ++ e ∷ []) }
-    ensures err { OnErr result (events.new.items ≡ events.old.items) }
-{
-    match decode(alloc, bytes) {
-        Ok(event) => Ok(events.push(event)?),
-        Err(_) => Err(AllocError),
-    }
-}
-
-/// Takes the last event away.
-fn take_back(events: &mut Vec<Event>)
-    ensures { (front : List Event) (e : Event) → events.old.items ≡ front ++ e ∷ [] → events.new.items ≡ front }
-{
-    let kept = events.len().saturating_sub(1);
-    events.truncate(kept);
-}
-
-fn work_fault(fault: AppendFault) -> WorkFault
-    ensures { result ≡ work_fault fault }
-{
-    match fault {
-        AppendFault::Full { end, more } => WorkFault::Full { end, more },
-        AppendFault::Disk => WorkFault::Disk,
-    }
+    /// A disk call failed. The manager is closed: whether the event was recorded is known once the journal is loaded again.
+    #[error("site fault")]
+    Disk,
 }
 
 impl<S: Site> Manager<S> {
@@ -167,32 +119,46 @@ impl<S: Site> Manager<S> {
         })
     }
 
-    /// Records an event: it is on the disk before it is in the history.
+    /// Records an event in a journal that is to end at byte `limit` of the file or before it, with its closed gate: the event is on the
+    /// disk before it is in the history. It is spelled once.
     ///
-    /// Conditions: the manager isn't closed, and its file has its history; the event is allowed after that, and isn't a Settled; its
-    /// spelling has at most 65,536 bytes.
-    /// Refusals, in this order: `Memory`; `Full {end, more}` (bytes). After these all is as before. `Disk`, after which the
-    /// manager is closed, with the history that it had: load it again.
-    pub fn commit(&mut self, alloc: Global, site: &mut S, e: &Event) -> Result<(), WorkFault>
+    /// Conditions: the manager isn't closed, and its file has its history; the event keeps the format's rules, is allowed after that
+    /// history, and isn't a Settled; the limit is at most the file's.
+    /// Refusals, in this order: `TooLong(n)` (bytes), `Full {end, more}` (bytes), each exactly where the spelling and the limit say so;
+    /// `Memory`. After these all is as before. `Disk`, after which the manager is closed, with the history that it had: load it again.
+    /// Source: own format, docs/JOURNAL.md and docs/EVENTS.md.
+    pub fn commit(
+        &mut self,
+        alloc: Global,
+        site: &mut S,
+        e: &Event,
+        limit: u64,
+    ) -> Result<(), WorkFault>
         requires may { (H : List Event) × IsReady S.tells self.old H (S.state site.old) × MayRecord self.old.ledger.manager H e.now }
+        requires within { limit ≤ MAX_FILE }
+        ensures event { IsEvent e.now }
         ensures works { (H : List Event) → IsReady S.tells self.old H (S.state site.old)
             → Works S.tells self.old.ledger.manager H (recorded H e.now result) self.new (S.state site.old) (S.state site.new) }
         ensures refused { result ≢ Err WorkFault.Disk → OnErr result ((self.new ≡ self.old) × (site.new ≡ site.old)) }
-        ensures full { (end more : ℕ) → result ≡ Err (WorkFault.Full end more)
-            → (end ≡ self.old.ledger.end) × (more ≡ length (spelling e.now)) × (268435456 < end + 6 + more) }
-        ensures room { result ≡ Ok tt ⊎ (result ≡ Err WorkFault.Disk) → self.old.ledger.end + 6 + length (spelling e.now) ≤ 268435456 }
+        ensures room { (H : List Event) → Keeps self.old H → TellsRoom limit H e.now result }
         ensures asks { CommitAsks result (S.counts site.old) (S.counts site.new) }
         ensures counts { OnlyDiskFails (result ≡ Err WorkFault.Disk) (S.counts site.old) (S.counts site.new) }
     {
-        spell(&mut self.record, e);
-        if put_copy(alloc, &mut self.events, self.record.as_slice()).is_err() {
-            return Err(WorkFault::Memory);
+        faults_are_counted();
+        records_add_up();
+        let more = spell(&mut self.record, e)?;
+        if !self.journal.fits(more as usize, limit) {
+            return Err(WorkFault::Full {
+                end: self.journal.end(),
+                more,
+            });
         }
+        put_copy(alloc, &mut self.events, self.record.as_slice())?;
         match self.journal.append(site, self.record.as_slice()) {
             Ok(()) => Ok(()),
             Err(fault) => {
                 take_back(&mut self.events);
-                Err(work_fault(fault))
+                Err(WorkFault::from(fault))
             }
         }
     }
@@ -210,36 +176,6 @@ impl<S: Site> Manager<S> {
         ensures { (H : List Event) → Keeps self.now H → result ≡ length H }
     {
         self.journal.count()
-    }
-
-    /// How many bytes the event's spelling has. It takes no memory.
-    ///
-    /// Condition: the spelling has at most 65,536 bytes.
-    pub fn length_of(&mut self, e: &Event) -> usize
-        requires rules { TypedEvent e.now → IsEvent e.now }
-        requires fits { IsEvent e.now → length (spelling e.now) ≤ 65536 }
-        ensures length { result ≡ length (spelling e.now) }
-        ensures kept { self.new ≡ self.old }
-    {
-        spell(&mut self.record, e);
-        self.record.as_slice().len()
-    }
-
-    /// How many bytes the event's spelling has, where a record can hold it. It takes no memory.
-    ///
-    /// Condition: the event keeps the format's rules on lists, orders and values.
-    /// Refusal: `TooLong(n)` exactly where the spelling has n bytes, more than 65,536.
-    /// Source: own format, docs/EVENTS.md.
-    pub fn spelled_length(&mut self, e: &Event) -> Result<usize, TooLong>
-        requires rules { TypedEvent e.now → IsEvent e.now }
-        ensures event { IsEvent e.now }
-        ensures length { IfOk result (λ n. n ≡ length (spelling e.now)) }
-        ensures fits { IsOk result ↔ (length (spelling e.now) ≤ 65536) }
-        ensures too_long { IfErr result (λ fault. fault.0 ≡ length (spelling e.now)) }
-        ensures kept { self.new ≡ self.old }
-    {
-        encode(e, &mut self.record)?;
-        Ok(self.record.as_slice().len())
     }
 
     /// How many of the kind were made. Condition: the kind isn't `Notice`.
@@ -292,13 +228,49 @@ impl<S: Site> Manager<S> {
         let made = count_instances(self.events.as_slice());
         after(made, records)
     }
+}
 
-    /// Whether the journal with a record of `more` bytes and its closed gate ends at or before byte `limit` of the file.
-    pub fn fits(&self, more: usize, limit: u64) -> bool
-        ensures fits { IsTrue result ↔ (self.now.ledger.end + 6 + more ≤ limit) }
-    {
-        self.journal.fits(more, limit)
+/// The number after so many, of which there are no more than records.
+fn after(made: u64, records: u64) -> u64
+    requires within { made ≤ records }
+    requires few { records < MAX_FILE }
+    ensures number { result ≡ made + 1 }
+    ensures identifier { IsIdentNumber result }
+{
+    made + 1
+}
+
+/// Puts the event's spelling into the buffer, and gives the number of its bytes.
+fn spell(buffer: &mut RecordBuf, e: &Event) -> Result<u32, WorkFault>
+    requires rules { TypedEvent e.now → IsEvent e.now }
+    ensures event { IsEvent e.now }
+    ensures spelled { OnOk result (buffer.new.kept ≡ spelling e.now) }
+    ensures some { 1 ≤ length (spelling e.now) }
+    ensures length { IfOk result (λ n. (n ≡ length (spelling e.now)) × (n ≤ MAX_RECORD)) }
+    ensures too_long { IfErr result (λ why. (why ≡ WorkFault.TooLong (length (spelling e.now))) × (MAX_RECORD < length (spelling e.now))) }
+{
+    encode(e, buffer)?;
+    Ok(buffer.as_slice().len() as u32)
+}
+
+/// Puts the event that is spelled so behind the others.
+fn put_copy(alloc: Global, events: &mut Vec<Event>, bytes: &[u8]) -> Result<(), AllocError>
+    ensures ok { (e : Event) → IsEvent e → bytes.now ≡ spelling e → OnOk result (events.new.items ≡ events.old.items ++ e ∷ []) }
+    ensures err { OnErr result (events.new.items ≡ events.old.items) }
+{
+    no_spelling_begins_another();
+    match decode(alloc, bytes) {
+        Ok(event) => Ok(events.push(event)?),
+        Err(_) => Err(AllocError),
     }
+}
+
+/// Takes the last event away.
+fn take_back(events: &mut Vec<Event>)
+    ensures { (front : List Event) (e : Event) → events.old.items ≡ front ++ e ∷ [] → events.new.items ≡ front }
+{
+    let kept = events.len().saturating_sub(1);
+    events.truncate(kept);
 }
 
 impl From<LoadFault> for OpenFault {
@@ -324,5 +296,38 @@ impl From<AllocError> for OpenFault {
 
     fn from(_: AllocError) -> OpenFault {
         OpenFault::Memory
+    }
+}
+
+impl From<TooLong> for WorkFault {
+    ghost use Rattle.executor.specs.declared.manager.WorkFault.TheVariants as work;
+
+    ghost from_gives = { λ fault e. e ≡ work.TooLong fault.0 };
+
+    fn from(fault: TooLong) -> WorkFault {
+        WorkFault::TooLong(fault.0)
+    }
+}
+
+impl From<AllocError> for WorkFault {
+    ghost use Rattle.executor.specs.declared.manager.WorkFault.TheVariants as work;
+
+    ghost from_gives = { λ _ e. e ≡ work.Memory };
+
+    fn from(_: AllocError) -> WorkFault {
+        WorkFault::Memory
+    }
+}
+
+impl From<AppendFault> for WorkFault {
+    ghost use Rattle.executor.specs.Faults.{work_fault};
+
+    ghost from_gives = { λ fault e. e ≡ work_fault fault };
+
+    fn from(fault: AppendFault) -> WorkFault {
+        match fault {
+            AppendFault::Full { end, more } => WorkFault::Full { end, more },
+            AppendFault::Disk => WorkFault::Disk,
+        }
     }
 }

@@ -1,15 +1,15 @@
 //! Opening a journal as a manager: each record is judged once, in order, as it is read.
 ghost use Rattle.std.specs.Prelude.{◌≡◌, ◌≢◌, ◌≤◌, ◌<◌, ◌∷◌, ◌+◌, ℕ, List, [], length, reverse, IfOk, OnOk, IsTrue, None, ◌↔◌, true};
-ghost use Rattle.executor.specs.History.{spellings};
-ghost use Rattle.journal_core.specs.File.{size};
+ghost use Rattle.executor.specs.Room.{journal_end};
+ghost use Rattle.journal_core.specs.declared.journal.TheConstants.{MAX_FILE};
 ghost use Rattle.lcm_model.specs.Allowed.{IsAllowed, IsLegal};
 ghost use Rattle.journal_core.specs.Load.{IsBegun, Loads};
 ghost use Rattle.journal_core.specs.Asking.{FailsWhere};
 ghost use Rattle.executor.specs.Loading.{Judges, JudgesNext, IsJudged, JudgesAll};
 
 use crate::manager::OpenFault;
-use event_codec::{DecodeFault, decode};
-use journal_core::{Found, LoadFault, Loading};
+use event_codec::{DecodeFault, decode, no_spelling_begins_another};
+use journal_core::{Found, LoadFault, Loading, records_add_up};
 use lcm_events::{Event, EventKind};
 use lcm_judge::is_allowed;
 use lcm_laws::serials_are_counted;
@@ -24,10 +24,11 @@ fn may_follow(
     kind: &EventKind,
 ) -> Result<bool, AllocError>
     requires legal { IsLegal manager (reverse events.now) }
-    requires small { size (spellings (reverse events.now)) < 268435456 }
+    requires small { journal_end (reverse events.now) < MAX_FILE }
     ensures { IfOk result (λ yes. IsTrue yes ↔ IsAllowed manager (reverse events.now) kind.now) }
 {
     serials_are_counted();
+    records_add_up();
     is_allowed(alloc, manager, events, kind)
 }
 
@@ -39,9 +40,10 @@ fn judge(
     bytes: &[u8],
 ) -> Result<bool, AllocError>
     requires legal { IsLegal manager (reverse events.old.items) }
-    requires small { size (spellings (reverse events.old.items)) < 268435456 }
+    requires small { journal_end (reverse events.old.items) < MAX_FILE }
     ensures { IfOk result (λ good. Judges manager (reverse events.old.items) bytes.now good (reverse events.new.items)) }
 {
+    no_spelling_begins_another();
     let event = match decode(alloc, bytes) {
         Ok(event) => event,
         Err(DecodeFault::NotEvent) => return Ok(false),
@@ -73,7 +75,7 @@ impl Judged {
         bytes: &[u8],
     ) -> Result<(), AllocError>
         requires legal { IsLegal manager (reverse self.old.events.items) }
-        requires small { self.old.bad ≡ None → size (spellings (reverse self.old.events.items)) < 268435456 }
+        requires small { self.old.bad ≡ None → journal_end (reverse self.old.events.items) < MAX_FILE }
         ensures { OnOk result (JudgesNext manager n bytes.now self.old self.new) }
     {
         if self.bad.is_some() {
@@ -100,6 +102,7 @@ pub fn judge_all<S: Site>(
     ensures manager { loading.new.manager ≡ loading.old.manager }
     ensures counts { FailsWhere (result ≡ Err OpenFault.Disk) (S.counts site.old) (S.counts site.new) }
 {
+    records_add_up();
     let mut judged = Judged {
         events: Vec::new(alloc),
         bad: None,

@@ -1,5 +1,5 @@
 -- With what a request adds the history stays legal.
-use Rattle.std.proofs.Common.{◌≡◌, ◌+◌, ◌++◌, ℕ, List, [], ◌∷◌, length, Bool, true, false, Option, Some, None, Result, Ok, Err, ap, refl}
+use Rattle.std.proofs.Common.{◌≡◌, ◌+◌, ◌++◌, ℕ, List, ◌∷◌, length, Bool, true, false, Option, Some, None, Result, Ok, Err, ap, refl}
 use Rattle.std.specs.Prelude.{is_some, nat_le, codes, if◌then◌else◌}
 use Rattle.std.proofs.lemmas.Bool.{leb-false}
 use Rattle.json_views.specs.Body.{create_of}
@@ -10,7 +10,9 @@ use Rattle.lcm_events.specs.declared.events.Event.{Event}
 use Rattle.lcm_events.specs.declared.descriptor.Vnfd.{Vnfd}
 use Rattle.lcm_model.specs.Allowed.{IsLegal}
 use Rattle.lcm_model.specs.Lives.{descriptor_named, instances_made, live_instances}
-use Rattle.lcm_api.specs.Outcome.{Outcome, outcome, body_outcome, create_outcome, described_outcome, created, creation, is_create, is_full, refused}
+use Rattle.lcm_api.specs.Outcome.{Outcome, outcome, body_outcome, create_outcome, described_outcome, created, creation, is_create, refused, room_outcome}
+use Rattle.executor.specs.Room.{is_full}
+use Rattle.lcm_api.specs.declared.answer.TheConstants.{MAX_INSTANCES, MAX_REQUESTED}
 use Rattle.http_wire.specs.declared.request.Request.{Request}
 
 -- with what the outcome adds the history is legal
@@ -19,17 +21,17 @@ AddsOn m H o = IsLegal m (o.after ++ H)
 
 described_legal : (m : ℕ) (H : List Event) (now : ℕ) (body : CreateBody) (last : Bool) (vnfd : Vnfd) → descriptor_named H body.vnfd ≡ Some vnfd → IsLegal m H
     → AddsOn m H (described_outcome m H now body last (Some vnfd))
-described_legal m H now body last vnfd known legal = of (nat_le 1000 (length (live_instances H))) refl where
-  room : Outcome
-  room = record { reply = created m (instances_made H + 1) body vnfd last; after = creation H now body ∷ [] }
+described_legal m H now body last vnfd known legal = of (nat_le MAX_INSTANCES (length (live_instances H))) refl where
+  rest : Bool → Outcome
+  rest full = room_outcome full (created m (instances_made H + 1) body vnfd last) (creation H now body) last
 
-  of : (b : Bool) → nat_le 1000 (length (live_instances H)) ≡ b
-      → AddsOn m H (if b then refused 507 (codes "too many instances") last else (if is_full H (creation H now body) then refused 507 (codes "journal full") last else room))
+  of : (b : Bool) → nat_le MAX_INSTANCES (length (live_instances H)) ≡ b
+      → AddsOn m H (if b then refused 507 (codes "too many instances") last else rest (is_full MAX_REQUESTED (creation H now body ∷ H)))
   of true is = legal
   of false is =
-      elim (is_full H (creation H now body)) as (λ full. AddsOn m H (if full then refused 507 (codes "journal full") last else room)) [
+      elim (is_full MAX_REQUESTED (creation H now body ∷ H)) as (λ full. AddsOn m H (rest full)) [
         | true ↦ legal
-        | false ↦ (record { number = refl; onboarded = ap is_some known; room = leb-false 1000 (length (live_instances H)) is }, legal)
+        | false ↦ (record { number = refl; onboarded = ap is_some known; room = leb-false MAX_INSTANCES (length (live_instances H)) is }, legal)
       ]
 
 create_legal : (m : ℕ) (H : List Event) (now : ℕ) (body : CreateBody) (last : Bool) → IsLegal m H → AddsOn m H (create_outcome m H now body last)

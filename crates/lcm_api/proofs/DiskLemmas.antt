@@ -1,7 +1,6 @@
 -- Which answers tell that the disk failed.
-use Rattle.std.proofs.Common.{◌≡◌, refl, subst}
-use Rattle.site_traits.specs.Counts.{SiteCounts, asked, OnlyDiskFails}
-use Rattle.site_traits.specs.Counts.Ask.{sync}
+use Rattle.std.proofs.Common.{refl}
+use Rattle.site_traits.specs.Counts.{SiteCounts, OnlyDiskFails}
 
 -- nothing was asked of the site
 pub untouched : (failed : Type 0) (a : SiteCounts) → ¬ failed → OnlyDiskFails failed a a
@@ -16,9 +15,3 @@ fails_as P Q a b f there back = record {
   look = f.look;
   refusals = f.refusals;
 }
-
--- a sync before it, which didn't fail
-pub fails_after_sync : (P : Type 0) (a m b : SiteCounts) → m ≡ asked sync a → OnlyDiskFails P m b → OnlyDiskFails P a b
-fails_after_sync P a m b is f =
-    let g = subst (λ (v : SiteCounts). OnlyDiskFails P v b) is f in
-    record { rose = g.rose; stays = g.stays; vim = g.vim; look = g.look; refusals = g.refusals }

@@ -1,8 +1,8 @@
 -- What a create request comes to, by the numbers of the history.
 use Rattle.std.specs.Prelude.{is_some, true}
-use Rattle.std.proofs.Common.{◌≡◌, ◌≤◌, ◌<◌, ◌+◌, ℕ, Bool, List, [], ◌∷◌, length, Option, Some, None, arith, refl, ap, codes, ◌++◌}
+use Rattle.std.proofs.Common.{◌≡◌, ◌≤◌, ◌<◌, ◌+◌, ℕ, Bool, List, length, Option, Some, None, arith, refl, ap, codes, ◌++◌}
 use Rattle.executor.specs.Managed.{Managed}
-use Rattle.std.proofs.lemmas.Bool.{lt-leb, le-leb, lt-ltb, le-ltb}
+use Rattle.std.proofs.lemmas.Bool.{lt-leb, le-leb}
 use Rattle.std.proofs.lemmas.List.{length-append}
 use Rattle.event_codec.specs.Spell as spell
 use Rattle.event_codec.specs.Spell.{spelling, u64, u16}
@@ -13,12 +13,12 @@ use Rattle.lcm_events.specs.declared.events.Event.{Event}
 use Rattle.lcm_events.specs.declared.events.EventKind.TheVariants.{Created}
 use Rattle.lcm_events.specs.declared.descriptor.Vnfd.{Vnfd}
 use Rattle.lcm_model.specs.Lives.{descriptor_named, instances_made, live_instances}
-use Rattle.lcm_api.specs.Outcome.{create_outcome, creation, created, refused, refusal, journal_size}
-use Rattle.lcm_api.specs.Steps.{IsStep, MayCreateNow}
+use Rattle.journal_core.specs.declared.journal.TheConstants.{MAX_RECORD}
+use Rattle.lcm_api.specs.Outcome.{create_outcome, creation, created, refused, refusal, room_outcome}
+use Rattle.lcm_api.specs.Steps.{IsStep}
+use Rattle.lcm_api.specs.declared.answer.TheConstants.{MAX_INSTANCES}
 use Rattle.lcm_api.specs.declared.reply.Reply.{Reply}
-use Rattle.lcm_api.specs.declared.answer.Step.TheVariants.{Refused, Creates}
-use Rattle.executor.specs.History.{spellings}
-use Rattle.journal_core.specs.File.{size}
+use Rattle.lcm_api.specs.declared.answer.Step.TheVariants.{Creates}
 
 -- the creation of the instance of this number
 abbrev pub created_as : ℕ → ℕ → CreateBody → Event
@@ -49,7 +49,7 @@ fields_short n v o t short name text =
     omega (arith, a, b, c, length-u64 n)
 
 -- a creation's spelling fits a record
-pub creation_fits : (n : ℕ) (now : ℕ) (body : CreateBody) → IsEvent (created_as n now body) → length (spelling (created_as n now body)) ≤ 65536
+pub creation_fits : (n : ℕ) (now : ℕ) (body : CreateBody) → IsEvent (created_as n now body) → length (spelling (created_as n now body)) ≤ MAX_RECORD
 unfolding spelling
 creation_fits n now body is =
     let vnfd : length body.vnfd ≤ 255 = is.1.1.short in
@@ -63,55 +63,24 @@ pub unknown_outcome : (m : ℕ) (H : List Event) (now : ℕ) (body : CreateBody)
 unknown_outcome m H now body last unknown = rw unknown refl
 
 -- there is no room for one instance more
-pub crowded_outcome : (m : ℕ) (H : List Event) (now : ℕ) (body : CreateBody) (last : Bool) (vnfd : Vnfd) → descriptor_named H body.vnfd ≡ Some vnfd → 1000 ≤ length (live_instances H)
+pub crowded_outcome : (m : ℕ) (H : List Event) (now : ℕ) (body : CreateBody) (last : Bool) (vnfd : Vnfd) → descriptor_named H body.vnfd ≡ Some vnfd → MAX_INSTANCES ≤ length (live_instances H)
     → create_outcome m H now body last ≡ refused 507 (codes "too many instances") last
-crowded_outcome m H now body last vnfd known crowded = rw (known, le-leb 1000 (length (live_instances H)) crowded) refl
+crowded_outcome m H now body last vnfd known crowded = rw (known, le-leb MAX_INSTANCES (length (live_instances H)) crowded) refl
 
--- there is no room for one record more
-pub full_outcome : (m : ℕ) (H : List Event) (now : ℕ) (body : CreateBody) (last : Bool) (vnfd : Vnfd) → descriptor_named H body.vnfd ≡ Some vnfd → length (live_instances H) < 1000
-    → 201326592 < journal_size H + 6 + length (spelling (creation H now body)) → create_outcome m H now body last ≡ refused 507 (codes "journal full") last
-full_outcome m H now body last vnfd known room full =
-    rw (known, lt-leb 1000 (length (live_instances H)) room, lt-ltb 201326592 (journal_size H + 6 + length (spelling (creation H now body))) full) refl
+-- the instance is created, if there is room for it
+pub step_creates : (m : Managed) (H : List Event) (now : ℕ) (body : CreateBody) (last : Bool) (vnfd : Vnfd) (reply : Reply) (event : Event) → descriptor_named H body.vnfd ≡ Some vnfd
+    → length (live_instances H) < MAX_INSTANCES → event ≡ creation H now body
+    → reply ≡ created m.ledger.manager (instances_made H + 1) body vnfd last → IsStep (create_outcome m.ledger.manager H now body last) m H last (Creates event reply)
+step_creates m H now body last vnfd reply event known room event_is reply_is =
+    rw (event_is, reply_is) (
+      rw (known, lt-leb MAX_INSTANCES (length (live_instances H)) room) refl,
+      record {
+        may = record { rules = λ typed. typed; allowed = record { number = refl; onboarded = ap is_some known; room = room }; unsettled = refl };
+        fits = creation_fits (instances_made H + 1) now body;
+      },
+    )
 
--- the instance is created
-pub room_outcome : (m : ℕ) (H : List Event) (now : ℕ) (body : CreateBody) (last : Bool) (vnfd : Vnfd) → descriptor_named H body.vnfd ≡ Some vnfd → length (live_instances H) < 1000
-    → journal_size H + 6 + length (spelling (creation H now body)) ≤ 201326592
-    → create_outcome m H now body last ≡ record { reply = created m (instances_made H + 1) body vnfd last; after = creation H now body ∷ [] }
-room_outcome m H now body last vnfd known room fits =
-    rw (known, lt-leb 1000 (length (live_instances H)) room, le-ltb 201326592 (journal_size H + 6 + length (spelling (creation H now body))) fits) refl
-
-size_is : (H : List Event) → journal_size H ≡ size (spellings H)
-unfolding journal_size
-size_is H = refl
-
--- the event may be recorded now
-may_create_now : (m : Managed) (H : List Event) (now : ℕ) (body : CreateBody) → is_some (descriptor_named H body.vnfd) ≡ true → length (live_instances H) < 1000
-    → m.ledger.end + 6 + length (spelling (creation H now body)) ≤ 201326592 → MayCreateNow m H (creation H now body)
-may_create_now m H now body known room fits = record {
-  may = record {
-    rules = λ typed. typed;
-    fits = creation_fits (instances_made H + 1) now body;
-    allowed = record { number = refl; onboarded = known; room = room };
-    unsettled = refl;
-  };
-  room = fits;
-}
-
--- the request creates the instance
-pub step_creates : (m : Managed) (H : List Event) (now : ℕ) (body : CreateBody) (last : Bool) (vnfd : Vnfd) (reply : Reply) (event : Event) → descriptor_named H body.vnfd ≡ Some vnfd → m.ledger.end ≡ size (spellings H)
-    → length (live_instances H) < 1000 → m.ledger.end + 6 + length (spelling event) ≤ 201326592 → event ≡ creation H now body
-    → reply ≡ created m.ledger.manager (instances_made H + 1) body vnfd last → IsStep (create_outcome m.ledger.manager H now body last) m H (Creates event reply)
-step_creates m H now body last vnfd reply event known end room fits event_is reply_is =
-    rw (event_is, reply_is)
-    (let within : m.ledger.end + 6 + length (spelling (creation H now body)) ≤ 201326592 = rw event_is at fits in
-    let full : journal_size H + 6 + length (spelling (creation H now body)) ≤ 201326592 = rw (size_is H, ← end) within in
-    (room_outcome m.ledger.manager H now body last vnfd known room full, may_create_now m H now body (ap is_some known) room within))
-
--- the request finds the journal full
-pub step_full : (m : Managed) (H : List Event) (now : ℕ) (body : CreateBody) (last : Bool) (vnfd : Vnfd) (reply : Reply) (event : Event) → descriptor_named H body.vnfd ≡ Some vnfd → m.ledger.end ≡ size (spellings H)
-    → length (live_instances H) < 1000 → 201326592 < m.ledger.end + 6 + length (spelling event) → event ≡ creation H now body
-    → reply ≡ refusal 507 (codes "journal full") last → IsStep (create_outcome m.ledger.manager H now body last) m H (Refused reply)
-step_full m H now body last vnfd reply event known end room over event_is reply_is =
-    rw reply_is
-    (let beyond : 201326592 < m.ledger.end + 6 + length (spelling (creation H now body)) = rw event_is at over in
-    full_outcome m.ledger.manager H now body last vnfd known room (rw (size_is H, ← end) beyond))
+-- where there is no room it is refused
+pub full_reply : (full : Bool) (reply given : Reply) (event : Event) (last : Bool) → full ≡ true → given ≡ refusal 507 (codes "journal full") last
+    → given ≡ (room_outcome full reply event last).reply
+full_reply full reply given event last is given_is = rw is given_is

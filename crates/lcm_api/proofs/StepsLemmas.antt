@@ -2,8 +2,7 @@
 use Rattle.std.proofs.Common.{◌≡◌, ◌≤◌, ◌∙◌, ℕ, List, [], ◌∷◌, ◌++◌, Option, Some, None, Result, Ok, Err, true, false, true≢false, sym, subst, refl, ap, append-nil, arith, if◌then◌else◌, take, Bool, ◌⊎◌, ⊎_elim, codes}
 use Rattle.std.specs.Result.{is_ok}
 use Rattle.executor.specs.Managed.{Managed, IsReady}
-use Rattle.executor.specs.Work.{Work, went, Works}
-use Rattle.executor.proofs.WorkLemmas.{idle, stands_everywhere}
+use Rattle.executor.specs.Work.{Idles, Stays, Work, went, Works}
 use Rattle.http_wire.specs.Wire.{WireState, bytes_of, Counts, OnlyTakesIn, TakesNone}
 use Rattle.http_wire.specs.declared.request.Request.{Request}
 use Rattle.http_wire.specs.declared.request.Taken.{Taken}
@@ -102,18 +101,18 @@ says_last reply (Err failed) a b tells =
 
 -- No request was taken, and the session ends.
 pub talk_of_end : (t : talking.Tells) (m : Managed) (H : List Event) (role : Role) (end : Ending) (answer : Result Taken WireFault) (s : SiteState) (c u v : MouthState) (ks : List ℕ)
-    → IsReady t.site m H s → Takes t.door answer c.wire u.wire → OnlyTakesIn t.door c.wire.intake u.wire.intake → TakesNone t.door c.wire u.wire
+    → Idles t.site s → IsReady t.site m H s → Takes t.door answer c.wire u.wire → OnlyTakesIn t.door c.wire.intake u.wire.intake → TakesNone t.door c.wire u.wire
     → asked_last end.last ≡ [] → work_last m.ledger.manager H end.last ≡ went H → (AsksLast t.door answer c.wire v.wire → EndsFor t.door end.last end.told c.wire v.wire)
     → (t.door → (final : List ℕ) × IsSaid (reply_last m.ledger.manager H end.last) end.told final × Converses [] final u.wire.intake.door v.wire.intake.door)
     → OnlyAtDoor u v → IsLost (Some end) u.wire.intake.counts v.wire.intake.counts → NoNextFault u.wire.intake.counts v.wire.intake.counts
     → Talks t m.ledger.manager H (ended_so role end) m (world s c ks) (world s v ks)
-talk_of_end t m H role end answer s c u v ks ready takes reads none asked work ends says kept lost counts =
+talk_of_end t m H role end answer s c u v ks idles ready takes reads none asked work ends says kept lost counts =
     let P : Work → Type 0 = λ w. Works t.site m.ledger.manager H w m s s in
     let Q : List Ask → Type 0 = λ asks. AreRequests (asks ++ []) (remains_of c.wire) (remains_of v.wire) in
     let R : List Ask → Type 0 = λ asks. GaveAll (asks ++ []) ks ks in
     let later = reads.counts.faults in
     record {
-      works = subst P (sym work) (idle t.site m H s ready);
+      works = subst P (sym work) (idles m H ready);
       holds = record {
         requests = λ told.
             let said_so = says told in
@@ -147,9 +146,9 @@ talk_of_end t m H role end answer s c u v ks ready takes reads none asked work e
     }
 
 -- a reply that acknowledges what the manager's history ends with may be told
-pub acknowledged : (tells : Type 0) (m : ℕ) (H : List Event) (r : Request) (now : ℕ) (n : Managed) (a b : SiteState) (hand : Option Request) (reply : Reply)
+pub acknowledged : (tells : Type 0) (m : ℕ) (H : List Event) (r : Request) (now : ℕ) (n : Managed) (a b : SiteState) (hand : Option Request) (reply : Reply) → Stays b
     → Works tells m H (went ((outcome m H now r).after ++ H)) n a b → hand ≡ Some r → reply ≡ (outcome m H now r).reply → IsAcknowledged tells n b hand reply
-acknowledged tells m H r now n a b hand reply works in_hand is =
+acknowledged tells m H r now n a b hand reply stays works in_hand is =
     let P : ℕ → Type 0 = λ k. IsOutcomeOf k ((outcome m H now r).after ++ H) r reply in
     record {
       history = (outcome m H now r).after ++ H;
@@ -158,7 +157,7 @@ acknowledged tells m H r now n a b hand reply works in_hand is =
       keeps = works.keeps;
       in_hand = in_hand;
       is = subst P (sym works.number) (record { before = H; now = now; reply_is = is; history_is = refl });
-      everywhere = λ told. stands_everywhere n ((outcome m H now r).after ++ H) b ((works.site told).stands refl);
+      everywhere = λ told. (stays n ((outcome m H now r).after ++ H) ((works.site told).stands refl)).left;
     }
 
 -- the request in hand is one

@@ -1,8 +1,7 @@
 -- A talk behind another is one talk.
 use Rattle.std.proofs.Common.{◌≡◌, ◌≤◌, ◌∙◌, ℕ, List, [], ◌∷◌, ◌++◌, Option, Some, None, Result, Ok, Err, take, length, true, sym, subst, refl, ap, append_assoc, append-nil, arith, ◌+◌, ◌<◌, ◌⊎◌, inl, inr, ⊎_elim}
 use Rattle.executor.specs.Managed.{Managed, IsReady}
-use Rattle.executor.specs.Work.{Works}
-use Rattle.executor.proofs.WorkLemmas.{idle, joined, ready_again}
+use Rattle.executor.specs.Work.{Idles, Joins, LeadsOn, Works}
 use Rattle.http_wire.specs.declared.TheConstants.{CONNECTION_REQUESTS}
 use Rattle.http_wire.specs.Intake.{OnlyReads}
 use Rattle.http_wire.specs.Wire.{WireState}
@@ -147,17 +146,17 @@ speaks_on m H role xs ys end a b c first second =
     }
 
 -- a talk behind another is the talk of all their requests
-pub talks_on : (t : talking.Tells) (m : ℕ) (H : List Event) (role : Role) (xs ys : List Ask) (end : Option Ending) (n o : Managed) (w u v : World)
+pub talks_on : (t : talking.Tells) (m : ℕ) (H : List Event) (role : Role) (xs ys : List Ask) (end : Option Ending) (n o : Managed) (w u v : World) → Joins t.site w.site u.site v.site
     → Talks t m H (record { role = role; asks = xs; end = None }) n w u → Talks t m (life (once_answered m) H xs) (record { role = role; asks = ys; end = end }) o u v
     → Talks t m H (record { role = role; asks = ys ++ xs; end = end }) o w v
-talks_on t m H role xs ys end n o w u v first second =
+talks_on t m H role xs ys end n o w u v joins first second =
     let G : List Event = life (once_answered m) H xs in
     let P : List Event → Type 0 = λ K. Works t.site m H (work_by m K end) o w.site v.site in
     let taken : (asked_by end ++ ys) ++ xs ≡ asked_by end ++ (ys ++ xs) = append_assoc (asked_by end) ys xs in
     let Q : List Ask → Type 0 = λ asks. AreRequests asks (talking.remains_of w.mouth.wire) (talking.remains_of v.mouth.wire) in
     let R : List Ask → Type 0 = λ asks. GaveAll asks w.clock v.clock in
     record {
-      works = subst P (sym (life_more (once_answered m) H ys xs)) (joined t.site m H G (work_by m (life (once_answered m) G ys) end) n o w.site u.site v.site first.works second.works);
+      works = subst P (sym (life_more (once_answered m) H ys xs)) (joins m H G (work_by m (life (once_answered m) G ys) end) n o first.works second.works);
       holds = record {
         requests = λ told. subst Q taken (requests_more xs (asked_by end ++ ys) (talking.remains_of w.mouth.wire) (talking.remains_of u.mouth.wire) (talking.remains_of v.mouth.wire) (first.holds.requests told) (second.holds.requests told));
         speaks = λ told. speaks_on m H role xs ys end w.mouth.wire.intake.door u.mouth.wire.intake.door v.mouth.wire.intake.door (first.holds.speaks told) (second.holds.speaks told);
@@ -177,12 +176,12 @@ pub record TalksSoFar (t : talking.Tells) (role : Role) (m n : Managed) (told : 
   pub within : (told ≡ 0) ⊎ (v.mouth.wire.taken ≤ CONNECTION_REQUESTS)
 
 -- before the first request
-pub none_so_far : (t : talking.Tells) (role : Role) (m : Managed) (w : World) → w.mouth.wire.intake.counts.up ≡ true → TalksSoFar t role m m 0 w w
-none_so_far t role m w up = record {
+pub none_so_far : (t : talking.Tells) (role : Role) (m : Managed) (w : World) → Idles t.site w.site → w.mouth.wire.intake.counts.up ≡ true → TalksSoFar t role m m 0 w w
+none_so_far t role m w idles up = record {
   each = λ H ready. (
     [],
     record {
-      works = idle t.site m H w.site ready;
+      works = idles m H ready;
       holds = record {
         requests = λ told. refl;
         speaks = λ told. record { read = []; final = []; final_is = refl; door = converses_none w.mouth.wire.intake.door };
@@ -200,46 +199,46 @@ none_so_far t role m w up = record {
 }
 
 -- behind the talk so far the manager is ready
-pub ready_so_far : (t : talking.Tells) (role : Role) (m n : Managed) (told : ℕ) (w v : World) → TalksSoFar t role m n told w v → (H : List Event) × IsReady t.site m H w.site
+pub ready_so_far : (t : talking.Tells) (role : Role) (m n : Managed) (told : ℕ) (w v : World) → TalksSoFar t role m n told w v → LeadsOn t.site w.site v.site → (H : List Event) × IsReady t.site m H w.site
     → (H : List Event) × IsReady t.site n H v.site
-ready_so_far t role m n told w v so_far ready =
+ready_so_far t role m n told w v so_far leads ready =
     let talk = so_far.each ready.0 ready.1 in
-    (life (once_answered m.ledger.manager) ready.0 talk.0, ready_again t.site m.ledger.manager ready.0 (work_by m.ledger.manager (life (once_answered m.ledger.manager) ready.0 talk.0) None) n w.site v.site talk.1.works refl)
+    (life (once_answered m.ledger.manager) ready.0 talk.0, leads m.ledger.manager ready.0 (work_by m.ledger.manager (life (once_answered m.ledger.manager) ready.0 talk.0) None) n talk.1.works refl)
 
 -- one request more
-pub one_more_told : (t : talking.Tells) (role : Role) (m n o : Managed) (told : ℕ) (w u v : World) → TalksSoFar t role m n told w u
+pub one_more_told : (t : talking.Tells) (role : Role) (m n o : Managed) (told : ℕ) (w u v : World) → TalksSoFar t role m n told w u → LeadsOn t.site w.site u.site → Joins t.site w.site u.site v.site
     → ((H : List Event) → IsReady t.site n H u.site → (talk : Talk) × Talks t n.ledger.manager H talk o u v × ((x : Ask) × (talk ≡ answered_one role x)))
     → v.mouth.wire.intake.counts.up ≡ true → u.mouth.wire.taken < v.mouth.wire.taken → v.mouth.wire.taken ≤ CONNECTION_REQUESTS → TalksSoFar t role m o (told + 1) w v
-one_more_told t role m n o told w u v so_far step up more few = record {
+one_more_told t role m n o told w u v so_far leads joins step up more few = record {
   each = λ H ready.
       let talk = so_far.each H ready in
       let G : List Event = life (once_answered m.ledger.manager) H talk.0 in
-      let next = step G (ready_again t.site m.ledger.manager H (work_by m.ledger.manager G None) n w.site u.site talk.1.works refl) in
+      let next = step G (leads m.ledger.manager H (work_by m.ledger.manager G None) n talk.1.works refl) in
       let x : Ask = next.2.0 in
       let P : Talk → Type 0 = λ z. Talks t n.ledger.manager G z o u v in
       let Q : ℕ → Type 0 = λ k. Talks t k G (answered_one role x) o u v in
       let one : Talks t m.ledger.manager G (answered_one role x) o u v = subst Q talk.1.works.number (subst P next.2.1 next.1) in
       let count = talk.2 in
-      (x ∷ talk.0, talks_on t m.ledger.manager H role talk.0 (x ∷ []) None n o w u v talk.1 one, omega (arith, count));
+      (x ∷ talk.0, talks_on t m.ledger.manager H role talk.0 (x ∷ []) None n o w u v joins talk.1 one, omega (arith, count));
   up = up;
   few = let before = so_far.few in omega (arith, before, more);
   within = inr few;
 }
 
 -- the end behind the talk so far
-pub ended_so_far : (t : talking.Tells) (role : Role) (m n o : Managed) (told : ℕ) (P : Ending → Type 0) (w u v : World) → TalksSoFar t role m n told w u
+pub ended_so_far : (t : talking.Tells) (role : Role) (m n o : Managed) (told : ℕ) (P : Ending → Type 0) (w u v : World) → TalksSoFar t role m n told w u → LeadsOn t.site w.site u.site → Joins t.site w.site u.site v.site
     → ((H : List Event) → IsReady t.site n H u.site → (talk : Talk) × Talks t n.ledger.manager H talk o u v × ((end : Ending) × (talk ≡ ended_so role end) × P end))
     → (H : List Event) → IsReady t.site m H w.site
     → (asks : List Ask) × (end : Ending) × Talks t m.ledger.manager H (record { role = role; asks = asks; end = Some end }) o w v × (told ≡ length asks) × P end
-ended_so_far t role m n o told P w u v so_far step H ready =
+ended_so_far t role m n o told P w u v so_far leads joins step H ready =
     let talk = so_far.each H ready in
     let G : List Event = life (once_answered m.ledger.manager) H talk.0 in
-    let next = step G (ready_again t.site m.ledger.manager H (work_by m.ledger.manager G None) n w.site u.site talk.1.works refl) in
+    let next = step G (leads m.ledger.manager H (work_by m.ledger.manager G None) n talk.1.works refl) in
     let end : Ending = next.2.0 in
     let A : Talk → Type 0 = λ z. Talks t n.ledger.manager G z o u v in
     let B : ℕ → Type 0 = λ k. Talks t k G (ended_so role end) o u v in
     let one : Talks t m.ledger.manager G (ended_so role end) o u v = subst B talk.1.works.number (subst A next.2.1 next.1) in
-    (talk.0, end, talks_on t m.ledger.manager H role talk.0 [] (Some end) n o w u v talk.1 one, talk.2, next.2.2)
+    (talk.0, end, talks_on t m.ledger.manager H role talk.0 [] (Some end) n o w u v joins talk.1 one, talk.2, next.2.2)
 
 -- where no disk call failed before, it is the last alone that did
 pub fails_last : (P : Type 0) (a b c : SiteCounts) → OnlyDiskFails ⊥ a b → OnlyDiskFails P b c → OnlyDiskFails P a c

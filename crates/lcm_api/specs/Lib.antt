@@ -10,3 +10,4 @@ pub mod Step
 pub mod Steps
 pub mod Talking
 pub mod Telling
+pub mod Waiting

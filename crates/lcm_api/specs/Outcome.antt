@@ -1,9 +1,8 @@
 -- What a request comes to: the reply, and the event that it adds to the history (SOL 003 5.4.2, VNF instances). The order of
 -- the refusals is an own rule.
-use Rattle.std.specs.Prelude.{ℕ, ◌+◌, ◌&&◌, List, [], ◌∷◌, ◌++◌, length, map, reverse, codes, nat_le, nat_lt, if◌then◌else◌, Bool, true, false, Option, Some, None, Result, Ok, Err}
+use Rattle.std.specs.Prelude.{ℕ, ◌+◌, ◌&&◌, List, [], ◌∷◌, ◌++◌, length, codes, nat_le, if◌then◌else◌, Bool, true, false, Option, Some, None, Result, Ok, Err}
 use Rattle.std.specs.Str.{bytes_eq}
-use Rattle.event_codec.specs.Spell.{spelling}
-use Rattle.journal_core.specs.File.{size}
+use Rattle.executor.specs.Room.{is_full}
 use Rattle.lcm_events.specs.declared.events.Event.{Event}
 use Rattle.lcm_events.specs.declared.events.EventKind.TheVariants.{Created}
 use Rattle.lcm_events.specs.declared.descriptor.Vnfd.{Vnfd}
@@ -14,6 +13,7 @@ use Rattle.json_views.specs.Problem.{problem_text}
 use Rattle.json_views.specs.declared.body.CreateBody.{CreateBody}
 use Rattle.json_views.specs.declared.body.BodyFault.{BodyFault}
 use Rattle.json_views.specs.declared.body.BodyFault.TheVariants.{Malformed, Lacks, Wrong, Memory}
+use Rattle.lcm_api.specs.declared.answer.TheConstants.{MAX_INSTANCES, MAX_REQUESTED}
 use Rattle.lcm_api.specs.declared.reply.Reply.{Reply}
 use Rattle.http_wire.specs.declared.request.Request.{Request}
 
@@ -58,21 +58,17 @@ creation H now body = record { moment = now; kind = Created (instances_made H + 
 unfoldable pub created : ℕ → ℕ → CreateBody → Vnfd → Bool → Reply
 created m n body vnfd last = record { status = 201; location = Some (instance_path m n); allow = None; problem = false; body = created_text m n body vnfd; last = last }
 
--- the bytes of the journal of this history up to its closed gate (own rule)
-unfoldable pub journal_size : List Event → ℕ
-journal_size H = size (map spelling (reverse H))
-
--- the journal with this event would pass the limit up to which requests are taken (own rule)
-abbrev pub is_full : List Event → Event → Bool
-is_full H e = nat_lt 201326592 (journal_size H + 6 + length (spelling e))
+-- the instance is created, unless the journal is full with its event
+abbrev pub room_outcome : Bool → Reply → Event → Bool → Outcome
+room_outcome true reply event last = refused 507 (codes "journal full") last
+room_outcome false reply event last = record { reply = reply; after = event ∷ [] }
 
 -- a create request whose body says this, where its descriptor was onboarded: whether there is room for the instance
 abbrev pub described_outcome : ℕ → List Event → ℕ → CreateBody → Bool → Option Vnfd → Outcome
 described_outcome m H now body last None = refused 422 (codes "vnfdId is not onboarded") last
 described_outcome m H now body last (Some vnfd) =
-    if nat_le 1000 (length (live_instances H)) then refused 507 (codes "too many instances") last
-    else (if is_full H (creation H now body) then refused 507 (codes "journal full") last
-    else record { reply = created m (instances_made H + 1) body vnfd last; after = creation H now body ∷ [] })
+    if nat_le MAX_INSTANCES (length (live_instances H)) then refused 507 (codes "too many instances") last
+    else room_outcome (is_full MAX_REQUESTED (creation H now body ∷ H)) (created m (instances_made H + 1) body vnfd last) (creation H now body) last
 
 -- a create request whose body says this
 abbrev pub create_outcome : ℕ → List Event → ℕ → CreateBody → Bool → Outcome

@@ -6,15 +6,16 @@ ghost use Rattle.event_codec.specs.Typed.{TypedEvent};
 ghost use Rattle.lcm_events.specs.declared.events.Event.{Event};
 ghost use Rattle.site_traits.specs.Counts.{OnlyDiskFails};
 ghost use Rattle.executor.specs.Managed.{IsReady, Keeps};
+ghost use Rattle.executor.specs.Room.{is_full};
 ghost use Rattle.executor.specs.Work.{Works};
 ghost use Rattle.lcm_api.specs.Answering.{answered};
-ghost use Rattle.lcm_api.specs.Steps.{IsStep, MayCreateNow};
+ghost use Rattle.lcm_api.specs.Steps.{IsStep, MayCreate};
 ghost use Rattle.lcm_events.specs.declared.events.EventKind.TheVariants.{Created};
-ghost use Rattle.lcm_api.specs.Outcome.{outcome, create_outcome, creation, is_full, refusal};
+ghost use Rattle.lcm_api.specs.Outcome.{outcome, create_outcome, creation, refusal, room_outcome};
 
 use crate::judge::{Verdict, created, judge, refusal};
 use crate::reply::Reply;
-use executor::{Manager, WorkFault};
+use executor::{Manager, WorkFault, works_add_up};
 use http_wire::Request;
 use json_views::CreateBody;
 use lcm_events::{Event, EventKind};
@@ -65,6 +66,7 @@ pub fn answer<S: Site>(
         (answered (outcome manager.old.ledger.manager H now request.now) H result) manager.new (S.state site.old) (S.state site.new) }
     ensures counts { OnlyDiskFails (result ≡ Err ApiFault.Disk) (S.counts site.old) (S.counts site.new) }
 {
+    works_add_up::<S>();
     match judge(alloc, request) {
         Ok(Verdict::Refused(reply)) => Ok(reply),
         Ok(Verdict::Create(body)) => create(alloc, manager, site, body, now, request.last),
@@ -87,10 +89,11 @@ fn create<S: Site>(
         (answered (create_outcome manager.old.ledger.manager H now body last) H result) manager.new (S.state site.old) (S.state site.new) }
     ensures counts { OnlyDiskFails (result ≡ Err ApiFault.Disk) (S.counts site.old) (S.counts site.new) }
 {
+    works_add_up::<S>();
     match prepare(alloc, manager, body, now, last) {
         Ok(Step::Refused(reply)) => Ok(reply),
         Ok(Step::Creates(event, reply)) => {
-            let answer = record(alloc, manager, site, &event, reply);
+            let answer = record(alloc, manager, site, &event, reply, last);
             drop(event);
             answer
         }
@@ -98,17 +101,16 @@ fn create<S: Site>(
     }
 }
 
-/// What a create request with this body comes to. All memory is taken here.
+/// What a create request with this body comes to, before it is known whether there is room for it.
 fn prepare<S: Site>(
     alloc: Global,
-    manager: &mut Manager<S>,
+    manager: &Manager<S>,
     body: CreateBody,
     now: Moment,
     last: bool,
 ) -> Result<Step, AllocError>
-    requires usable { manager.old.ledger.closed ≡ false }
-    ensures kept { manager.new ≡ manager.old }
-    ensures step { (H : List Event) → Keeps manager.old H → IfOk result (IsStep (create_outcome manager.old.ledger.manager H now body last) manager.old H) }
+    requires usable { manager.now.ledger.closed ≡ false }
+    ensures step { (H : List Event) → Keeps manager.now H → IfOk result (IsStep (create_outcome manager.now.ledger.manager H now body last) manager.now H last) }
 {
     let Some(vnfd) = manager.vnfd(&body.vnfd) else {
         return Ok(Step::Refused(refusal(alloc, 422, "vnfdId is not onboarded", last)?));
@@ -118,13 +120,7 @@ fn prepare<S: Site>(
     }
     let n = manager.next_instance();
     let reply = created(alloc, manager.number(), n, &body, vnfd, last)?;
-    let event = creation(n, now, body);
-    let more = manager.length_of(&event);
-    if !manager.fits(more, MAX_REQUESTED) {
-        drop(event);
-        return Ok(Step::Refused(refusal(alloc, 507, "journal full", last)?));
-    }
-    Ok(Step::Creates(event, reply))
+    Ok(Step::Creates(creation(n, now, body), reply))
 }
 
 /// The event that an instance was created.
@@ -142,25 +138,30 @@ fn creation(instance: u64, moment: Moment, body: CreateBody) -> Event
     }
 }
 
-/// Records the event, and then gives the reply.
+/// Records the event, and then gives the reply. Where there is no room for it, it is refused.
 fn record<S: Site>(
     alloc: Global,
     manager: &mut Manager<S>,
     site: &mut S,
     event: &Event,
     reply: Reply,
+    last: bool,
 ) -> Result<Reply, ApiFault>
-    requires creates { (H : List Event) × IsReady S.tells manager.old H (S.state site.old) × MayCreateNow manager.old H event.now }
-    ensures reply { IfOk result (λ given. given ≡ reply) }
+    requires creates { (H : List Event) × IsReady S.tells manager.old H (S.state site.old) × MayCreate manager.old H event.now }
+    ensures reply { (H : List Event) → Keeps manager.old H → IfOk result (λ given. given ≡ (room_outcome (is_full MAX_REQUESTED (event.now ∷ H)) reply event.now last).reply) }
     ensures works { (H : List Event) → IsReady S.tells manager.old H (S.state site.old) → Works S.tells manager.old.ledger.manager H
-        (answered (record { reply = reply; after = event.now ∷ [] }) H result) manager.new (S.state site.old) (S.state site.new) }
+        (answered (room_outcome (is_full MAX_REQUESTED (event.now ∷ H)) reply event.now last) H result) manager.new (S.state site.old) (S.state site.new) }
     ensures counts { OnlyDiskFails (result ≡ Err ApiFault.Disk) (S.counts site.old) (S.counts site.new) }
 {
-    match manager.commit(alloc, site, event) {
+    match manager.commit(alloc, site, event, MAX_REQUESTED) {
         Ok(()) => Ok(reply),
-        Err(WorkFault::Disk) => Err(ApiFault::Disk),
-        // A creation fits far below the journal's limit.
-        Err(WorkFault::Full { .. }) => unreachable!(),
+        Err(WorkFault::Full { .. }) => match refusal(alloc, 507, "journal full", last) {
+            Ok(refused) => Ok(refused),
+            Err(_) => Err(ApiFault::Memory),
+        },
+        // A creation is far shorter than a record.
+        Err(WorkFault::TooLong(_)) => unreachable!(),
         Err(WorkFault::Memory) => Err(ApiFault::Memory),
+        Err(WorkFault::Disk) => Err(ApiFault::Disk),
     }
 }

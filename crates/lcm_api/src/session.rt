@@ -15,7 +15,7 @@ use crate::door::DoorFailed;
 use crate::judge::{bare, malformed, too_large};
 use crate::mouth::Mouth;
 use crate::reply::Reply;
-use executor::Manager;
+use executor::{Manager, works_add_up};
 use http_wire::WireFault;
 use lcm_events::Role;
 use site_traits::{Clock, Door, Site};
@@ -87,6 +87,7 @@ fn talk<S: Site, D: Door, K: Clock>(
     ensures up { mouth.new.wire.intake.counts.up ≡ true }
     ensures counts { OnlyDiskFails (is_err result ≡ true) (S.counts site.old) (S.counts site.new) }
 {
+    works_add_up::<S>();
     let mut told = 0;
     'steps: loop {
         match answer_next(alloc, manager, site, mouth, clock, role) {
@@ -118,6 +119,7 @@ fn answer_next<S: Site, D: Door, K: Clock>(
     ensures up { mouth.new.wire.intake.counts.up ≡ true }
     ensures counts { OnlyDiskFails (result ≡ Step.Broken) (S.counts site.old) (S.counts site.new) }
 {
+    works_add_up::<S>();
     match mouth.hear(alloc, role) {
         Ok(true) => respond(alloc, manager, site, mouth, clock),
         Ok(false) => Step::Over,
@@ -147,6 +149,7 @@ fn respond<S: Site, D: Door, K: Clock>(
     ensures up { mouth.new.wire.intake.counts.up ≡ true }
     ensures counts { OnlyDiskFails (result ≡ Step.Broken) (S.counts site.old) (S.counts site.new) }
 {
+    works_add_up::<S>();
     let now = Moment::of(clock.now());
     match answer(alloc, manager, site, mouth.request(), now) {
         Ok(reply) => match mouth.tell(manager, site, &reply) {

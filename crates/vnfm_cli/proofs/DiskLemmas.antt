@@ -1,72 +1,82 @@
 -- Which endings of a run tell that the disk failed.
-use Rattle.std.proofs.Common.{◌≡◌, ◌≢◌, ◌<◌, ℕ, Bool, true, false, refl, sym, subst, ap, ◌∙◌, arith, [], ◌∷◌, ⊎_elim, if◌then◌else◌, Result, Ok, Err}
+use Rattle.std.proofs.Common.{◌≡◌, ◌≢◌, ◌<◌, ℕ, Bool, true, false, refl, sym, subst, ap, ◌∙◌, arith, ⊎_elim, if◌then◌else◌, Result, Ok, Err}
 use Rattle.std.proofs.Math.Dec.{eqb}
 use Rattle.std.proofs.lemmas.Bool.Decides.{eqb_tells}
 use Rattle.site_traits.specs.Counts.{SiteCounts, asked, OnlyDiskFails, CallCounts, Rose, called, called_in_vain, one_more}
 use Rattle.site_traits.specs.Counts.Ask.{sync}
 use Rattle.executor.specs.declared.manager.OpenFault.{OpenFault}
 use Rattle.executor.specs.declared.manager.OpenFault.TheVariants as opening
-use Rattle.journal_core.specs.Asking.{FailsWhere, CreateAsks}
+use Rattle.journal_core.specs.Asking.{FailsWhere, CreateAsks, CreatesCount}
 use Rattle.journal_core.specs.declared.create.CreateFault.{CreateFault}
 use Rattle.journal_core.specs.declared.create.CreateFault.TheVariants as creating
-use Rattle.journal_core.proofs.AskLemmas.{asked_fails, create_fails, stops_fails, sync_stops}
-use Rattle.lcm_api.proofs.DiskLemmas.{fails_as}
-use Rattle.vnfm_cli.specs.Course.{making_ending, unopened_ending}
-use Rattle.vnfm_cli.specs.Ending.{status_of, told_status}
-use Rattle.vnfm_cli.specs.declared.ending.Ending.{Ending}
-use Rattle.vnfm_cli.specs.declared.ending.Ending.TheVariants.{Done, Made, Onboarded, Usage, SiteFault, DoorFault, NoJournal, NotAJournal, NoMemory, BadRecord, JournalFull, DescriptorRefused, Taken}
+use Rattle.onboarding.specs.declared.answer.OnboardFault.{OnboardFault}
+use Rattle.onboarding.specs.declared.answer.OnboardFault.TheVariants as fault
+use Rattle.vnfm_cli.specs.Course.{making_ending, unonboarded, unopened_failure}
+use Rattle.vnfm_cli.specs.Ending.{Ending}
+use Rattle.vnfm_cli.specs.declared.ending.Failure.TheVariants.{DoorFault, SiteFault}
+
+-- one answer stands for another
+pub fails_as : (P Q : Type 0) (a b : SiteCounts) → OnlyDiskFails P a b → (P → Q) → (Q → P) → OnlyDiskFails Q a b
+fails_as P Q a b f there back =
+    record { rose = λ is. f.rose (back is); stays = λ never. f.stays (λ is. never (there is)); vim = f.vim; look = f.look; refusals = f.refusals }
+
+-- the same of an answer that never comes
+pub fails_never : (P Q : Type 0) (a b : SiteCounts) → OnlyDiskFails P a b → ¬ P → ¬ Q → OnlyDiskFails Q a b
+fails_never P Q a b f never other = fails_as P Q a b f (λ is. absurd (never is)) (λ is. absurd (other is))
+
+-- behind calls of which none failed it is the last alone that did
+pub fails_last : (P : Type 0) (a b c : SiteCounts) → OnlyDiskFails ⊥ a b → OnlyDiskFails P b c → OnlyDiskFails P a c
+fails_last P a b c none last =
+    let same = none.stays (λ never. never) in
+    record {
+      rose = λ is. last.rose is ∙ ap one_more same;
+      stays = λ never. last.stays never ∙ same;
+      vim = last.vim ∙ none.vim;
+      look = last.look ∙ none.look;
+      refusals = last.refusals ∙ none.refusals;
+    }
+
+-- nothing was asked for
+pub untouched : (P : Type 0) (a : SiteCounts) → ¬ P → OnlyDiskFails P a a
+untouched P a never = record { rose = λ is. absurd (never is); stays = λ _. refl; vim = refl; look = refl; refusals = refl }
+
+-- a sync was asked for, and nothing failed
+pub synced : (P : Type 0) (a b : SiteCounts) → b ≡ asked sync a → ¬ P → OnlyDiskFails P a b
+synced P a b is never =
+    subst (OnlyDiskFails P a) (sym is) (record { rose = λ yes. absurd (never yes); stays = λ _. refl; vim = refl; look = refl; refusals = refl })
 
 -- a journal was to be made
-pub making_fails : (r : Result (Unit {0}) CreateFault) (manager : ℕ) (a b : SiteCounts) → CreateAsks r a b → OnlyDiskFails (making_ending manager r ≡ SiteFault) a b
-making_fails (Ok done) manager a b asks = fails_as _ _ a b (create_fails (Ok done) a b asks) (λ is. absurd (cc is)) (λ is. absurd (cc is))
-making_fails (Err creating.Taken) manager a b asks = fails_as _ _ a b (create_fails {T = Unit {0}} (Err creating.Taken) a b asks) (λ is. absurd (cc is)) (λ is. absurd (cc is))
-making_fails (Err creating.Disk) manager a b asks = fails_as _ _ a b (create_fails {T = Unit {0}} (Err creating.Disk) a b asks) (λ is. refl) (λ is. refl)
+pub making_fails : CreatesCount → (r : Result (Unit {0}) CreateFault) (manager : ℕ) (a b : SiteCounts) → CreateAsks r a b → OnlyDiskFails (making_ending manager r ≡ Err SiteFault) a b
+making_fails counted (Ok done) manager a b asks = fails_never _ _ a b (counted (Ok done) a b asks) (λ wrong. cc wrong) (λ wrong. cc wrong)
+making_fails counted (Err creating.Taken) manager a b asks = fails_never _ _ a b (counted (Err creating.Taken) a b asks) (λ wrong. cc wrong) (λ wrong. cc wrong)
+making_fails counted (Err creating.Disk) manager a b asks = fails_as _ _ a b (counted (Err creating.Disk) a b asks) (λ is. refl) (λ is. refl)
 
 -- a journal that wasn't opened
 pub unopened_fails : {T : Type 0} (why : OpenFault) (ending : Ending) (a b : SiteCounts) → FailsWhere (◌≡◌ {A = Result T OpenFault} (Err why) (Err opening.Disk)) (asked sync a) b
-    → ending ≡ unopened_ending why → OnlyDiskFails (ending ≡ SiteFault) a b
-unopened_fails opening.Unmade ending a b f is = asked_fails (sync ∷ []) _ a b (f.stays (λ wrong. cc wrong)) (λ site. absurd (cc (sym is ∙ site)))
-unopened_fails (opening.Foreign place) ending a b f is = asked_fails (sync ∷ []) _ a b (f.stays (λ wrong. cc wrong)) (λ site. absurd (cc (sym is ∙ site)))
-unopened_fails (opening.BadRecord n) ending a b f is = asked_fails (sync ∷ []) _ a b (f.stays (λ wrong. cc wrong)) (λ site. absurd (cc (sym is ∙ site)))
-unopened_fails opening.Memory ending a b f is = asked_fails (sync ∷ []) _ a b (f.stays (λ wrong. cc wrong)) (λ site. absurd (cc (sym is ∙ site)))
-unopened_fails opening.Disk ending a b f is = stops_fails (sync ∷ []) _ a b (sync_stops [] a b (f.rose refl)) is
+    → ending ≡ Err (unopened_failure why) → OnlyDiskFails (ending ≡ Err SiteFault) a b
+unopened_fails opening.Unmade ending a b f is = synced _ a b (f.stays (λ wrong. cc wrong)) (λ site. absurd (cc (sym is ∙ site)))
+unopened_fails (opening.Foreign place) ending a b f is = synced _ a b (f.stays (λ wrong. cc wrong)) (λ site. absurd (cc (sym is ∙ site)))
+unopened_fails (opening.BadRecord n) ending a b f is = synced _ a b (f.stays (λ wrong. cc wrong)) (λ site. absurd (cc (sym is ∙ site)))
+unopened_fails opening.Memory ending a b f is = synced _ a b (f.stays (λ wrong. cc wrong)) (λ site. absurd (cc (sym is ∙ site)))
+unopened_fails opening.Disk ending a b f is =
+    subst (OnlyDiskFails (ending ≡ Err SiteFault) a) (sym (f.rose refl)) (record { rose = λ _. refl; stays = λ never. absurd (never is); vim = refl; look = refl; refusals = refl })
 
--- status 3 is that of a site fault alone
-pub site_status : (put : Bool) (ending : Ending) → told_status put (status_of ending) ≡ 3 → ending ≡ SiteFault
-site_status put SiteFault is = refl
-site_status true (Done rounds) is = absurd (omega (arith, is))
-site_status true (Made manager) is = absurd (omega (arith, is))
-site_status true (Onboarded line) is = absurd (omega (arith, is))
-site_status true Usage is = absurd (omega (arith, is))
-site_status true DoorFault is = absurd (omega (arith, is))
-site_status true NoJournal is = absurd (omega (arith, is))
-site_status true (NotAJournal place) is = absurd (omega (arith, is))
-site_status true NoMemory is = absurd (omega (arith, is))
-site_status true (BadRecord n) is = absurd (omega (arith, is))
-site_status true (JournalFull end more) is = absurd (omega (arith, is))
-site_status true (DescriptorRefused line) is = absurd (omega (arith, is))
-site_status true Taken is = absurd (omega (arith, is))
-site_status false (Done rounds) is = absurd (omega (arith, is))
-site_status false (Made manager) is = absurd (omega (arith, is))
-site_status false (Onboarded line) is = absurd (omega (arith, is))
-site_status false Usage is = absurd (omega (arith, is))
-site_status false DoorFault is = absurd (omega (arith, is))
-site_status false NoJournal is = absurd (omega (arith, is))
-site_status false (NotAJournal place) is = absurd (omega (arith, is))
-site_status false NoMemory is = absurd (omega (arith, is))
-site_status false (BadRecord n) is = absurd (omega (arith, is))
-site_status false (JournalFull end more) is = absurd (omega (arith, is))
-site_status false (DescriptorRefused line) is = absurd (omega (arith, is))
-site_status false Taken is = absurd (omega (arith, is))
+-- a descriptor that wasn't onboarded
+pub unonboarded_fails : {T : Type 0} (why : OnboardFault) (ending : Ending) (a b : SiteCounts) → OnlyDiskFails (◌≡◌ {A = Result T OnboardFault} (Err why) (Err fault.Disk)) a b
+    → ending ≡ Err (unonboarded why) → OnlyDiskFails (ending ≡ Err SiteFault) a b
+unonboarded_fails fault.Door ending a b f is = fails_never _ _ a b f (λ wrong. cc wrong) (λ site. absurd (cc (sym is ∙ site)))
+unonboarded_fails (fault.Refused why) ending a b f is = fails_never _ _ a b f (λ wrong. cc wrong) (λ site. absurd (cc (sym is ∙ site)))
+unonboarded_fails (fault.Full end more) ending a b f is = fails_never _ _ a b f (λ wrong. cc wrong) (λ site. absurd (cc (sym is ∙ site)))
+unonboarded_fails fault.Memory ending a b f is = fails_never _ _ a b f (λ wrong. cc wrong) (λ site. absurd (cc (sym is ∙ site)))
+unonboarded_fails fault.Disk ending a b f is = fails_as _ _ a b f (λ _. is) (λ _. refl)
 
--- and a site fault has it
-pub status_site : (put : Bool) (ending : Ending) → ending ≡ SiteFault → told_status put (status_of ending) ≡ 3
-status_site put ending is =
-    subst (λ (v : Ending). told_status put (status_of v) ≡ 3) (sym is) (by_put put)
-  where
-    by_put : (put : Bool) → told_status put 3 ≡ 3
-    by_put true = refl
-    by_put false = refl
+-- and that for the door's sake
+pub unonboarded_door : (why : OnboardFault) (ending : Ending) → ending ≡ Err (unonboarded why) → ending ≡ Err DoorFault → why ≡ fault.Door
+unonboarded_door fault.Door ending is door = refl
+unonboarded_door (fault.Refused why) ending is door = absurd (cc (sym is ∙ door))
+unonboarded_door (fault.Full end more) ending is door = absurd (cc (sym is ∙ door))
+unonboarded_door fault.Memory ending is door = absurd (cc (sym is ∙ door))
+unonboarded_door fault.Disk ending is door = absurd (cc (sym is ∙ door))
 
 -- where the count of disk faults rose, the status is 3
 pub rises_where : (status : ℕ) (a b : SiteCounts) → OnlyDiskFails (status ≡ 3) a b → a.disk < b.disk → status ≡ 3
@@ -88,23 +98,3 @@ one_put false before now is = ap (λ (v : CallCounts). v.calls) is
 -- one disk fault is a count that rose
 pub one_fault : (before now : ℕ) → now ≡ one_more before → Rose before now
 one_fault before now is = omega (arith, is)
-
--- status 7 is that of a line that was lost
-pub seven_lost : (put : Bool) (ending : Ending) → told_status put (status_of ending) ≡ 7 → put ≡ false
-seven_lost false ending is = refl
-seven_lost true ending is = absurd (never ending is)
-  where
-    never : (ending : Ending) → status_of ending ≡ 7 → ⊥
-    never SiteFault is = omega (arith, is)
-    never (Done rounds) is = omega (arith, is)
-    never (Made manager) is = omega (arith, is)
-    never (Onboarded line) is = omega (arith, is)
-    never Usage is = omega (arith, is)
-    never DoorFault is = omega (arith, is)
-    never NoJournal is = omega (arith, is)
-    never (NotAJournal place) is = omega (arith, is)
-    never NoMemory is = omega (arith, is)
-    never (BadRecord n) is = omega (arith, is)
-    never (JournalFull end more) is = omega (arith, is)
-    never (DescriptorRefused line) is = omega (arith, is)
-    never Taken is = omega (arith, is)

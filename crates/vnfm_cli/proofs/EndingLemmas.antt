@@ -1,11 +1,11 @@
 -- Which ending a status is.
-use Rattle.std.proofs.Common.{◌≡◌, ◌≢◌, ℕ, Bool, true, false, refl, sym, subst, ap, ◌∙◌, arith, inl, inr, ⊎_elim, ◌⊎◌}
+use Rattle.std.proofs.Common.{◌≡◌, ◌≢◌, ◌≤◌, ℕ, Bool, true, false, refl, sym, subst, ap, ◌∙◌, arith, inl, inr, ⊎_elim, ◌⊎◌, Ok, Err}
 use Rattle.std.specs.Prelude.{◌==◌, if◌then◌else◌}
 use Rattle.std.proofs.lemmas.Bool.{ne_eqb}
-use Rattle.vnfm_cli.specs.Ending.{status_of, told_status, IsStatus}
+use Rattle.vnfm_cli.specs.Ending.{Ending, failure_status, status_of, told_status, IsStatus}
 use Rattle.vnfm_cli.specs.Runs.{IsOrYields}
-use Rattle.vnfm_cli.specs.declared.ending.Ending.{Ending}
-use Rattle.vnfm_cli.specs.declared.ending.Ending.TheVariants.{Done, Made, Onboarded, Usage, SiteFault, DoorFault, NoJournal, NotAJournal, NoMemory, BadRecord, JournalFull, DescriptorRefused, Taken}
+use Rattle.vnfm_cli.specs.declared.ending.Failure.{Failure}
+use Rattle.vnfm_cli.specs.declared.ending.Failure.TheVariants.{Usage, SiteFault, DoorFault, NoJournal, NotAJournal, NoMemory, BadRecord, JournalFull, DescriptorRefused, Taken}
 
 -- a status but 7 is the ending's
 pub status_told : (put : Bool) (s n : ℕ) → told_status put s ≡ n → n ≢ 7 → s ≡ n
@@ -22,92 +22,75 @@ pub told_same : (put : Bool) (s n : ℕ) → s ≡ n → n ≢ 0 → told_status
 told_same true s n is other = is
 told_same false s n is other = rw (ne_eqb s 0 (λ none. other (sym is ∙ none))) is
 
--- each ending's status is one of those that there are
-status_is : (e : Ending) → IsStatus (status_of e)
-status_is (Done rounds) = inl refl
-status_is (Made manager) = inl refl
-status_is (Onboarded line) = inl refl
-status_is Usage = inr (omega arith, omega arith)
-status_is SiteFault = inr (omega arith, omega arith)
-status_is DoorFault = inr (omega arith, omega arith)
-status_is NoJournal = inr (omega arith, omega arith)
-status_is (NotAJournal place) = inr (omega arith, omega arith)
-status_is NoMemory = inr (omega arith, omega arith)
-status_is (BadRecord n) = inr (omega arith, omega arith)
-status_is (JournalFull end more) = inr (omega arith, omega arith)
-status_is (DescriptorRefused line) = inr (omega arith, omega arith)
-status_is Taken = inr (omega arith, omega arith)
+-- the statuses of failures
+record IsFailureStatus (s : ℕ) : Type 0 where
+  least : 2 ≤ s
+  most : s ≤ 11
+  other : s ≢ 7
 
--- and so is the program's
+failure_is : (why : Failure) → IsFailureStatus (failure_status why)
+failure_is Usage = record { least = omega arith; most = omega arith; other = λ is. omega (arith, is) }
+failure_is SiteFault = record { least = omega arith; most = omega arith; other = λ is. omega (arith, is) }
+failure_is DoorFault = record { least = omega arith; most = omega arith; other = λ is. omega (arith, is) }
+failure_is NoJournal = record { least = omega arith; most = omega arith; other = λ is. omega (arith, is) }
+failure_is (NotAJournal place) = record { least = omega arith; most = omega arith; other = λ is. omega (arith, is) }
+failure_is NoMemory = record { least = omega arith; most = omega arith; other = λ is. omega (arith, is) }
+failure_is (BadRecord n) = record { least = omega arith; most = omega arith; other = λ is. omega (arith, is) }
+failure_is (JournalFull end more) = record { least = omega arith; most = omega arith; other = λ is. omega (arith, is) }
+failure_is (DescriptorRefused why) = record { least = omega arith; most = omega arith; other = λ is. omega (arith, is) }
+failure_is Taken = record { least = omega arith; most = omega arith; other = λ is. omega (arith, is) }
+
+-- the program's status is one of those that there are
 pub is_status : (put : Bool) (e : Ending) → IsStatus (told_status put (status_of e))
-is_status true e = status_is e
-is_status false e =
-    elim (status_of e == 0) as (λ b. IsStatus (if b then 7 else status_of e)) [
-      | true ↦ inr (omega arith, omega arith)
-      | false ↦ status_is e
-    ]
+is_status true (Ok report) = inl refl
+is_status false (Ok report) = inr (omega arith, omega arith)
+is_status put (Err why) = let is = failure_is why in
+    let least = is.least in
+    subst IsStatus (sym (told_same put (failure_status why) (failure_status why) refl (λ none. omega (arith, none, least)))) (inr (is.least, is.most))
 
--- the line of a run that ends with 7 wasn't put
-pub unheard_status : (put : Bool) (e : Ending) → told_status put (status_of e) ≡ 7 → put ≡ false
-unheard_status false e is = refl
-unheard_status true (Done rounds) is = absurd (omega (arith, is))
-unheard_status true (Made manager) is = absurd (omega (arith, is))
-unheard_status true (Onboarded line) is = absurd (omega (arith, is))
-unheard_status true Usage is = absurd (omega (arith, is))
-unheard_status true SiteFault is = absurd (omega (arith, is))
-unheard_status true DoorFault is = absurd (omega (arith, is))
-unheard_status true NoJournal is = absurd (omega (arith, is))
-unheard_status true (NotAJournal place) is = absurd (omega (arith, is))
-unheard_status true NoMemory is = absurd (omega (arith, is))
-unheard_status true (BadRecord n) is = absurd (omega (arith, is))
-unheard_status true (JournalFull end more) is = absurd (omega (arith, is))
-unheard_status true (DescriptorRefused line) is = absurd (omega (arith, is))
-unheard_status true Taken is = absurd (omega (arith, is))
+-- status 7 is that of a report whose line was lost
+pub seven_lost : (put : Bool) (e : Ending) → told_status put (status_of e) ≡ 7 → (put ≡ false) × (status_of e ≡ 0)
+seven_lost true (Ok report) is = absurd (omega (arith, is))
+seven_lost false (Ok report) is = (refl, refl)
+seven_lost put (Err why) is =
+    let kept = failure_is why in
+    let least = kept.least in
+    absurd (kept.other (sym (told_same put (failure_status why) (failure_status why) refl (λ none. omega (arith, none, least))) ∙ is))
 
-pub usage_status : (e : Ending) → status_of e ≡ 2 → e ≡ Usage
-usage_status (Done rounds) is = absurd (omega (arith, is))
-usage_status (Made manager) is = absurd (omega (arith, is))
-usage_status (Onboarded line) is = absurd (omega (arith, is))
-usage_status Usage is = refl
-usage_status SiteFault is = absurd (omega (arith, is))
-usage_status DoorFault is = absurd (omega (arith, is))
-usage_status NoJournal is = absurd (omega (arith, is))
-usage_status (NotAJournal place) is = absurd (omega (arith, is))
-usage_status NoMemory is = absurd (omega (arith, is))
-usage_status (BadRecord n) is = absurd (omega (arith, is))
-usage_status (JournalFull end more) is = absurd (omega (arith, is))
-usage_status (DescriptorRefused line) is = absurd (omega (arith, is))
-usage_status Taken is = absurd (omega (arith, is))
+-- the words are no command, the disk failed, or the door did: each has a status of its own
+record IsToldBy (e : Ending) : Type 0 where
+  usage : status_of e ≡ 2 → e ≡ Err Usage
+  site : status_of e ≡ 3 → e ≡ Err SiteFault
+  door : status_of e ≡ 4 → e ≡ Err DoorFault
 
-pub site_status : (e : Ending) → status_of e ≡ 3 → e ≡ SiteFault
-site_status (Done rounds) is = absurd (omega (arith, is))
-site_status (Made manager) is = absurd (omega (arith, is))
-site_status (Onboarded line) is = absurd (omega (arith, is))
-site_status Usage is = absurd (omega (arith, is))
-site_status SiteFault is = refl
-site_status DoorFault is = absurd (omega (arith, is))
-site_status NoJournal is = absurd (omega (arith, is))
-site_status (NotAJournal place) is = absurd (omega (arith, is))
-site_status NoMemory is = absurd (omega (arith, is))
-site_status (BadRecord n) is = absurd (omega (arith, is))
-site_status (JournalFull end more) is = absurd (omega (arith, is))
-site_status (DescriptorRefused line) is = absurd (omega (arith, is))
-site_status Taken is = absurd (omega (arith, is))
+others : (e : Ending) → (status_of e ≡ 0) ⊎ (5 ≤ status_of e) → IsToldBy e
+others e other = record {
+  usage = λ is. absurd (omega (arith, is, other));
+  site = λ is. absurd (omega (arith, is, other));
+  door = λ is. absurd (omega (arith, is, other));
+}
 
-pub door_status : (e : Ending) → status_of e ≡ 4 → e ≡ DoorFault
-door_status (Done rounds) is = absurd (omega (arith, is))
-door_status (Made manager) is = absurd (omega (arith, is))
-door_status (Onboarded line) is = absurd (omega (arith, is))
-door_status Usage is = absurd (omega (arith, is))
-door_status SiteFault is = absurd (omega (arith, is))
-door_status DoorFault is = refl
-door_status NoJournal is = absurd (omega (arith, is))
-door_status (NotAJournal place) is = absurd (omega (arith, is))
-door_status NoMemory is = absurd (omega (arith, is))
-door_status (BadRecord n) is = absurd (omega (arith, is))
-door_status (JournalFull end more) is = absurd (omega (arith, is))
-door_status (DescriptorRefused line) is = absurd (omega (arith, is))
-door_status Taken is = absurd (omega (arith, is))
+told_by : (e : Ending) → IsToldBy e
+told_by (Ok report) = others (Ok report) (inl refl)
+told_by (Err Usage) = record { usage = λ is. refl; site = λ is. absurd (omega (arith, is)); door = λ is. absurd (omega (arith, is)) }
+told_by (Err SiteFault) = record { usage = λ is. absurd (omega (arith, is)); site = λ is. refl; door = λ is. absurd (omega (arith, is)) }
+told_by (Err DoorFault) = record { usage = λ is. absurd (omega (arith, is)); site = λ is. absurd (omega (arith, is)); door = λ is. refl }
+told_by (Err NoJournal) = others (Err NoJournal) (inr (omega arith))
+told_by (Err (NotAJournal place)) = others (Err (NotAJournal place)) (inr (omega arith))
+told_by (Err NoMemory) = others (Err NoMemory) (inr (omega arith))
+told_by (Err (BadRecord n)) = others (Err (BadRecord n)) (inr (omega arith))
+told_by (Err (JournalFull end more)) = others (Err (JournalFull end more)) (inr (omega arith))
+told_by (Err (DescriptorRefused why)) = others (Err (DescriptorRefused why)) (inr (omega arith))
+told_by (Err Taken) = others (Err Taken) (inr (omega arith))
+
+pub usage_status : (e : Ending) → status_of e ≡ 2 → e ≡ Err Usage
+usage_status e = (told_by e).usage
+
+pub site_status : (e : Ending) → status_of e ≡ 3 → e ≡ Err SiteFault
+site_status e = (told_by e).site
+
+pub door_status : (e : Ending) → status_of e ≡ 4 → e ≡ Err DoorFault
+door_status e = (told_by e).door
 
 -- an ending that is told yields as it does
 pub told_or_yields : (put : Bool) (s n : ℕ) → n ≢ 0 → IsOrYields n s → IsOrYields n (told_status put s)
@@ -137,37 +120,9 @@ pub put_result : (put : Bool) (e f : Ending) (result : ℕ) → result ≡ told_
 put_result false e f result is same put = absurd (put refl)
 put_result true e f result is same put = is ∙ ap status_of same
 
--- a run that ends with 7 would have ended with 0
-unheard_done : (put : Bool) (e : Ending) → told_status put (status_of e) ≡ 7 → status_of e ≡ 0
-unheard_done put (Done rounds) is = refl
-unheard_done put (Made manager) is = refl
-unheard_done put (Onboarded line) is = refl
-unheard_done true Usage is = absurd (omega (arith, is))
-unheard_done false Usage is = absurd (omega (arith, is))
-unheard_done true SiteFault is = absurd (omega (arith, is))
-unheard_done false SiteFault is = absurd (omega (arith, is))
-unheard_done true DoorFault is = absurd (omega (arith, is))
-unheard_done false DoorFault is = absurd (omega (arith, is))
-unheard_done true NoJournal is = absurd (omega (arith, is))
-unheard_done false NoJournal is = absurd (omega (arith, is))
-unheard_done true (NotAJournal place) is = absurd (omega (arith, is))
-unheard_done false (NotAJournal place) is = absurd (omega (arith, is))
-unheard_done true NoMemory is = absurd (omega (arith, is))
-unheard_done false NoMemory is = absurd (omega (arith, is))
-unheard_done true (BadRecord n) is = absurd (omega (arith, is))
-unheard_done false (BadRecord n) is = absurd (omega (arith, is))
-unheard_done true (JournalFull end more) is = absurd (omega (arith, is))
-unheard_done false (JournalFull end more) is = absurd (omega (arith, is))
-unheard_done true (DescriptorRefused line) is = absurd (omega (arith, is))
-unheard_done false (DescriptorRefused line) is = absurd (omega (arith, is))
-unheard_done true Taken is = absurd (omega (arith, is))
-unheard_done false Taken is = absurd (omega (arith, is))
-
 -- a status of 0 or 7 is that of an ending with 0
-pub done_status : (put : Bool) (e f : Ending) (result : ℕ) → result ≡ told_status put (status_of e) → e ≡ f → (result ≡ 0) ⊎ (result ≡ 7) → status_of f ≡ 0
-done_status put e f result is same at =
-    let Q : Ending → Type 0 = λ x. status_of x ≡ 0 in
-    subst Q same (⊎_elim
+pub done_status : (put : Bool) (e : Ending) (result : ℕ) → result ≡ told_status put (status_of e) → (result ≡ 0) ⊎ (result ≡ 7) → status_of e ≡ 0
+done_status put e result is at = ⊎_elim
     (λ (none : result ≡ 0). status_told put (status_of e) 0 (sym is ∙ none) (omega arith))
-    (λ (seven : result ≡ 7). unheard_done put e (sym is ∙ seven))
-    at)
+    (λ (seven : result ≡ 7). (seven_lost put e (sym is ∙ seven)).1)
+    at

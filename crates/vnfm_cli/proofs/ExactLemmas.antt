@@ -1,45 +1,31 @@
 -- Which endings the bytes of the file allow.
-use Rattle.std.proofs.Common.{◌≡◌, ◌≢◌, ◌⊎◌, ℕ, List, Some, None, Result, Ok, Err, ap, subst, refl, inl, inr, ⊎_elim, sym, ◌∙◌, arith}
+use Rattle.std.proofs.Common.{◌≡◌, ◌≢◌, ◌≤◌, ◌⊎◌, ℕ, List, Some, None, Result, Ok, Err, ap, subst, refl, inl, inr, ⊎_elim, sym, ◌∙◌, arith}
 use Rattle.std.proofs.lemmas.Bool.{false≢true}
+use Rattle.executor.specs.Laws.{HasNoBadRecord}
 use Rattle.executor.specs.Open.{IsBadRecord}
-use Rattle.executor.proofs.LawLemmas.{no_bad_record}
 use Rattle.executor.specs.declared.manager.OpenFault.{OpenFault}
 use Rattle.executor.specs.declared.manager.OpenFault.TheVariants as opening
 use Rattle.journal_core.specs.File.{HasRecords}
 use Rattle.journal_core.specs.Header.{IsForeign, IsUnmade}
-use Rattle.journal_core.proofs.Excluding.{headed_or_not, whole_or_foreign, whole_or_unmade}
-use Rattle.lcm_api.specs.declared.answer.ApiFault.TheVariants as fault
+use Rattle.journal_core.specs.Exclusion.{IsHeadedOrNot, IsWholeOrForeign, IsWholeOrUnmade}
+use Rattle.onboarding.specs.Onboarding.{Onboarding, answer_of, unready, unheard, cut_off, heard, done, starving, breaking, verdict_answer}
+use Rattle.onboarding.specs.Verdict.{Verdict, refused, full, accepted, verdict}
 use Rattle.lcm_events.specs.declared.events.Event.{Event}
 use Rattle.site_traits.specs.Counts.{Rose}
 use Rattle.site_traits.specs.Door.{DoorCounts}
 use Rattle.site_traits.specs.Site.{SiteState}
-use Rattle.vnfm_cli.specs.Course.{Course, misused, starved, making, unopened, opened, Close, finished, unreached, stopped, serving, onboarding, Onboarding, unready, unheard, cut_off, heard, close_ending, ending_of, onboarding_ending, verdict_ending, unopened_ending, IsOf, IsOfSettings, IsOfWords}
-use Rattle.vnfm_cli.specs.Ending.{status_of}
+use Rattle.vnfm_cli.specs.Course.{Course, misused, starved, making, unopened, opened, Close, finished, unreached, stopped, serving, onboarding, close_ending, ending_of, onboarding_ending, unopened_failure, IsOf, IsOfSettings, IsOfWords}
+use Rattle.vnfm_cli.specs.Ending.{failure_status, status_of}
 use Rattle.vnfm_cli.specs.Runs.{AtFile, IsDoorCause, IsLegalCourse, IsNoJournal, IsOrYields, IsSoundStart, IsStartOf, MayEndWith}
 use Rattle.journal_core.specs.Create.{IsMade}
 use Rattle.journal_core.specs.Header.{IsUnfinished}
 use Rattle.journal_core.specs.declared.create.CreateFault.{CreateFault}
 use Rattle.journal_core.specs.declared.create.CreateFault.TheVariants as creating
-use Rattle.vnfm_cli.specs.Onboarding.{Verdict, refused, full, accepted, verdict}
 use Rattle.vnfm_cli.specs.Words.{AreInit, AreLoading, AreWordsOf, loads, settings_of}
 use Rattle.vnfm_cli.specs.declared.options.Command.{Command}
 use Rattle.vnfm_cli.specs.declared.options.Command.TheVariants.{Init, Onboard, Once}
 use Rattle.vnfm_cli.specs.declared.options.Settings.{Settings}
-use Rattle.vnfm_cli.specs.declared.ending.Ending.TheVariants.{SiteFault, DoorFault}
-
--- a whole file is a journal
-whole_journal : (m : ℕ) (rs : List (List ℕ)) (image : List ℕ) → HasRecords m rs image → IsNoJournal image → ⊥
-whole_journal m rs image has none = ⊎_elim
-    (λ (unmade : IsUnmade image). whole_or_unmade m rs image has unmade)
-    (λ (foreign : (place : ℕ) × IsForeign place image). whole_or_foreign m foreign.0 rs image has foreign.1)
-    none
-
--- a file with a bad record is a journal
-bad_journal : (n : ℕ) (image : List ℕ) → IsBadRecord n image → IsNoJournal image → ⊥
-bad_journal n image bad none = ⊎_elim
-    (λ (unmade : IsUnmade image). (headed_or_not bad.0 image bad.1).0 unmade)
-    (λ (foreign : (place : ℕ) × IsForeign place image). (headed_or_not bad.0 image bad.1).1 foreign.0 foreign.1)
-    none
+use Rattle.vnfm_cli.specs.declared.ending.Failure.TheVariants.{SiteFault, DoorFault}
 
 -- words set one thing
 set_once : (words : List (List ℕ)) (s t : Settings) → settings_of words ≡ Some s → settings_of words ≡ Some t → s ≡ t
@@ -63,33 +49,6 @@ not_making P words number result are of =
     let init = (of_settings words (making number result) are.settings are.set of).0 in
     absurd (false≢true (ap loads (sym init) ∙ are.loading))
 
--- a file that is no journal is told so
-pub no_journal_ending : (course : Course) (words : List (List ℕ)) (a b : SiteState) → AreLoading words → IsOfWords words course → AtFile course a b → IsNoJournal a.image
-    → IsOrYields 5 (status_of (ending_of course))
-no_journal_ending misused words a b are of at none = commanded _ words are.settings are.set of
-no_journal_ending starved words a b are of at none = inr (inr refl)
-no_journal_ending (making number result) words a b are of at none = not_making _ words number result are of
-no_journal_ending (unopened opening.Unmade) words a b are of at none = inl refl
-no_journal_ending (unopened (opening.Foreign place)) words a b are of at none = inl refl
-no_journal_ending (unopened (opening.BadRecord n)) words a b are of at none = absurd (bad_journal n a.image at.because none)
-no_journal_ending (unopened opening.Disk) words a b are of at none = inr (inl refl)
-no_journal_ending (unopened opening.Memory) words a b are of at none = inr (inr refl)
-no_journal_ending (opened start deed) words a b are of at none = absurd (whole_journal start.number _ a.image at.found.file none)
-
--- a bad record is told so
-pub bad_record_ending : (course : Course) (words : List (List ℕ)) (a b : SiteState) (n : ℕ) → AreLoading words → IsOfWords words course → IsLegalCourse course → AtFile course a b
-    → IsBadRecord n a.image → IsOrYields 8 (status_of (ending_of course))
-bad_record_ending misused words a b n are of legal at bad = commanded _ words are.settings are.set of
-bad_record_ending starved words a b n are of legal at bad = inr (inr refl)
-bad_record_ending (making number result) words a b n are of legal at bad = not_making _ words number result are of
-bad_record_ending (unopened opening.Unmade) words a b n are of legal at bad = absurd (bad_journal n a.image bad (inl at.because))
-bad_record_ending (unopened (opening.Foreign place)) words a b n are of legal at bad = absurd (bad_journal n a.image bad (inr (place, at.because)))
-bad_record_ending (unopened (opening.BadRecord k)) words a b n are of legal at bad = inl refl
-bad_record_ending (unopened opening.Disk) words a b n are of legal at bad = inr (inl refl)
-bad_record_ending (unopened opening.Memory) words a b n are of legal at bad = inr (inr refl)
-bad_record_ending (opened start deed) words a b n are of legal at bad =
-    absurd (no_bad_record start.number n start.history a.image legal.number at.found legal.before bad)
-
 -- rounds end with 0, 3 or 4
 close_status : (rounds : ℕ) (close : Close) (n : ℕ) → n ≢ 0 → n ≢ 3 → n ≢ 4 → status_of (close_ending rounds close) ≡ n → ⊥
 close_status rounds finished n zero three four is = zero (sym is)
@@ -97,25 +56,33 @@ close_status rounds unreached n zero three four is = four (sym is)
 close_status rounds (stopped came talk) n zero three four is = three (sym is)
 
 -- a descriptor that was judged ends with 0, 9 or 10
-verdict_status : (v : Verdict) → (status_of (verdict_ending v) ≡ 0) ⊎ ((status_of (verdict_ending v) ≡ 9) ⊎ (status_of (verdict_ending v) ≡ 10))
-verdict_status (refused why) = inr (inr refl)
-verdict_status (full end more) = inr (inl refl)
+verdict_status : (v : Verdict) → MayEndWith Onboard (status_of (onboarding_ending (verdict_answer v)))
+verdict_status (refused why) = inr (inr (inr refl))
+verdict_status (full end more) = inr (inr (inl refl))
 verdict_status (accepted vnfd) = inl refl
 
 -- onboarding ends with neither 5, 8 nor 11
-onboarding_status : (H : List Event) (o : Onboarding) (n : ℕ) → (n ≡ 5) ⊎ ((n ≡ 8) ⊎ (n ≡ 11)) → status_of (onboarding_ending H o) ≡ n → ⊥
+onboarding_status : (H : List Event) (o : Onboarding) (n : ℕ) → (n ≡ 5) ⊎ ((n ≡ 8) ⊎ (n ≡ 11)) → status_of (onboarding_ending (answer_of H o)) ≡ n → ⊥
 onboarding_status H unready n other is = omega (arith, other, is)
 onboarding_status H unheard n other is = omega (arith, other, is)
 onboarding_status H (cut_off bytes) n other is = omega (arith, other, is)
-onboarding_status H (heard bytes now (Ok done)) n other is = let v = verdict_status (verdict H now bytes) in omega (arith, other, is, v)
-onboarding_status H (heard bytes now (Err fault.Disk)) n other is = omega (arith, other, is)
-onboarding_status H (heard bytes now (Err fault.Memory)) n other is = omega (arith, other, is)
+onboarding_status H (heard bytes now done) n other is = let v = verdict_status (verdict H now bytes) in omega (arith, other, is, v)
+onboarding_status H (heard bytes now breaking) n other is = omega (arith, other, is)
+onboarding_status H (heard bytes now starving) n other is = omega (arith, other, is)
 
 -- making a journal ends with 0, 3 or 11
 making_status : (number : ℕ) (result : Result (Unit {0}) CreateFault) (n : ℕ) → n ≢ 0 → n ≢ 3 → n ≢ 11 → status_of (ending_of (making number result)) ≡ n → ⊥
-making_status number (Ok done) n zero three eleven is = zero (sym is)
+making_status number (Ok u) n zero three eleven is = zero (sym is)
 making_status number (Err creating.Taken) n zero three eleven is = eleven (sym is)
 making_status number (Err creating.Disk) n zero three eleven is = three (sym is)
+
+-- a journal that wasn't opened ends with 3, 5, 6 or 8
+opening_status : (why : OpenFault) (n : ℕ) → 9 ≤ n → failure_status (unopened_failure why) ≡ n → ⊥
+opening_status opening.Unmade n most is = omega (arith, most, is)
+opening_status (opening.Foreign place) n most is = omega (arith, most, is)
+opening_status (opening.BadRecord k) n most is = omega (arith, most, is)
+opening_status opening.Disk n most is = omega (arith, most, is)
+opening_status opening.Memory n most is = omega (arith, most, is)
 
 -- status 5 is told of a file that is no journal
 pub told_no_journal : (course : Course) (a b : SiteState) → AtFile course a b → status_of (ending_of course) ≡ 5 → IsNoJournal a.image
@@ -148,11 +115,7 @@ onboarding_alone : (n : ℕ) → (n ≡ 9) ⊎ (n ≡ 10) → (course : Course) 
 onboarding_alone n nine misused words of is = absurd (omega (arith, nine, is))
 onboarding_alone n nine starved words of is = absurd (omega (arith, nine, is))
 onboarding_alone n nine (making number result) words of is = absurd (making_status number result n (omega (arith, nine)) (omega (arith, nine)) (omega (arith, nine)) is)
-onboarding_alone n nine (unopened opening.Unmade) words of is = absurd (omega (arith, nine, is))
-onboarding_alone n nine (unopened (opening.Foreign place)) words of is = absurd (omega (arith, nine, is))
-onboarding_alone n nine (unopened (opening.BadRecord k)) words of is = absurd (omega (arith, nine, is))
-onboarding_alone n nine (unopened opening.Disk) words of is = absurd (omega (arith, nine, is))
-onboarding_alone n nine (unopened opening.Memory) words of is = absurd (omega (arith, nine, is))
+onboarding_alone n nine (unopened why) words of is = absurd (opening_status why n (omega (arith, nine)) is)
 onboarding_alone n nine (opened start (serving service)) words of is = absurd (close_status _ service.close n (omega (arith, nine)) (omega (arith, nine)) (omega (arith, nine)) is)
 onboarding_alone n nine (opened start (onboarding o)) words of is = record { settings = of.settings; set = of.set; is = of.is }
 
@@ -173,14 +136,10 @@ pub told_taken : (course : Course) (words : List (List ℕ)) (a b : SiteState) �
     → (m : ℕ) × AreInit m words × (IsUnfinished m a.image → ⊥)
 told_taken misused words a b of at is = absurd (omega (arith, is))
 told_taken starved words a b of at is = absurd (omega (arith, is))
-told_taken (making number (Ok done)) words a b of at is = absurd (omega (arith, is))
+told_taken (making number (Ok u)) words a b of at is = absurd (omega (arith, is))
 told_taken (making number (Err creating.Taken)) words a b of at is = (number, init_words words number (Err creating.Taken) of, at.taken refl)
 told_taken (making number (Err creating.Disk)) words a b of at is = absurd (omega (arith, is))
-told_taken (unopened opening.Unmade) words a b of at is = absurd (omega (arith, is))
-told_taken (unopened (opening.Foreign place)) words a b of at is = absurd (omega (arith, is))
-told_taken (unopened (opening.BadRecord k)) words a b of at is = absurd (omega (arith, is))
-told_taken (unopened opening.Disk) words a b of at is = absurd (omega (arith, is))
-told_taken (unopened opening.Memory) words a b of at is = absurd (omega (arith, is))
+told_taken (unopened why) words a b of at is = absurd (opening_status why 11 (omega arith) is)
 told_taken (opened start (serving service)) words a b of at is = absurd (close_status _ service.close 11 (omega arith) (omega arith) (omega arith) is)
 told_taken (opened start (onboarding o)) words a b of at is = absurd (onboarding_status start.history o 11 (inr (inr refl)) is)
 
@@ -205,8 +164,8 @@ pub taken_ending : (course : Course) (words : List (List ℕ)) (a b : SiteState)
     → (IsUnfinished m a.image → ⊥) → IsOrYields 11 (status_of (ending_of course))
 taken_ending misused words a b m are of at not = commanded _ words are.settings are.set of
 taken_ending starved words a b m are of at not = inr (inr refl)
-taken_ending (making number (Ok done)) words a b m are of at not =
-    let same : number ≡ m = (let it = of_init m words (making number (Ok done)) are of in it.3.1 ∙ it.2) in
+taken_ending (making number (Ok u)) words a b m are of at not =
+    let same : number ≡ m = (let it = of_init m words (making number (Ok u)) are of in it.3.1 ∙ it.2) in
     absurd ((at.kept (λ unfinished. not (subst (λ k. IsUnfinished k a.image) same unfinished))).1 refl)
 taken_ending (making number (Err creating.Taken)) words a b m are of at not = inl refl
 taken_ending (making number (Err creating.Disk)) words a b m are of at not = inr (inl refl)
@@ -219,8 +178,8 @@ pub made_ending : (course : Course) (words : List (List ℕ)) (a b : SiteState) 
     → status_of (ending_of course) ≡ 0 → IsMade m b
 made_ending misused words a b m are of at is = absurd (omega (arith, is))
 made_ending starved words a b m are of at is = absurd (omega (arith, is))
-made_ending (making number (Ok done)) words a b m are of at is =
-    let same : number ≡ m = (let it = of_init m words (making number (Ok done)) are of in it.3.1 ∙ it.2) in
+made_ending (making number (Ok u)) words a b m are of at is =
+    let same : number ≡ m = (let it = of_init m words (making number (Ok u)) are of in it.3.1 ∙ it.2) in
     subst (λ k. IsMade k b) same at.made
 made_ending (making number (Err creating.Taken)) words a b m are of at is = absurd (omega (arith, is))
 made_ending (making number (Err creating.Disk)) words a b m are of at is = absurd (omega (arith, is))
@@ -228,71 +187,23 @@ made_ending (unopened why) words a b m are of at is = let it = of_init m words (
 made_ending (opened start (serving service)) words a b m are of at is = let it = of_init m words (opened start (serving service)) are of in never_served _ it.0 Init Once it.1 it.3.command (λ wrong. cc)
 made_ending (opened start (onboarding o)) words a b m are of at is = let it = of_init m words (opened start (onboarding o)) are of in never_served _ it.0 Init Onboard it.1 it.3 (λ wrong. cc)
 
--- a sound start is opened, unless the disk failed or there was no memory
-sound_unopened : (why : OpenFault) (m : ℕ) (H : List Event) (a b : SiteState) → IsSoundStart m H a → AtFile (unopened why) a b
-    → (unopened_ending why ≡ SiteFault → ⊥) → status_of (unopened_ending why) ≡ 6
-sound_unopened opening.Unmade m H a b sound at disk = absurd (whole_journal m _ a.image sound.start.file.file (inl at.because))
-sound_unopened (opening.Foreign place) m H a b sound at disk = absurd (whole_journal m _ a.image sound.start.file.file (inr (place, at.because)))
-sound_unopened (opening.BadRecord n) m H a b sound at disk =
-    absurd (no_bad_record m n H a.image sound.start.number sound.start.file sound.legal at.because)
-sound_unopened opening.Disk m H a b sound at disk = absurd (disk refl)
-sound_unopened opening.Memory m H a b sound at disk = refl
-
 -- `init` ends with 0, 6 or 11, unless the disk failed
 complete_init : (course : Course) (words : List (List ℕ)) (a b : SiteState) → AreWordsOf Init words → IsOfWords words course
-    → (ending_of course ≡ SiteFault → ⊥) → MayEndWith Init (status_of (ending_of course))
+    → (ending_of course ≡ Err SiteFault → ⊥) → MayEndWith Init (status_of (ending_of course))
 complete_init misused words a b are of disk = commanded _ words are.settings are.set of
 complete_init starved words a b are of disk = inr (inl refl)
-complete_init (making number (Ok done)) words a b are of disk = inl refl
+complete_init (making number (Ok u)) words a b are of disk = inl refl
 complete_init (making number (Err creating.Taken)) words a b are of disk = inr (inr refl)
 complete_init (making number (Err creating.Disk)) words a b are of disk = absurd (disk refl)
 complete_init (unopened why) words a b are of disk = let it = of_command Init words (unopened why) are of in never_unopened _ it.0 why it.1 it.2
 complete_init (opened start (serving service)) words a b are of disk = let it = of_command Init words (opened start (serving service)) are of in never_served _ it.0 Init Once it.1 it.2.command (λ wrong. cc)
 complete_init (opened start (onboarding o)) words a b are of disk = let it = of_command Init words (opened start (onboarding o)) are of in never_served _ it.0 Init Onboard it.1 it.2 (λ wrong. cc)
 
--- what a descriptor that was judged ends with
-judged_status : (v : Verdict) → MayEndWith Onboard (status_of (verdict_ending v))
-judged_status (refused why) = inr (inr (inr refl))
-judged_status (full end more) = inr (inr (inl refl))
-judged_status (accepted vnfd) = inl refl
-
--- `onboard` ends with 0, 6, 9 or 10 from a sound start, unless the disk or the door failed
-complete_onboard : (course : Course) (words : List (List ℕ)) (a b : SiteState) (m : ℕ) (H : List Event) → AreWordsOf Onboard words → IsSoundStart m H a → IsOfWords words course
-    → AtFile course a b → (ending_of course ≡ SiteFault → ⊥) → (ending_of course ≡ DoorFault → ⊥) → MayEndWith Onboard (status_of (ending_of course))
-complete_onboard misused words a b m H are sound of at disk door = commanded _ words are.settings are.set of
-complete_onboard starved words a b m H are sound of at disk door = inr (inl refl)
-complete_onboard (making number result) words a b m H are sound of at disk door = let it = of_command Onboard words (making number result) are of in never_served _ it.0 Onboard Init it.1 it.2.0 (λ wrong. cc)
-complete_onboard (unopened why) words a b m H are sound of at disk door = inr (inl (sound_unopened why m H a b sound at disk))
-complete_onboard (opened start (serving service)) words a b m H are sound of at disk door = let it = of_command Onboard words (opened start (serving service)) are of in never_served _ it.0 Onboard Once it.1 it.2.command (λ wrong. cc)
-complete_onboard (opened start (onboarding unready)) words a b m H are sound of at disk door = inr (inl refl)
-complete_onboard (opened start (onboarding unheard)) words a b m H are sound of at disk door = absurd (door refl)
-complete_onboard (opened start (onboarding (cut_off bytes))) words a b m H are sound of at disk door = absurd (door refl)
-complete_onboard (opened start (onboarding (heard bytes now (Ok done)))) words a b m H are sound of at disk door = judged_status (verdict start.history now bytes)
-complete_onboard (opened start (onboarding (heard bytes now (Err fault.Disk)))) words a b m H are sound of at disk door = absurd (disk refl)
-complete_onboard (opened start (onboarding (heard bytes now (Err fault.Memory)))) words a b m H are sound of at disk door = inr (inl refl)
-
 -- rounds do their work, unless the disk or the door failed
-rounds_done : (rounds : ℕ) (close : Close) → (close_ending rounds close ≡ SiteFault → ⊥) → (close_ending rounds close ≡ DoorFault → ⊥) → status_of (close_ending rounds close) ≡ 0
+rounds_done : (rounds : ℕ) (close : Close) → (close_ending rounds close ≡ Err SiteFault → ⊥) → (close_ending rounds close ≡ Err DoorFault → ⊥) → status_of (close_ending rounds close) ≡ 0
 rounds_done rounds finished disk door = refl
 rounds_done rounds unreached disk door = absurd (door refl)
 rounds_done rounds (stopped came talk) disk door = absurd (disk refl)
-
--- `once` ends with 0 or 6 from a sound start, unless the disk or the door failed
-complete_once : (course : Course) (words : List (List ℕ)) (a b : SiteState) (m : ℕ) (H : List Event) → AreWordsOf Once words → IsSoundStart m H a → IsOfWords words course
-    → AtFile course a b → (ending_of course ≡ SiteFault → ⊥) → (ending_of course ≡ DoorFault → ⊥) → MayEndWith Once (status_of (ending_of course))
-complete_once misused words a b m H are sound of at disk door = commanded _ words are.settings are.set of
-complete_once starved words a b m H are sound of at disk door = inr refl
-complete_once (making number result) words a b m H are sound of at disk door = let it = of_command Once words (making number result) are of in never_served _ it.0 Once Init it.1 it.2.0 (λ wrong. cc)
-complete_once (unopened why) words a b m H are sound of at disk door = inr (sound_unopened why m H a b sound at disk)
-complete_once (opened start (serving service)) words a b m H are sound of at disk door = inl (rounds_done _ service.close disk door)
-complete_once (opened start (onboarding o)) words a b m H are sound of at disk door = let it = of_command Once words (opened start (onboarding o)) are of in never_served _ it.0 Once Onboard it.1 it.2 (λ wrong. cc)
-
--- from a sound start a command does its work or is refused, unless a call failed or there was no memory
-pub complete_ending : (command : Command) (course : Course) (words : List (List ℕ)) (a b : SiteState) → AreWordsOf command words → IsStartOf command a → IsOfWords words course
-    → AtFile course a b → (ending_of course ≡ SiteFault → ⊥) → (ending_of course ≡ DoorFault → ⊥) → MayEndWith command (status_of (ending_of course))
-complete_ending Init course words a b are start of at disk door = complete_init course words a b are of disk
-complete_ending Onboard course words a b are start of at disk door = complete_onboard course words a b start.0 start.1 are start.2 of at disk door
-complete_ending Once course words a b are start of at disk door = complete_once course words a b start.0 start.1 are start.2 of at disk door
 
 -- the words of two commands are words of one
 same_command : (words : List (List ℕ)) (c d : Command) → AreWordsOf c words → AreWordsOf d words → c ≡ d
@@ -325,3 +236,88 @@ words_cause words s a b set cause = of s.command refl cause where
       (λ (faults : Rose a.faults b.faults). inr (record { settings = s; set = set; is = is }, faults))
       cause
   of Once is cause = inl cause
+
+-- what is known of files
+module _ (whole_unmade : IsWholeOrUnmade) (whole_foreign : IsWholeOrForeign) (headed : IsHeadedOrNot) (no_bad : HasNoBadRecord) where
+  -- a whole file is a journal
+  whole_journal : (m : ℕ) (rs : List (List ℕ)) (image : List ℕ) → HasRecords m rs image → IsNoJournal image → ⊥
+  whole_journal m rs image has none = ⊎_elim
+      (λ (unmade : IsUnmade image). whole_unmade m rs image has unmade)
+      (λ (foreign : (place : ℕ) × IsForeign place image). whole_foreign m foreign.0 rs image has foreign.1)
+      none
+
+  -- a file with a bad record is a journal
+  bad_journal : (n : ℕ) (image : List ℕ) → IsBadRecord n image → IsNoJournal image → ⊥
+  bad_journal n image bad none = ⊎_elim
+      (λ (unmade : IsUnmade image). (headed bad.0 image bad.1).0 unmade)
+      (λ (foreign : (place : ℕ) × IsForeign place image). (headed bad.0 image bad.1).1 foreign.0 foreign.1)
+      none
+
+  -- a file that is no journal is told so
+  pub no_journal_ending : (course : Course) (words : List (List ℕ)) (a b : SiteState) → AreLoading words → IsOfWords words course → AtFile course a b → IsNoJournal a.image
+      → IsOrYields 5 (status_of (ending_of course))
+  no_journal_ending misused words a b are of at none = commanded _ words are.settings are.set of
+  no_journal_ending starved words a b are of at none = inr (inr refl)
+  no_journal_ending (making number result) words a b are of at none = not_making _ words number result are of
+  no_journal_ending (unopened opening.Unmade) words a b are of at none = inl refl
+  no_journal_ending (unopened (opening.Foreign place)) words a b are of at none = inl refl
+  no_journal_ending (unopened (opening.BadRecord n)) words a b are of at none = absurd (bad_journal n a.image at.because none)
+  no_journal_ending (unopened opening.Disk) words a b are of at none = inr (inl refl)
+  no_journal_ending (unopened opening.Memory) words a b are of at none = inr (inr refl)
+  no_journal_ending (opened start deed) words a b are of at none = absurd (whole_journal start.number _ a.image at.found.file none)
+
+  -- a bad record is told so
+  pub bad_record_ending : (course : Course) (words : List (List ℕ)) (a b : SiteState) (n : ℕ) → AreLoading words → IsOfWords words course → IsLegalCourse course → AtFile course a b
+      → IsBadRecord n a.image → IsOrYields 8 (status_of (ending_of course))
+  bad_record_ending misused words a b n are of legal at bad = commanded _ words are.settings are.set of
+  bad_record_ending starved words a b n are of legal at bad = inr (inr refl)
+  bad_record_ending (making number result) words a b n are of legal at bad = not_making _ words number result are of
+  bad_record_ending (unopened opening.Unmade) words a b n are of legal at bad = absurd (bad_journal n a.image bad (inl at.because))
+  bad_record_ending (unopened (opening.Foreign place)) words a b n are of legal at bad = absurd (bad_journal n a.image bad (inr (place, at.because)))
+  bad_record_ending (unopened (opening.BadRecord k)) words a b n are of legal at bad = inl refl
+  bad_record_ending (unopened opening.Disk) words a b n are of legal at bad = inr (inl refl)
+  bad_record_ending (unopened opening.Memory) words a b n are of legal at bad = inr (inr refl)
+  bad_record_ending (opened start deed) words a b n are of legal at bad =
+      absurd (no_bad start.number n start.history a.image legal.number at.found legal.before bad)
+
+  -- a sound start is opened, unless the disk failed or there was no memory
+  sound_unopened : (why : OpenFault) (m : ℕ) (H : List Event) (a b : SiteState) → IsSoundStart m H a → AtFile (unopened why) a b
+      → (ending_of (unopened why) ≡ Err SiteFault → ⊥) → failure_status (unopened_failure why) ≡ 6
+  sound_unopened opening.Unmade m H a b sound at disk = absurd (whole_journal m _ a.image sound.start.file.file (inl at.because))
+  sound_unopened (opening.Foreign place) m H a b sound at disk = absurd (whole_journal m _ a.image sound.start.file.file (inr (place, at.because)))
+  sound_unopened (opening.BadRecord n) m H a b sound at disk =
+      absurd (no_bad m n H a.image sound.start.number sound.start.file sound.legal at.because)
+  sound_unopened opening.Disk m H a b sound at disk = absurd (disk refl)
+  sound_unopened opening.Memory m H a b sound at disk = refl
+
+  -- `onboard` ends with 0, 6, 9 or 10 from a sound start, unless the disk or the door failed
+  complete_onboard : (course : Course) (words : List (List ℕ)) (a b : SiteState) (m : ℕ) (H : List Event) → AreWordsOf Onboard words → IsSoundStart m H a → IsOfWords words course
+      → AtFile course a b → (ending_of course ≡ Err SiteFault → ⊥) → (ending_of course ≡ Err DoorFault → ⊥) → MayEndWith Onboard (status_of (ending_of course))
+  complete_onboard misused words a b m H are sound of at disk door = commanded _ words are.settings are.set of
+  complete_onboard starved words a b m H are sound of at disk door = inr (inl refl)
+  complete_onboard (making number result) words a b m H are sound of at disk door = let it = of_command Onboard words (making number result) are of in never_served _ it.0 Onboard Init it.1 it.2.0 (λ wrong. cc)
+  complete_onboard (unopened why) words a b m H are sound of at disk door = inr (inl (sound_unopened why m H a b sound at disk))
+  complete_onboard (opened start (serving service)) words a b m H are sound of at disk door = let it = of_command Onboard words (opened start (serving service)) are of in never_served _ it.0 Onboard Once it.1 it.2.command (λ wrong. cc)
+  complete_onboard (opened start (onboarding unready)) words a b m H are sound of at disk door = inr (inl refl)
+  complete_onboard (opened start (onboarding unheard)) words a b m H are sound of at disk door = absurd (door refl)
+  complete_onboard (opened start (onboarding (cut_off bytes))) words a b m H are sound of at disk door = absurd (door refl)
+  complete_onboard (opened start (onboarding (heard bytes now done))) words a b m H are sound of at disk door = verdict_status (verdict start.history now bytes)
+  complete_onboard (opened start (onboarding (heard bytes now breaking))) words a b m H are sound of at disk door = absurd (disk refl)
+  complete_onboard (opened start (onboarding (heard bytes now starving))) words a b m H are sound of at disk door = inr (inl refl)
+
+  -- `once` ends with 0 or 6 from a sound start, unless the disk or the door failed
+  complete_once : (course : Course) (words : List (List ℕ)) (a b : SiteState) (m : ℕ) (H : List Event) → AreWordsOf Once words → IsSoundStart m H a → IsOfWords words course
+      → AtFile course a b → (ending_of course ≡ Err SiteFault → ⊥) → (ending_of course ≡ Err DoorFault → ⊥) → MayEndWith Once (status_of (ending_of course))
+  complete_once misused words a b m H are sound of at disk door = commanded _ words are.settings are.set of
+  complete_once starved words a b m H are sound of at disk door = inr refl
+  complete_once (making number result) words a b m H are sound of at disk door = let it = of_command Once words (making number result) are of in never_served _ it.0 Once Init it.1 it.2.0 (λ wrong. cc)
+  complete_once (unopened why) words a b m H are sound of at disk door = inr (sound_unopened why m H a b sound at disk)
+  complete_once (opened start (serving service)) words a b m H are sound of at disk door = inl (rounds_done _ service.close disk door)
+  complete_once (opened start (onboarding o)) words a b m H are sound of at disk door = let it = of_command Once words (opened start (onboarding o)) are of in never_served _ it.0 Once Onboard it.1 it.2 (λ wrong. cc)
+
+  -- from a sound start a command does its work or is refused, unless a call failed or there was no memory
+  pub complete_ending : (command : Command) (course : Course) (words : List (List ℕ)) (a b : SiteState) → AreWordsOf command words → IsStartOf command a → IsOfWords words course
+      → AtFile course a b → (ending_of course ≡ Err SiteFault → ⊥) → (ending_of course ≡ Err DoorFault → ⊥) → MayEndWith command (status_of (ending_of course))
+  complete_ending Init course words a b are start of at disk door = complete_init course words a b are of disk
+  complete_ending Onboard course words a b are start of at disk door = complete_onboard course words a b start.0 start.1 are start.2 of at disk door
+  complete_ending Once course words a b are start of at disk door = complete_once course words a b start.0 start.1 are start.2 of at disk door

@@ -2,11 +2,7 @@ mod AnswerLemmas
 mod DiskLemmas
 mod EndingLemmas
 mod ExactLemmas
-mod HeardLemmas
-mod OnboardLemmas
 mod RoundLemmas
 mod RunLemmas
-mod ValidLemmas
-mod VerdictLemmas
 mod WholeLemmas
 mod WordLemmas

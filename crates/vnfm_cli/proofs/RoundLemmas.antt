@@ -1,8 +1,7 @@
 -- One round, and the rounds so far.
-use Rattle.std.proofs.Common.{◌≡◌, ◌<◌, ◌+◌, ◌⊎◌, ℕ, true, false, true≢false, List, [], ◌∷◌, length, Option, Some, None, sym, subst, refl, ap, ◌∙◌, arith}
+use Rattle.std.proofs.Common.{◌≡◌, ◌<◌, ◌+◌, ◌⊎◌, ℕ, true, false, true≢false, List, [], ◌∷◌, length, Option, Some, None, Err, sym, subst, refl, ap, ◌∙◌, arith}
 use Rattle.executor.specs.Managed.{Managed, IsReady}
-use Rattle.executor.specs.Work.{Work, Works, went, stood}
-use Rattle.executor.proofs.WorkLemmas.{idle, joined, ready_again}
+use Rattle.executor.specs.Work.{Idles, Joins, LeadsOn, Work, Works, went, stood}
 use Rattle.lcm_api.specs.Mouth.{MouthState, Begins}
 use Rattle.lcm_api.specs.Session.{Last, Ending, Talk, over, unheard, untold, starving, breaking, breaks, is_breaking, life, work_by, work_last, work_of}
 use Rattle.lcm_api.specs.Talking.{Tells, World, peers_of, world, Serves}
@@ -14,7 +13,7 @@ use Rattle.site_traits.specs.declared.door.NextAnswer.TheVariants.{Nobody, Ended
 use Rattle.site_traits.specs.Site.{SiteState}
 use Rattle.vnfm_cli.specs.Course.{Round, unasked, served, Close, finished, unreached, stopped, Service, IsCount, close_ending, close_work, once_made}
 use Rattle.vnfm_cli.specs.Rounds.{AreFor, IsOne, IsRead, Makes, MakesOne, One, round, end, OneFor, Receives, RoundsDo}
-use Rattle.vnfm_cli.specs.declared.ending.Ending.TheVariants.{DoorFault, SiteFault}
+use Rattle.vnfm_cli.specs.declared.ending.Failure.TheVariants.{DoorFault, SiteFault}
 use Rattle.vnfm_cli.specs.declared.rounds.RoundEnd.{RoundEnd}
 use Rattle.vnfm_cli.specs.declared.rounds.RoundEnd.TheVariants as ends
 
@@ -65,15 +64,15 @@ pub record RoundsSoFar (t : Tells) (role : Role) (m n : Managed) (made : ℕ) (w
       × RoundsDo t m.ledger.manager H rounds (peers_of w) (peers_of v) × AreFor role rounds × (made ≡ length rounds)
   pub next : v.mouth.wire.intake.counts.next ≡ w.mouth.wire.intake.counts.next
 
-pub none_made : (t : Tells) (role : Role) (m : Managed) (w : World) → RoundsSoFar t role m m 0 w w
-none_made t role m w = record { each = λ H ready. ([], idle t.site m H w.site ready, refl, tt, refl); next = refl }
+pub none_made : (t : Tells) (role : Role) (m : Managed) (w : World) → Idles t.site w.site → RoundsSoFar t role m m 0 w w
+none_made t role m w idles = record { each = λ H ready. ([], idles m H ready, refl, tt, refl); next = refl }
 
-pub ready_so_far : (t : Tells) (role : Role) (m n : Managed) (made : ℕ) (w v : World) → RoundsSoFar t role m n made w v → (H : List Event) × IsReady t.site m H w.site
+pub ready_so_far : (t : Tells) (role : Role) (m n : Managed) (made : ℕ) (w v : World) → RoundsSoFar t role m n made w v → LeadsOn t.site w.site v.site → (H : List Event) × IsReady t.site m H w.site
     → (H : List Event) × IsReady t.site n H v.site
-ready_so_far t role m n made w v so_far ready =
+ready_so_far t role m n made w v so_far leads ready =
     let it = so_far.each ready.0 ready.1 in
     let G : List Event = life (once_made m.ledger.manager) ready.0 it.0 in
-    (G, ready_again t.site m.ledger.manager ready.0 (went G) n w.site v.site it.1 refl)
+    (G, leads m.ledger.manager ready.0 (went G) n it.1 refl)
 
 -- which round it was that was made
 the_round : (one : One) → IsOne ends.Made one → (r : Round) × (one ≡ round r)
@@ -100,14 +99,14 @@ for_more role unasked rounds one before = before
 for_more role (served came talk) rounds one before = (one.0, before)
 
 -- one round more
-pub one_round_more : (t : Tells) (role : Role) (m n o : Managed) (made : ℕ) (w u v : World) → RoundsSoFar t role m n made w u
+pub one_round_more : (t : Tells) (role : Role) (m n o : Managed) (made : ℕ) (w u v : World) → RoundsSoFar t role m n made w u → LeadsOn t.site w.site u.site → Joins t.site w.site u.site v.site
     → ((H : List Event) → IsReady t.site n H u.site → (one : One) × MakesOne t n.ledger.manager H one o u v × OneFor role one × IsOne ends.Made one)
     → v.mouth.wire.intake.counts.next ≡ u.mouth.wire.intake.counts.next → RoundsSoFar t role m o (made + 1) w v
-one_round_more t role m n o made w u v so_far step next = record {
+one_round_more t role m n o made w u v so_far leads joins step next = record {
   each = λ H ready.
       let it = so_far.each H ready in
       let G : List Event = life (once_made m.ledger.manager) H it.0 in
-      let did = step G (ready_again t.site m.ledger.manager H (went G) n w.site u.site it.1 refl) in
+      let did = step G (leads m.ledger.manager H (went G) n it.1 refl) in
       let r = the_round did.0 did.3 in
       let P : One → Type 0 = λ z. MakesOne t n.ledger.manager G z o u v in
       let Q : ℕ → Type 0 = λ k. MakesOne t k G (round r.0) o u v in
@@ -115,7 +114,7 @@ one_round_more t role m n o made w u v so_far step next = record {
       let one : MakesOne t m.ledger.manager G (round r.0) o u v = subst Q it.1.number (subst P r.1 did.1) in
       let count = it.4 in (
         r.0 ∷ it.0,
-        joined t.site m.ledger.manager H G (went (once_made m.ledger.manager G r.0)) n o w.site u.site v.site it.1 one.works,
+        joins m.ledger.manager H G (went (once_made m.ledger.manager G r.0)) n o it.1 one.works,
         (peers_of u, it.2, one.does),
         for_more role r.0 it.0 (subst R r.1 did.2) it.3,
         omega (arith, count),
@@ -132,14 +131,14 @@ all_made t role m n made count w v so_far all H ready =
     (service, record { works = it.1; attended = record { between = peers_of v; rounds = it.2; close = refl; roles = it.3; role = tt } }, refl, sym it.4 ∙ all, it.4, refl)
 
 -- the rounds ended so
-pub rounds_ended : (t : Tells) (role : Role) (m n o : Managed) (made count : ℕ) (answer : RoundEnd) (w u v : World) → RoundsSoFar t role m n made w u → made < count
+pub rounds_ended : (t : Tells) (role : Role) (m n o : Managed) (made count : ℕ) (answer : RoundEnd) (w u v : World) → RoundsSoFar t role m n made w u → LeadsOn t.site w.site u.site → Joins t.site w.site u.site v.site → made < count
     → ((H : List Event) → IsReady t.site n H u.site → (one : One) × MakesOne t n.ledger.manager H one o u v × OneFor role one × IsOne answer one) → (answer ≡ ends.Made → ⊥)
     → (H : List Event) → IsReady t.site m H w.site
     → (service : Service) × Makes t m.ledger.manager H service o w v × (service.role ≡ role) × IsCount count (length service.rounds) service.close × IsOne answer (end service.close)
-rounds_ended t role m n o made count answer w u v so_far fewer step other H ready =
+rounds_ended t role m n o made count answer w u v so_far leads joins fewer step other H ready =
     let it = so_far.each H ready in
     let G : List Event = life (once_made m.ledger.manager) H it.0 in
-    let did = step G (ready_again t.site m.ledger.manager H (went G) n w.site u.site it.1 refl) in
+    let did = step G (leads m.ledger.manager H (went G) n it.1 refl) in
     let c = the_end answer did.0 did.3 other in
     let P : One → Type 0 = λ z. MakesOne t n.ledger.manager G z o u v in
     let Q : ℕ → Type 0 = λ k. MakesOne t k G (end c.0) o u v in
@@ -150,7 +149,7 @@ rounds_ended t role m n o made count answer w u v so_far fewer step other H read
     let less : length it.0 < count = omega (arith, fewer, count_is) in (
       service,
       record {
-        works = joined t.site m.ledger.manager H G (close_work m.ledger.manager G c.0) n o w.site u.site v.site it.1 one.works;
+        works = joins m.ledger.manager H G (close_work m.ledger.manager G c.0) n o it.1 one.works;
         attended = record { between = peers_of u; rounds = it.2; close = one.does; roles = it.3; role = subst R c.1 did.2 };
       },
       refl,
@@ -176,11 +175,11 @@ served_next t m H talk n c w v came serves =
     ap (λ (k : DoorCounts). k.next) serves.attends.counts ∙ serves.attends.holds.counts.next ∙ ap (λ (k : DoorCounts). k.next) came
 
 -- nobody came
-pub round_unasked : (t : Tells) (m : Managed) (H : List Event) (answer : NextAnswer) (s : SiteState) (c d : MouthState) (ks ls : List ℕ) → IsReady t.site m H s
+pub round_unasked : (t : Tells) (m : Managed) (H : List Event) (answer : NextAnswer) (s : SiteState) (c d : MouthState) (ks ls : List ℕ) → Idles t.site s → IsReady t.site m H s
     → (answer ≡ Nobody) ⊎ (answer ≡ Ended) → (t.door → ComesNot answer c.wire.intake.door d.wire.intake.door) → d.wire.intake.counts ≡ c.wire.intake.counts
     → (t.clock → IsRead ks ls) → MakesOne t m.ledger.manager H (round unasked) m (world s c ks) (world s d ls)
-round_unasked t m H answer s c d ks ls ready none comes counts read = record {
-  works = idle t.site m H s ready;
+round_unasked t m H answer s c d ks ls idles ready none comes counts read = record {
+  works = idles m H ready;
   does = (
     record { mouth = d; clock = ks },
     record { nobody = λ told. record { answer = answer; none = none; told = comes told }; counts = counts; clock = refl },
@@ -189,22 +188,22 @@ round_unasked t m H answer s c d ks ls ready none comes counts read = record {
 }
 
 -- waiting failed
-pub round_unreached : (t : Tells) (m : Managed) (H : List Event) (s : SiteState) (c d : MouthState) (ks : List ℕ) → IsReady t.site m H s
+pub round_unreached : (t : Tells) (m : Managed) (H : List Event) (s : SiteState) (c d : MouthState) (ks : List ℕ) → Idles t.site s → IsReady t.site m H s
     → (t.door → d.wire.intake.door ≡ c.wire.intake.door) → d.wire.intake.counts ≡ next_failed c.wire.intake.counts
     → MakesOne t m.ledger.manager H (end unreached) m (world s c ks) (world s d ks)
-round_unreached t m H s c d ks ready same counts = record { works = idle t.site m H s ready; does = (record { same = same; counts = counts }, refl) }
+round_unreached t m H s c d ks idles ready same counts = record { works = idles m H ready; does = (record { same = same; counts = counts }, refl) }
 
 -- how a run ends where waiting failed, and where the disk did
-pub unreached_ending : (service : Service) → IsOne ends.Unreached (end service.close) → DoorFault ≡ close_ending (length service.rounds) service.close
+pub unreached_ending : (service : Service) → IsOne ends.Unreached (end service.close) → Err DoorFault ≡ close_ending (length service.rounds) service.close
 unreached_ending service is = of service.close is where
-  of : (c : Close) → IsOne ends.Unreached (end c) → DoorFault ≡ close_ending (length service.rounds) c
+  of : (c : Close) → IsOne ends.Unreached (end c) → Err DoorFault ≡ close_ending (length service.rounds) c
   of finished is = absurd is
   of unreached is = refl
   of (stopped came talk) is = absurd is
 
-pub broken_ending : (service : Service) → IsOne ends.Broken (end service.close) → SiteFault ≡ close_ending (length service.rounds) service.close
+pub broken_ending : (service : Service) → IsOne ends.Broken (end service.close) → Err SiteFault ≡ close_ending (length service.rounds) service.close
 broken_ending service is = of service.close is where
-  of : (c : Close) → IsOne ends.Broken (end c) → SiteFault ≡ close_ending (length service.rounds) c
+  of : (c : Close) → IsOne ends.Broken (end c) → Err SiteFault ≡ close_ending (length service.rounds) c
   of finished is = absurd is
   of unreached is = absurd is
   of (stopped came talk) is = refl

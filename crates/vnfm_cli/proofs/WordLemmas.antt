@@ -1,14 +1,25 @@
 -- A number is what its digits say.
 use Rattle.std.proofs.Common.{◌≡◌, ◌≤◌, ◌<◌, ◌^◌, ℕ, List, length, Bool, true, false, Some, None, Result, Ok, Err, ap, sym, refl, arith}
-use Rattle.std.specs.Prelude.{nat_le, if◌then◌else◌}
+use Rattle.std.specs.Prelude.{nat_le, ◌&&◌, if◌then◌else◌}
 use Rattle.std.specs.Char.{is_ascii_digit}
 use Rattle.std.specs.List.{list_all}
 use Rattle.std.specs.Result.{OkIff, result_ok}
 use Rattle.std.specs.Str.Parse.{digits_value, ParsesUnsigned}
 use Rattle.std.proofs.lemmas.Bool.{leb-true, le-leb}
 use Rattle.std.proofs.lemmas.Str.Parse.{IsDigitsTest, IsNumeralModel, numerals_by_value, parse_digits}
-use Rattle.lcm_model.proofs.ListLaws.{and_back, and_both, and_front}
 use Rattle.vnfm_cli.specs.Words.{is_number, manager_of}
+
+and_front : (a b : Bool) → (a && b) ≡ true → a ≡ true
+and_front true b is = refl
+and_front false b is = is
+
+and_back : (a b : Bool) → (a && b) ≡ true → b ≡ true
+and_back true b is = is
+and_back false b is = cc
+
+and_both : (a b : Bool) → a ≡ true → b ≡ true → (a && b) ≡ true
+and_both true b one other = other
+and_both false b one other = one
 
 -- the test of a text of digits
 digits_test : IsDigitsTest (λ ds. list_all is_ascii_digit ds ≡ true)

@@ -1,21 +1,26 @@
 -- How a run goes: what the words were, and what came of the command (own rule, docs/FORMATS.md).
-use Rattle.std.specs.Prelude.{◌≡◌, ◌<◌, ℕ, true, List, ◌++◌, length, Result, Ok, Err, Some, None}
-use Rattle.executor.specs.Work.{Work, went, broke, stood}
+use Rattle.std.specs.Prelude.{◌≡◌, ◌<◌, ℕ, true, List, length, Result, Ok, Err, Some, None}
+use Rattle.executor.specs.Work.{Work, went, stood}
 use Rattle.executor.specs.declared.manager.OpenFault.{OpenFault}
 use Rattle.executor.specs.declared.manager.OpenFault.TheVariants as opening
 use Rattle.journal_core.specs.declared.create.CreateFault.{CreateFault}
 use Rattle.journal_core.specs.declared.create.CreateFault.TheVariants as creating
 use Rattle.lcm_api.specs.Session.{Talk, life, work_of}
-use Rattle.lcm_api.specs.declared.answer.ApiFault.{ApiFault}
-use Rattle.lcm_api.specs.declared.answer.ApiFault.TheVariants as fault
 use Rattle.lcm_events.specs.declared.events.Event.{Event}
 use Rattle.lcm_events.specs.declared.states.Role.{Role}
-use Rattle.vnfm_cli.specs.Onboarding.{Verdict, refused, full, accepted, verdict, onboarded, refused_line, onboarded_line}
+use Rattle.onboarding.specs.Onboarding.{Onboarding, answer_of, onboarding_work}
+use Rattle.onboarding.specs.declared.answer.Onboarded.{Onboarded as Said}
+use Rattle.onboarding.specs.declared.answer.OnboardFault.{OnboardFault}
+use Rattle.onboarding.specs.declared.answer.OnboardFault.TheVariants as fault
+use Rattle.vnfm_cli.specs.Ending.{Ending}
 use Rattle.vnfm_cli.specs.Words.{IsCommand, loads, settings_of}
-use Rattle.vnfm_cli.specs.declared.ending.Ending.{Ending}
-use Rattle.vnfm_cli.specs.declared.ending.Ending.TheVariants.{Done, Made, Onboarded, Usage, SiteFault, DoorFault, NoJournal, NotAJournal, NoMemory, BadRecord, JournalFull, DescriptorRefused, Taken}
+use Rattle.vnfm_cli.specs.declared.ending.Failure.{Failure}
+use Rattle.vnfm_cli.specs.declared.ending.Failure.TheVariants.{Usage, SiteFault, DoorFault, NoJournal, NotAJournal, NoMemory, BadRecord, JournalFull, DescriptorRefused, Taken}
+use Rattle.vnfm_cli.specs.declared.ending.Report.TheVariants.{Done, Made, Onboarded}
 use Rattle.vnfm_cli.specs.declared.options.Command.TheVariants.{Init, Onboard, Once}
 use Rattle.vnfm_cli.specs.declared.options.Settings.{Settings}
+use Rattle.vnfm_cli.specs.declared.options.SettingsFault.{SettingsFault}
+use Rattle.vnfm_cli.specs.declared.options.SettingsFault.TheVariants as setting
 
 -- What came of a round: no connection came, or one came, from this role as the door tells, and this talk was held on it.
 pub data Round : Type 0 where
@@ -32,13 +37,6 @@ pub record Service : Type 0 where
   pub role : Role
   pub rounds : List Round
   pub close : Close
-
--- What came of onboarding: there was no memory to read into, waiting for a connection failed, a read failed behind these
--- bytes, or these bytes were heard and judged at this moment, with this result of the work on the journal.
-pub data Onboarding : Type 0 where
-  unready unheard : Onboarding
-  cut_off : List ℕ → Onboarding
-  heard : List ℕ → ℕ → Result (Unit {0}) ApiFault → Onboarding
 
 -- what was done with a journal that was opened
 pub data Deed : Type 0 where
@@ -73,74 +71,64 @@ close_work m H (stopped came talk) = work_of m H talk
 abbrev pub service_work : ℕ → List Event → Service → Work
 service_work m H service = close_work m (life (once_made m) H service.rounds) service.close
 
--- work that was to record these events: they were, or the disk failed on the way there, or there was no memory
-abbrev pub recorded_as : List Event → List Event → Result (Unit {0}) ApiFault → Work
-recorded_as H events (Ok done) = went (events ++ H)
-recorded_as H events (Err fault.Disk) = broke H (events ++ H)
-recorded_as H events (Err fault.Memory) = went H
-
--- the work of onboarding behind history H
-abbrev pub onboarding_work : List Event → Onboarding → Work
-onboarding_work H unready = went H
-onboarding_work H unheard = went H
-onboarding_work H (cut_off bytes) = went H
-onboarding_work H (heard bytes now result) = recorded_as H (onboarded now (verdict H now bytes)) result
-
 -- the work of a deed
 abbrev pub deed_work : ℕ → List Event → Deed → Work
 deed_work m H (serving service) = service_work m H service
 deed_work m H (onboarding o) = onboarding_work H o
 
+-- which failure a fault of the settings is
+abbrev pub unset : SettingsFault → Failure
+unset setting.Usage = Usage
+unset setting.Memory = NoMemory
+
+-- which failure a fault of the making of a journal is
+abbrev pub unmade : CreateFault → Failure
+unmade creating.Taken = Taken
+unmade creating.Disk = SiteFault
+
+-- which failure a journal is that wasn't opened
+abbrev pub unopened_failure : OpenFault → Failure
+unopened_failure opening.Unmade = NoJournal
+unopened_failure (opening.Foreign place) = NotAJournal place
+unopened_failure (opening.BadRecord n) = BadRecord n
+unopened_failure opening.Disk = SiteFault
+unopened_failure opening.Memory = NoMemory
+
+-- which failure a descriptor is that wasn't onboarded
+abbrev pub unonboarded : OnboardFault → Failure
+unonboarded fault.Door = DoorFault
+unonboarded (fault.Refused why) = DescriptorRefused why
+unonboarded (fault.Full end more) = JournalFull end more
+unonboarded fault.Memory = NoMemory
+unonboarded fault.Disk = SiteFault
+
 -- how a run ends after so many rounds
 abbrev pub close_ending : ℕ → Close → Ending
-close_ending n finished = Done n
-close_ending n unreached = DoorFault
-close_ending n (stopped came talk) = SiteFault
-
--- how a run ends where a descriptor was judged so
-abbrev pub verdict_ending : Verdict → Ending
-verdict_ending (refused why) = DescriptorRefused (refused_line why)
-verdict_ending (full end more) = JournalFull end more
-verdict_ending (accepted vnfd) = Onboarded (onboarded_line vnfd)
-
--- the same, unless the disk failed or there was no memory
-abbrev pub judged_ending : Verdict → Result (Unit {0}) ApiFault → Ending
-judged_ending v (Ok done) = verdict_ending v
-judged_ending v (Err fault.Disk) = SiteFault
-judged_ending v (Err fault.Memory) = NoMemory
+close_ending n finished = Ok (Done n)
+close_ending n unreached = Err DoorFault
+close_ending n (stopped came talk) = Err SiteFault
 
 -- how a run ends after onboarding
-abbrev pub onboarding_ending : List Event → Onboarding → Ending
-onboarding_ending H unready = NoMemory
-onboarding_ending H unheard = DoorFault
-onboarding_ending H (cut_off bytes) = DoorFault
-onboarding_ending H (heard bytes now result) = judged_ending (verdict H now bytes) result
+abbrev pub onboarding_ending : Result Said OnboardFault → Ending
+onboarding_ending (Ok said) = Ok (Onboarded said)
+onboarding_ending (Err why) = Err (unonboarded why)
 
 -- how a run ends after a deed
 abbrev pub deed_ending : List Event → Deed → Ending
 deed_ending H (serving service) = close_ending (length service.rounds) service.close
-deed_ending H (onboarding o) = onboarding_ending H o
+deed_ending H (onboarding o) = onboarding_ending (answer_of H o)
 
 -- how a run ends where a journal was to be made
 abbrev pub making_ending : ℕ → Result (Unit {0}) CreateFault → Ending
-making_ending manager (Ok done) = Made manager
-making_ending manager (Err creating.Taken) = Taken
-making_ending manager (Err creating.Disk) = SiteFault
-
--- how a run ends where the journal wasn't opened
-abbrev pub unopened_ending : OpenFault → Ending
-unopened_ending opening.Unmade = NoJournal
-unopened_ending (opening.Foreign place) = NotAJournal place
-unopened_ending (opening.BadRecord n) = BadRecord n
-unopened_ending opening.Disk = SiteFault
-unopened_ending opening.Memory = NoMemory
+making_ending manager (Ok done) = Ok (Made manager)
+making_ending manager (Err why) = Err (unmade why)
 
 -- how a run ends
 abbrev pub ending_of : Course → Ending
-ending_of misused = Usage
-ending_of starved = NoMemory
+ending_of misused = Err Usage
+ending_of starved = Err NoMemory
 ending_of (making manager result) = making_ending manager result
-ending_of (unopened why) = unopened_ending why
+ending_of (unopened why) = Err (unopened_failure why)
 ending_of (opened start deed) = deed_ending start.history deed
 
 -- so many rounds were made where all were, and fewer where they ended before

@@ -11,11 +11,10 @@ use Rattle.lcm_events.specs.declared.states.Role.{Role}
 use Rattle.site_traits.specs.Counts.{CallCounts, OnlyDiskFails, Rose, SiteCounts, one_more}
 use Rattle.site_traits.specs.Site.{SiteState}
 use Rattle.vnfm_cli.specs.Course.{Course, ending_of}
-use Rattle.vnfm_cli.specs.Ending.{Ends}
+use Rattle.vnfm_cli.specs.Ending.{Ending, Ends}
 use Rattle.vnfm_cli.specs.Rounds.{Receives}
 use Rattle.vnfm_cli.specs.Runs.{Runs}
 use Rattle.vnfm_cli.specs.Words.{AreInit}
-use Rattle.vnfm_cli.specs.declared.ending.Ending.{Ending}
 
 -- where the count of disk faults is greater behind a run, its status is 3
 abbrev pub DiskFaultsAreTold : Type 0

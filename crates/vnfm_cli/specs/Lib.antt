@@ -1,9 +1,7 @@
 pub mod Causes
 pub mod Course
 pub mod Ending
-pub mod Judging
 pub mod Laws
-pub mod Onboarding
 pub mod Rounds
 pub mod Runs
 pub mod Words

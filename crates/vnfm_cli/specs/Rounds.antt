@@ -1,25 +1,18 @@
 -- What rounds do at the door and to the clock, and with the journal.
-use Rattle.std.specs.Prelude.{◌≡◌, ◌⊎◌, ℕ, true, false, List, [], ◌∷◌}
+use Rattle.std.specs.Prelude.{◌≡◌, ℕ, true, false, List, [], ◌∷◌}
 use Rattle.executor.specs.Managed.{Managed}
 use Rattle.executor.specs.Work.{Work, Works, went}
 use Rattle.lcm_api.specs.Mouth.{MouthState, Begins}
 use Rattle.lcm_api.specs.Session.{Talk, breaks, life}
 use Rattle.lcm_api.specs.Talking.{Tells, Peers, World, peers_of, Attends}
+use Rattle.lcm_api.specs.Waiting.{IsNobody, IsUnreached}
 use Rattle.lcm_events.specs.declared.events.Event.{Event}
 use Rattle.lcm_events.specs.declared.states.Role.{Role}
 use Rattle.site_traits.specs.Clock.{Gives}
-use Rattle.site_traits.specs.Door.{DoorState, Comes, ComesNot, next_failed, opened as has_come}
-use Rattle.site_traits.specs.declared.door.NextAnswer.{NextAnswer}
-use Rattle.site_traits.specs.declared.door.NextAnswer.TheVariants.{Nobody, Ended}
+use Rattle.site_traits.specs.Door.{Comes, opened as has_come}
 use Rattle.vnfm_cli.specs.Course.{Round, unasked, served, Close, finished, unreached, stopped, Service, close_work, once_made, service_work}
 use Rattle.vnfm_cli.specs.declared.rounds.RoundEnd.{RoundEnd}
 use Rattle.vnfm_cli.specs.declared.rounds.RoundEnd.TheVariants as ends
-
--- the door was asked for a connection, and none came
-pub record IsNobody (a b : DoorState) : Type 0 where
-  pub answer : NextAnswer
-  pub none : (answer ≡ Nobody) ⊎ (answer ≡ Ended)
-  pub told : ComesNot answer a b
 
 -- the clock was read once
 abbrev pub IsRead : List ℕ → List ℕ → Type 0
@@ -43,11 +36,6 @@ pub record Receives (t : Tells) (m : ℕ) (H : List Event) (came : Role) (talk :
   pub counts : between.wire.intake.counts ≡ has_come a.mouth.wire.intake.counts
   pub begins : Begins between
   pub attends : Attends t m H talk (record { mouth = between; clock = a.clock }) b
-
--- waiting for a connection failed, and was counted
-pub record IsUnreached (tells : Type 0) (a b : MouthState) : Type 0 where
-  pub same : tells → b.wire.intake.door ≡ a.wire.intake.door
-  pub counts : b.wire.intake.counts ≡ next_failed a.wire.intake.counts
 
 -- what a round does, over history H; then the clock is read for it
 abbrev pub RoundDoes : Tells → ℕ → List Event → Round → Peers → Peers → Type 0

@@ -1,5 +1,5 @@
 -- What a run does to the journal's file, the door and the clock.
-use Rattle.std.specs.Prelude.{◌≡◌, ◌<◌, ◌⊎◌, ℕ, List, [], Bool, true, false, min}
+use Rattle.std.specs.Prelude.{◌≡◌, ◌<◌, ◌⊎◌, ℕ, List, false}
 use Rattle.executor.specs.History.{HasHistory}
 use Rattle.executor.specs.Open.{Refuses}
 use Rattle.executor.specs.Work.{Work, Works, Grows, HasSome, aimed, failed, stood}
@@ -8,18 +8,15 @@ use Rattle.executor.specs.declared.manager.OpenFault.{OpenFault}
 use Rattle.journal_core.specs.Create.{Creates}
 use Rattle.journal_core.specs.Header.{IsUnmade, IsForeign}
 use Rattle.journal_core.specs.Load.{SyncsAndReads}
-use Rattle.lcm_api.specs.Hearing.{Hears}
-use Rattle.lcm_api.specs.Mouth.{MouthState}
 use Rattle.lcm_api.specs.Talking.{Tells, Peers, World, peers_of}
 use Rattle.lcm_events.specs.declared.events.Event.{Event}
-use Rattle.lcm_events.specs.declared.states.Role.{Role}
 use Rattle.lcm_model.specs.Allowed.{IsLegal}
-use Rattle.site_traits.specs.Clock.{Gives}
 use Rattle.site_traits.specs.Counts.{Rose}
-use Rattle.site_traits.specs.Door.{DoorCounts, Comes, HangsUp, NoNextFault, closed, opened as has_come}
+use Rattle.site_traits.specs.Door.{DoorCounts}
 use Rattle.site_traits.specs.Site.{Pair, SiteState, IsSettled, LeavesOnly}
-use Rattle.vnfm_cli.specs.Course.{Course, misused, starved, making, unopened, opened, Deed, serving, onboarding, Onboarding, unready, unheard, cut_off, heard, Opening, deed_work, onboarding_work, IsOfWords}
-use Rattle.vnfm_cli.specs.Rounds.{Attended, IsNobody, IsUnreached}
+use Rattle.onboarding.specs.Doing.{BringsIn}
+use Rattle.vnfm_cli.specs.Course.{Course, misused, starved, making, unopened, opened, Deed, serving, onboarding, Opening, deed_work, IsOfWords}
+use Rattle.vnfm_cli.specs.Rounds.{Attended}
 use Rattle.vnfm_cli.specs.declared.options.Command.{Command}
 use Rattle.vnfm_cli.specs.declared.options.Command.TheVariants.{Init, Onboard, Once}
 
@@ -91,59 +88,15 @@ AtFile (making manager result) a b = Creates manager result a b
 AtFile (unopened why) a b = IsRefused why a b
 AtFile (opened start deed) a b = Recovers start.number start.history (deed_work start.number start.history deed) a b
 
--- A connection came, these bytes of it were read, up to its end or to one byte more than a descriptor may have, or up to where
--- a read failed, and it was ended. Nothing was written to it.
-pub record Brings (tells : Type 0) (bytes : List ℕ) (failed : Bool) (a b : MouthState) : Type 0 where
-  pub came : Role
-  pub between : MouthState
-  pub comes : tells → Comes came a.wire.intake.door between.wire.intake.door
-  pub counts : between.wire.intake.counts ≡ has_come a.wire.intake.counts
-  pub behind : MouthState
-  pub hears : tells → Hears 1048577 bytes failed between.wire.intake.door behind.wire.intake.door
-  pub broke : failed ≡ true → Rose between.wire.intake.counts.faults behind.wire.intake.counts.faults
-  pub reading : NoNextFault between.wire.intake.counts behind.wire.intake.counts
-  pub gone : tells → HangsUp behind.wire.intake.door b.wire.intake.door
-  pub down : b.wire.intake.counts ≡ closed behind.wire.intake.counts
-  pub silent : tells → b.wire.intake.door.conn.out ≡ []
-
--- nobody came, and so there are no bytes
-pub record BringsNothing (tells : Type 0) (bytes : List ℕ) (a b : MouthState) : Type 0 where
-  pub none : bytes ≡ []
-  pub nobody : tells → IsNobody a.wire.intake.door b.wire.intake.door
-  pub counts : b.wire.intake.counts ≡ a.wire.intake.counts
-
--- what onboarding does at the door
-abbrev pub OnboardingAtDoor : Type 0 → Onboarding → MouthState → MouthState → Type 0
-OnboardingAtDoor tells unready a b = b ≡ a
-OnboardingAtDoor tells unheard a b = IsUnreached tells a b
-OnboardingAtDoor tells (cut_off bytes) a b = Brings tells bytes true a b
-OnboardingAtDoor tells (heard bytes now result) a b = Brings tells bytes false a b ⊎ BringsNothing tells bytes a b
-
--- the moment is that of the clock's next value
-pub record IsTimed (moment : ℕ) (old new : List ℕ) : Type 0 where
-  pub value : ℕ
-  pub gives : Gives value old new
-  pub moment_is : moment ≡ min value 253402300799999
-
--- what onboarding does to the clock: it is read once, where bytes were heard
-abbrev pub OnboardingAtClock : Onboarding → List ℕ → List ℕ → Type 0
-OnboardingAtClock (heard bytes now result) old new = IsTimed now old new
-OnboardingAtClock other old new = new ≡ old
-
--- what onboarding does to both
-pub record BringsIn (t : Tells) (o : Onboarding) (a b : Peers) : Type 0 where
-  pub door : OnboardingAtDoor t.door o a.mouth b.mouth
-  pub clock : t.clock → OnboardingAtClock o a.clock b.clock
-
--- what onboarding does to the journal too; the manager is now n
-pub record Onboards (t : Tells) (m : ℕ) (H : List Event) (o : Onboarding) (n : Managed) (w v : World) : Type 0 where
-  pub works : Works t.site m H (onboarding_work H o) n w.site v.site
-  pub brings : BringsIn t o (peers_of w) (peers_of v)
-
 -- what a deed does to both
 abbrev pub AtPeersBy : Tells → Opening → Deed → Peers → Peers → Type 0
 AtPeersBy t start (serving service) a b = Attended t start.number start.history service a b
 AtPeersBy t start (onboarding o) a b = BringsIn t o a b
+
+-- what a deed does, behind the opening; the manager is now n
+pub record Deeds (t : Tells) (m : ℕ) (H : List Event) (deed : Deed) (n : Managed) (w v : World) : Type 0 where
+  pub works : Works t.site m H (deed_work m H deed) n w.site v.site
+  pub peers : AtPeersBy t (record { number = m; history = H }) deed (peers_of w) (peers_of v)
 
 -- what a run does to both
 abbrev pub AtPeers : Tells → Course → Peers → Peers → Type 0

@@ -7,8 +7,8 @@ ghost use Rattle.site_traits.specs.Counts.{OnlyDiskFails, Rose};
 ghost use Rattle.vnfm_cli.specs.Course.{IsCount, Service, close_ending};
 ghost use Rattle.vnfm_cli.specs.Rounds.{IsOne, IsRead, Makes, MakesOne, One, OneFor};
 
-use crate::ending::Ending;
-use executor::Manager;
+use crate::ending::{Ending, Failure, Report};
+use executor::{Manager, works_add_up};
 use lcm_api::{Closed, Mouth, answer_session};
 use lcm_events::Role;
 use site_traits::{Clock, Door, NextAnswer, Site};
@@ -44,18 +44,19 @@ pub fn make_rounds<S: Site, D: Door, K: Clock>(
         × Makes (telling S.tells D.tells K.tells) manager.old.ledger.manager H service manager.new
         (world (S.state site.old) mouth.old (K.state clock.old)) (world (S.state site.new) mouth.new (K.state clock.new))
         × (service.role ≡ role) × IsCount count (length service.rounds) service.close × (result ≡ close_ending (length service.rounds) service.close) }
-    ensures disk { OnlyDiskFails (result ≡ Ending.SiteFault) (S.counts site.old) (S.counts site.new) }
-    ensures door { result ≡ Ending.DoorFault → Rose mouth.old.wire.intake.counts.next mouth.new.wire.intake.counts.next }
+    ensures disk { OnlyDiskFails (result ≡ Err Failure.SiteFault) (S.counts site.old) (S.counts site.new) }
+    ensures door { result ≡ Err Failure.DoorFault → Rose mouth.old.wire.intake.counts.next mouth.new.wire.intake.counts.next }
 {
+    works_add_up::<S>();
     let mut made = 0;
     'rounds: while made < count {
         match make_round(alloc, manager, site, mouth, clock, role) {
             RoundEnd::Made => made += 1,
-            RoundEnd::Unreached => return Ending::DoorFault,
-            RoundEnd::Broken => return Ending::SiteFault,
+            RoundEnd::Unreached => return Err(Failure::DoorFault),
+            RoundEnd::Broken => return Err(Failure::SiteFault),
         }
     }
-    Ending::Done(made)
+    Ok(Report::Done(made))
 }
 
 /// Waits for one connection, serves it, and reads the clock for the round.
@@ -76,6 +77,7 @@ fn make_round<S: Site, D: Door, K: Clock>(
     ensures next { result ≡ RoundEnd.Made → mouth.new.wire.intake.counts.next ≡ mouth.old.wire.intake.counts.next }
     ensures door { result ≡ RoundEnd.Unreached → Rose mouth.old.wire.intake.counts.next mouth.new.wire.intake.counts.next }
 {
+    works_add_up::<S>();
     match mouth.next() {
         NextAnswer::Came(_) => match answer_session(alloc, manager, site, mouth, clock, role) {
             Ok(_) => pass_turn(clock),

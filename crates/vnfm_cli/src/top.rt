@@ -1,26 +1,27 @@
 //! The top call: one command over the objects that it is handed.
-ghost use Rattle.std.specs.Prelude.{◌≡◌, ◌≢◌, ◌⊎◌, ◌↔◌, ℕ, List, None, Result};
+ghost use Rattle.std.specs.Prelude.{◌≡◌, ◌≢◌, ◌⊎◌, ◌↔◌, ℕ, List, None, Result, true};
 ghost use Rattle.journal_core.specs.Create.{Creates};
 ghost use Rattle.journal_core.specs.declared.create.CreateFault.{CreateFault};
 ghost use Rattle.lcm_events.specs.declared.events.Event.{Event};
 ghost use Rattle.site_traits.specs.Counts.{OnlyDiskFails, Rose};
 ghost use Rattle.lcm_api.specs.Talking.{telling, world};
-ghost use Rattle.vnfm_cli.specs.Course.{Course, IsOf, ending_of, making_ending, unopened_ending};
+ghost use Rattle.executor.specs.Managed.{IsReady};
+ghost use Rattle.vnfm_cli.specs.Course.{Course, Deed, IsDeedOf, IsOf, deed_ending, ending_of, making_ending};
 ghost use Rattle.vnfm_cli.specs.Ending.{Ends};
 ghost use Rattle.vnfm_cli.specs.Causes.{HasCauses};
-ghost use Rattle.vnfm_cli.specs.Runs.{Does, IsDoorCause, IsStartOf, MayEndWith, Runs};
-ghost use Rattle.vnfm_cli.specs.Words.{AreWordsOf, settings_of};
+ghost use Rattle.vnfm_cli.specs.Runs.{Deeds, Does, IsDoorCause, IsStartOf, MayEndWith, Runs};
+ghost use Rattle.vnfm_cli.specs.Words.{AreWordsOf, loads, settings_of};
 ghost use Rattle.vnfm_cli.specs.declared.options.Command.{Command};
-ghost use Rattle.vnfm_cli.specs.declared.options.Command.TheVariants.{Onboard, Once};
+ghost use Rattle.vnfm_cli.specs.declared.options.Command.TheVariants.{Onboard};
 
-use crate::ending::{Ending, finish};
-use crate::onboard::onboard;
-use crate::options::{Command, Settings, SettingsFault};
+use crate::ending::{Ending, Failure, Report, finish};
+use crate::options::{Command, Settings};
 use crate::rounds::make_rounds;
 use crate::words::settings;
-use executor::{Manager, OpenFault};
-use journal_core::{CreateFault, Journal};
+use executor::{Manager, a_legal_history_has_no_bad_record, works_add_up};
+use journal_core::{Journal, faults_are_counted, files_are_one_thing};
 use lcm_api::Mouth;
+use onboarding::onboard;
 use site_traits::{Clock, Courier, Door, Orchestrator, Sink, Site};
 use std::alloc::Global;
 use vnfm_base::Text;
@@ -61,6 +62,8 @@ pub fn run<S: Site, D: Door, O: Orchestrator, C: Courier, K: Clock, W: Sink>(
         → ¬ (Rose (S.counts site.old).disk (S.counts site.new).disk) → ¬ (IsDoorCause command mouth.old.wire.intake.counts mouth.new.wire.intake.counts)
         → ¬ (Rose (W.counts out.old).faults (W.counts out.new).faults) → MayEndWith command result }
 {
+    files_are_one_thing();
+    a_legal_history_has_no_bad_record();
     let ending = obey(alloc, words, site, mouth, clock);
     finish(ending, out)
 }
@@ -76,15 +79,12 @@ fn obey<S: Site, D: Door, K: Clock>(
     ensures runs { (course : Course) × Runs (telling S.tells D.tells K.tells) words.now course
         (world (S.state site.old) mouth.old (K.state clock.old)) (world (S.state site.new) mouth.new (K.state clock.new))
         × (result ≡ ending_of course) }
-    ensures usage { (result ≡ Ending.Usage) ↔ (settings_of words.now ≡ None) }
-    ensures disk { OnlyDiskFails (result ≡ Ending.SiteFault) (S.counts site.old) (S.counts site.new) }
-    ensures door { result ≡ Ending.DoorFault → Rose mouth.old.wire.intake.counts.next mouth.new.wire.intake.counts.next ⊎ (AreWordsOf Onboard words.now × Rose mouth.old.wire.intake.counts.faults mouth.new.wire.intake.counts.faults) }
+    ensures usage { (result ≡ Err Failure.Usage) ↔ (settings_of words.now ≡ None) }
+    ensures disk { OnlyDiskFails (result ≡ Err Failure.SiteFault) (S.counts site.old) (S.counts site.new) }
+    ensures door { result ≡ Err Failure.DoorFault → Rose mouth.old.wire.intake.counts.next mouth.new.wire.intake.counts.next ⊎ (AreWordsOf Onboard words.now × Rose mouth.old.wire.intake.counts.faults mouth.new.wire.intake.counts.faults) }
 {
-    match settings(alloc, words) {
-        Ok(settings) => perform(alloc, &settings, site, mouth, clock),
-        Err(SettingsFault::Usage) => Ending::Usage,
-        Err(SettingsFault::Memory) => Ending::NoMemory,
-    }
+    let settings = settings(alloc, words)?;
+    perform(alloc, &settings, site, mouth, clock)
 }
 
 /// Performs the command.
@@ -98,88 +98,83 @@ fn perform<S: Site, D: Door, K: Clock>(
     ensures does { (course : Course) × IsOf settings.now course × Does (telling S.tells D.tells K.tells) course
         (world (S.state site.old) mouth.old (K.state clock.old)) (world (S.state site.new) mouth.new (K.state clock.new))
         × (result ≡ ending_of course) }
-    ensures disk { OnlyDiskFails (result ≡ Ending.SiteFault) (S.counts site.old) (S.counts site.new) }
-    ensures door { result ≡ Ending.DoorFault → IsDoorCause settings.now.command mouth.old.wire.intake.counts mouth.new.wire.intake.counts }
+    ensures disk { OnlyDiskFails (result ≡ Err Failure.SiteFault) (S.counts site.old) (S.counts site.new) }
+    ensures door { result ≡ Err Failure.DoorFault → IsDoorCause settings.now.command mouth.old.wire.intake.counts mouth.new.wire.intake.counts }
 {
     match settings.command {
         Command::Init => init(settings.manager, site),
-        Command::Onboard => bring_in(alloc, settings, site, mouth, clock),
-        Command::Once => once(alloc, settings, site, mouth, clock),
+        Command::Onboard => open(alloc, settings, site, mouth, clock),
+        Command::Once => open(alloc, settings, site, mouth, clock),
     }
 }
 
 /// Makes the journal of this manager.
 fn init<S: Site>(manager: u32, site: &mut S) -> Ending
     ensures makes { (making : Result (Unit {0}) CreateFault) × (S.tells → Creates manager making (S.state site.old) (S.state site.new)) × (result ≡ making_ending manager making) }
-    ensures disk { OnlyDiskFails (result ≡ Ending.SiteFault) (S.counts site.old) (S.counts site.new) }
-    ensures door { result ≢ Ending.DoorFault }
+    ensures disk { OnlyDiskFails (result ≡ Err Failure.SiteFault) (S.counts site.old) (S.counts site.new) }
+    ensures door { result ≢ Err Failure.DoorFault }
 {
+    faults_are_counted();
     match Journal::create(site, manager) {
-        Ok(()) => Ending::Made(manager),
-        Err(CreateFault::Taken) => Ending::Taken,
-        Err(CreateFault::Disk) => Ending::SiteFault,
+        Ok(()) => Ok(Report::Made(manager)),
+        Err(fault) => Err(Failure::from(fault)),
     }
 }
 
-/// Opens the journal, and onboards a descriptor.
-fn bring_in<S: Site, D: Door, K: Clock>(
+/// Opens the journal, and does with it what the command says.
+fn open<S: Site, D: Door, K: Clock>(
     alloc: Global,
     settings: &Settings,
     site: &mut S,
     mouth: &mut Mouth<D>,
     clock: &mut K,
 ) -> Ending
-    requires command { settings.now.command ≡ Onboard }
+    requires loading { loads settings.now.command ≡ true }
     ensures does { (course : Course) × IsOf settings.now course × Does (telling S.tells D.tells K.tells) course
         (world (S.state site.old) mouth.old (K.state clock.old)) (world (S.state site.new) mouth.new (K.state clock.new))
         × (result ≡ ending_of course) }
-    ensures disk { OnlyDiskFails (result ≡ Ending.SiteFault) (S.counts site.old) (S.counts site.new) }
-    ensures door { result ≡ Ending.DoorFault → IsDoorCause Onboard mouth.old.wire.intake.counts mouth.new.wire.intake.counts }
+    ensures disk { OnlyDiskFails (result ≡ Err Failure.SiteFault) (S.counts site.old) (S.counts site.new) }
+    ensures door { result ≡ Err Failure.DoorFault → IsDoorCause settings.now.command mouth.old.wire.intake.counts mouth.new.wire.intake.counts }
 {
+    works_add_up::<S>();
     match Manager::load(alloc, site) {
-        Ok(mut manager) => onboard(alloc, &mut manager, site, mouth, clock),
-        Err(fault) => unopened(fault),
+        Ok(mut manager) => work(alloc, settings, &mut manager, site, mouth, clock),
+        Err(fault) => Err(Failure::from(fault)),
     }
 }
 
-/// Opens the journal, and makes the rounds that the words set.
-fn once<S: Site, D: Door, K: Clock>(
+/// Onboards a descriptor, or makes the rounds that the words set.
+fn work<S: Site, D: Door, K: Clock>(
     alloc: Global,
     settings: &Settings,
+    manager: &mut Manager<S>,
     site: &mut S,
     mouth: &mut Mouth<D>,
     clock: &mut K,
 ) -> Ending
-    requires command { settings.now.command ≡ Once }
-    ensures does { (course : Course) × IsOf settings.now course × Does (telling S.tells D.tells K.tells) course
+    requires loading { loads settings.now.command ≡ true }
+    requires ready { (H : List Event) × IsReady S.tells manager.old H (S.state site.old) }
+    ensures deeds { (H : List Event) → IsReady S.tells manager.old H (S.state site.old) → (deed : Deed) × IsDeedOf settings.now deed
+        × Deeds (telling S.tells D.tells K.tells) manager.old.ledger.manager H deed manager.new
         (world (S.state site.old) mouth.old (K.state clock.old)) (world (S.state site.new) mouth.new (K.state clock.new))
-        × (result ≡ ending_of course) }
-    ensures disk { OnlyDiskFails (result ≡ Ending.SiteFault) (S.counts site.old) (S.counts site.new) }
-    ensures door { result ≡ Ending.DoorFault → Rose mouth.old.wire.intake.counts.next mouth.new.wire.intake.counts.next }
+        × (result ≡ deed_ending H deed) }
+    ensures disk { OnlyDiskFails (result ≡ Err Failure.SiteFault) (S.counts site.old) (S.counts site.new) }
+    ensures door { result ≡ Err Failure.DoorFault → IsDoorCause settings.now.command mouth.old.wire.intake.counts mouth.new.wire.intake.counts }
 {
-    match Manager::load(alloc, site) {
-        Ok(mut manager) => make_rounds(
+    match settings.command {
+        Command::Init => unreachable!(),
+        Command::Onboard => match onboard(alloc, manager, site, mouth, clock) {
+            Ok(said) => Ok(Report::Onboarded(said)),
+            Err(fault) => Err(Failure::from(fault)),
+        },
+        Command::Once => make_rounds(
             alloc,
-            &mut manager,
+            manager,
             site,
             mouth,
             clock,
             settings.role,
             settings.rounds,
         ),
-        Err(fault) => unopened(fault),
-    }
-}
-
-/// How a run ends where the journal wasn't opened.
-fn unopened(fault: OpenFault) -> Ending
-    ensures { result ≡ unopened_ending fault }
-{
-    match fault {
-        OpenFault::Unmade => Ending::NoJournal,
-        OpenFault::Foreign(place) => Ending::NotAJournal(place),
-        OpenFault::BadRecord(n) => Ending::BadRecord(n),
-        OpenFault::Disk => Ending::SiteFault,
-        OpenFault::Memory => Ending::NoMemory,
     }
 }

@@ -3,4 +3,7 @@ use Rattle.executor.proofs.ManagerLemmas.{spelling-some}
 use Rattle.executor.proofs.manager.spell.Goals as goal
 
 pub returns-clause-some : goal.returns-clause-some
-returns-clause-some c = rw c.in-Ok.ensures.ok (spelling-some _)
+returns-clause-some c = spelling-some _
+
+pub returns-in_err-encode-clause-some : goal.returns-in_err-encode-clause-some
+returns-in_err-encode-clause-some c = spelling-some _

@@ -1,7 +1,7 @@
 -- One record more was read and judged.
 use Rattle.std.proofs.Common.{◌∙◌}
 use Rattle.site_traits.proofs.Moments.{reads-then}
-use Rattle.executor.proofs.JudgeLemmas.{step_judged, step_so_far}
+use Rattle.executor.proofs.JudgeLemmas.{judges_starved, step_judged, step_so_far}
 use Rattle.executor.proofs.open.judge_all.Goals as goal
 
 pub loop-judged-preserved : goal.loop-judged-preserved
@@ -9,7 +9,7 @@ loop-judged-preserved g c =
     let reads = rw c.in-Record.is at c.in_ok-next.ensures.grown in
     let step = rw (c.manager-manager.ensures, c.count.ensures, c.record_bytes.ensures) at c.in_ok-judge_next.ensures in
     record {
-      judged = step_judged _ _ _ _ c.loop-judged.invariant.judged reads step;
+      judged = step_judged c.records_add_up.ensures.adds _ _ _ _ c.loop-judged.invariant.judged reads step;
       manager = reads.manager ∙ c.loop-judged.invariant.manager;
       within = c.next.ensures.within;
       counts = c.in_ok-next.ensures.counts.stays (λ wrong. cc wrong) ∙ c.loop-judged.invariant.counts;
@@ -18,3 +18,9 @@ loop-judged-preserved g c =
           step_so_far _ _ _ _ _ _ c.loop-judged.invariant.judged reads step so_far (rw c.in-Record.is at (c.in_ok-next.ensures.found tells so_far.rs so_far.loads));
       reads = λ tells. reads-then _ _ _ (c.loop-judged.invariant.reads tells) (c.next.ensures.told tells);
     }
+
+pub returns-in_err-judge_next-clause-told : goal.returns-in_err-judge_next-clause-told
+returns-in_err-judge_next-clause-told g c = λ tells.
+    let so_far = c.loop-judged.invariant.so_far tells in
+    judges_starved _ _ _ _ _ c.from_residual-in_err-judge_next.ensures.1 (rw c.in-Record.is at (c.in_ok-next.ensures.found tells so_far.rs so_far.loads))
+    (reads-then _ _ _ (c.loop-judged.invariant.reads tells) (c.next.ensures.told tells))

@@ -1,5 +1,6 @@
 use Rattle.std.proofs.Common.{◌≡◌, ◌<◌, ◌-◌}
 use Rattle.site_traits.specs.Site.{Reads}
+use Rattle.journal_core.specs.declared.journal.TheConstants.{MAX_FILE}
 use Rattle.executor.specs.Loading.{IsJudged, JudgesSoFar}
 use Rattle.executor.proofs.open.judge_all.Given as goal
 
@@ -10,11 +11,11 @@ invariant-loop-judged g l =
     record {
       judged : IsJudged l.judged l.loading;
       manager : l.loading.manager ≡ l.fn.loading.manager;
-      within : l.loading.end < 268435456;
+      within : l.loading.end < MAX_FILE;
       counts : g.S.Site.counts l.site ≡ g.S.Site.counts l.fn.site;
       so_far : g.S.Site.tells → JudgesSoFar l.judged l.loading (g.S.Site.state l.site);
       reads : g.S.Site.tells → Reads start (g.S.Site.state l.site);
     }
 
 abbrev pub decreases-loop-judged : goal.decreases-loop-judged
-decreases-loop-judged g l = 268435456 - l.loading.end
+decreases-loop-judged g l = MAX_FILE - l.loading.end

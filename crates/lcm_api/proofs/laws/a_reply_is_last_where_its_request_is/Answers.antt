@@ -8,7 +8,9 @@ use Rattle.json_views.specs.declared.body.CreateBody.{CreateBody}
 use Rattle.lcm_events.specs.declared.events.Event.{Event}
 use Rattle.lcm_events.specs.declared.descriptor.Vnfd.{Vnfd}
 use Rattle.lcm_model.specs.Lives.{descriptor_named, instances_made, live_instances}
-use Rattle.lcm_api.specs.Outcome.{Outcome, body_outcome, described_outcome, created, creation, is_create, is_full, refusal, refused}
+use Rattle.lcm_api.specs.Outcome.{Outcome, body_outcome, described_outcome, created, creation, is_create, refusal, refused, room_outcome}
+use Rattle.executor.specs.Room.{is_full}
+use Rattle.lcm_api.specs.declared.answer.TheConstants.{MAX_INSTANCES, MAX_REQUESTED}
 use Rattle.lcm_api.proofs.laws.a_reply_is_last_where_its_request_is.Goals as goal
 
 -- the reading doesn't speak of memory
@@ -68,12 +70,12 @@ creation_ends m n body vnfd last after = refl
 described_ends : (m : ℕ) (H : List Event) (now : ℕ) (body : CreateBody) (last : Bool) (found : Option Vnfd) → EndsAs last (described_outcome m H now body last found)
 described_ends m H now body last None = refusal_ends 422 (codes "vnfdId is not onboarded") last
 described_ends m H now body last (Some vnfd) =
-    let room : Outcome = record { reply = created m (instances_made H + 1) body vnfd last; after = creation H now body ∷ [] } in
-    elim (nat_le 1000 (length (live_instances H))) as (λ crowded.
-    EndsAs last (if crowded then refused 507 (codes "too many instances") last else (if is_full H (creation H now body) then refused 507 (codes "journal full") last else room))) [
+    let rest : Bool → Outcome = λ full. room_outcome full (created m (instances_made H + 1) body vnfd last) (creation H now body) last in
+    elim (nat_le MAX_INSTANCES (length (live_instances H))) as (λ crowded.
+    EndsAs last (if crowded then refused 507 (codes "too many instances") last else rest (is_full MAX_REQUESTED (creation H now body ∷ H)))) [
       | true ↦ refusal_ends 507 (codes "too many instances") last
       | false ↦
-          elim (is_full H (creation H now body)) as (λ full. EndsAs last (if full then refused 507 (codes "journal full") last else room)) [
+          elim (is_full MAX_REQUESTED (creation H now body ∷ H)) as (λ full. EndsAs last (rest full)) [
             | true ↦ refusal_ends 507 (codes "journal full") last
             | false ↦ creation_ends m (instances_made H + 1) body vnfd last (creation H now body ∷ [])
           ]

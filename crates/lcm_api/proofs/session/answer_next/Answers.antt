@@ -23,7 +23,7 @@ returns-in-Ok-false-clause-talks g c = λ H ready.
     let end : Ending = record { last = over; told = Ok tt } in
     let heard = rw c.in-Ok-false.field-0-test at c.in-Ok-false.ensures.heard in (
       ended_so c.args.role end,
-      talk_of_end _ _ H c.args.role end (Ok taken.End) _ c.args.mouth.now c.hear.new.self c.hear.new.self _ ready heard.1 c.in-Ok-false.ensures.reads heard.1.is.0 refl refl (λ asks. asks)
+      talk_of_end _ _ H c.args.role end (Ok taken.End) _ c.args.mouth.now c.hear.new.self c.hear.new.self _ (c.works_add_up.ensures.idles c.args.site.now) ready heard.1 c.in-Ok-false.ensures.reads heard.1.is.0 refl refl (λ asks. asks)
           (λ told. ([], refl, converses_none _)) (door_left c.hear.new.self) (λ failed. absurd (true≢false failed)) (counts_left _),
       (end, refl, refl, refl),
     )
@@ -34,7 +34,7 @@ returns-in-Some-clause-talks g c = λ H ready.
     let end : Ending = record { last = unheard c.in-Err.fault (Some c.in-Some.reply); told = told.result } in
     let heard = c.in-Err.ensures.heard in (
       ended_so c.args.role end,
-      talk_of_end _ _ H c.args.role end (Err c.in-Err.fault) _ c.args.mouth.now c.hear.new.self c.tell_last.new.mouth _ ready heard.1 c.in-Err.ensures.reads heard.1.is.0 refl refl
+      talk_of_end _ _ H c.args.role end (Err c.in-Err.fault) _ c.args.mouth.now c.hear.new.self c.tell_last.new.mouth _ (c.works_add_up.ensures.idles c.args.site.now) ready heard.1 c.in-Err.ensures.reads heard.1.is.0 refl refl
           (λ asks. (asks, c.in-Some.ensures))
           (λ tells. says_last c.in-Some.reply told.result _ _ (told.told tells)) c.tell_last.ensures.kept (cause_lost (unheard c.in-Err.fault (Some c.in-Some.reply)) told.result _ _ told.cause) (cause_counts _ _ _ told.cause),
       told_step c.args.role (unheard c.in-Err.fault (Some c.in-Some.reply)) told.result c.tell_last.result refl refl told.is,
@@ -45,7 +45,7 @@ returns-in-None-clause-talks g c = λ H ready.
     let end : Ending = record { last = unheard c.in-Err.fault None; told = Ok tt } in
     let heard = c.in-Err.ensures.heard in (
       ended_so c.args.role end,
-      talk_of_end _ _ H c.args.role end (Err c.in-Err.fault) _ c.args.mouth.now c.hear.new.self c.hear.new.self _ ready heard.1 c.in-Err.ensures.reads heard.1.is.0 refl refl
+      talk_of_end _ _ H c.args.role end (Err c.in-Err.fault) _ c.args.mouth.now c.hear.new.self c.hear.new.self _ (c.works_add_up.ensures.idles c.args.site.now) ready heard.1 c.in-Err.ensures.reads heard.1.is.0 refl refl
           (λ asks. (asks, c.in-None.ensures)) (λ told. ([], refl, converses_none _)) (door_left c.hear.new.self) (λ failed. absurd (true≢false failed)) (counts_left _),
       (end, refl, refl, refl),
     )

@@ -8,7 +8,7 @@ use Rattle.lcm_api.proofs.session.respond.Goals as goal
 pub tell-requires-clause-acknowledged : goal.tell-requires-clause-acknowledged
 tell-requires-clause-acknowledged g c = λ below.
     let ready = c.requires.ready in
-    acknowledged _ _ ready.0 c.request.result.now _ _ _ _ _ c.in-Ok.reply (c.in-Ok.ensures.works ready.0 ready.1) c.request.ensures (c.in-Ok.ensures.reply ready.0 ready.1.keeps)
+    acknowledged _ _ ready.0 c.request.result.now _ _ _ _ _ c.in-Ok.reply (c.works_add_up.ensures.stays c.answer.new.site) (c.in-Ok.ensures.works ready.0 ready.1) c.request.ensures (c.in-Ok.ensures.reply ready.0 ready.1.keeps)
 
 pub returns-in-Ok-tell-clause-responds : goal.returns-in-Ok-tell-clause-responds
 returns-in-Ok-tell-clause-responds g c = λ H ready r hand.

@@ -1,4 +1,3 @@
-use Rattle.std.proofs.Common.{refl}
 use Rattle.vnfm_cli.specs.Course.{ending_of}
 use Rattle.vnfm_cli.proofs.EndingLemmas.{done_status}
 use Rattle.vnfm_cli.proofs.ExactLemmas.{made_ending}
@@ -7,4 +6,4 @@ use Rattle.vnfm_cli.proofs.laws.init_makes_the_journal.Goals as goal
 pub returns : goal.returns
 returns g c = λ words course status m a b from to ks ls old new before now runs ends told are at.
     made_ending course words (g.S.Site.state a) (g.S.Site.state b) m are runs.words_are (runs.does.site told)
-    (done_status ends.put (ending_of course) (ending_of course) status ends.status_is refl at)
+    (done_status ends.put (ending_of course) status ends.status_is at)

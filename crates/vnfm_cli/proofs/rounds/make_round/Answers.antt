@@ -35,7 +35,7 @@ returns-in-Err-clause-makes g c = λ H ready.
 pub returns-in-Nobody-clause-makes : goal.returns-in-Nobody-clause-makes
 returns-in-Nobody-clause-makes g c = λ H ready. (
   round unasked,
-  round_unasked _ _ H Nobody _ c.args.mouth.now c.next.new.self _ _ ready (inl refl) c.in-Nobody.ensures.told c.in-Nobody.ensures.cause c.pass_turn-in-Nobody.ensures.read,
+  round_unasked _ _ H Nobody _ c.args.mouth.now c.next.new.self _ _ (c.works_add_up.ensures.idles c.args.site.now) ready (inl refl) c.in-Nobody.ensures.told c.in-Nobody.ensures.cause c.pass_turn-in-Nobody.ensures.read,
   tt,
   rw c.pass_turn-in-Nobody.ensures.made tt,
 )
@@ -43,7 +43,7 @@ returns-in-Nobody-clause-makes g c = λ H ready. (
 pub returns-in-Ended-clause-makes : goal.returns-in-Ended-clause-makes
 returns-in-Ended-clause-makes g c = λ H ready. (
   round unasked,
-  round_unasked _ _ H Ended _ c.args.mouth.now c.next.new.self _ _ ready (inr refl) c.in-Ended.ensures.told c.in-Ended.ensures.cause c.pass_turn-in-Ended.ensures.read,
+  round_unasked _ _ H Ended _ c.args.mouth.now c.next.new.self _ _ (c.works_add_up.ensures.idles c.args.site.now) ready (inr refl) c.in-Ended.ensures.told c.in-Ended.ensures.cause c.pass_turn-in-Ended.ensures.read,
   tt,
   rw c.pass_turn-in-Ended.ensures.made tt,
 )
@@ -51,7 +51,7 @@ returns-in-Ended-clause-makes g c = λ H ready. (
 pub returns-in-Failed-clause-makes : goal.returns-in-Failed-clause-makes
 returns-in-Failed-clause-makes g c = λ H ready. (
   end unreached,
-  round_unreached _ _ H _ c.args.mouth.now c.next.new.self _ ready c.in-Failed.ensures.told c.in-Failed.ensures.cause,
+  round_unreached _ _ H _ c.args.mouth.now c.next.new.self _ (c.works_add_up.ensures.idles c.args.site.now) ready c.in-Failed.ensures.told c.in-Failed.ensures.cause,
   tt,
   tt,
 )

@@ -2,9 +2,8 @@
 use Rattle.std.proofs.Common.{◌∙◌, ℕ, ap, subst, sym, arith}
 use Rattle.vnfm_cli.specs.Ending.{status_of}
 use Rattle.vnfm_cli.specs.Runs.{MayEndWith}
-use Rattle.lcm_api.proofs.DiskLemmas.{fails_as}
-use Rattle.vnfm_cli.proofs.DiskLemmas.{lost_line, one_fault, seven_lost, site_status, status_site}
-use Rattle.vnfm_cli.proofs.EndingLemmas.{door_status, is_status, put_result, status_result, status_told, told_same, usage_status, yields_result}
+use Rattle.vnfm_cli.proofs.DiskLemmas.{fails_as, lost_line, one_fault}
+use Rattle.vnfm_cli.proofs.EndingLemmas.{door_status, is_status, put_result, seven_lost, site_status, status_result, status_told, told_same, usage_status, yields_result}
 use Rattle.vnfm_cli.proofs.ExactLemmas.{bad_record_ending, complete_ending, door_cause, no_journal_ending, taken_ending, told_bad_record, told_full, told_no_journal, told_refused, told_taken}
 use Rattle.vnfm_cli.proofs.top.run.Goals as goal
 
@@ -19,14 +18,14 @@ returns-clause-causes g c =
       door = λ four. c.obey-ending.ensures.door (door_status _ (status_told _ _ 4 (sym c.finish.ensures.status_is ∙ four) (omega arith)));
       only = rw c.finish.ensures.status_is (is_status c.finish.ensures.put _);
       journal = λ tells five. told_no_journal runs.0 (g.S.Site.state c.args.site.now) (g.S.Site.state c.obey-ending.new.site) (runs.1.does.site tells) (status_result 5 _ _ _ _ c.finish.ensures.status_is runs.2 (omega arith) five);
-      no_journal = λ tells are none. yields_result 5 _ _ _ _ c.finish.ensures.status_is runs.2 (omega arith) (no_journal_ending runs.0 c.args.words.now (g.S.Site.state c.args.site.now) (g.S.Site.state c.obey-ending.new.site) are runs.1.words_are (runs.1.does.site tells) none);
+      no_journal = λ tells are none. yields_result 5 _ _ _ _ c.finish.ensures.status_is runs.2 (omega arith) (no_journal_ending c.files_are_one_thing.ensures.unmade c.files_are_one_thing.ensures.foreign c.files_are_one_thing.ensures.headed c.a_legal_history_has_no_bad_record.ensures runs.0 c.args.words.now (g.S.Site.state c.args.site.now) (g.S.Site.state c.obey-ending.new.site) are runs.1.words_are (runs.1.does.site tells) none);
       record_is_bad = λ tells eight. told_bad_record runs.0 (g.S.Site.state c.args.site.now) (g.S.Site.state c.obey-ending.new.site) (runs.1.does.site tells) (status_result 8 _ _ _ _ c.finish.ensures.status_is runs.2 (omega arith) eight);
-      bad_record = λ tells are n bad. yields_result 8 _ _ _ _ c.finish.ensures.status_is runs.2 (omega arith) (bad_record_ending runs.0 c.args.words.now (g.S.Site.state c.args.site.now) (g.S.Site.state c.obey-ending.new.site) n are runs.1.words_are runs.1.does.legal (runs.1.does.site tells) bad);
+      bad_record = λ tells are n bad. yields_result 8 _ _ _ _ c.finish.ensures.status_is runs.2 (omega arith) (bad_record_ending c.files_are_one_thing.ensures.unmade c.files_are_one_thing.ensures.foreign c.files_are_one_thing.ensures.headed c.a_legal_history_has_no_bad_record.ensures runs.0 c.args.words.now (g.S.Site.state c.args.site.now) (g.S.Site.state c.obey-ending.new.site) n are runs.1.words_are runs.1.does.legal (runs.1.does.site tells) bad);
       full = λ nine. told_full runs.0 c.args.words.now runs.1.words_are (status_result 9 _ _ _ _ c.finish.ensures.status_is runs.2 (omega arith) nine);
       refused = λ ten. told_refused runs.0 c.args.words.now runs.1.words_are (status_result 10 _ _ _ _ c.finish.ensures.status_is runs.2 (omega arith) ten);
       taken = λ tells eleven. told_taken runs.0 c.args.words.now (g.S.Site.state c.args.site.now) (g.S.Site.state c.obey-ending.new.site) runs.1.words_are (runs.1.does.site tells) (status_result 11 _ _ _ _ c.finish.ensures.status_is runs.2 (omega arith) eleven);
       is_taken = λ tells m are not. yields_result 11 _ _ _ _ c.finish.ensures.status_is runs.2 (omega arith) (taken_ending runs.0 c.args.words.now (g.S.Site.state c.args.site.now) (g.S.Site.state c.obey-ending.new.site) m are runs.1.words_are (runs.1.does.site tells) not);
-      sink = λ seven. lost_line _ _ _ c.finish.ensures.counts (seven_lost _ _ (sym c.finish.ensures.status_is ∙ seven));
+      sink = λ seven. lost_line _ _ _ c.finish.ensures.counts (seven_lost _ _ (sym c.finish.ensures.status_is ∙ seven)).0;
     }
 
 pub returns-clause-complete : goal.returns-clause-complete
@@ -34,12 +33,12 @@ returns-clause-complete g c = λ tells command are start disk door sink.
     let runs = c.obey-ending.ensures.runs in
     let P : ℕ → Type 0 = λ status. MayEndWith command status in
     subst P (sym (put_result _ _ _ _ c.finish.ensures.status_is runs.2 (λ lost. sink (lost_line _ _ _ c.finish.ensures.counts lost))))
-    (complete_ending command runs.0 c.args.words.now (g.S.Site.state c.args.site.now) (g.S.Site.state c.obey-ending.new.site) are start runs.1.words_are (runs.1.does.site tells)
+    (complete_ending c.files_are_one_thing.ensures.unmade c.files_are_one_thing.ensures.foreign c.files_are_one_thing.ensures.headed c.a_legal_history_has_no_bad_record.ensures command runs.0 c.args.words.now (g.S.Site.state c.args.site.now) (g.S.Site.state c.obey-ending.new.site) are start runs.1.words_are (runs.1.does.site tells)
     (λ fault. disk (one_fault _ _ (c.obey-ending.ensures.disk.rose (runs.2 ∙ fault))))
     (λ fault. door (door_cause command c.args.words.now _ _ are (c.obey-ending.ensures.door (runs.2 ∙ fault)))))
 
 pub returns-clause-site : goal.returns-clause-site
 returns-clause-site g c =
     fails_as _ _ _ _ c.obey-ending.ensures.disk
-    (λ is. c.finish.ensures.status_is ∙ status_site _ _ is)
-    (λ is. site_status _ _ (sym c.finish.ensures.status_is ∙ is))
+    (λ is. c.finish.ensures.status_is ∙ told_same _ _ 3 (ap status_of is) (omega arith))
+    (λ is. site_status _ (status_told _ _ 3 (sym c.finish.ensures.status_is ∙ is) (omega arith)))

@@ -1,0 +1,17 @@
+use Rattle.executor.proofs.WorkLemmas.{everywhere, idle, joined, opened_then, ready_again}
+use Rattle.executor.proofs.laws.works_add_up.Goals as goal
+
+pub returns-clause-joins : goal.returns-clause-joins
+returns-clause-joins g c = λ a b d m H G w n o first second. joined _ m H G w n o _ _ _ first second
+
+pub returns-clause-idles : goal.returns-clause-idles
+returns-clause-idles g c = λ s m H ready. idle _ m H _ ready
+
+pub returns-clause-leads : goal.returns-clause-leads
+returns-clause-leads g c = λ a b m H w n works fine. ready_again _ m H w n _ _ works fine
+
+pub returns-clause-stays : goal.returns-clause-stays
+returns-clause-stays g c = λ s m H stands. everywhere m H _ stands
+
+pub returns-clause-follows : goal.returns-clause-follows
+returns-clause-follows g c = λ a b d told reads m H w n works start. opened_then _ m H w n _ _ _ told reads works start

@@ -1,0 +1,40 @@
+-- How full the journal of a history is, and what an answer of recording tells of that (own rule, docs/JOURNAL.md).
+use Rattle.std.specs.Prelude.{◌≡◌, ◌≤◌, ◌<◌, ℕ, List, ◌∷◌, length, nat_le, Bool, true, false, Result, Err}
+use Rattle.event_codec.specs.Spell.{spelling}
+use Rattle.journal_core.specs.File.{size}
+use Rattle.journal_core.specs.declared.journal.TheConstants.{MAX_RECORD}
+use Rattle.lcm_events.specs.declared.events.Event.{Event}
+use Rattle.executor.specs.History.{spellings}
+use Rattle.executor.specs.declared.manager.WorkFault.{WorkFault}
+use Rattle.executor.specs.declared.manager.WorkFault.TheVariants as fault
+
+-- where the closed gate stands behind the records of this history, in bytes from the front of the file
+abbrev pub journal_end : List Event → ℕ
+journal_end H = size (spellings H)
+
+-- the closed gate of this history's journal doesn't stand before this place of the file
+unfoldable pub is_full : ℕ → List Event → Bool
+is_full limit H = nat_le limit (journal_end H)
+
+-- behind this history there is room for the event: a record holds its spelling, and the journal isn't full with it
+pub record HasRoomFor (limit : ℕ) (H : List Event) (e : Event) : Type 0 where
+  pub fits : length (spelling e) ≤ MAX_RECORD
+  pub room : is_full limit (e ∷ H) ≡ false
+
+-- the journal is full with the event, which is to come behind this gate and has so many bytes
+pub record IsFullWith (limit : ℕ) (H : List Event) (e : Event) (end more : ℕ) : Type 0 where
+  pub fits : length (spelling e) ≤ MAX_RECORD
+  pub full : is_full limit (e ∷ H) ≡ true
+  pub end_is : end ≡ journal_end H
+  pub more_is : more ≡ length (spelling e)
+
+-- the event's spelling has so many bytes, more than a record
+pub record IsTooLong (e : Event) (n : ℕ) : Type 0 where
+  pub long : MAX_RECORD < length (spelling e)
+  pub is : n ≡ length (spelling e)
+
+-- what an answer of recording tells of the room behind this history
+abbrev pub TellsRoom : ℕ → List Event → Event → Result (Unit {0}) WorkFault → Type 0
+TellsRoom limit H e (Err (fault.TooLong n)) = IsTooLong e n
+TellsRoom limit H e (Err (fault.Full end more)) = IsFullWith limit H e end more
+TellsRoom limit H e other = HasRoomFor limit H e

@@ -1,0 +1,63 @@
+-- What onboarding does, by what was heard at the door.
+use Rattle.std.proofs.Common.{◌≡◌, ◌⊎◌, ℕ, Bool, List, [], take, min, true, false, Result, Ok, Err, refl, ap, ◌∙◌, inl, inr}
+use Rattle.executor.specs.Managed.{Managed, IsReady}
+use Rattle.executor.specs.Work.{Idles, Works}
+use Rattle.lcm_api.specs.Hearing.{heard_of}
+use Rattle.lcm_api.specs.Mouth.{MouthState}
+use Rattle.lcm_api.specs.Talking.{Tells, World, world}
+use Rattle.lcm_events.specs.declared.events.Event.{Event}
+use Rattle.lcm_events.specs.declared.states.Role.{Role}
+use Rattle.onboarding.specs.Doing.{HearsDescriptor, Onboards}
+use Rattle.onboarding.specs.Onboarding.{Onboarding, unready, unheard, cut_off, heard, answer_of, ended_by, judged_answer, worked}
+use Rattle.onboarding.specs.Verdict.{onboarded, verdict}
+use Rattle.onboarding.specs.declared.answer.Onboarded.{Onboarded}
+use Rattle.onboarding.specs.declared.answer.OnboardFault.{OnboardFault}
+use Rattle.onboarding.specs.declared.answer.OnboardFault.TheVariants as fault
+use Rattle.onboarding.specs.declared.hearing.Unheard.{Unheard}
+use Rattle.onboarding.specs.declared.hearing.Unheard.TheVariants.{Waiting, Reading}
+use Rattle.site_traits.specs.Clock.{Gives}
+use Rattle.site_traits.specs.Door.{Conn, DoorState, Comes, ConnIs, HangsUp}
+use Rattle.site_traits.specs.Site.{SiteState}
+
+heard_out : (n : ℕ) (failed : Bool) (c : Conn) → (heard_of n failed c).out ≡ c.out
+heard_out n true c = refl
+heard_out n false c = refl
+
+-- nothing was written to a connection that came, was read and was ended
+pub brought_out : (n : ℕ) (failed : Bool) (role : Role) (a b c d : DoorState) → Comes role a b → ConnIs (heard_of n failed b.conn) b c → HangsUp c d → d.conn.out ≡ []
+brought_out n failed role a b c d comes hears gone =
+    let out : Conn → List ℕ = λ (x : Conn). x.out in
+    ap out gone.conn ∙ ap out hears.conn ∙ heard_out n failed b.conn ∙ ap out comes.conn
+
+-- bytes were heard, judged and recorded
+pub onboards_heard : (t : Tells) (m : ℕ) (H : List Event) (n : Managed) (count now value : ℕ) (room : List ℕ) (answer : Result Onboarded OnboardFault) (w v : World)
+    → HearsDescriptor t.door (Ok count) room w.mouth v.mouth
+    → answer ≡ judged_answer (verdict H now (take count room)) (ended_by answer)
+    → Works t.site m H (worked H (onboarded now (verdict H now (take count room))) (ended_by answer)) n w.site v.site
+    → (t.clock → Gives value w.clock v.clock) → now ≡ min value 253402300799999
+    → (o : Onboarding) × Onboards t m H o n w v × (answer ≡ answer_of H o)
+onboards_heard t m H n count now value room answer w v hears told works gives moment = (
+  heard (take count room) now (ended_by answer),
+  record { works = works; brings = record { door = hears; clock = λ tells. record { value = value; gives = gives tells; moment_is = moment } } },
+  told,
+)
+
+-- nothing was heard
+pub onboards_unheard : (t : Tells) (m : Managed) (H : List Event) (why : Unheard) (room : List ℕ) (s : SiteState) (c d : MouthState) (ks : List ℕ)
+    → HearsDescriptor t.door (Err why) room c d → Idles t.site s → IsReady t.site m H s
+    → (o : Onboarding) × Onboards t m.ledger.manager H o m (world s c ks) (world s d ks) × (Err fault.Door ≡ answer_of H o)
+onboards_unheard t m H Waiting room s c d ks hears idles ready =
+    (unheard, record { works = idles m H ready; brings = record { door = hears; clock = λ tells. refl } }, refl)
+onboards_unheard t m H Reading room s c d ks hears idles ready =
+    (cut_off hears.0, record { works = idles m H ready; brings = record { door = hears.1; clock = λ tells. refl } }, refl)
+
+-- there was no memory to read into
+pub onboards_unready : (t : Tells) (m : Managed) (H : List Event) (s : SiteState) (c : MouthState) (ks : List ℕ) → Idles t.site s → IsReady t.site m H s
+    → (o : Onboarding) × Onboards t m.ledger.manager H o m (world s c ks) (world s c ks) × (Err fault.Memory ≡ answer_of H o)
+onboards_unready t m H s c ks idles ready =
+    (unready, record { works = idles m H ready; brings = record { door = refl; clock = λ tells. refl } }, refl)
+
+-- why nothing was heard
+pub unheard_cause : (A B : Type 0) (why : Unheard) (result : Result ℕ Unheard) → result ≡ Err why → (result ≡ Err Waiting → A) → (result ≡ Err Reading → B) → A ⊎ B
+unheard_cause A B Waiting result is waiting reading = inl (waiting is)
+unheard_cause A B Reading result is waiting reading = inr (reading is)

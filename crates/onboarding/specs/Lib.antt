@@ -1,0 +1,4 @@
+pub mod Doing
+pub mod Judging
+pub mod Onboarding
+pub mod Verdict

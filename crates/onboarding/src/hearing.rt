@@ -1,0 +1,106 @@
+//! Onboarding: a connection's bytes are heard, and their descriptor is taken in.
+ghost use Rattle.std.specs.Prelude.{◌≡◌, ◌≤◌, ◌⊎◌, List, length, IfOk};
+ghost use Rattle.executor.specs.Managed.{IsReady};
+ghost use Rattle.lcm_api.specs.Talking.{telling, world};
+ghost use Rattle.lcm_events.specs.declared.events.Event.{Event};
+ghost use Rattle.onboarding.specs.Doing.{HearsDescriptor, Onboards};
+ghost use Rattle.onboarding.specs.Onboarding.{Onboarding, answer_of};
+ghost use Rattle.site_traits.specs.Counts.{OnlyDiskFails, Rose};
+
+use crate::answer::{OnboardFault, Onboarded};
+use crate::judge::take_in;
+use crate::limits::MAX_READ;
+use executor::{Manager, works_add_up};
+use lcm_api::Mouth;
+use site_traits::{Clock, Door, NextAnswer, Site};
+use std::alloc::Global;
+use vnfm_base::Moment;
+
+/// Onboards the descriptor that the door's first connection brings.
+///
+/// The connection is read to its end or to its 1,048,577th byte, and then ended; where nobody comes the descriptor is empty.
+/// Then the clock is read, the descriptor is judged, and its event is recorded. The first of these that fails gives the answer.
+/// Conditions: the manager isn't closed, and its file has its history.
+/// Source: SOL 001, in the form of docs/DESCRIPTORS.md; the limits are an own rule.
+pub fn onboard<S: Site, D: Door, K: Clock>(
+    alloc: Global,
+    manager: &mut Manager<S>,
+    site: &mut S,
+    mouth: &mut Mouth<D>,
+    clock: &mut K,
+) -> Result<Onboarded, OnboardFault>
+    requires ready { (H : List Event) × IsReady S.tells manager.old H (S.state site.old) }
+    ensures onboards { (H : List Event) → IsReady S.tells manager.old H (S.state site.old) → (o : Onboarding)
+        × Onboards (telling S.tells D.tells K.tells) manager.old.ledger.manager H o manager.new
+        (world (S.state site.old) mouth.old (K.state clock.old)) (world (S.state site.new) mouth.new (K.state clock.new))
+        × (result ≡ answer_of H o) }
+    ensures disk { OnlyDiskFails (result ≡ Err OnboardFault.Disk) (S.counts site.old) (S.counts site.new) }
+    ensures door { result ≡ Err OnboardFault.Door → Rose mouth.old.wire.intake.counts.next mouth.new.wire.intake.counts.next ⊎ Rose mouth.old.wire.intake.counts.faults mouth.new.wire.intake.counts.faults }
+{
+    works_add_up::<S>();
+    match vec![in alloc; 0; MAX_READ] {
+        Ok(mut room) => onboard_into(alloc, manager, site, mouth, clock, room.as_mut_slice()),
+        Err(_) => Err(OnboardFault::Memory),
+    }
+}
+
+/// The same, with room for the descriptor.
+fn onboard_into<S: Site, D: Door, K: Clock>(
+    alloc: Global,
+    manager: &mut Manager<S>,
+    site: &mut S,
+    mouth: &mut Mouth<D>,
+    clock: &mut K,
+    room: &mut [u8],
+) -> Result<Onboarded, OnboardFault>
+    requires room { length room.old ≡ MAX_READ }
+    requires ready { (H : List Event) × IsReady S.tells manager.old H (S.state site.old) }
+    ensures onboards { (H : List Event) → IsReady S.tells manager.old H (S.state site.old) → (o : Onboarding)
+        × Onboards (telling S.tells D.tells K.tells) manager.old.ledger.manager H o manager.new
+        (world (S.state site.old) mouth.old (K.state clock.old)) (world (S.state site.new) mouth.new (K.state clock.new))
+        × (result ≡ answer_of H o) }
+    ensures disk { OnlyDiskFails (result ≡ Err OnboardFault.Disk) (S.counts site.old) (S.counts site.new) }
+    ensures door { result ≡ Err OnboardFault.Door → Rose mouth.old.wire.intake.counts.next mouth.new.wire.intake.counts.next ⊎ Rose mouth.old.wire.intake.counts.faults mouth.new.wire.intake.counts.faults }
+{
+    works_add_up::<S>();
+    match hear(mouth, room) {
+        Ok(count) => {
+            let now = Moment::of(clock.now());
+            take_in(alloc, manager, site, &room[..count], now)
+        }
+        Err(_) => Err(OnboardFault::Door),
+    }
+}
+
+/// Why no descriptor was heard.
+#[derive(Clone, Copy)]
+enum Unheard {
+    /// Waiting for a connection failed.
+    Waiting,
+    /// A read failed.
+    Reading,
+}
+
+/// Reads the first connection's bytes into the room, and says how many there are; none where nobody comes.
+fn hear<D: Door>(mouth: &mut Mouth<D>, room: &mut [u8]) -> Result<usize, Unheard>
+    requires room { length room.old ≡ MAX_READ }
+    ensures within { IfOk result (λ count. count ≤ length room.new) }
+    ensures heard { HearsDescriptor D.tells result room.new mouth.old mouth.new }
+    ensures waiting { result ≡ Err Unheard.Waiting → Rose mouth.old.wire.intake.counts.next mouth.new.wire.intake.counts.next }
+    ensures reading { result ≡ Err Unheard.Reading → Rose mouth.old.wire.intake.counts.faults mouth.new.wire.intake.counts.faults }
+{
+    match mouth.next() {
+        NextAnswer::Came(_) => {
+            let reading = mouth.read_to_end(room);
+            mouth.hang_up();
+            if reading.failed {
+                Err(Unheard::Reading)
+            } else {
+                Ok(reading.count)
+            }
+        }
+        NextAnswer::Nobody => Ok(0),
+        NextAnswer::Ended => Ok(0),
+        NextAnswer::Failed => Err(Unheard::Waiting),
+    }
+}

@@ -1,0 +1,92 @@
+//! What becomes of a descriptor that was heard: it is read, judged by the history, and its event is recorded.
+ghost use Rattle.std.specs.Prelude.{◌≡◌, ℕ, List, length};
+ghost use Rattle.executor.specs.Managed.{IsReady, Keeps};
+ghost use Rattle.executor.specs.Work.{Works};
+ghost use Rattle.lcm_events.specs.declared.events.Event.{Event};
+ghost use Rattle.lcm_events.specs.declared.events.EventKind.TheVariants.{Onboarded as OnboardedKind};
+ghost use Rattle.lcm_model.specs.Descriptors.{IsValid};
+ghost use Rattle.onboarding.specs.Judging.{Judges, JudgesNew};
+ghost use Rattle.onboarding.specs.Onboarding.{ended_by, judged_answer, worked};
+ghost use Rattle.onboarding.specs.Verdict.{onboarded, verdict};
+ghost use Rattle.site_traits.specs.Counts.{OnlyDiskFails};
+
+use crate::answer::{DescriptorRefusal, OnboardFault, Onboarded};
+use crate::limits::MAX_DESCRIPTORS;
+use executor::{Manager, works_add_up};
+use journal_core::MAX_FILE;
+use lcm_events::{Event, EventKind, Vnfd};
+use site_traits::Site;
+use std::alloc::Global;
+use vnfd_reader::{VnfdFault, read};
+use vnfm_base::Moment;
+
+/// Judges the descriptor of these bytes, and records it. All memory is taken before its event is appended.
+pub fn take_in<S: Site>(
+    alloc: Global,
+    manager: &mut Manager<S>,
+    site: &mut S,
+    bytes: &[u8],
+    now: Moment,
+) -> Result<Onboarded, OnboardFault>
+    requires ready { (H : List Event) × IsReady S.tells manager.old H (S.state site.old) }
+    ensures answer { (H : List Event) → Keeps manager.old H → result ≡ judged_answer (verdict H now bytes.now) (ended_by result) }
+    ensures works { (H : List Event) → IsReady S.tells manager.old H (S.state site.old) → Works S.tells manager.old.ledger.manager H
+        (worked H (onboarded now (verdict H now bytes.now)) (ended_by result)) manager.new (S.state site.old) (S.state site.new) }
+    ensures disk { OnlyDiskFails (result ≡ Err OnboardFault.Disk) (S.counts site.old) (S.counts site.new) }
+{
+    works_add_up::<S>();
+    let vnfd = judge(alloc, manager, bytes)?;
+    let said = said_of(&vnfd);
+    let event = onboarding(now, vnfd);
+    let recorded = manager.commit(alloc, site, &event, MAX_FILE);
+    drop(event);
+    recorded?;
+    Ok(said)
+}
+
+/// The descriptor of these bytes, where it may be onboarded.
+fn judge<S: Site>(alloc: Global, manager: &Manager<S>, bytes: &[u8]) -> Result<Vnfd, OnboardFault>
+    ensures judged { (H : List Event) → Keeps manager.now H → Judges H bytes.now result }
+{
+    match read(alloc, bytes) {
+        Ok(vnfd) => judge_new(manager, vnfd),
+        Err(VnfdFault::Memory) => Err(OnboardFault::Memory),
+        Err(fault) => Err(OnboardFault::Refused(DescriptorRefusal::Unread(fault))),
+    }
+}
+
+/// A descriptor that was read, where the history lets it be onboarded.
+fn judge_new<S: Site>(manager: &Manager<S>, vnfd: Vnfd) -> Result<Vnfd, OnboardFault>
+    requires valid { IsValid vnfd }
+    ensures judged { (H : List Event) → Keeps manager.now H → JudgesNew H vnfd result }
+{
+    if manager.vnfd(&vnfd.descriptor_id).is_some() {
+        return Err(OnboardFault::Refused(DescriptorRefusal::IsOnboarded));
+    }
+    if manager.descriptors() >= MAX_DESCRIPTORS {
+        return Err(OnboardFault::Refused(DescriptorRefusal::TooMany));
+    }
+    Ok(vnfd)
+}
+
+/// What is said of a descriptor.
+fn said_of(vnfd: &Vnfd) -> Onboarded
+    ensures { result ≡ record { id = vnfd.now.descriptor_id; vdus = length vnfd.now.vdus; aspects = length vnfd.now.aspects; levels = length vnfd.now.levels } }
+{
+    Onboarded {
+        id: vnfd.descriptor_id,
+        vdus: vnfd.vdus.len(),
+        aspects: vnfd.aspects.len(),
+        levels: vnfd.levels.len(),
+    }
+}
+
+/// The event that a descriptor was onboarded.
+fn onboarding(moment: Moment, vnfd: Vnfd) -> Event
+    ensures { result ≡ record { moment = moment; kind = OnboardedKind vnfd } }
+{
+    Event {
+        moment,
+        kind: EventKind::Onboarded(vnfd),
+    }
+}
