@@ -72,22 +72,13 @@ recorded H e (Err other) = went H
 abbrev pub Joins : Type 0 → SiteState → SiteState → SiteState → Type 0
 Joins tells a b c = (m : ℕ) (H G : List Event) (w : Work) (n o : Managed) → Works tells m H (went G) n a b → Works tells m G w o b c → Works tells m H w o a c
 
-abbrev pub JoinsWorks : {S : Type 0} → Type 0 → (S → SiteState) → Type 0
-JoinsWorks {S} tells state = (a b c : S) → Joins tells (state a) (state b) (state c)
-
 -- where nothing is done that is a work
 abbrev pub Idles : Type 0 → SiteState → Type 0
 Idles tells s = (m : Managed) (H : List Event) → IsReady tells m H s → Works tells m.ledger.manager H (went H) m s s
 
-abbrev pub IdlesWell : {S : Type 0} → Type 0 → (S → SiteState) → Type 0
-IdlesWell {S} tells state = (s : S) → Idles tells (state s)
-
 -- behind work in which the disk didn't fail the manager is ready for more
 abbrev pub LeadsOn : Type 0 → SiteState → SiteState → Type 0
 LeadsOn tells a b = (m : ℕ) (H : List Event) (w : Work) (n : Managed) → Works tells m H w n a b → failed w ≡ false → IsReady tells n (stood w) b
-
-abbrev pub LeadsToMore : {S : Type 0} → Type 0 → (S → SiteState) → Type 0
-LeadsToMore {S} tells state = (a b : S) → LeadsOn tells (state a) (state b)
 
 -- what is read, and whatever a stop leaves now, has the history for which the manager stands
 pub record HasEverywhere (m : ℕ) (H : List Event) (s : SiteState) : Type 0 where
@@ -97,14 +88,8 @@ pub record HasEverywhere (m : ℕ) (H : List Event) (s : SiteState) : Type 0 whe
 abbrev pub Stays : SiteState → Type 0
 Stays s = (m : Managed) (H : List Event) → StandsFor m H s → HasEverywhere m.ledger.manager H s
 
-abbrev pub StaysEverywhere : {S : Type 0} → (S → SiteState) → Type 0
-StaysEverywhere {S} state = (s : S) → Stays (state s)
-
 -- Where a journal was opened that any stop leaves with history H, and then work was done on it, a stop leaves a history from H to the one
 -- that the work aimed at.
 abbrev pub Follows : Type 0 → SiteState → SiteState → SiteState → Type 0
 Follows tells a b c = tells → SyncsAndReads a b → (m : ℕ) (H : List Event) (w : Work) (n : Managed) → Works tells m H w n b c
     → ((p : Pair) → a.since a.moment p → HasHistory m H p.image) → LeavesOnly (HasSome m H (aimed w)) a c
-
-abbrev pub FollowsOpening : {S : Type 0} → Type 0 → (S → SiteState) → Type 0
-FollowsOpening {S} tells state = (a b c : S) → Follows tells (state a) (state b) (state c)

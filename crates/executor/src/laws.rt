@@ -1,6 +1,6 @@
 //! What holds of every journal's file, as contracts of calls that do nothing.
 ghost use Rattle.executor.specs.Laws.{HasNoBadRecord, HasOneBadRecord, HasOneHistory};
-ghost use Rattle.executor.specs.Work.{FollowsOpening, IdlesWell, JoinsWorks, LeadsToMore, StaysEverywhere};
+ghost use Rattle.executor.specs.Work.{Follows, Idles, Joins, LeadsOn, Stays};
 
 use event_codec::no_spelling_begins_another;
 use journal_core::files_are_one_thing;
@@ -42,9 +42,9 @@ pub fn a_bad_record_is_the_only_one()
 ///
 /// Source: own rule.
 pub fn works_add_up<S: Site>()
-    ensures joins { JoinsWorks S.tells S.state }
-    ensures idles { IdlesWell S.tells S.state }
-    ensures leads { LeadsToMore S.tells S.state }
-    ensures stays { StaysEverywhere S.state }
-    ensures follows { FollowsOpening S.tells S.state }
+    ensures joins { (a b c : S) → Joins S.tells (S.state a) (S.state b) (S.state c) }
+    ensures idles { (s : S) → Idles S.tells (S.state s) }
+    ensures leads { (a b : S) → LeadsOn S.tells (S.state a) (S.state b) }
+    ensures stays { (s : S) → Stays (S.state s) }
+    ensures follows { (a b c : S) → Follows S.tells (S.state a) (S.state b) (S.state c) }
 {}

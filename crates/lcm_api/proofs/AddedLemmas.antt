@@ -1,5 +1,5 @@
 -- With what a request adds the history stays legal.
-use Rattle.std.proofs.Common.{◌≡◌, ◌+◌, ◌++◌, ℕ, List, ◌∷◌, length, Bool, true, false, Option, Some, None, Result, Ok, Err, ap, refl}
+use Rattle.std.proofs.Common.{◌≡◌, ◌+◌, ◌++◌, ℕ, List, [], ◌∷◌, length, Bool, true, false, Option, Some, None, Result, Ok, Err, ap, refl}
 use Rattle.std.specs.Prelude.{is_some, nat_le, codes, if◌then◌else◌}
 use Rattle.std.proofs.lemmas.Bool.{leb-false}
 use Rattle.json_views.specs.Body.{create_of}
@@ -10,9 +10,10 @@ use Rattle.lcm_events.specs.declared.events.Event.{Event}
 use Rattle.lcm_events.specs.declared.descriptor.Vnfd.{Vnfd}
 use Rattle.lcm_model.specs.Allowed.{IsLegal}
 use Rattle.lcm_model.specs.Lives.{descriptor_named, instances_made, live_instances}
-use Rattle.lcm_api.specs.Outcome.{Outcome, outcome, body_outcome, create_outcome, described_outcome, created, creation, is_create, refused, room_outcome}
+use Rattle.lcm_api.specs.Outcome.{Outcome, outcome, body_outcome, create_outcome, described_outcome, created, creation, refused, room_outcome, route_of, routed}
+use Rattle.lcm_api.specs.declared.route.Route.TheVariants.{Create}
 use Rattle.executor.specs.Room.{is_full}
-use Rattle.lcm_api.specs.declared.answer.TheConstants.{MAX_INSTANCES, MAX_REQUESTED}
+use Rattle.lcm_api.specs.declared.create.TheConstants.{MAX_INSTANCES, MAX_REQUESTED}
 use Rattle.http_wire.specs.declared.request.Request.{Request}
 
 -- with what the outcome adds the history is legal
@@ -50,7 +51,7 @@ body_legal m H now (Err Memory) last legal = legal
 -- with what a request adds the history is legal
 pub outcome_legal : (m : ℕ) (H : List Event) (now : ℕ) (r : Request) → IsLegal m H → AddsOn m H (outcome m H now r)
 outcome_legal m H now r legal =
-    elim (is_create r) as (λ creates. AddsOn m H (if creates then body_outcome m H now (create_of r.body) r.last else refused 404 (codes "no such resource") r.last)) [
-      | true ↦ body_legal m H now (create_of r.body) r.last legal
-      | false ↦ legal
+    elim (route_of r) as (λ route. AddsOn m H (routed route m H now r)) [
+      | Some Create ↦ body_legal m H now (create_of r.body) r.last legal
+      | None ↦ legal
     ]

@@ -16,9 +16,9 @@ use Rattle.lcm_model.specs.Lives.{descriptor_named, instances_made, live_instanc
 use Rattle.journal_core.specs.declared.journal.TheConstants.{MAX_RECORD}
 use Rattle.lcm_api.specs.Outcome.{create_outcome, creation, created, refused, refusal, room_outcome}
 use Rattle.lcm_api.specs.Steps.{IsStep}
-use Rattle.lcm_api.specs.declared.answer.TheConstants.{MAX_INSTANCES}
+use Rattle.lcm_api.specs.declared.create.TheConstants.{MAX_INSTANCES}
 use Rattle.lcm_api.specs.declared.reply.Reply.{Reply}
-use Rattle.lcm_api.specs.declared.answer.Step.TheVariants.{Creates}
+use Rattle.lcm_api.specs.declared.create.Step.TheVariants.{Creates}
 
 -- the creation of the instance of this number
 abbrev pub created_as : ℕ → ℕ → CreateBody → Event

@@ -13,8 +13,10 @@ use Rattle.json_views.specs.Problem.{problem_text}
 use Rattle.json_views.specs.declared.body.CreateBody.{CreateBody}
 use Rattle.json_views.specs.declared.body.BodyFault.{BodyFault}
 use Rattle.json_views.specs.declared.body.BodyFault.TheVariants.{Malformed, Lacks, Wrong, Memory}
-use Rattle.lcm_api.specs.declared.answer.TheConstants.{MAX_INSTANCES, MAX_REQUESTED}
+use Rattle.lcm_api.specs.declared.create.TheConstants.{MAX_INSTANCES, MAX_REQUESTED}
 use Rattle.lcm_api.specs.declared.reply.Reply.{Reply}
+use Rattle.lcm_api.specs.declared.route.Route.{Route}
+use Rattle.lcm_api.specs.declared.route.Route.TheVariants.{Create}
 use Rattle.http_wire.specs.declared.request.Request.{Request}
 
 -- a reply, and the events that the request adds, the latest first
@@ -86,7 +88,16 @@ body_outcome m H now (Err Memory) last = record { reply = starved; after = [] }
 abbrev pub is_create : Request → Bool
 is_create r = bytes_eq r.method (codes "POST") && bytes_eq r.target (codes "/vnflcm/v1/vnf_instances")
 
+-- what a request asks for, by its method and its target
+abbrev pub route_of : Request → Option Route
+route_of r = if is_create r then Some Create else None
+
+-- what a request on this route comes to
+abbrev pub routed : Option Route → ℕ → List Event → ℕ → Request → Outcome
+routed None m H now r = refused 404 (codes "no such resource") r.last
+routed (Some Create) m H now r = body_outcome m H now (create_of r.body) r.last
+
 -- What a request comes to, after history H of manager m, taken at this moment. The connection ends with the reply where it ends
 -- with the request (RFC 9112 9.6).
 abbrev pub outcome : ℕ → List Event → ℕ → Request → Outcome
-outcome m H now r = if is_create r then body_outcome m H now (create_of r.body) r.last else refused 404 (codes "no such resource") r.last
+outcome m H now r = routed (route_of r) m H now r

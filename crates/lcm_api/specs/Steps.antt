@@ -7,9 +7,9 @@ use Rattle.executor.specs.Room.{is_full}
 use Rattle.journal_core.specs.declared.journal.TheConstants.{MAX_RECORD}
 use Rattle.lcm_events.specs.declared.events.Event.{Event}
 use Rattle.lcm_api.specs.Outcome.{Outcome, room_outcome}
-use Rattle.lcm_api.specs.declared.answer.TheConstants.{MAX_REQUESTED}
-use Rattle.lcm_api.specs.declared.answer.Step.{Step}
-use Rattle.lcm_api.specs.declared.answer.Step.TheVariants.{Refused, Creates}
+use Rattle.lcm_api.specs.declared.create.TheConstants.{MAX_REQUESTED}
+use Rattle.lcm_api.specs.declared.create.Step.{Step}
+use Rattle.lcm_api.specs.declared.create.Step.TheVariants.{Refused, Creates}
 
 -- the event may be recorded behind this history, which the manager keeps, and a record holds it
 pub record MayCreate (m : Managed) (H : List Event) (e : Event) : Type 0 where

@@ -1,34 +1,21 @@
 //! Answering one request: its reply, and at most one event, which is on the disk before the reply is given.
-ghost use Rattle.std.specs.Prelude.{◌≡◌, ◌≢◌, ◌≤◌, ◌<◌, ◌+◌, ◌∷◌, ℕ, List, [], IfOk, OnOk, OnErr, Some, None, false, true};
-ghost use Rattle.event_codec.specs.Spell.{spelling};
-ghost use Rattle.event_codec.specs.Valid.{IsEvent};
-ghost use Rattle.event_codec.specs.Typed.{TypedEvent};
-ghost use Rattle.lcm_events.specs.declared.events.Event.{Event};
-ghost use Rattle.site_traits.specs.Counts.{OnlyDiskFails};
+ghost use Rattle.std.specs.Prelude.{◌≡◌, List, IfOk};
 ghost use Rattle.executor.specs.Managed.{IsReady, Keeps};
-ghost use Rattle.executor.specs.Room.{is_full};
 ghost use Rattle.executor.specs.Work.{Works};
 ghost use Rattle.lcm_api.specs.Answering.{answered};
-ghost use Rattle.lcm_api.specs.Steps.{IsStep, MayCreate};
-ghost use Rattle.lcm_events.specs.declared.events.EventKind.TheVariants.{Created};
-ghost use Rattle.lcm_api.specs.Outcome.{outcome, create_outcome, creation, refusal, room_outcome};
+ghost use Rattle.lcm_api.specs.Outcome.{outcome};
+ghost use Rattle.lcm_events.specs.declared.events.Event.{Event};
+ghost use Rattle.site_traits.specs.Counts.{OnlyDiskFails};
 
-use crate::judge::{Verdict, created, judge, refusal};
-use crate::reply::Reply;
-use executor::{Manager, WorkFault, works_add_up};
+use crate::create::create;
+use crate::reply::{Reply, refusal};
+use crate::route::{Route, route_of};
+use executor::{Manager, works_add_up};
 use http_wire::Request;
-use json_views::CreateBody;
-use lcm_events::{Event, EventKind};
 use site_traits::Site;
-use std::alloc::{AllocError, Global};
+use std::alloc::Global;
 use thiserror::Error;
-use vnfm_base::{Kind, Moment};
-
-/// Instances that may be live at one time.
-pub const MAX_INSTANCES: u64 = 1_000;
-
-/// Bytes of the journal up to which requests are taken. What works on behind them has the rest.
-pub const MAX_REQUESTED: u64 = 201_326_592;
+use vnfm_base::Moment;
 
 /// Why a request wasn't answered.
 #[derive(Debug, Drop, Error)]
@@ -39,13 +26,6 @@ pub enum ApiFault {
     /// There is no memory: 503 is told. Nothing has changed.
     #[error("no memory")]
     Memory,
-}
-
-/// What a create request comes to: a refusal, or the event and the reply that acknowledges it.
-#[derive(Drop)]
-enum Step {
-    Refused(Reply),
-    Creates(Event, Reply),
 }
 
 /// Answers a request taken at this moment.
@@ -67,101 +47,11 @@ pub fn answer<S: Site>(
     ensures counts { OnlyDiskFails (result ≡ Err ApiFault.Disk) (S.counts site.old) (S.counts site.new) }
 {
     works_add_up::<S>();
-    match judge(alloc, request) {
-        Ok(Verdict::Refused(reply)) => Ok(reply),
-        Ok(Verdict::Create(body)) => create(alloc, manager, site, body, now, request.last),
-        Err(_) => Err(ApiFault::Memory),
-    }
-}
-
-/// Answers a create request with this body.
-fn create<S: Site>(
-    alloc: Global,
-    manager: &mut Manager<S>,
-    site: &mut S,
-    body: CreateBody,
-    now: Moment,
-    last: bool,
-) -> Result<Reply, ApiFault>
-    requires ready { (H : List Event) × IsReady S.tells manager.old H (S.state site.old) }
-    ensures reply { (H : List Event) → Keeps manager.old H → IfOk result (λ given. given ≡ (create_outcome manager.old.ledger.manager H now body last).reply) }
-    ensures works { (H : List Event) → IsReady S.tells manager.old H (S.state site.old) → Works S.tells manager.old.ledger.manager H
-        (answered (create_outcome manager.old.ledger.manager H now body last) H result) manager.new (S.state site.old) (S.state site.new) }
-    ensures counts { OnlyDiskFails (result ≡ Err ApiFault.Disk) (S.counts site.old) (S.counts site.new) }
-{
-    works_add_up::<S>();
-    match prepare(alloc, manager, body, now, last) {
-        Ok(Step::Refused(reply)) => Ok(reply),
-        Ok(Step::Creates(event, reply)) => {
-            let answer = record(alloc, manager, site, &event, reply, last);
-            drop(event);
-            answer
-        }
-        Err(_) => Err(ApiFault::Memory),
-    }
-}
-
-/// What a create request with this body comes to, before it is known whether there is room for it.
-fn prepare<S: Site>(
-    alloc: Global,
-    manager: &Manager<S>,
-    body: CreateBody,
-    now: Moment,
-    last: bool,
-) -> Result<Step, AllocError>
-    requires usable { manager.now.ledger.closed ≡ false }
-    ensures step { (H : List Event) → Keeps manager.now H → IfOk result (IsStep (create_outcome manager.now.ledger.manager H now body last) manager.now H last) }
-{
-    let Some(vnfd) = manager.vnfd(&body.vnfd) else {
-        return Ok(Step::Refused(refusal(alloc, 422, "vnfdId is not onboarded", last)?));
-    };
-    if manager.live(Kind::Instance) >= MAX_INSTANCES {
-        return Ok(Step::Refused(refusal(alloc, 507, "too many instances", last)?));
-    }
-    let n = manager.next_instance();
-    let reply = created(alloc, manager.number(), n, &body, vnfd, last)?;
-    Ok(Step::Creates(creation(n, now, body), reply))
-}
-
-/// The event that an instance was created.
-fn creation(instance: u64, moment: Moment, body: CreateBody) -> Event
-    ensures { result ≡ record { moment = moment; kind = Created instance body.vnfd body.name body.text } }
-{
-    Event {
-        moment,
-        kind: EventKind::Created {
-            instance,
-            vnfd: body.vnfd,
-            name: body.name,
-            text: body.text,
-        },
-    }
-}
-
-/// Records the event, and then gives the reply. Where there is no room for it, it is refused.
-fn record<S: Site>(
-    alloc: Global,
-    manager: &mut Manager<S>,
-    site: &mut S,
-    event: &Event,
-    reply: Reply,
-    last: bool,
-) -> Result<Reply, ApiFault>
-    requires creates { (H : List Event) × IsReady S.tells manager.old H (S.state site.old) × MayCreate manager.old H event.now }
-    ensures reply { (H : List Event) → Keeps manager.old H → IfOk result (λ given. given ≡ (room_outcome (is_full MAX_REQUESTED (event.now ∷ H)) reply event.now last).reply) }
-    ensures works { (H : List Event) → IsReady S.tells manager.old H (S.state site.old) → Works S.tells manager.old.ledger.manager H
-        (answered (room_outcome (is_full MAX_REQUESTED (event.now ∷ H)) reply event.now last) H result) manager.new (S.state site.old) (S.state site.new) }
-    ensures counts { OnlyDiskFails (result ≡ Err ApiFault.Disk) (S.counts site.old) (S.counts site.new) }
-{
-    match manager.commit(alloc, site, event, MAX_REQUESTED) {
-        Ok(()) => Ok(reply),
-        Err(WorkFault::Full { .. }) => match refusal(alloc, 507, "journal full", last) {
-            Ok(refused) => Ok(refused),
+    match route_of(request) {
+        Some(Route::Create) => create(alloc, manager, site, request, now),
+        None => match refusal(alloc, 404, "no such resource", request.last) {
+            Ok(reply) => Ok(reply),
             Err(_) => Err(ApiFault::Memory),
         },
-        // A creation is far shorter than a record.
-        Err(WorkFault::TooLong(_)) => unreachable!(),
-        Err(WorkFault::Memory) => Err(ApiFault::Memory),
-        Err(WorkFault::Disk) => Err(ApiFault::Disk),
     }
 }

@@ -2,17 +2,19 @@
 #![tactic(auto)]
 
 mod answer;
+mod create;
 mod door;
-mod judge;
 mod laws;
 mod listen;
 mod mouth;
 mod outgoing;
 mod reply;
+mod route;
 mod session;
 mod tell;
 
-pub use answer::{ApiFault, MAX_INSTANCES, MAX_REQUESTED};
+pub use answer::ApiFault;
+pub use create::{MAX_INSTANCES, MAX_REQUESTED};
 pub use door::DoorFailed;
 pub use http_wire::{Request, WireFault};
 pub use laws::{a_reply_is_last_where_its_request_is, limits_are_fixed};

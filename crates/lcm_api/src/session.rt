@@ -12,9 +12,8 @@ ghost use Rattle.site_traits.specs.Counts.{OnlyDiskFails};
 
 use crate::answer::{ApiFault, answer};
 use crate::door::DoorFailed;
-use crate::judge::{bare, malformed, too_large};
 use crate::mouth::Mouth;
-use crate::reply::Reply;
+use crate::reply::{Reply, bare, malformed, too_large};
 use executor::{Manager, works_add_up};
 use http_wire::WireFault;
 use lcm_events::Role;

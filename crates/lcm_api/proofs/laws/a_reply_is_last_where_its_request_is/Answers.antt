@@ -8,9 +8,10 @@ use Rattle.json_views.specs.declared.body.CreateBody.{CreateBody}
 use Rattle.lcm_events.specs.declared.events.Event.{Event}
 use Rattle.lcm_events.specs.declared.descriptor.Vnfd.{Vnfd}
 use Rattle.lcm_model.specs.Lives.{descriptor_named, instances_made, live_instances}
-use Rattle.lcm_api.specs.Outcome.{Outcome, body_outcome, described_outcome, created, creation, is_create, refusal, refused, room_outcome}
+use Rattle.lcm_api.specs.Outcome.{Outcome, body_outcome, described_outcome, created, creation, refusal, refused, room_outcome, route_of, routed}
+use Rattle.lcm_api.specs.declared.route.Route.TheVariants.{Create}
 use Rattle.executor.specs.Room.{is_full}
-use Rattle.lcm_api.specs.declared.answer.TheConstants.{MAX_INSTANCES, MAX_REQUESTED}
+use Rattle.lcm_api.specs.declared.create.TheConstants.{MAX_INSTANCES, MAX_REQUESTED}
 use Rattle.lcm_api.proofs.laws.a_reply_is_last_where_its_request_is.Goals as goal
 
 -- the reading doesn't speak of memory
@@ -90,7 +91,7 @@ body_ends m H now (Err Memory) last is = absurd is
 
 pub returns : goal.returns
 returns c m H now r =
-    elim (is_create r) as (λ creates. EndsAs r.last (if creates then body_outcome m H now (create_of r.body) r.last else refused 404 (codes "no such resource") r.last)) [
-      | true ↦ body_ends m H now (create_of r.body) r.last (create_of_bytes r.body)
-      | false ↦ refusal_ends 404 (codes "no such resource") r.last
+    elim (route_of r) as (λ route. EndsAs r.last (routed route m H now r)) [
+      | Some Create ↦ body_ends m H now (create_of r.body) r.last (create_of_bytes r.body)
+      | None ↦ refusal_ends 404 (codes "no such resource") r.last
     ]

@@ -1,6 +1,6 @@
 -- A creation is no longer than a record.
 use Rattle.std.proofs.Common.{arith}
-use Rattle.lcm_api.proofs.answer.record.Goals as goal
+use Rattle.lcm_api.proofs.create.record.Goals as goal
 
 pub unreachable-requires : goal.unreachable-requires
 unreachable-requires g c =

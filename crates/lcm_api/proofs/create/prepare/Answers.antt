@@ -1,7 +1,7 @@
 -- The numbers of the history decide.
 use Rattle.std.proofs.Common.{arith, sym}
 use Rattle.lcm_api.proofs.StepLemmas.{step_creates}
-use Rattle.lcm_api.proofs.answer.prepare.Goals as goal
+use Rattle.lcm_api.proofs.create.prepare.Goals as goal
 
 pub returns : goal.returns
 returns g c = record {
