@@ -2,7 +2,7 @@
 use Rattle.std.proofs.Common.{◌≡◌, ◌≤◌, ◌+◌, ℕ, List, [], ◌∷◌, length, map, Bool, true, false, Option, Some, None, refl, arith}
 use Rattle.std.specs.Prelude.{nat_lt, ◌&&◌}
 use Rattle.std.specs.List.{AllByRecursion, list_all}
-use Rattle.std.proofs.lemmas.Bool.{eqb-true, leb-true, ltb-true}
+use Rattle.std.proofs.lemmas.Bool.{and_from as and_both, and_parts as both, eqb-true, leb-true, ltb-true}
 use Rattle.std.specs.Option.{option_map_or}
 use Rattle.event_codec.specs.Typed.{TypedAspect, TypedEvent, TypedLevel, TypedPort, TypedRow, TypedVdu, TypedVnfd}
 use Rattle.event_codec.specs.Valid.{IsAspect, IsEvent, IsLevel, IsLink, IsPort, IsRow, IsVdu, IsVnfd, in_order, names_entries, optionally_below}
@@ -17,20 +17,11 @@ use Rattle.lcm_events.specs.declared.descriptor.Vnfd.{Vnfd}
 use Rattle.lcm_model.specs.Descriptors.{IsValid, has_sorted_names, has_valid_counts, is_valid_aspect, is_valid_level, is_valid_port, is_valid_row, is_valid_vdu}
 use Rattle.onboarding.specs.Verdict.{onboarding}
 
--- both of two
-both : (a b : Bool) → (a && b) ≡ true → (a ≡ true) × (b ≡ true)
-both true b is = (refl, is)
-both false b is = cc
-
 and_front : (a b : Bool) → (a && b) ≡ true → a ≡ true
 and_front a b is = (both a b is).0
 
 and_back : (a b : Bool) → (a && b) ≡ true → b ≡ true
 and_back a b is = (both a b is).1
-
-and_both : (a b : Bool) → a ≡ true → b ≡ true → (a && b) ≡ true
-and_both true b one other = other
-and_both false b one other = one
 
 -- what passes a test passes one that asks less
 list_all_weaker : {A : Type 0} (p q : A → Bool) (xs : List A) → ((x : A) → p x ≡ true → q x ≡ true) → list_all p xs ≡ true → list_all q xs ≡ true

@@ -58,10 +58,10 @@ seven_lost put (Err why) is =
     absurd (kept.other (sym (told_same put (failure_status why) (failure_status why) refl (λ none. omega (arith, none, least))) ∙ is))
 
 -- the words are no command, the disk failed, or the door did: each has a status of its own
-record IsToldBy (e : Ending) : Type 0 where
-  usage : status_of e ≡ 2 → e ≡ Err Usage
-  site : status_of e ≡ 3 → e ≡ Err SiteFault
-  door : status_of e ≡ 4 → e ≡ Err DoorFault
+pub record IsToldBy (e : Ending) : Type 0 where
+  pub usage : status_of e ≡ 2 → e ≡ Err Usage
+  pub site : status_of e ≡ 3 → e ≡ Err SiteFault
+  pub door : status_of e ≡ 4 → e ≡ Err DoorFault
 
 others : (e : Ending) → (status_of e ≡ 0) ⊎ (5 ≤ status_of e) → IsToldBy e
 others e other = record {
@@ -70,7 +70,7 @@ others e other = record {
   door = λ is. absurd (omega (arith, is, other));
 }
 
-told_by : (e : Ending) → IsToldBy e
+pub told_by : (e : Ending) → IsToldBy e
 told_by (Ok report) = others (Ok report) (inl refl)
 told_by (Err Usage) = record { usage = λ is. refl; site = λ is. absurd (omega (arith, is)); door = λ is. absurd (omega (arith, is)) }
 told_by (Err SiteFault) = record { usage = λ is. absurd (omega (arith, is)); site = λ is. refl; door = λ is. absurd (omega (arith, is)) }
@@ -82,15 +82,6 @@ told_by (Err (BadRecord n)) = others (Err (BadRecord n)) (inr (omega arith))
 told_by (Err (JournalFull end more)) = others (Err (JournalFull end more)) (inr (omega arith))
 told_by (Err (DescriptorRefused why)) = others (Err (DescriptorRefused why)) (inr (omega arith))
 told_by (Err Taken) = others (Err Taken) (inr (omega arith))
-
-pub usage_status : (e : Ending) → status_of e ≡ 2 → e ≡ Err Usage
-usage_status e = (told_by e).usage
-
-pub site_status : (e : Ending) → status_of e ≡ 3 → e ≡ Err SiteFault
-site_status e = (told_by e).site
-
-pub door_status : (e : Ending) → status_of e ≡ 4 → e ≡ Err DoorFault
-door_status e = (told_by e).door
 
 -- an ending that is told yields as it does
 pub told_or_yields : (put : Bool) (s n : ℕ) → n ≢ 0 → IsOrYields n s → IsOrYields n (told_status put s)

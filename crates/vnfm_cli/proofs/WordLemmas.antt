@@ -5,21 +5,15 @@ use Rattle.std.specs.Char.{is_ascii_digit}
 use Rattle.std.specs.List.{list_all}
 use Rattle.std.specs.Result.{OkIff, result_ok}
 use Rattle.std.specs.Str.Parse.{digits_value, ParsesUnsigned}
-use Rattle.std.proofs.lemmas.Bool.{leb-true, le-leb}
+use Rattle.std.proofs.lemmas.Bool.{and_from as and_both, and_parts, leb-true, le-leb}
 use Rattle.std.proofs.lemmas.Str.Parse.{IsDigitsTest, IsNumeralModel, numerals_by_value, parse_digits}
 use Rattle.vnfm_cli.specs.Words.{is_number, manager_of}
 
 and_front : (a b : Bool) → (a && b) ≡ true → a ≡ true
-and_front true b is = refl
-and_front false b is = is
+and_front a b is = (and_parts a b is).0
 
 and_back : (a b : Bool) → (a && b) ≡ true → b ≡ true
-and_back true b is = is
-and_back false b is = cc
-
-and_both : (a b : Bool) → a ≡ true → b ≡ true → (a && b) ≡ true
-and_both true b one other = other
-and_both false b one other = one
+and_back a b is = (and_parts a b is).1
 
 -- the test of a text of digits
 digits_test : IsDigitsTest (λ ds. list_all is_ascii_digit ds ≡ true)
