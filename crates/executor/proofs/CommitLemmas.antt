@@ -21,7 +21,7 @@ use Rattle.journal_core.specs.declared.journal.AppendFault.{AppendFault}
 use Rattle.journal_core.specs.declared.journal.AppendFault.TheVariants as appending
 use Rattle.lcm_events.specs.declared.events.Event.{Event}
 use Rattle.lcm_model.specs.Allowed.{IsAllowed, IsLegal}
-use Rattle.site_traits.specs.Site.{Pair, SiteState, LeavesOnly}
+use Rattle.site_traits.specs.Site.{Pair, SiteState, KeepsJobs, LeavesOnly}
 use Rattle.site_traits.proofs.Moments.{is_since}
 
 -- there is room for the event
@@ -45,6 +45,13 @@ pub starved_works : (tells : Type 0) (m n : Managed) (H : List Event) (e : Event
 starved_works tells m n H e (Ok done) a is works = absurd is
 starved_works tells m n H e (Err why) a is works = let P : WorkFault → Type 0 = λ w. Works tells m.ledger.manager H (recorded H e (Err w)) n a a in subst P (sym is) works
 
+-- an event that has no room in a record was not recorded
+pub unspelled_works : (tells : Type 0) (m n : Managed) (H : List Event) (e : Event) (r : Result (Unit {0}) WorkFault) (why : WorkFault) (long : ℕ) (a : SiteState)
+    → IsErrAnd r (λ w. w ≡ why) → why ≡ fault.TooLong long → Works tells m.ledger.manager H (went H) n a a → Works tells m.ledger.manager H (recorded H e r) n a a
+unspelled_works tells m n H e (Ok done) why long a is too works = absurd is
+unspelled_works tells m n H e (Err w) why long a is too works =
+    let P : WorkFault → Type 0 = λ v. Works tells m.ledger.manager H (recorded H e (Err v)) n a a in subst P (sym (is ∙ too)) works
+
 pub starved_room : (limit : ℕ) (H : List Event) (e : Event) (r : Result (Unit {0}) WorkFault) → IsErrAnd r (λ why. why ≡ fault.Memory) → HasRoomFor limit H e → TellsRoom limit H e r
 starved_room limit H e (Ok done) is room = absurd is
 starved_room limit H e (Err why) is room = let P : WorkFault → Type 0 = λ w. TellsRoom limit H e (Err w) in subst P (sym is) room
@@ -58,8 +65,9 @@ broken_room limit H e appending.Disk w is never room = let P : WorkFault → Typ
 -- an event was recorded
 pub committed : (tells : Type 0) (m n : Managed) (H : List Event) (e : Event) (a b : SiteState) → IsReady tells m H a → n.history ≡ e ∷ m.history
     → n.ledger.manager ≡ m.ledger.manager → IsKept n.ledger (e ∷ m.history) → n.ledger.closed ≡ false → IsEvent e
-    → (tells → Appends {T = Unit {0}} {E = AppendFault} (spelling e) (Ok tt) m.ledger n.ledger a b) → Works tells m.ledger.manager H (went (e ∷ H)) n a b
-committed tells m n H e a b ready history number kept usable event appended =
+    → (tells → Appends {T = Unit {0}} {E = AppendFault} (spelling e) (Ok tt) m.ledger n.ledger a b) → (tells → KeepsJobs a b)
+    → Works tells m.ledger.manager H (went (e ∷ H)) n a b
+committed tells m n H e a b ready history number kept usable event appended alone =
     let more : e ∷ m.history ≡ e ∷ H = ap (λ (t : List Event). e ∷ t) ready.keeps.is in
     let keeps : IsKept n.ledger (e ∷ H) = subst (IsKept n.ledger) more kept in
     let legal : IsLegal m.ledger.manager (e ∷ H) = let P : ℕ → Type 0 = λ k. IsLegal k (e ∷ H) in subst P number keeps.legal in
@@ -73,29 +81,31 @@ committed tells m n H e a b ready history number kept usable event appended =
           let here : (p : Pair) → b.since b.moment p → HasSome m.ledger.manager (e ∷ H) (e ∷ H) p =
           let P : ℕ → Type 0 = λ k. (p : Pair) → b.since b.moment p → HasSome k (e ∷ H) (e ∷ H) p in
           subst P number (some_everywhere n (e ∷ H) b stands) in
-          record { any_moment = commit_moments m H e a b (ready.stands told) event (appended told).any_moment; at_exit = here; stands = λ fine. stands };
+          record { any_moment = commit_moments m H e a b (ready.stands told) event (appended told).any_moment; at_exit = here; stands = λ fine. stands; jobs = alone told };
     }
 
 -- the disk failed on the way there
 pub broken : (tells : Type 0) (m n : Managed) (H : List Event) (e : Event) (a b : SiteState) → IsReady tells m H a → n.history ≡ m.history
     → n.ledger.manager ≡ m.ledger.manager → IsKept n.ledger m.history → n.ledger.closed ≡ true → IsEvent e → IsAllowed m.ledger.manager H e.kind
-    → (tells → LeavesOnly (journal.HasOrAdds m.ledger.manager (spelling e) a) a b) → Works tells m.ledger.manager H (broke H (e ∷ H)) n a b
-broken tells m n H e a b ready history number kept shut event allowed left = record {
+    → (tells → LeavesOnly (journal.HasOrAdds m.ledger.manager (spelling e) a) a b) → (tells → KeepsJobs a b)
+    → Works tells m.ledger.manager H (broke H (e ∷ H)) n a b
+broken tells m n H e a b ready history number kept shut event allowed left alone = record {
   number = number;
   keeps = record { is = history ∙ ready.keeps.is; kept = subst (IsKept n.ledger) ready.keeps.is kept };
   closed = shut;
   grows = record { to_stood = extends_refl H; to_aimed = extends_one e H; legal = (allowed, ready.keeps.kept.legal) };
   site = λ told.
       let run = commit_moments m H e a b (ready.stands told) event (left told) in
-      record { any_moment = run; at_exit = is_since (HasSome m.ledger.manager H (e ∷ H)) a b run; stands = λ fine. absurd (true≢false fine) };
+      record { any_moment = run; at_exit = is_since (HasSome m.ledger.manager H (e ∷ H)) a b run; stands = λ fine. absurd (true≢false fine); jobs = alone told };
 }
 
 -- An append failed, behind a test for room.
 pub not_committed : (tells : Type 0) (m n : Managed) (H : List Event) (e : Event) (why : AppendFault) (a b : SiteState) → IsReady tells m H a → n.history ≡ m.history
     → n.ledger.manager ≡ m.ledger.manager → (why ≡ appending.Disk → n.ledger.closed ≡ true) → IsKept m.ledger m.history → IsEvent e → IsAllowed m.ledger.manager m.history e.kind
     → ((end more : ℕ) → why ≡ appending.Full end more → ⊥)
-    → (tells → LeavesOnly (journal.HasOrAdds m.ledger.manager (spelling e) a) a b) → Works tells m.ledger.manager H (recorded H e (Err (work_fault why))) n a b
-not_committed tells m n H e (appending.Full end more) a b ready history number shut kept event allowed never left = absurd (never end more refl)
-not_committed tells m n H e appending.Disk a b ready history number shut kept event allowed never left =
+    → (tells → LeavesOnly (journal.HasOrAdds m.ledger.manager (spelling e) a) a b) → (tells → KeepsJobs a b)
+    → Works tells m.ledger.manager H (recorded H e (Err (work_fault why))) n a b
+not_committed tells m n H e (appending.Full end more) a b ready history number shut kept event allowed never left alone = absurd (never end more refl)
+not_committed tells m n H e appending.Disk a b ready history number shut kept event allowed never left alone =
     let P : List Event → Type 0 = λ G. IsAllowed m.ledger.manager G e.kind in
-    broken tells m n H e a b ready history number (kept_closed m.ledger n.ledger m.history kept number (shut refl)) (shut refl) event (subst P ready.keeps.is allowed) left
+    broken tells m n H e a b ready history number (kept_closed m.ledger n.ledger m.history kept number (shut refl)) (shut refl) event (subst P ready.keeps.is allowed) left alone

@@ -8,8 +8,9 @@ use Rattle.lcm_events.specs.declared.events.Event.{Event}
 use Rattle.lcm_events.specs.declared.events.EventKind.{EventKind}
 use Rattle.lcm_model.specs.Allowed.{IsAllowed}
 use Rattle.journal_core.specs.Load.{SyncsAndReads}
-use Rattle.site_traits.specs.Site.{Pair, SiteState, LeavesOnly, Same, FileStep}
-use Rattle.site_traits.proofs.Moments.{followed, goes_on, started, weakened}
+use Rattle.site_traits.specs.Site.{Pair, SiteState, KeepsJobs, LeavesOnly, Same, FileStep}
+use Rattle.site_traits.proofs.Moments as moments
+use Rattle.site_traits.proofs.Moments.{followed, goes_on, keeps_refl, keeps_then, started, weakened}
 
 pub extends_refl : (H : List Event) → Extends H H
 extends_refl H = record { more = []; is = refl }
@@ -56,7 +57,7 @@ idle tells m H s ready = record {
   grows = record { to_stood = extends_refl H; to_aimed = extends_refl H; legal = ready.keeps.kept.legal };
   site = λ told.
       let here = some_everywhere m H s (ready.stands told) in
-      record { any_moment = started (HasSome m.ledger.manager H H) s here; at_exit = here; stands = λ fine. ready.stands told };
+      record { any_moment = started (HasSome m.ledger.manager H H) s here; at_exit = here; stands = λ fine. ready.stands told; jobs = keeps_refl s };
 }
 
 -- behind work in which the disk didn't fail the manager is ready for more
@@ -88,6 +89,7 @@ joined tells m H G w n o a b c first second =
                 (λ p some. some_wider m H G (aimed w) (aimed w) p from (extends_refl (aimed w)) some);
             at_exit = two.at_exit;
             stands = two.stands;
+            jobs = keeps_then a b c one.jobs two.jobs;
           };
     }
 
@@ -102,6 +104,12 @@ opened_then tells m H w n a b c told reads works start =
     (goes_on (HasSome m H (aimed w)) (FileStep Same) a a b (started (HasSome m H (aimed w)) a (λ p left. some p (start p left))) reads.on_file.passes
     (λ q p left step. some p (subst P (sym step.image) (start q left))))
     (works.site told).any_moment (λ p has. has)
+
+-- the opening of a journal leaves the jobs alone, and so does work behind it
+pub opened_jobs : (tells : Type 0) (a b c : SiteState) → tells → SyncsAndReads a b → KeepsJobs a b × ((m : ℕ) (H : List Event) (w : Work) (n : Managed) → Works tells m H w n b c → KeepsJobs a c)
+opened_jobs tells a b c told reads =
+    let opened : KeepsJobs a b = moments.keeps_one Same a b reads.on_file in
+    (opened, λ m H w n works. keeps_then a b c opened (works.site told).jobs)
 
 -- an event that is allowed after the history that the manager keeps is allowed after its own
 pub same_allowed : (m : Managed) (k : ℕ) (H : List Event) (e : EventKind) → Keeps m H → IsAllowed k H e → IsAllowed k m.history e

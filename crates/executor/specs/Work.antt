@@ -7,7 +7,7 @@ use Rattle.executor.specs.declared.manager.WorkFault.TheVariants as fault
 use Rattle.journal_core.specs.Load.{SyncsAndReads}
 use Rattle.lcm_events.specs.declared.events.Event.{Event}
 use Rattle.lcm_model.specs.Allowed.{IsLegal}
-use Rattle.site_traits.specs.Site.{Pair, SiteState, LeavesOnly}
+use Rattle.site_traits.specs.Site.{Pair, SiteState, KeepsJobs, LeavesOnly}
 
 -- what became of work: it went well up to this history; or it did so, and then the disk failed on the way to that one
 pub data Work : Type 0 where
@@ -48,11 +48,13 @@ pub record HasSome (m : ℕ) (H K : List Event) (p : Pair) : Type 0 where
   pub file : HasHistory m history p.image
 
 -- At each moment of the work a stop leaves a history from the one at its start to the one that it aimed at. At its end a stop leaves
--- what stands, or more of what was aimed at; unless the disk failed, nothing is pending there, and the file has what stands.
+-- what stands, or more of what was aimed at; unless the disk failed, nothing is pending there, and the file has what stands. The jobs were
+-- left alone.
 pub record AtSite (m : ℕ) (H : List Event) (w : Work) (n : Managed) (a b : SiteState) : Type 0 where
   pub any_moment : LeavesOnly (HasSome m H (aimed w)) a b
   pub at_exit : (p : Pair) → b.since b.moment p → HasSome m (stood w) (aimed w) p
   pub stands : failed w ≡ false → StandsFor n (stood w) b
+  pub jobs : KeepsJobs a b
 
 -- The work did this to history H of manager m, which is now n: it keeps what stands, and is closed where the disk failed.
 pub record Works (tells : Type 0) (m : ℕ) (H : List Event) (w : Work) (n : Managed) (a b : SiteState) : Type 0 where
@@ -93,3 +95,7 @@ Stays s = (m : Managed) (H : List Event) → StandsFor m H s → HasEverywhere m
 abbrev pub Follows : Type 0 → SiteState → SiteState → SiteState → Type 0
 Follows tells a b c = tells → SyncsAndReads a b → (m : ℕ) (H : List Event) (w : Work) (n : Managed) → Works tells m H w n b c
     → ((p : Pair) → a.since a.moment p → HasHistory m H p.image) → LeavesOnly (HasSome m H (aimed w)) a c
+
+-- the opening of a journal leaves the jobs alone, and so does work behind it
+abbrev pub LeavesJobs : Type 0 → SiteState → SiteState → SiteState → Type 0
+LeavesJobs tells a b c = tells → SyncsAndReads a b → KeepsJobs a b × ((m : ℕ) (H : List Event) (w : Work) (n : Managed) → Works tells m H w n b c → KeepsJobs a c)

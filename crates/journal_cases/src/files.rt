@@ -1,6 +1,9 @@
 //! Stops and faults of a file in memory, broken files, and records at the file's limit.
 use journal_core::{AppendFault, CreateFault, Journal, LoadFault, MAX_FILE};
-use site_traits::{Choice, DiskFailed, MemSite, Site, SitePlan};
+use lcm_events::{Act, Tag};
+use site_traits::{
+    AbortAnswer, BeginAnswer, Choice, DiskFailed, LookAnswer, MemSite, Site, SitePlan,
+};
 use std::alloc::{AllocError, Global};
 use std::test::Fail;
 
@@ -315,6 +318,18 @@ impl Site for FarSite {
     fn sync(&mut self) -> Result<(), DiskFailed> {
         self.syncs = self.syncs.saturating_add(1);
         Ok(())
+    }
+
+    fn begin(&mut self, _tag: &Tag, _act: &Act) -> BeginAnswer {
+        BeginAnswer::Begun
+    }
+
+    fn look(&mut self, _tag: &Tag) -> LookAnswer {
+        LookAnswer::Absent
+    }
+
+    fn abort(&mut self, _tag: &Tag) -> AbortAnswer {
+        AbortAnswer::Asked
     }
 }
 

@@ -1,5 +1,5 @@
 -- Calls in a row, by what they ask of the site.
-use Rattle.std.proofs.Common.{◌≡◌, ◌∙◌, ◌≤◌, sym, ap, refl, subst, ℕ, ◌+◌, List, [], ◌∷◌, ◌++◌, length, append_assoc, length-append, Result, Ok, Err, arith}
+use Rattle.std.proofs.Common.{◌≡◌, ◌∙◌, sym, ap, refl, List, [], ◌∷◌, ◌++◌, append_assoc, length-append, Result, Ok, Err, arith}
 use Rattle.site_traits.specs.Counts.{SiteCounts, Ask, asked, all_asked, disk_failed, DiskCause, StopsIn, Asks}
 use Rattle.site_traits.specs.Counts.Ask.{write, cut, sync}
 use Rattle.std.proofs.Common.{IsErr}
@@ -9,7 +9,7 @@ use Rattle.journal_core.specs.declared.create.CreateFault.{CreateFault}
 use Rattle.journal_core.specs.declared.create.CreateFault.TheVariants as creating
 use Rattle.journal_core.specs.declared.journal.AppendFault.{AppendFault}
 use Rattle.journal_core.specs.declared.journal.AppendFault.TheVariants as appending
-use Rattle.journal_core.specs.Asking.{through, left_to_ask, FailsWhere, AppendAsks, CreateAsks}
+use Rattle.journal_core.specs.Asking.{through, left_to_ask, AppendAsks, CreateAsks}
 
 -- what was asked for in two parts
 pub all_asked-append : (xs ys : List Ask) (c : SiteCounts) → all_asked (xs ++ ys) c ≡ all_asked ys (all_asked xs c)

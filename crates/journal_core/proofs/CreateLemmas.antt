@@ -5,7 +5,7 @@ use Rattle.std.proofs.lemmas.Result.{on_ok_weaker}
 use Rattle.std.proofs.lemmas.Bool.Decides.{eqb_tells}
 use Rattle.std.proofs.lemmas.List.{take-append-drop, take_at, drop_more, get_or-take, append-nil}
 use Rattle.site_traits.specs.Site.{SiteState, LeavesOnly, IsSettled, Same, Torn, Holds, FileStep, WritesThrough}
-use Rattle.site_traits.proofs.Moments.{started, goes_on, followed}
+use Rattle.site_traits.proofs.Moments.{started, goes_on, followed, keeps_one, keeps_then}
 use Rattle.journal_core.specs.File.{header, HasRecords}
 use Rattle.journal_core.specs.Header.{made, first, IsUnfinished}
 use Rattle.site_traits.specs.declared.site.DiskFailed.{DiskFailed}
@@ -34,6 +34,7 @@ step_by m at bytes so next r a b stands call unfinished torn written =
       stands = on_ok_both r
           (λ (settled : IsSettled b) (holds : Holds a.image at bytes b.image). record { settled = settled; file = written a.image b.image stands.file holds })
           call.settled call.holds;
+      jobs = keeps_one (Torn at (length bytes)) a b call.on_file;
     }
 
 -- a file with its first byte and all behind it is made
@@ -100,6 +101,7 @@ pub steps_then : {T E U F : Type 0} (m : ℕ) (so next : List ℕ → Type 0) (r
 steps_then m so next r s a b c first second = record {
   any_moment = followed (IsMaking m) (IsMaking m) a b c first.any_moment second.any_moment (λ p h. h);
   stands = second.stands;
+  jobs = keeps_then a b c first.jobs second.jobs;
 }
 
 -- a file at a stage of its making is unfinished

@@ -4,8 +4,8 @@ use Rattle.std.specs.Int.{w32, to_be_bytes}
 use Rattle.std.proofs.lemmas.Nat.{be_bytes_4}
 use Rattle.std.proofs.lemmas.List.{take-append-drop, drop-drop, length_push, append-nil}
 use Rattle.std.proofs.lemmas.List.Elements.{All-push, All-cons, All-nil}
-use Rattle.site_traits.specs.Site.{SiteState, IsSettled, Same, Syncs, Reads}
-use Rattle.site_traits.proofs.Moments.{on_file-reads, reads-then}
+use Rattle.site_traits.specs.Site.{SiteState, IsSettled, KeepsJobs, Same, Syncs, Reads}
+use Rattle.site_traits.proofs.Moments.{keeps_one, on_file-reads, reads-then}
 use Rattle.journal_core.specs.File.{header, framed, blocks, size, IsRecord, HasRecords}
 use Rattle.journal_core.specs.Header.{HasHeader}
 use Rattle.journal_core.specs.Head.{number, IsClosed, IsOpen, BeginsWith}
@@ -171,3 +171,11 @@ failed_load rs (fault.Broken n) l k a b loads reads same finds =
     (k.manager, subst P (sym reads.same) (subst Q (sym same) loads.header), finds.0)
 failed_load rs fault.Disk l k a b loads reads same finds = tt
 failed_load rs fault.Memory l k a b loads reads same finds = absurd finds
+
+-- what syncs and reads leaves the jobs alone
+pub loading_keeps : (a b : SiteState) → SyncsAndReads a b → KeepsJobs a b
+loading_keeps a b read = keeps_one Same a b read.on_file
+
+-- what reads leaves the jobs alone
+pub reading_keeps : (a b : SiteState) → Reads a b → KeepsJobs a b
+reading_keeps a b read = keeps_one Same a b read.on_file

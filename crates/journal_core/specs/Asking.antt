@@ -1,5 +1,5 @@
 -- What the calls of a journal ask of its site, and which faults they count (own rule).
-use Rattle.std.specs.Prelude.{◌≡◌, ◌≤◌, ℕ, zero, suc, List, [], ◌∷◌, Result, Ok, Err}
+use Rattle.std.specs.Prelude.{◌≡◌, ℕ, zero, suc, List, [], ◌∷◌, Result, Ok, Err}
 use Rattle.site_traits.specs.Counts.{SiteCounts, Ask, asked, all_asked, disk_failed, OnlyDiskFails, StopsIn}
 use Rattle.site_traits.specs.Counts.Ask.{write, sync}
 use Rattle.journal_core.specs.declared.create.CreateFault.{CreateFault}

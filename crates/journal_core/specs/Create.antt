@@ -1,6 +1,6 @@
 -- What the making of a journal file does (own rule, docs/JOURNAL.md).
 use Rattle.std.specs.Prelude.{◌≡◌, ◌⊎◌, ◌≤◌, ℕ, List, [], length, take, drop, Option, Some, None, Result, Ok, Err, OnOk}
-use Rattle.site_traits.specs.Site.{Pair, SiteState, LeavesOnly, IsSettled}
+use Rattle.site_traits.specs.Site.{Pair, SiteState, LeavesOnly, IsSettled, KeepsJobs}
 use Rattle.journal_core.specs.declared.create.CreateFault.{CreateFault}
 use Rattle.journal_core.specs.declared.create.CreateFault.TheVariants as fault
 use Rattle.journal_core.specs.declared.create.Stage.{Stage}
@@ -61,7 +61,8 @@ pub record StandsSo (so : List ℕ → Type 0) (s : SiteState) : Type 0 where
   pub settled : IsSettled s
   pub file : so s.image
 
--- a step of the making: a stop within leaves the file unfinished or made, and where it succeeded the file is so
+-- a step of the making: a stop within leaves the file unfinished or made, and where it succeeded the file is so; it leaves the jobs alone
 pub record Steps {T E : Type 0} (manager : ℕ) (so : List ℕ → Type 0) (result : Result T E) (a b : SiteState) : Type 0 where
   pub any_moment : LeavesOnly (IsMaking manager) a b
   pub stands : OnOk result (StandsSo so b)
+  pub jobs : KeepsJobs a b

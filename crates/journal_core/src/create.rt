@@ -1,7 +1,7 @@
 // The making of a journal file. Its first byte is written last, once all behind it is on the disk.
 ghost use Rattle.std.specs.Prelude.{◌≡◌, ◌≤◌, ◌<◌, ◌↔◌, [], ℕ, List, IsTrue, IfOk, OnOk, length, take, drop};
 ghost use Rattle.site_traits.specs.Counts.{Ask, asked, Asks, DiskCause};
-ghost use Rattle.site_traits.specs.Site.{Reads};
+ghost use Rattle.site_traits.specs.Site.{KeepsJobs, Reads};
 ghost use Rattle.journal_core.specs.File.{HasRecords};
 ghost use Rattle.journal_core.specs.Header.{made};
 ghost use Rattle.journal_core.specs.Load.{SyncsAndReads};
@@ -50,6 +50,7 @@ impl<S: Site> Journal<S> {
     /// Source: own format, docs/JOURNAL.md.
     pub fn create(site: &mut S, manager: u32) -> Result<(), CreateFault>
         ensures told { S.tells → Creates manager result (S.state site.old) (S.state site.new) }
+        ensures jobs { S.tells → KeepsJobs (S.state site.old) (S.state site.new) }
         ensures asks { CreateAsks result (S.counts site.old) (S.counts site.new) }
     {
         let Some(stage) = stage_of(site, manager)? else {

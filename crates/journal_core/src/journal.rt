@@ -1,5 +1,6 @@
 // The journal of one manager. A closed gate stands behind the last record, on the disk before anything is written behind it.
 ghost use Rattle.std.specs.Prelude.{◌≡◌, ◌≤◌, ◌<◌, ◌↔◌, ◌+◌, ◌-◌, ◌*◌, ℕ, List, [], ◌∷◌, All, IsTrue, true, false, take, length, OnOk};
+ghost use Rattle.site_traits.specs.Site.{KeepsJobs};
 ghost use Rattle.journal_core.specs.Asking.{AppendAsks, FailsWhere};
 ghost use Rattle.journal_core.specs.File.{piece};
 ghost use Rattle.journal_core.specs.Journal.{Stands, Appends};
@@ -124,7 +125,7 @@ impl<S: Site> Journal<S> {
         limit >= self.end + 6 && more as u64 <= limit - (self.end + 6)
     }
 
-    /// Adds a record of these bytes. It makes two writes and two syncs, reads nothing and takes no memory.
+    /// Adds a record of these bytes. It makes two writes and two syncs, reads nothing and takes no memory. It leaves the jobs alone.
     ///
     /// Refusals, in this order: `Full {end, more}` (bytes), after which nothing has changed; `Disk`.
     /// After `Disk`: the journal is closed; load it again.
@@ -138,6 +139,7 @@ impl<S: Site> Journal<S> {
         ensures manager { self.new.manager ≡ self.old.manager }
         ensures grown { OnOk result ((self.new.count ≡ self.old.count + 1) × (Adds bytes.now self.old.end self.new.end) × (self.new.closed ≡ false)) }
         ensures told { S.tells → Appends bytes.now result self.old self.new (S.state site.old) (S.state site.new) }
+        ensures jobs { S.tells → KeepsJobs (S.state site.old) (S.state site.new) }
         ensures full { 268435456 < self.old.end + 6 + length bytes.now → result ≡ Err (AppendFault.Full self.old.end (length bytes.now)) }
         ensures only_full { (end more : ℕ) → result ≡ Err (AppendFault.Full end more) → (268435456 < self.old.end + 6 + length bytes.now) × (self.new ≡ self.old) × (site.new ≡ site.old) }
         ensures closed { result ≡ Err AppendFault.Disk → self.new.closed ≡ true }
@@ -179,6 +181,7 @@ impl<S: Site> Journal<S> {
         requires stands { S.tells → Stands (S.state site.old) self.old }
 
         ensures told { S.tells → ReadsBack n result self.new (S.state site.old) (S.state site.new) }
+        ensures jobs { S.tells → KeepsJobs (S.state site.old) (S.state site.new) }
         ensures kept { KeepsRecords self.old self.new }
         ensures open { OnOk result (self.new.closed ≡ false) }
         ensures broken { (k : ℕ) → result ≡ Err (BackFault.Broken k) → (k ≡ n) × (self.new.closed ≡ false) }

@@ -1,7 +1,7 @@
 // The loading of a journal: its records are read in order, one at a time, in a single walk over the file.
 ghost use Rattle.std.specs.Prelude.{◌≡◌, ◌≤◌, ◌<◌, ◌+◌, List, ℕ, true, false, IfOk, length, Result};
 ghost use Rattle.site_traits.specs.Counts.{Ask, asked, DiskCause};
-ghost use Rattle.site_traits.specs.Site.{Reads};
+ghost use Rattle.site_traits.specs.Site.{KeepsJobs, Reads};
 ghost use Rattle.journal_core.specs.Asking.{FailsWhere};
 ghost use Rattle.journal_core.specs.Judged.{Judged, LongEnough, FrontIs};
 ghost use Rattle.journal_core.specs.Load.{Loads, Opened, IsBegun, Finds, Grows, ledger_of, Loaded, SyncsAndReads};
@@ -129,6 +129,7 @@ impl<S: Site> Journal<S> {
         ensures loaded { S.tells → Loaded result (S.state site.new) }
         ensures usable { IfOk result (λ j. j.closed ≡ false) }
         ensures told { S.tells → SyncsAndReads (S.state site.old) (S.state site.new) }
+        ensures jobs { S.tells → KeepsJobs (S.state site.old) (S.state site.new) }
         ensures counts { FailsWhere (result ≡ Err LoadFault.Disk) (asked Ask.sync (S.counts site.old)) (S.counts site.new) }
     {
         let mut loading = Journal::open(alloc, site)?;

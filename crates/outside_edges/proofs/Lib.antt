@@ -1,1 +1,2 @@
 mod DoorLemmas
+mod SiteLemmas

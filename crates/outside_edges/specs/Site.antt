@@ -6,9 +6,10 @@ use Rattle.host_calls.specs.Files.{FilesState, Hold, free, whole}
 use Rattle.outside_edges.specs.declared.real_site.FolderSync.{FolderSync}
 use Rattle.outside_edges.specs.declared.real_site.FolderSync.TheVariants.{Always, WhereMade}
 
--- how often its disk calls failed, and what was asked of it
-abbrev pub counted_as : ℕ → ℕ → ℕ → ℕ → SiteCounts
-counted_as faults writes cuts syncs = record { disk = faults; vim = 0; look = 0; refusals = 0; writes = writes; cuts = cuts; syncs = syncs }
+-- how often its disk calls, its calls on jobs and the looks among these failed, and what was asked of its file; it refuses no begin
+abbrev pub counted_as : ℕ → ℕ → ℕ → ℕ → ℕ → ℕ → SiteCounts
+counted_as faults vim look writes cuts syncs =
+    record { disk = faults; vim = vim; look = look; refusals = 0; writes = writes; cuts = cuts; syncs = syncs }
 
 -- what the site tells: what its file does, or nothing where it has none
 abbrev pub state_in : {F : Type 0} → (F → SiteState) → Option F → SiteState

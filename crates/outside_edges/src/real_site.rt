@@ -7,7 +7,8 @@ ghost use Rattle.outside_edges.specs.Site.{counted_as, state_in, IsFound, IsHad,
 
 use crate::counted::{count_call, count_fault};
 use host_calls::{HostFile, HostFiles};
-use site_traits::{DiskFailed, Site};
+use lcm_events::{Act, Tag};
+use site_traits::{AbortAnswer, BeginAnswer, DiskFailed, LookAnswer, Site};
 use standard_streams::HeldStreams;
 use std::alloc::AllocError;
 use std::io;
@@ -39,7 +40,8 @@ pub enum WhyLost {
     Other,
 }
 
-/// The journal's file. Until it is opened, and where it couldn't be had, every call fails and counts.
+/// The journal's file. Until it is opened, and where it couldn't be had, every call fails and counts. It reaches no infrastructure yet: each call
+/// on jobs fails and counts.
 ///
 /// It holds the file's exclusive lock until it is dropped, so that no second manager writes to it.
 #[derive(Drop)]
@@ -47,6 +49,8 @@ pub struct RealSite<F: HostFile> {
     file: Option<F>,
     why: Option<WhyLost>,
     faults: u64,
+    vim_faults: u64,
+    look_faults: u64,
     writes: u64,
     cuts: u64,
     syncs: u64,
@@ -55,12 +59,14 @@ pub struct RealSite<F: HostFile> {
 impl<F: HostFile + Drop> RealSite<F> {
     /// A site of which no file was opened yet.
     pub fn made() -> RealSite<F>
-        ensures { result ≡ record { file = None; why = None; faults = 0; writes = 0; cuts = 0; syncs = 0 } }
+        ensures { result ≡ record { file = None; why = None; faults = 0; vim_faults = 0; look_faults = 0; writes = 0; cuts = 0; syncs = 0 } }
     {
         RealSite {
             file: None,
             why: None,
             faults: 0,
+            vim_faults: 0,
+            look_faults: 0,
             writes: 0,
             cuts: 0,
             syncs: 0,
@@ -80,7 +86,7 @@ impl<F: HostFile + Drop> RealSite<F> {
         folder: FolderSync,
     ) -> Result<(), AllocError>
         ensures had { H.tells → F.tells → OnOk result (IsHeld F.state F.hold path.now folder self.new.file (H.state host.old) (H.state host.new)) }
-        ensures counts { counted_as self.new.faults self.new.writes self.new.cuts self.new.syncs ≡ counted_as self.old.faults self.old.writes self.old.cuts self.old.syncs }
+        ensures counts { counted_as self.new.faults self.new.vim_faults self.new.look_faults self.new.writes self.new.cuts self.new.syncs ≡ counted_as self.old.faults self.old.vim_faults self.old.look_faults self.old.writes self.old.cuts self.old.syncs }
     {
         match found(host, streams, path, folder) {
             Ok(file) => {
@@ -167,7 +173,7 @@ impl<F: HostFile> Site for RealSite<F> {
 
     ghost state = { λ site. state_in F.state site.file };
 
-    ghost counts = { λ site. counted_as site.faults site.writes site.cuts site.syncs };
+    ghost counts = { λ site. counted_as site.faults site.vim_faults site.look_faults site.writes site.cuts site.syncs };
 
     fn length(&mut self) -> Result<u64, DiskFailed> {
         length_of(&mut self.file, &mut self.faults)
@@ -190,6 +196,22 @@ impl<F: HostFile> Site for RealSite<F> {
     fn sync(&mut self) -> Result<(), DiskFailed> {
         count_call(&mut self.syncs);
         sync_of(&mut self.file, &mut self.faults)
+    }
+
+    fn begin(&mut self, _tag: &Tag, _act: &Act) -> BeginAnswer {
+        count_fault(&mut self.vim_faults);
+        BeginAnswer::Failed
+    }
+
+    fn look(&mut self, _tag: &Tag) -> LookAnswer {
+        count_fault(&mut self.vim_faults);
+        count_fault(&mut self.look_faults);
+        LookAnswer::Failed
+    }
+
+    fn abort(&mut self, _tag: &Tag) -> AbortAnswer {
+        count_fault(&mut self.vim_faults);
+        AbortAnswer::Failed
     }
 }
 

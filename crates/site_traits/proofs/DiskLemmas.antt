@@ -5,10 +5,18 @@ use Rattle.std.proofs.lemmas.Bool.Decides.{leb_tells}
 use Rattle.std.proofs.lemmas.List.{take-append-le, take_all, length_push, map_push, take-map, length-map, length-replicate}
 use Rattle.std.proofs.lemmas.List.Sums.{fold-append}
 use Rattle.site_traits.specs.declared.mem_site.DiskCall.{DiskCall}
-use Rattle.site_traits.specs.Site.{Pair, pair_of, OnFile, Same, Torn, Cut, Reads, Writes, Cuts, Syncs}
+use Rattle.lcm_events.specs.declared.acts.Act.{Act}
+use Rattle.lcm_events.specs.declared.attempts.Tag.{Tag}
+use Rattle.site_traits.specs.declared.jobs.BeginAnswer.TheVariants as begin
+use Rattle.site_traits.specs.declared.jobs.LookAnswer.TheVariants as look
+use Rattle.site_traits.specs.declared.jobs.AbortAnswer.TheVariants as abort
+use Rattle.site_traits.proofs.Moments.{lost_begin, lost_look, lost_abort}
+use Rattle.site_traits.specs.Site.{Pair, pair_of, OnFile, Same, Torn, Cut, Reads, Writes, Cuts, Syncs, Begins, Looks, Aborts}
 use Rattle.site_traits.specs.Disk.{Change, wrote, cut, synced, kept, change_of, Disk, overlaid, after, Reaches, fresh, disk, LeftSince, told, seen_reached, overlaid_torn, put_over, chosen, chosen_all, stopped_image, Takes}
 use Rattle.site_traits.specs.declared.mem_site.Choice.{Choice}
 use Rattle.site_traits.specs.declared.mem_site.Choice.TheVariants as choice
+use Rattle.site_traits.specs.Jobs.{Job, Advances}
+use Rattle.site_traits.proofs.JobLemmas.{advances-refl}
 use Rattle.site_traits.proofs.Writes.{torn-refl, on_ok_anyway}
 
 -- the disk after one call more
@@ -26,9 +34,10 @@ at_last first cs c p k over le reached =
     subst Q (disk_push first cs c) (subst P (take_all k (cs ++ c ∷ []) (let l = length_push cs c in omega arith)) reached)
 
 -- what a stop at an earlier moment leaves
-earlier_left : (first : List ℕ) (cs : List Change) (c : Change) (t : ℕ) (p : Pair) (k : ℕ) → t ≤ k → k ≤ length cs → Reached (disk first (take k (cs ++ c ∷ []))) p.image → LeftSince first cs t p
+earlier_left : (first : List ℕ) (cs : List Change) (c : Change) (t : ℕ) (p : Pair) (k : ℕ) → t ≤ k → k ≤ length cs → Reached (disk first (take k (cs ++ c ∷ []))) p.image → p.jobs ≡ [] → LeftSince first cs t p
 unfolding Reached
-earlier_left first cs c t p k since le reached = record {
+earlier_left first cs c t p k since le reached jobless = record {
+  jobs = jobless;
   moment = k;
   since = since;
   has_been = le;
@@ -40,7 +49,7 @@ split_left : (first : List ℕ) (cs : List Change) (c : Change) (t : ℕ) (p : P
 unfolding Reached
 split_left first cs c t p left =
     ⊎_elim
-    (λ (le : (leb left.moment (length cs) ≡ true) × (left.moment ≤ length cs)). inl (earlier_left first cs c t p left.moment left.since le.1 left.reached))
+    (λ (le : (leb left.moment (length cs) ≡ true) × (left.moment ≤ length cs)). inl (earlier_left first cs c t p left.moment left.since le.1 left.reached left.jobs))
     (λ (over : (leb left.moment (length cs) ≡ false) × (length cs < left.moment)). inr (at_last first cs c p left.moment over.1 left.has_been left.reached))
     (leb_tells left.moment (length cs))
 
@@ -52,11 +61,13 @@ keeps_left first cs c t p left = record {
   has_been = (let h = left.has_been in let l = length_push cs c in omega arith);
   reached = (let P : List Change → Type 0 = λ v. Reaches (disk first v).base (disk first v).pending p.image in
       subst P (sym (take-append-le left.moment cs (c ∷ []) left.has_been)) left.reached);
+  jobs = left.jobs;
 }
 
 -- what a stop now may leave is what a stop at the last moment leaves
-left_last : (first : List ℕ) (cs : List Change) (p : Pair) → Reaches (disk first cs).base (disk first cs).pending p.image → LeftSince first cs (length cs) p
-left_last first cs p reached = record {
+left_last : (first : List ℕ) (cs : List Change) (p : Pair) → Reaches (disk first cs).base (disk first cs).pending p.image → p.jobs ≡ [] → LeftSince first cs (length cs) p
+left_last first cs p reached jobless = record {
+  jobs = jobless;
   moment = length cs;
   since = omega arith;
   has_been = omega arith;
@@ -68,6 +79,10 @@ last_left first cs p left =
     let P : List Change → Type 0 = λ v. Reaches (disk first v).base (disk first v).pending p.image in
     subst P (take_all left.moment cs left.since) left.reached
 
+-- no job is none that has ended
+none_advances : (p : Pair) → p.jobs ≡ [] → Advances [] p.jobs
+none_advances p jobless = let P : List Job → Type 0 = λ v. Advances [] v in subst P (sym jobless) tt
+
 -- the law on moments, where what the call leaves comes by this step
 passes_push : (step : List ℕ → List ℕ → Type 0) (first : List ℕ) (cs : List Change) (c : Change) → ((i : List ℕ) → step i i)
     → ((i : List ℕ) → Reached (after (disk first cs) c) i → (j : List ℕ) × Reached (disk first cs) j × step j i)
@@ -77,13 +92,15 @@ passes_push step first cs c stays leads = record {
   passes = record {
     later = (let l = length_push cs c in omega arith);
     during = λ p left. ⊎_elim
-        (λ (old : LeftSince first cs (length cs) p). (p, old, record { image = stays p.image }))
+        (λ (old : LeftSince first cs (length cs) p). (p, old, record { image = stays p.image; jobs = advances-refl p.jobs }))
         (λ (now : Reached (after (disk first cs) c) p.image).
-        let from = leads p.image now in (pair_of from.0, left_last first cs (pair_of from.0) from.1, record { image = from.2 }))
+        let from = leads p.image now in
+        (pair_of from.0 [], left_last first cs (pair_of from.0 []) from.1 refl, record { image = from.2; jobs = none_advances p left.jobs }))
         (split_left first cs c (length cs) p left);
     nothing_else = λ t p le left. ⊎_elim
         (λ (old : LeftSince first cs t p). inl old)
         (λ (now : Reached (after (disk first cs) c) p.image). inr (record {
+          jobs = left.jobs;
           moment = length (cs ++ c ∷ []);
           since = (let l = length_push cs c in omega arith);
           has_been = omega arith;
@@ -93,6 +110,7 @@ passes_push step first cs c stays leads = record {
         (split_left first cs c t p left);
     keeps = λ t p le left. keeps_left first cs c t p left;
   };
+  answers = refl;
 }
 
 -- what a read gives after one call more
@@ -109,7 +127,7 @@ reads_push first cs = record {
     image = λ p left.
         let P : Disk → Type 0 = λ v. Reached v p.image in
         let now : Reached (disk first cs) p.image = subst P (disk_push first cs kept) (last_left first (cs ++ kept ∷ []) p left) in
-        settled.image p (left_last first cs p now) ∙ sym (seen_push first cs kept);
+        settled.image p (left_last first cs p now left.jobs) ∙ sym (seen_push first cs kept);
   };
 }
 
@@ -214,7 +232,7 @@ chosen_reached ch base (c ∷ earlier) = (chosen_all ch base earlier, chosen_rea
 
 -- so a stop at that moment may leave it
 pub stopped_allowed : (ch : Choice) (first image : List ℕ) (log : List (DiskCall × List ℕ)) (k : ℕ) → k ≤ length log → image ≡ stopped_image ch first (map change_of (take k log))
-    → LeftSince first (map change_of log) k (pair_of image)
+    → LeftSince first (map change_of log) k (pair_of image [])
 stopped_allowed ch first image log k le is =
     let cs = take k (map change_of log) in
     let same : map change_of (take k log) ≡ cs = sym (take-map change_of k log) in
@@ -224,4 +242,24 @@ stopped_allowed ch first image log k le is =
       since = omega arith;
       has_been = omega (arith, length-map log change_of);
       reached = (let P : List ℕ → Type 0 = λ v. Reaches d.base d.pending v in subst P (sym (is ∙ ap (stopped_image ch first) same)) (chosen_reached ch d.base d.pending));
+      jobs = refl;
     }
+
+-- calls on jobs that failed and put nothing on record
+pub lost_begin_told : (tag : Tag) (act : Act) (first : List ℕ) (log new : List (DiskCall × List ℕ)) → new ≡ log
+    → Begins tag act begin.Failed (told first (map change_of log)) (told first (map change_of new))
+lost_begin_told tag act first log new is =
+    let P : List (DiskCall × List ℕ) → Type 0 = λ v. Begins tag act begin.Failed (told first (map change_of log)) (told first (map change_of v)) in
+    subst P (sym is) (lost_begin tag act (told first (map change_of log)))
+
+pub lost_look_told : (tag : Tag) (first : List ℕ) (log new : List (DiskCall × List ℕ)) → new ≡ log
+    → Looks tag look.Failed (told first (map change_of log)) (told first (map change_of new))
+lost_look_told tag first log new is =
+    let P : List (DiskCall × List ℕ) → Type 0 = λ v. Looks tag look.Failed (told first (map change_of log)) (told first (map change_of v)) in
+    subst P (sym is) (lost_look tag (told first (map change_of log)))
+
+pub lost_abort_told : (tag : Tag) (first : List ℕ) (log new : List (DiskCall × List ℕ)) → new ≡ log
+    → Aborts tag abort.Failed (told first (map change_of log)) (told first (map change_of new))
+lost_abort_told tag first log new is =
+    let P : List (DiskCall × List ℕ) → Type 0 = λ v. Aborts tag abort.Failed (told first (map change_of log)) (told first (map change_of v)) in
+    subst P (sym is) (lost_abort tag (told first (map change_of log)))

@@ -1,6 +1,13 @@
 -- How a run of calls of a site goes on: what a stop since its start may leave.
 use Rattle.std.proofs.Common.{◌≡◌, ◌∙◌, sym, subst, ℕ, List, inl, inr, ⊎_elim, refl, arith}
-use Rattle.site_traits.specs.Site.{Pair, SiteState, Passes, LeavesOnly, Same, FileStep, OnFile, Reads}
+use Rattle.lcm_events.specs.declared.acts.Act.{Act}
+use Rattle.lcm_events.specs.declared.attempts.Tag.{Tag}
+use Rattle.site_traits.specs.declared.jobs.BeginAnswer.TheVariants as begin
+use Rattle.site_traits.specs.declared.jobs.LookAnswer.TheVariants as look
+use Rattle.site_traits.specs.declared.jobs.AbortAnswer.TheVariants as abort
+use Rattle.site_traits.specs.Jobs.{Job, Advances, MayArrive}
+use Rattle.site_traits.specs.Site.{Pair, SiteState, Passes, LeavesOnly, IsSettled, Same, FileStep, OnFile, Reads, JobStep, OnJobs, Begins, Looks, Aborts, HasItsJobs, KeepsJobs}
+use Rattle.site_traits.proofs.JobLemmas.{advances-refl, advances-then}
 
 -- no call
 pub passes-refl : (step : Pair → Pair → Type 0) (a : SiteState) → ((p : Pair) → step p p) → Passes step a a
@@ -73,17 +80,29 @@ weakened P Q a b run leads = record {
   before = λ t p le left. ⊎_elim (λ (old : a.since t p). inl old) (λ (now : Q p). inr (leads p now)) (run.before t p le left);
 }
 
+-- what leaves only pairs with P and only pairs with Q leaves only pairs with both
+pub joined : (P Q : Pair → Type 0) (a b : SiteState) → LeavesOnly P a b → LeavesOnly Q a b → LeavesOnly (λ p. P p × Q p) a b
+joined P Q a b first second = record {
+  later = first.later;
+  each = λ p left. (first.each p left, second.each p left);
+  before = λ t p le left. ⊎_elim
+      (λ (old : a.since t p). inl old)
+      (λ (one : P p). ⊎_elim (λ (old : a.since t p). inl old) (λ (other : Q p). inr (one, other)) (second.before t p le left))
+      (first.before t p le left);
+}
+
 pub on_file-refl : (step : List ℕ → List ℕ → Type 0) (a : SiteState) → ((i : List ℕ) → step i i) → OnFile step a a
-on_file-refl step a stays = record { passes = passes-refl (FileStep step) a (λ p. record { image = stays p.image }) }
+on_file-refl step a stays = record { passes = passes-refl (FileStep step) a (λ p. record { image = stays p.image; jobs = advances-refl p.jobs }); answers = refl }
 
 -- two calls on the file
 pub on_file-then : (f g h : List ℕ → List ℕ → Type 0) (a b c : SiteState) → OnFile f a b → OnFile g b c
     → ((i : List ℕ) → g i i) → ((i : List ℕ) → f i i) → ((i j k : List ℕ) → f i j → g j k → h i k) → OnFile h a c
 on_file-then f g h a b c ab bc g_stays f_stays joins = record {
   passes = passes-then (FileStep f) (FileStep g) (FileStep h) a b c ab.passes bc.passes
-      (λ p. record { image = g_stays p.image })
-      (λ p. record { image = f_stays p.image })
-      (λ p q r pq qr. record { image = joins p.image q.image r.image pq.image qr.image });
+      (λ p. record { image = g_stays p.image; jobs = advances-refl p.jobs })
+      (λ p. record { image = f_stays p.image; jobs = advances-refl p.jobs })
+      (λ p q r pq qr. record { image = joins p.image q.image r.image pq.image qr.image; jobs = advances-then p.jobs q.jobs r.jobs pq.jobs qr.jobs });
+  answers = bc.answers ∙ ab.answers;
 }
 
 -- a call on the file and one that only reads or syncs
@@ -107,3 +126,64 @@ pub reads-keep : (P : Pair → Type 0) (a b c : SiteState) → LeavesOnly P a b 
 reads-keep P a b c so_far call same =
     goes_on P (FileStep Same) a b c so_far call.passes
     (λ q p left step. same q p (sym step.image) (is_since P a b so_far q left))
+
+-- between two calls a stop leaves the jobs as they are
+stays_so : (a : SiteState) (p : Pair) → a.since a.moment p → HasItsJobs a p
+stays_so a p left = record { jobs = (let P : List Job → Type 0 = λ v. Advances a.jobs v in subst P (sym (a.stay p left)) (advances-refl a.jobs)) }
+
+-- no call leaves the jobs alone
+pub keeps_refl : (a : SiteState) → KeepsJobs a a
+keeps_refl a = record { any_moment = started (HasItsJobs a) a (stays_so a); answers = refl }
+
+-- after calls that leave the jobs alone only running ones have ended
+pub kept_jobs : (a b : SiteState) → KeepsJobs a b → Advances a.jobs b.jobs
+kept_jobs a b keeps = (is_since (HasItsJobs a) a b keeps.any_moment (record { image = b.image; jobs = b.jobs }) b.now).jobs
+
+-- a call on the file more leaves the jobs alone
+pub keeps_file : (step : List ℕ → List ℕ → Type 0) (a b c : SiteState) → KeepsJobs a b → OnFile step b c → KeepsJobs a c
+keeps_file step a b c keeps call = record {
+  any_moment = goes_on (HasItsJobs a) (FileStep step) a b c keeps.any_moment call.passes
+      (λ q p left on. record { jobs = advances-then a.jobs q.jobs p.jobs (is_since (HasItsJobs a) a b keeps.any_moment q left).jobs on.jobs });
+  answers = call.answers ∙ keeps.answers;
+}
+
+-- one call on the file leaves the jobs alone
+pub keeps_one : (step : List ℕ → List ℕ → Type 0) (a b : SiteState) → OnFile step a b → KeepsJobs a b
+keeps_one step a b call = keeps_file step a a b (keeps_refl a) call
+
+-- and so do two runs of such calls
+pub keeps_then : (a b c : SiteState) → KeepsJobs a b → KeepsJobs b c → KeepsJobs a c
+keeps_then a b c first second = record {
+  any_moment = followed (HasItsJobs a) (HasItsJobs b) a b c first.any_moment second.any_moment
+      (λ p its. record { jobs = advances-then a.jobs b.jobs p.jobs (kept_jobs a b first) its.jobs });
+  answers = second.answers ∙ first.answers;
+}
+
+-- a call on the jobs leaves nothing pending where nothing was
+pub settled_on : (step : List Job → List Job → Type 0) (a b : SiteState) → OnJobs step a b → IsSettled a → IsSettled b
+settled_on step a b call settled = record {
+  image = λ p left.
+      let le = call.passes.later in
+      let from = call.passes.during p (b.earlier a.moment b.moment p le left) in
+      from.2.image ∙ settled.image from.0 from.1 ∙ sym call.same;
+}
+
+-- no call on the jobs
+pub on_jobs-refl : (step : List Job → List Job → Type 0) (a : SiteState) → ((js : List Job) → step js js) → OnJobs step a a
+on_jobs-refl step a stays = record { passes = passes-refl (JobStep step) a (λ p. record { image = refl; jobs = stays p.jobs }); same = refl }
+
+-- a begin that failed and put no job
+pub lost_begin : (tag : Tag) (act : Act) (a : SiteState) → Begins tag act begin.Failed a a
+lost_begin tag act a = record {
+  on_jobs = on_jobs-refl (MayArrive tag act) a (λ js. inl (advances-refl js));
+  begins = inl (advances-refl a.jobs);
+  answers = refl;
+}
+
+-- a look that failed and left all
+pub lost_look : (tag : Tag) (a : SiteState) → Looks tag look.Failed a a
+lost_look tag a = record { on_jobs = on_jobs-refl Advances a (λ js. advances-refl js); looks = tt; answers = refl }
+
+-- an abort that failed and left all
+pub lost_abort : (tag : Tag) (a : SiteState) → Aborts tag abort.Failed a a
+lost_abort tag a = record { on_jobs = on_jobs-refl Advances a (λ js. advances-refl js); answers = refl }

@@ -1,6 +1,6 @@
 -- The plan of a site in memory, and what was done by it.
 use Rattle.std.specs.Prelude.{◌≡◌, ◌≤◌, ◌↔◌, ℕ, ◌+◌, ◌*◌, ◌-◌, ◌^◌, min, List, length, Contains, Bool, IsTrue, if◌then◌else◌}
-use Rattle.site_traits.specs.Counts.{SiteCounts, Ask, asked, disk_failed, one_more}
+use Rattle.site_traits.specs.Counts.{SiteCounts, asked, disk_failed, one_more}
 use Rattle.site_traits.specs.Counts.Ask.{write, cut, sync}
 use Rattle.site_traits.specs.Log.{HasRoom, with_call, empty}
 use Rattle.site_traits.specs.declared.mem_site.Book.{Book}
@@ -13,7 +13,7 @@ none_counted = record { disk = 0; vim = 0; look = 0; refusals = 0; writes = 0; c
 
 -- the counts that the book keeps
 abbrev pub counts_in : Book → SiteCounts
-counts_in b = record { disk = b.faults; vim = 0; look = 0; refusals = 0; writes = b.writes; cuts = b.cuts; syncs = b.syncs }
+counts_in b = record { disk = b.faults; vim = b.vim_faults; look = b.look_faults; refusals = b.refusals; writes = b.writes; cuts = b.cuts; syncs = b.syncs }
 
 -- the counts once this call was asked for
 abbrev pub counted : DiskCall → SiteCounts → SiteCounts

@@ -1,5 +1,11 @@
 -- Counts of calls and of faults. A count is kept as a u64, stays at its greatest value, and never falls.
 use Rattle.std.specs.Prelude.{◌≡◌, ◌≤◌, ℕ, ◌+◌, ◌-◌, ◌^◌, min, List, [], ◌∷◌, ◌++◌, length, Result, OnOk, OnErr}
+use Rattle.site_traits.specs.declared.jobs.BeginAnswer.{BeginAnswer}
+use Rattle.site_traits.specs.declared.jobs.BeginAnswer.TheVariants as begin
+use Rattle.site_traits.specs.declared.jobs.LookAnswer.{LookAnswer}
+use Rattle.site_traits.specs.declared.jobs.LookAnswer.TheVariants as look
+use Rattle.site_traits.specs.declared.jobs.AbortAnswer.{AbortAnswer}
+use Rattle.site_traits.specs.declared.jobs.AbortAnswer.TheVariants as abort
 
 -- the count rose, or stands at its greatest value (own rule)
 abbrev pub Rose : ℕ → ℕ → Type 0
@@ -43,6 +49,23 @@ disk_failed c = record c { disk = one_more c.disk }
 pub record DiskCause {T E : Type 0} (asked now : SiteCounts) (result : Result T E) : Type 0 where
   pub done : OnOk result (now ≡ asked)
   pub failed : OnErr result (now ≡ disk_failed asked)
+
+-- What a begin does to the counts, by its answer: a refusal is counted as one, and a call that failed as one fault of the infrastructure (own
+-- rule).
+abbrev pub begin_counts : BeginAnswer → SiteCounts → SiteCounts
+begin_counts begin.Begun c = c
+begin_counts (begin.Refused code) c = record c { refusals = one_more c.refusals }
+begin_counts begin.Failed c = record c { vim = one_more c.vim }
+
+-- what a look does to the counts: one that failed is counted as a fault of the infrastructure, and as a failed look (own rule)
+abbrev pub look_counts : LookAnswer → SiteCounts → SiteCounts
+look_counts look.Failed c = record c { vim = one_more c.vim; look = one_more c.look }
+look_counts _ c = c
+
+-- what an abort does to the counts: one that failed is counted as a fault of the infrastructure (own rule)
+abbrev pub abort_counts : AbortAnswer → SiteCounts → SiteCounts
+abort_counts abort.Asked c = c
+abort_counts abort.Failed c = record c { vim = one_more c.vim }
 
 -- some of these were asked for, from the first on, and the last of those failed
 pub record StopsIn (asks : List Ask) (a b : SiteCounts) : Type 0 where

@@ -6,6 +6,7 @@ use Rattle.site_traits.specs.declared.mem_site.DiskCall.{DiskCall}
 use Rattle.site_traits.specs.declared.mem_site.DiskCall.TheVariants as call
 use Rattle.site_traits.specs.declared.mem_site.Choice.{Choice}
 use Rattle.site_traits.specs.declared.mem_site.Choice.TheVariants as choice
+use Rattle.site_traits.specs.Jobs.{unanswered}
 use Rattle.site_traits.specs.Site.{Pair, SiteState, pair_of, Torn, Cut}
 
 -- what a call does to the file: bytes written at a place, a cut to a length, a sync, or nothing
@@ -68,9 +69,10 @@ pub record LeftSince (first : List ℕ) (changes : List Change) (t : ℕ) (p : P
   pub since : t ≤ moment
   pub has_been : moment ≤ length changes
   pub reached : Reaches (disk first (take moment changes)).base (disk first (take moment changes)).pending p.image
+  pub jobs : p.jobs ≡ []
 
 pub left_earlier : (first : List ℕ) (changes : List Change) (t u : ℕ) (p : Pair) → t ≤ u → LeftSince first changes u p → LeftSince first changes t p
-left_earlier first changes t u p le left = record { moment = left.moment; since = omega (arith, left.since, le); has_been = left.has_been; reached = left.reached }
+left_earlier first changes t u p le left = record { moment = left.moment; since = omega (arith, left.since, le); has_been = left.has_been; reached = left.reached; jobs = left.jobs }
 
 -- a write that was not cut short is one of the ways in which it may be
 pub overlaid_torn : (old : List ℕ) (at : ℕ) (bytes : List ℕ) → at ≤ length old → Torn at (length bytes) old (overlaid old at bytes)
@@ -106,23 +108,27 @@ pub seen_reached : (first : List ℕ) (changes : List Change) → Reaches (disk 
 unfolding IsSeen
 seen_reached first changes = seen_fold changes (fresh first) refl
 
-pub left_now : (first : List ℕ) (changes : List Change) → LeftSince first changes (length changes) (pair_of (disk first changes).seen)
+pub left_now : (first : List ℕ) (changes : List Change) → LeftSince first changes (length changes) (pair_of (disk first changes).seen [])
 left_now first changes = record {
   moment = length changes;
   since = omega arith;
   has_been = omega arith;
   reached = (let P : List Change → Type 0 = λ v. Reaches (disk first v).base (disk first v).pending (disk first changes).seen in
       subst P (sym (take_all (length changes) changes (omega arith))) (seen_reached first changes));
+  jobs = refl;
 }
 
 -- what a site in memory tells
 abbrev pub told : List ℕ → List Change → SiteState
 told first changes = record {
   image = (disk first changes).seen;
+  jobs = [];
+  answers = unanswered;
   moment = length changes;
   since = LeftSince first changes;
   earlier = left_earlier first changes;
   now = left_now first changes;
+  stay = λ p left. left.jobs;
 }
 
 -- these bytes at this place of the old ones, where it lies within them

@@ -5,6 +5,7 @@ pub mod Counts
 pub mod Disk
 pub mod Door
 pub mod DoorPlans
+pub mod Jobs
 pub mod Log
 pub mod MemConn
 pub mod MemCourier

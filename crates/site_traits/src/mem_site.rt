@@ -1,11 +1,13 @@
 // A site in memory, which tells all.
 ghost use Rattle.std.specs.Prelude.{◌≡◌, ◌≤◌, ◌<◌, ◌+◌, ◌↔◌, ℕ, List, [], map, get_or, length, take, drop, min, max, Contains, IsTrue, IfOk, OnOk, is_ok, vec_capacity};
-ghost use Rattle.site_traits.specs.Counts.{one_more, Ask, asked, DiskCause};
+ghost use Rattle.site_traits.specs.Counts.{one_more, Ask, asked, DiskCause, begin_counts, look_counts, abort_counts};
 ghost use Rattle.site_traits.specs.Book.{IsWithinRoom, IsPlanned, Runs, counted, counts_in};
 ghost use Rattle.site_traits.specs.Disk.{change_of, change_by, disk, overlaid, put_over, chosen, clip, left_after, stopped_image};
 
+use crate::jobs::{AbortAnswer, BeginAnswer, LookAnswer};
 use crate::log::{CALLS, Log};
 use crate::site::{DiskFailed, Site};
+use lcm_events::{Act, Tag};
 use std::alloc::{AllocError, Global};
 
 /// A call on the file, as it stands on record.
@@ -61,6 +63,9 @@ pub struct Book {
     room: usize,
     calls: u64,
     faults: u64,
+    vim_faults: u64,
+    look_faults: u64,
+    refusals: u64,
     writes: u64,
     cuts: u64,
     syncs: u64,
@@ -109,6 +114,9 @@ impl MemSite {
             room,
             calls: 0,
             faults: 0,
+            vim_faults: 0,
+            look_faults: 0,
+            refusals: 0,
             writes: 0,
             cuts: 0,
             syncs: 0,
@@ -156,7 +164,7 @@ impl MemSite {
         requires { moment ≤ length self.now.book.log.calls }
         ensures image { IfOk result (λ m. IsFresh m (stopped_image choice self.now.first.items (map change_of (take moment self.now.book.log.calls)))) }
         ensures plan { IfOk result (λ m. IsPlanned [] (max self.now.book.room (length m.first.items)) m.book) }
-        ensures allowed { IfOk result (λ m. LeftSince self.now.first.items (map change_of self.now.book.log.calls) moment (pair_of (image_of m))) }
+        ensures allowed { IfOk result (λ m. LeftSince self.now.first.items (map change_of self.now.book.log.calls) moment (pair_of (image_of m) [])) }
     {
         let left = self.left_by(alloc, moment, choice)?;
         let plan = SitePlan {
@@ -340,6 +348,23 @@ impl Book {
         }
     }
 
+    // A call on the jobs failed.
+    fn fail(&mut self)
+        ensures counts { counts_in self.new ≡ begin_counts BeginAnswer.Failed (counts_in self.old) }
+        ensures rest { self.new ≡ record self.old { vim_faults = self.new.vim_faults } }
+    {
+        self.vim_faults = self.vim_faults.saturating_add(1);
+    }
+
+    // A look failed.
+    fn fail_look(&mut self)
+        ensures counts { counts_in self.new ≡ look_counts LookAnswer.Failed (counts_in self.old) }
+        ensures rest { self.new ≡ record self.old { vim_faults = self.new.vim_faults; look_faults = self.new.look_faults } }
+    {
+        self.fail();
+        self.look_faults = self.look_faults.saturating_add(1);
+    }
+
     // A call with these bytes: it is counted, and on record where it is served, else counted as a fault too.
     fn run(&mut self, what: DiskCall, bytes: &[u8]) -> bool
         ensures runs { Runs what bytes.now result self.old self.new }
@@ -377,7 +402,7 @@ fn overlay(file: &mut Vec<u8>, at: usize, bytes: &[u8])
 
 impl Site for MemSite {
     ghost use Rattle.site_traits.specs.MemSite.{image_of, state_of, counts_of};
-    ghost use Rattle.site_traits.specs.Site.{Reads, Writes, Cuts, Syncs};
+    ghost use Rattle.site_traits.specs.Site.{Reads, Writes, Cuts, Syncs, Begins, Looks, Aborts};
 
     ghost tells = { Unit {0} };
 
@@ -448,5 +473,32 @@ impl Site for MemSite {
             return Err(DiskFailed);
         }
         Ok(())
+    }
+
+    fn begin(&mut self, _tag: &Tag, _act: &Act) -> BeginAnswer
+        ensures told { Begins _tag.now _act.now result (state_of self.old) (state_of self.new) }
+        ensures cause { counts_of self.new ≡ begin_counts result (counts_of self.old) }
+        ensures fails { result ≡ BeginAnswer.Failed }
+    {
+        self.book.fail();
+        BeginAnswer::Failed
+    }
+
+    fn look(&mut self, _tag: &Tag) -> LookAnswer
+        ensures told { Looks _tag.now result (state_of self.old) (state_of self.new) }
+        ensures cause { counts_of self.new ≡ look_counts result (counts_of self.old) }
+        ensures fails { result ≡ LookAnswer.Failed }
+    {
+        self.book.fail_look();
+        LookAnswer::Failed
+    }
+
+    fn abort(&mut self, _tag: &Tag) -> AbortAnswer
+        ensures told { Aborts _tag.now result (state_of self.old) (state_of self.new) }
+        ensures cause { counts_of self.new ≡ abort_counts result (counts_of self.old) }
+        ensures fails { result ≡ AbortAnswer.Failed }
+    {
+        self.book.fail();
+        AbortAnswer::Failed
     }
 }

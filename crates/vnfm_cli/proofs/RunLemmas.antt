@@ -1,16 +1,18 @@
 -- Opening a journal, and what is then done with it.
-use Rattle.std.proofs.Common.{◌≡◌, ◌<◌, ℕ, List, sym, subst, refl}
+use Rattle.std.proofs.Common.{◌≡◌, ◌<◌, ℕ, List, Some, sym, subst, refl}
 use Rattle.executor.specs.History.{HasHistory}
 use Rattle.executor.specs.Managed.{Managed, IsReady}
 use Rattle.executor.specs.Open.{Refuses}
-use Rattle.executor.specs.Work.{Follows, Stays, Work, Works, stood}
+use Rattle.executor.specs.Work.{Follows, LeavesJobs, Stays, Work, Works, stood}
 use Rattle.executor.specs.declared.manager.OpenFault.{OpenFault}
 use Rattle.journal_core.specs.Load.{SyncsAndReads}
 use Rattle.lcm_api.specs.Mouth.{MouthState}
 use Rattle.lcm_api.specs.Talking.{Peers, Tells, World, peers_of, world}
 use Rattle.lcm_events.specs.declared.events.Event.{Event}
 use Rattle.site_traits.specs.Site.{SiteState}
-use Rattle.vnfm_cli.specs.Course.{opened, unopened, Deed, Opening, deed_work}
+use Rattle.vnfm_cli.specs.Course.{Course, misused, starved, making, opened, unopened, Deed, IsOf, IsOfWords, Opening, deed_work}
+use Rattle.vnfm_cli.specs.Words.{settings_of}
+use Rattle.vnfm_cli.specs.declared.options.Settings.{Settings}
 use Rattle.vnfm_cli.specs.Runs.{AtPeersBy, Deeds, Does, Recovers}
 
 -- what was opened
@@ -32,20 +34,30 @@ recovers tells m n H w a b e before behind follows told reads ready works =
     }
 
 -- an opened journal, and a deed of its manager
-pub does_deed : (t : Tells) (m n : Managed) (H : List Event) (deed : Deed) (w v : World) (s : SiteState) (c : MouthState) (ks : List ℕ) → Stays s → Stays v.site → Follows t.site w.site s v.site
+pub does_deed : (t : Tells) (m n : Managed) (H : List Event) (deed : Deed) (w v : World) (s : SiteState) (c : MouthState) (ks : List ℕ) → Stays s → Stays v.site → Follows t.site w.site s v.site → LeavesJobs t.site w.site s v.site
     → m.ledger.manager < 4294967296 → (t.site → SyncsAndReads w.site s) → IsReady t.site m H s → Deeds t m.ledger.manager H deed n (world s c ks) v → peers_of w ≡ record { mouth = c; clock = ks }
     → Does t (opened (opening_of m H) deed) w v
-does_deed t m n H deed w v s c ks before behind follows number reads ready deeds same = record {
+does_deed t m n H deed w v s c ks before behind follows leaves number reads ready deeds same = record {
   legal = record { number = number; before = ready.keeps.kept.legal; grows = deeds.works.grows };
   site = λ told. recovers t.site m n H (deed_work m.ledger.manager H deed) w.site s v.site before behind follows told (reads told) ready deeds.works;
+  jobs = λ told. (leaves told (reads told)).1 m.ledger.manager H (deed_work m.ledger.manager H deed) n deeds.works;
   peers = let P : Peers → Type 0 = λ p. AtPeersBy t (opening_of m H) deed p (peers_of v) in subst P (sym same) deeds.peers;
 }
 
 -- a journal that wasn't opened
-pub does_not_open : (t : Tells) (why : OpenFault) (a b : SiteState) (c : MouthState) (ks : List ℕ) → (t.site → SyncsAndReads a b) → (t.site → Refuses why b.image)
+pub does_not_open : (t : Tells) (why : OpenFault) (a b : SiteState) (c : MouthState) (ks : List ℕ) → LeavesJobs t.site a b b → (t.site → SyncsAndReads a b) → (t.site → Refuses why b.image)
     → Does t (unopened why) (world a c ks) (world b c ks)
-does_not_open t why a b c ks reads found = record {
+does_not_open t why a b c ks leaves reads found = record {
   legal = tt;
   site = λ told. record { because = subst (Refuses why) (reads told).same (found told); reads = reads told };
+  jobs = λ told. (leaves told (reads told)).0;
   peers = refl;
 }
+
+-- a course of settings is one of the words that set them
+pub of_words : (words : List (List ℕ)) (s : Settings) (course : Course) → settings_of words ≡ Some s → IsOf s course → IsOfWords words course
+of_words words s misused set is = absurd is
+of_words words s starved set is = absurd is
+of_words words s (making number result) set is = record { settings = s; set = set; is = is }
+of_words words s (unopened why) set is = record { settings = s; set = set; is = is }
+of_words words s (opened start deed) set is = record { settings = s; set = set; is = is }

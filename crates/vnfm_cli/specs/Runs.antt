@@ -13,7 +13,7 @@ use Rattle.lcm_events.specs.declared.events.Event.{Event}
 use Rattle.lcm_model.specs.Allowed.{IsLegal}
 use Rattle.site_traits.specs.Counts.{Rose}
 use Rattle.site_traits.specs.Door.{DoorCounts}
-use Rattle.site_traits.specs.Site.{Pair, SiteState, IsSettled, LeavesOnly}
+use Rattle.site_traits.specs.Site.{Pair, SiteState, IsSettled, KeepsJobs, LeavesOnly}
 use Rattle.onboarding.specs.Doing.{BringsIn}
 use Rattle.vnfm_cli.specs.Course.{Course, misused, starved, making, unopened, opened, Deed, serving, onboarding, Opening, deed_work, IsOfWords}
 use Rattle.vnfm_cli.specs.Rounds.{Attended}
@@ -114,10 +114,11 @@ abbrev pub IsLegalCourse : Course → Type 0
 IsLegalCourse (opened start deed) = IsLegalRun start.number start.history (deed_work start.number start.history deed)
 IsLegalCourse other = Unit {0}
 
--- what a run does, by the way that it went
+-- what a run does, by the way that it went; the jobs are left alone
 pub record Does (t : Tells) (course : Course) (w v : World) : Type 0 where
   pub legal : IsLegalCourse course
   pub site : t.site → AtFile course w.site v.site
+  pub jobs : t.site → KeepsJobs w.site v.site
   pub peers : AtPeers t course (peers_of w) (peers_of v)
 
 -- a run of these words went so

@@ -4,6 +4,7 @@ ghost use Rattle.journal_core.specs.Create.{Creates};
 ghost use Rattle.journal_core.specs.declared.create.CreateFault.{CreateFault};
 ghost use Rattle.lcm_events.specs.declared.events.Event.{Event};
 ghost use Rattle.site_traits.specs.Counts.{OnlyDiskFails, Rose};
+ghost use Rattle.site_traits.specs.Site.{KeepsJobs};
 ghost use Rattle.lcm_api.specs.Talking.{telling, world};
 ghost use Rattle.executor.specs.Managed.{IsReady};
 ghost use Rattle.vnfm_cli.specs.Course.{Course, Deed, IsDeedOf, IsOf, deed_ending, ending_of, making_ending};
@@ -83,6 +84,7 @@ fn obey<S: Site, D: Door, K: Clock>(
     ensures disk { OnlyDiskFails (result ≡ Err Failure.SiteFault) (S.counts site.old) (S.counts site.new) }
     ensures door { result ≡ Err Failure.DoorFault → Rose mouth.old.wire.intake.counts.next mouth.new.wire.intake.counts.next ⊎ (AreWordsOf Onboard words.now × Rose mouth.old.wire.intake.counts.faults mouth.new.wire.intake.counts.faults) }
 {
+    works_add_up::<S>();
     let settings = settings(alloc, words)?;
     perform(alloc, &settings, site, mouth, clock)
 }
@@ -111,6 +113,7 @@ fn perform<S: Site, D: Door, K: Clock>(
 /// Makes the journal of this manager.
 fn init<S: Site>(manager: u32, site: &mut S) -> Ending
     ensures makes { (making : Result (Unit {0}) CreateFault) × (S.tells → Creates manager making (S.state site.old) (S.state site.new)) × (result ≡ making_ending manager making) }
+    ensures jobs { S.tells → KeepsJobs (S.state site.old) (S.state site.new) }
     ensures disk { OnlyDiskFails (result ≡ Err Failure.SiteFault) (S.counts site.old) (S.counts site.new) }
     ensures door { result ≢ Err Failure.DoorFault }
 {

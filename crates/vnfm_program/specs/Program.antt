@@ -130,7 +130,7 @@ pub record Meaning (N H F K L E : Type 0) : Type 1 where
 
 -- how often the calls of a site failed, and what was asked of it
 abbrev pub counts_of : {F : Type 0} → RealSite F → SiteCounts
-counts_of site = counted_as site.faults site.writes site.cuts site.syncs
+counts_of site = counted_as site.faults site.vim_faults site.look_faults site.writes site.cuts site.syncs
 
 -- the folder of a file that `init` makes is synced each time, so that the name of a journal that it answered for is on the disk
 abbrev pub folder_of : Command → FolderSync

@@ -1,4 +1,5 @@
-use Rattle.executor.proofs.WorkLemmas.{everywhere, idle, joined, opened_then, ready_again}
+use Rattle.site_traits.proofs.Moments.{keeps_refl}
+use Rattle.executor.proofs.WorkLemmas.{everywhere, idle, joined, opened_jobs, opened_then, ready_again}
 use Rattle.executor.proofs.laws.works_add_up.Goals as goal
 
 pub returns-clause-joins : goal.returns-clause-joins
@@ -15,3 +16,9 @@ returns-clause-stays g c = λ s m H stands. everywhere m H _ stands
 
 pub returns-clause-follows : goal.returns-clause-follows
 returns-clause-follows g c = λ a b d told reads m H w n works start. opened_then _ m H w n _ _ _ told reads works start
+
+pub returns-clause-jobs : goal.returns-clause-jobs
+returns-clause-jobs g c = λ a b d told reads. opened_jobs _ _ _ _ told reads
+
+pub returns-clause-idle_jobs : goal.returns-clause-idle_jobs
+returns-clause-idle_jobs g c = λ s. keeps_refl _

@@ -1,6 +1,6 @@
 -- One record more was read and judged.
-use Rattle.std.proofs.Common.{◌∙◌}
-use Rattle.site_traits.proofs.Moments.{reads-then}
+use Rattle.std.proofs.Common.{◌∙◌, rules}
+use Rattle.site_traits.proofs.Moments.{reads-refl, reads-then}
 use Rattle.executor.proofs.JudgeLemmas.{judges_starved, step_judged, step_so_far}
 use Rattle.executor.proofs.open.judge_all.Goals as goal
 
@@ -24,3 +24,25 @@ returns-in_err-judge_next-clause-told g c = λ tells.
     let so_far = c.loop-judged.invariant.so_far tells in
     judges_starved _ _ _ _ _ c.from_residual-in_err-judge_next.ensures.1 (rw c.in-Record.is at (c.in_ok-next.ensures.found tells so_far.rs so_far.loads))
     (reads-then _ _ _ (c.loop-judged.invariant.reads tells) (c.next.ensures.told tells))
+
+pub loop-judged-init : goal.loop-judged-init
+loop-judged-init g c = record {
+  judged = search rules;
+  manager = search rules;
+  within = search rules;
+  counts = search rules;
+  so_far = search rules;
+  reads = λ tells. reads-refl _;
+}
+
+pub returns-in_err-next-clause-told : goal.returns-in_err-next-clause-told
+returns-in_err-next-clause-told g c = λ tells. record {
+  finds = search rules;
+  reads = reads-then _ _ _ (c.loop-judged.invariant.reads tells) (c.next.ensures.told tells);
+}
+
+pub returns-clause-told : goal.returns-clause-told
+returns-clause-told g c = λ tells. record {
+  finds = search rules;
+  reads = reads-then _ _ _ (c.loop-judged.invariant.reads tells) (c.next.ensures.told tells);
+}

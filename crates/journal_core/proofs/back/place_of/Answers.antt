@@ -1,3 +1,5 @@
+use Rattle.std.proofs.Common.{refl}
+use Rattle.site_traits.proofs.Moments.{reads-refl}
 use Rattle.std.proofs.Common.{◌≡◌, ◌∙◌, sym, ℕ, [], length, get_or, Option, Some, None, arith}
 use Rattle.site_traits.proofs.Moments.{reads-then}
 use Rattle.journal_core.specs.File.{records}
@@ -47,3 +49,6 @@ loop-preserved g c = record {
   told = λ tells. reads-then _ _ _ (c.loop.invariant.told tells) (c.size_at.ensures.told tells);
   counts = c.in_ok-size.ensures.cause.done ∙ c.loop.invariant.counts;
 }
+
+pub loop-init : goal.loop-init
+loop-init g c = record { mark = λ tells. (c.requires.told tells).1; told = λ tells. reads-refl _; counts = refl }

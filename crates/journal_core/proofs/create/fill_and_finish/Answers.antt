@@ -1,3 +1,4 @@
+use Rattle.journal_core.proofs.CreateLemmas.{steps_then}
 use Rattle.journal_core.specs.Asking.{through}
 use Rattle.journal_core.proofs.AskLemmas.{asks_failed, asks_then, stops_more}
 use Rattle.journal_core.proofs.create.fill_and_finish.Goals as goal
@@ -12,3 +13,6 @@ pub returns-clause-asks : goal.returns-clause-asks
 returns-clause-asks g c =
     asks_then (through 1) (through 1) c.finish.result (g.S.Site.counts c.args.site.now) (g.S.Site.counts c.fill.new.site) (g.S.Site.counts c.finish.new.site)
     c.in_ok-fill.ensures.asks.done c.finish.ensures.asks
+
+pub returns-clause-told : goal.returns-clause-told
+returns-clause-told g c = λ tells. steps_then _ _ _ _ _ _ _ _ (c.in_ok-fill.ensures.told tells) (c.finish.ensures.told tells)

@@ -1,3 +1,4 @@
+use Rattle.site_traits.proofs.Moments.{reads-refl}
 use Rattle.journal_core.proofs.LoadLemmas.{syncs_and_reads}
 use Rattle.journal_core.proofs.create.stage_of.Goals as goal
 
@@ -5,3 +6,8 @@ pub returns-clause-told : goal.returns-clause-told
 returns-clause-told g c = λ tells.
     syncs_and_reads c.sync.result (g.S.Site.state c.args.site.now) (g.S.Site.state c.sync.new.self) (g.S.Site.state c.length.new.self) (g.S.Site.state c.stage_at.new.site)
     (c.sync.ensures.told tells) (c.length.ensures.told tells) (c.stage_at.ensures.told tells)
+
+pub returns-in_err-len-clause-told : goal.returns-in_err-len-clause-told
+returns-in_err-len-clause-told g c = λ tells.
+    syncs_and_reads c.sync.result (g.S.Site.state c.args.site.now) (g.S.Site.state c.sync.new.self) (g.S.Site.state c.length.new.self) (g.S.Site.state c.length.new.self)
+    (c.sync.ensures.told tells) (c.length.ensures.told tells) (reads-refl _)

@@ -1,3 +1,4 @@
+use Rattle.site_traits.proofs.Moments.{reads-refl}
 use Rattle.std.proofs.Common.{◌≡◌, ◌+◌, min, ◌≤◌, length, drop, [], ◌∷◌, arith}
 use Rattle.std.proofs.lemmas.List.{length-drop}
 use Rattle.journal_core.proofs.HeadLemmas.{read_front}
@@ -15,3 +16,6 @@ returns-clause-head g c = λ tells.
     c.head_of.ensures.head (drop c.args.end image)
     (read_front held 5 c.read_at.new.into (0 ∷ 0 ∷ 0 ∷ 0 ∷ 0 ∷ []) (drop c.args.end image) (c.in_ok-read_at.ensures.bytes tells) many.1 many.0)
     left
+
+pub returns-then-end-len-clause-told : goal.returns-then-end-len-clause-told
+returns-then-end-len-clause-told g c = λ tells. reads-refl _

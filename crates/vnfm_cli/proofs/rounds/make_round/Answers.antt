@@ -4,6 +4,7 @@ use Rattle.lcm_api.specs.Talking.{World, world}
 use Rattle.site_traits.specs.declared.door.NextAnswer.TheVariants.{Nobody, Ended}
 use Rattle.vnfm_cli.specs.Course.{served, stopped, unasked, unreached}
 use Rattle.vnfm_cli.specs.Rounds.{round, end}
+use Rattle.vnfm_cli.proofs.DiskLemmas.{fails_as}
 use Rattle.vnfm_cli.proofs.RoundLemmas.{round_served, round_stopped, round_unasked, round_unreached, served_next}
 use Rattle.vnfm_cli.proofs.rounds.make_round.Goals as goal
 
@@ -55,3 +56,6 @@ returns-in-Failed-clause-makes g c = λ H ready. (
   tt,
   tt,
 )
+
+pub returns-in-Err-clause-disk : goal.returns-in-Err-clause-disk
+returns-in-Err-clause-disk g c = fails_as _ _ _ _ c.in-Err.ensures.counts (λ is. refl) (λ is. refl)

@@ -2,7 +2,7 @@
 use Rattle.std.proofs.Common.{reverse, length, ap, Err, ◌∙◌, arith}
 use Rattle.std.proofs.lemmas.Bool.{iff_false}
 use Rattle.executor.specs.Managed.{Managed}
-use Rattle.executor.proofs.CommitLemmas.{broken_room, committed, full_told, not_committed, room_told, starved_room, starved_works}
+use Rattle.executor.proofs.CommitLemmas.{broken_room, committed, full_told, not_committed, room_told, starved_room, starved_works, unspelled_works}
 use Rattle.executor.proofs.ManagerLemmas.{kept_more, reverse-push}
 use Rattle.executor.proofs.WorkLemmas.{idle, same_allowed}
 use Rattle.executor.proofs.manager.Manager.commit.Goals as goal
@@ -52,7 +52,7 @@ returns-in-Ok-clause-works g c = λ H ready.
     let begins = rw (← c.self.view_is) at ready in
     rw (← c.self.view_is)
     (committed _ m _ H c.args.e.now _ _ begins (ap reverse items ∙ reverse-push c.self.inside.events.items c.args.e.now) c.in-Ok.ensures.manager kept c.in-Ok.ensures.grown.2 c.spell.ensures.event
-    (λ tells. rw bytes at (c.in-Ok.ensures.told tells)))
+    (λ tells. rw bytes at (c.in-Ok.ensures.told tells)) c.in-Ok.ensures.jobs)
 
 pub returns-in-Ok-clause-room : goal.returns-in-Ok-clause-room
 returns-in-Ok-clause-room g c = λ H keeps.
@@ -77,7 +77,7 @@ returns-in-Err-clause-works g c = λ H ready.
     (not_committed _ m _ H c.args.e.now c.in-Err.fault _ _ begins (ap reverse back) c.in-Err.ensures.manager (λ disk. c.in-Err.ensures.closed (ap Err disk)) c.self.invariant c.spell.ensures.event
     (same_allowed m _ _ _ may.1.keeps may.2.allowed)
     (λ end more is. let over = (c.in-Err.ensures.only_full end more (ap Err is)).0 in omega (arith, over, room, size, long, within))
-    (λ tells. (rw bytes at (c.in-Err.ensures.told tells)).any_moment))
+    (λ tells. (rw bytes at (c.in-Err.ensures.told tells)).any_moment) c.in-Err.ensures.jobs)
 
 pub returns-in-Err-clause-room : goal.returns-in-Err-clause-room
 returns-in-Err-clause-room g c = λ H keeps.
@@ -91,3 +91,10 @@ returns-in-Err-clause-room g c = λ H keeps.
     broken_room c.args.limit H c.args.e.now c.in-Err.fault c.from.result c.from.ensures
     (λ end more is. let over = (c.in-Err.ensures.only_full end more (ap Err is)).0 in omega (arith, over, room, size, long, within))
     (record { fits = omega (arith, size); room = room_told c.records_add_up.ensures.room c.args.limit _ _ H c.args.e.now (kept.kept.end may.1.usable) size.0 room })
+
+pub returns-in_err-more-clause-works : goal.returns-in_err-more-clause-works
+returns-in_err-more-clause-works g c = λ H ready.
+    let m : Managed = record { ledger = c.self.inside.journal; history = reverse c.self.inside.events.items } in
+    let begins = rw (← c.self.view_is) at ready in
+    rw (← c.self.view_is)
+    (unspelled_works _ m m H c.args.e.now c.from_residual.result c.in_err-more.field-0.0 _ _ c.from_residual.ensures.1 c.in_err-more.ensures.too_long.0 (idle _ m H _ begins))

@@ -9,6 +9,7 @@ use Rattle.journal_core.specs.declared.journal.AppendFault.{AppendFault}
 use Rattle.journal_core.specs.Asking.{through, AppendAsks}
 use Rattle.journal_core.proofs.AskLemmas.{stops_more, stops_after}
 use Rattle.journal_core.proofs.Records.{has_length, ready_has, records_of}
+use Rattle.site_traits.proofs.Moments.{keeps_file, keeps_one, keeps_refl}
 use Rattle.journal_core.proofs.Appending.{marks_kept, first_moments, first_ready, second_moments, second_has, stands_more, appends_not}
 use Rattle.journal_core.proofs.journal.Journal.append.Goals as goal
 
@@ -98,3 +99,17 @@ returns-in_err-write_through-2-clause-asks g c =
     let err = err_from_is_err_and r c.from_residual-in_err-write_through-2.ensures.1 in
     let P : Result (Unit {0}) AppendFault → Type 0 = λ v. AppendAsks v a b in
     subst P (sym (err.1 ∙ ap Err err.2)) (stops_after (through 1) (through 1) a m b c.in_ok-write_through.ensures.asks.done c.in_err-write_through-2.ensures.asks.failed)
+
+pub returns-in_err-write_through-clause-jobs : goal.returns-in_err-write_through-clause-jobs
+returns-in_err-write_through-clause-jobs g c = λ tells. keeps_one _ _ _ (c.in_err-write_through.ensures.told tells).on_file
+
+pub returns-in_err-write_through-2-clause-jobs : goal.returns-in_err-write_through-2-clause-jobs
+returns-in_err-write_through-2-clause-jobs g c = λ tells.
+    keeps_file _ _ _ _ (keeps_one _ _ _ (c.in_ok-write_through.ensures.told tells).on_file) (c.in_err-write_through-2.ensures.told tells).on_file
+
+pub returns-clause-jobs : goal.returns-clause-jobs
+returns-clause-jobs g c = λ tells.
+    keeps_file _ _ _ _ (keeps_one _ _ _ (c.in_ok-write_through.ensures.told tells).on_file) (c.in_ok-write_through-2.ensures.told tells).on_file
+
+pub returns-then-self-bytes-gt-MAX_FILE-clause-jobs : goal.returns-then-self-bytes-gt-MAX_FILE-clause-jobs
+returns-then-self-bytes-gt-MAX_FILE-clause-jobs g c = λ tells. keeps_refl _

@@ -4,12 +4,13 @@ use Rattle.std.specs.Prelude.{Option, [], ◌∷◌, Result}
 use Rattle.journal_core.specs.declared.create.Stage.{Stage}
 use Rattle.journal_core.specs.Create.{FoundIs, StandsSo}
 use Rattle.journal_core.specs.File.{HasRecords}
-use Rattle.site_traits.specs.Counts.{SiteCounts}
 use Rattle.site_traits.specs.Counts.Ask.{sync}
 use Rattle.journal_core.specs.declared.create.CreateFault.{CreateFault}
 use Rattle.journal_core.specs.declared.create.Stage.TheVariants as stage
 use Rattle.journal_core.specs.Asking.{left_to_ask, CreateAsks}
 use Rattle.journal_core.proofs.AskLemmas.{sync_stops, stops_after}
+use Rattle.site_traits.proofs.Moments.{keeps_then}
+use Rattle.journal_core.proofs.LoadLemmas.{loading_keeps}
 use Rattle.journal_core.proofs.CreateLemmas.{creates_not, creates_taken, creates_steps, not_taken, ok_not_taken}
 use Rattle.journal_core.proofs.journal.Journal.create.Goals as goal
 
@@ -63,3 +64,15 @@ returns-in_err-proceed-clause-asks g c =
     let P : Result (Unit {0}) CreateFault → Type 0 = λ v. CreateAsks v a b in
     subst P (sym (err.1 ∙ ap Err err.2))
     (c.in-Some.stage, stops_after (sync ∷ []) (left_to_ask c.in-Some.stage) a m b c.in_ok-stage.ensures.cause.done c.in_err-proceed.ensures.asks.failed)
+
+pub returns-in_err-stage-clause-jobs : goal.returns-in_err-stage-clause-jobs
+returns-in_err-stage-clause-jobs g c = λ tells. loading_keeps _ _ (c.stage_of.ensures.told tells)
+
+pub returns-in_default-clause-jobs : goal.returns-in_default-clause-jobs
+returns-in_default-clause-jobs g c = λ tells. loading_keeps _ _ (c.stage_of.ensures.told tells)
+
+pub returns-in_err-proceed-clause-jobs : goal.returns-in_err-proceed-clause-jobs
+returns-in_err-proceed-clause-jobs g c = λ tells. keeps_then _ _ _ (loading_keeps _ _ (c.stage_of.ensures.told tells)) (c.proceed.ensures.told tells).jobs
+
+pub returns-clause-jobs : goal.returns-clause-jobs
+returns-clause-jobs g c = λ tells. keeps_then _ _ _ (loading_keeps _ _ (c.stage_of.ensures.told tells)) (c.in_ok-proceed.ensures.told tells).jobs

@@ -4,7 +4,7 @@ use Rattle.journal_core.specs.declared.loading.Found.{Found}
 use Rattle.journal_core.specs.Journal.{Ledger}
 use Rattle.journal_core.specs.declared.loading.LoadFault.{LoadFault}
 use Rattle.journal_core.specs.Load.{Finds, Loaded}
-use Rattle.journal_core.proofs.LoadLemmas.{syncs_then_reads, failed_load}
+use Rattle.journal_core.proofs.LoadLemmas.{loading_keeps, syncs_then_reads, failed_load}
 use Rattle.journal_core.proofs.journal.Journal.load.Goals as goal
 
 pub returns-in_err-next-clause-loaded : goal.returns-in_err-next-clause-loaded
@@ -33,3 +33,12 @@ loop-loading-preserved g c = record {
   told = λ tells. syncs_then_reads _ _ _ (c.loop-loading.invariant.told tells) (c.next.ensures.told tells);
   counts = c.in_ok-next.ensures.counts.stays (λ wrong. cc wrong) ∙ c.loop-loading.invariant.counts;
 }
+
+pub returns-in_err-next-clause-jobs : goal.returns-in_err-next-clause-jobs
+returns-in_err-next-clause-jobs g c = λ tells. loading_keeps _ _ (syncs_then_reads _ _ _ (c.loop-loading.invariant.told tells) (c.next.ensures.told tells))
+
+pub returns-in-End-clause-jobs : goal.returns-in-End-clause-jobs
+returns-in-End-clause-jobs g c = λ tells. loading_keeps _ _ (syncs_then_reads _ _ _ (c.loop-loading.invariant.told tells) (c.next.ensures.told tells))
+
+pub returns-in_err-loading-clause-jobs : goal.returns-in_err-loading-clause-jobs
+returns-in_err-loading-clause-jobs g c = λ tells. loading_keeps _ _ (c.open.ensures.told tells)

@@ -1,7 +1,7 @@
-use Rattle.std.proofs.Common.{◌≡◌, ◌∙◌, sym, ap, subst, refl, take, false, Result, Err}
+use Rattle.std.proofs.Common.{◌∙◌, sym, ap, subst, refl, take, false, Result, Err}
 use Rattle.std.proofs.lemmas.Result.{err_from_is_err_and}
 use Rattle.journal_core.specs.declared.loading.LoadFault.{LoadFault}
-use Rattle.journal_core.specs.declared.loading.LoadFault.TheVariants.{Disk, Memory}
+use Rattle.journal_core.specs.declared.loading.LoadFault.TheVariants.{Memory}
 use Rattle.journal_core.specs.declared.header.Verdict.{Verdict}
 use Rattle.journal_core.specs.Judged.{Judged}
 use Rattle.journal_core.specs.Load.{Progress, Opened}

@@ -7,6 +7,7 @@ use Rattle.journal_core.specs.Marks.{IsMark}
 use Rattle.journal_core.specs.Back.{IsFound}
 use Rattle.journal_core.specs.Journal.{Ledger}
 use Rattle.journal_core.proofs.BackLemmas.{mark_read, reads_stands}
+use Rattle.journal_core.proofs.LoadLemmas.{reading_keeps}
 use Rattle.journal_core.proofs.journal.Journal.read_back.Goals as goal
 
 pub returns-clause-told : goal.returns-clause-told
@@ -32,3 +33,9 @@ returns-clause-told g c = λ tells.
           (All-cons (IsMark rs) (record { before = n; place = c.in-Some.place + 5 + c.in-Some.size }) i.marks.places here kept);
       whole = λ k wrong. cc wrong;
     }
+
+pub returns-clause-jobs : goal.returns-clause-jobs
+returns-clause-jobs g c = λ tells. reading_keeps _ _ (c.in_ok-found.ensures.told tells)
+
+pub returns-in_err-found-clause-jobs : goal.returns-in_err-found-clause-jobs
+returns-in_err-found-clause-jobs g c = λ tells. reading_keeps _ _ (c.record_from.ensures.told tells)

@@ -36,3 +36,9 @@ returns-in_ok-bytes_at-in-Open-clause-found g c = λ tells rs loads.
     ap (take n) whole ∙ c.in_ok-bytes_at-in-Open.ensures.bytes tells ∙ ap (λ v. take n (drop (i.end + 5) v)) head.same in
     loads_more rs l k n a (g.S.Site.state c.bytes_at.new.site) (subst P (sym c.self.view_is) loads) (reads-then a mid (g.S.Site.state c.bytes_at.new.site) head read)
     (subst Q c.in-Open.is (c.in_ok-head_at.ensures.head tells)) bytes refl refl refl refl (c.keep.ensures.marks (rs ++ k.record_bytes ∷ []))
+
+pub returns-in_err-bytes_at-in-Open-clause-told : goal.returns-in_err-bytes_at-in-Open-clause-told
+returns-in_err-bytes_at-in-Open-clause-told g c = λ tells. reads-then _ _ _ (c.head_at.ensures.told tells) (c.bytes_at.ensures.told tells)
+
+pub returns-in_ok-bytes_at-in-Open-clause-told : goal.returns-in_ok-bytes_at-in-Open-clause-told
+returns-in_ok-bytes_at-in-Open-clause-told g c = λ tells. reads-then _ _ _ (c.head_at.ensures.told tells) (c.bytes_at.ensures.told tells)

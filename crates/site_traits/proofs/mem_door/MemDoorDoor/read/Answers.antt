@@ -1,6 +1,5 @@
 use Rattle.std.proofs.Common.{rules, ◌≡◌}
 use Rattle.site_traits.specs.MemDoor.{counts_of}
-use Rattle.site_traits.specs.declared.mem_conn.MemConn.{MemConn}
 use Rattle.site_traits.proofs.DoorLemmas.{read_cause, failed_counts}
 use Rattle.site_traits.proofs.mem_door.MemDoorDoor.read.Goals as goal
 

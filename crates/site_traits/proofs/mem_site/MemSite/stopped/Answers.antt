@@ -1,4 +1,4 @@
-use Rattle.std.proofs.Common.{◌≡◌, ◌∙◌, ◌≤◌, ap, subst, ℕ, List, map, take, length, Result, Ok, Err}
+use Rattle.std.proofs.Common.{◌≡◌, ◌∙◌, ◌≤◌, ap, subst, ℕ, List, [], map, take, length, Result, Ok, Err}
 use Rattle.std.specs.Result.{IfOk}
 use Rattle.std.specs.declared.alloc.AllocError.{AllocError}
 use Rattle.site_traits.specs.declared.mem_site.MemSite.{MemSite}
@@ -14,7 +14,7 @@ fresh_image : (m : MemSite) (file : List ℕ) → IsFresh m file → image_of m 
 fresh_image m file fresh = ap (λ v. (disk m.first.items (map change_of v)).seen) fresh.log ∙ fresh.first
 
 allowed : (r : Result MemSite AllocError) (ch : Choice) (first : List ℕ) (log : List (DiskCall × List ℕ)) (k : ℕ) → k ≤ length log
-    → IfOk r (λ m. IsFresh m (stopped_image ch first (map change_of (take k log)))) → IfOk r (λ m. LeftSince first (map change_of log) k (pair_of (image_of m)))
+    → IfOk r (λ m. IsFresh m (stopped_image ch first (map change_of (take k log)))) → IfOk r (λ m. LeftSince first (map change_of log) k (pair_of (image_of m) []))
 allowed (Ok m) ch first log k le fresh = stopped_allowed ch first (image_of m) log k le (fresh_image m (stopped_image ch first (map change_of (take k log))) fresh)
 allowed (Err e) ch first log k le fresh = tt
 

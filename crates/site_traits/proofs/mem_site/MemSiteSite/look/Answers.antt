@@ -1,0 +1,8 @@
+use Rattle.std.proofs.Common.{ap}
+use Rattle.site_traits.specs.declared.mem_site.Book.{Book}
+use Rattle.site_traits.proofs.DiskLemmas.{lost_look_told}
+use Rattle.site_traits.proofs.mem_site.MemSiteSite.look.Goals as goal
+
+pub returns-clause-told : goal.returns-clause-told
+returns-clause-told c =
+    lost_look_told _ c.args.self.now.first.items c.args.self.now.book.log.calls c.fail_look.new.self.log.calls (ap (λ (b : Book). b.log.calls) c.fail_look.ensures.rest)

@@ -1,0 +1,8 @@
+-- A command was performed, of what the words set.
+use Rattle.vnfm_cli.proofs.RunLemmas.{of_words}
+use Rattle.vnfm_cli.proofs.top.obey.Goals as goal
+
+pub returns-clause-runs : goal.returns-clause-runs
+returns-clause-runs g c =
+    let does = c.perform.ensures.does in
+    (does.0, record { words_are = of_words c.args.words.now c.in_ok-settings.settings does.0 c.in_ok-settings.ensures does.1; does = does.2 }, does.3)
