@@ -1,0 +1,151 @@
+//! Lets a table of occurrences follow events, judge them, and look each occurrence up.
+//!
+//! `table_bench [OCCURRENCES CHANGES followed|judged|open]` prints how many events there were, how many of them the table judged to be allowed,
+//! and how many occurrences are COMPLETED, and with words the nanoseconds of processor time that following with judging and looking up took.
+#![tactic(auto)]
+
+mod samples;
+mod words;
+
+use crate::samples::events_of;
+use crate::words::{Mode, Words};
+use anyhow::Result;
+use lcm_events::{Event, EventKind, OpState};
+use occ_table::OccTable;
+use std::alloc::{AllocError, AllocGlobal, Global};
+use std::env::Env;
+use std::io::Print;
+use std::time::{CpuClock, Duration};
+
+/// Whether the table judges an event about an occurrence to be allowed, where one attempt may be open.
+fn is_allowed(table: &OccTable, alloc: Global, kind: &EventKind) -> Result<bool, AllocError> {
+    match kind {
+        EventKind::Granted {
+            occ,
+            grant,
+            places,
+            spots,
+        } => table.may_grant(alloc, *occ, grant, places.as_slice(), spots.as_slice()),
+        EventKind::Intent(tag) => Ok(table.may_begin(1, tag)),
+        EventKind::Settled { tag, .. } => Ok(table.may_settle(tag)),
+        EventKind::Moved { occ, to } => Ok(table.may_move(*occ, *to)),
+        _ => Ok(false),
+    }
+}
+
+/// Lets the table follow an event.
+fn follow(table: &mut OccTable, alloc: Global, event: &Event) -> Result<(), AllocError> {
+    table.reserve_for(alloc, event)?;
+    table.apply(event);
+    Ok(())
+}
+
+/// Lets the table judge and follow events; how many it judged to be allowed.
+fn follow_all(
+    table: &mut OccTable,
+    alloc: Global,
+    events: &[Event],
+    judged: bool,
+) -> Result<u64, AllocError> {
+    let mut allowed = 0u64;
+    for event in events {
+        if judged && is_allowed(table, alloc, &event.kind)? {
+            allowed = allowed.saturating_add(1);
+        }
+        follow(table, alloc, event)?;
+    }
+    Ok(allowed)
+}
+
+/// How many of the first so many occurrences are COMPLETED.
+fn count_completed(table: &OccTable, occurrences: u64) -> u64 {
+    let mut completed = 0u64;
+    for occ in 0..occurrences {
+        if let Some(row) = table.occurrence(occ + 1) {
+            if row.state == OpState::Completed {
+                completed = completed.saturating_add(1);
+            }
+        }
+    }
+    completed
+}
+
+/// What was counted, and how long following took.
+#[derive(Clone, Copy, Debug)]
+struct Totals {
+    events: u64,
+    allowed: u64,
+    following: Duration,
+}
+
+/// Lets the table follow the events of an occurrence, and counts them.
+fn measure(
+    rt: &(impl CpuClock + AllocGlobal),
+    table: &mut OccTable,
+    words: Words,
+    occ: u64,
+    totals: &mut Totals,
+) -> Result<()> {
+    let events = events_of(rt.alloc(), occ, words)?;
+    let judged = words.mode == Mode::Judged;
+    let begun = rt.process_cpu_time()?;
+    let allowed = follow_all(table, rt.alloc(), events.as_slice(), judged)?;
+    let ended = rt.process_cpu_time()?;
+    totals.events = totals.events.saturating_add(events.len() as u64);
+    totals.allowed = totals.allowed.saturating_add(allowed);
+    totals.following = totals.following.saturating_add(ended.saturating_sub(begun));
+    Ok(())
+}
+
+/// Lets the table follow the events of as many occurrences as the words say.
+fn measure_all(
+    rt: &(impl CpuClock + AllocGlobal),
+    table: &mut OccTable,
+    words: Words,
+) -> Result<Totals> {
+    let mut totals = Totals {
+        events: 0,
+        allowed: 0,
+        following: Duration::ZERO,
+    };
+    for number in 0..words.occurrences {
+        measure(rt, table, words, number as u64 + 1, &mut totals)?;
+    }
+    Ok(totals)
+}
+
+/// Prints what was counted, and the times.
+fn print(
+    rt: &impl Print,
+    words: Words,
+    totals: Totals,
+    completed: u64,
+    looking: Duration,
+) -> Result<()> {
+    let Totals {
+        events,
+        allowed,
+        following,
+    } = totals;
+    println!(rt; "events {events}, allowed {allowed}, completed {completed}")?;
+    if words.times {
+        println!(rt; "following {} ns", following.as_nanos())?;
+        println!(rt; "looking {} ns", looking.as_nanos())?;
+    }
+    Ok(())
+}
+
+/// Measures as many occurrences as the words of the command line say.
+fn run(rt: &(impl Env + CpuClock + Print + AllocGlobal)) -> Result<()> {
+    let words = Words::read(rt)?;
+    let mut table = OccTable::new(rt.alloc());
+    let totals = measure_all(rt, &mut table, words)?;
+    let begun = rt.process_cpu_time()?;
+    let completed = count_completed(&table, table.made());
+    let ended = rt.process_cpu_time()?;
+    print(rt, words, totals, completed, ended.saturating_sub(begun))
+}
+
+fn main(rt: HostRuntime) -> Result<()> {
+    run(&rt)
+}
