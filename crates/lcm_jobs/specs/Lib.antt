@@ -1,0 +1,6 @@
+pub mod Alternating
+pub mod Backing
+pub mod Idle
+pub mod Keeping
+pub mod Sound
+pub mod Standing
