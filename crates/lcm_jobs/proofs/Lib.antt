@@ -1,4 +1,5 @@
 mod Endings
+mod IdleLemmas
 mod KeepLemmas
 mod OnLemmas
 mod Parts

@@ -1,4 +1,19 @@
 -- The open attempts at a definition of an instance: there is at most one.
+use Rattle.lcm_model.specs.Attempts.{is_open, net, open_attempts, open_tags}
+use Rattle.lcm_model.specs.Words.{IsIn}
+use Rattle.lcm_model.specs.Work.{all_through, net_after, net_before, works_in}
+use Rattle.lcm_model.specs.Moves.{is_final, state}
+use Rattle.lcm_events.specs.declared.states.OpState.{OpState}
+use Rattle.lcm_laws.proofs.EndLaws.{open_state}
+use Rattle.lcm_laws.proofs.Members.{of_filter}
+use Rattle.lcm_laws.proofs.NetLaws.{is_of-own, open_fits, open_own}
+use Rattle.lcm_laws.proofs.OrderLaws.{ordered, through_net, turn_at}
+use Rattle.lcm_laws.proofs.SettledLaws.{one_going, works_on}
+use Rattle.lcm_laws.proofs.WorldLaws.{follows_at}
+use Rattle.lcm_jobs.proofs.Parts.{in_any}
+use Rattle.std.proofs.Common.{inl, subst, sym, ap}
+use Rattle.lcm_events.specs.declared.events.EventKind.TheVariants.{Intent}
+use Rattle.std.proofs.Common.{is_some, filter, ◌<◌, lt-ltb}
 use Rattle.std.proofs.Common.{◌≡◌, ◌<◌, ◌≤◌, ◌==◌, ◌∙◌, ℕ, List, [], ◌∷◌, Bool, true, false, Option, None, Some, refl, ap, sym, subst, arith, slice_get, eqb-true, ltb, ltb-true, ltb-false, if◌then◌else◌}
 use Rattle.std.specs.List.{list_any}
 use Rattle.std.specs.Prelude.{option_and_then}
@@ -22,7 +37,7 @@ use Rattle.lcm_model.specs.Operations.{operation, verb_done}
 use Rattle.lcm_model.specs.Planned.{IsPlannedBy}
 use Rattle.lcm_model.specs.Plans.{Case, phase}
 use Rattle.lcm_model.specs.Words.{when}
-use Rattle.lcm_model.specs.Work.{net_after, net_before, works_in}
+use Rattle.lcm_model.specs.Work.{all_through, net_after, net_before, works_in}
 use Rattle.lcm_laws.proofs.AboutLaws.{unasked_untouched}
 use Rattle.lcm_laws.proofs.FreshLaws.{Known}
 use Rattle.lcm_laws.proofs.Histories.{event}
@@ -135,3 +150,88 @@ by_order a b f g h = by_test (ltb a b)
     (λ not. by_test (ltb b a) (λ more. h (ltb-true b a more)) (λ none. g (same a b not none))) where
       same : (a b : ℕ) → ltb a b ≡ false → ltb b a ≡ false → a ≡ b
       same a b not none = let low = ltb-false a b not in let high = ltb-false b a none in omega (arith, low, high)
+
+-- Two attempts at one definition of an instance aren't open at once: their changes are of one operation; where their phases differ, the one
+-- waits for the other, and where they don't, it is one change.
+clash_forward : (width m : ℕ) (H : List Event) (t u : Tag) (a : Operation) (j k : Change) (w : Way) → IsLegalWithin width m H → IsAllowedWithin width m H (Intent t) → is_open H u ≡ true
+    → operation H t.occ ≡ Some a → u.occ ≡ t.occ → t.way ≡ w → u.way ≡ w → slice_get a.changes t.change ≡ Some j → slice_get a.changes u.change ≡ Some k → j.phase < k.phase → ⊥
+clash_forward width m H t u a j k Forward legal allowed opened found at wt wu ej ek less =
+    let before = (turn_at width m H t a j allowed found ej).0 in
+    let made : net H t.occ t.change ≡ 1 = (ordered width m H legal t.occ a found).making u t.change j k opened at wu ej ek less in
+    not_both (net H t.occ t.change) Forward (before ∙ ap net_before wt) made
+clash_forward width m H t u a j k Undo legal allowed opened found at wt wu ej ek less =
+    let through = (turn_at width m H t a j allowed found ej).1 in
+    let all = subst (λ (v : Way). all_through H t.occ v j.phase ≡ true) wt through in
+    let none : net H t.occ u.change ≡ 0 = through_net H t.occ Undo a j.phase u.change k found all ek (lt-ltb j.phase k.phase less) in
+    let one : net H t.occ u.change ≡ 1 = subst (λ (n : ℕ). net H n u.change ≡ 1) at (open_fits width m H legal u opened ∙ ap net_before wu) in
+    not_both (net H t.occ u.change) Undo one none
+
+clash_backward : (width m : ℕ) (H : List Event) (t u : Tag) (a : Operation) (j k : Change) (w : Way) → IsLegalWithin width m H → IsAllowedWithin width m H (Intent t) → is_open H u ≡ true
+    → operation H t.occ ≡ Some a → u.occ ≡ t.occ → t.way ≡ w → u.way ≡ w → slice_get a.changes t.change ≡ Some j → slice_get a.changes u.change ≡ Some k → k.phase < j.phase → ⊥
+clash_backward width m H t u a j k Forward legal allowed opened found at wt wu ej ek less =
+    let through = (turn_at width m H t a j allowed found ej).1 in
+    let all = subst (λ (v : Way). all_through H t.occ v j.phase ≡ true) wt through in
+    let one : net H t.occ u.change ≡ 1 = through_net H t.occ Forward a j.phase u.change k found all ek (lt-ltb k.phase j.phase less) in
+    let none : net H t.occ u.change ≡ 0 = subst (λ (n : ℕ). net H n u.change ≡ 0) at (open_fits width m H legal u opened ∙ ap net_before wu) in
+    not_both (net H t.occ u.change) Forward none one
+clash_backward width m H t u a j k Undo legal allowed opened found at wt wu ej ek less =
+    let before = (turn_at width m H t a j allowed found ej).0 in
+    let undone : net H t.occ t.change ≡ 0 = (ordered width m H legal t.occ a found).undoing u t.change k j opened at wu ek ej less in
+    not_both (net H t.occ t.change) Undo (before ∙ ap net_before wt) undone
+
+alone : (width m : ℕ) (H : List Event) (i : ℕ) (x : Def) (t u : Tag) (v w : Verb) → IsLegalWithin width m H → IsAllowedWithin width m H (Intent t) → verb_on H i x t ≡ Some v
+    → is_open H u ≡ true → verb_on H i x u ≡ Some w → ⊥
+alone width m H i x t u v w legal allowed et opened eu =
+    let here = verb_at H i x t v et in
+    let there = verb_at H i x u w eu in
+    let goes_t : is_final (state H t.occ) ≡ false = subst (λ (s : OpState). is_final s ≡ false) (sym allowed.works) (works_on t.way) in
+    let goes_u : is_final (state H u.occ) ≡ false = subst (λ (s : OpState). is_final s ≡ false) (sym (open_state width m H legal u opened)) (works_on u.way) in
+    let at : u.occ ≡ t.occ = one_going width m H i t.occ u.occ here.operation_of there.operation_of legal here.found here.instance goes_t there.found there.instance goes_u in
+    let a = here.operation_of in
+    let same : there.operation_of ≡ a = some_one (sym there.found ∙ (ap (λ (n : ℕ). operation H n) at ∙ here.found)) in
+    let ek : slice_get a.changes u.change ≡ Some there.change_at = subst (λ (b : Operation). slice_get b.changes u.change ≡ Some there.change_at) same there.is in
+    let ways : u.way ≡ t.way = works_one u.way t.way (sym (open_state width m H legal u opened) ∙ (ap (λ (n : ℕ). state H n) at ∙ allowed.works)) in
+    let f = follows_at width m H t legal allowed a here.found in
+    by_order here.change_at.phase there.change_at.phase
+    (λ less. clash_forward width m H t u a here.change_at there.change_at t.way legal allowed opened here.found at refl ways here.is ek less)
+    (λ one.
+    let number : t.change ≡ u.change = same_number f.p a t.change u.change here.change_at there.change_at f.over here.is ek (here.def ∙ sym there.def) one in
+    let own : list_any (same_tag u) (open_attempts H t.occ u.change) ≡ true =
+    subst (λ (n : ℕ). list_any (same_tag u) (open_attempts H n u.change) ≡ true) at (open_own H u opened) in
+    let none : open_attempts H t.occ u.change ≡ [] = subst (λ (n : ℕ). open_attempts H t.occ n ≡ []) number allowed.none_open in
+    let nowhere : list_any (same_tag u) [] ≡ true = subst (λ (ts : List Tag). list_any (same_tag u) ts ≡ true) none own in
+    cc)
+    (λ more. clash_backward width m H t u a here.change_at there.change_at t.way legal allowed opened here.found at refl ways here.is ek more) where
+      some_one : {A : Type 0} {y z : A} → Some y ≡ Some z → y ≡ z
+      some_one e = cc
+
+-- the attempt is at a definition of an instance
+unfoldable pub is_on : List Event → ℕ → Def → Tag → Bool
+is_on H i x t = is_some (verb_on H i x t)
+
+-- the open attempts at it
+abbrev pub open_on : List Event → ℕ → Def → List Tag
+open_on H i x = filter (is_on H i x) (open_tags H)
+
+pub on_some : (H : List Event) (i : ℕ) (x : Def) (t : Tag) (v : Verb) → verb_on H i x t ≡ Some v → is_on H i x t ≡ true
+unfolding is_on
+on_some H i x t v e = ap is_some e
+
+pub on_verb : (H : List Event) (i : ℕ) (x : Def) (t : Tag) → is_on H i x t ≡ true → (v : Verb) × (verb_on H i x t ≡ Some v)
+unfolding is_on
+on_verb H i x t e = by_verb_on (verb_on H i x t) refl e where
+  by_verb_on : (o : Option Verb) → verb_on H i x t ≡ o → is_some o ≡ true → (v : Verb) × (verb_on H i x t ≡ Some v)
+  by_verb_on None is h = cc
+  by_verb_on (Some v) is h = (v, is)
+
+-- where an attempt at it begins, none was open
+pub none_on : (width m : ℕ) (H : List Event) (i : ℕ) (x : Def) (t : Tag) → IsLegalWithin width m H → IsAllowedWithin width m H (Intent t) → is_on H i x t ≡ true → open_on H i x ≡ []
+none_on width m H i x t legal allowed here = by_open (open_on H i x) refl where
+  by_open : (ts : List Tag) → open_on H i x ≡ ts → ts ≡ []
+  by_open [] is = refl
+  by_open (u ∷ ts) is =
+      let among : IsIn u (open_on H i x) = subst (λ (v : List Tag). IsIn u v) (sym is) (inl refl) in
+      let from = of_filter (is_on H i x) u (open_tags H) among in
+      let mine = on_verb H i x t here in
+      let its = on_verb H i x u from.1 in
+      absurd (alone width m H i x t u mine.0 its.0 legal allowed mine.1 (in_any u (open_tags H) from.0) its.1)
