@@ -2,13 +2,11 @@
 #![tactic(auto)]
 
 #[cfg(test)]
+mod descriptors;
+#[cfg(test)]
 mod journals;
 #[cfg(test)]
 mod limits;
-#[cfg(test)]
-mod onboarding;
-#[cfg(test)]
-mod requests;
 #[cfg(test)]
 mod statuses;
 #[cfg(test)]

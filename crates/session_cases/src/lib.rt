@@ -10,4 +10,6 @@ mod faults;
 #[cfg(test)]
 mod framings;
 #[cfg(test)]
+mod requests;
+#[cfg(test)]
 mod sessions;
