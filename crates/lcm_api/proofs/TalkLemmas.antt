@@ -253,7 +253,7 @@ fails_last P a b c none last =
     }
 
 -- no more replies were told than a connection may have requests
-pub told_few : (t : talking.Tells) (role : Role) (m n : Managed) (told : ℕ) (w v : World) → TalksSoFar t role m n told w v → told ≤ 65536
+pub told_few : (t : talking.Tells) (role : Role) (m n : Managed) (told : ℕ) (w v : World) → TalksSoFar t role m n told w v → told ≤ CONNECTION_REQUESTS
 told_few t role m n told w v so_far =
     let few = so_far.few in
     ⊎_elim (λ (none : told ≡ 0). omega (arith, none)) (λ (most : v.mouth.wire.taken ≤ CONNECTION_REQUESTS). omega (arith, most, few)) so_far.within

@@ -1,5 +1,6 @@
 //! The head of an answer, put together in room that was taken beforehand, so that telling takes no memory.
 ghost use Rattle.std.specs.Prelude.{◌≡◌, ◌⊎◌, ◌≤◌, ◌+◌, ◌++◌, [], length, codes, decimal, IfOk};
+ghost use Rattle.lcm_api.specs.declared.outgoing.TheConstants.{ROOM};
 ghost use Rattle.lcm_api.specs.Response.{reason, field, optional_field, status_line, media_type, content_fields, last_field, head_text};
 
 use crate::reply::Reply;
@@ -19,12 +20,13 @@ pub struct Outgoing {
 
 impl Model for Outgoing {
     ghost use Rattle.std.specs.Prelude.{ℕ, List, ◌≤◌, vec_capacity};
+    ghost use Rattle.lcm_api.specs.declared.outgoing.TheConstants.{ROOM};
 
     ghost Value = { List ℕ };
 
     ghost view = { λ o. o.bytes.items };
 
-    ghost invariant = { λ o. 65536 ≤ vec_capacity o.bytes };
+    ghost invariant = { λ o. ROOM ≤ vec_capacity o.bytes };
 }
 
 impl Outgoing {
@@ -53,7 +55,7 @@ impl Outgoing {
 
     /// Adds these bytes.
     fn put(&mut self, bytes: &[u8])
-        requires { length self.old + length bytes.now ≤ 65536 }
+        requires { length self.old + length bytes.now ≤ ROOM }
         ensures { self.new ≡ self.old ++ bytes.now }
     {
         match self.bytes.extend_from_slice(bytes) {
@@ -65,7 +67,7 @@ impl Outgoing {
     /// Adds a field line.
     #[tactic(auto, unfolding(crate::specs::Response::field))]
     fn put_field(&mut self, name: &[u8], value: &[u8])
-        requires { length self.old + length name.now + length value.now + 4 ≤ 65536 }
+        requires { length self.old + length name.now + length value.now + 4 ≤ ROOM }
         ensures bytes { self.new ≡ self.old ++ field name.now value.now }
         ensures length { length self.new ≡ length self.old + length name.now + length value.now + 4 }
     {
@@ -170,9 +172,9 @@ impl Outgoing {
 
     /// Adds as much of the body as there is room for, and gives the rest.
     pub fn put_front<'a>(&mut self, body: &'a [u8]) -> &'a [u8]
-        requires { length self.old ≤ 65536 }
+        requires { length self.old ≤ ROOM }
         ensures whole { self.old ++ body.now ≡ self.new ++ result.now }
-        ensures most { (result.now ≡ []) ⊎ (length self.new ≡ 65536) }
+        ensures most { (result.now ≡ []) ⊎ (length self.new ≡ ROOM) }
     {
         let n = body.len().min(ROOM - self.bytes.len());
         let (front, rest) = body.split_at(n);
