@@ -1,7 +1,9 @@
-//! Acts and rules that were written out by hand, and that each call succeeds with ample memory.
+//! Acts, plans and rules that were written out by hand, and that each call succeeds with ample memory.
 #![tactic(auto)]
 
 #[cfg(test)]
 mod acts;
+#[cfg(test)]
+mod plans;
 #[cfg(test)]
 mod rules;

@@ -1,0 +1,170 @@
+//! Plans what becomes of an instance of so many machines.
+//!
+//! `plan_bench MACHINES [times]` makes the holding of an instance whose machines are computes alone, and plans over it a
+//! graceful termination, a heal of all, and a heal of the first machine; it prints how many changes each plan has, and with
+//! `times` the nanoseconds of processor time that it took.
+#![tactic(auto)]
+
+use anyhow::{Context, Result, bail, ensure};
+use change_planner::{can_be_planned, plan};
+use lcm_events::{
+    Ask, Def, DefKind, Held, Holding, Level, Levels, Listed, Place, StopType, Vdu, Vnfc, Vnfd,
+};
+use std::alloc::{AllocGlobal, Global};
+use std::env;
+use std::env::Env;
+use std::io::Print;
+use std::time::CpuClock;
+use vnfm_base::Name;
+
+/// What the words of the command line ask for.
+#[derive(Drop)]
+struct Words {
+    /// How many machines the instance has.
+    machines: u32,
+    /// Whether times are printed.
+    times: bool,
+}
+
+impl Words {
+    /// The words that the program was called with.
+    fn read(rt: &(impl Env + AllocGlobal)) -> Result<Words> {
+        let mut words = env::args(rt)?;
+        let _program = words.next();
+        let word = words.next().context("the first word is no number")?;
+        let machines = word.as_str().parse::<u32>()?;
+        let Some(word) = words.next() else {
+            return Ok(Words {
+                machines,
+                times: false,
+            });
+        };
+        ensure!(word.as_str() == "times", "the second word isn't `times`");
+        Ok(Words {
+            machines,
+            times: true,
+        })
+    }
+}
+
+fn name(text: &str) -> Result<Name> {
+    Name::of(text.as_bytes()).context("the text is no name")
+}
+
+/// A descriptor of one VDU without disks or connection points, of which an instance has so many machines.
+fn descriptor(alloc: Global, machines: u32) -> Result<Vnfd> {
+    let empty = name("")?;
+    let vdu = Vdu {
+        name: name("VDU_A")?,
+        memory: 1_073_741_824,
+        cpus: 1,
+        maximum: 65_535,
+        initial: machines,
+        storages: Listed::new(alloc),
+    };
+    let level = Level {
+        name: name("normal")?,
+        numbers: Listed::new(alloc),
+    };
+    Ok(Vnfd {
+        descriptor_id: name("vnfd-1")?,
+        provider: empty,
+        product_name: empty,
+        software_version: empty,
+        descriptor_version: empty,
+        flavour_id: name("simple")?,
+        vdus: Listed::of(vec![in alloc; vdu]?),
+        storages: Listed::new(alloc),
+        links: Listed::new(alloc),
+        ports: Listed::new(alloc),
+        aspects: Listed::new(alloc),
+        levels: Listed::of(vec![in alloc; level]?),
+        default_level: 0,
+    })
+}
+
+/// The compute of the machine with this serial, which runs.
+fn compute(serial: u32) -> Result<Held> {
+    Ok(Held {
+        def: Def {
+            kind: DefKind::Compute,
+            item: 0,
+            vdu: 0,
+            serial,
+        },
+        resource: name("r")?,
+        place: Place {
+            vim: name("vim1")?,
+            zone: name("")?,
+        },
+        running: true,
+    })
+}
+
+/// So many machines stand and run.
+fn holding(alloc: Global, machines: u32) -> Result<Holding> {
+    let mut items: Vec<Held> = Vec::new(alloc);
+    for at in 0..machines {
+        items.push(compute(at.saturating_add(1))?)?;
+    }
+    Ok(Holding {
+        instantiated: true,
+        started: true,
+        levels: Listed::new(alloc),
+        items: Listed::of(items),
+        top: Listed::of(vec![in alloc; machines]?),
+    })
+}
+
+/// Plans an ask, and prints how many changes it has or why it has none, and maybe how long it took.
+fn measure(
+    rt: &(impl CpuClock + Print + AllocGlobal),
+    vnfd: &Vnfd,
+    holding: &Holding,
+    what: &str,
+    ask: &Ask,
+    times: bool,
+) -> Result<()> {
+    let to: Levels = Listed::new(rt.alloc());
+    if !can_be_planned(vnfd, holding, &to) {
+        bail!("the machines are too many");
+    }
+    let begun = rt.process_cpu_time()?;
+    let answer = plan(rt.alloc(), vnfd, holding, ask, &to);
+    let ended = rt.process_cpu_time()?;
+    match answer {
+        Ok(changes) => println!(rt; "{what}: {} changes", changes.len())?,
+        Err(why) => println!(rt; "{what}: {why}")?,
+    }
+    if times {
+        println!(rt; "{what} {} ns", ended.saturating_sub(begun).as_nanos())?;
+    }
+    Ok(())
+}
+
+fn run(rt: &(impl Env + CpuClock + Print + AllocGlobal)) -> Result<()> {
+    let words = Words::read(rt)?;
+    let alloc = rt.alloc();
+    let vnfd = descriptor(alloc, words.machines)?;
+    let holding = holding(alloc, words.machines)?;
+    let graceful = Ask::Terminate {
+        mode: StopType::Graceful,
+        timeout: None,
+    };
+    measure(rt, &vnfd, &holding, "terminate", &graceful, words.times)?;
+    let all = Ask::Heal {
+        cause: None,
+        named: Listed::new(alloc),
+    };
+    measure(rt, &vnfd, &holding, "heal", &all, words.times)?;
+    let first = Vnfc { vdu: 0, serial: 1 };
+    let one = Ask::Heal {
+        cause: None,
+        named: Listed::of(vec![in alloc; first]?),
+    };
+    measure(rt, &vnfd, &holding, "mend", &one, words.times)
+}
+
+fn main(rt: HostRuntime) -> Result<()> {
+    run(&rt)
+}
