@@ -1,4 +1,6 @@
--- What stands at the front of some bytes, kind by kind: the value of which they begin with the spelling, if there is one.
+-- What stands at the front of some bytes, kind by kind: the value of which they begin with the spelling, if there is one
+-- (own format, docs/EVENTS.md). These definitions are a tool of the proof: the contract of `decode` speaks of spellings
+-- alone. One without a sentence of its own gives the kind or part that its name says, with what is left behind it.
 use Rattle.std.specs.Prelude.{ℕ, ◌==◌, List, [], ◌∷◌, Option, Some, None, Bool, true, false, length, nat_lt, nat_le, ◌&&◌, not, if◌then◌else◌}
 use Rattle.std.specs.Int.{w16, w32, w64}
 use Rattle.std.specs.List.{list_all}

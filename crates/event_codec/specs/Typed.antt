@@ -1,4 +1,5 @@
 -- What the types of an event's parts say alone: each number within its type, each text a name or a line.
+-- A definition without a sentence of its own says this of the part that its name says, and is a tool of the proof.
 use Rattle.std.specs.List.{AllByRecursion}
 use Rattle.vnfm_base.specs.Text.{IsName, IsLine}
 use Rattle.vnfm_base.specs.Moment.{IsMoment}

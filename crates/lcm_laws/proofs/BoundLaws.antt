@@ -81,16 +81,16 @@ few (x ∷ xs) ys h f =
     omega (arith, rest, size)
 
 -- the definitions up to some serials differ
-items_differ : (d : Vnfd) (kind : DefKind) (v s : ℕ) → IsValid d → Rises Differ (defs d kind v s)
+pub items_differ : (d : Vnfd) (kind : DefKind) (v s : ℕ) → IsValid d → Rises Differ (defs d kind v s)
 items_differ d kind v s valid =
     rises_map Less Differ (def_of kind v s) (items d kind v) (λ a b ha hb less e.
     let same : a ≡ b = ap (λ (x : Def). x.item) e in absurd (omega (arith, less, same))) (items_rise d kind v valid)
 
-kinds_differ : (d : Vnfd) (j k : DefKind) (v s : ℕ) (x y : Def) → (j ≡ k → ⊥) → IsIn x (defs d j v s) → IsIn y (defs d k v s) → Differ x y
+pub kinds_differ : (d : Vnfd) (j k : DefKind) (v s : ℕ) (x y : Def) → (j ≡ k → ⊥) → IsIn x (defs d j v s) → IsIn y (defs d k v s) → Differ x y
 kinds_differ d j k v s x y no_way hx hy e =
     no_way (sym (of_defs d j v s x hx).0 ∙ (ap (λ (z : Def). z.kind) e ∙ (of_defs d k v s y hy).0))
 
-machine_differs : (d : Vnfd) (v s : ℕ) → IsValid d → Rises Differ (all_defs d v s)
+pub machine_differs : (d : Vnfd) (v s : ℕ) → IsValid d → Rises Differ (all_defs d v s)
 machine_differs d v s valid =
     rises_append Differ (defs d Storage v s ++ defs d Compute v s) (defs d Port v s)
     (rises_append Differ (defs d Storage v s) (defs d Compute v s) (items_differ d Storage v s valid) (items_differ d Compute v s valid)
@@ -115,7 +115,7 @@ not_link Port h f = cc
 link_is : (d : Vnfd) (x : Def) → IsIn x (links d) → x.kind ≡ Link
 link_is d x h = let from = of_map link_def x (range_with_len 0 (length d.links)) h in sym (ap (λ (y : Def). y.kind) from.2)
 
-up_to_differ : (d : Vnfd) (top : ℕ → ℕ) → IsValid d → Rises Differ (defs_up_to d top)
+pub up_to_differ : (d : Vnfd) (top : ℕ → ℕ) → IsValid d → Rises Differ (defs_up_to d top)
 up_to_differ d top valid =
     rises_append Differ (flat_map (λ v. flat_map (all_defs d v) (range_with_len 1 (top v))) (vdu_numbers d)) (links d)
     (rises_flat_map Less Differ (λ v. flat_map (all_defs d v) (range_with_len 1 (top v))) (vdu_numbers d) (rises_range 0 (length d.vdus))

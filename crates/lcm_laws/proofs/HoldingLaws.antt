@@ -160,7 +160,7 @@ machine_before d v s valid =
       | inr g ↦ kinds_before d Compute Port v s x y (omega arith) g hy
     ])
 
-few_vdus : (d : Vnfd) → IsValid d → length d.vdus ≤ 64
+pub few_vdus : (d : Vnfd) → IsValid d → length d.vdus ≤ 64
 few_vdus d valid = leb-true (length d.vdus) 64 (and_left _ _ (and_left _ _ (and_left _ _ (and_left _ _ (and_left _ _ (and_left _ _ valid.counts))))))
 
 link_vdu : (d : Vnfd) (y : Def) → IsIn y (links d) → y.vdu ≡ 65535
@@ -235,12 +235,12 @@ pub all_of : {A : Type 0} → (p : A → Bool) (xs : List A) → ((x : A) → Is
 all_of p [] f = refl
 all_of p (x ∷ xs) f = and_true (p x) (list_all p xs) (f x (inl refl)) (all_of p xs (λ y h. f y (inr h)))
 
-range_get : (a n v : ℕ) → v < n → slice_get (range_with_len a n) v ≡ Some (a + v)
+pub range_get : (a n v : ℕ) → v < n → slice_get (range_with_len a n) v ≡ Some (a + v)
 range_get a zero v h = absurd (omega (arith, h))
 range_get a (suc n) zero h = let e : a ≡ a + 0 = omega arith in ap Some e
 range_get a (suc n) (suc v) h = let e : (a + 1) + v ≡ a + suc v = omega arith in range_get (a + 1) n v (omega (arith, h)) ∙ ap Some e
 
-map_get : {A B : Type 0} → (f : A → B) (xs : List A) (n : ℕ) (x : A) → slice_get xs n ≡ Some x → slice_get (map f xs) n ≡ Some (f x)
+pub map_get : {A B : Type 0} → (f : A → B) (xs : List A) (n : ℕ) (x : A) → slice_get xs n ≡ Some x → slice_get (map f xs) n ≡ Some (f x)
 map_get f [] n x e = cc
 map_get f (y ∷ xs) zero x e = let is : y ≡ x = cc in ap (λ z. Some (f z)) is
 map_get f (y ∷ xs) (suc n) x e = map_get f xs n x e

@@ -93,10 +93,10 @@ links_rise p =
     (rises_range 0 (length p.vnfd.links))
 
 -- the serials of each set of machines rise
-there_rises : (p : Case) (v : ℕ) → Rises Less (there p.vnfd p.held v)
+pub there_rises : (p : Case) (v : ℕ) → Rises Less (there p.vnfd p.held v)
 there_rises p v = rises_filter Less (is_there p.vnfd p.held v) (range_with_len 1 (p.held.top v)) (rises_range 1 (p.held.top v))
 
-may_stay_rises : (p : Case) (ask : Ask) (v : ℕ) → Rises Less (may_stay ask p v)
+pub may_stay_rises : (p : Case) (ask : Ask) (v : ℕ) → Rises Less (may_stay ask p v)
 may_stay_rises p (Instantiate flavour level) v = tt
 may_stay_rises p (Terminate mode timeout) v = tt
 may_stay_rises p (Heal cause []) v = tt
@@ -130,10 +130,10 @@ or_right : (a b : Bool) → b ≡ true → (a || b) ≡ true
 or_right true b e = refl
 or_right false b e = e
 
-lead_less : (k n : ℕ) (ks ns : List ℕ) → k < n → is_before (k ∷ ks) (n ∷ ns) ≡ true
+pub lead_less : (k n : ℕ) (ks ns : List ℕ) → k < n → is_before (k ∷ ks) (n ∷ ns) ≡ true
 lead_less k n ks ns h = let e : ltb k n ≡ true = lt-ltb k n h in rw e refl
 
-lead_same : (k n : ℕ) (ks ns : List ℕ) → k ≡ n → is_before ks ns ≡ true → is_before (k ∷ ks) (n ∷ ns) ≡ true
+pub lead_same : (k n : ℕ) (ks ns : List ℕ) → k ≡ n → is_before ks ns ≡ true → is_before (k ∷ ks) (n ∷ ns) ≡ true
 lead_same k n ks ns e h = or_right (ltb k n) ((k == n) && is_before ks ns) (and_true (k == n) (is_before ks ns) (eq-eqb k n e) h)
 
 earlier_before : (verb : Verb) (x y : Def) → Earlier x y → Before (change verb x) (change verb y)

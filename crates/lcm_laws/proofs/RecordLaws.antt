@@ -153,7 +153,7 @@ most_aim d (aims.Aspects named) valid e h =
     omega (arith, length-append (spell.u16 (length named)) (flat_map spell.aspect_level named), length-u16 (length named), n, bytes)
 
 -- what an ask is spelled in
-most_ask : (d : Vnfd) (ask : Ask) → IsValid d → content_refusal d ask ≡ None → TypedAsk ask → NamesFew ask → length (spell.ask ask) ≤ 6000
+pub most_ask : (d : Vnfd) (ask : Ask) → IsValid d → content_refusal d ask ≡ None → TypedAsk ask → NamesFew ask → length (spell.ask ask) ≤ 6000
 most_ask d (asks.Instantiate flavour level) valid e h n =
     let a = most_name flavour h.0 in
     let b = most_optional spell.name IsName 256 (λ x p. most_name x p) level h.1 in
@@ -178,7 +178,7 @@ most_asked H a (Some d) f h typed n =
     none_of-front (content_refusal d a.ask) (state_refusal d (situation d H a.instance) a.ask ∷ plan_refusal d (situation d H a.instance) a.ask ∷ []) h.0 in
     most_ask d a.ask (f d refl) content typed n
 
-length-operation : (o : Operation) → length (spell.operation o) ≡ 8 + (8 + (1 + (length (spell.ask o.ask) + (2 + length o.changes * 11))))
+pub length-operation : (o : Operation) → length (spell.operation o) ≡ 8 + (8 + (1 + (length (spell.ask o.ask) + (2 + length o.changes * 11))))
 length-operation o =
     omega (arith, length-append {A = ℕ}, length-u64 o.occ, length-u64 o.instance, length-u16 (length o.changes), length-changes o.changes)
 
