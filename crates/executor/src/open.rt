@@ -16,46 +16,6 @@ use lcm_laws::serials_are_counted;
 use site_traits::Site;
 use std::alloc::{AllocError, Global};
 
-/// Whether an event of this kind is allowed after these events, the oldest first, whose spellings fit a file.
-fn may_follow(
-    alloc: Global,
-    manager: u32,
-    events: &[Event],
-    kind: &EventKind,
-) -> Result<bool, AllocError>
-    requires legal { IsLegal manager (reverse events.now) }
-    requires small { journal_end (reverse events.now) < MAX_FILE }
-    ensures { IfOk result (λ yes. IsTrue yes ↔ IsAllowed manager (reverse events.now) kind.now) }
-{
-    serials_are_counted();
-    records_add_up();
-    is_allowed(alloc, manager, events, kind)
-}
-
-/// Judges a record: where it is the next event, puts it to the events and answers true.
-fn judge(
-    alloc: Global,
-    events: &mut Vec<Event>,
-    manager: u32,
-    bytes: &[u8],
-) -> Result<bool, AllocError>
-    requires legal { IsLegal manager (reverse events.old.items) }
-    requires small { journal_end (reverse events.old.items) < MAX_FILE }
-    ensures { IfOk result (λ good. Judges manager (reverse events.old.items) bytes.now good (reverse events.new.items)) }
-{
-    no_spelling_begins_another();
-    let event = match decode(alloc, bytes) {
-        Ok(event) => event,
-        Err(DecodeFault::NotEvent) => return Ok(false),
-        Err(DecodeFault::Memory) => return Err(AllocError),
-    };
-    if !may_follow(alloc, manager, events.as_slice(), &event.kind)? {
-        return Ok(false);
-    }
-    events.push(event)?;
-    Ok(true)
-}
-
 /// What a load knows so far.
 #[derive(Drop)]
 pub struct Judged {
@@ -63,29 +23,6 @@ pub struct Judged {
     pub events: Vec<Event>,
     /// The first bad record, from 1.
     pub bad: Option<u64>,
-}
-
-impl Judged {
-    /// Judges the next record, unless one before it was bad.
-    fn judge_next(
-        &mut self,
-        alloc: Global,
-        manager: u32,
-        n: u64,
-        bytes: &[u8],
-    ) -> Result<(), AllocError>
-        requires legal { IsLegal manager (reverse self.old.events.items) }
-        requires small { self.old.bad ≡ None → journal_end (reverse self.old.events.items) < MAX_FILE }
-        ensures { OnOk result (JudgesNext manager n bytes.now self.old self.new) }
-    {
-        if self.bad.is_some() {
-            return Ok(());
-        }
-        if !judge(alloc, &mut self.events, manager, bytes)? {
-            self.bad = Some(n);
-        }
-        Ok(())
-    }
 }
 
 /// Reads and judges the records that are left.
@@ -112,4 +49,67 @@ pub fn judge_all<S: Site>(
         judged.judge_next(alloc, manager, loading.count(), loading.record_bytes())?;
     }
     Ok(judged)
+}
+
+impl Judged {
+    /// Judges the next record, unless one before it was bad.
+    fn judge_next(
+        &mut self,
+        alloc: Global,
+        manager: u32,
+        n: u64,
+        bytes: &[u8],
+    ) -> Result<(), AllocError>
+        requires legal { IsLegal manager (reverse self.old.events.items) }
+        requires small { self.old.bad ≡ None → journal_end (reverse self.old.events.items) < MAX_FILE }
+        ensures { OnOk result (JudgesNext manager n bytes.now self.old self.new) }
+    {
+        if self.bad.is_some() {
+            return Ok(());
+        }
+        if !judge(alloc, &mut self.events, manager, bytes)? {
+            self.bad = Some(n);
+        }
+        Ok(())
+    }
+}
+
+/// Judges a record: where it is the next event, puts it to the events and answers true.
+fn judge(
+    alloc: Global,
+    events: &mut Vec<Event>,
+    manager: u32,
+    bytes: &[u8],
+) -> Result<bool, AllocError>
+    requires legal { IsLegal manager (reverse events.old.items) }
+    requires small { journal_end (reverse events.old.items) < MAX_FILE }
+    ensures { IfOk result (λ good. Judges manager (reverse events.old.items) bytes.now good (reverse events.new.items)) }
+{
+    no_spelling_begins_another();
+    let event = match decode(alloc, bytes) {
+        Ok(event) => event,
+        Err(DecodeFault::NotEvent) => return Ok(false),
+        Err(DecodeFault::Memory) => return Err(AllocError),
+    };
+    if !may_follow(alloc, manager, events.as_slice(), &event.kind)? {
+        return Ok(false);
+    }
+    events.push(event)?;
+    Ok(true)
+}
+
+/// Whether an event of this kind is allowed after these events, the oldest first, whose spellings fit a file.
+fn may_follow(
+    alloc: Global,
+    manager: u32,
+    events: &[Event],
+    kind: &EventKind,
+) -> Result<bool, AllocError>
+    requires legal { IsLegal manager (reverse events.now) }
+    requires small { journal_end (reverse events.now) < MAX_FILE }
+    ensures { IfOk result (λ yes. IsTrue yes ↔ IsAllowed manager (reverse events.now) kind.now) }
+{
+    serials_are_counted();
+    records_add_up();
+    is_allowed(alloc, manager, events, kind)
 }
