@@ -13,7 +13,7 @@ use crate::route::{Route, route_of};
 use executor::{Manager, works_add_up};
 use http_wire::Request;
 use site_traits::Site;
-use std::alloc::Global;
+use std::alloc::{AllocError, Global};
 use thiserror::Error;
 use vnfm_base::Moment;
 
@@ -49,9 +49,16 @@ pub fn answer<S: Site>(
     works_add_up::<S>();
     match route_of(request) {
         Some(Route::Create) => create(alloc, manager, site, request, now),
-        None => match refusal(alloc, 404, "no such resource", request.last) {
-            Ok(reply) => Ok(reply),
-            Err(_) => Err(ApiFault::Memory),
-        },
+        None => Ok(refusal(alloc, 404, "no such resource", request.last)?),
+    }
+}
+
+impl From<AllocError> for ApiFault {
+    ghost use Rattle.lcm_api.specs.declared.answer.ApiFault.TheVariants.{Memory};
+
+    ghost from_gives = { λ _ fault. fault ≡ Memory };
+
+    fn from(_: AllocError) -> ApiFault {
+        ApiFault::Memory
     }
 }

@@ -55,10 +55,9 @@ pub fn create<S: Site>(
     ensures counts { OnlyDiskFails (result ≡ Err ApiFault.Disk) (S.counts site.old) (S.counts site.new) }
 {
     works_add_up::<S>();
-    match judge(alloc, request) {
-        Ok(Verdict::Refused(reply)) => Ok(reply),
-        Ok(Verdict::Create(body)) => create_as(alloc, manager, site, body, now, request.last),
-        Err(_) => Err(ApiFault::Memory),
+    match judge(alloc, request)? {
+        Verdict::Refused(reply) => Ok(reply),
+        Verdict::Create(body) => create_as(alloc, manager, site, body, now, request.last),
     }
 }
 
@@ -118,14 +117,13 @@ fn create_as<S: Site>(
     ensures counts { OnlyDiskFails (result ≡ Err ApiFault.Disk) (S.counts site.old) (S.counts site.new) }
 {
     works_add_up::<S>();
-    match prepare(alloc, manager, body, now, last) {
-        Ok(Step::Refused(reply)) => Ok(reply),
-        Ok(Step::Creates(event, reply)) => {
+    match prepare(alloc, manager, body, now, last)? {
+        Step::Refused(reply) => Ok(reply),
+        Step::Creates(event, reply) => {
             let answer = record(alloc, manager, site, &event, reply, last);
             drop(event);
             answer
         }
-        Err(_) => Err(ApiFault::Memory),
     }
 }
 
@@ -149,6 +147,34 @@ fn prepare<S: Site>(
     let n = manager.next_instance();
     let reply = created(alloc, manager.number(), n, &body, vnfd, last)?;
     Ok(Step::Creates(creation(n, now, body), reply))
+}
+
+/// The answer to a create request.
+#[tactic(auto, unfolding(crate::specs::Outcome::created))]
+fn created(
+    alloc: Global,
+    manager: u32,
+    n: u64,
+    body: &CreateBody,
+    vnfd: &Vnfd,
+    last: bool,
+) -> Result<Reply, AllocError>
+    requires { IsIdentNumber n }
+    ensures { IfOk result (λ reply. reply ≡ created manager n body.now vnfd.now last) }
+{
+    let view = created_view(alloc, manager, n, body, vnfd)?;
+    let path = instance_path(alloc, manager, n)?;
+    let Some(location) = Line::of_string(path) else {
+        return Err(AllocError);
+    };
+    Ok(Reply {
+        status: 201,
+        location: Some(location),
+        allow: None,
+        problem: false,
+        body: view,
+        last,
+    })
 }
 
 /// The event that an instance was created.
@@ -183,41 +209,10 @@ fn record<S: Site>(
 {
     match manager.commit(alloc, site, event, MAX_REQUESTED) {
         Ok(()) => Ok(reply),
-        Err(WorkFault::Full { .. }) => match refusal(alloc, 507, "journal full", last) {
-            Ok(refused) => Ok(refused),
-            Err(_) => Err(ApiFault::Memory),
-        },
+        Err(WorkFault::Full { .. }) => Ok(refusal(alloc, 507, "journal full", last)?),
         // A creation is far shorter than a record.
         Err(WorkFault::TooLong(_)) => unreachable!(),
         Err(WorkFault::Memory) => Err(ApiFault::Memory),
         Err(WorkFault::Disk) => Err(ApiFault::Disk),
     }
-}
-
-/// The answer to a create request.
-#[tactic(auto, unfolding(crate::specs::Outcome::created))]
-pub fn created(
-    alloc: Global,
-    manager: u32,
-    n: u64,
-    body: &CreateBody,
-    vnfd: &Vnfd,
-    last: bool,
-) -> Result<Reply, AllocError>
-    requires { IsIdentNumber n }
-    ensures { IfOk result (λ reply. reply ≡ created manager n body.now vnfd.now last) }
-{
-    let view = created_view(alloc, manager, n, body, vnfd)?;
-    let path = instance_path(alloc, manager, n)?;
-    let Some(location) = Line::of_string(path) else {
-        return Err(AllocError);
-    };
-    Ok(Reply {
-        status: 201,
-        location: Some(location),
-        allow: None,
-        problem: false,
-        body: view,
-        last,
-    })
 }

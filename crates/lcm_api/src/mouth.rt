@@ -122,13 +122,12 @@ impl<D: Door> Mouth<D> {
     {
         self.hand = None;
         self.role = role;
-        match self.wire.take_request(alloc) {
-            Ok(Taken::Request(request)) => {
+        match self.wire.take_request(alloc)? {
+            Taken::Request(request) => {
                 self.hand = Some(request);
                 Ok(true)
             }
-            Ok(Taken::End) => Ok(false),
-            Err(fault) => Err(fault),
+            Taken::End => Ok(false),
         }
     }
 

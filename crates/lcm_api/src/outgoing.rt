@@ -46,6 +46,33 @@ impl Outgoing {
         self.bytes.as_slice()
     }
 
+    /// Makes it the head of this reply, with a body of so many bytes.
+    #[tactic(auto, unfolding(crate::specs::Response::head_text))]
+    pub fn set_head(&mut self, reply: &Reply, size: usize)
+        ensures head { self.new ≡ head_text reply.now size }
+        ensures short { length self.new ≤ 4096 }
+    {
+        self.clear();
+        self.put_status(reply.status);
+        self.put_location(&reply.location);
+        self.put_allow(&reply.allow);
+        self.put_content(reply.status, reply.problem, size);
+        self.put_last(reply.last);
+        self.put(b"\r\n");
+    }
+
+    /// Adds as much of the body as there is room for, and gives the rest.
+    pub fn put_front<'a>(&mut self, body: &'a [u8]) -> &'a [u8]
+        requires { length self.old ≤ ROOM }
+        ensures whole { self.old ++ body.now ≡ self.new ++ result.now }
+        ensures most { (result.now ≡ []) ⊎ (length self.new ≡ ROOM) }
+    {
+        let n = body.len().min(ROOM - self.bytes.len());
+        let (front, rest) = body.split_at(n);
+        self.put(front);
+        rest
+    }
+
     /// Forgets the bytes so far.
     fn clear(&mut self)
         ensures { self.new ≡ [] }
@@ -153,33 +180,6 @@ impl Outgoing {
         if last {
             self.put_field(b"Connection", b"close");
         }
-    }
-
-    /// Makes it the head of this reply, with a body of so many bytes.
-    #[tactic(auto, unfolding(crate::specs::Response::head_text))]
-    pub fn set_head(&mut self, reply: &Reply, size: usize)
-        ensures head { self.new ≡ head_text reply.now size }
-        ensures short { length self.new ≤ 4096 }
-    {
-        self.clear();
-        self.put_status(reply.status);
-        self.put_location(&reply.location);
-        self.put_allow(&reply.allow);
-        self.put_content(reply.status, reply.problem, size);
-        self.put_last(reply.last);
-        self.put(b"\r\n");
-    }
-
-    /// Adds as much of the body as there is room for, and gives the rest.
-    pub fn put_front<'a>(&mut self, body: &'a [u8]) -> &'a [u8]
-        requires { length self.old ≤ ROOM }
-        ensures whole { self.old ++ body.now ≡ self.new ++ result.now }
-        ensures most { (result.now ≡ []) ⊎ (length self.new ≡ ROOM) }
-    {
-        let n = body.len().min(ROOM - self.bytes.len());
-        let (front, rest) = body.split_at(n);
-        self.put(front);
-        rest
     }
 }
 

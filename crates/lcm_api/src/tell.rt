@@ -30,10 +30,8 @@ fn write_both<D: Door>(door: &mut D, first: &[u8], rest: &[u8]) -> Result<(), Do
     ensures told { D.tells → Tells (first.now ++ rest.now) result (D.state door.old) (D.state door.new) }
     ensures cause { TellCause result (D.counts door.old) (D.counts door.new) }
 {
-    match write_all(door, first) {
-        Ok(()) => write_all(door, rest),
-        Err(DoorFailed) => Err(DoorFailed),
-    }
+    write_all(door, first)?;
+    write_all(door, rest)
 }
 
 /// The body that is told.
