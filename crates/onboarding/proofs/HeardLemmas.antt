@@ -1,5 +1,5 @@
 -- What onboarding does, by what was heard at the door.
-use Rattle.std.proofs.Common.{◌≡◌, ◌⊎◌, ℕ, Bool, List, [], take, min, true, false, Result, Ok, Err, refl, ap, ◌∙◌, inl, inr}
+use Rattle.std.proofs.Common.{◌≡◌, ℕ, Bool, List, [], take, min, true, false, Result, Ok, Err, refl, ap, ◌∙◌}
 use Rattle.executor.specs.Managed.{Managed, IsReady}
 use Rattle.executor.specs.Work.{Idles, Works}
 use Rattle.lcm_api.specs.Hearing.{heard_of}
@@ -56,8 +56,3 @@ pub onboards_unready : (t : Tells) (m : Managed) (H : List Event) (s : SiteState
     → (o : Onboarding) × Onboards t m.ledger.manager H o m (world s c ks) (world s c ks) × (Err fault.Memory ≡ answer_of H o)
 onboards_unready t m H s c ks idles ready =
     (unready, record { works = idles m H ready; brings = record { door = refl; clock = λ tells. refl } }, refl)
-
--- why nothing was heard
-pub unheard_cause : (A B : Type 0) (why : Unheard) (result : Result ℕ Unheard) → result ≡ Err why → (result ≡ Err Waiting → A) → (result ≡ Err Reading → B) → A ⊎ B
-unheard_cause A B Waiting result is waiting reading = inl (waiting is)
-unheard_cause A B Reading result is waiting reading = inr (reading is)

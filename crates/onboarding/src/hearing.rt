@@ -38,10 +38,8 @@ pub fn onboard<S: Site, D: Door, K: Clock>(
     ensures door { result ≡ Err OnboardFault.Door → Rose mouth.old.wire.intake.counts.next mouth.new.wire.intake.counts.next ⊎ Rose mouth.old.wire.intake.counts.faults mouth.new.wire.intake.counts.faults }
 {
     works_add_up::<S>();
-    match vec![in alloc; 0; MAX_READ] {
-        Ok(mut room) => onboard_into(alloc, manager, site, mouth, clock, room.as_mut_slice()),
-        Err(_) => Err(OnboardFault::Memory),
-    }
+    let mut room = vec![in alloc; 0; MAX_READ]?;
+    onboard_into(alloc, manager, site, mouth, clock, room.as_mut_slice())
 }
 
 /// The same, with room for the descriptor.
@@ -63,13 +61,9 @@ fn onboard_into<S: Site, D: Door, K: Clock>(
     ensures door { result ≡ Err OnboardFault.Door → Rose mouth.old.wire.intake.counts.next mouth.new.wire.intake.counts.next ⊎ Rose mouth.old.wire.intake.counts.faults mouth.new.wire.intake.counts.faults }
 {
     works_add_up::<S>();
-    match hear(mouth, room) {
-        Ok(count) => {
-            let now = Moment::of(clock.now());
-            take_in(alloc, manager, site, &room[..count], now)
-        }
-        Err(_) => Err(OnboardFault::Door),
-    }
+    let count = hear(mouth, room)?;
+    let now = Moment::of(clock.now());
+    take_in(alloc, manager, site, &room[..count], now)
 }
 
 /// Why no descriptor was heard.
@@ -79,6 +73,16 @@ enum Unheard {
     Waiting,
     /// A read failed.
     Reading,
+}
+
+impl From<Unheard> for OnboardFault {
+    ghost use Rattle.onboarding.specs.declared.answer.OnboardFault.TheVariants.{Door};
+
+    ghost from_gives = { λ _ fault. fault ≡ Door };
+
+    fn from(_: Unheard) -> OnboardFault {
+        OnboardFault::Door
+    }
 }
 
 /// Reads the first connection's bytes into the room, and says how many there are; none where nobody comes.
