@@ -118,10 +118,8 @@ fn init<S: Site>(manager: u32, site: &mut S) -> Ending
     ensures door { result ≢ Err Failure.DoorFault }
 {
     faults_are_counted();
-    match Journal::create(site, manager) {
-        Ok(()) => Ok(Report::Made(manager)),
-        Err(fault) => Err(Failure::from(fault)),
-    }
+    Journal::create(site, manager)?;
+    Ok(Report::Made(manager))
 }
 
 /// Opens the journal, and does with it what the command says.
@@ -140,10 +138,8 @@ fn open<S: Site, D: Door, K: Clock>(
     ensures door { result ≡ Err Failure.DoorFault → IsDoorCause settings.now.command mouth.old.wire.intake.counts mouth.new.wire.intake.counts }
 {
     works_add_up::<S>();
-    match Manager::load(alloc, site) {
-        Ok(mut manager) => work(alloc, settings, &mut manager, site, mouth, clock),
-        Err(fault) => Err(Failure::from(fault)),
-    }
+    let mut manager = Manager::load(alloc, site)?;
+    work(alloc, settings, &mut manager, site, mouth, clock)
 }
 
 /// Onboards a descriptor, or makes the rounds that the words set.
@@ -166,10 +162,7 @@ fn work<S: Site, D: Door, K: Clock>(
 {
     match settings.command {
         Command::Init => unreachable!(),
-        Command::Onboard => match onboard(alloc, manager, site, mouth, clock) {
-            Ok(said) => Ok(Report::Onboarded(said)),
-            Err(fault) => Err(Failure::from(fault)),
-        },
+        Command::Onboard => Ok(Report::Onboarded(onboard(alloc, manager, site, mouth, clock)?)),
         Command::Once => make_rounds(
             alloc,
             manager,
