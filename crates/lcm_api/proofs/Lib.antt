@@ -1,4 +1,3 @@
-pub mod DiskLemmas
 pub mod AddedLemmas
 mod ListenLemmas
 mod StepLemmas

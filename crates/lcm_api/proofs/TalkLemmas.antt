@@ -240,18 +240,6 @@ ended_so_far t role m n o told P w u v so_far leads joins step H ready =
     let one : Talks t m.ledger.manager G (ended_so role end) o u v = subst B talk.1.works.number (subst A next.2.1 next.1) in
     (talk.0, end, talks_on t m.ledger.manager H role talk.0 [] (Some end) n o w u v joins talk.1 one, talk.2, next.2.2)
 
--- where no disk call failed before, it is the last alone that did
-pub fails_last : (P : Type 0) (a b c : SiteCounts) → OnlyDiskFails ⊥ a b → OnlyDiskFails P b c → OnlyDiskFails P a c
-fails_last P a b c none last =
-    let same = none.stays (λ never. never) in
-    record {
-      rose = λ is. last.rose is ∙ ap one_more same;
-      stays = λ never. last.stays never ∙ same;
-      vim = last.vim ∙ none.vim;
-      look = last.look ∙ none.look;
-      refusals = last.refusals ∙ none.refusals;
-    }
-
 -- no more replies were told than a connection may have requests
 pub told_few : (t : talking.Tells) (role : Role) (m n : Managed) (told : ℕ) (w v : World) → TalksSoFar t role m n told w v → told ≤ CONNECTION_REQUESTS
 told_few t role m n told w v so_far =

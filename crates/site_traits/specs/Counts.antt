@@ -1,5 +1,6 @@
 -- Counts of calls and of faults. A count is kept as a u64, stays at its greatest value, and never falls.
 use Rattle.std.specs.Prelude.{◌≡◌, ◌≤◌, ℕ, ◌+◌, ◌-◌, ◌^◌, min, List, [], ◌∷◌, ◌++◌, length, Result, OnOk, OnErr}
+use Rattle.std.proofs.Common.{refl, ap, ◌∙◌}
 use Rattle.site_traits.specs.declared.jobs.BeginAnswer.{BeginAnswer}
 use Rattle.site_traits.specs.declared.jobs.BeginAnswer.TheVariants as begin
 use Rattle.site_traits.specs.declared.jobs.LookAnswer.{LookAnswer}
@@ -87,6 +88,27 @@ pub record OnlyDiskFails (failed : Type 0) (a b : SiteCounts) : Type 0 where
   pub vim : b.vim ≡ a.vim
   pub look : b.look ≡ a.look
   pub refusals : b.refusals ≡ a.refusals
+
+-- so it is where nothing was asked for
+pub untouched : (failed : Type 0) (a : SiteCounts) → ¬ failed → OnlyDiskFails failed a a
+untouched failed a never = record { rose = λ is. absurd (never is); stays = λ _. refl; vim = refl; look = refl; refusals = refl }
+
+-- one answer stands for another
+pub fails_as : (P Q : Type 0) (a b : SiteCounts) → OnlyDiskFails P a b → (P → Q) → (Q → P) → OnlyDiskFails Q a b
+fails_as P Q a b f there back =
+    record { rose = λ is. f.rose (back is); stays = λ never. f.stays (λ is. never (there is)); vim = f.vim; look = f.look; refusals = f.refusals }
+
+-- behind calls of which none failed it is the last alone that did
+pub fails_last : (P : Type 0) (a b c : SiteCounts) → OnlyDiskFails ⊥ a b → OnlyDiskFails P b c → OnlyDiskFails P a c
+fails_last P a b c none last =
+    let same = none.stays (λ never. never) in
+    record {
+      rose = λ is. last.rose is ∙ ap one_more same;
+      stays = λ never. last.stays never ∙ same;
+      vim = last.vim ∙ none.vim;
+      look = last.look ∙ none.look;
+      refusals = last.refusals ∙ none.refusals;
+    }
 
 -- What an object other than a site or a door shows, told or not: how often it was called, and how often a call of it failed (own rule).
 pub record CallCounts : Type 0 where

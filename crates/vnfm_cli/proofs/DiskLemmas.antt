@@ -2,7 +2,7 @@
 use Rattle.std.proofs.Common.{◌≡◌, ◌≢◌, ◌<◌, ℕ, Bool, true, false, refl, sym, subst, ap, ◌∙◌, arith, ⊎_elim, if◌then◌else◌, Result, Ok, Err}
 use Rattle.std.proofs.Math.Dec.{eqb}
 use Rattle.std.proofs.lemmas.Bool.Decides.{eqb_tells}
-use Rattle.site_traits.specs.Counts.{SiteCounts, asked, OnlyDiskFails, CallCounts, Rose, called, called_in_vain, one_more}
+use Rattle.site_traits.specs.Counts.{SiteCounts, asked, OnlyDiskFails, CallCounts, Rose, called, called_in_vain, fails_as, one_more}
 use Rattle.site_traits.specs.Counts.Ask.{sync}
 use Rattle.executor.specs.declared.manager.OpenFault.{OpenFault}
 use Rattle.executor.specs.declared.manager.OpenFault.TheVariants as opening
@@ -15,30 +15,9 @@ use Rattle.vnfm_cli.specs.Course.{making_ending, unonboarded, unopened_failure}
 use Rattle.vnfm_cli.specs.Ending.{Ending}
 use Rattle.vnfm_cli.specs.declared.ending.Failure.TheVariants.{DoorFault, SiteFault}
 
--- one answer stands for another
-pub fails_as : (P Q : Type 0) (a b : SiteCounts) → OnlyDiskFails P a b → (P → Q) → (Q → P) → OnlyDiskFails Q a b
-fails_as P Q a b f there back =
-    record { rose = λ is. f.rose (back is); stays = λ never. f.stays (λ is. never (there is)); vim = f.vim; look = f.look; refusals = f.refusals }
-
 -- the same of an answer that never comes
 pub fails_never : (P Q : Type 0) (a b : SiteCounts) → OnlyDiskFails P a b → ¬ P → ¬ Q → OnlyDiskFails Q a b
 fails_never P Q a b f never other = fails_as P Q a b f (λ is. absurd (never is)) (λ is. absurd (other is))
-
--- behind calls of which none failed it is the last alone that did
-pub fails_last : (P : Type 0) (a b c : SiteCounts) → OnlyDiskFails ⊥ a b → OnlyDiskFails P b c → OnlyDiskFails P a c
-fails_last P a b c none last =
-    let same = none.stays (λ never. never) in
-    record {
-      rose = λ is. last.rose is ∙ ap one_more same;
-      stays = λ never. last.stays never ∙ same;
-      vim = last.vim ∙ none.vim;
-      look = last.look ∙ none.look;
-      refusals = last.refusals ∙ none.refusals;
-    }
-
--- nothing was asked for
-pub untouched : (P : Type 0) (a : SiteCounts) → ¬ P → OnlyDiskFails P a a
-untouched P a never = record { rose = λ is. absurd (never is); stays = λ _. refl; vim = refl; look = refl; refusals = refl }
 
 -- a sync was asked for, and nothing failed
 pub synced : (P : Type 0) (a b : SiteCounts) → b ≡ asked sync a → ¬ P → OnlyDiskFails P a b

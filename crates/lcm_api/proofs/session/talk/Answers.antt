@@ -2,8 +2,8 @@
 use Rattle.std.proofs.Common.{◌≡◌, arith, false, true, Some, refl}
 use Rattle.lcm_api.specs.Session.{Ending, breaks, told_last}
 use Rattle.lcm_api.specs.declared.session.Step.TheVariants as step
-use Rattle.lcm_api.proofs.DiskLemmas.{fails_as, untouched}
-use Rattle.lcm_api.proofs.TalkLemmas.{ended_so_far, fails_last, none_so_far, one_more_told, ready_so_far, told_few}
+use Rattle.lcm_api.proofs.TalkLemmas.{ended_so_far, none_so_far, one_more_told, ready_so_far, told_few}
+use Rattle.site_traits.specs.Counts.{fails_as, fails_last, untouched}
 use Rattle.lcm_api.proofs.session.talk.Goals as goal
 
 pub steps-init : goal.steps-init

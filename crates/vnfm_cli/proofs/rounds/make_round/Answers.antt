@@ -4,7 +4,7 @@ use Rattle.lcm_api.specs.Talking.{World, world}
 use Rattle.site_traits.specs.declared.door.NextAnswer.TheVariants.{Nobody, Ended}
 use Rattle.vnfm_cli.specs.Course.{served, stopped, unasked, unreached}
 use Rattle.vnfm_cli.specs.Rounds.{round, end}
-use Rattle.vnfm_cli.proofs.DiskLemmas.{fails_as}
+use Rattle.site_traits.specs.Counts.{fails_as}
 use Rattle.vnfm_cli.proofs.RoundLemmas.{round_served, round_stopped, round_unasked, round_unreached, served_next}
 use Rattle.vnfm_cli.proofs.rounds.make_round.Goals as goal
 

@@ -1,6 +1,6 @@
 -- The rounds grow by one, or end.
 use Rattle.std.proofs.Common.{◌≡◌, Ok, ap, arith, refl}
-use Rattle.vnfm_cli.proofs.DiskLemmas.{fails_as, fails_last, untouched}
+use Rattle.site_traits.specs.Counts.{fails_as, fails_last, untouched}
 use Rattle.vnfm_cli.specs.declared.ending.Report.TheVariants.{Done}
 use Rattle.vnfm_cli.specs.declared.rounds.RoundEnd.TheVariants as ends
 use Rattle.vnfm_cli.proofs.RoundLemmas.{all_made, broken_ending, none_made, one_round_more, ready_so_far, rounds_ended, unreached_ending}

@@ -2,7 +2,8 @@
 use Rattle.std.proofs.Common.{Err, ap, refl, ◌∙◌}
 use Rattle.std.proofs.lemmas.Result.{err_from_is_err_and}
 use Rattle.vnfm_cli.specs.Course.{opened, unopened}
-use Rattle.vnfm_cli.proofs.DiskLemmas.{fails_last, synced, unopened_fails}
+use Rattle.site_traits.specs.Counts.{fails_last}
+use Rattle.vnfm_cli.proofs.DiskLemmas.{synced, unopened_fails}
 use Rattle.vnfm_cli.proofs.RunLemmas.{does_not_open, does_deed, opening_of}
 use Rattle.vnfm_cli.proofs.top.open.Goals as goal
 

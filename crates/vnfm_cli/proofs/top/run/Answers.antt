@@ -2,7 +2,8 @@
 use Rattle.std.proofs.Common.{◌∙◌, ℕ, ap, subst, sym, arith}
 use Rattle.vnfm_cli.specs.Ending.{status_of}
 use Rattle.vnfm_cli.specs.Runs.{MayEndWith}
-use Rattle.vnfm_cli.proofs.DiskLemmas.{fails_as, lost_line, one_fault}
+use Rattle.site_traits.specs.Counts.{fails_as}
+use Rattle.vnfm_cli.proofs.DiskLemmas.{lost_line, one_fault}
 use Rattle.vnfm_cli.proofs.EndingLemmas.{is_status, put_result, seven_lost, status_result, status_told, told_by, told_same, yields_result}
 use Rattle.vnfm_cli.proofs.ExactLemmas.{bad_record_ending, complete_ending, door_cause, no_journal_ending, taken_ending, told_bad_record, told_full, told_no_journal, told_refused, told_taken}
 use Rattle.vnfm_cli.proofs.top.run.Goals as goal
