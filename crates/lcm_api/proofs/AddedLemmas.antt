@@ -2,7 +2,6 @@
 use Rattle.std.proofs.Common.{◌≡◌, ◌+◌, ◌++◌, ℕ, List, ◌∷◌, length, Bool, true, false, Option, Some, None, Result, Ok, Err, ap, refl}
 use Rattle.std.specs.Prelude.{is_some, nat_le, codes, if◌then◌else◌}
 use Rattle.std.proofs.lemmas.Bool.{leb-false}
-use Rattle.json_views.specs.Body.{create_of}
 use Rattle.json_views.specs.declared.body.BodyFault.{BodyFault}
 use Rattle.json_views.specs.declared.body.BodyFault.TheVariants.{Malformed, Lacks, Wrong, Memory}
 use Rattle.json_views.specs.declared.body.CreateBody.{CreateBody}
@@ -10,11 +9,9 @@ use Rattle.lcm_events.specs.declared.events.Event.{Event}
 use Rattle.lcm_events.specs.declared.descriptor.Vnfd.{Vnfd}
 use Rattle.lcm_model.specs.Allowed.{IsLegal}
 use Rattle.lcm_model.specs.Lives.{descriptor_named, instances_made, live_instances}
-use Rattle.lcm_api.specs.Outcome.{Outcome, outcome, body_outcome, create_outcome, described_outcome, created, creation, refused, room_outcome, route_of, routed}
-use Rattle.lcm_api.specs.declared.route.Route.TheVariants.{Create}
+use Rattle.lcm_api.specs.Outcome.{Outcome, body_outcome, create_outcome, described_outcome, created, creation, refused, room_outcome}
 use Rattle.executor.specs.Room.{is_full}
 use Rattle.lcm_api.specs.declared.create.TheConstants.{MAX_INSTANCES, MAX_REQUESTED}
-use Rattle.http_wire.specs.declared.request.Request.{Request}
 
 -- with what the outcome adds the history is legal
 abbrev pub AddsOn : ℕ → List Event → Outcome → Type 0
@@ -47,11 +44,3 @@ body_legal m H now (Err Malformed) last legal = legal
 body_legal m H now (Err (Lacks name)) last legal = legal
 body_legal m H now (Err (Wrong name)) last legal = legal
 body_legal m H now (Err Memory) last legal = legal
-
--- with what a request adds the history is legal
-pub outcome_legal : (m : ℕ) (H : List Event) (now : ℕ) (r : Request) → IsLegal m H → AddsOn m H (outcome m H now r)
-outcome_legal m H now r legal =
-    elim (route_of r) as (λ route. AddsOn m H (routed route m H now r)) [
-      | Some Create ↦ body_legal m H now (create_of r.body) r.last legal
-      | None ↦ legal
-    ]

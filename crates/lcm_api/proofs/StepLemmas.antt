@@ -1,8 +1,8 @@
 -- What a create request comes to, by the numbers of the history.
-use Rattle.std.specs.Prelude.{is_some, true}
-use Rattle.std.proofs.Common.{◌≡◌, ◌≤◌, ◌<◌, ◌+◌, ℕ, Bool, List, length, Option, Some, None, arith, refl, ap, codes, ◌++◌}
+use Rattle.std.specs.Prelude.{is_some}
+use Rattle.std.proofs.Common.{◌≡◌, ◌≤◌, ◌<◌, ◌+◌, ℕ, Bool, List, length, Option, Some, None, arith, refl, ap, ◌++◌}
 use Rattle.executor.specs.Managed.{Managed}
-use Rattle.std.proofs.lemmas.Bool.{lt-leb, le-leb}
+use Rattle.std.proofs.lemmas.Bool.{lt-leb}
 use Rattle.std.proofs.lemmas.List.{length-append}
 use Rattle.event_codec.specs.Spell as spell
 use Rattle.event_codec.specs.Spell.{spelling, u64, u16}
@@ -14,7 +14,7 @@ use Rattle.lcm_events.specs.declared.events.EventKind.TheVariants.{Created}
 use Rattle.lcm_events.specs.declared.descriptor.Vnfd.{Vnfd}
 use Rattle.lcm_model.specs.Lives.{descriptor_named, instances_made, live_instances}
 use Rattle.journal_core.specs.declared.journal.TheConstants.{MAX_RECORD}
-use Rattle.lcm_api.specs.Outcome.{create_outcome, creation, created, refused, refusal, room_outcome}
+use Rattle.lcm_api.specs.Outcome.{create_outcome, creation, created}
 use Rattle.lcm_api.specs.Steps.{IsStep}
 use Rattle.lcm_api.specs.declared.create.TheConstants.{MAX_INSTANCES}
 use Rattle.lcm_api.specs.declared.reply.Reply.{Reply}
@@ -57,16 +57,6 @@ creation_fits n now body is =
     let all = length-append (u64 now) (u64 n ++ (spell.name body.vnfd ++ (spell.optional spell.name body.name ++ spell.optional spell.line body.text))) in
     omega (arith, all, short, length-u64 now)
 
--- its descriptor wasn't onboarded
-pub unknown_outcome : (m : ℕ) (H : List Event) (now : ℕ) (body : CreateBody) (last : Bool) → descriptor_named H body.vnfd ≡ None
-    → create_outcome m H now body last ≡ refused 422 (codes "vnfdId is not onboarded") last
-unknown_outcome m H now body last unknown = rw unknown refl
-
--- there is no room for one instance more
-pub crowded_outcome : (m : ℕ) (H : List Event) (now : ℕ) (body : CreateBody) (last : Bool) (vnfd : Vnfd) → descriptor_named H body.vnfd ≡ Some vnfd → MAX_INSTANCES ≤ length (live_instances H)
-    → create_outcome m H now body last ≡ refused 507 (codes "too many instances") last
-crowded_outcome m H now body last vnfd known crowded = rw (known, le-leb MAX_INSTANCES (length (live_instances H)) crowded) refl
-
 -- the instance is created, if there is room for it
 pub step_creates : (m : Managed) (H : List Event) (now : ℕ) (body : CreateBody) (last : Bool) (vnfd : Vnfd) (reply : Reply) (event : Event) → descriptor_named H body.vnfd ≡ Some vnfd
     → length (live_instances H) < MAX_INSTANCES → event ≡ creation H now body
@@ -79,8 +69,3 @@ step_creates m H now body last vnfd reply event known room event_is reply_is =
         fits = creation_fits (instances_made H + 1) now body;
       },
     )
-
--- where there is no room it is refused
-pub full_reply : (full : Bool) (reply given : Reply) (event : Event) (last : Bool) → full ≡ true → given ≡ refusal 507 (codes "journal full") last
-    → given ≡ (room_outcome full reply event last).reply
-full_reply full reply given event last is given_is = rw is given_is

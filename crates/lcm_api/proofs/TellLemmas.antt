@@ -23,14 +23,6 @@ tells_more x y a b c first second = record {
   past = second.past ∙ first.past;
 }
 
--- a piece, and then a write that fails
-pub tells_broken : (x : List ℕ) (a b c : DoorState) → ConnIs (has_written x a.conn) a b → ConnIs (write_broke b.conn) b c → ConnIs (write_broke (has_written x a.conn)) a c
-tells_broken x a b c first second = record {
-  answers = second.answers ∙ first.answers;
-  conn = second.conn ∙ ap write_broke first.conn;
-  past = second.past ∙ first.past;
-}
-
 -- a front of the first piece is one of both
 front_of_both : (n : ℕ) (x y : List ℕ) → (k : ℕ) × (take k (x ++ y) ≡ take n x)
 front_of_both zero x y = (0, refl)

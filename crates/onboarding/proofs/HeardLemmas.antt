@@ -8,7 +8,7 @@ use Rattle.lcm_api.specs.Talking.{Tells, World, world}
 use Rattle.lcm_events.specs.declared.events.Event.{Event}
 use Rattle.lcm_events.specs.declared.states.Role.{Role}
 use Rattle.onboarding.specs.Doing.{HearsDescriptor, Onboards}
-use Rattle.onboarding.specs.Onboarding.{Onboarding, unready, unheard, cut_off, heard, answer_of, ended_by, judged_answer, worked}
+use Rattle.onboarding.specs.Onboarding.{Onboarding, unheard, cut_off, heard, answer_of, ended_by, judged_answer, worked}
 use Rattle.onboarding.specs.Verdict.{onboarded, verdict}
 use Rattle.onboarding.specs.declared.answer.Onboarded.{Onboarded}
 use Rattle.onboarding.specs.declared.answer.OnboardFault.{OnboardFault}
@@ -50,9 +50,3 @@ onboards_unheard t m H Waiting room s c d ks hears idles ready =
     (unheard, record { works = idles m H ready; brings = record { door = hears; clock = λ tells. refl } }, refl)
 onboards_unheard t m H Reading room s c d ks hears idles ready =
     (cut_off hears.0, record { works = idles m H ready; brings = record { door = hears.1; clock = λ tells. refl } }, refl)
-
--- there was no memory to read into
-pub onboards_unready : (t : Tells) (m : Managed) (H : List Event) (s : SiteState) (c : MouthState) (ks : List ℕ) → Idles t.site s → IsReady t.site m H s
-    → (o : Onboarding) × Onboards t m.ledger.manager H o m (world s c ks) (world s c ks) × (Err fault.Memory ≡ answer_of H o)
-onboards_unready t m H s c ks idles ready =
-    (unready, record { works = idles m H ready; brings = record { door = refl; clock = λ tells. refl } }, refl)

@@ -1,7 +1,7 @@
 -- What a descriptor comes to, by the history and by what the commit of its event answered.
-use Rattle.std.proofs.Common.{◌≡◌, ◌≤◌, ◌<◌, ℕ, List, length, false, true, Option, Some, None, Result, Ok, Err, refl, sym, subst, ap, ◌∙◌}
+use Rattle.std.proofs.Common.{◌≡◌, ◌<◌, ℕ, List, length, false, Option, Some, None, Result, Ok, Err, refl, sym, subst, ap, ◌∙◌}
 use Rattle.std.specs.Prelude.{is_some}
-use Rattle.std.proofs.lemmas.Bool.{le-leb, lt-leb, lt-ltb, le-ltb}
+use Rattle.std.proofs.lemmas.Bool.{lt-leb, lt-ltb, le-ltb}
 use Rattle.event_codec.specs.Spell.{spelling}
 use Rattle.executor.specs.Managed.{Managed, MayRecord}
 use Rattle.executor.specs.Room.{HasRoomFor, TellsRoom}
@@ -17,10 +17,8 @@ use Rattle.lcm_model.specs.Lives.{descriptor_named, descriptors}
 use Rattle.onboarding.specs.Judging.{JudgesNew}
 use Rattle.onboarding.specs.Onboarding.{ended_by, judged_answer, said_of, work_fault, worked}
 use Rattle.onboarding.specs.Verdict.{Verdict, accepted, onboarded, onboarding, room_verdict}
-use Rattle.onboarding.specs.declared.answer.DescriptorRefusal.TheVariants.{IsOnboarded, TooMany}
 use Rattle.onboarding.specs.declared.answer.Onboarded.{Onboarded}
 use Rattle.onboarding.specs.declared.answer.OnboardFault.{OnboardFault}
-use Rattle.onboarding.specs.declared.answer.OnboardFault.TheVariants as fault
 use Rattle.onboarding.specs.declared.limits.TheConstants.{MAX_DESCRIPTORS}
 use Rattle.onboarding.proofs.ValidLemmas.{valid_event}
 use Rattle.site_traits.specs.Site.{SiteState}
@@ -36,14 +34,6 @@ judges_new H vnfd unknown few valid = (
   (λ now. rw (unknown, lt-leb MAX_DESCRIPTORS (length (descriptors H)) few) refl),
   record { valid = valid; unknown = none_named (descriptor_named H vnfd.descriptor_id) unknown; room = few },
 )
-
--- its identifier is another's
-pub judges_known : (H : List Event) (vnfd : Vnfd) → is_some (descriptor_named H vnfd.descriptor_id) ≡ true → JudgesNew H vnfd (Err (fault.Refused IsOnboarded))
-judges_known H vnfd known = λ now. rw known refl
-
--- there are as many as may be
-pub judges_many : (H : List Event) (vnfd : Vnfd) → is_some (descriptor_named H vnfd.descriptor_id) ≡ false → MAX_DESCRIPTORS ≤ length (descriptors H) → JudgesNew H vnfd (Err (fault.Refused TooMany))
-judges_many H vnfd unknown many = λ now. rw (unknown, le-leb MAX_DESCRIPTORS (length (descriptors H)) many) refl
 
 -- what becomes of a descriptor whose event was to be recorded, by what that answered
 pub record IsRecorded (H : List Event) (now : ℕ) (event : Event) (v : Verdict) (r : Result (Unit {0}) WorkFault) (answer : Result Onboarded OnboardFault) : Type 0 where

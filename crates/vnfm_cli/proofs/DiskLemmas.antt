@@ -13,7 +13,7 @@ use Rattle.onboarding.specs.declared.answer.OnboardFault.{OnboardFault}
 use Rattle.onboarding.specs.declared.answer.OnboardFault.TheVariants as fault
 use Rattle.vnfm_cli.specs.Course.{making_ending, unonboarded, unopened_failure}
 use Rattle.vnfm_cli.specs.Ending.{Ending}
-use Rattle.vnfm_cli.specs.declared.ending.Failure.TheVariants.{DoorFault, SiteFault}
+use Rattle.vnfm_cli.specs.declared.ending.Failure.TheVariants.{SiteFault}
 
 -- the same of an answer that never comes
 pub fails_never : (P Q : Type 0) (a b : SiteCounts) → OnlyDiskFails P a b → ¬ P → ¬ Q → OnlyDiskFails Q a b
@@ -48,14 +48,6 @@ unonboarded_fails (fault.Refused why) ending a b f is = fails_never _ _ a b f (�
 unonboarded_fails (fault.Full end more) ending a b f is = fails_never _ _ a b f (λ wrong. cc wrong) (λ site. absurd (cc (sym is ∙ site)))
 unonboarded_fails fault.Memory ending a b f is = fails_never _ _ a b f (λ wrong. cc wrong) (λ site. absurd (cc (sym is ∙ site)))
 unonboarded_fails fault.Disk ending a b f is = fails_as _ _ a b f (λ _. is) (λ _. refl)
-
--- and that for the door's sake
-pub unonboarded_door : (why : OnboardFault) (ending : Ending) → ending ≡ Err (unonboarded why) → ending ≡ Err DoorFault → why ≡ fault.Door
-unonboarded_door fault.Door ending is door = refl
-unonboarded_door (fault.Refused why) ending is door = absurd (cc (sym is ∙ door))
-unonboarded_door (fault.Full end more) ending is door = absurd (cc (sym is ∙ door))
-unonboarded_door fault.Memory ending is door = absurd (cc (sym is ∙ door))
-unonboarded_door fault.Disk ending is door = absurd (cc (sym is ∙ door))
 
 -- where the count of disk faults rose, the status is 3
 pub rises_where : (status : ℕ) (a b : SiteCounts) → OnlyDiskFails (status ≡ 3) a b → a.disk < b.disk → status ≡ 3

@@ -225,18 +225,6 @@ door_cause Once words a b are cause = ⊎_elim
     (λ (on : AreWordsOf Onboard words × Rose a.faults b.faults). let same = same_command words Once Onboard are on.0 in cc)
     cause
 
--- the same, from the command that the words set
-pub words_cause : (words : List (List ℕ)) (s : Settings) (a b : DoorCounts) → settings_of words ≡ Some s → IsDoorCause s.command a b
-    → Rose a.next b.next ⊎ (AreWordsOf Onboard words × Rose a.faults b.faults)
-words_cause words s a b set cause = of s.command refl cause where
-  of : (c : Command) → s.command ≡ c → IsDoorCause c a b → Rose a.next b.next ⊎ (AreWordsOf Onboard words × Rose a.faults b.faults)
-  of Init is cause = inl cause
-  of Onboard is cause = ⊎_elim
-      (λ (next : Rose a.next b.next). inl next)
-      (λ (faults : Rose a.faults b.faults). inr (record { settings = s; set = set; is = is }, faults))
-      cause
-  of Once is cause = inl cause
-
 -- what is known of files
 module _ (whole_unmade : IsWholeOrUnmade) (whole_foreign : IsWholeOrForeign) (headed : IsHeadedOrNot) (no_bad : HasNoBadRecord) where
   -- a whole file is a journal
