@@ -113,7 +113,9 @@ fn mem_file(
 {
     let plan = SitePlan {
         bytes: 64,
+        jobs: 0,
         failing: Vec::from_slice(alloc, failing)?,
+        work: Vec::new(alloc),
     };
     Ok(MemFile {
         site: MemSite::with_file(alloc, plan, content)?,

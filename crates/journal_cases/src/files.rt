@@ -51,7 +51,9 @@ fn site_of(alloc: Global, file: &[u8], fault: u64) -> Result<MemSite, AllocError
         alloc,
         SitePlan {
             bytes: 200,
+            jobs: 0,
             failing,
+            work: Vec::new(alloc),
         },
         file,
     )

@@ -45,7 +45,9 @@ fn site_with(alloc: Global, records: &[&[u8]]) -> Result<MemSite, AllocError> {
     file.push(0)?;
     let plan = SitePlan {
         bytes: 0,
+        jobs: 0,
         failing: Vec::new(alloc),
+        work: Vec::new(alloc),
     };
     MemSite::with_file(alloc, plan, file.as_slice())
 }

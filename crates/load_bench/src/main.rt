@@ -37,7 +37,9 @@ fn run(rt: &(impl Env + CpuClock + Input + Print + AllocGlobal)) -> Result<()> {
     rt.reader().read_to_end(&mut file)?;
     let plan = SitePlan {
         bytes: 0,
+        jobs: 0,
         failing: Vec::new(rt.alloc()),
+        work: Vec::new(rt.alloc()),
     };
     let mut site = MemSite::with_file(rt.alloc(), plan, file.as_slice())?;
     let begun = rt.process_cpu_time()?;

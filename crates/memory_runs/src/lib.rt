@@ -52,7 +52,9 @@ pub struct Ran {
 pub fn site_with(alloc: Global, file: &[u8], failing: Vec<u64>) -> Result<MemSite, AllocError> {
     let plan = SitePlan {
         bytes: 200_000,
+        jobs: 0,
         failing,
+        work: Vec::new(alloc),
     };
     MemSite::with_file(alloc, plan, file)
 }

@@ -5,7 +5,7 @@ use Rattle.site_traits.specs.declared.jobs.Phase.TheVariants.{Running, Done, Bro
 use Rattle.site_traits.specs.Jobs.{Job, Advances, GoesOn}
 
 -- a job may stay as it is
-goes_on-refl : (p : Phase) → GoesOn p p
+pub goes_on-refl : (p : Phase) → GoesOn p p
 goes_on-refl Running = tt
 goes_on-refl (Done name) = refl
 goes_on-refl (Broken code) = refl

@@ -1,12 +1,15 @@
--- A file in memory, by the calls that were made on it since it stood as it was at first.
-use Rattle.std.specs.Prelude.{◌≡◌, ◌≤◌, ℕ, ◌+◌, min, List, [], ◌∷◌, ◌++◌, length, take, drop, replicate, fold, if◌then◌else◌, nat_le}
+-- A file in memory, by the calls that were made on it since it stood as it was at first, and beside it the jobs of each moment.
+use Rattle.std.specs.Prelude.{◌≡◌, ◌≤◌, ℕ, ◌+◌, min, List, [], ◌∷◌, ◌++◌, length, take, drop, map, replicate, fold, if◌then◌else◌, nat_le}
 use Rattle.std.proofs.Common.{arith, subst, refl, inr, ap, sym, ◌∙◌, append_assoc, length-append, length-drop}
 use Rattle.std.proofs.lemmas.List.{take_at, drop_at, take_all, length-take-le}
-use Rattle.site_traits.specs.declared.mem_site.DiskCall.{DiskCall}
-use Rattle.site_traits.specs.declared.mem_site.DiskCall.TheVariants as call
+use Rattle.site_traits.specs.declared.past.SiteCall.{SiteCall}
+use Rattle.site_traits.specs.declared.past.SiteCall.TheVariants as call
+use Rattle.site_traits.specs.declared.mem_jobs.KeptJob.{KeptJob}
 use Rattle.site_traits.specs.declared.mem_site.Choice.{Choice}
 use Rattle.site_traits.specs.declared.mem_site.Choice.TheVariants as choice
-use Rattle.site_traits.specs.Jobs.{unanswered}
+use Rattle.site_traits.specs.Jobs.{Answered}
+use Rattle.site_traits.specs.KeptJobs.{jobs_at}
+use Rattle.site_traits.specs.Past.{answers_of}
 use Rattle.site_traits.specs.Site.{Pair, SiteState, pair_of, Torn, Cut}
 
 -- what a call does to the file: bytes written at a place, a cut to a length, a sync, or nothing
@@ -17,14 +20,14 @@ pub data Change : Type 0 where
   kept : Change
 
 -- what this call does, given the bytes that were written
-abbrev pub change_by : DiskCall → List ℕ → Change
+abbrev pub change_by : SiteCall → List ℕ → Change
 change_by (call.Wrote at) bytes = wrote at bytes
 change_by (call.Cut to) bytes = cut to
 change_by call.Synced bytes = synced
 change_by other bytes = kept
 
 -- what a call on record does
-abbrev pub change_of : DiskCall × List ℕ → Change
+abbrev pub change_of : SiteCall × List ℕ → Change
 change_of e = change_by e.0 e.1
 
 -- what a read gives, what was synced last, and the writes and cuts since, the newest first
@@ -64,15 +67,16 @@ abbrev pub disk : List ℕ → List Change → Disk
 disk first changes = fold after (fresh first) changes
 
 -- A stop at a moment since t may leave this. A moment is a number of calls.
-pub record LeftSince (first : List ℕ) (changes : List Change) (t : ℕ) (p : Pair) : Type 0 where
+pub record LeftSince (first : List ℕ) (changes : List Change) (jobs : List KeptJob) (t : ℕ) (p : Pair) : Type 0 where
   pub moment : ℕ
   pub since : t ≤ moment
   pub has_been : moment ≤ length changes
   pub reached : Reaches (disk first (take moment changes)).base (disk first (take moment changes)).pending p.image
-  pub jobs : p.jobs ≡ []
+  pub jobs_are : p.jobs ≡ jobs_at moment jobs
 
-pub left_earlier : (first : List ℕ) (changes : List Change) (t u : ℕ) (p : Pair) → t ≤ u → LeftSince first changes u p → LeftSince first changes t p
-left_earlier first changes t u p le left = record { moment = left.moment; since = omega (arith, left.since, le); has_been = left.has_been; reached = left.reached; jobs = left.jobs }
+pub left_earlier : (first : List ℕ) (changes : List Change) (jobs : List KeptJob) (t u : ℕ) (p : Pair) → t ≤ u → LeftSince first changes jobs u p → LeftSince first changes jobs t p
+left_earlier first changes jobs t u p le left =
+    record { moment = left.moment; since = omega (arith, left.since, le); has_been = left.has_been; reached = left.reached; jobs_are = left.jobs_are }
 
 -- a write that was not cut short is one of the ways in which it may be
 pub overlaid_torn : (old : List ℕ) (at : ℕ) (bytes : List ℕ) → at ≤ length old → Torn at (length bytes) old (overlaid old at bytes)
@@ -108,28 +112,38 @@ pub seen_reached : (first : List ℕ) (changes : List Change) → Reaches (disk 
 unfolding IsSeen
 seen_reached first changes = seen_fold changes (fresh first) refl
 
-pub left_now : (first : List ℕ) (changes : List Change) → LeftSince first changes (length changes) (pair_of (disk first changes).seen [])
-left_now first changes = record {
+pub left_now : (first : List ℕ) (changes : List Change) (jobs : List KeptJob) → LeftSince first changes jobs (length changes) (pair_of (disk first changes).seen (jobs_at (length changes) jobs))
+left_now first changes jobs = record {
   moment = length changes;
   since = omega arith;
   has_been = omega arith;
   reached = (let P : List Change → Type 0 = λ v. Reaches (disk first v).base (disk first v).pending (disk first changes).seen in
       subst P (sym (take_all (length changes) changes (omega arith))) (seen_reached first changes));
-  jobs = refl;
+  jobs_are = refl;
 }
 
--- what a site in memory tells
-abbrev pub told : List ℕ → List Change → SiteState
-told first changes = record {
+-- a stop now leaves the jobs as they are
+pub left_stays : (first : List ℕ) (changes : List Change) (jobs : List KeptJob) (p : Pair) → LeftSince first changes jobs (length changes) p → p.jobs ≡ jobs_at (length changes) jobs
+left_stays first changes jobs p left =
+    let now : left.moment ≡ length changes = omega (arith, left.since, left.has_been) in
+    left.jobs_are ∙ ap (λ (k : ℕ). jobs_at k jobs) now
+
+-- what a site in memory tells, by what the calls did to its file, its jobs and what was answered of them
+abbrev pub told : List ℕ → List Change → List KeptJob → Answered → SiteState
+told first changes jobs answers = record {
   image = (disk first changes).seen;
-  jobs = [];
-  answers = unanswered;
+  jobs = jobs_at (length changes) jobs;
+  answers = answers;
   moment = length changes;
-  since = LeftSince first changes;
-  earlier = left_earlier first changes;
-  now = left_now first changes;
-  stay = λ p left. left.jobs;
+  since = LeftSince first changes jobs;
+  earlier = left_earlier first changes jobs;
+  now = left_now first changes jobs;
+  stay = left_stays first changes jobs;
 }
+
+-- what it tells by the calls on record
+abbrev pub told_by : List ℕ → List (SiteCall × List ℕ) → List KeptJob → SiteState
+told_by first calls jobs = told first (map change_of calls) jobs (answers_of calls)
 
 -- these bytes at this place of the old ones, where it lies within them
 abbrev pub put_over : List ℕ → ℕ → List ℕ → List ℕ

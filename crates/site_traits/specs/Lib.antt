@@ -6,6 +6,7 @@ pub mod Disk
 pub mod Door
 pub mod DoorPlans
 pub mod Jobs
+pub mod KeptJobs
 pub mod Log
 pub mod MemConn
 pub mod MemCourier
@@ -14,6 +15,7 @@ pub mod MemOrchestrator
 pub mod MemPeers
 pub mod MemSink
 pub mod MemSite
+pub mod Past
 pub mod Peers
 pub mod Pieces
 pub mod SetClock

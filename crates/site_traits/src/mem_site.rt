@@ -1,40 +1,17 @@
 // A site in memory, which tells all.
-ghost use Rattle.std.specs.Prelude.{◌≡◌, ◌≤◌, ◌<◌, ◌+◌, ◌↔◌, ℕ, List, [], map, get_or, length, take, drop, min, max, Contains, IsTrue, IfOk, OnOk, is_ok, vec_capacity};
+ghost use Rattle.std.specs.Prelude.{◌≡◌, ◌≤◌, ◌<◌, ◌+◌, ◌↔◌, ℕ, List, [], map, reverse, get_or, length, take, drop, min, max, All, Contains, IsTrue, IfOk, OnOk, is_ok, vec_capacity};
 ghost use Rattle.site_traits.specs.Counts.{one_more, Ask, asked, DiskCause, begin_counts, look_counts, abort_counts};
-ghost use Rattle.site_traits.specs.Book.{IsWithinRoom, IsPlanned, Runs, counted, counts_in};
+ghost use Rattle.site_traits.specs.Book.{IsWithinRoom, IsPlanned, HasWork, Runs, BeginRuns, LookRuns, AbortRuns, next_plan, unplanned, counted, counts_in};
+ghost use Rattle.site_traits.specs.KeptJobs.{IsEarly};
 ghost use Rattle.site_traits.specs.Disk.{change_of, change_by, disk, overlaid, put_over, chosen, clip, left_after, stopped_image};
 
-use crate::jobs::{AbortAnswer, BeginAnswer, LookAnswer};
-use crate::log::{CALLS, Log};
+use crate::jobs::{AbortAnswer, BeginAnswer, LookAnswer, Phase};
+use crate::log::CALLS;
+use crate::mem_jobs::{Arrival, JobEnd, JobPlan, KeptJob};
+use crate::past::{Past, SiteCall};
 use crate::site::{DiskFailed, Site};
 use lcm_events::{Act, Tag};
 use std::alloc::{AllocError, Global};
-
-/// A call on the file, as it stands on record.
-#[derive(Clone, Copy, Debug, PartialEq, Eq)]
-pub enum DiskCall {
-    /// The length was asked.
-    Length,
-    /// So many bytes were read.
-    Read {
-        /// The place of the first.
-        at: u64,
-        /// Their number.
-        len: usize,
-    },
-    /// Bytes were written.
-    Wrote {
-        /// The place of the first.
-        at: u64,
-    },
-    /// The file was cut.
-    Cut {
-        /// To this length.
-        to: u64,
-    },
-    /// The file was synced.
-    Synced,
-}
 
 /// What a stop leaves of the writes and cuts that are not synced.
 #[derive(Clone, Copy, Debug, PartialEq, Eq)]
@@ -52,16 +29,25 @@ pub enum Choice {
 pub struct SitePlan {
     /// The bytes that the file has room for. A write past them fails.
     pub bytes: usize,
+    /// The jobs that there is room for. A begin past them is refused with code 1.
+    pub jobs: usize,
     /// The numbers, from 1, of the disk calls that fail.
     pub failing: Vec<u64>,
+    /// What comes of each begin in turn. After these each job is taken, ends at the first look and can be aborted.
+    pub work: Vec<JobPlan>,
 }
 
 /// The plan of a site in memory, and what was done by it.
 #[derive(Drop)]
 pub struct Book {
+    alloc: Global,
     failing: Vec<u64>,
+    unreachable: Vec<u64>,
+    work: Vec<JobPlan>,
     room: usize,
     calls: u64,
+    begins: u64,
+    asked: u64,
     faults: u64,
     vim_faults: u64,
     look_faults: u64,
@@ -69,12 +55,14 @@ pub struct Book {
     writes: u64,
     cuts: u64,
     syncs: u64,
-    log: Log<DiskCall>,
+    past: Past,
 }
 
-/// A site in memory, which tells all. A call that fails changes nothing and is not put on record.
+/// A site in memory, which tells all. A call on the file that fails changes nothing and is not put on record.
 ///
-/// A call fails where its number is on the plan, where a write doesn't lie within the room for the file, and where its record has no room.
+/// A call on the file fails where its number is on the plan, where a write doesn't lie within the room for the file, and where its record has
+/// no room. A begin comes out by its plan, and a look or an abort fails where its number is on the plan; each of the three fails, changes
+/// nothing and is not put on record where its record has no room, and a begin where there is no memory for a copy of the work.
 ///
 /// Source: own rule.
 #[derive(Drop)]
@@ -82,54 +70,100 @@ pub struct MemSite {
     first: Vec<u8>,
     file: Vec<u8>,
     book: Book,
-    ghost seen: { file.items ≡ (disk first.items (map change_of book.log.calls)).seen },
+    ghost seen: { file.items ≡ (disk first.items (map change_of book.past.log.calls)).seen },
     ghost roomy: { book.room ≤ vec_capacity file },
 }
 
 impl MemSite {
     ghost use Rattle.site_traits.specs.MemSite.{IsFresh};
 
-    /// A site with an empty file, on which nothing is pending.
+    /// A site with an empty file, on which nothing is pending, and no job.
     ///
-    /// It takes all its room: for the plan's bytes, for twice as many written, and for 1,048,576 calls.
+    /// It takes all its room: for the plan's bytes, for twice as many written, for 1,048,576 calls and for the plan's jobs, but for the names
+    /// in their work.
     pub fn new(alloc: Global, plan: SitePlan) -> Result<MemSite, AllocError>
-        ensures fresh { IfOk result (λ m. IsFresh m []) }
+        ensures fresh { IfOk result (λ m. IsFresh m [] []) }
         ensures plan { IfOk result (λ m. IsPlanned plan.failing.items plan.bytes m.book) }
+        ensures work { IfOk result (λ m. HasWork [] plan.work.items plan.jobs m.book) }
     {
         MemSite::with_file(alloc, plan, &[])
     }
 
-    /// A site with this file, on which nothing is pending; its room is for the plan's bytes, or as many as the file has.
-    pub fn with_file(alloc: Global, plan: SitePlan, file: &[u8]) -> Result<MemSite, AllocError>
-        ensures fresh { IfOk result (λ m. IsFresh m file.now) }
-        ensures plan { IfOk result (λ m. IsPlanned plan.failing.items (max plan.bytes (length file.now)) m.book) }
+    /// A site with an empty file and no job, over which the looks and aborts with these numbers, from 1 over both, fail.
+    ///
+    /// A look that fails so is none of the looks of a job's plan.
+    pub fn unreachable(
+        alloc: Global,
+        plan: SitePlan,
+        calls: Vec<u64>,
+    ) -> Result<MemSite, AllocError>
+        ensures fresh { IfOk result (λ m. IsFresh m [] []) }
+        ensures plan { IfOk result (λ m. IsPlanned plan.failing.items plan.bytes m.book) }
+        ensures work { IfOk result (λ m. HasWork calls.items plan.work.items plan.jobs m.book) }
     {
-        let SitePlan { bytes, failing } = plan;
-        let room = bytes.max(file.len());
-        let first = file.to_vec(alloc)?;
-        let file = copied_into(alloc, room, file)?;
-        let log = Log::new(alloc, CALLS, room.saturating_mul(2))?;
-        let book = Book {
-            failing,
-            room,
-            calls: 0,
-            faults: 0,
-            vim_faults: 0,
-            look_faults: 0,
-            refusals: 0,
-            writes: 0,
-            cuts: 0,
-            syncs: 0,
-            log,
-        };
-        Ok(MemSite { first, file, book })
+        made(alloc, plan, calls, Vec::new(alloc), &[])
+    }
+
+    /// A site with this file, on which nothing is pending, and no job; its room is for the plan's bytes, or as many as the file has.
+    pub fn with_file(alloc: Global, plan: SitePlan, file: &[u8]) -> Result<MemSite, AllocError>
+        ensures fresh { IfOk result (λ m. IsFresh m file.now []) }
+        ensures plan { IfOk result (λ m. IsPlanned plan.failing.items (max plan.bytes (length file.now)) m.book) }
+        ensures work { IfOk result (λ m. HasWork [] plan.work.items plan.jobs m.book) }
+    {
+        made(alloc, plan, Vec::new(alloc), Vec::new(alloc), file)
     }
 }
 
+// A site with this file and these jobs, on which no call was made.
+fn made(
+    alloc: Global,
+    plan: SitePlan,
+    unreachable: Vec<u64>,
+    kept: Vec<KeptJob>,
+    file: &[u8],
+) -> Result<MemSite, AllocError>
+    requires early { All (IsEarly 0) kept.items }
+    ensures first { IfOk result (λ m. m.first.items ≡ file.now) }
+    ensures kept { IfOk result (λ m. m.book.past.kept.items ≡ kept.items) }
+    ensures plan { IfOk result (λ m. IsPlanned plan.failing.items (max plan.bytes (length file.now)) m.book) }
+    ensures work { IfOk result (λ m. HasWork unreachable.items plan.work.items plan.jobs m.book) }
+{
+    let SitePlan {
+        bytes,
+        jobs,
+        failing,
+        work,
+    } = plan;
+    let room = bytes.max(file.len());
+    let first = file.to_vec(alloc)?;
+    let file = copied_into(alloc, room, file)?;
+    let past = Past::new(alloc, CALLS, room.saturating_mul(2), jobs, kept)?;
+    let book = Book {
+        alloc,
+        failing,
+        unreachable,
+        work,
+        room,
+        calls: 0,
+        begins: 0,
+        asked: 0,
+        faults: 0,
+        vim_faults: 0,
+        look_faults: 0,
+        refusals: 0,
+        writes: 0,
+        cuts: 0,
+        syncs: 0,
+        past,
+    };
+    Ok(MemSite { first, file, book })
+}
+
 impl MemSite {
-    ghost use Rattle.site_traits.specs.MemSite.{IsFresh, image_of};
+    ghost use Rattle.site_traits.specs.MemSite.{IsFresh, image_of, state_of, counts_of};
     ghost use Rattle.site_traits.specs.Site.{pair_of};
     ghost use Rattle.site_traits.specs.Disk.{LeftSince};
+    ghost use Rattle.site_traits.specs.KeptJobs.{jobs_at, kept_at, job_of};
 
     /// The file, as a read gives it.
     pub fn file(&self) -> &[u8]
@@ -140,44 +174,51 @@ impl MemSite {
 
     /// How many calls are on record. It is the moment that the site tells.
     pub fn moment(&self) -> usize
-        ensures { result ≡ length self.now.book.log.calls }
+        ensures { result ≡ length self.now.book.past.log.calls }
     {
-        self.book.log.len()
+        self.book.past.log.len()
     }
 
     /// Call number k on record, from 0.
-    pub fn call(&self, k: usize) -> DiskCall
-        requires { k < length self.now.book.log.calls }
-        ensures { result ≡ (get_or self.now.book.log.calls k (result, [])).0 }
+    pub fn call(&self, k: usize) -> SiteCall
+        requires { k < length self.now.book.past.log.calls }
+        ensures { result ≡ (get_or self.now.book.past.log.calls k (result, [])).0 }
     {
-        self.book.log.what(k)
+        self.book.past.log.what(k)
     }
 
-    /// A site with the file that this choice leaves of a stop after so many calls. Nothing is pending on it, and no call of
-    /// it is to fail. Its room is that of this site, or as much as the file needs.
+    /// A site with the file that this choice leaves of a stop after so many calls, and the jobs that there were then. Nothing is pending on
+    /// it, no call of it is to fail, and nothing is planned of its begins. Its room is that of this site, or as much as the file needs.
+    ///
+    /// A job keeps its plan, and the looks that are left of it at the end of the record.
     pub fn stopped(
         &self,
         alloc: Global,
         moment: usize,
         choice: Choice,
     ) -> Result<MemSite, AllocError>
-        requires { moment ≤ length self.now.book.log.calls }
-        ensures image { IfOk result (λ m. IsFresh m (stopped_image choice self.now.first.items (map change_of (take moment self.now.book.log.calls)))) }
+        requires { moment ≤ length self.now.book.past.log.calls }
+        ensures image { IfOk result (λ m. IsFresh m (stopped_image choice self.now.first.items (map change_of (take moment self.now.book.past.log.calls))) (jobs_at moment self.now.book.past.kept.items)) }
         ensures plan { IfOk result (λ m. IsPlanned [] (max self.now.book.room (length m.first.items)) m.book) }
-        ensures allowed { IfOk result (λ m. LeftSince self.now.first.items (map change_of self.now.book.log.calls) moment (pair_of (image_of m) [])) }
+        ensures work { IfOk result (λ m. HasWork [] [] self.now.book.past.most m.book) }
+        ensures jobs { IfOk result (λ m. m.book.past.kept.items ≡ kept_at moment self.now.book.past.kept.items) }
+        ensures allowed { IfOk result (λ m. LeftSince self.now.first.items (map change_of self.now.book.past.log.calls) self.now.book.past.kept.items moment (pair_of (image_of m) (state_of m).jobs)) }
     {
         let left = self.left_by(alloc, moment, choice)?;
         let plan = SitePlan {
             bytes: self.book.room,
+            jobs: self.book.past.most,
             failing: Vec::new(alloc),
+            work: Vec::new(alloc),
         };
-        MemSite::with_file(alloc, plan, &left)
+        let kept = self.book.past.kept_at(alloc, moment)?;
+        made(alloc, plan, Vec::new(alloc), kept, &left)
     }
 
     // The file that this choice leaves of a stop after so many calls.
     fn left_by(&self, alloc: Global, moment: usize, choice: Choice) -> Result<Vec<u8>, AllocError>
-        requires { moment ≤ length self.now.book.log.calls }
-        ensures { IfOk result (λ left. left.items ≡ stopped_image choice self.now.first.items (map change_of (take moment self.now.book.log.calls))) }
+        requires { moment ≤ length self.now.book.past.log.calls }
+        ensures { IfOk result (λ left. left.items ≡ stopped_image choice self.now.first.items (map change_of (take moment self.now.book.past.log.calls))) }
     {
         let mut seen = self.first.to_vec(alloc)?;
         let mut left = self.first.to_vec(alloc)?;
@@ -187,11 +228,48 @@ impl MemSite {
                 &mut seen,
                 &mut left,
                 choice,
-                self.book.log.what(k),
-                self.book.log.bytes_of(k),
+                self.book.past.log.what(k),
+                self.book.past.log.bytes_of(k),
             )?;
         }
         Ok(left)
+    }
+
+    /// How many jobs there are.
+    pub fn jobs(&self) -> usize
+        ensures { result ≡ length (state_of self.now).jobs }
+    {
+        self.book.past.kept.len()
+    }
+
+    /// The job at place k of the list, from 0: the attempt that it is for, its work, and how it stands.
+    pub fn job(&self, k: usize) -> (Tag, &Act, Phase)
+        requires { k < length (state_of self.now).jobs }
+        ensures { job_of result.0 result.1.now result.2 ≡ get_or (reverse (state_of self.now).jobs) k (job_of result.0 result.1.now result.2) }
+    {
+        let job = &self.book.past.kept[k];
+        (job.tag, &job.act, job.phase())
+    }
+
+    /// How many begins, looks and aborts failed.
+    pub fn vim_faults(&self) -> u64
+        ensures { result ≡ (counts_of self.now).vim }
+    {
+        self.book.vim_faults
+    }
+
+    /// How many looks failed.
+    pub fn look_faults(&self) -> u64
+        ensures { result ≡ (counts_of self.now).look }
+    {
+        self.book.look_faults
+    }
+
+    /// How many begins were refused.
+    pub fn refusals(&self) -> u64
+        ensures { result ≡ (counts_of self.now).refusals }
+    {
+        self.book.refusals
     }
 
     /// How many disk calls failed.
@@ -222,13 +300,13 @@ fn one_call(
     seen: &mut Vec<u8>,
     left: &mut Vec<u8>,
     choice: Choice,
-    call: DiskCall,
+    call: SiteCall,
     bytes: &[u8],
 ) -> Result<(), AllocError>
     ensures seen { OnOk result (seen.new.items ≡ chosen Choice.New (clip (length seen.old.items) (change_by call bytes.now)) seen.old.items) }
     ensures left { OnOk result (left.new.items ≡ left_after choice (change_by call bytes.now) seen.old.items left.old.items) }
 {
-    if let DiskCall::Synced = call {
+    if let SiteCall::Synced = call {
         *left = seen.to_vec(alloc)?;
         return Ok(());
     }
@@ -238,11 +316,11 @@ fn one_call(
 }
 
 // The call with its place within so many bytes.
-fn clipped(call: DiskCall, len: usize) -> DiskCall
+fn clipped(call: SiteCall, len: usize) -> SiteCall
     ensures { (bytes : List ℕ) → change_by result bytes ≡ clip len (change_by call bytes) }
 {
     match call {
-        DiskCall::Wrote { at } => DiskCall::Wrote {
+        SiteCall::Wrote { at } => SiteCall::Wrote {
             at: at.min(len as u64),
         },
         other => other,
@@ -254,7 +332,7 @@ fn chosen_change(
     alloc: Global,
     file: &mut Vec<u8>,
     choice: Choice,
-    call: DiskCall,
+    call: SiteCall,
     bytes: &[u8],
 ) -> Result<(), AllocError>
     ensures { OnOk result (file.new.items ≡ chosen choice (change_by call bytes.now) file.old.items) }
@@ -270,12 +348,12 @@ fn chosen_change(
 }
 
 // Does to the file what this call did.
-fn new_change(file: &mut Vec<u8>, call: DiskCall, bytes: &[u8]) -> Result<(), AllocError>
+fn new_change(file: &mut Vec<u8>, call: SiteCall, bytes: &[u8]) -> Result<(), AllocError>
     ensures { OnOk result (file.new.items ≡ chosen Choice.New (change_by call bytes.now) file.old.items) }
 {
     match call {
-        DiskCall::Wrote { at } => put_at(file, at, bytes),
-        DiskCall::Cut { to } => {
+        SiteCall::Wrote { at } => put_at(file, at, bytes),
+        SiteCall::Cut { to } => {
             cut_to(file, to);
             Ok(())
         }
@@ -324,57 +402,131 @@ fn is_named(calls: &mut u64, failing: &[u64]) -> bool
     failing.contains(&now)
 }
 
+// The plan at this place, from 0, of those that the begins have in turn.
+fn plan_at(work: &[JobPlan], place: u64) -> JobPlan
+    ensures { result ≡ get_or work.now place unplanned }
+{
+    if place >= work.len() as u64 {
+        return JobPlan {
+            arrival: Arrival::Taken,
+            looks: 0,
+            end: JobEnd::Done,
+            abortable: true,
+        };
+    }
+    work[place as usize]
+}
+
 // A call that writes lies within the room for the file.
-fn is_within_room(what: DiskCall, len: usize, room: usize) -> bool
+fn is_within_room(what: SiteCall, len: usize, room: usize) -> bool
     ensures { (bytes : List ℕ) (b : Book) → length bytes ≡ len → b.room ≡ room → (IsTrue result ↔ IsWithinRoom what bytes b) }
 {
     match what {
-        DiskCall::Wrote { at } => at <= room as u64 && len as u64 <= room as u64 - at,
+        SiteCall::Wrote { at } => at <= room as u64 && len as u64 <= room as u64 - at,
         _ => true,
     }
 }
 
 impl Book {
     // Counts a write, a cut or a sync.
-    fn count(&mut self, what: DiskCall)
+    fn count(&mut self, what: SiteCall)
         ensures counts { counts_in self.new ≡ counted what (counts_in self.old) }
         ensures rest { self.new ≡ record self.old { writes = self.new.writes; cuts = self.new.cuts; syncs = self.new.syncs } }
     {
         match what {
-            DiskCall::Wrote { .. } => self.writes = self.writes.saturating_add(1),
-            DiskCall::Cut { .. } => self.cuts = self.cuts.saturating_add(1),
-            DiskCall::Synced => self.syncs = self.syncs.saturating_add(1),
+            SiteCall::Wrote { .. } => self.writes = self.writes.saturating_add(1),
+            SiteCall::Cut { .. } => self.cuts = self.cuts.saturating_add(1),
+            SiteCall::Synced => self.syncs = self.syncs.saturating_add(1),
             _ => {}
         }
     }
 
-    // A call on the jobs failed.
-    fn fail(&mut self)
-        ensures counts { counts_in self.new ≡ begin_counts BeginAnswer.Failed (counts_in self.old) }
-        ensures rest { self.new ≡ record self.old { vim_faults = self.new.vim_faults } }
+    // Counts a begin that was answered so.
+    fn count_begin(&mut self, answer: BeginAnswer)
+        ensures counts { counts_in self.new ≡ begin_counts answer (counts_in self.old) }
+        ensures rest { self.new ≡ record self.old { vim_faults = self.new.vim_faults; refusals = self.new.refusals } }
     {
-        self.vim_faults = self.vim_faults.saturating_add(1);
+        match answer {
+            BeginAnswer::Begun => {}
+            BeginAnswer::Refused(_) => self.refusals = self.refusals.saturating_add(1),
+            BeginAnswer::Failed => self.vim_faults = self.vim_faults.saturating_add(1),
+        }
     }
 
-    // A look failed.
-    fn fail_look(&mut self)
-        ensures counts { counts_in self.new ≡ look_counts LookAnswer.Failed (counts_in self.old) }
+    // Counts a look that was answered so.
+    fn count_look(&mut self, answer: &LookAnswer)
+        ensures counts { counts_in self.new ≡ look_counts answer.now (counts_in self.old) }
         ensures rest { self.new ≡ record self.old { vim_faults = self.new.vim_faults; look_faults = self.new.look_faults } }
     {
-        self.fail();
-        self.look_faults = self.look_faults.saturating_add(1);
+        if let LookAnswer::Failed = *answer {
+            self.vim_faults = self.vim_faults.saturating_add(1);
+            self.look_faults = self.look_faults.saturating_add(1);
+        }
+    }
+
+    // Counts an abort that was answered so.
+    fn count_abort(&mut self, answer: AbortAnswer)
+        ensures counts { counts_in self.new ≡ abort_counts answer (counts_in self.old) }
+        ensures rest { self.new ≡ record self.old { vim_faults = self.new.vim_faults } }
+    {
+        if let AbortAnswer::Failed = answer {
+            self.vim_faults = self.vim_faults.saturating_add(1);
+        }
+    }
+
+    // Counts a begin, and gives its plan.
+    fn next(&mut self) -> JobPlan
+        ensures plan { result ≡ next_plan self.old }
+        ensures rest { self.new ≡ record self.old { begins = one_more self.old.begins } }
+    {
+        let place = self.begins;
+        self.begins = self.begins.saturating_add(1);
+        plan_at(&self.work, place)
+    }
+
+    // A begin.
+    fn begin(&mut self, tag: &Tag, act: &Act) -> BeginAnswer
+        ensures runs { BeginRuns tag.now act.now result self.old self.new }
+    {
+        let plan = self.next();
+        let answer = self.past.begin(self.alloc, tag, act, plan);
+        self.count_begin(answer);
+        answer
+    }
+
+    // A look.
+    fn look(&mut self, tag: &Tag) -> LookAnswer
+        ensures runs { LookRuns tag.now result self.old self.new }
+    {
+        let answer = if is_named(&mut self.asked, &self.unreachable) {
+            LookAnswer::Failed
+        } else {
+            self.past.look(tag)
+        };
+        self.count_look(&answer);
+        answer
+    }
+
+    // An abort.
+    fn abort(&mut self, tag: &Tag) -> AbortAnswer
+        ensures runs { AbortRuns tag.now result self.old self.new }
+    {
+        let answer = if is_named(&mut self.asked, &self.unreachable) {
+            AbortAnswer::Failed
+        } else {
+            self.past.abort(tag)
+        };
+        self.count_abort(answer);
+        answer
     }
 
     // A call with these bytes: it is counted, and on record where it is served, else counted as a fault too.
-    fn run(&mut self, what: DiskCall, bytes: &[u8]) -> bool
+    fn run(&mut self, what: SiteCall, bytes: &[u8]) -> bool
         ensures runs { Runs what bytes.now result self.old self.new }
     {
         self.count(what);
         let named = is_named(&mut self.calls, &self.failing);
-        if named
-            || !is_within_room(what, bytes.len(), self.room)
-            || !self.log.push(what, bytes, &[])
-        {
+        if named || !is_within_room(what, bytes.len(), self.room) || !self.past.push(what, bytes) {
             self.faults = self.faults.saturating_add(1);
             return false;
         }
@@ -414,9 +566,9 @@ impl Site for MemSite {
         ensures length { IfOk result (λ n. n ≡ length (image_of self.old)) }
         ensures told { Reads (state_of self.old) (state_of self.new) }
         ensures cause { DiskCause (counts_of self.old) (counts_of self.new) result }
-        ensures runs { Runs (DiskCall.Length) [] (is_ok result) self.old.book self.new.book }
+        ensures runs { Runs (SiteCall.Length) [] (is_ok result) self.old.book self.new.book }
     {
-        if !self.book.run(DiskCall::Length, &[]) {
+        if !self.book.run(SiteCall::Length, &[]) {
             return Err(DiskFailed);
         }
         Ok(self.file.len() as u64)
@@ -427,10 +579,10 @@ impl Site for MemSite {
         ensures bytes { OnOk result (into.new ≡ take (length into.old) (drop at (image_of self.old))) }
         ensures told { Reads (state_of self.old) (state_of self.new) }
         ensures cause { DiskCause (counts_of self.old) (counts_of self.new) result }
-        ensures runs { Runs (DiskCall.Read at (length into.old)) [] (is_ok result) self.old.book self.new.book }
+        ensures runs { Runs (SiteCall.Read at (length into.old)) [] (is_ok result) self.old.book self.new.book }
     {
         let len = into.len();
-        if !self.book.run(DiskCall::Read { at, len }, &[]) {
+        if !self.book.run(SiteCall::Read { at, len }, &[]) {
             return Err(DiskFailed);
         }
         let from = at as usize;
@@ -442,9 +594,9 @@ impl Site for MemSite {
         requires { at ≤ length (image_of self.old) }
         ensures told { Writes at bytes.now result (state_of self.old) (state_of self.new) }
         ensures cause { DiskCause (asked Ask.write (counts_of self.old)) (counts_of self.new) result }
-        ensures runs { Runs (DiskCall.Wrote at) bytes.now (is_ok result) self.old.book self.new.book }
+        ensures runs { Runs (SiteCall.Wrote at) bytes.now (is_ok result) self.old.book self.new.book }
     {
-        if !self.book.run(DiskCall::Wrote { at }, bytes) {
+        if !self.book.run(SiteCall::Wrote { at }, bytes) {
             return Err(DiskFailed);
         }
         overlay(&mut self.file, at as usize, bytes);
@@ -455,9 +607,9 @@ impl Site for MemSite {
         requires { to ≤ length (image_of self.old) }
         ensures told { Cuts to result (state_of self.old) (state_of self.new) }
         ensures cause { DiskCause (asked Ask.cut (counts_of self.old)) (counts_of self.new) result }
-        ensures runs { Runs (DiskCall.Cut to) [] (is_ok result) self.old.book self.new.book }
+        ensures runs { Runs (SiteCall.Cut to) [] (is_ok result) self.old.book self.new.book }
     {
-        if !self.book.run(DiskCall::Cut { to }, &[]) {
+        if !self.book.run(SiteCall::Cut { to }, &[]) {
             return Err(DiskFailed);
         }
         self.file.truncate(to as usize);
@@ -467,38 +619,35 @@ impl Site for MemSite {
     fn sync(&mut self) -> Result<(), DiskFailed>
         ensures told { Syncs result (state_of self.old) (state_of self.new) }
         ensures cause { DiskCause (asked Ask.sync (counts_of self.old)) (counts_of self.new) result }
-        ensures runs { Runs (DiskCall.Synced) [] (is_ok result) self.old.book self.new.book }
+        ensures runs { Runs (SiteCall.Synced) [] (is_ok result) self.old.book self.new.book }
     {
-        if !self.book.run(DiskCall::Synced, &[]) {
+        if !self.book.run(SiteCall::Synced, &[]) {
             return Err(DiskFailed);
         }
         Ok(())
     }
 
-    fn begin(&mut self, _tag: &Tag, _act: &Act) -> BeginAnswer
-        ensures told { Begins _tag.now _act.now result (state_of self.old) (state_of self.new) }
+    fn begin(&mut self, tag: &Tag, act: &Act) -> BeginAnswer
+        ensures told { Begins tag.now act.now result (state_of self.old) (state_of self.new) }
         ensures cause { counts_of self.new ≡ begin_counts result (counts_of self.old) }
-        ensures fails { result ≡ BeginAnswer.Failed }
+        ensures runs { BeginRuns tag.now act.now result self.old.book self.new.book }
     {
-        self.book.fail();
-        BeginAnswer::Failed
+        self.book.begin(tag, act)
     }
 
-    fn look(&mut self, _tag: &Tag) -> LookAnswer
-        ensures told { Looks _tag.now result (state_of self.old) (state_of self.new) }
+    fn look(&mut self, tag: &Tag) -> LookAnswer
+        ensures told { Looks tag.now result (state_of self.old) (state_of self.new) }
         ensures cause { counts_of self.new ≡ look_counts result (counts_of self.old) }
-        ensures fails { result ≡ LookAnswer.Failed }
+        ensures runs { LookRuns tag.now result self.old.book self.new.book }
     {
-        self.book.fail_look();
-        LookAnswer::Failed
+        self.book.look(tag)
     }
 
-    fn abort(&mut self, _tag: &Tag) -> AbortAnswer
-        ensures told { Aborts _tag.now result (state_of self.old) (state_of self.new) }
+    fn abort(&mut self, tag: &Tag) -> AbortAnswer
+        ensures told { Aborts tag.now result (state_of self.old) (state_of self.new) }
         ensures cause { counts_of self.new ≡ abort_counts result (counts_of self.old) }
-        ensures fails { result ≡ AbortAnswer.Failed }
+        ensures runs { AbortRuns tag.now result self.old.book self.new.book }
     {
-        self.book.fail();
-        AbortAnswer::Failed
+        self.book.abort(tag)
     }
 }

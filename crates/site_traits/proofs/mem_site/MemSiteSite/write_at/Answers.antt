@@ -1,10 +1,19 @@
 use Rattle.std.proofs.Common.{refl, ap}
 use Rattle.site_traits.specs.Log.{Recorded}
-use Rattle.site_traits.specs.declared.mem_site.DiskCall.{DiskCall}
-use Rattle.site_traits.proofs.DiskLemmas.{writes_told}
+use Rattle.site_traits.specs.declared.past.SiteCall.{SiteCall}
+use Rattle.site_traits.proofs.DiskLemmas.{writes_told, writes_lost}
 use Rattle.site_traits.proofs.mem_site.MemSiteSite.write_at.Goals as goal
 
 pub returns-clause-told : goal.returns-clause-told
 returns-clause-told c =
-    writes_told _ c.args.self.now.first.items c.args.self.now.book.log.calls c.run.new.self.log.calls _ c.args.at c.args.bytes.now
-    (ap (λ (r : Recorded DiskCall). r.calls) c.if-not-run.ensures.runs.log) refl c.requires
+    let was = c.args.self.now.book.past in
+    let now = c.run.new.self.past in
+    let runs = c.if-not-run.ensures.runs in
+    writes_told _ c.args.self.now.first.items was.log.calls now.log.calls was.kept.items now.kept.items _ c.args.at c.args.bytes.now was.early (ap (λ (r : Recorded SiteCall). r.calls) runs.log) runs.kept refl (λ l. refl) c.requires
+
+pub returns-then-not-run-clause-told : goal.returns-then-not-run-clause-told
+returns-then-not-run-clause-told c =
+    let was = c.args.self.now.book.past in
+    let now = c.run.new.self.past in
+    let runs = c.if-not-run.ensures.runs in
+    writes_lost _ c.args.self.now.first.items was.log.calls now.log.calls was.kept.items now.kept.items c.args.at c.args.bytes.now (ap (λ (r : Recorded SiteCall). r.calls) runs.log) runs.kept

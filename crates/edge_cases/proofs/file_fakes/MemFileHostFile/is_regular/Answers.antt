@@ -1,0 +1,5 @@
+use Rattle.site_traits.proofs.Moments.{reads-refl}
+use Rattle.edge_cases.proofs.file_fakes.MemFileHostFile.is_regular.Goals as goal
+
+pub returns-clause-told : goal.returns-clause-told
+returns-clause-told c = λ tells. reads-refl _
