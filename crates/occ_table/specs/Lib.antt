@@ -1,4 +1,5 @@
 pub mod Going
+pub mod Ongoing
 pub mod Phases
 pub mod Steps
 pub mod Rows

@@ -1,6 +1,6 @@
 //! A list with an entry for each change, whose entries are set in place.
 
-ghost use Rattle.std.specs.Prelude.{◌≡◌, slice_set};
+ghost use Rattle.std.specs.Prelude.{◌≡◌, slice_set, vec_capacity, vec_len};
 
 use std::marker::Model;
 
@@ -19,8 +19,10 @@ impl<T> Model for Cells<T> {
 }
 
 /// Sets the entry at this place. Nothing happens beyond the end.
-fn set_in<T: Copy>(entries: &mut Vec<T>, at: usize, value: T)
-    ensures { entries.new.items ≡ slice_set entries.old.items at value }
+pub fn set_in<T: Copy>(entries: &mut Vec<T>, at: usize, value: T)
+    ensures items { entries.new.items ≡ slice_set entries.old.items at value }
+    ensures length { vec_len entries.new ≡ vec_len entries.old }
+    ensures capacity { vec_capacity entries.new ≡ vec_capacity entries.old }
 {
     if at < entries.len() {
         entries[at] = value;

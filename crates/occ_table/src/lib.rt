@@ -6,6 +6,7 @@ mod causes;
 mod cells;
 mod going;
 mod judges;
+mod ongoing;
 mod pending;
 mod phases;
 mod rows;
