@@ -18,30 +18,30 @@ use Rattle.lcm_laws.proofs.SettledLaws.{net-done, net-other_change, net-other_oc
 use Rattle.occ_table.specs.Rows.{numbers}
 use Rattle.occ_table.specs.Steps.{nets_after}
 
-pub maps_same : (f g : ℕ → ℕ) (ns : List ℕ) → ((c : ℕ) → f c ≡ g c) → map f ns ≡ map g ns
+pub maps_same : {A : Type 0} → (f g : ℕ → A) (ns : List ℕ) → ((c : ℕ) → f c ≡ g c) → map f ns ≡ map g ns
 maps_same f g [] e = refl
-maps_same f g (n ∷ ns) e = ap (λ (k : ℕ). k ∷ map f ns) (e n) ∙ ap (λ (ks : List ℕ). g n ∷ ks) (maps_same f g ns e)
+maps_same {A} f g (n ∷ ns) e = ap (λ (k : A). k ∷ map f ns) (e n) ∙ ap (λ (ks : List A). g n ∷ ks) (maps_same f g ns e)
 
 apart : (a b : ℕ) → (a ≡ b → ⊥) → (a == b) ≡ false
 apart a b f = by_test (a == b) (λ same. absurd (f (eqb-true a b same))) (λ other. other)
 
-above : (f g : ℕ → ℕ) (k n x : ℕ) → x < k → ((c : ℕ) → (x == c) ≡ false → g c ≡ f c) → map g (range_with_len k n) ≡ map f (range_with_len k n)
+above : {A : Type 0} → (f g : ℕ → A) (k n x : ℕ) → x < k → ((c : ℕ) → (x == c) ≡ false → g c ≡ f c) → map g (range_with_len k n) ≡ map f (range_with_len k n)
 above f g k zero x h e = refl
-above f g k (suc n) x h e =
-    ap (λ (v : ℕ). v ∷ map g (range_with_len (k + 1) n)) (e k (apart x k (λ is. omega (arith, h, is))))
-    ∙ ap (λ (vs : List ℕ). f k ∷ vs) (above f g (k + 1) n x (omega (arith, h)) e)
+above {A} f g k (suc n) x h e =
+    ap (λ (v : A). v ∷ map g (range_with_len (k + 1) n)) (e k (apart x k (λ is. omega (arith, h, is))))
+    ∙ ap (λ (vs : List A). f k ∷ vs) (above f g (k + 1) n x (omega (arith, h)) e)
 
 -- what differs at one number of a range is set at one place
-pub differs : (f g : ℕ → ℕ) (k n j x v : ℕ) → k + j ≡ x → g x ≡ v → ((c : ℕ) → (x == c) ≡ false → g c ≡ f c)
+pub differs : {A : Type 0} → (f g : ℕ → A) (k n j x : ℕ) (v : A) → k + j ≡ x → g x ≡ v → ((c : ℕ) → (x == c) ≡ false → g c ≡ f c)
     → map g (range_with_len k n) ≡ set (map f (range_with_len k n)) j v
 differs f g k zero j x v at is e = refl
-differs f g k (suc n) zero x v at is e =
+differs {A} f g k (suc n) zero x v at is e =
     let here : x ≡ k = omega (arith, at) in
-    ap (λ (w : ℕ). w ∷ map g (range_with_len (k + 1) n)) (sym (ap g here) ∙ is)
-    ∙ ap (λ (vs : List ℕ). v ∷ vs) (above f g (k + 1) n x (omega (arith, here)) e)
-differs f g k (suc n) (suc j) x v at is e =
-    ap (λ (w : ℕ). w ∷ map g (range_with_len (k + 1) n)) (e k (apart x k (λ same. omega (arith, at, same))))
-    ∙ ap (λ (vs : List ℕ). f k ∷ vs) (differs f g (k + 1) n j x v (omega (arith, at)) is e)
+    ap (λ (w : A). w ∷ map g (range_with_len (k + 1) n)) (sym (ap g here) ∙ is)
+    ∙ ap (λ (vs : List A). v ∷ vs) (above f g (k + 1) n x (omega (arith, here)) e)
+differs {A} f g k (suc n) (suc j) x v at is e =
+    ap (λ (w : A). w ∷ map g (range_with_len (k + 1) n)) (e k (apart x k (λ same. omega (arith, at, same))))
+    ∙ ap (λ (vs : List A). f k ∷ vs) (differs f g (k + 1) n j x v (omega (arith, at)) is e)
 
 all_alike : (f : ℕ → ℕ) (k n v : ℕ) → ((c : ℕ) → f c ≡ v) → map f (range_with_len k n) ≡ replicate n v
 all_alike f k zero v e = refl

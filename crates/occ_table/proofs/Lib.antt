@@ -10,3 +10,4 @@ pub mod PhaseLaws
 pub mod BeginLaws
 pub mod PlanPhases
 pub mod GoingLaws
+pub mod OngoingSteps

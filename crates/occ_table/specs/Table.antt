@@ -3,32 +3,37 @@ use Rattle.occ_table.specs.declared.rows.Grant.{Grant}
 use Rattle.std.specs.Prelude.{Bool, List, Option, Some, false, true, ℕ, ◌∷◌, ◌<◌, ◌≡◌, ◌≤◌, IsTrue, ◌↔◌}
 use Rattle.lcm_events.specs.declared.events.Event.{Event}
 use Rattle.lcm_events.specs.declared.events.EventKind.{EventKind}
-use Rattle.lcm_events.specs.declared.events.EventKind.TheVariants.{Asked, GrantTried, Granted, Moved}
+use Rattle.lcm_events.specs.declared.events.EventKind.TheVariants.{Asked, Created, GrantTried, Granted, Moved}
 use Rattle.lcm_events.specs.declared.events.GrantTry.TheVariants.{Later}
 use Rattle.lcm_model.specs.Allowed.{IsAllowedWithin, IsLegalWithin}
 use Rattle.lcm_model.specs.Moves.{is_active}
 use Rattle.lcm_model.specs.Operations.{occurrences_made}
 use Rattle.occ_table.specs.Going.{active, next_active}
+use Rattle.occ_table.specs.Ongoing.{ongoing_of, ongoings}
 use Rattle.occ_table.specs.Rows.{StandsFor, occurrence}
 use Rattle.occ_table.specs.Steps.{first_row}
 use Rattle.occ_table.specs.declared.rows.OccRow.{OccRow}
 
--- what is reserved: a row, a grant and a location that are to come, and room for how many more rows and active occurrences
+-- what is reserved: a row, a grant and a location that are to come, and room for how many more rows, active occurrences and instances
 pub record Reserved : Type 0 where
   pub row : Option OccRow
   pub grant : Option Grant
   pub location : Option (List ℕ)
   pub spare : ℕ
   pub places : ℕ
+  pub instances : ℕ
 
--- what a contract sees of the table: its rows, the numbers of the active occurrences, and what is reserved
+-- what a contract sees of the table: its rows, the numbers of the active occurrences, the ongoing operation of each instance, and what
+-- is reserved
 pub record Occurrences : Type 0 where
   pub rows : List OccRow
   pub active : List ℕ
+  pub ongoing : List (Option ℕ)
   pub reserved : Reserved
 
 -- the event needs a reservation
 abbrev pub needs_room : EventKind → Bool
+needs_room (Created instance vnfd name text) = true
 needs_room (Asked a) = true
 needs_room (Granted o name places spots) = true
 needs_room (GrantTried o (Later at)) = true
@@ -37,6 +42,7 @@ needs_room _ = false
 
 -- what an event of this moment needs is reserved
 abbrev pub HasRoomFor : ℕ → EventKind → Reserved → Type 0
+HasRoomFor time (Created instance vnfd name text) r = 0 < r.instances
 HasRoomFor time (Asked a) r = (r.row ≡ Some (first_row time a)) × (0 < r.spare) × (0 < r.places)
 HasRoomFor time (Granted o name places spots) r = r.grant ≡ Some (record { name = name; places = places; spots = spots })
 HasRoomFor time (GrantTried o (Later at)) r = r.location ≡ Some at
@@ -57,6 +63,16 @@ Applies e old new =
 abbrev pub Activates : Event → Occurrences → Occurrences → Type 0
 Activates e old new =
     (width m : ℕ) (H : List Event) → IsLegalWithin width m H → IsAllowedWithin width m H e.kind → StandsFor old.rows H → old.active ≡ active H → new.active ≡ active (e ∷ H)
+
+-- ongoing operations that were those of a legal history are those of it with the event that was allowed after it
+abbrev pub Engages : Event → Occurrences → Occurrences → Type 0
+Engages e old new =
+    (width m : ℕ) (H : List Event) → IsLegalWithin width m H → IsAllowedWithin width m H e.kind → StandsFor old.rows H → old.ongoing ≡ ongoings H
+    → new.ongoing ≡ ongoings (e ∷ H)
+
+-- what is found is the number of the instance's ongoing operation in each legal history whose ongoing operations these are
+abbrev pub GoesOn : ℕ → Option ℕ → List (Option ℕ) → Type 0
+GoesOn i x xs = (width m : ℕ) (H : List Event) → IsLegalWithin width m H → xs ≡ ongoings H → x ≡ ongoing_of H i
 
 -- what is found is the least number above this one of an active occurrence, in each legal history whose active numbers these are
 abbrev pub Follows : ℕ → Option ℕ → List ℕ → Type 0

@@ -6,11 +6,13 @@ ghost use Rattle.lcm_events.specs.declared.events.EventKind.TheVariants.{GrantTr
 ghost use Rattle.lcm_model.specs.Moves.{is_active};
 ghost use Rattle.lcm_model.specs.Operations.{occurrence_of};
 ghost use Rattle.occ_table.specs.Going.{Rises, active_moved};
+ghost use Rattle.occ_table.specs.Ongoing.{instance_in, ongoing_in, ongoing_moved, with_ongoing};
 ghost use Rattle.occ_table.specs.Steps.{first_row, row_after, rows_about, update, after_granted, after_told, is_bringing, is_later};
 ghost use Rattle.occ_table.specs.Rows.{StandsFor};
-ghost use Rattle.occ_table.specs.Table.{Activates, Applies, Counts, Follows, HasRoom, HasRoomFor, Looks, Occurrences, Reserved, needs_room};
+ghost use Rattle.occ_table.specs.Table.{Activates, Applies, Counts, Engages, Follows, GoesOn, HasRoom, HasRoomFor, Looks, Occurrences, Reserved, needs_room};
 
 use crate::going::{first_above, move_active};
+use crate::ongoing::{instance_of, move_ongoing, ongoing_at, set_ongoing};
 use crate::rows::{Grant, OccRow};
 use lcm_events::{Event, EventKind, GrantTry, Listed, OpState, Operation, Place};
 use lcm_model::works;
@@ -25,6 +27,7 @@ use vnfm_base::{Line, Moment, Name};
 pub struct OccTable {
     rows: Vec<OccRow>,
     active: Vec<u64>,
+    ongoing: Vec<Option<u64>>,
     row: Option<OccRow>,
     grant: Option<Grant>,
     location: Option<Line>,
@@ -36,7 +39,7 @@ impl Model for OccTable {
 
     ghost Value = { Occurrences };
 
-    ghost view = { λ t. record { rows = t.rows.items; active = t.active.items; reserved = record { row = t.row; grant = t.grant; location = t.location; spare = vec_capacity t.rows - vec_len t.rows; places = vec_capacity t.active - vec_len t.active } } };
+    ghost view = { λ t. record { rows = t.rows.items; active = t.active.items; ongoing = t.ongoing.items; reserved = record { row = t.row; grant = t.grant; location = t.location; spare = vec_capacity t.rows - vec_len t.rows; places = vec_capacity t.active - vec_len t.active; instances = vec_capacity t.ongoing - vec_len t.ongoing } } };
 }
 
 /// The number of the occurrence that an event is about.
@@ -104,6 +107,7 @@ impl OccTable {
     pub fn new(alloc: Global) -> Self
         ensures rows { result.rows ≡ [] }
         ensures active { result.active ≡ [] }
+        ensures ongoing { result.ongoing ≡ [] }
         ensures row { result.reserved.row ≡ None }
         ensures grant { result.reserved.grant ≡ None }
         ensures location { result.reserved.location ≡ None }
@@ -111,6 +115,7 @@ impl OccTable {
         OccTable {
             rows: Vec::new(alloc),
             active: Vec::new(alloc),
+            ongoing: Vec::new(alloc),
             row: None,
             grant: None,
             location: None,
@@ -126,6 +131,7 @@ impl OccTable {
     ) -> Result<(), AllocError>
         ensures kept { self.new.rows ≡ self.old.rows }
         ensures active { self.new.active ≡ self.old.active }
+        ensures ongoing { self.new.ongoing ≡ self.old.ongoing }
         ensures row { OnOk result (self.new.reserved.row ≡ Some (first_row moment operation.now)) }
         ensures spare { OnOk result (0 < self.new.reserved.spare) }
         ensures places { OnOk result (0 < self.new.reserved.places) }
@@ -147,6 +153,7 @@ impl OccTable {
     ) -> Result<(), AllocError>
         ensures kept { self.new.rows ≡ self.old.rows }
         ensures active { self.new.active ≡ self.old.active }
+        ensures ongoing { self.new.ongoing ≡ self.old.ongoing }
         ensures grant { OnOk result (self.new.reserved.grant ≡ Some (record { name = name; places = places.now; spots = spots.now })) }
     {
         let grant = Grant::copied(alloc, name, places, spots)?;
@@ -158,6 +165,7 @@ impl OccTable {
     fn reserve_place(&mut self, to: OpState) -> Result<(), AllocError>
         ensures kept { self.new.rows ≡ self.old.rows }
         ensures active { self.new.active ≡ self.old.active }
+        ensures ongoing { self.new.ongoing ≡ self.old.ongoing }
         ensures places { OnOk result (is_active to ≡ true → 0 < self.new.reserved.places) }
     {
         if works(to) {
@@ -170,10 +178,22 @@ impl OccTable {
     fn reserve_location(&mut self, location: &Line) -> Result<(), AllocError>
         ensures kept { self.new.rows ≡ self.old.rows }
         ensures active { self.new.active ≡ self.old.active }
+        ensures ongoing { self.new.ongoing ≡ self.old.ongoing }
         ensures location { OnOk result (self.new.reserved.location ≡ Some location.now) }
     {
         let location = location.clone()?;
         self.location = Some(location);
+        Ok(())
+    }
+
+    /// Reserves a place for an instance.
+    fn reserve_instance(&mut self) -> Result<(), AllocError>
+        ensures kept { self.new.rows ≡ self.old.rows }
+        ensures active { self.new.active ≡ self.old.active }
+        ensures ongoing { self.new.ongoing ≡ self.old.ongoing }
+        ensures instances { OnOk result (0 < self.new.reserved.instances) }
+    {
+        self.ongoing.reserve(1)?;
         Ok(())
     }
 
@@ -183,10 +203,12 @@ impl OccTable {
     pub fn reserve_for(&mut self, alloc: Global, e: &Event) -> Result<(), AllocError>
         ensures kept { self.new.rows ≡ self.old.rows }
         ensures active { self.new.active ≡ self.old.active }
+        ensures ongoing { self.new.ongoing ≡ self.old.ongoing }
         ensures room { OnOk result (HasRoom e.now self.new.reserved) }
         ensures stays { needs_room e.now.kind ≡ false → self.new.reserved ≡ self.old.reserved }
     {
         match &e.kind {
+            EventKind::Created { .. } => self.reserve_instance(),
             EventKind::Asked(operation) => self.reserve_row(alloc, e.moment, operation),
             EventKind::Granted {
                 grant,
@@ -206,6 +228,7 @@ impl OccTable {
     /// Puts the reserved grant into the row of its occurrence.
     fn put_grant(&mut self, occ: u64)
         ensures active { self.new.active ≡ self.old.active }
+        ensures ongoing { self.new.ongoing ≡ self.old.ongoing }
         ensures rows { (g : Grant) → self.old.reserved.grant ≡ Some g → 1 ≤ occ → self.new.rows ≡ update (after_granted g) (occ - 1) self.old.rows }
     {
         if let Some(grant) = self.grant.take() {
@@ -218,6 +241,7 @@ impl OccTable {
     /// Puts the reserved location into the row of its occurrence.
     fn put_location(&mut self, occ: u64)
         ensures active { self.new.active ≡ self.old.active }
+        ensures ongoing { self.new.ongoing ≡ self.old.ongoing }
         ensures rows { (at : List ℕ) → self.old.reserved.location ≡ Some at → 1 ≤ occ → self.new.rows ≡ update (after_told at) (occ - 1) self.old.rows }
     {
         if let Some(location) = self.location.take() {
@@ -227,30 +251,45 @@ impl OccTable {
         }
     }
 
-    /// Puts the reserved row last, and its number last among the active ones.
-    fn put_row(&mut self, occ: u64)
+    /// Puts an instance last, which has no ongoing operation.
+    fn put_instance(&mut self)
+        requires { 0 < self.old.reserved.instances }
+        ensures rows { self.new.rows ≡ self.old.rows }
+        ensures active { self.new.active ≡ self.old.active }
+        ensures ongoing { self.new.ongoing ≡ self.old.ongoing ++ None ∷ [] }
+    {
+        self.ongoing.push_reserved(None);
+    }
+
+    /// Puts the reserved row last, and its number last among the active ones: it is the ongoing operation of its instance.
+    fn put_row(&mut self, occ: u64, instance: u64)
         requires spare { 0 < self.old.reserved.spare }
         requires places { 0 < self.old.reserved.places }
         ensures rows { (r : OccRow) → self.old.reserved.row ≡ Some r → self.new.rows ≡ self.old.rows ++ r ∷ [] }
         ensures active { self.new.active ≡ self.old.active ++ occ ∷ [] }
+        ensures ongoing { self.new.ongoing ≡ with_ongoing instance (Some occ) self.old.ongoing }
     {
         if let Some(row) = self.row.take() {
             self.rows.push_reserved(row);
         }
         self.active.push_reserved(occ);
+        set_ongoing(&mut self.ongoing, instance, Some(occ));
     }
 
-    /// Lets the row of an occurrence follow its move, and the active numbers too.
+    /// Lets the row of an occurrence follow its move, and the active numbers and the ongoing operations too.
     fn follow_move(&mut self, moment: Moment, occ: u64, to: OpState, kind: &EventKind)
         requires places { is_active to ≡ true → 0 < self.old.reserved.places }
         requires brings { is_bringing kind.now ≡ false }
         ensures numbered { 1 ≤ occ → self.new.rows ≡ update (row_after moment kind.now) (occ - 1) self.old.rows }
         ensures active { self.new.active ≡ active_moved occ to self.old.active }
+        ensures ongoing { self.new.ongoing ≡ ongoing_moved (instance_in occ self.old.rows) to self.old.ongoing }
     {
+        let instance = instance_of(self.rows.as_slice(), occ);
         if occ > 0 {
             follow_at(&mut self.rows, (occ - 1) as usize, moment, kind);
         }
         move_active(&mut self.active, occ, to);
+        move_ongoing(&mut self.ongoing, instance, to);
     }
 
     /// Lets the row of an occurrence follow an event of this moment.
@@ -259,6 +298,7 @@ impl OccTable {
         requires nothing_brought { is_bringing kind.now ≡ false }
         ensures rows { self.new.rows ≡ update (row_after moment kind.now) (occ - 1) self.old.rows }
         ensures active { self.new.active ≡ self.old.active }
+        ensures ongoing { self.new.ongoing ≡ self.old.ongoing }
         ensures reserved { self.new.reserved ≡ self.old.reserved }
     {
         follow_at(&mut self.rows, (occ - 1) as usize, moment, kind);
@@ -270,6 +310,7 @@ impl OccTable {
         ensures numbered { (n : ℕ) → occurrence_of kind.now ≡ Some n → 1 ≤ n → self.new.rows ≡ rows_about (occurrence_of kind.now) moment kind.now self.old.rows }
         ensures none { occurrence_of kind.now ≡ None → self.new.rows ≡ self.old.rows }
         ensures active { self.new.active ≡ self.old.active }
+        ensures ongoing { self.new.ongoing ≡ self.old.ongoing }
         ensures reserved { self.new.reserved ≡ self.old.reserved }
     {
         match occurrence_in(kind) {
@@ -287,6 +328,7 @@ impl OccTable {
         requires { kind.now ≡ GrantTried occ answer.now }
         ensures numbered { HasRoomFor moment kind.now self.old.reserved → 1 ≤ occ → self.new.rows ≡ update (row_after moment kind.now) (occ - 1) self.old.rows }
         ensures active { self.new.active ≡ self.old.active }
+        ensures ongoing { self.new.ongoing ≡ self.old.ongoing }
         ensures reserved { needs_room kind.now ≡ false → self.new.reserved ≡ self.old.reserved }
     {
         if is_later(answer) {
@@ -303,10 +345,12 @@ impl OccTable {
         requires room { HasRoom e.now self.old.reserved }
         ensures applies { Applies e.now self.old.rows self.new.rows }
         ensures activates { Activates e.now self.old self.new }
+        ensures engages { Engages e.now self.old self.new }
         ensures stays { needs_room e.now.kind ≡ false → self.new.reserved ≡ self.old.reserved }
     {
         match &e.kind {
-            EventKind::Asked(operation) => self.put_row(operation.occ),
+            EventKind::Created { .. } => self.put_instance(),
+            EventKind::Asked(operation) => self.put_row(operation.occ, operation.instance),
             EventKind::Granted { occ, .. } => self.put_grant(*occ),
             EventKind::GrantTried { occ, answer } => {
                 self.follow_try(e.moment, *occ, answer, &e.kind);
@@ -349,6 +393,22 @@ impl OccTable {
         ensures { Rises self.now.active → result ≡ find (λ n. nat_lt after n) self.now.active }
     {
         first_above(self.active.as_slice(), after)
+    }
+
+    /// The number of the instance's ongoing operation; none exactly where it has none.
+    ///
+    /// Source: SOL 003 5.6.2 (States and state transitions of a VNF LCM operation occurrence).
+    pub fn ongoing(&self, instance: u64) -> Option<u64>
+        ensures goes_on { GoesOn instance result self.now.ongoing }
+    {
+        self.ongoing_at(instance)
+    }
+
+    /// The entry of an instance among the ongoing operations.
+    fn ongoing_at(&self, instance: u64) -> Option<u64>
+        ensures { result ≡ ongoing_in instance self.now.ongoing }
+    {
+        ongoing_at(self.ongoing.as_slice(), instance)
     }
 
     /// How many operations were asked for.

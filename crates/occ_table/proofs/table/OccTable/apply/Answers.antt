@@ -7,7 +7,9 @@ use Rattle.occ_table.specs.declared.rows.OccRow.{OccRow}
 use Rattle.occ_table.specs.Steps.{is_bringing, first_row, rows_after}
 use Rattle.occ_table.specs.Table.{HasRoomFor, Reserved, needs_room}
 use Rattle.occ_table.specs.Going.{active_after}
+use Rattle.occ_table.specs.Ongoing.{ongoings_after}
 use Rattle.occ_table.proofs.GoingLaws.{activated, unmoved}
+use Rattle.occ_table.proofs.OngoingSteps.{engaged, unengaged}
 use Rattle.occ_table.proofs.RowsSteps.{moved, applied, followed, low, not_bringing, tried}
 use Rattle.occ_table.proofs.table.OccTable.apply.Goals as goal
 
@@ -15,6 +17,11 @@ pub returns-in-Asked-clause-activates : goal.returns-in-Asked-clause-activates
 returns-in-Asked-clause-activates c = λ width m H legal allowed stands was.
     activated width m H c.args.e.now c.args.self.now.active c.put_row.new.self.active legal allowed was
     (c.put_row.ensures.active ∙ ap (λ (k : EventKind). active_after k c.args.self.now.active) (sym c.in-Asked.is))
+
+pub returns-in-Asked-clause-engages : goal.returns-in-Asked-clause-engages
+returns-in-Asked-clause-engages c = λ width m H legal allowed stands was.
+    engaged width m H c.args.e.now c.args.self.now.rows c.args.self.now.ongoing c.put_row.new.self.ongoing legal allowed stands was
+    (c.put_row.ensures.ongoing ∙ ap (λ (k : EventKind). ongoings_after c.args.self.now.rows k c.args.self.now.ongoing) (sym c.in-Asked.is))
 
 pub returns-in-Asked-clause-applies : goal.returns-in-Asked-clause-applies
 returns-in-Asked-clause-applies c = λ width m H wide legal allowed stands.
@@ -35,6 +42,9 @@ returns-in_default c = record {
   activates = λ width m H legal allowed stands was.
       activated width m H c.args.e.now c.args.self.now.active c.follow_about.new.self.active legal allowed was
       (c.follow_about.ensures.active ∙ unmoved c.args.e.now.kind c.args.self.now.active c.in_default.not-Asked c.in_default.not-Moved);
+  engages = λ width m H legal allowed stands was.
+      engaged width m H c.args.e.now c.args.self.now.rows c.args.self.now.ongoing c.follow_about.new.self.ongoing legal allowed stands was
+      (c.follow_about.ensures.ongoing ∙ unengaged c.args.e.now.kind c.args.self.now.rows c.args.self.now.ongoing c.in_default.not-Created c.in_default.not-Asked c.in_default.not-Moved);
   stays = λ none. c.follow_about.ensures.reserved;
 }
 
@@ -52,6 +62,9 @@ returns-in-Granted c = record {
   activates = λ width m H legal allowed stands was.
       activated width m H c.args.e.now c.args.self.now.active c.put_grant.new.self.active legal allowed was
       (c.put_grant.ensures.active ∙ ap (λ (k : EventKind). active_after k c.args.self.now.active) (sym c.in-Granted.is));
+  engages = λ width m H legal allowed stands was.
+      engaged width m H c.args.e.now c.args.self.now.rows c.args.self.now.ongoing c.put_grant.new.self.ongoing legal allowed stands was
+      (c.put_grant.ensures.ongoing ∙ ap (λ (k : EventKind). ongoings_after c.args.self.now.rows k c.args.self.now.ongoing) (sym c.in-Granted.is));
   stays = λ none. let yes : true ≡ false = sym (ap needs_room c.in-Granted.is) ∙ none in cc;
 }
 
@@ -68,6 +81,9 @@ returns-in-GrantTried c = record {
   activates = λ width m H legal allowed stands was.
       activated width m H c.args.e.now c.args.self.now.active c.follow_try.new.self.active legal allowed was
       (c.follow_try.ensures.active ∙ ap (λ (k : EventKind). active_after k c.args.self.now.active) (sym c.in-GrantTried.is));
+  engages = λ width m H legal allowed stands was.
+      engaged width m H c.args.e.now c.args.self.now.rows c.args.self.now.ongoing c.follow_try.new.self.ongoing legal allowed stands was
+      (c.follow_try.ensures.ongoing ∙ ap (λ (k : EventKind). ongoings_after c.args.self.now.rows k c.args.self.now.ongoing) (sym c.in-GrantTried.is));
   stays = λ none. c.follow_try.ensures.reserved none;
 }
 
@@ -84,6 +100,9 @@ returns-in-Moved c = record {
   activates = λ width m H legal allowed stands was.
       activated width m H c.args.e.now c.args.self.now.active c.follow_move.new.self.active legal allowed was
       (c.follow_move.ensures.active ∙ ap (λ (k : EventKind). active_after k c.args.self.now.active) (sym c.in-Moved.is));
+  engages = λ width m H legal allowed stands was.
+      engaged width m H c.args.e.now c.args.self.now.rows c.args.self.now.ongoing c.follow_move.new.self.ongoing legal allowed stands was
+      (c.follow_move.ensures.ongoing ∙ ap (λ (k : EventKind). ongoings_after c.args.self.now.rows k c.args.self.now.ongoing) (sym c.in-Moved.is));
   stays = λ none. let yes : true ≡ false = sym (ap needs_room c.in-Moved.is) ∙ none in cc;
 }
 
@@ -95,3 +114,21 @@ follow_move-requires-clause-brings c = ap is_bringing c.in-Moved.is
 
 pub follow_about-requires : goal.follow_about-requires
 follow_about-requires c = not_bringing c.args.e.now.kind c.in_default.not-Granted c.in_default.not-GrantTried
+
+pub returns-in-Created : goal.returns-in-Created
+returns-in-Created c = record {
+  applies = λ width m H wide legal allowed stands.
+      c.put_instance.ensures.rows
+      ∙ (ap (λ (k : EventKind). rows_after c.args.e.now.moment k c.args.self.now.rows) (sym c.in-Created.is)
+      ∙ applied width m H c.args.e.now c.args.self.now.rows wide legal allowed stands);
+  activates = λ width m H legal allowed stands was.
+      activated width m H c.args.e.now c.args.self.now.active c.put_instance.new.self.active legal allowed was
+      (c.put_instance.ensures.active ∙ ap (λ (k : EventKind). active_after k c.args.self.now.active) (sym c.in-Created.is));
+  engages = λ width m H legal allowed stands was.
+      engaged width m H c.args.e.now c.args.self.now.rows c.args.self.now.ongoing c.put_instance.new.self.ongoing legal allowed stands was
+      (c.put_instance.ensures.ongoing ∙ ap (λ (k : EventKind). ongoings_after c.args.self.now.rows k c.args.self.now.ongoing) (sym c.in-Created.is));
+  stays = λ none. let yes : true ≡ false = sym (ap needs_room c.in-Created.is) ∙ none in cc;
+}
+
+pub put_instance-requires : goal.put_instance-requires
+put_instance-requires c = subst (λ (k : EventKind). HasRoomFor c.args.e.now.moment k c.args.self.now.reserved) c.in-Created.is c.requires.room

@@ -23,6 +23,7 @@ returns-then-is_later c =
           (λ at e. c.put_location.ensures.rows at e from)
           ∙ ap (λ (k : EventKind). update (row_after time k) (n - 1) old) (sym c.requires);
       active = c.put_location.ensures.active;
+      ongoing = c.put_location.ensures.ongoing;
       reserved = λ none.
           let yes : true ≡ false = sym (needs_location n c.args.answer.now later) ∙ (sym (ap needs_room c.requires) ∙ none) in
           cc;
@@ -36,6 +37,7 @@ returns-else-is_later c =
           c.follow_about.ensures.numbered c.args.occ about from
           ∙ ap (λ (o : Option ℕ). rows_about o c.args.moment c.args.kind.now c.args.self.now.rows) about;
       active = c.follow_about.ensures.active;
+      ongoing = c.follow_about.ensures.ongoing;
       reserved = λ none. c.follow_about.ensures.reserved;
     }
 
