@@ -17,7 +17,10 @@ use Rattle.lcm_laws.proofs.Histories.{event}
 use Rattle.lcm_laws.proofs.Lists.{by_test, filter_both}
 use Rattle.lcm_laws.proofs.NumberLaws.{IsCounted, found_exactly, operations_counted}
 use Rattle.lcm_laws.proofs.OngoingLaws.{state-moved}
-use Rattle.occ_table.specs.Going.{Rises, active, active_after, is_worked_on, first_from, next_active, with_number, without_number}
+use Rattle.std.proofs.lemmas.List.{length-map, length-reverse}
+use Rattle.occ_table.specs.Rows.{StandsFor, row}
+use Rattle.occ_table.specs.declared.rows.OccRow.{OccRow}
+use Rattle.occ_table.specs.Going.{Rises, active, active_after, active_moved, is_worked_on, first_from, next_active, with_number, without_number}
 use Rattle.occ_table.proofs.PendingSteps.{filter_map_swap, filter_reverse}
 use Rattle.occ_table.proofs.RowsSteps.{none_there}
 
@@ -186,6 +189,33 @@ active-step width m H time (Moved o to) legal allowed =
     without_one (is_worked_on H) (is_worked_on (event time (Moved o to) ∷ H)) o (operations H) (λ a. worked_moved H time o to a false rests)
     ∙ ap (λ (c : Bool). cond c (with_number o (active H)) (without_number o (active H))) (sym rests))
 active-step width m H time _ legal allowed = refl
+
+fewer : {A : Type 0} → (p : A → Bool) (xs : List A) → length (filter p xs) ≤ length xs
+fewer p [] = omega arith
+fewer p (x ∷ xs) = let rest = fewer p xs in by_test (p x) (λ passes. rw passes (omega (arith, rest))) (λ fails. rw fails (omega (arith, rest)))
+
+-- at most as many occurrences are active as there are
+few_active : (H : List Event) → length (active H) ≤ length (operations H)
+few_active H =
+    let worked : List Operation = filter (is_worked_on H) (operations H) in
+    omega (arith, fewer (is_worked_on H) (operations H), length-reverse (map (λ (a : Operation). a.occ) worked), length-map worked (λ (a : Operation). a.occ))
+
+-- there is a row for each operation
+rows_there : (rs : List OccRow) (H : List Event) → StandsFor rs H → length rs ≡ length (operations H)
+rows_there rs H stands = ap (λ (xs : List OccRow). length xs) stands ∙ (length-reverse (map (row H) (operations H)) ∙ length-map (operations H) (row H))
+
+-- each active occurrence has a row
+pub active_fit : (rs : List OccRow) (ns : List ℕ) (H : List Event) → StandsFor rs H → ns ≡ active H → length ns ≤ length rs
+active_fit rs ns H stands is = omega (arith, few_active H, rows_there rs H stands, ap length is)
+
+-- each active occurrence has a row, after a move too
+pub moved_fit : (width m : ℕ) (H : List Event) (e : Event) (o : ℕ) (to : OpState) (rs : List OccRow) (ns : List ℕ) → e.kind ≡ Moved o to → IsLegalWithin width m H
+    → IsAllowedWithin width m H e.kind → StandsFor rs H → ns ≡ active H → length (active_moved o to ns) ≤ length rs
+moved_fit width m H e o to rs ns is legal allowed stands was =
+    let may : IsAllowedWithin width m H (Moved o to) = subst (λ (k : EventKind). IsAllowedWithin width m H k) is allowed in
+    let after = active-step width m H e.moment (Moved o to) legal may in
+    let long : length (active (event e.moment (Moved o to) ∷ H)) ≡ length (active_moved o to ns) = ap length after ∙ ap (λ (ks : List ℕ). length (active_moved o to ks)) (sym was) in
+    omega (arith, few_active (event e.moment (Moved o to) ∷ H), rows_there rs H stands, long)
 
 -- how many stand at the front that pass a test
 abbrev leading : (ℕ → Bool) → List ℕ → ℕ

@@ -3,10 +3,9 @@ use Rattle.occ_table.specs.declared.rows.Grant.{Grant}
 use Rattle.std.specs.Prelude.{Bool, List, Option, Some, false, true, ℕ, ◌∷◌, ◌<◌, ◌≡◌, ◌≤◌, IsTrue, ◌↔◌}
 use Rattle.lcm_events.specs.declared.events.Event.{Event}
 use Rattle.lcm_events.specs.declared.events.EventKind.{EventKind}
-use Rattle.lcm_events.specs.declared.events.EventKind.TheVariants.{Asked, Created, GrantTried, Granted, Moved}
+use Rattle.lcm_events.specs.declared.events.EventKind.TheVariants.{Asked, Created, GrantTried, Granted}
 use Rattle.lcm_events.specs.declared.events.GrantTry.TheVariants.{Later}
 use Rattle.lcm_model.specs.Allowed.{IsAllowedWithin, IsLegalWithin}
-use Rattle.lcm_model.specs.Moves.{is_active}
 use Rattle.lcm_model.specs.Operations.{occurrences_made}
 use Rattle.occ_table.specs.Going.{active, next_active}
 use Rattle.occ_table.specs.Ongoing.{ongoing_of, ongoings}
@@ -14,7 +13,8 @@ use Rattle.occ_table.specs.Rows.{StandsFor, occurrence}
 use Rattle.occ_table.specs.Steps.{first_row}
 use Rattle.occ_table.specs.declared.rows.OccRow.{OccRow}
 
--- what is reserved: a row, a grant and a location that are to come, and room for how many more rows, active occurrences and instances
+-- what is reserved: a row, a grant and a location that are to come, and room for how many more rows, for how many more rows than there are
+-- a place among the active numbers, and room for how many more instances
 pub record Reserved : Type 0 where
   pub row : Option OccRow
   pub grant : Option Grant
@@ -37,7 +37,6 @@ needs_room (Created instance vnfd name text) = true
 needs_room (Asked a) = true
 needs_room (Granted o name places spots) = true
 needs_room (GrantTried o (Later at)) = true
-needs_room (Moved o to) = true
 needs_room _ = false
 
 -- what an event of this moment needs is reserved
@@ -46,7 +45,6 @@ HasRoomFor time (Created instance vnfd name text) r = 0 < r.instances
 HasRoomFor time (Asked a) r = (r.row ≡ Some (first_row time a)) × (0 < r.spare) × (0 < r.places)
 HasRoomFor time (Granted o name places spots) r = r.grant ≡ Some (record { name = name; places = places; spots = spots })
 HasRoomFor time (GrantTried o (Later at)) r = r.location ≡ Some at
-HasRoomFor time (Moved o to) r = is_active to ≡ true → 0 < r.places
 HasRoomFor time _ r = Unit {0}
 
 -- what the event needs is reserved

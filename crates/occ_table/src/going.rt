@@ -1,11 +1,11 @@
 //! The numbers of the occurrences that the manager works on, the least first.
 
-ghost use Rattle.std.specs.Prelude.{◌≡◌, ◌<◌, ◌≤◌, ◌↔◌, find, insert, length, nat_lt, not, slice_get, true, vec_capacity, vec_len, IsTrue, Some};
+ghost use Rattle.std.specs.Prelude.{◌≡◌, ◌<◌, ◌≤◌, ◌↔◌, ◌++◌, ◌∷◌, [], OnOk, find, insert, length, nat_lt, not, slice_get, vec_capacity, vec_len, IsTrue, Some};
 ghost use Rattle.occ_table.specs.Going.{active_moved, first_from, with_number, without_number, Rises};
-ghost use Rattle.lcm_model.specs.Moves.{is_active};
 
 use lcm_events::OpState;
 use lcm_model::works;
+use std::alloc::AllocError;
 
 /// The place of the first number that isn't below this one.
 fn place_of(numbers: &[u64], number: u64) -> usize
@@ -30,11 +30,33 @@ fn is_at(numbers: &[u64], at: usize, number: u64) -> bool
     }
 }
 
-/// Puts a number at a place. There is room for one more.
-fn insert_at(numbers: &mut Vec<u64>, at: usize, number: u64)
+/// Reserves places for as many numbers as are wanted in all.
+pub fn reserve_places(numbers: &mut Vec<u64>, wanted: usize) -> Result<(), AllocError>
+    ensures items { numbers.new.items ≡ numbers.old.items }
+    ensures places { OnOk result (wanted ≤ vec_capacity numbers.new) }
+    ensures capacity { vec_capacity numbers.old ≤ vec_capacity numbers.new }
+{
+    let more = wanted.saturating_sub(numbers.len());
+    numbers.reserve(more)?;
+    Ok(())
+}
+
+/// Puts a number last, where there is a place for it.
+pub fn append(numbers: &mut Vec<u64>, number: u64)
+    ensures items { vec_len numbers.old < vec_capacity numbers.old → numbers.new.items ≡ numbers.old.items ++ number ∷ [] }
+    ensures capacity { vec_capacity numbers.new ≡ vec_capacity numbers.old }
+{
+    if numbers.len() < numbers.capacity() {
+        numbers.push_reserved(number);
+    }
+}
+
+/// Puts a number where there is room for one more.
+fn insert_reserved(numbers: &mut Vec<u64>, at: usize, number: u64)
     requires bound { at ≤ length numbers.old.items }
     requires room { vec_len numbers.old < vec_capacity numbers.old }
-    ensures { numbers.new.items ≡ insert numbers.old.items at number }
+    ensures items { numbers.new.items ≡ insert numbers.old.items at number }
+    ensures capacity { vec_capacity numbers.new ≡ vec_capacity numbers.old }
 {
     match numbers.insert(at, number) {
         Ok(()) => {}
@@ -42,10 +64,21 @@ fn insert_at(numbers: &mut Vec<u64>, at: usize, number: u64)
     }
 }
 
-/// Puts a number among rising ones, where it isn't there. There is room for one more.
+/// Puts a number where it belongs, where there is a place for it.
+fn insert_at(numbers: &mut Vec<u64>, at: usize, number: u64)
+    requires { at ≤ length numbers.old.items }
+    ensures items { vec_len numbers.old < vec_capacity numbers.old → numbers.new.items ≡ insert numbers.old.items at number }
+    ensures capacity { vec_capacity numbers.new ≡ vec_capacity numbers.old }
+{
+    if numbers.len() < numbers.capacity() {
+        insert_reserved(numbers, at, number);
+    }
+}
+
+/// Puts a number among rising ones, where it isn't there and there is a place for it.
 fn enter(numbers: &mut Vec<u64>, number: u64)
-    requires { vec_len numbers.old < vec_capacity numbers.old }
-    ensures { numbers.new.items ≡ with_number number numbers.old.items }
+    ensures items { length (with_number number numbers.old.items) ≤ vec_capacity numbers.old → numbers.new.items ≡ with_number number numbers.old.items }
+    ensures capacity { vec_capacity numbers.new ≡ vec_capacity numbers.old }
 {
     let at = place_of(numbers.as_slice(), number);
     if !is_at(numbers.as_slice(), at, number) {
@@ -55,15 +88,16 @@ fn enter(numbers: &mut Vec<u64>, number: u64)
 
 /// Takes a number out.
 fn leave(numbers: &mut Vec<u64>, number: u64)
-    ensures { numbers.new.items ≡ without_number number numbers.old.items }
+    ensures items { numbers.new.items ≡ without_number number numbers.old.items }
+    ensures capacity { vec_capacity numbers.new ≡ vec_capacity numbers.old }
 {
     numbers.retain(|other| !(*other == number));
 }
 
-/// Lets the active numbers follow a move of an occurrence to a state. There is room for one more where the state is active.
+/// Lets the active numbers follow a move of an occurrence to a state, where there is a place for each.
 pub fn move_active(numbers: &mut Vec<u64>, occ: u64, to: OpState)
-    requires { is_active to ≡ true → vec_len numbers.old < vec_capacity numbers.old }
-    ensures { numbers.new.items ≡ active_moved occ to numbers.old.items }
+    ensures items { length (active_moved occ to numbers.old.items) ≤ vec_capacity numbers.old → numbers.new.items ≡ active_moved occ to numbers.old.items }
+    ensures capacity { vec_capacity numbers.new ≡ vec_capacity numbers.old }
 {
     if works(to) {
         enter(numbers, occ);

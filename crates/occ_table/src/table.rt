@@ -3,7 +3,6 @@
 ghost use Rattle.occ_table.specs.declared.rows.Grant.{Grant};
 ghost use Rattle.std.specs.Prelude.{◌≡◌, ◌-◌, ◌<◌, ◌≤◌, ℕ, List, [], ◌++◌, ◌∷◌, Some, None, true, false, find, nat_lt, length, option_copied, slice_get, OnOk, vec_len, vec_capacity};
 ghost use Rattle.lcm_events.specs.declared.events.EventKind.TheVariants.{GrantTried};
-ghost use Rattle.lcm_model.specs.Moves.{is_active};
 ghost use Rattle.lcm_model.specs.Operations.{occurrence_of};
 ghost use Rattle.occ_table.specs.Going.{Rises, active_moved};
 ghost use Rattle.occ_table.specs.Ongoing.{instance_in, ongoing_in, ongoing_moved, with_ongoing};
@@ -11,18 +10,18 @@ ghost use Rattle.occ_table.specs.Steps.{first_row, row_after, rows_about, update
 ghost use Rattle.occ_table.specs.Rows.{StandsFor};
 ghost use Rattle.occ_table.specs.Table.{Activates, Applies, Counts, Engages, Follows, GoesOn, HasRoom, HasRoomFor, Looks, Occurrences, Reserved, needs_room};
 
-use crate::going::{first_above, move_active};
+use crate::going::{append, first_above, move_active, reserve_places};
 use crate::ongoing::{instance_of, move_ongoing, ongoing_at, set_ongoing};
 use crate::rows::{Grant, OccRow};
 use lcm_events::{Event, EventKind, GrantTry, Listed, OpState, Operation, Place};
-use lcm_model::works;
 use std::alloc::{AllocError, Global};
 use std::marker::Model;
 use vnfm_base::{Line, Moment, Name};
 
 /// The table of occurrences.
 ///
-/// A contract sees its rows, and beside them what is reserved for an event.
+/// A contract sees its rows, which occurrences are active, which operation of each instance goes on, and what is reserved for an event.
+/// Each row has a place among the active numbers, so that a move needs no memory.
 #[derive(Debug, Drop)]
 pub struct OccTable {
     rows: Vec<OccRow>,
@@ -34,12 +33,14 @@ pub struct OccTable {
 }
 
 impl Model for OccTable {
-    ghost use Rattle.std.specs.Prelude.{◌-◌, vec_len, vec_capacity};
+    ghost use Rattle.std.specs.Prelude.{◌-◌, ◌≤◌, vec_len, vec_capacity};
     ghost use Rattle.occ_table.specs.Table.{Occurrences};
 
     ghost Value = { Occurrences };
 
-    ghost view = { λ t. record { rows = t.rows.items; active = t.active.items; ongoing = t.ongoing.items; reserved = record { row = t.row; grant = t.grant; location = t.location; spare = vec_capacity t.rows - vec_len t.rows; places = vec_capacity t.active - vec_len t.active; instances = vec_capacity t.ongoing - vec_len t.ongoing } } };
+    ghost view = { λ t. record { rows = t.rows.items; active = t.active.items; ongoing = t.ongoing.items; reserved = record { row = t.row; grant = t.grant; location = t.location; spare = vec_capacity t.rows - vec_len t.rows; places = vec_capacity t.active - vec_len t.rows; instances = vec_capacity t.ongoing - vec_len t.ongoing } } };
+
+    ghost invariant = { λ t. vec_len t.rows ≤ vec_capacity t.active };
 }
 
 /// The number of the occurrence that an event is about.
@@ -74,7 +75,8 @@ fn follow_at(rows: &mut Vec<OccRow>, at: usize, moment: Moment, kind: &EventKind
 
 /// Gives the row at this place its grant. Nothing happens beyond the end.
 fn grant_at(rows: &mut Vec<OccRow>, at: usize, grant: Grant)
-    ensures { rows.new.items ≡ update (after_granted grant) at rows.old.items }
+    ensures items { rows.new.items ≡ update (after_granted grant) at rows.old.items }
+    ensures length { vec_len rows.new ≡ vec_len rows.old }
 {
     match rows.get_mut(at) {
         Some(row) => row.take_grant(grant),
@@ -84,7 +86,8 @@ fn grant_at(rows: &mut Vec<OccRow>, at: usize, grant: Grant)
 
 /// Tells the row at this place where its grant will be. Nothing happens beyond the end.
 fn tell_at(rows: &mut Vec<OccRow>, at: usize, location: Line)
-    ensures { rows.new.items ≡ update (after_told location) at rows.old.items }
+    ensures items { rows.new.items ≡ update (after_told location) at rows.old.items }
+    ensures length { vec_len rows.new ≡ vec_len rows.old }
 {
     match rows.get_mut(at) {
         Some(row) => row.take_location(location),
@@ -137,7 +140,8 @@ impl OccTable {
         ensures places { OnOk result (0 < self.new.reserved.places) }
     {
         self.rows.reserve(1)?;
-        self.active.reserve(1)?;
+        let rows = self.rows.len() + 1;
+        reserve_places(&mut self.active, rows)?;
         let row = OccRow::first(alloc, moment, operation)?;
         self.row = Some(row);
         Ok(())
@@ -158,19 +162,6 @@ impl OccTable {
     {
         let grant = Grant::copied(alloc, name, places, spots)?;
         self.grant = Some(grant);
-        Ok(())
-    }
-
-    /// Reserves a place among the active numbers, where a state is active.
-    fn reserve_place(&mut self, to: OpState) -> Result<(), AllocError>
-        ensures kept { self.new.rows ≡ self.old.rows }
-        ensures active { self.new.active ≡ self.old.active }
-        ensures ongoing { self.new.ongoing ≡ self.old.ongoing }
-        ensures places { OnOk result (is_active to ≡ true → 0 < self.new.reserved.places) }
-    {
-        if works(to) {
-            self.active.reserve(1)?;
-        }
         Ok(())
     }
 
@@ -220,7 +211,6 @@ impl OccTable {
                 answer: GrantTry::Later(location),
                 ..
             } => self.reserve_location(location),
-            EventKind::Moved { to, .. } => self.reserve_place(*to),
             _ => Ok(()),
         }
     }
@@ -266,23 +256,23 @@ impl OccTable {
         requires spare { 0 < self.old.reserved.spare }
         requires places { 0 < self.old.reserved.places }
         ensures rows { (r : OccRow) → self.old.reserved.row ≡ Some r → self.new.rows ≡ self.old.rows ++ r ∷ [] }
-        ensures active { self.new.active ≡ self.old.active ++ occ ∷ [] }
+        ensures active { length self.old.active ≤ length self.old.rows → self.new.active ≡ self.old.active ++ occ ∷ [] }
         ensures ongoing { self.new.ongoing ≡ with_ongoing instance (Some occ) self.old.ongoing }
     {
         if let Some(row) = self.row.take() {
             self.rows.push_reserved(row);
         }
-        self.active.push_reserved(occ);
+        append(&mut self.active, occ);
         set_ongoing(&mut self.ongoing, instance, Some(occ));
     }
 
     /// Lets the row of an occurrence follow its move, and the active numbers and the ongoing operations too.
     fn follow_move(&mut self, moment: Moment, occ: u64, to: OpState, kind: &EventKind)
-        requires places { is_active to ≡ true → 0 < self.old.reserved.places }
-        requires brings { is_bringing kind.now ≡ false }
+        requires { is_bringing kind.now ≡ false }
         ensures numbered { 1 ≤ occ → self.new.rows ≡ update (row_after moment kind.now) (occ - 1) self.old.rows }
-        ensures active { self.new.active ≡ active_moved occ to self.old.active }
+        ensures active { length (active_moved occ to self.old.active) ≤ length self.old.rows → self.new.active ≡ active_moved occ to self.old.active }
         ensures ongoing { self.new.ongoing ≡ ongoing_moved (instance_in occ self.old.rows) to self.old.ongoing }
+        ensures reserved { self.new.reserved ≡ self.old.reserved }
     {
         let instance = instance_of(self.rows.as_slice(), occ);
         if occ > 0 {

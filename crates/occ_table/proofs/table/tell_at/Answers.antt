@@ -5,13 +5,13 @@ use Rattle.occ_table.proofs.Updates.{not_within, update-past, update-set}
 use Rattle.occ_table.specs.Steps.{after_told}
 use Rattle.occ_table.proofs.table.tell_at.Goals as goal
 
-pub returns-in-Some : goal.returns-in-Some
-returns-in-Some c =
+pub returns-in-Some-clause-items : goal.returns-in-Some-clause-items
+returns-in-Some-clause-items c =
     let rows = c.args.rows.now.items in
     let row : OccRow = c.in-Some.row.now in
     ap (λ (r : OccRow). set rows c.args.at r) c.take_location.ensures
     ∙ update-set (after_told c.args.location) c.args.at rows row (c.in-Some.ensures.item.3.0) (c.in-Some.ensures.item.1)
 
-pub returns-in-None : goal.returns-in-None
-returns-in-None c =
+pub returns-in-None-clause-items : goal.returns-in-None-clause-items
+returns-in-None-clause-items c =
     sym (update-past (after_told c.args.location) c.args.at c.args.rows.now.items (not_within c.args.at _ (λ h. c.in-None.ensures.variant.1 (omega (arith, h, c.args.rows.now.ok.0)))))

@@ -8,7 +8,7 @@ use Rattle.occ_table.specs.Steps.{is_bringing, first_row, rows_after}
 use Rattle.occ_table.specs.Table.{HasRoomFor, Reserved, needs_room}
 use Rattle.occ_table.specs.Going.{active_after}
 use Rattle.occ_table.specs.Ongoing.{ongoings_after}
-use Rattle.occ_table.proofs.GoingLaws.{activated, unmoved}
+use Rattle.occ_table.proofs.GoingLaws.{activated, active_fit, moved_fit, unmoved}
 use Rattle.occ_table.proofs.OngoingSteps.{engaged, unengaged}
 use Rattle.occ_table.proofs.RowsSteps.{moved, applied, followed, low, not_bringing, tried}
 use Rattle.occ_table.proofs.table.OccTable.apply.Goals as goal
@@ -16,7 +16,7 @@ use Rattle.occ_table.proofs.table.OccTable.apply.Goals as goal
 pub returns-in-Asked-clause-activates : goal.returns-in-Asked-clause-activates
 returns-in-Asked-clause-activates c = λ width m H legal allowed stands was.
     activated width m H c.args.e.now c.args.self.now.active c.put_row.new.self.active legal allowed was
-    (c.put_row.ensures.active ∙ ap (λ (k : EventKind). active_after k c.args.self.now.active) (sym c.in-Asked.is))
+    (c.put_row.ensures.active (active_fit c.args.self.now.rows c.args.self.now.active H stands was) ∙ ap (λ (k : EventKind). active_after k c.args.self.now.active) (sym c.in-Asked.is))
 
 pub returns-in-Asked-clause-engages : goal.returns-in-Asked-clause-engages
 returns-in-Asked-clause-engages c = λ width m H legal allowed stands was.
@@ -99,18 +99,15 @@ returns-in-Moved c = record {
       ∙ applied width m H c.args.e.now old wide legal allowed stands);
   activates = λ width m H legal allowed stands was.
       activated width m H c.args.e.now c.args.self.now.active c.follow_move.new.self.active legal allowed was
-      (c.follow_move.ensures.active ∙ ap (λ (k : EventKind). active_after k c.args.self.now.active) (sym c.in-Moved.is));
+      (c.follow_move.ensures.active (moved_fit width m H c.args.e.now c.in-Moved.occ c.in-Moved.to c.args.self.now.rows c.args.self.now.active c.in-Moved.is legal allowed stands was) ∙ ap (λ (k : EventKind). active_after k c.args.self.now.active) (sym c.in-Moved.is));
   engages = λ width m H legal allowed stands was.
       engaged width m H c.args.e.now c.args.self.now.rows c.args.self.now.ongoing c.follow_move.new.self.ongoing legal allowed stands was
       (c.follow_move.ensures.ongoing ∙ ap (λ (k : EventKind). ongoings_after c.args.self.now.rows k c.args.self.now.ongoing) (sym c.in-Moved.is));
-  stays = λ none. let yes : true ≡ false = sym (ap needs_room c.in-Moved.is) ∙ none in cc;
+  stays = λ none. c.follow_move.ensures.reserved;
 }
 
-pub follow_move-requires-clause-places : goal.follow_move-requires-clause-places
-follow_move-requires-clause-places c = subst (λ (k : EventKind). HasRoomFor c.args.e.now.moment k c.args.self.now.reserved) c.in-Moved.is c.requires.room
-
-pub follow_move-requires-clause-brings : goal.follow_move-requires-clause-brings
-follow_move-requires-clause-brings c = ap is_bringing c.in-Moved.is
+pub follow_move-requires : goal.follow_move-requires
+follow_move-requires c = ap is_bringing c.in-Moved.is
 
 pub follow_about-requires : goal.follow_about-requires
 follow_about-requires c = not_bringing c.args.e.now.kind c.in_default.not-Granted c.in_default.not-GrantTried
