@@ -2,6 +2,7 @@ pub mod Updates
 pub mod PendingSteps
 pub mod ChangeSteps
 pub mod RowSteps
+pub mod HomeLaws
 pub mod RowsSteps
 pub mod JudgeLaws
 pub mod MoveLaws

@@ -10,16 +10,16 @@ use Rattle.lcm_events.specs.declared.events.EventKind.TheVariants.{Asked, Create
 use Rattle.lcm_events.specs.declared.events.Operation.{Operation}
 use Rattle.lcm_events.specs.declared.states.OpState.{OpState}
 use Rattle.lcm_model.specs.Allowed.{IsAllowedWithin, IsLegalWithin}
-use Rattle.lcm_model.specs.Lives.{creation, creations, instances_made, is_deleted, is_live}
+use Rattle.lcm_model.specs.Lives.{instances_made}
 use Rattle.lcm_model.specs.Moves.{is_final, state}
 use Rattle.lcm_model.specs.Operations.{goes_on, is_ongoing, ongoing, operation, operations}
 use Rattle.lcm_model.specs.Words.{IsIn, first}
 use Rattle.lcm_model.specs.Work.{MayMove}
 use Rattle.lcm_laws.proofs.AboutLaws.{unasked_untouched}
-use Rattle.lcm_laws.proofs.Histories.{event, legal_induction}
+use Rattle.lcm_laws.proofs.Histories.{event}
 use Rattle.lcm_laws.proofs.Lists.{and_left, and_right, and_true, by_test, not-false}
 use Rattle.lcm_laws.proofs.Members.{in_filter}
-use Rattle.lcm_laws.proofs.NumberLaws.{IsCounted, find-skips, found_exactly, found_within, instances_counted, operations_counted}
+use Rattle.lcm_laws.proofs.NumberLaws.{IsCounted, find-skips, found_exactly, operations_counted}
 use Rattle.lcm_laws.proofs.OngoingLaws.{edge-goes_on, goes_on-before, one_ongoing, state-moved}
 use Rattle.lcm_laws.proofs.PathLaws.{may_move-edge}
 use Rattle.lcm_laws.proofs.PlanHistory.{found_in}
@@ -27,6 +27,7 @@ use Rattle.occ_table.specs.Ongoing.{instance_in, ongoing_in, ongoing_moved, ongo
 use Rattle.occ_table.specs.Rows.{StandsFor, row, rows}
 use Rattle.occ_table.specs.declared.rows.OccRow.{OccRow}
 use Rattle.occ_table.proofs.ChangeSteps.{differs, maps_same}
+use Rattle.occ_table.proofs.HomeLaws.{homed, live_number, not_zero}
 use Rattle.occ_table.proofs.RowsSteps.{looked, none_there}
 
 -- nothing passes a test that all fail
@@ -77,26 +78,6 @@ has_number (y ∷ xs) o x e = by_test (y.occ == o)
     let one : y ≡ x = cc in
     sym (ap (λ (a : Operation). a.occ) one) ∙ eqb-true y.occ o same)
     (λ other. has_number xs o x (subst (λ (b : Bool). cond b (Some y) (find (λ (a : Operation). a.occ == o) xs) ≡ Some x) other e))
-
--- the number of a live instance
-live_number : (width m : ℕ) (H : List Event) (i : ℕ) → IsLegalWithin width m H → is_live H i ≡ true → (1 ≤ i) × (i ≤ instances_made H)
-live_number width m H i legal live =
-    found_within (λ x. x.instance) (creations H) i (instances_counted width m H legal) (and_left (is_some (creation H i)) (not (is_deleted H i)) live)
-
-abbrev AllHomed : List Event → Type 0
-AllHomed H = (a : Operation) → IsIn a (operations H) → (1 ≤ a.instance) × (a.instance ≤ instances_made H)
-
-homed_step : (width m : ℕ) (H : List Event) (time : ℕ) (k : EventKind) → IsLegalWithin width m H → IsAllowedWithin width m H k → AllHomed H
-    → AllHomed (event time k ∷ H)
-homed_step width m H time (Asked b) legal allowed h a (inl is) =
-    subst (λ (i : ℕ). (1 ≤ i) × (i ≤ instances_made H)) (ap (λ (x : Operation). x.instance) is) (live_number width m H b.instance legal allowed.live)
-homed_step width m H time (Asked b) legal allowed h a (inr g) = h a g
-homed_step width m H time (Created i vnfd name text) legal allowed h a g = let from = h a g in (from.0, omega (arith, from.1))
-homed_step width m H time _ legal allowed h a g = h a g
-
--- an operation's instance is from 1 to how many were created
-homed : (width m : ℕ) (H : List Event) → IsLegalWithin width m H → AllHomed H
-homed width m H legal = legal_induction width m AllHomed (λ a h. absurd h) (λ H time k legal allowed h. homed_step width m H time k legal allowed h) H legal
 
 -- no operation goes on of an instance that wasn't created
 nowhere : (width m : ℕ) (H : List Event) → IsLegalWithin width m H → (i : ℕ) → (1 ≤ i → i ≤ instances_made H → ⊥) → ongoing H i ≡ []
@@ -201,9 +182,6 @@ moved_own width m H time o to a legal may mine is ends =
     let clash : true ≡ false = sym goes ∙ (moved_there H time o to x same ∙ ap not ends) in
     cc)
     (λ no. no)))
-
-not_zero : (i : ℕ) → 1 ≤ i → (i == 0) ≡ false
-not_zero i low = by_test (i == 0) (λ same. let is : i ≡ 0 = eqb-true i 0 same in absurd (omega (arith, low, is))) (λ other. other)
 
 -- the place of a number from 1
 at_place : (i : ℕ) (x : Option ℕ) (xs : List (Option ℕ)) → 1 ≤ i → with_ongoing i x xs ≡ slice_set xs (i - 1) x

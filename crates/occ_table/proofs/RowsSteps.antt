@@ -2,13 +2,13 @@
 use Rattle.lcm_events.specs.declared.places.Place.{Place}
 use Rattle.occ_table.proofs.ChangeSteps.{attempts-none, nets-none}
 use Rattle.lcm_model.specs.Attempts.{is_unsettled}
-use Rattle.std.proofs.Common.{◌≡◌, ◌≢◌, ◌≤◌, ◌<◌, ◌+◌, ◌-◌, ◌++◌, ◌==◌, ◌∙◌, ℕ, List, [], ◌∷◌, zero, suc, Bool, true, false, cond, Option, None, Some, is_some, refl, ap, sym, subst, length, map, reverse, find, arith, eqb-true, false-eqb, slice_get, option_map, replicate, inl, inr}
+use Rattle.std.proofs.Common.{◌≡◌, ◌≢◌, ◌≤◌, ◌<◌, ◌+◌, ◌-◌, ◌++◌, ◌==◌, ◌∙◌, ℕ, List, [], ◌∷◌, zero, suc, Bool, true, false, cond, Option, None, Some, is_some, refl, ap, sym, subst, length, map, reverse, arith, eqb-true, false-eqb, slice_get, replicate, inl, inr}
 use Rattle.std.specs.Option.{option_map_or}
 use Rattle.std.proofs.lemmas.List.{length-map, length-reverse}
 use mathlib.Core.List.{reverse-cons}
 use Rattle.lcm_events.specs.declared.events.Event.{Event}
 use Rattle.lcm_events.specs.declared.events.EventKind.{EventKind}
-use Rattle.lcm_events.specs.declared.events.EventKind.TheVariants.{Asked, CallFailed, CancelAsked, Denied, GrantTried, Granted, Intent, Moved, Settled}
+use Rattle.lcm_events.specs.declared.events.EventKind.TheVariants.{Asked, CallFailed, CancelAsked, Created, Denied, GrantTried, Granted, Intent, Moved, Settled}
 use Rattle.lcm_events.specs.declared.events.Operation.{Operation}
 use Rattle.lcm_events.specs.declared.states.OpState.{OpState}
 use Rattle.lcm_model.specs.Allowed.{IsAllowedWithin, IsLegalWithin}
@@ -21,14 +21,17 @@ use Rattle.lcm_events.proofs.SameLaws.{eq-refl}
 use Rattle.lcm_events.specs.declared.events.GrantTry.{GrantTry}
 use Rattle.lcm_events.specs.declared.events.GrantTry.TheVariants.{Later, NotCovering, Trouble}
 use Rattle.occ_table.specs.Rows.{StandsFor, cause, cause_in, nets, occurrence, row, rows}
-use Rattle.occ_table.specs.Steps.{first_row, row_after, rows_about, rows_after, update, after_told, is_bringing, is_later}
+use Rattle.lcm_model.specs.Lives.{instances_made}
+use Rattle.occ_table.specs.Descriptors.{vnfd, vnfds}
+use Rattle.occ_table.proofs.HomeLaws.{described_at, homed, live_number, placed}
+use Rattle.occ_table.specs.Steps.{described, first_row, row_after, rows_about, rows_after, update, after_told, is_bringing, is_later}
 use Rattle.occ_table.specs.Table.{needs_room}
 use Rattle.occ_table.specs.declared.rows.OccRow.{OccRow}
 use Rattle.lcm_model.specs.Words.{IsIn}
 use Rattle.occ_table.specs.Phases.{tallies}
 use Rattle.occ_table.proofs.PhaseLaws.{made-fresh, waiting-fresh}
 use Rattle.occ_table.proofs.RowSteps.{row-step}
-use Rattle.occ_table.proofs.Updates.{update-front, update-last, update-past, get-front, get-last}
+use Rattle.occ_table.proofs.Updates.{update-front, update-last, update-past}
 
 -- the rows of counted operations, where one of them changes
 changed : (f g : Operation → OccRow) (h : OccRow → OccRow) (xs : List Operation) (n : ℕ) → IsCounted (λ a. a.occ) xs → 1 ≤ n
@@ -111,7 +114,7 @@ asked_row H time a = let own : (a.occ == a.occ) ≡ true = eq-refl a.occ in rw o
 
 -- the row of an operation when it is asked for
 first : (width m : ℕ) (H : List Event) (time : ℕ) (a : Operation) → IsLegalWithin width m H → IsAllowedWithin width m H (Asked a)
-    → row (event time (Asked a) ∷ H) a ≡ first_row time a
+    → row (event time (Asked a) ∷ H) a ≡ described (vnfd H a.instance) (first_row time a)
 first width m H time a legal allowed =
     let none : operation H a.occ ≡ None = none_there (operation H a.occ) (λ there.
     let high = ((found_exactly width m H legal a.occ).0 there).1 in omega (arith, high, allowed.number)) in
@@ -139,16 +142,36 @@ older H time a (x ∷ xs) counted less =
     ap (λ (r : OccRow). r ∷ map (row (event time (Asked a) ∷ H)) xs) (older_row H time a x other)
     ∙ ap (λ (rs : List OccRow). row H x ∷ rs) (older H time a xs counted.1 (omega (arith, less)))
 
+same_rows : (f g : Operation → OccRow) (xs : List Operation) → ((a : Operation) → IsIn a xs → f a ≡ g a) → map f xs ≡ map g xs
+same_rows f g [] e = refl
+same_rows f g (x ∷ xs) e =
+    ap (λ (r : OccRow). r ∷ map f xs) (e x (inl refl)) ∙ ap (λ (rs : List OccRow). g x ∷ rs) (same_rows f g xs (λ a among. e a (inr among)))
+
+-- an instance that is created is another than those of the operations
+newer : (width m : ℕ) (H : List Event) (i : ℕ) (a : Operation) → IsLegalWithin width m H → i ≡ instances_made H + 1 → IsIn a (operations H) → (i == a.instance) ≡ false
+newer width m H i a legal number among =
+    let from = homed width m H legal a among in
+    by_test (i == a.instance) (λ same. let is : i ≡ a.instance = eqb-true i a.instance same in absurd (omega (arith, from.1, is, number))) (λ other. other)
+
+created_row : (H : List Event) (time i : ℕ) (v : List ℕ) (name text : Option (List ℕ)) (a : Operation) → (i == a.instance) ≡ false
+    → row (event time (Created i v name text) ∷ H) a ≡ row H a
+unfolding is_unsettled
+created_row H time i v name text a other = rw other refl
+
 -- what an event makes of the rows
 pub rows-step : (width m : ℕ) (H : List Event) (time : ℕ) (k : EventKind) → width ≤ 4 → IsLegalWithin width m H → IsAllowedWithin width m H k
-    → rows (event time k ∷ H) ≡ rows_after time k (rows H)
+    → rows (event time k ∷ H) ≡ rows_after (vnfds H) time k (rows H)
 unfolding is_unsettled
 rows-step width m H time (Asked a) wide legal allowed =
     let new : Operation → OccRow = row (event time (Asked a) ∷ H) in
     let long : length (operations H) < a.occ = omega (arith, allowed.number) in
     reverse-cons (new a) (map new (operations H))
     ∙ (ap (λ (rs : List OccRow). reverse rs ++ new a ∷ []) (older H time a (operations H) (operations_counted width m H legal) long)
-    ∙ ap (λ (r : OccRow). rows H ++ r ∷ []) (first width m H time a legal allowed))
+    ∙ (ap (λ (r : OccRow). rows H ++ r ∷ []) (first width m H time a legal allowed)
+    ∙ ap (λ (v : List ℕ). rows H ++ described v (first_row time a) ∷ []) (sym (described_at width m H a.instance legal (live_number width m H a.instance legal allowed.live).0))))
+rows-step width m H time (Created i v name text) wide legal allowed =
+    ap (λ (rs : List OccRow). reverse rs) (same_rows (row (event time (Created i v name text) ∷ H)) (row H) (operations H)
+    (λ a among. created_row H time i v name text a (newer width m H i a legal allowed.number among)))
 rows-step width m H time (GrantTried n answer) wide legal allowed = about-step width m H time (GrantTried n answer) n refl wide legal allowed
 rows-step width m H time (Granted n grant places spots) wide legal allowed = about-step width m H time (Granted n grant places spots) n refl wide legal allowed
 rows-step width m H time (Denied n) wide legal allowed = about-step width m H time (Denied n) n refl wide legal allowed
@@ -160,36 +183,21 @@ rows-step width m H time (CancelAsked n mode) wide legal allowed = about-step wi
 rows-step width m H time _ wide legal allowed = refl
 
 -- rows that stood for a history stand for it with one event more
-pub applied : (width m : ℕ) (H : List Event) (e : Event) (old : List OccRow) → width ≤ 4 → IsLegalWithin width m H → IsAllowedWithin width m H e.kind → StandsFor old H
-    → StandsFor (rows_after e.moment e.kind old) (e ∷ H)
-applied width m H e old wide legal allowed stands =
-    ap (λ (rs : List OccRow). rows_after e.moment e.kind rs) stands ∙ sym (rows-step width m H e.moment e.kind wide legal allowed)
+pub applied : (width m : ℕ) (H : List Event) (e : Event) (old : List OccRow) (vs : List (List ℕ)) → width ≤ 4 → IsLegalWithin width m H → IsAllowedWithin width m H e.kind
+    → StandsFor old H → vs ≡ vnfds H → StandsFor (rows_after vs e.moment e.kind old) (e ∷ H)
+applied width m H e old vs wide legal allowed stands are =
+    ap (λ (rs : List OccRow). rows_after vs e.moment e.kind rs) stands
+    ∙ (ap (λ (us : List (List ℕ)). rows_after us e.moment e.kind (rows H)) are ∙ sym (rows-step width m H e.moment e.kind wide legal allowed))
 
 -- an event is about a number from 1
 pub low : (width m : ℕ) (H : List Event) (k : EventKind) (n : ℕ) → occurrence_of k ≡ Some n → IsLegalWithin width m H → IsAllowedWithin width m H k → 1 ≤ n
 low width m H k n e legal allowed = ((found_exactly width m H legal n).0 (about_asked width m H k legal allowed n e)).0
 
-at : (f : Operation → OccRow) (xs : List Operation) (n : ℕ) → IsCounted (λ a. a.occ) xs → 1 ≤ n
-    → slice_get (reverse (map f xs)) (n - 1) ≡ option_map f (find (λ a. a.occ == n) xs)
-at f [] n counted low = refl
-at f (x ∷ xs) n counted low =
-    let ys : List OccRow = reverse (map f xs) in
-    let long : length (reverse (map f xs)) ≡ length xs = length-reverse (map f xs) ∙ length-map xs f in
-    let number : x.occ ≡ length xs + 1 = counted.0 in
-    ap (λ (zs : List OccRow). slice_get zs (n - 1)) (reverse-cons (f x) (map f xs))
-    ∙ by_test (x.occ == n)
-    (λ same.
-    let is : x.occ ≡ n = eqb-true x.occ n same in
-    rw same (get-last (n - 1) ys (f x) (omega (arith, is, number, long))))
-    (λ other.
-    let not : x.occ ≢ n = false-eqb x.occ n (sym other) in
-    rw other (get-front (n - 1) ys (f x) (λ at. not (omega (arith, at, number, long, low))) ∙ at f xs n counted.1 low))
-
 -- the row of an occurrence is found at its place
 pub looked : (width m : ℕ) (H : List Event) (rs : List OccRow) (n : ℕ) → IsLegalWithin width m H → StandsFor rs H → 1 ≤ n
     → slice_get rs (n - 1) ≡ occurrence H n
 looked width m H rs n legal stands low =
-    ap (λ (rs : List OccRow). slice_get rs (n - 1)) stands ∙ at (row H) (operations H) n (operations_counted width m H legal) low
+    ap (λ (rs : List OccRow). slice_get rs (n - 1)) stands ∙ placed (λ (a : Operation). a.occ) (row H) (operations H) n (operations_counted width m H legal) low
 
 -- no occurrence has number 0
 pub none-zero : (width m : ℕ) (H : List Event) → IsLegalWithin width m H → operation H 0 ≡ None
@@ -197,19 +205,19 @@ none-zero width m H legal =
     none_there (operation H 0) (λ there. let low = ((found_exactly width m H legal 0).0 there).0 in omega (arith, low))
 
 -- rows that followed an event that asks for no operation
-pub followed : (width m : ℕ) (H : List Event) (time : ℕ) (k : EventKind) (old new : List OccRow) → ((a : Operation) → k ≡ Asked a → ⊥)
+pub followed : (width m : ℕ) (H : List Event) (time : ℕ) (vs : List (List ℕ)) (k : EventKind) (old new : List OccRow) → ((a : Operation) → k ≡ Asked a → ⊥)
     → ((n : ℕ) → occurrence_of k ≡ Some n → 1 ≤ n → new ≡ rows_about (occurrence_of k) time k old) → (occurrence_of k ≡ None → new ≡ old)
-    → IsLegalWithin width m H → IsAllowedWithin width m H k → new ≡ rows_after time k old
-followed width m H time (Asked a) old new not g h legal allowed = absurd (not a refl)
-followed width m H time (GrantTried n answer) old new not g h legal allowed = g n refl (low width m H (GrantTried n answer) n refl legal allowed)
-followed width m H time (Granted n grant places spots) old new not g h legal allowed = g n refl (low width m H (Granted n grant places spots) n refl legal allowed)
-followed width m H time (Denied n) old new not g h legal allowed = g n refl (low width m H (Denied n) n refl legal allowed)
-followed width m H time (Intent t) old new not g h legal allowed = g t.occ refl (low width m H (Intent t) t.occ refl legal allowed)
-followed width m H time (CallFailed t) old new not g h legal allowed = g t.occ refl (low width m H (CallFailed t) t.occ refl legal allowed)
-followed width m H time (Settled t outcome) old new not g h legal allowed = g t.occ refl (low width m H (Settled t outcome) t.occ refl legal allowed)
-followed width m H time (Moved n to) old new not g h legal allowed = g n refl (low width m H (Moved n to) n refl legal allowed)
-followed width m H time (CancelAsked n mode) old new not g h legal allowed = g n refl (low width m H (CancelAsked n mode) n refl legal allowed)
-followed width m H time _ old new not g h legal allowed = h refl
+    → IsLegalWithin width m H → IsAllowedWithin width m H k → new ≡ rows_after vs time k old
+followed width m H time vs (Asked a) old new not g h legal allowed = absurd (not a refl)
+followed width m H time vs (GrantTried n answer) old new not g h legal allowed = g n refl (low width m H (GrantTried n answer) n refl legal allowed)
+followed width m H time vs (Granted n grant places spots) old new not g h legal allowed = g n refl (low width m H (Granted n grant places spots) n refl legal allowed)
+followed width m H time vs (Denied n) old new not g h legal allowed = g n refl (low width m H (Denied n) n refl legal allowed)
+followed width m H time vs (Intent t) old new not g h legal allowed = g t.occ refl (low width m H (Intent t) t.occ refl legal allowed)
+followed width m H time vs (CallFailed t) old new not g h legal allowed = g t.occ refl (low width m H (CallFailed t) t.occ refl legal allowed)
+followed width m H time vs (Settled t outcome) old new not g h legal allowed = g t.occ refl (low width m H (Settled t outcome) t.occ refl legal allowed)
+followed width m H time vs (Moved n to) old new not g h legal allowed = g n refl (low width m H (Moved n to) n refl legal allowed)
+followed width m H time vs (CancelAsked n mode) old new not g h legal allowed = g n refl (low width m H (CancelAsked n mode) n refl legal allowed)
+followed width m H time vs _ old new not g h legal allowed = h refl
 
 -- a number that isn't 0
 pub one_up : (n : ℕ) → (n ≡ 0 → ⊥) → 1 ≤ n
@@ -232,17 +240,17 @@ told_rows time n Trouble location old new later room put = cc
 told_rows time n NotCovering location old new later room put = cc
 
 -- what a try makes of the rows
-pub tried : (time : ℕ) (k : EventKind) (n : ℕ) (answer : GrantTry) (old : List OccRow) → k ≡ GrantTried n answer
-    → update (row_after time k) (n - 1) old ≡ rows_after time k old
-tried time (GrantTried o answer) n given old is = let same : o ≡ n = cc in rw same refl
-tried time (Granted o name places spots) n given old is = cc
-tried time (Denied o) n given old is = cc
-tried time (Intent t) n given old is = cc
-tried time (CallFailed t) n given old is = cc
-tried time (Settled t outcome) n given old is = cc
-tried time (Moved o to) n given old is = cc
-tried time (CancelAsked o mode) n given old is = cc
-tried time _ n given old is = cc
+pub tried : (vs : List (List ℕ)) (time : ℕ) (k : EventKind) (n : ℕ) (answer : GrantTry) (old : List OccRow) → k ≡ GrantTried n answer
+    → update (row_after time k) (n - 1) old ≡ rows_after vs time k old
+tried vs time (GrantTried o answer) n given old is = let same : o ≡ n = cc in rw same refl
+tried vs time (Granted o name places spots) n given old is = cc
+tried vs time (Denied o) n given old is = cc
+tried vs time (Intent t) n given old is = cc
+tried vs time (CallFailed t) n given old is = cc
+tried vs time (Settled t outcome) n given old is = cc
+tried vs time (Moved o to) n given old is = cc
+tried vs time (CancelAsked o mode) n given old is = cc
+tried vs time _ n given old is = cc
 
 -- a try with a location needs room for it
 pub needs_location : (n : ℕ) (answer : GrantTry) → is_later answer ≡ true → needs_room (GrantTried n answer) ≡ true
@@ -251,13 +259,13 @@ needs_location n Trouble later = cc
 needs_location n NotCovering later = cc
 
 -- what a move makes of the rows
-pub moved : (time : ℕ) (k : EventKind) (n : ℕ) (to : OpState) (old : List OccRow) → k ≡ Moved n to → update (row_after time k) (n - 1) old ≡ rows_after time k old
-moved time (Moved o s) n to old is = let same : o ≡ n = cc in rw same refl
-moved time (GrantTried o answer) n to old is = cc
-moved time (Granted o name places spots) n to old is = cc
-moved time (Denied o) n to old is = cc
-moved time (Intent t) n to old is = cc
-moved time (CallFailed t) n to old is = cc
-moved time (Settled t outcome) n to old is = cc
-moved time (CancelAsked o mode) n to old is = cc
-moved time _ n to old is = cc
+pub moved : (vs : List (List ℕ)) (time : ℕ) (k : EventKind) (n : ℕ) (to : OpState) (old : List OccRow) → k ≡ Moved n to → update (row_after time k) (n - 1) old ≡ rows_after vs time k old
+moved vs time (Moved o s) n to old is = let same : o ≡ n = cc in rw same refl
+moved vs time (GrantTried o answer) n to old is = cc
+moved vs time (Granted o name places spots) n to old is = cc
+moved vs time (Denied o) n to old is = cc
+moved vs time (Intent t) n to old is = cc
+moved vs time (CallFailed t) n to old is = cc
+moved vs time (Settled t outcome) n to old is = cc
+moved vs time (CancelAsked o mode) n to old is = cc
+moved vs time _ n to old is = cc

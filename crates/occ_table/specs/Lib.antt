@@ -1,3 +1,4 @@
+pub mod Descriptors
 pub mod Going
 pub mod Ongoing
 pub mod Phases

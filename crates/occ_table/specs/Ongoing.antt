@@ -1,6 +1,6 @@
 -- Which operation of each instance goes on (SOL 003 5.4.4 to 5.4.10).
 use Rattle.std.specs.List.{range_with_len}
-use Rattle.std.specs.Prelude.{List, None, Option, Some, [], if◌then◌else◌, map, option_and_then, option_map, slice_get, slice_set, ℕ, ◌++◌, ◌-◌, ◌==◌, ◌∷◌}
+use Rattle.std.specs.Prelude.{List, None, Option, Some, [], if◌then◌else◌, map, option_and_then, option_map, slice_set, ℕ, ◌++◌, ◌-◌, ◌==◌, ◌∷◌}
 use Rattle.lcm_events.specs.declared.events.Event.{Event}
 use Rattle.lcm_events.specs.declared.events.EventKind.{EventKind}
 use Rattle.lcm_events.specs.declared.events.EventKind.TheVariants.{Asked, Created, Moved}
@@ -9,6 +9,7 @@ use Rattle.lcm_model.specs.Lives.{instances_made}
 use Rattle.lcm_model.specs.Moves.{is_final}
 use Rattle.lcm_model.specs.Operations.{ongoing}
 use Rattle.lcm_model.specs.Words.{first}
+use Rattle.occ_table.specs.Descriptors.{numbered}
 use Rattle.occ_table.specs.declared.rows.OccRow.{OccRow}
 
 -- the number of the instance's ongoing operation (SOL 003 5.6.2)
@@ -18,10 +19,6 @@ ongoing_of H i = option_map (λ a. a.occ) (first (ongoing H i))
 -- the number of the ongoing operation of each instance that was ever created, in the order of the instances' numbers (SOL 003 5.6.2)
 abbrev pub ongoings : List Event → List (Option ℕ)
 ongoings H = map (ongoing_of H) (range_with_len 1 (instances_made H))
-
--- what stands at the place of this number, which counts from 1
-abbrev pub numbered : {A : Type 0} → ℕ → List A → Option A
-numbered n xs = if n == 0 then None else slice_get xs (n - 1)
 
 -- the ongoing operation of the instance of this number, among those of all instances
 abbrev pub ongoing_in : ℕ → List (Option ℕ) → Option ℕ

@@ -19,6 +19,7 @@ use Rattle.lcm_model.specs.Moves.{state}
 use Rattle.lcm_model.specs.Operations.{operation, operations}
 use Rattle.lcm_model.specs.Since.{has_call_failed, has_trouble, is_cancelled, is_forced}
 use Rattle.lcm_model.specs.Words.{first, told, when}
+use Rattle.occ_table.specs.Descriptors.{vnfd}
 use Rattle.occ_table.specs.Phases.{tallies}
 use Rattle.occ_table.specs.declared.causes.Cause.{Cause}
 use Rattle.occ_table.specs.declared.causes.Cause.TheVariants as causes
@@ -97,6 +98,7 @@ nets H a = map (net H a.occ) (numbers a)
 abbrev pub row : List Event → Operation → OccRow
 row H a = record {
   instance = a.instance;
+  vnfd = vnfd H a.instance;
   role = a.role;
   ask = a.ask;
   changes = a.changes;

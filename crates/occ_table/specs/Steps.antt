@@ -5,6 +5,7 @@ use Rattle.lcm_model.specs.Refusals.{is_terminate}
 use Rattle.occ_table.specs.declared.rows.Grant.{Grant}
 use Rattle.lcm_model.specs.Words.{otherwise, when}
 use Rattle.lcm_model.specs.Work.{net_after, net_before, works_in}
+use Rattle.occ_table.specs.Descriptors.{vnfd_in}
 use Rattle.occ_table.specs.Phases.{in_phases, is_clear, none_counted, tally_after}
 use Rattle.lcm_events.specs.declared.changes.Change.{Change}
 use Rattle.lcm_events.specs.declared.attempts.Way.{Way}
@@ -34,10 +35,11 @@ use Rattle.occ_table.specs.declared.causes.Cause.TheVariants as causes
 use Rattle.occ_table.specs.declared.pending.Pending.{Pending}
 use Rattle.occ_table.specs.declared.rows.OccRow.{OccRow}
 
--- the row of an operation that is asked for at this time
+-- the row of an operation that is asked for at this time, which names no descriptor yet
 abbrev pub first_row : ℕ → Operation → OccRow
 first_row time a = record {
   instance = a.instance;
+  vnfd = [];
   role = a.role;
   ask = a.ask;
   changes = a.changes;
@@ -173,10 +175,14 @@ abbrev pub rows_about : Option ℕ → ℕ → EventKind → List OccRow → Lis
 rows_about None time k rs = rs
 rows_about (Some o) time k rs = update (row_after time k) (o - 1) rs
 
--- the rows after an event of this moment
-abbrev pub rows_after : ℕ → EventKind → List OccRow → List OccRow
-rows_after time (Asked a) rs = rs ++ first_row time a ∷ []
-rows_after time k rs = rows_about (occurrence_of k) time k rs
+-- the row with the descriptor of its instance
+abbrev pub described : List ℕ → OccRow → OccRow
+described v r = record r { vnfd = v }
+
+-- the rows after an event of this moment, where the instances have these descriptors
+abbrev pub rows_after : List (List ℕ) → ℕ → EventKind → List OccRow → List OccRow
+rows_after vs time (Asked a) rs = rs ++ described (vnfd_in a.instance vs) (first_row time a) ∷ []
+rows_after vs time k rs = rows_about (occurrence_of k) time k rs
 
 -- no attempt is open
 abbrev pub none_open : List Pending → Bool

@@ -7,6 +7,7 @@ use Rattle.lcm_events.specs.declared.events.EventKind.TheVariants.{Asked, Create
 use Rattle.lcm_events.specs.declared.events.GrantTry.TheVariants.{Later}
 use Rattle.lcm_model.specs.Allowed.{IsAllowedWithin, IsLegalWithin}
 use Rattle.lcm_model.specs.Operations.{occurrences_made}
+use Rattle.occ_table.specs.Descriptors.{vnfds}
 use Rattle.occ_table.specs.Going.{active, next_active}
 use Rattle.occ_table.specs.Ongoing.{ongoing_of, ongoings}
 use Rattle.occ_table.specs.Rows.{StandsFor, occurrence}
@@ -14,7 +15,7 @@ use Rattle.occ_table.specs.Steps.{first_row}
 use Rattle.occ_table.specs.declared.rows.OccRow.{OccRow}
 
 -- what is reserved: a row, a grant and a location that are to come, and room for how many more rows, for how many more rows than there are
--- a place among the active numbers, and room for how many more instances
+-- a place among the active numbers, and room for the ongoing operations and the descriptors of how many more instances
 pub record Reserved : Type 0 where
   pub row : Option OccRow
   pub grant : Option Grant
@@ -22,13 +23,15 @@ pub record Reserved : Type 0 where
   pub spare : ℕ
   pub places : ℕ
   pub instances : ℕ
+  pub names : ℕ
 
--- what a contract sees of the table: its rows, the numbers of the active occurrences, the ongoing operation of each instance, and what
--- is reserved
+-- what a contract sees of the table: its rows, the numbers of the active occurrences, the ongoing operation and the descriptor of
+-- each instance, and what is reserved
 pub record Occurrences : Type 0 where
   pub rows : List OccRow
   pub active : List ℕ
   pub ongoing : List (Option ℕ)
+  pub vnfds : List (List ℕ)
   pub reserved : Reserved
 
 -- the event needs a reservation
@@ -41,7 +44,7 @@ needs_room _ = false
 
 -- what an event of this moment needs is reserved
 abbrev pub HasRoomFor : ℕ → EventKind → Reserved → Type 0
-HasRoomFor time (Created instance vnfd name text) r = 0 < r.instances
+HasRoomFor time (Created instance vnfd name text) r = (0 < r.instances) × (0 < r.names)
 HasRoomFor time (Asked a) r = (r.row ≡ Some (first_row time a)) × (0 < r.spare) × (0 < r.places)
 HasRoomFor time (Granted o name places spots) r = r.grant ≡ Some (record { name = name; places = places; spots = spots })
 HasRoomFor time (GrantTried o (Later at)) r = r.location ≡ Some at
@@ -51,11 +54,12 @@ HasRoomFor time _ r = Unit {0}
 abbrev pub HasRoom : Event → Reserved → Type 0
 HasRoom e r = HasRoomFor e.moment e.kind r
 
--- rows that stood for a legal history stand for it with the event that was allowed after it, where at most four attempts of an
--- occurrence may be open
-abbrev pub Applies : Event → List OccRow → List OccRow → Type 0
+-- rows that stood for a legal history stand for it with the event that was allowed after it, where the instances' descriptors are those of
+-- the history and at most four attempts of an occurrence may be open
+abbrev pub Applies : Event → Occurrences → Occurrences → Type 0
 Applies e old new =
-    (width m : ℕ) (H : List Event) → width ≤ 4 → IsLegalWithin width m H → IsAllowedWithin width m H e.kind → StandsFor old H → StandsFor new (e ∷ H)
+    (width m : ℕ) (H : List Event) → width ≤ 4 → IsLegalWithin width m H → IsAllowedWithin width m H e.kind → StandsFor old.rows H → old.vnfds ≡ vnfds H
+    → StandsFor new.rows (e ∷ H)
 
 -- active numbers that were those of a legal history are those of it with the event that was allowed after it
 abbrev pub Activates : Event → Occurrences → Occurrences → Type 0
@@ -67,6 +71,10 @@ abbrev pub Engages : Event → Occurrences → Occurrences → Type 0
 Engages e old new =
     (width m : ℕ) (H : List Event) → IsLegalWithin width m H → IsAllowedWithin width m H e.kind → StandsFor old.rows H → old.ongoing ≡ ongoings H
     → new.ongoing ≡ ongoings (e ∷ H)
+
+-- descriptors that were those of a history's instances are those of it with the event
+abbrev pub Describes : Event → Occurrences → Occurrences → Type 0
+Describes e old new = (H : List Event) → old.vnfds ≡ vnfds H → new.vnfds ≡ vnfds (e ∷ H)
 
 -- what is found is the number of the instance's ongoing operation in each legal history whose ongoing operations these are
 abbrev pub GoesOn : ℕ → Option ℕ → List (Option ℕ) → Type 0

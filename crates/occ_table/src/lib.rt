@@ -11,6 +11,7 @@ mod pending;
 mod phases;
 mod rows;
 mod table;
+mod vnfds;
 
 pub use causes::Cause;
 pub use cells::Cells;

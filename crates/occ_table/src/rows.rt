@@ -6,13 +6,14 @@ ghost use Rattle.lcm_model.specs.Work.{net_after, net_before, works_in};
 ghost use Rattle.std.specs.Prelude.{◌≡◌, ◌&&◌, ◌↔◌, IfOk, IsTrue, None, Some, false, map, true, ◌==◌, ◌+◌, min, slice_get, slice_set};
 ghost use Rattle.lcm_model.specs.Words.{otherwise, when};
 ghost use Rattle.occ_table.specs.declared.causes.Cause.TheVariants as causes;
-ghost use Rattle.occ_table.specs.Steps.{after_answer, after_cancel, after_settled, after_told, after_trouble, begun, cause_among, failed_by, first_row, is_trouble_among, row_after, after_begun, nets_after, after_granted, is_bringing, is_later, gives_up_row, has_stopped_row, is_asking_row, is_new_try_row, MayTake, MayBeginRow, counts_for, is_next, is_turn, is_quiet_row, may_move_from};
+ghost use Rattle.occ_table.specs.Steps.{after_answer, after_cancel, after_settled, after_told, after_trouble, begun, cause_among, described, failed_by, first_row, is_trouble_among, row_after, after_begun, nets_after, after_granted, is_bringing, is_later, gives_up_row, has_stopped_row, is_asking_row, is_new_try_row, MayTake, MayBeginRow, counts_for, is_next, is_turn, is_quiet_row, may_move_from};
 
 use crate::asks::{copied_ask, copied_line};
 use crate::causes::Cause;
 use crate::cells::Cells;
 use crate::pending::Pendings;
 use crate::phases::{PHASES, are_clear, are_none, count_phases, shift};
+use crate::vnfds::no_name;
 use lcm_events::{
     Ask, CancelMode, Changes, EventKind, GrantTry, Listed, OpState, Operation, Outcome, Place,
     Role, Tag, Way,
@@ -77,6 +78,8 @@ fn copied_grant(alloc: Global, grant: &Option<Grant>) -> Result<Option<Grant>, A
 pub struct OccRow {
     /// The number of its instance.
     pub instance: u64,
+    /// The identifier of the instance's descriptor.
+    pub vnfd: Name,
     /// Who asked.
     pub role: Role,
     /// What was asked for.
@@ -146,7 +149,7 @@ fn state_of_work(way: Way) -> OpState
 }
 
 impl OccRow {
-    /// The row of an operation that is asked for at this moment.
+    /// The row of an operation that is asked for at this moment, which names no descriptor yet.
     pub fn first(alloc: Global, moment: Moment, operation: &Operation) -> Result<OccRow, AllocError>
         ensures { IfOk result (λ r. r ≡ first_row moment operation.now) }
     {
@@ -158,6 +161,7 @@ impl OccRow {
         let pending = Pendings::new(alloc)?;
         Ok(OccRow {
             instance: operation.instance,
+            vnfd: no_name(),
             role: operation.role,
             ask,
             changes: Listed::of(changes),
@@ -194,6 +198,7 @@ impl OccRow {
         let grant = copied_grant(alloc, &self.grant)?;
         Ok(OccRow {
             instance: self.instance,
+            vnfd: self.vnfd,
             role: self.role,
             ask,
             changes: Listed::of(changes),
@@ -363,6 +368,13 @@ impl OccRow {
         ensures { self.new ≡ record self.old { pending = map (failed_by tag.now) self.old.pending } }
     {
         self.pending.fail(tag);
+    }
+
+    /// Its instance has this descriptor.
+    pub fn describe(&mut self, vnfd: Name)
+        ensures { self.new ≡ described vnfd self.old }
+    {
+        self.vnfd = vnfd;
     }
 
     /// The occurrence was granted.

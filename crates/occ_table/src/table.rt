@@ -4,15 +4,17 @@ ghost use Rattle.occ_table.specs.declared.rows.Grant.{Grant};
 ghost use Rattle.std.specs.Prelude.{◌≡◌, ◌-◌, ◌<◌, ◌≤◌, ℕ, List, [], ◌++◌, ◌∷◌, Some, None, true, false, find, nat_lt, length, option_copied, slice_get, OnOk, vec_len, vec_capacity};
 ghost use Rattle.lcm_events.specs.declared.events.EventKind.TheVariants.{GrantTried};
 ghost use Rattle.lcm_model.specs.Operations.{occurrence_of};
+ghost use Rattle.occ_table.specs.Descriptors.{vnfd_in};
 ghost use Rattle.occ_table.specs.Going.{Rises, active_moved};
 ghost use Rattle.occ_table.specs.Ongoing.{instance_in, ongoing_in, ongoing_moved, with_ongoing};
-ghost use Rattle.occ_table.specs.Steps.{first_row, row_after, rows_about, update, after_granted, after_told, is_bringing, is_later};
+ghost use Rattle.occ_table.specs.Steps.{described, first_row, row_after, rows_about, update, after_granted, after_told, is_bringing, is_later};
 ghost use Rattle.occ_table.specs.Rows.{StandsFor};
-ghost use Rattle.occ_table.specs.Table.{Activates, Applies, Counts, Engages, Follows, GoesOn, HasRoom, HasRoomFor, Looks, Occurrences, Reserved, needs_room};
+ghost use Rattle.occ_table.specs.Table.{Activates, Applies, Counts, Describes, Engages, Follows, GoesOn, HasRoom, HasRoomFor, Looks, Occurrences, Reserved, needs_room};
 
 use crate::going::{append, first_above, move_active, reserve_places};
 use crate::ongoing::{instance_of, move_ongoing, ongoing_at, set_ongoing};
 use crate::rows::{Grant, OccRow};
+use crate::vnfds::vnfd_at;
 use lcm_events::{Event, EventKind, GrantTry, Listed, OpState, Operation, Place};
 use std::alloc::{AllocError, Global};
 use std::marker::Model;
@@ -27,6 +29,7 @@ pub struct OccTable {
     rows: Vec<OccRow>,
     active: Vec<u64>,
     ongoing: Vec<Option<u64>>,
+    vnfds: Vec<Name>,
     row: Option<OccRow>,
     grant: Option<Grant>,
     location: Option<Line>,
@@ -38,7 +41,7 @@ impl Model for OccTable {
 
     ghost Value = { Occurrences };
 
-    ghost view = { λ t. record { rows = t.rows.items; active = t.active.items; ongoing = t.ongoing.items; reserved = record { row = t.row; grant = t.grant; location = t.location; spare = vec_capacity t.rows - vec_len t.rows; places = vec_capacity t.active - vec_len t.rows; instances = vec_capacity t.ongoing - vec_len t.ongoing } } };
+    ghost view = { λ t. record { rows = t.rows.items; active = t.active.items; ongoing = t.ongoing.items; vnfds = t.vnfds.items; reserved = record { row = t.row; grant = t.grant; location = t.location; spare = vec_capacity t.rows - vec_len t.rows; places = vec_capacity t.active - vec_len t.rows; instances = vec_capacity t.ongoing - vec_len t.ongoing; names = vec_capacity t.vnfds - vec_len t.vnfds } } };
 
     ghost invariant = { λ t. vec_len t.rows ≤ vec_capacity t.active };
 }
@@ -111,6 +114,7 @@ impl OccTable {
         ensures rows { result.rows ≡ [] }
         ensures active { result.active ≡ [] }
         ensures ongoing { result.ongoing ≡ [] }
+        ensures vnfds { result.vnfds ≡ [] }
         ensures row { result.reserved.row ≡ None }
         ensures grant { result.reserved.grant ≡ None }
         ensures location { result.reserved.location ≡ None }
@@ -119,6 +123,7 @@ impl OccTable {
             rows: Vec::new(alloc),
             active: Vec::new(alloc),
             ongoing: Vec::new(alloc),
+            vnfds: Vec::new(alloc),
             row: None,
             grant: None,
             location: None,
@@ -135,6 +140,7 @@ impl OccTable {
         ensures kept { self.new.rows ≡ self.old.rows }
         ensures active { self.new.active ≡ self.old.active }
         ensures ongoing { self.new.ongoing ≡ self.old.ongoing }
+        ensures vnfds { self.new.vnfds ≡ self.old.vnfds }
         ensures row { OnOk result (self.new.reserved.row ≡ Some (first_row moment operation.now)) }
         ensures spare { OnOk result (0 < self.new.reserved.spare) }
         ensures places { OnOk result (0 < self.new.reserved.places) }
@@ -158,6 +164,7 @@ impl OccTable {
         ensures kept { self.new.rows ≡ self.old.rows }
         ensures active { self.new.active ≡ self.old.active }
         ensures ongoing { self.new.ongoing ≡ self.old.ongoing }
+        ensures vnfds { self.new.vnfds ≡ self.old.vnfds }
         ensures grant { OnOk result (self.new.reserved.grant ≡ Some (record { name = name; places = places.now; spots = spots.now })) }
     {
         let grant = Grant::copied(alloc, name, places, spots)?;
@@ -170,6 +177,7 @@ impl OccTable {
         ensures kept { self.new.rows ≡ self.old.rows }
         ensures active { self.new.active ≡ self.old.active }
         ensures ongoing { self.new.ongoing ≡ self.old.ongoing }
+        ensures vnfds { self.new.vnfds ≡ self.old.vnfds }
         ensures location { OnOk result (self.new.reserved.location ≡ Some location.now) }
     {
         let location = location.clone()?;
@@ -182,9 +190,12 @@ impl OccTable {
         ensures kept { self.new.rows ≡ self.old.rows }
         ensures active { self.new.active ≡ self.old.active }
         ensures ongoing { self.new.ongoing ≡ self.old.ongoing }
+        ensures vnfds { self.new.vnfds ≡ self.old.vnfds }
         ensures instances { OnOk result (0 < self.new.reserved.instances) }
+        ensures names { OnOk result (0 < self.new.reserved.names) }
     {
         self.ongoing.reserve(1)?;
+        self.vnfds.reserve(1)?;
         Ok(())
     }
 
@@ -195,6 +206,7 @@ impl OccTable {
         ensures kept { self.new.rows ≡ self.old.rows }
         ensures active { self.new.active ≡ self.old.active }
         ensures ongoing { self.new.ongoing ≡ self.old.ongoing }
+        ensures vnfds { self.new.vnfds ≡ self.old.vnfds }
         ensures room { OnOk result (HasRoom e.now self.new.reserved) }
         ensures stays { needs_room e.now.kind ≡ false → self.new.reserved ≡ self.old.reserved }
     {
@@ -219,6 +231,7 @@ impl OccTable {
     fn put_grant(&mut self, occ: u64)
         ensures active { self.new.active ≡ self.old.active }
         ensures ongoing { self.new.ongoing ≡ self.old.ongoing }
+        ensures vnfds { self.new.vnfds ≡ self.old.vnfds }
         ensures rows { (g : Grant) → self.old.reserved.grant ≡ Some g → 1 ≤ occ → self.new.rows ≡ update (after_granted g) (occ - 1) self.old.rows }
     {
         if let Some(grant) = self.grant.take() {
@@ -232,6 +245,7 @@ impl OccTable {
     fn put_location(&mut self, occ: u64)
         ensures active { self.new.active ≡ self.old.active }
         ensures ongoing { self.new.ongoing ≡ self.old.ongoing }
+        ensures vnfds { self.new.vnfds ≡ self.old.vnfds }
         ensures rows { (at : List ℕ) → self.old.reserved.location ≡ Some at → 1 ≤ occ → self.new.rows ≡ update (after_told at) (occ - 1) self.old.rows }
     {
         if let Some(location) = self.location.take() {
@@ -241,25 +255,31 @@ impl OccTable {
         }
     }
 
-    /// Puts an instance last, which has no ongoing operation.
-    fn put_instance(&mut self)
-        requires { 0 < self.old.reserved.instances }
+    /// Puts an instance of this descriptor last, which has no ongoing operation.
+    fn put_instance(&mut self, vnfd: Name)
+        requires instances { 0 < self.old.reserved.instances }
+        requires names { 0 < self.old.reserved.names }
         ensures rows { self.new.rows ≡ self.old.rows }
         ensures active { self.new.active ≡ self.old.active }
         ensures ongoing { self.new.ongoing ≡ self.old.ongoing ++ None ∷ [] }
+        ensures vnfds { self.new.vnfds ≡ self.old.vnfds ++ vnfd ∷ [] }
     {
         self.ongoing.push_reserved(None);
+        self.vnfds.push_reserved(vnfd);
     }
 
     /// Puts the reserved row last, and its number last among the active ones: it is the ongoing operation of its instance.
     fn put_row(&mut self, occ: u64, instance: u64)
         requires spare { 0 < self.old.reserved.spare }
         requires places { 0 < self.old.reserved.places }
-        ensures rows { (r : OccRow) → self.old.reserved.row ≡ Some r → self.new.rows ≡ self.old.rows ++ r ∷ [] }
+        ensures rows { (r : OccRow) → self.old.reserved.row ≡ Some r → self.new.rows ≡ self.old.rows ++ described (vnfd_in instance self.old.vnfds) r ∷ [] }
         ensures active { length self.old.active ≤ length self.old.rows → self.new.active ≡ self.old.active ++ occ ∷ [] }
         ensures ongoing { self.new.ongoing ≡ with_ongoing instance (Some occ) self.old.ongoing }
+        ensures vnfds { self.new.vnfds ≡ self.old.vnfds }
     {
-        if let Some(row) = self.row.take() {
+        let vnfd = vnfd_at(self.vnfds.as_slice(), instance);
+        if let Some(mut row) = self.row.take() {
+            row.describe(vnfd);
             self.rows.push_reserved(row);
         }
         append(&mut self.active, occ);
@@ -272,6 +292,7 @@ impl OccTable {
         ensures numbered { 1 ≤ occ → self.new.rows ≡ update (row_after moment kind.now) (occ - 1) self.old.rows }
         ensures active { length (active_moved occ to self.old.active) ≤ length self.old.rows → self.new.active ≡ active_moved occ to self.old.active }
         ensures ongoing { self.new.ongoing ≡ ongoing_moved (instance_in occ self.old.rows) to self.old.ongoing }
+        ensures vnfds { self.new.vnfds ≡ self.old.vnfds }
         ensures reserved { self.new.reserved ≡ self.old.reserved }
     {
         let instance = instance_of(self.rows.as_slice(), occ);
@@ -289,6 +310,7 @@ impl OccTable {
         ensures rows { self.new.rows ≡ update (row_after moment kind.now) (occ - 1) self.old.rows }
         ensures active { self.new.active ≡ self.old.active }
         ensures ongoing { self.new.ongoing ≡ self.old.ongoing }
+        ensures vnfds { self.new.vnfds ≡ self.old.vnfds }
         ensures reserved { self.new.reserved ≡ self.old.reserved }
     {
         follow_at(&mut self.rows, (occ - 1) as usize, moment, kind);
@@ -301,6 +323,7 @@ impl OccTable {
         ensures none { occurrence_of kind.now ≡ None → self.new.rows ≡ self.old.rows }
         ensures active { self.new.active ≡ self.old.active }
         ensures ongoing { self.new.ongoing ≡ self.old.ongoing }
+        ensures vnfds { self.new.vnfds ≡ self.old.vnfds }
         ensures reserved { self.new.reserved ≡ self.old.reserved }
     {
         match occurrence_in(kind) {
@@ -319,6 +342,7 @@ impl OccTable {
         ensures numbered { HasRoomFor moment kind.now self.old.reserved → 1 ≤ occ → self.new.rows ≡ update (row_after moment kind.now) (occ - 1) self.old.rows }
         ensures active { self.new.active ≡ self.old.active }
         ensures ongoing { self.new.ongoing ≡ self.old.ongoing }
+        ensures vnfds { self.new.vnfds ≡ self.old.vnfds }
         ensures reserved { needs_room kind.now ≡ false → self.new.reserved ≡ self.old.reserved }
     {
         if is_later(answer) {
@@ -333,13 +357,14 @@ impl OccTable {
     /// Source: own rule.
     pub fn apply(&mut self, e: &Event)
         requires room { HasRoom e.now self.old.reserved }
-        ensures applies { Applies e.now self.old.rows self.new.rows }
+        ensures applies { Applies e.now self.old self.new }
         ensures activates { Activates e.now self.old self.new }
         ensures engages { Engages e.now self.old self.new }
+        ensures describes { Describes e.now self.old self.new }
         ensures stays { needs_room e.now.kind ≡ false → self.new.reserved ≡ self.old.reserved }
     {
         match &e.kind {
-            EventKind::Created { .. } => self.put_instance(),
+            EventKind::Created { vnfd, .. } => self.put_instance(*vnfd),
             EventKind::Asked(operation) => self.put_row(operation.occ, operation.instance),
             EventKind::Granted { occ, .. } => self.put_grant(*occ),
             EventKind::GrantTried { occ, answer } => {

@@ -24,6 +24,7 @@ returns-then-is_later c =
           ∙ ap (λ (k : EventKind). update (row_after time k) (n - 1) old) (sym c.requires);
       active = c.put_location.ensures.active;
       ongoing = c.put_location.ensures.ongoing;
+      vnfds = c.put_location.ensures.vnfds;
       reserved = λ none.
           let yes : true ≡ false = sym (needs_location n c.args.answer.now later) ∙ (sym (ap needs_room c.requires) ∙ none) in
           cc;
@@ -38,6 +39,7 @@ returns-else-is_later c =
           ∙ ap (λ (o : Option ℕ). rows_about o c.args.moment c.args.kind.now c.args.self.now.rows) about;
       active = c.follow_about.ensures.active;
       ongoing = c.follow_about.ensures.ongoing;
+      vnfds = c.follow_about.ensures.vnfds;
       reserved = λ none. c.follow_about.ensures.reserved;
     }
 
