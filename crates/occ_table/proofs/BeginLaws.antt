@@ -5,6 +5,8 @@ use Rattle.std.specs.Option.{option_map_or}
 use Rattle.std.specs.List.{enumerate_from, list_all, list_any, range_with_len}
 use Rattle.std.proofs.lemmas.List.{length-map, length-reverse}
 use Rattle.lcm_events.specs.declared.attempts.Tag.{Tag}
+use Rattle.occ_table.specs.Ended.{is_over}
+use Rattle.occ_table.proofs.EndedLaws.{kept_all, works_not_over}
 use Rattle.lcm_events.specs.declared.attempts.Way.{Way}
 use Rattle.lcm_events.specs.declared.attempts.Way.TheVariants.{Forward, Undo}
 use Rattle.lcm_events.specs.declared.changes.Change.{Change}
@@ -20,7 +22,7 @@ use Rattle.lcm_model.specs.Words.{IsIn}
 use Rattle.lcm_laws.proofs.HoldLaws.{changes_of}
 use Rattle.lcm_laws.proofs.Lists.{and_left, and_right, and_true, by_test}
 use Rattle.occ_table.specs.Phases.{goes_first, is_clear, tallies}
-use Rattle.occ_table.specs.Rows.{nets, occurrence, pending_of, pendings, row}
+use Rattle.occ_table.specs.Rows.{nets, numbers, occurrence, pending_of, pendings, row}
 use Rattle.occ_table.specs.Steps.{MayBeginRow, counts_for, has_open_at, is_next, is_turn}
 use Rattle.occ_table.specs.declared.pending.Pending.{Pending}
 use Rattle.occ_table.specs.declared.rows.OccRow.{OccRow}
@@ -137,7 +139,7 @@ next_row f c v n less =
 
 -- the part of a row that asks its change, where there is one
 abbrev Asks : List Event → Operation → Tag → Option Change → Type 0
-Asks H a t x = (is_next t.attempt (slice_get (row H a).attempts t.change) ≡ true) × (is_turn t (row H a) x ≡ true)
+Asks H a t x = (is_next t.attempt (slice_get (map (λ c. length (attempts H a.occ c)) (numbers a)) t.change) ≡ true) × (is_turn t (row H a) x ≡ true)
 
 asks-to : (width m : ℕ) (H : List Event) (a : Operation) (t : Tag) (x : Option Change) → IsLegalWithin width m H → operation H a.occ ≡ Some a → slice_get a.changes t.change ≡ x
     → Asks H a t x → (t.attempt ≡ length (attempts H a.occ t.change) + 1) × Turn H t a.occ x
@@ -165,12 +167,20 @@ asks-from width m H a t (Some x) legal e at number turn =
 long_row : (H : List Event) (o : ℕ) → length (pendings H o) ≡ length (open_of H o)
 long_row H o = length-reverse (map (pending_of H) (open_of H o)) ∙ length-map (open_of H o) (pending_of H)
 
+-- an occurrence that is worked on has its attempts in its row
+number_row : (H : List Event) (a : Operation) (t : Tag) → state H a.occ ≡ works_in t.way
+    → is_next t.attempt (slice_get (row H a).attempts t.change) ≡ is_next t.attempt (slice_get (map (λ c. length (attempts H a.occ c)) (numbers a)) t.change)
+number_row H a t works =
+    ap (λ (ns : List ℕ). is_next t.attempt (slice_get ns t.change))
+    (kept_all (is_over H a.occ) (map (λ c. length (attempts H a.occ c)) (numbers a)) (works_not_over H a.occ t works))
+
 begins_row : (width m : ℕ) (H : List Event) (a : Operation) (t : Tag) → IsLegalWithin width m H → operation H a.occ ≡ Some a → MayBeginRow width t (row H a) ↔ Begins width H t a.occ
 begins_row width m H a t legal e =
     let same : slice_get (changes H a.occ) t.change ≡ slice_get a.changes t.change = ap (λ (xs : List Change). slice_get xs t.change) (changes_of H a.occ a e) in
     let long = long_row H a.occ in (
       λ h.
-          let asks = asks-to width m H a t (slice_get a.changes t.change) legal e refl (h.number, h.turn) in
+          let number = sym (number_row H a t h.works) ∙ h.number in
+          let asks = asks-to width m H a t (slice_get a.changes t.change) legal e refl (number, h.turn) in
           let room = h.room in
           record {
             works = h.works;
@@ -190,7 +200,7 @@ begins_row width m H a t legal e =
             no_cancel = cancelled_row H a.occ ∙ h.no_cancel;
             room = omega (arith, room, long);
             none_open = (open_at_row H a.occ t.change).1 h.none_open;
-            number = asks.0;
+            number = number_row H a t h.works ∙ asks.0;
             turn = asks.1;
           },
     )

@@ -1,6 +1,7 @@
 pub mod Updates
 pub mod PendingSteps
 pub mod ChangeSteps
+pub mod EndedLaws
 pub mod RowSteps
 pub mod HomeLaws
 pub mod RowsSteps

@@ -20,7 +20,8 @@ use Rattle.lcm_model.specs.Work.{HasStopped, IsQuiet, MayMove, all_have_net, giv
 use Rattle.lcm_model.specs.Words.{first}
 use Rattle.lcm_laws.proofs.GrantLaws.{granted_grant}
 use Rattle.lcm_laws.proofs.Lists.{and_left, and_right, and_true, not-false, not-true}
-use Rattle.occ_table.specs.Rows.{cancel, kept_grant, nets, occurrence, pending_of, pendings, row}
+use Rattle.occ_table.specs.Ended.{is_over, kept_grant}
+use Rattle.occ_table.specs.Rows.{cancel, nets, occurrence, pending_of, pendings, row}
 use Rattle.occ_table.specs.Steps.{gives_up_row, has_stopped_row, is_forced_mode, is_quiet_row, may_move_from, none_open}
 use Rattle.std.specs.Prelude.{zip}
 use Rattle.lcm_model.specs.Allowed.{IsLegalWithin}
@@ -37,7 +38,7 @@ some_map f None = refl
 some_map f (Some a) = refl
 
 granted_row : (H : List Event) (a : Operation) → is_some (row H a).grant ≡ is_granted H a.occ
-granted_row H a = some_map kept_grant (grant H a.occ) ∙ sym (granted_grant H a.occ)
+granted_row H a = some_map (kept_grant (is_over H a.occ)) (grant H a.occ) ∙ sym (granted_grant H a.occ)
 
 mode_there : (cs : List CancelMode) → is_some (cond (list_any is_forceful cs) (Some Forceful) (cond (is_some (first cs)) (Some Graceful) None)) ≡ is_some (first cs)
 mode_there [] = refl

@@ -1,6 +1,6 @@
 -- What each event makes of a row.
 use Rattle.occ_table.proofs.ChangeSteps.{attempts-begun, attempts-begun_other, nets-ended, nets-ended_other}
-use Rattle.std.proofs.Common.{◌≡◌, ◌<◌, ◌+◌, ◌||◌, ◌==◌, ◌∙◌, ℕ, List, ◌∷◌, suc, Bool, true, false, cond, Option, None, Some, refl, ap, subst, min, arith, nat_le, eqb-true, leb-false, length, ◌≤◌}
+use Rattle.std.proofs.Common.{◌≡◌, ◌<◌, ◌+◌, ◌||◌, ◌==◌, ◌∙◌, ℕ, List, ◌∷◌, suc, Bool, true, false, cond, Option, None, Some, refl, ap, map, subst, min, arith, nat_le, eqb-true, leb-false, length, ◌≤◌}
 use Rattle.std.specs.List.{cons_option, list_any}
 use Rattle.std.specs.Option.{option_map_or}
 use Rattle.lcm_events.specs.declared.events.Event.{Event}
@@ -35,6 +35,15 @@ use Rattle.occ_table.specs.Rows.{cancel, cause, cause_in, cause_of_end, nets, pe
 use Rattle.occ_table.specs.Steps.{after_answer, after_cancel, cause_among, row_after}
 use Rattle.lcm_model.specs.Attempts.{is_unsettled}
 use Rattle.occ_table.specs.declared.pending.Pending.{Pending}
+use Rattle.lcm_events.specs.declared.states.OpState.TheVariants.{Starting}
+use Rattle.lcm_model.specs.Attempts.{attempts}
+use Rattle.lcm_model.specs.Grants.{grant}
+use Rattle.lcm_model.specs.Moves.{state}
+use Rattle.lcm_model.specs.Work.{works_in}
+use Rattle.lcm_laws.proofs.HoldLaws.{moved_from}
+use Rattle.occ_table.specs.Ended.{is_over, kept}
+use Rattle.occ_table.specs.Rows.{numbers}
+use Rattle.occ_table.proofs.EndedLaws.{kept_set, moved_row, starting_not_over, works_not_over}
 use Rattle.occ_table.proofs.PendingSteps.{known_failed, pendings-begun, pendings-begun_other, pendings-ended, pendings-ended_other, pendings-failed, pendings-failed_other, trouble-settled, trouble-settled_other}
 use Rattle.occ_table.specs.declared.rows.OccRow.{OccRow}
 
@@ -163,15 +172,31 @@ row-step width m H time (GrantTried o answer) n a e among wide legal allowed = b
     let going : has_ended H a.occ ≡ false = subst (λ (i : ℕ). has_ended H i ≡ false) is allowed.0.goes_on in
     answered H time o answer a same going ∙ by_own (o == a.occ) _ _ same)
     (λ other. rw other refl)
-row-step width m H time (Granted o grant places spots) n a e among wide legal allowed = by_test (o == a.occ) (λ same. rw same refl) (λ other. rw other refl)
+row-step width m H time (Granted o grant places spots) n a e among wide legal allowed = by_test (o == a.occ)
+    (λ same.
+    let is : o ≡ a.occ = eqb-true o a.occ same in
+    let going : is_over H a.occ ≡ false = starting_not_over H a.occ (subst (λ (i : ℕ). state H i ≡ Starting) is allowed.asking.starting) in
+    rw (same, going) refl)
+    (λ other. rw other refl)
 row-step width m H time (Denied o) n a e among wide legal allowed = by_test (o == a.occ) (λ same. rw same refl) (λ other. rw other refl)
-row-step width m H time (Moved o to) n a e among wide legal allowed = by_test (o == a.occ) (λ same. rw same refl) (λ other. rw other refl)
+row-step width m H time (Moved o to) n a e among wide legal allowed = by_test (o == a.occ)
+    (λ same.
+    let is : o ≡ a.occ = eqb-true o a.occ same in
+    let going : is_over H a.occ ≡ false = subst (λ (i : ℕ). is_over H i ≡ false) is (moved_from H o to allowed.1) in
+    rw same (moved_row (row H a) time to (is_over H a.occ) (map (λ c. length (attempts H a.occ c)) (numbers a)) (grant H a.occ) going))
+    (λ other. rw other refl)
 row-step width m H time (CancelAsked o mode) n a e among wide legal allowed = by_test (o == a.occ)
     (λ same. cancelled H time o mode a same ∙ by_own (o == a.occ) _ _ same)
     (λ other. rw other refl)
 row-step width m H time (Intent t) n a e among wide legal allowed = by_test (t.occ == a.occ)
-    (λ same. with_begun (row H a) _ _ _ _ (pendings-begun width m H time t a.occ same wide legal allowed) (attempts-begun width m H time t a same allowed) ∙ by_own (t.occ == a.occ) _ _ same)
-    (λ other. with_begun (row H a) _ _ _ _ (pendings-begun_other width m H time t a.occ other legal allowed) (attempts-begun_other H time t a other) ∙ by_other (t.occ == a.occ) _ _ other)
+    (λ same.
+    let is : t.occ ≡ a.occ = eqb-true t.occ a.occ same in
+    let going : is_over H a.occ ≡ false = works_not_over H a.occ t (subst (λ (i : ℕ). state H i ≡ works_in t.way) is allowed.works) in
+    with_begun (row H a) _ _ _ _ (pendings-begun width m H time t a.occ same wide legal allowed)
+    (kept_set (is_over H a.occ) (map (λ c. length (attempts (event time (Intent t) ∷ H) a.occ c)) (numbers a)) (map (λ c. length (attempts H a.occ c)) (numbers a)) t.change t.attempt going
+    (attempts-begun width m H time t a same allowed)) ∙ by_own (t.occ == a.occ) _ _ same)
+    (λ other. with_begun (row H a) _ _ _ _ (pendings-begun_other width m H time t a.occ other legal allowed)
+    (ap (λ (ns : List ℕ). kept (is_over H a.occ) ns) (attempts-begun_other H time t a other)) ∙ by_other (t.occ == a.occ) _ _ other)
 row-step width m H time (CallFailed t) n a e among wide legal allowed = by_test (t.occ == a.occ)
     (λ same. with_pending (row H a) _ _ (pendings-failed H time t a.occ) ∙ by_own (t.occ == a.occ) _ _ same)
     (λ other. with_pending (row H a) _ _ (pendings-failed_other H time t a.occ other) ∙ by_other (t.occ == a.occ) _ _ other)

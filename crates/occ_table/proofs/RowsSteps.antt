@@ -23,6 +23,8 @@ use Rattle.lcm_events.specs.declared.events.GrantTry.TheVariants.{Later, NotCove
 use Rattle.occ_table.specs.Rows.{StandsFor, cause, cause_in, nets, occurrence, row, rows}
 use Rattle.lcm_model.specs.Lives.{instances_made}
 use Rattle.occ_table.specs.Descriptors.{vnfd, vnfds}
+use Rattle.occ_table.specs.Ended.{is_over}
+use Rattle.occ_table.proofs.EndedLaws.{kept_all}
 use Rattle.occ_table.proofs.HomeLaws.{described_at, homed, live_number, placed}
 use Rattle.occ_table.specs.Steps.{described, first_row, row_after, rows_about, rows_after, update, after_told, is_bringing, is_later}
 use Rattle.occ_table.specs.Table.{needs_room}
@@ -120,9 +122,10 @@ first width m H time a legal allowed =
     let high = ((found_exactly width m H legal a.occ).0 there).1 in omega (arith, high, allowed.number)) in
     let still = unasked_untouched width m H legal a.occ none in
     let calm : cause H a.occ ≡ None = uncaused width m H legal a.occ none in
+    let fresh : is_over H a.occ ≡ false = rw still.moves refl in
     let none_made : nets H a ≡ replicate (length a.changes) 0 = nets-none H a still in
     asked_row H time a
-    ∙ (with_lists (record (row H a) { asked = time; entered = time }) none_made (attempts-none H a still)
+    ∙ (with_lists (record (row H a) { asked = time; entered = time }) none_made (kept_all (is_over H a.occ) _ fresh ∙ attempts-none H a still)
     (ap (λ (ns : List ℕ). tallies 0 a.changes ns) none_made ∙ waiting-fresh a.changes)
     (ap (λ (ns : List ℕ). tallies 1 a.changes ns) none_made ∙ made-fresh a.changes)
     ∙ rw (still.moves, still.answers, still.cancels, still.no_trouble, still.none_open, still.grant, calm) refl)

@@ -1,4 +1,5 @@
 pub mod Descriptors
+pub mod Ended
 pub mod Going
 pub mod Ongoing
 pub mod Phases

@@ -1,5 +1,4 @@
 -- What the rows of the table are: a function of the history (SOL 003 5.5.2.13, VnfLcmOpOcc).
-use Rattle.occ_table.specs.declared.rows.Grant.{Grant}
 use Rattle.std.specs.List.{range_with_len}
 use Rattle.std.specs.Prelude.{List, None, Option, Some, filter_map, if◌then◌else◌, map, option_map, reverse, unwrap_or, ℕ, ◌≡◌, ◌==◌, length}
 use Rattle.lcm_events.specs.declared.events.Event.{Event}
@@ -14,12 +13,13 @@ use Rattle.lcm_events.specs.declared.events.EventKind.TheVariants.{Asked, Cancel
 use Rattle.lcm_events.specs.declared.events.GrantTry.{GrantTry}
 use Rattle.lcm_events.specs.declared.events.GrantTry.TheVariants.{Later, NotCovering, Trouble}
 use Rattle.lcm_model.specs.Attempts.{open_of, attempts, net}
-use Rattle.lcm_model.specs.Grants.{has_ended, location, troubled_tries, GivenGrant, grant}
+use Rattle.lcm_model.specs.Grants.{has_ended, location, troubled_tries, grant}
 use Rattle.lcm_model.specs.Moves.{state}
 use Rattle.lcm_model.specs.Operations.{operation, operations}
 use Rattle.lcm_model.specs.Since.{has_call_failed, has_trouble, is_cancelled, is_forced}
 use Rattle.lcm_model.specs.Words.{first, told, when}
 use Rattle.occ_table.specs.Descriptors.{vnfd}
+use Rattle.occ_table.specs.Ended.{is_over, kept, kept_grant}
 use Rattle.occ_table.specs.Phases.{tallies}
 use Rattle.occ_table.specs.declared.causes.Cause.{Cause}
 use Rattle.occ_table.specs.declared.causes.Cause.TheVariants as causes
@@ -37,10 +37,6 @@ pending_of H t = record { tag = t; failed = has_call_failed H t }
 -- the open attempts of an occurrence in the order in which they began (own rule)
 abbrev pub pendings : List Event → ℕ → List Pending
 pendings H o = reverse (map (pending_of H) (open_of H o))
-
--- what a grant gave, as a row keeps it (SOL 003 9.5.2.3)
-abbrev pub kept_grant : GivenGrant → Grant
-kept_grant g = record { name = g.name; places = g.places; spots = g.spots }
 
 -- when an event asked for the occurrence (SOL 003 5.5.2.13, startTime)
 abbrev pub asked_when : ℕ → ℕ → EventKind → Option ℕ
@@ -94,7 +90,7 @@ numbers a = range_with_len 0 (length a.changes)
 abbrev pub nets : List Event → Operation → List ℕ
 nets H a = map (net H a.occ) (numbers a)
 
--- what the history says of an operation that was asked for (SOL 003 5.5.2.13)
+-- what the history says of an operation that was asked for; once it is over, without attempts and places (SOL 003 5.5.2.13)
 abbrev pub row : List Event → Operation → OccRow
 row H a = record {
   instance = a.instance;
@@ -105,7 +101,7 @@ row H a = record {
   nets = nets H a;
   waiting = tallies 0 a.changes (nets H a);
   made = tallies 1 a.changes (nets H a);
-  attempts = map (λ c. length (attempts H a.occ c)) (numbers a);
+  attempts = kept (is_over H a.occ) (map (λ c. length (attempts H a.occ c)) (numbers a));
   state = state H a.occ;
   asked = asked H a.occ;
   entered = entered H a.occ;
@@ -116,7 +112,7 @@ row H a = record {
   trouble = has_trouble H a.occ;
   cause = cause H a.occ;
   pending = pendings H a.occ;
-  grant = option_map kept_grant (grant H a.occ);
+  grant = option_map (kept_grant (is_over H a.occ)) (grant H a.occ);
 }
 
 -- the rows of all operations, in the order in which they were asked for (SOL 003 5.4.12)

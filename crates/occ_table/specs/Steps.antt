@@ -6,13 +6,15 @@ use Rattle.occ_table.specs.declared.rows.Grant.{Grant}
 use Rattle.lcm_model.specs.Words.{otherwise, when}
 use Rattle.lcm_model.specs.Work.{net_after, net_before, works_in}
 use Rattle.occ_table.specs.Descriptors.{vnfd_in}
+use Rattle.lcm_model.specs.Moves.{is_final}
+use Rattle.occ_table.specs.Ended.{kept, stripped}
 use Rattle.occ_table.specs.Phases.{in_phases, is_clear, none_counted, tally_after}
 use Rattle.lcm_events.specs.declared.changes.Change.{Change}
 use Rattle.lcm_events.specs.declared.attempts.Way.{Way}
 use Rattle.lcm_events.specs.declared.attempts.Way.TheVariants.{Forward, Undo}
 use Rattle.std.specs.Option.{option_map_or}
 use Rattle.std.specs.List.{list_any}
-use Rattle.std.specs.Prelude.{List, None, Option, Some, [], false, min, nat_le, true, ℕ, ◌||◌, ◌+◌, ◌-◌, ◌++◌, ◌∷◌, zero, suc, Bool, filter, map, if◌then◌else◌, length, nat_lt, not, ◌&&◌, replicate, slice_get, slice_set, is_none, is_some, ◌==◌, ◌≡◌, ◌<◌}
+use Rattle.std.specs.Prelude.{List, None, Option, Some, [], false, min, nat_le, true, ℕ, ◌||◌, ◌+◌, ◌-◌, ◌++◌, ◌∷◌, zero, suc, Bool, filter, map, if◌then◌else◌, length, nat_lt, not, ◌&&◌, replicate, slice_get, slice_set, is_none, is_some, option_map, ◌==◌, ◌≡◌, ◌<◌}
 use Rattle.lcm_events.specs.declared.events.EventKind.{EventKind}
 use Rattle.lcm_events.specs.declared.events.EventKind.TheVariants.{Asked, CallFailed, CancelAsked, Denied, GrantTried, Granted, Intent, Moved, Settled}
 use Rattle.lcm_events.specs.declared.events.GrantTry.{GrantTry}
@@ -141,6 +143,14 @@ after_granted g r = record r { ended = true; grant = Some g }
 abbrev pub after_told : List ℕ → OccRow → OccRow
 after_told at r = record r { location = Some at }
 
+-- the row after it has forgotten attempts and places, where its occurrence is over
+abbrev pub forgotten : Bool → OccRow → OccRow
+forgotten over r = record r { attempts = kept over r.attempts; grant = option_map (stripped over) r.grant }
+
+-- the row after a move to this state at this time
+abbrev pub after_move : ℕ → OpState → OccRow → OccRow
+after_move time to r = forgotten (is_final to) (record r { state = to; entered = time; cancel = None; trouble = false })
+
 -- the answer tells where the grant will be
 abbrev pub is_later : GrantTry → Bool
 is_later (Later at) = true
@@ -157,7 +167,7 @@ abbrev pub row_after : ℕ → EventKind → OccRow → OccRow
 row_after time (GrantTried o answer) r = after_answer answer r
 row_after time (Granted o name places spots) r = after_granted (record { name = name; places = places; spots = spots }) r
 row_after time (Denied o) r = record r { ended = true; cause = Some causes.Denied }
-row_after time (Moved o to) r = record r { state = to; entered = time; cancel = None; trouble = false }
+row_after time (Moved o to) r = after_move time to r
 row_after time (CancelAsked o mode) r = record r { cancel = after_cancel mode r.cancel; cause = Some causes.Cancelled }
 row_after time (Intent t) r = after_begun t r
 row_after time (CallFailed t) r = record r { pending = map (failed_by t) r.pending }

@@ -1,10 +1,10 @@
 //! A list with an entry for each change, whose entries are set in place.
 
-ghost use Rattle.std.specs.Prelude.{◌≡◌, slice_set, vec_capacity, vec_len};
+ghost use Rattle.std.specs.Prelude.{◌≡◌, [], slice_set, vec_capacity, vec_len};
 
 use std::marker::Model;
 
-/// A list of a fixed length, whose entries are set in place.
+/// A list whose entries are set in place, and which gives its memory back once it is cleared.
 #[derive(Debug, Drop)]
 pub struct Cells<T> {
     entries: Vec<T>,
@@ -29,7 +29,7 @@ pub fn set_in<T: Copy>(entries: &mut Vec<T>, at: usize, value: T)
     }
 }
 
-impl<T: Copy> Cells<T> {
+impl<T: Copy + Drop> Cells<T> {
     /// The list of these entries, which isn't copied.
     pub fn of(entries: Vec<T>) -> Self
         ensures { result ≡ entries.items }
@@ -42,6 +42,14 @@ impl<T: Copy> Cells<T> {
         ensures { result.now ≡ self.now }
     {
         self.entries.as_slice()
+    }
+
+    /// Lets all entries go, and gives their memory back.
+    pub fn clear(&mut self)
+        ensures { self.new ≡ [] }
+    {
+        self.entries.clear();
+        self.entries.shrink_to_fit();
     }
 
     /// Sets the entry at this place. Nothing happens beyond the end.

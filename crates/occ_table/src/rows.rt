@@ -3,10 +3,11 @@
 ghost use Rattle.std.specs.Option.{option_map_or};
 ghost use Rattle.occ_table.specs.Phases.{is_clear, phase_at, shifted, tally_after};
 ghost use Rattle.lcm_model.specs.Work.{net_after, net_before, works_in};
-ghost use Rattle.std.specs.Prelude.{◌≡◌, ◌&&◌, ◌↔◌, IfOk, IsTrue, None, Some, false, map, true, ◌==◌, ◌+◌, min, slice_get, slice_set};
+ghost use Rattle.std.specs.Prelude.{◌≡◌, ◌&&◌, ◌↔◌, IfOk, IsTrue, None, Some, false, map, true, ◌==◌, ◌+◌, min, option_map, slice_get, slice_set};
 ghost use Rattle.lcm_model.specs.Words.{otherwise, when};
 ghost use Rattle.occ_table.specs.declared.causes.Cause.TheVariants as causes;
-ghost use Rattle.occ_table.specs.Steps.{after_answer, after_cancel, after_settled, after_told, after_trouble, begun, cause_among, described, failed_by, first_row, is_trouble_among, row_after, after_begun, nets_after, after_granted, is_bringing, is_later, gives_up_row, has_stopped_row, is_asking_row, is_new_try_row, MayTake, MayBeginRow, counts_for, is_next, is_turn, is_quiet_row, may_move_from};
+ghost use Rattle.occ_table.specs.Ended.{stripped};
+ghost use Rattle.occ_table.specs.Steps.{after_answer, after_cancel, after_move, forgotten, after_settled, after_told, after_trouble, begun, cause_among, described, failed_by, first_row, is_trouble_among, row_after, after_begun, nets_after, after_granted, is_bringing, is_later, gives_up_row, has_stopped_row, is_asking_row, is_new_try_row, MayTake, MayBeginRow, counts_for, is_next, is_turn, is_quiet_row, may_move_from};
 
 use crate::asks::{copied_ask, copied_line};
 use crate::causes::Cause;
@@ -18,7 +19,7 @@ use lcm_events::{
     Ask, CancelMode, Changes, EventKind, GrantTry, Listed, OpState, Operation, Outcome, Place,
     Role, Tag, Way,
 };
-use lcm_model::is_placing;
+use lcm_model::{ends, is_placing};
 use std::alloc::{AllocError, Global};
 use vnfm_base::{Line, Moment, Name};
 
@@ -32,10 +33,10 @@ const TRIES: u8 = 5;
 pub struct Grant {
     /// Its identifier.
     pub name: Name,
-    /// The distinct places, in the order of the first change that has them.
-    pub places: Listed<Place>,
-    /// The number of the place of each change.
-    pub spots: Listed<u8>,
+    /// The distinct places, in the order of the first change that has them; none once the occurrence is over.
+    pub places: Cells<Place>,
+    /// The number of the place of each change; none once the occurrence is over.
+    pub spots: Cells<u8>,
 }
 
 impl Grant {
@@ -43,18 +44,36 @@ impl Grant {
     pub fn copied(
         alloc: Global,
         name: Name,
-        places: &Listed<Place>,
-        spots: &Listed<u8>,
+        places: &[Place],
+        spots: &[u8],
     ) -> Result<Grant, AllocError>
         ensures { IfOk result (λ g. g ≡ record { name = name; places = places.now; spots = spots.now }) }
     {
-        let places = places.as_slice().to_vec(alloc)?;
-        let spots = spots.as_slice().to_vec(alloc)?;
+        let places = places.to_vec(alloc)?;
+        let spots = spots.to_vec(alloc)?;
         Ok(Grant {
             name,
-            places: Listed::of(places),
-            spots: Listed::of(spots),
+            places: Cells::of(places),
+            spots: Cells::of(spots),
         })
+    }
+
+    /// Keeps the identifier alone.
+    fn strip(&mut self)
+        ensures { self.new ≡ stripped true self.old }
+    {
+        self.places.clear();
+        self.spots.clear();
+    }
+}
+
+/// Keeps the identifier of a grant alone, where there is one.
+fn strip_grant(grant: &mut Option<Grant>)
+    ensures { grant.new ≡ option_map (stripped true) grant.old }
+{
+    match grant {
+        Some(given) => given.strip(),
+        None => {}
     }
 }
 
@@ -64,7 +83,12 @@ fn copied_grant(alloc: Global, grant: &Option<Grant>) -> Result<Option<Grant>, A
 {
     match grant {
         Some(given) => {
-            let copy = Grant::copied(alloc, given.name, &given.places, &given.spots)?;
+            let copy = Grant::copied(
+                alloc,
+                given.name,
+                given.places.as_slice(),
+                given.spots.as_slice(),
+            )?;
             Ok(Some(copy))
         }
         None => Ok(None),
@@ -92,7 +116,7 @@ pub struct OccRow {
     pub waiting: [u64; PHASES],
     /// How many changes of each phase have net 1.
     pub made: [u64; PHASES],
-    /// How many attempts there were at each change.
+    /// How many attempts there were at each change; none is listed once the occurrence is over.
     pub attempts: Cells<u32>,
     /// The state that it is in.
     pub state: OpState,
@@ -263,14 +287,25 @@ impl OccRow {
         };
     }
 
-    /// The occurrence moved to a state at this moment.
+    /// Forgets attempts and places, where the occurrence is over.
+    fn forget(&mut self, over: bool)
+        ensures { self.new ≡ forgotten over self.old }
+    {
+        if over {
+            self.attempts.clear();
+            strip_grant(&mut self.grant);
+        }
+    }
+
+    /// The occurrence moved to a state at this moment. In a final one its row forgets what no view shows.
     fn move_to(&mut self, moment: Moment, to: OpState)
-        ensures { self.new ≡ record self.old { state = to; entered = moment; cancel = None; trouble = false } }
+        ensures { self.new ≡ after_move moment to self.old }
     {
         self.state = to;
         self.entered = moment;
         self.cancel = None;
         self.trouble = false;
+        self.forget(ends(to));
     }
 
     /// Whether it is trouble that an open attempt ends so.

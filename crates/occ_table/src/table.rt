@@ -167,7 +167,7 @@ impl OccTable {
         ensures vnfds { self.new.vnfds ≡ self.old.vnfds }
         ensures grant { OnOk result (self.new.reserved.grant ≡ Some (record { name = name; places = places.now; spots = spots.now })) }
     {
-        let grant = Grant::copied(alloc, name, places, spots)?;
+        let grant = Grant::copied(alloc, name, places.as_slice(), spots.as_slice())?;
         self.grant = Some(grant);
         Ok(())
     }
