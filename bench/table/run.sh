@@ -8,7 +8,7 @@ if [ $# -eq 0 ]; then
     (cd crates/table_bench && rt run >/dev/null)
 fi
 
-# the least nanoseconds an event of following, and an occurrence of looking up
+# the least nanoseconds an event of following, an occurrence of looking up, and an instance of asking for its ongoing operation
 least() {
     for _ in 1 2 3; do
         "$program" "$1" "$2" "$3"
@@ -16,7 +16,8 @@ least() {
         $1 == "events" { events = $2 + 0 }
         $1 == "following" && (!following || $2 < following) { following = $2 }
         $1 == "looking" && (!looking || $2 < looking) { looking = $2 }
-        END { printf "%.0f %.0f\n", following / events, looking / occurrences }'
+        $1 == "asking" && (!asking || $2 < asking) { asking = $2 }
+        END { printf "%.0f %.0f %.0f\n", following / events, looking / occurrences, asking / occurrences }'
 }
 
 # the peak of memory of a run, in bytes
@@ -28,14 +29,15 @@ print(resource.getrusage(resource.RUSAGE_CHILDREN).ru_maxrss * 1024)
 PYTHON
 }
 
-echo "| Occurrences | Changes | Events | Following an event, ns | with judging, ns | Looking up, ns |"
-echo "|---|---|---|---|---|---|"
+echo "| Occurrences | Changes | Events | Following an event, ns | with judging, ns | Looking up, ns | Ongoing operation, ns |"
+echo "|---|---|---|---|---|---|---|"
 for size in "1000 50" "10000 50" "100000 5" "200 500" "1000 500" "40 2500" "200 2500"; do
     set -- $size
-    followed=$(least "$1" "$2" followed)
     judged=$(least "$1" "$2" judged)
     events=$("$program" "$1" "$2" followed | awk '$1 == "events" { print $2 + 0 }')
-    echo "| $1 | $2 | $events | ${followed% *} | ${judged% *} | ${followed#* } |"
+    occurrences=$1 changes=$2
+    set -- $(least "$1" "$2" followed)
+    echo "| $occurrences | $changes | $events | $1 | ${judged%% *} | $2 | $3 |"
 done
 
 echo

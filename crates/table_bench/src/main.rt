@@ -1,7 +1,8 @@
 //! Lets a table of occurrences follow events, judge them, and look each occurrence up.
 //!
 //! `table_bench [OCCURRENCES CHANGES followed|judged|open]` prints how many events there were, how many of them the table judged to be allowed,
-//! and how many occurrences are COMPLETED, and with words the nanoseconds of processor time that following with judging and looking up took.
+//! how many occurrences are COMPLETED, and how many instances have an ongoing operation once one more has begun its last attempt; and with
+//! words the nanoseconds of processor time that following with judging, looking up an occurrence and asking for an ongoing operation took.
 #![tactic(auto)]
 
 mod samples;
@@ -70,6 +71,17 @@ fn count_completed(table: &OccTable, occurrences: u64) -> u64 {
     completed
 }
 
+/// How many of the first so many instances have an ongoing operation.
+fn count_going(table: &OccTable, instances: u64) -> u64 {
+    let mut going = 0u64;
+    for instance in 0..instances {
+        if table.ongoing(instance + 1).is_some() {
+            going = going.saturating_add(1);
+        }
+    }
+    going
+}
+
 /// What was counted, and how long following took.
 #[derive(Clone, Copy, Debug)]
 struct Totals {
@@ -114,23 +126,63 @@ fn measure_all(
     Ok(totals)
 }
 
-/// Prints what was counted, and the times.
-fn print(
-    rt: &impl Print,
-    words: Words,
-    totals: Totals,
+/// What was found in the table, and how long that took.
+#[derive(Clone, Copy, Debug)]
+struct Found {
     completed: u64,
     looking: Duration,
+    going: u64,
+    asking: Duration,
+}
+
+/// Looks each occurrence up, and asks for the ongoing operation of each instance.
+fn find(rt: &impl CpuClock, table: &OccTable) -> Result<Found> {
+    let made = table.made();
+    let begun = rt.process_cpu_time()?;
+    let completed = count_completed(table, made);
+    let looked = rt.process_cpu_time()?;
+    let going = count_going(table, made);
+    let asked = rt.process_cpu_time()?;
+    Ok(Found {
+        completed,
+        looking: looked.saturating_sub(begun),
+        going,
+        asking: asked.saturating_sub(looked),
+    })
+}
+
+/// One more occurrence, up to its last attempt, which stays open.
+fn begin_one(
+    rt: &(impl CpuClock + AllocGlobal),
+    table: &mut OccTable,
+    words: Words,
+    mut totals: Totals,
 ) -> Result<()> {
+    let open = Words {
+        mode: Mode::Open,
+        ..words
+    };
+    measure(rt, table, open, words.occurrences as u64 + 1, &mut totals)
+}
+
+/// Prints what was counted, and the times.
+fn print(rt: &impl Print, words: Words, totals: Totals, found: Found) -> Result<()> {
     let Totals {
         events,
         allowed,
         following,
     } = totals;
-    println!(rt; "events {events}, allowed {allowed}, completed {completed}")?;
+    let Found {
+        completed,
+        looking,
+        going,
+        asking,
+    } = found;
+    println!(rt; "events {events}, allowed {allowed}, completed {completed}, going {going}")?;
     if words.times {
         println!(rt; "following {} ns", following.as_nanos())?;
         println!(rt; "looking {} ns", looking.as_nanos())?;
+        println!(rt; "asking {} ns", asking.as_nanos())?;
     }
     Ok(())
 }
@@ -140,10 +192,9 @@ fn run(rt: &(impl Env + CpuClock + Print + AllocGlobal)) -> Result<()> {
     let words = Words::read(rt)?;
     let mut table = OccTable::new(rt.alloc());
     let totals = measure_all(rt, &mut table, words)?;
-    let begun = rt.process_cpu_time()?;
-    let completed = count_completed(&table, table.made());
-    let ended = rt.process_cpu_time()?;
-    print(rt, words, totals, completed, ended.saturating_sub(begun))
+    begin_one(rt, &mut table, words, totals)?;
+    let found = find(rt, &table)?;
+    print(rt, words, totals, found)
 }
 
 fn main(rt: HostRuntime) -> Result<()> {

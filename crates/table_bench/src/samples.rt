@@ -1,4 +1,4 @@
-//! The events of an occurrence that is asked for, granted and worked on, change by change.
+//! The events of an instance that is created and of its one occurrence, which is asked for, granted and worked on, change by change.
 
 use crate::words::{Mode, Words};
 use anyhow::{Context, Result};
@@ -47,6 +47,16 @@ fn event(kind: EventKind) -> Event {
         moment: Moment::of(1_785_672_000_000),
         kind,
     }
+}
+
+/// The instance of the occurrence, which has the same number, is created.
+fn created(occ: u64) -> Result<Event> {
+    Ok(event(EventKind::Created {
+        instance: occ,
+        vnfd: Name::of(b"simple-vnfd").context("no name")?,
+        name: None,
+        text: None,
+    }))
 }
 
 /// The occurrence is asked for.
@@ -129,16 +139,17 @@ fn attempts(
     Ok(())
 }
 
-/// The events of an occurrence up to its work, in order.
+/// The events of an instance and its occurrence up to its work, in order.
 fn beginning(alloc: Global, occ: u64, words: Words) -> Result<Vec<Event>> {
     let mut events = Vec::new(alloc);
+    events.push(created(occ)?)?;
     events.push(asked(alloc, occ, words)?)?;
     events.push(granted(alloc, occ, words)?)?;
     events.push(moved(occ, OpState::Processing))?;
     Ok(events)
 }
 
-/// The events of an occurrence, in order.
+/// The events of an instance and its occurrence, in order.
 pub fn events_of(alloc: Global, occ: u64, words: Words) -> Result<Vec<Event>> {
     let name = Name::of(b"resource").context("no name")?;
     let open = words.mode == Mode::Open;
