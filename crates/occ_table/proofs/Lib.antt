@@ -13,3 +13,4 @@ pub mod BeginLaws
 pub mod PlanPhases
 pub mod GoingLaws
 pub mod OngoingSteps
+pub mod TableLaws

@@ -10,7 +10,6 @@ use Rattle.lcm_events.specs.declared.events.Event.{Event}
 use Rattle.lcm_events.specs.declared.events.EventKind.{EventKind}
 use Rattle.lcm_events.specs.declared.events.EventKind.TheVariants.{Asked, CallFailed, CancelAsked, Created, Denied, GrantTried, Granted, Intent, Moved, Settled}
 use Rattle.lcm_events.specs.declared.events.Operation.{Operation}
-use Rattle.lcm_events.specs.declared.states.OpState.{OpState}
 use Rattle.lcm_model.specs.Allowed.{IsAllowedWithin, IsLegalWithin}
 use Rattle.lcm_model.specs.Operations.{occurrence_of, operation, operations}
 use Rattle.lcm_laws.proofs.AboutLaws.{about_asked, unasked_untouched}
@@ -242,33 +241,8 @@ told_rows time n (Later at) location old new later room put = put at (room at re
 told_rows time n Trouble location old new later room put = cc
 told_rows time n NotCovering location old new later room put = cc
 
--- what a try makes of the rows
-pub tried : (vs : List (List ℕ)) (time : ℕ) (k : EventKind) (n : ℕ) (answer : GrantTry) (old : List OccRow) → k ≡ GrantTried n answer
-    → update (row_after time k) (n - 1) old ≡ rows_after vs time k old
-tried vs time (GrantTried o answer) n given old is = let same : o ≡ n = cc in rw same refl
-tried vs time (Granted o name places spots) n given old is = cc
-tried vs time (Denied o) n given old is = cc
-tried vs time (Intent t) n given old is = cc
-tried vs time (CallFailed t) n given old is = cc
-tried vs time (Settled t outcome) n given old is = cc
-tried vs time (Moved o to) n given old is = cc
-tried vs time (CancelAsked o mode) n given old is = cc
-tried vs time _ n given old is = cc
-
 -- a try with a location needs room for it
 pub needs_location : (n : ℕ) (answer : GrantTry) → is_later answer ≡ true → needs_room (GrantTried n answer) ≡ true
 needs_location n (Later at) later = refl
 needs_location n Trouble later = cc
 needs_location n NotCovering later = cc
-
--- what a move makes of the rows
-pub moved : (vs : List (List ℕ)) (time : ℕ) (k : EventKind) (n : ℕ) (to : OpState) (old : List OccRow) → k ≡ Moved n to → update (row_after time k) (n - 1) old ≡ rows_after vs time k old
-moved vs time (Moved o s) n to old is = let same : o ≡ n = cc in rw same refl
-moved vs time (GrantTried o answer) n to old is = cc
-moved vs time (Granted o name places spots) n to old is = cc
-moved vs time (Denied o) n to old is = cc
-moved vs time (Intent t) n to old is = cc
-moved vs time (CallFailed t) n to old is = cc
-moved vs time (Settled t outcome) n to old is = cc
-moved vs time (CancelAsked o mode) n to old is = cc
-moved vs time _ n to old is = cc

@@ -54,27 +54,18 @@ HasRoomFor time _ r = Unit {0}
 abbrev pub HasRoom : Event → Reserved → Type 0
 HasRoom e r = HasRoomFor e.moment e.kind r
 
--- rows that stood for a legal history stand for it with the event that was allowed after it, where the instances' descriptors are those of
--- the history and at most four attempts of an occurrence may be open
+-- the table is that of the history: its rows, the numbers of its active occurrences, and the ongoing operation and the descriptor of each
+-- instance
+pub record IsTableOf (t : Occurrences) (H : List Event) : Type 0 where
+  pub rows : StandsFor t.rows H
+  pub active : t.active ≡ active H
+  pub ongoing : t.ongoing ≡ ongoings H
+  pub vnfds : t.vnfds ≡ vnfds H
+
+-- a table of a legal history is that of it with the event that was allowed after it, where at most four attempts of an occurrence may be open
 abbrev pub Applies : Event → Occurrences → Occurrences → Type 0
 Applies e old new =
-    (width m : ℕ) (H : List Event) → width ≤ 4 → IsLegalWithin width m H → IsAllowedWithin width m H e.kind → StandsFor old.rows H → old.vnfds ≡ vnfds H
-    → StandsFor new.rows (e ∷ H)
-
--- active numbers that were those of a legal history are those of it with the event that was allowed after it
-abbrev pub Activates : Event → Occurrences → Occurrences → Type 0
-Activates e old new =
-    (width m : ℕ) (H : List Event) → IsLegalWithin width m H → IsAllowedWithin width m H e.kind → StandsFor old.rows H → old.active ≡ active H → new.active ≡ active (e ∷ H)
-
--- ongoing operations that were those of a legal history are those of it with the event that was allowed after it
-abbrev pub Engages : Event → Occurrences → Occurrences → Type 0
-Engages e old new =
-    (width m : ℕ) (H : List Event) → IsLegalWithin width m H → IsAllowedWithin width m H e.kind → StandsFor old.rows H → old.ongoing ≡ ongoings H
-    → new.ongoing ≡ ongoings (e ∷ H)
-
--- descriptors that were those of a history's instances are those of it with the event
-abbrev pub Describes : Event → Occurrences → Occurrences → Type 0
-Describes e old new = (H : List Event) → old.vnfds ≡ vnfds H → new.vnfds ≡ vnfds (e ∷ H)
+    (width m : ℕ) (H : List Event) → width ≤ 4 → IsLegalWithin width m H → IsAllowedWithin width m H e.kind → IsTableOf old H → IsTableOf new (e ∷ H)
 
 -- what is found is the number of the instance's ongoing operation in each legal history whose ongoing operations these are
 abbrev pub GoesOn : ℕ → Option ℕ → List (Option ℕ) → Type 0

@@ -9,7 +9,7 @@ ghost use Rattle.occ_table.specs.Going.{Rises, active_moved};
 ghost use Rattle.occ_table.specs.Ongoing.{instance_in, ongoing_in, ongoing_moved, with_ongoing};
 ghost use Rattle.occ_table.specs.Steps.{described, first_row, row_after, rows_about, update, after_granted, after_told, is_bringing, is_later};
 ghost use Rattle.occ_table.specs.Rows.{StandsFor};
-ghost use Rattle.occ_table.specs.Table.{Activates, Applies, Counts, Describes, Engages, Follows, GoesOn, HasRoom, HasRoomFor, Looks, Occurrences, Reserved, needs_room};
+ghost use Rattle.occ_table.specs.Table.{Applies, Counts, Follows, GoesOn, HasRoom, HasRoomFor, IsTableOf, Looks, Occurrences, Reserved, needs_room};
 
 use crate::going::{append, first_above, move_active, reserve_places};
 use crate::ongoing::{instance_of, move_ongoing, ongoing_at, set_ongoing};
@@ -111,10 +111,7 @@ fn is_later(answer: &GrantTry) -> bool
 impl OccTable {
     /// A table with no row, which takes no memory until something is reserved.
     pub fn new(alloc: Global) -> Self
-        ensures rows { result.rows ≡ [] }
-        ensures active { result.active ≡ [] }
-        ensures ongoing { result.ongoing ≡ [] }
-        ensures vnfds { result.vnfds ≡ [] }
+        ensures table { IsTableOf result [] }
         ensures row { result.reserved.row ≡ None }
         ensures grant { result.reserved.grant ≡ None }
         ensures location { result.reserved.location ≡ None }
@@ -358,9 +355,6 @@ impl OccTable {
     pub fn apply(&mut self, e: &Event)
         requires room { HasRoom e.now self.old.reserved }
         ensures applies { Applies e.now self.old self.new }
-        ensures activates { Activates e.now self.old self.new }
-        ensures engages { Engages e.now self.old self.new }
-        ensures describes { Describes e.now self.old self.new }
         ensures stays { needs_room e.now.kind ≡ false → self.new.reserved ≡ self.old.reserved }
     {
         match &e.kind {
