@@ -134,10 +134,7 @@ impl OccTable {
         moment: Moment,
         operation: &Operation,
     ) -> Result<(), AllocError>
-        ensures kept { self.new.rows ≡ self.old.rows }
-        ensures active { self.new.active ≡ self.old.active }
-        ensures ongoing { self.new.ongoing ≡ self.old.ongoing }
-        ensures vnfds { self.new.vnfds ≡ self.old.vnfds }
+        ensures kept { self.new ≡ record self.old { reserved = self.new.reserved } }
         ensures row { OnOk result (self.new.reserved.row ≡ Some (first_row moment operation.now)) }
         ensures spare { OnOk result (0 < self.new.reserved.spare) }
         ensures places { OnOk result (0 < self.new.reserved.places) }
@@ -158,10 +155,7 @@ impl OccTable {
         places: &Listed<Place>,
         spots: &Listed<u8>,
     ) -> Result<(), AllocError>
-        ensures kept { self.new.rows ≡ self.old.rows }
-        ensures active { self.new.active ≡ self.old.active }
-        ensures ongoing { self.new.ongoing ≡ self.old.ongoing }
-        ensures vnfds { self.new.vnfds ≡ self.old.vnfds }
+        ensures kept { self.new ≡ record self.old { reserved = self.new.reserved } }
         ensures grant { OnOk result (self.new.reserved.grant ≡ Some (record { name = name; places = places.now; spots = spots.now })) }
     {
         let grant = Grant::copied(alloc, name, places.as_slice(), spots.as_slice())?;
@@ -171,10 +165,7 @@ impl OccTable {
 
     /// Reserves the location of a grant.
     fn reserve_location(&mut self, location: &Line) -> Result<(), AllocError>
-        ensures kept { self.new.rows ≡ self.old.rows }
-        ensures active { self.new.active ≡ self.old.active }
-        ensures ongoing { self.new.ongoing ≡ self.old.ongoing }
-        ensures vnfds { self.new.vnfds ≡ self.old.vnfds }
+        ensures kept { self.new ≡ record self.old { reserved = self.new.reserved } }
         ensures location { OnOk result (self.new.reserved.location ≡ Some location.now) }
     {
         let location = location.clone()?;
@@ -184,10 +175,7 @@ impl OccTable {
 
     /// Reserves a place for an instance.
     fn reserve_instance(&mut self) -> Result<(), AllocError>
-        ensures kept { self.new.rows ≡ self.old.rows }
-        ensures active { self.new.active ≡ self.old.active }
-        ensures ongoing { self.new.ongoing ≡ self.old.ongoing }
-        ensures vnfds { self.new.vnfds ≡ self.old.vnfds }
+        ensures kept { self.new ≡ record self.old { reserved = self.new.reserved } }
         ensures instances { OnOk result (0 < self.new.reserved.instances) }
         ensures names { OnOk result (0 < self.new.reserved.names) }
     {
@@ -200,10 +188,7 @@ impl OccTable {
     ///
     /// Source: own rule.
     pub fn reserve_for(&mut self, alloc: Global, e: &Event) -> Result<(), AllocError>
-        ensures kept { self.new.rows ≡ self.old.rows }
-        ensures active { self.new.active ≡ self.old.active }
-        ensures ongoing { self.new.ongoing ≡ self.old.ongoing }
-        ensures vnfds { self.new.vnfds ≡ self.old.vnfds }
+        ensures kept { self.new ≡ record self.old { reserved = self.new.reserved } }
         ensures room { OnOk result (HasRoom e.now self.new.reserved) }
         ensures stays { needs_room e.now.kind ≡ false → self.new.reserved ≡ self.old.reserved }
     {
