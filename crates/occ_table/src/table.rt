@@ -1,7 +1,7 @@
 //! The table: a row for each occurrence, in the order of their numbers.
 
 ghost use Rattle.occ_table.specs.declared.rows.Grant.{Grant};
-ghost use Rattle.std.specs.Prelude.{◌≡◌, ◌-◌, ◌<◌, ◌≤◌, ℕ, List, [], ◌++◌, ◌∷◌, Some, None, true, false, find, nat_lt, length, option_copied, slice_get, OnOk, vec_len, vec_capacity};
+ghost use Rattle.std.specs.Prelude.{◌≡◌, ◌-◌, ◌<◌, ◌≤◌, ℕ, List, [], ◌++◌, ◌∷◌, Some, None, true, false, find, nat_lt, length, option_copied, slice_get, IsOk, OnOk, vec_len, vec_capacity};
 ghost use Rattle.lcm_events.specs.declared.events.EventKind.TheVariants.{GrantTried};
 ghost use Rattle.lcm_model.specs.Operations.{occurrence_of};
 ghost use Rattle.occ_table.specs.Descriptors.{vnfd_in};
@@ -184,12 +184,14 @@ impl OccTable {
         Ok(())
     }
 
-    /// Reserves the memory that an event needs, so that `apply` takes none. The rows stay, also after an error.
+    /// Reserves the memory that an event needs, so that `apply` takes none. All else stays, also after an error, which never comes for an event
+    /// that needs no memory.
     ///
     /// Source: own rule.
     pub fn reserve_for(&mut self, alloc: Global, e: &Event) -> Result<(), AllocError>
         ensures kept { self.new ≡ record self.old { reserved = self.new.reserved } }
         ensures room { OnOk result (HasRoom e.now self.new.reserved) }
+        ensures free { needs_room e.now.kind ≡ false → IsOk result }
         ensures stays { needs_room e.now.kind ≡ false → self.new.reserved ≡ self.old.reserved }
     {
         match &e.kind {
