@@ -1,0 +1,59 @@
+//! The entries of the history on standard input.
+
+ghost use Rattle.std.specs.Prelude.{◌<◌, ◌≤◌, ◌+◌, length, IfOk, IfSome};
+
+use anyhow::{Context, Result, bail};
+use event_codec::decode;
+use lcm_events::Event;
+use std::alloc::Global;
+
+/// Bytes before the spelling of an event: whether it happens, and the spelling's length.
+const HEAD: usize = 5;
+
+/// An event, and whether it happens.
+#[derive(Drop)]
+pub struct Entry {
+    /// Whether it is allowed and happens.
+    pub happens: bool,
+    /// The event.
+    pub event: Event,
+}
+
+/// The spelling that these bytes begin with, behind its head, and where it ends.
+fn front(bytes: &[u8]) -> Option<(bool, &[u8])>
+    ensures { IfSome result (λ r. length r.1.now + 5 ≤ length bytes.now) }
+{
+    let [happens, a, b, c, d, rest @ ..] = bytes else {
+        return None;
+    };
+    let length = u32::from_be_bytes([*a, *b, *c, *d]) as usize;
+    if rest.len() < length {
+        return None;
+    }
+    let (spelling, _rest) = rest.split_at(length);
+    Some((*happens == 1, spelling))
+}
+
+/// The entry that these bytes begin with, and how many bytes it takes.
+fn read_entry(alloc: Global, bytes: &[u8]) -> Result<(Entry, usize)>
+    ensures { IfOk result (λ r. (0 < r.1) × (r.1 ≤ length bytes.now)) }
+{
+    let Some((happens, spelling)) = front(bytes) else {
+        bail!("the history ends within an entry");
+    };
+    let event = decode(alloc, spelling).context("an entry is no event")?;
+    Ok((Entry { happens, event }, HEAD + spelling.len()))
+}
+
+/// The entries that these bytes are.
+pub fn read_entries(alloc: Global, bytes: &[u8]) -> Result<Vec<Entry>> {
+    let mut entries = Vec::new(alloc);
+    let mut at = 0;
+    while at < bytes.len() {
+        let read = read_entry(alloc, &bytes[at..]);
+        let (entry, taken) = read.with_context(|| format!(in alloc; "at byte {at}"))?;
+        entries.push(entry)?;
+        at += taken;
+    }
+    Ok(entries)
+}
