@@ -72,10 +72,11 @@ fn tag(attempt: u32) -> Tag {
     }
 }
 
-fn asked(rt: &impl Abort, alloc: Global) -> Result<EventKind, Fail> {
+/// Two links are asked for as this occurrence.
+fn asked(rt: &impl Abort, alloc: Global, occ: u64) -> Result<Event, Fail> {
     let changes = vec![in alloc; created(0), created(1)]?;
-    Ok(EventKind::Asked(Operation {
-        occ: 1,
+    Ok(at_once(EventKind::Asked(Operation {
+        occ,
         instance: 7,
         role: Role::Orchestrator,
         ask: Ask::Instantiate {
@@ -83,34 +84,61 @@ fn asked(rt: &impl Abort, alloc: Global) -> Result<EventKind, Fail> {
             level: None,
         },
         changes: Listed::of(changes),
+    })))
+}
+
+fn place(rt: &impl Abort) -> Place {
+    Place {
+        vim: name(rt, "vim-1"),
+        zone: name(rt, "zone-1"),
+    }
+}
+
+fn granted(rt: &impl Abort, alloc: Global) -> Result<Event, Fail> {
+    Ok(at_once(EventKind::Granted {
+        occ: 1,
+        grant: name(rt, "grant-1"),
+        places: Listed::of(vec![in alloc; place(rt)]?),
+        spots: Listed::of(vec![in alloc; 0u8, 0u8]?),
     }))
 }
 
-fn granted(rt: &impl Abort, alloc: Global) -> Result<EventKind, Fail> {
-    let place = Place {
-        vim: name(rt, "vim-1"),
-        zone: name(rt, "zone-1"),
-    };
-    Ok(EventKind::Granted {
-        occ: 1,
-        grant: name(rt, "grant-1"),
-        places: Listed::of(vec![in alloc; place]?),
-        spots: Listed::of(vec![in alloc; 0u8, 0u8]?),
-    })
+/// An event of one moment, which is that of all of them.
+fn at_once(kind: EventKind) -> Event {
+    Event {
+        moment: Moment::of(1_785_672_000_000),
+        kind,
+    }
 }
 
 /// Lets the table follow an event, with what it needs reserved before.
-fn follow(table: &mut OccTable, alloc: Global, kind: EventKind) -> Result<(), Fail> {
-    let event = Event {
-        moment: Moment::of(1_785_672_000_000),
-        kind,
-    };
-    table.reserve_for(alloc, &event)?;
-    table.apply(&event);
+fn follow(table: &mut OccTable, alloc: Global, event: &Event) -> Result<(), Fail> {
+    table.reserve_for(alloc, event)?;
+    table.apply(event);
     Ok(())
 }
 
-/// Whether the only occurrence is shown so.
+/// An operation is asked for as this occurrence.
+fn ask(rt: &impl Abort, alloc: Global, table: &mut OccTable, occ: u64) -> Result<(), Fail> {
+    follow(table, alloc, &asked(rt, alloc, occ)?)
+}
+
+/// A try of the exchange of the first occurrence is in trouble.
+fn try_in_vain(alloc: Global, table: &mut OccTable) -> Result<(), Fail> {
+    let answer = GrantTry::Trouble;
+    follow(
+        table,
+        alloc,
+        &at_once(EventKind::GrantTried { occ: 1, answer }),
+    )
+}
+
+/// The first occurrence is granted.
+fn grant(rt: &impl Abort, alloc: Global, table: &mut OccTable) -> Result<(), Fail> {
+    follow(table, alloc, &granted(rt, alloc)?)
+}
+
+/// Whether the first occurrence is shown so.
 fn shows(table: &OccTable, shown: Shown) -> bool {
     match table.occurrence(1) {
         Some(row) => is_shown(row, &shown),
@@ -118,39 +146,90 @@ fn shows(table: &OccTable, shown: Shown) -> bool {
     }
 }
 
-#[test]
-fn a_row_follows_the_exchange_of_its_grant(rt: HostRuntime) -> Result<(), Fail> {
-    let alloc = rt.alloc();
-    let mut table = OccTable::new(alloc);
+/// Whether a copy of the first occurrence's row is shown so.
+fn copy_shows(table: &OccTable, alloc: Global, shown: Shown) -> Result<bool, Fail> {
+    match table.occurrence(1) {
+        Some(row) => {
+            let copy = row.copy(alloc)?;
+            Ok(is_shown(&copy, &shown))
+        }
+        None => Ok(false),
+    }
+}
+
+/// An operation is asked for in a table that has none.
+fn ask_first(rt: &impl Abort, alloc: Global, table: &mut OccTable) -> Result<(), Fail> {
     assert_eq!(rt; table.made(), 0);
     assert!(rt; table.occurrence(1).is_none());
-    follow(&mut table, alloc, asked(&rt, alloc)?)?;
+    ask(rt, alloc, table, 1)?;
     assert_eq!(rt; table.made(), 1);
-    assert!(rt; shows(&table, ASKED));
+    assert!(rt; shows(table, ASKED));
     assert!(rt; table.occurrence(0).is_none());
     assert!(rt; table.occurrence(2).is_none());
-    let trouble = EventKind::GrantTried {
-        occ: 1,
-        answer: GrantTry::Trouble,
-    };
-    follow(&mut table, alloc, trouble)?;
-    assert!(rt; shows(&table, Shown { tries: 1, ..ASKED }));
-    follow(&mut table, alloc, granted(&rt, alloc)?)?;
+    Ok(())
+}
+
+/// The exchange of the grant of the first occurrence has trouble, and then a grant.
+fn exchange(rt: &impl Abort, alloc: Global, table: &mut OccTable) -> Result<(), Fail> {
+    let tried = Shown { tries: 1, ..ASKED };
+    try_in_vain(alloc, table)?;
+    assert!(rt; shows(table, tried));
+    grant(rt, alloc, table)?;
     assert!(rt;
         shows(
-            &table,
+            table,
             Shown {
-                tries: 1,
                 ended: true,
-                ..ASKED
+                ..tried
             }
         )
     );
     Ok(())
 }
 
-/// The events of two attempts at a change, the first of which never began, and of two cancels, each with what is shown after it.
-fn attempts(rt: &impl Abort, alloc: Global) -> Result<Vec<(EventKind, Shown)>, Fail> {
+#[test]
+fn a_row_follows_the_exchange_of_its_grant(rt: HostRuntime) -> Result<(), Fail> {
+    let mut table = OccTable::new(rt.alloc());
+    ask_first(&rt, rt.alloc(), &mut table)?;
+    exchange(&rt, rt.alloc(), &mut table)
+}
+
+/// An event about the first occurrence and its first change.
+#[derive(Clone, Copy)]
+enum Step {
+    Moves(OpState),
+    Begins(u32),
+    CallFails(u32),
+    NeverBegan(u32),
+    IsDone(u32),
+    IsCancelled(CancelMode),
+}
+
+/// What happens in a step.
+fn kind_of(rt: &impl Abort, step: Step) -> EventKind {
+    match step {
+        Step::Moves(to) => EventKind::Moved { occ: 1, to },
+        Step::Begins(attempt) => EventKind::Intent(tag(attempt)),
+        Step::CallFails(attempt) => EventKind::CallFailed(tag(attempt)),
+        Step::NeverBegan(attempt) => EventKind::Settled {
+            tag: tag(attempt),
+            outcome: Outcome::NotBegun,
+        },
+        Step::IsDone(attempt) => EventKind::Settled {
+            tag: tag(attempt),
+            outcome: Outcome::Done(name(rt, "res-1")),
+        },
+        Step::IsCancelled(mode) => EventKind::CancelAsked { occ: 1, mode },
+    }
+}
+
+/// Lets the table follow a step.
+fn take(rt: &impl Abort, alloc: Global, table: &mut OccTable, step: Step) -> Result<(), Fail> {
+    follow(table, alloc, &at_once(kind_of(rt, step)))
+}
+
+/// Two attempts at a change, the first of which never began, and two cancels, each step with what is shown after it.
+fn attempts() -> [(Step, Shown); 11] {
     let processing = Shown {
         state: OpState::Processing,
         ..ASKED
@@ -192,44 +271,76 @@ fn attempts(rt: &impl Abort, alloc: Global) -> Result<Vec<(EventKind, Shown)>, F
         state: OpState::FailedTemp,
         ..done
     };
-    Ok(vec![in alloc;
-        (moved(OpState::Processing), processing),
-        (EventKind::Intent(tag(1)), begun),
-        (EventKind::CallFailed(tag(1)), begun),
-        (settled(1, Outcome::NotBegun), troubled),
-        (moved(OpState::FailedTemp), stopped),
-        (moved(OpState::Processing), resumed),
-        (EventKind::Intent(tag(2)), again),
-        (settled(2, Outcome::Done(name(rt, "res-1"))), done),
-        (cancel(CancelMode::Forceful), cancelled),
-        (cancel(CancelMode::Graceful), cancelled),
-        (moved(OpState::FailedTemp), left),
-    ]?)
+    [
+        (Step::Moves(OpState::Processing), processing),
+        (Step::Begins(1), begun),
+        (Step::CallFails(1), begun),
+        (Step::NeverBegan(1), troubled),
+        (Step::Moves(OpState::FailedTemp), stopped),
+        (Step::Moves(OpState::Processing), resumed),
+        (Step::Begins(2), again),
+        (Step::IsDone(2), done),
+        (Step::IsCancelled(CancelMode::Forceful), cancelled),
+        (Step::IsCancelled(CancelMode::Graceful), cancelled),
+        (Step::Moves(OpState::FailedTemp), left),
+    ]
 }
 
-fn moved(to: OpState) -> EventKind {
-    EventKind::Moved { occ: 1, to }
-}
-
-fn cancel(mode: CancelMode) -> EventKind {
-    EventKind::CancelAsked { occ: 1, mode }
-}
-
-fn settled(attempt: u32, outcome: Outcome) -> EventKind {
-    EventKind::Settled {
-        tag: tag(attempt),
-        outcome,
+/// The row of the first occurrence follows attempts at its first change, moves and cancels, and so do its copies.
+fn follow_attempts(rt: &impl Abort, alloc: Global, table: &mut OccTable) -> Result<(), Fail> {
+    for (step, shown) in attempts() {
+        take(rt, alloc, table, step)?;
+        assert!(rt; shows(table, shown));
+        assert!(rt; copy_shows(table, alloc, shown)?);
     }
+    Ok(())
 }
 
 #[test]
-fn a_row_follows_attempts_moves_and_cancels(rt: HostRuntime) -> Result<(), Fail> {
-    let alloc = rt.alloc();
-    let mut table = OccTable::new(alloc);
-    follow(&mut table, alloc, asked(&rt, alloc)?)?;
-    for (step, (kind, shown)) in attempts(&rt, alloc)?.into_iter().enumerate() {
-        follow(&mut table, alloc, kind)?;
-        assert!(rt; shows(&table, shown), "step {step}");
-    }
+fn a_row_and_its_copy_follow_attempts_moves_and_cancels(rt: HostRuntime) -> Result<(), Fail> {
+    let mut table = OccTable::new(rt.alloc());
+    ask_first(&rt, rt.alloc(), &mut table)?;
+    follow_attempts(&rt, rt.alloc(), &mut table)
+}
+
+/// Grants of the first occurrence, which asks for one, are judged by their identifiers and places; once it has one, no other is.
+fn judge_grants(rt: &impl Abort, alloc: Global, table: &mut OccTable) -> Result<(), Fail> {
+    let (named, unnamed) = (name(rt, "grant-1"), name(rt, ""));
+    let places = [place(rt)];
+    assert!(rt; table.may_grant(alloc, 1, &named, &places, &[0, 0])?);
+    assert!(rt; !table.may_grant(alloc, 1, &unnamed, &places, &[0, 0])?);
+    assert!(rt; !table.may_grant(alloc, 1, &named, &places, &[0])?);
+    assert!(rt; !table.may_grant(alloc, 1, &named, &places, &[0, 1])?);
+    assert!(rt; !table.may_grant(alloc, 2, &named, &places, &[0, 0])?);
+    grant(rt, alloc, table)?;
+    assert!(rt; !table.may_grant(alloc, 1, &named, &places, &[0, 0])?);
     Ok(())
+}
+
+#[test]
+fn a_grant_is_judged_by_its_places(rt: HostRuntime) -> Result<(), Fail> {
+    let mut table = OccTable::new(rt.alloc());
+    ask_first(&rt, rt.alloc(), &mut table)?;
+    judge_grants(&rt, rt.alloc(), &mut table)
+}
+
+/// Two occurrences are active, then the second alone, then both again.
+fn look_for_active(rt: &impl Abort, alloc: Global, table: &mut OccTable) -> Result<(), Fail> {
+    assert_eq!(rt; table.next_active(0), Some(1));
+    assert_eq!(rt; table.next_active(1), None);
+    ask(rt, alloc, table, 2)?;
+    assert_eq!(rt; table.next_active(1), Some(2));
+    take(rt, alloc, table, Step::Moves(OpState::FailedTemp))?;
+    assert_eq!(rt; table.next_active(0), Some(2));
+    take(rt, alloc, table, Step::Moves(OpState::RollingBack))?;
+    assert_eq!(rt; table.next_active(0), Some(1));
+    assert_eq!(rt; table.next_active(2), None);
+    Ok(())
+}
+
+#[test]
+fn the_next_active_occurrence_is_found(rt: HostRuntime) -> Result<(), Fail> {
+    let mut table = OccTable::new(rt.alloc());
+    ask_first(&rt, rt.alloc(), &mut table)?;
+    look_for_active(&rt, rt.alloc(), &mut table)
 }
