@@ -12,7 +12,7 @@ use crate::totals::Totals;
 use anyhow::{Result, ensure};
 use lcm_events::{Change, Event, EventKind, Operation};
 use lcm_judge::is_allowed;
-use lcm_model::{count_operations, operation_in, state_after, works};
+use lcm_model::{count_instances, count_operations, goes_on_in, operation_in, state_after, works};
 use occ_table::OccTable;
 use std::alloc::{AllocError, AllocGlobal, Global};
 use std::io::Print;
@@ -132,6 +132,29 @@ fn compare_active(
     Ok(())
 }
 
+/// The number of the instance's operation that isn't over.
+fn ongoing_in(past: &[Event], instance: u64) -> Option<u64> {
+    for event in past {
+        if let EventKind::Asked(operation) = &event.kind {
+            if operation.instance == instance && goes_on_in(past, operation) {
+                return Some(operation.occ);
+            }
+        }
+    }
+    None
+}
+
+/// Compares the ongoing operation of each instance that was created, and of the numbers around them.
+fn compare_ongoing(rt: &impl Print, table: &OccTable, past: &[Event]) -> Result<()> {
+    let made = count_instances(past);
+    for instance in 0..made.saturating_add(2) {
+        if table.ongoing(instance) != ongoing_in(past, instance) {
+            println!(rt; "after {} events: instance {instance}: ongoing", past.len())?;
+        }
+    }
+    Ok(())
+}
+
 /// Compares a copy of the row that an event is about.
 fn compare_copy(
     alloc: Global,
@@ -161,6 +184,7 @@ fn compare(
 ) -> Result<()> {
     compare_rows(rt, table, past, totals)?;
     compare_active(rt, table, past, totals)?;
+    compare_ongoing(rt, table, past)?;
     if let Some(occ) = about {
         compare_copy(rt.alloc(), table, past, occ, totals)?;
     }
@@ -199,6 +223,22 @@ fn judge(
     Ok((allowed, by_table.unwrap_or(allowed)))
 }
 
+/// Lets the table follow an event that happens, behind these.
+fn happen(
+    alloc: Global,
+    table: &mut OccTable,
+    past: &mut Vec<Event>,
+    event: Event,
+) -> Result<(), AllocError>
+    requires ready { IsReady past.old.items }
+    requires allowed { IsAllowed 1 (reverse past.old.items) event.kind × IsSmall event.kind }
+    ensures { IsReady past.new.items }
+{
+    let followed = follow(alloc, table, &event);
+    put(past, event)?;
+    followed
+}
+
 /// Judges an event, and lets the table follow it where it happens.
 fn take(
     rt: &(impl Print + AllocGlobal),
@@ -219,9 +259,24 @@ fn take(
     totals.events.add(allowed && by_table);
     ensure!(allowed, "event {} isn't allowed", past.len());
     let about = occurrence_in(&event.kind);
-    follow(rt.alloc(), table, &event)?;
-    put(past, event)?;
+    happen(rt.alloc(), table, past, event)?;
     compare(rt, table, past.as_slice(), about, totals)
+}
+
+/// Lets the table follow each of these, behind the events so far.
+fn follow_each(
+    rt: &(impl Print + AllocGlobal),
+    table: &mut OccTable,
+    past: &mut Vec<Event>,
+    entries: Vec<Entry>,
+    totals: &mut Totals,
+) -> Result<()>
+    requires { IsReady past.old.items }
+{
+    for entry in entries {
+        take(rt, table, past, entry, totals)?;
+    }
+    Ok(())
 }
 
 /// Follows a history.
@@ -230,8 +285,9 @@ pub fn follow_all(rt: &(impl Print + AllocGlobal), entries: Vec<Entry>) -> Resul
     let mut totals = Totals::new();
     let mut table = OccTable::new(rt.alloc());
     let mut past = Vec::new(rt.alloc());
-    for entry in entries {
-        take(rt, &mut table, &mut past, entry, &mut totals)?;
-    }
+    let followed = follow_each(rt, &mut table, &mut past, entries, &mut totals);
+    drop(past);
+    drop(table);
+    followed?;
     Ok(totals)
 }

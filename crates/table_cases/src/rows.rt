@@ -2,10 +2,10 @@
 
 use crate::asks::same_ask;
 use crate::model::{asked_in, cancel_in, cause_in, entered_in, grant_in};
-use lcm_events::{Change, Event, EventKind, Operation};
+use lcm_events::{Change, Event, EventKind, Operation, Place};
 use lcm_model::{
-    count_attempts, count_open, count_troubled, first_open_in, has_call_failed_in, has_ended_in,
-    has_trouble_in, is_open_in, location_in, net_of, state_after,
+    count_attempts, count_open, count_troubled, ends, first_open_in, has_call_failed_in,
+    has_ended_in, has_trouble_in, is_open_in, location_in, net_of, state_after, vnfd_of,
 };
 use occ_table::{Grant, OccRow, PHASES, Pending};
 use vnfm_base::Line;
@@ -23,8 +23,14 @@ fn first_wrong(fields: &[Field]) -> Option<&'static str> {
     None
 }
 
-/// Whether these are the numbers of attempts at each change of the occurrence.
-fn are_attempts(past: &[Event], occ: u64, attempts: &[u32]) -> bool {
+/// Whether these are the numbers of attempts at each of so many changes of the occurrence, or none are kept once it is over.
+fn are_attempts(past: &[Event], occ: u64, changes: usize, attempts: &[u32]) -> bool {
+    if ends(state_after(past, occ)) {
+        return attempts.is_empty();
+    }
+    if attempts.len() != changes {
+        return false;
+    }
     for (change, number) in attempts.iter().enumerate() {
         if count_attempts(past, occ, change as u64) != *number as u64 {
             return false;
@@ -88,8 +94,16 @@ fn is_location(told: Option<&Line>, location: &Option<Line>) -> bool {
     }
 }
 
-/// Whether this is what the event granted.
-fn is_grant(granted: Option<&EventKind>, grant: &Option<Grant>) -> bool {
+/// Whether these are the places of a grant, or none are kept once its occurrence is over.
+fn are_kept(over: bool, places: &[Place], spots: &[u8], given: &Grant) -> bool {
+    if over {
+        return given.places.as_slice().is_empty() && given.spots.as_slice().is_empty();
+    }
+    places == given.places.as_slice() && spots == given.spots.as_slice()
+}
+
+/// Whether this is what the event granted, of an occurrence that is over or not.
+fn is_grant(over: bool, granted: Option<&EventKind>, grant: &Option<Grant>) -> bool {
     match (granted, grant) {
         (
             Some(
@@ -101,11 +115,7 @@ fn is_grant(granted: Option<&EventKind>, grant: &Option<Grant>) -> bool {
                 },
             ),
             Some(given),
-        ) => {
-            *name == given.name
-                && places.as_slice() == given.places.as_slice()
-                && spots.as_slice() == given.spots.as_slice()
-        }
+        ) => { *name == given.name && are_kept(over, places.as_slice(), spots.as_slice(), given) }
         (None, None) => true,
         _ => false,
     }
@@ -115,6 +125,7 @@ fn is_grant(granted: Option<&EventKind>, grant: &Option<Grant>) -> bool {
 fn wrong_ask(past: &[Event], operation: &Operation, row: &OccRow) -> Option<&'static str> {
     first_wrong(&[
         ("instance", row.instance == operation.instance),
+        ("vnfd", vnfd_of(past, operation.instance) == Some(row.vnfd)),
         ("role", row.role == operation.role),
         ("ask", same_ask(&row.ask, &operation.ask)),
         (
@@ -139,10 +150,7 @@ fn wrong_work(past: &[Event], occ: u64, row: &OccRow) -> Option<&'static str> {
         ),
         ("waiting", are_tallies(changes, nets, 0, &row.waiting)),
         ("made", are_tallies(changes, nets, 1, &row.made)),
-        (
-            "attempts",
-            attempts.len() == changes.len() && are_attempts(past, occ, attempts),
-        ),
+        ("attempts", are_attempts(past, occ, changes.len(), attempts)),
         ("trouble", row.trouble == has_trouble_in(past, occ)),
         ("pending", are_open(past, occ, row.pending.as_slice())),
         ("cause", row.cause == cause_in(past, occ)),
@@ -158,7 +166,14 @@ fn wrong_exchange(past: &[Event], occ: u64, row: &OccRow) -> Option<&'static str
             "location",
             is_location(location_in(past, occ), &row.location),
         ),
-        ("grant", is_grant(grant_in(past, occ), &row.grant)),
+        (
+            "grant",
+            is_grant(
+                ends(state_after(past, occ)),
+                grant_in(past, occ),
+                &row.grant,
+            ),
+        ),
         ("cancel", row.cancel == cancel_in(past, occ)),
     ])
 }

@@ -1,5 +1,5 @@
 use Rattle.table_cases.specs.Ready.{IsReady}
-use Rattle.table_cases.proofs.following.follow_all.Given as goal
+use Rattle.table_cases.proofs.following.follow_each.Given as goal
 
 abbrev pub invariant-loop-entry : goal.invariant-loop-entry
 invariant-loop-entry g l =
