@@ -1,6 +1,6 @@
 //! The plan of an operation over what stands, or why there is none.
 
-ghost use Rattle.std.specs.Prelude.{◌≡◌, ◌*◌, ◌≤◌, ◌⊎◌, ◌&&◌, ◌==◌, IfErr, IfOk, None, Some, false, length, map, nat_lt, true};
+ghost use Rattle.std.specs.Prelude.{◌≡◌, ◌*◌, ◌≤◌, ◌⊎◌, ◌&&◌, ◌==◌, Err, IfErr, IfOk, IfSome, None, Some, false, length, map, nat_lt, true};
 ghost use Rattle.std.specs.Cmp.Lexicographic.{pointwise};
 ghost use Rattle.std.specs.List.{enumerate_from, list_all};
 ghost use Rattle.lcm_model.specs.Descriptors.{IsValid, are_levels_of};
@@ -148,6 +148,7 @@ fn sized_plan(
 /// The plan of a case, or why there is none.
 fn plan_in(alloc: Global, case: &PlanCase) -> Result<Vec<Change>, PlanRefusal>
     requires { CanBePlanned case.now.vnfd.now case.now.holding.now case.now.to.now }
+    ensures first { IfSome (first_refusal case.now.vnfd.now case.now.holding.now case.now.ask.now case.now.to.now) (λ why. result ≡ Err why) }
     ensures planned { IfOk result (λ changes. changes.items ≡ plan (case_in case.now)) }
     ensures accepted { IfOk result (λ changes. refusal case.now.vnfd.now case.now.holding.now case.now.ask.now case.now.to.now ≡ None) }
     ensures refused { IfErr result (λ why. (why ≡ PlanRefusal.Memory) ⊎ (refusal case.now.vnfd.now case.now.holding.now case.now.ask.now case.now.to.now ≡ Some why)) }
@@ -171,7 +172,7 @@ fn plan_in(alloc: Global, case: &PlanCase) -> Result<Vec<Change>, PlanRefusal>
 /// Refusals, in this order: `UnknownVnfc` exactly where HEAL names a machine of which nothing stands; `NothingToDo` exactly
 /// where SCALE_TO_LEVEL aims at the present levels or OPERATE at the present state; `AboveProfile` exactly where a VDU would
 /// have more machines than its maximum, but for TERMINATE; `TooMany` exactly where something is made, and what stands and what
-/// is made are more than 2,500 definitions; `Memory`, which may stand in place of a plan or of `TooMany`.
+/// is made are more than 2,500 definitions; `Memory`, which may stand in place of a plan or of `TooMany` alone.
 /// A plan has at most 5,000 changes. Its time is that of a few passes over what stands and over the plan, and of a search
 /// for each item; where HEAL names machines, each of a VDU's machines is counted over what stands.
 ///
@@ -185,6 +186,7 @@ pub fn plan(
     to: &Levels,
 ) -> Result<Changes, PlanRefusal>
     requires { CanBePlanned vnfd.now holding.now to.now }
+    ensures first { IfSome (first_refusal vnfd.now holding.now ask.now to.now) (λ why. result ≡ Err why) }
     ensures planned { IfOk result (λ changes. changes ≡ plan (case_of vnfd.now holding.now ask.now to.now)) }
     ensures accepted { IfOk result (λ changes. refusal vnfd.now holding.now ask.now to.now ≡ None) }
     ensures refused { IfErr result (λ why. (why ≡ PlanRefusal.Memory) ⊎ (refusal vnfd.now holding.now ask.now to.now ≡ Some why)) }
