@@ -1,47 +1,31 @@
 -- What holds of a legal history, and of each part that it begins with.
 use Rattle.std.proofs.Common.{◌≡◌, ℕ, List, [], ◌∷◌, ◌++◌, ◌+◌, ◌<◌, ◌≤◌, true, false, Bool, arith, ap, Bor, drop, get_or, length, map, option_copied, reverse, subst, sym, take, ◌∙◌}
 use Rattle.std.proofs.lemmas.List.{reverse-append, take-append-drop, take_more}
-use Rattle.std.specs.Prelude.{IfSome, IsTrue, Option, Some, None, filter, if◌then◌else◌, option_and_then, ◌↔◌}
-use Rattle.lcm_events.specs.Same.{same_name}
+use Rattle.std.specs.Prelude.{IfSome, IsTrue, Option, Some, None, filter, if◌then◌else◌, ◌↔◌}
 use Rattle.lcm_events.specs.declared.descriptor.Vnfd.{Vnfd}
 use Rattle.lcm_events.specs.declared.events.Event.{Event}
 use Rattle.lcm_events.specs.declared.events.EventKind.{EventKind}
-use Rattle.lcm_events.specs.declared.events.EventKind.TheVariants.{Asked, Onboarded}
+use Rattle.lcm_events.specs.declared.events.EventKind.TheVariants.{Asked}
 use Rattle.lcm_events.specs.declared.events.Operation.{Operation}
-use Rattle.lcm_judge.specs.Judged.{HasValidDescriptors, HaveSmallSerials}
+use Rattle.lcm_judge.specs.Judged.{HaveSmallSerials, IsLegalOfOne}
 use Rattle.lcm_model.specs.Allowed.{IsAllowed, IsLegal}
-use Rattle.lcm_model.specs.Descriptors.{IsValid}
 use Rattle.lcm_model.specs.Holding.{is_of_instance, top, top_in}
-use Rattle.lcm_model.specs.Lives.{CreatedInstance, creation, descriptor, descriptor_named}
+use Rattle.lcm_model.specs.Lives.{descriptor}
 use Rattle.lcm_model.specs.Operations.{operations}
 use Rattle.lcm_model.specs.Words.{greatest}
-use Rattle.lcm_model.proofs.LevelLaws.{choose}
+use Rattle.lcm_model.specs.Work.{window}
+use Rattle.lcm_plans.specs.Cases.{CanBeAsked, HasSmallSerials}
 
 -- what a legal history begins with is legal
 pub legal_before : (m : ℕ) (more H : List Event) → IsLegal m (more ++ H) → IsLegal m H
 legal_before m [] H l = l
 legal_before m (e ∷ more) H l = legal_before m more H l.1
 
-still_valid : (m t : ℕ) (id : List ℕ) (H : List Event) (k : EventKind) → IsAllowed m H k → IfSome (descriptor_named H id) IsValid → IfSome (descriptor_named (record { moment = t; kind = k } ∷ H) id) IsValid
-still_valid m t id H (Onboarded d) a h = choose (λ (o : Option Vnfd). IfSome o IsValid) (same_name d.descriptor_id id) (Some d) (descriptor_named H id) a.valid h
-still_valid m t id H k a h = h
-
-named_valid : (m : ℕ) (H : List Event) (id : List ℕ) → IsLegal m H → IfSome (descriptor_named H id) IsValid
-named_valid m [] id l = tt
-named_valid m (e ∷ H) id l = still_valid m e.moment id H e.kind l.0 (named_valid m H id l.1)
-
-of_creation : (m : ℕ) (H : List Event) (o : Option CreatedInstance) → IsLegal m H → IfSome (option_and_then (λ x. descriptor_named H x.vnfd) o) IsValid
-of_creation m H None l = tt
-of_creation m H (Some x) l = named_valid m H x.vnfd l
-
--- the descriptors of a legal history are valid
-pub legal_valid : (m : ℕ) (H : List Event) → IsLegal m H → HasValidDescriptors H
-legal_valid m H l = λ i. of_creation m H (creation H i) l
-
--- the same of a borrowed descriptor
-pub found_valid : (H : List Event) (i : ℕ) (found : Option (Bor Vnfd)) → HasValidDescriptors H → option_copied found ≡ descriptor H i → IfSome found (λ d. IsValid d.now)
-found_valid H i None v e = tt
-found_valid H i (Some d) v e = subst (λ (o : Option Vnfd). IfSome o IsValid) (sym e) (v i)
+-- the descriptor that is found of an instance of a legal history is one by which an ask can be judged
+pub found_asked : (H : List Event) (i : ℕ) (found : Option (Bor Vnfd)) → IsLegalOfOne H → HasSmallSerials H i → option_copied found ≡ descriptor H i
+    → IfSome found (λ d. CanBeAsked d.now H i)
+found_asked H i None legal small e = tt
+found_asked H i (Some d) legal small e = record { width = window; manager = legal.0; legal = legal.1; described = sym e; small = small }
 
 split_at : (n : ℕ) (xs : List Event) → reverse xs ≡ reverse (drop n xs) ++ reverse (take n xs)
 split_at n xs = ap reverse (sym (take-append-drop n xs)) ∙ reverse-append (take n xs) (drop n xs)

@@ -1,19 +1,16 @@
 //! Whether an operation may be asked for.
 
-ghost use Rattle.std.specs.Prelude.{◌≡◌, ◌↔◌, IfOk, IfSome, IsTrue, None, Some, option_copied, reverse};
+ghost use Rattle.std.specs.Prelude.{◌≡◌, ◌↔◌, IfOk, IfSome, IsTrue, Some, option_copied, reverse};
 ghost use Rattle.std.specs.Cmp.Lexicographic.{pointwise};
 ghost use Rattle.lcm_events.specs.Same.{same_change};
-ghost use Rattle.lcm_judge.specs.Judged.{HasValidDescriptors};
+ghost use Rattle.lcm_judge.specs.Judged.{IsLegalOfOne};
 ghost use Rattle.lcm_model.specs.Allowed.{IsPlanOf, MayAsk};
-ghost use Rattle.lcm_model.specs.Descriptors.{IsValid};
 ghost use Rattle.lcm_model.specs.Lives.{descriptor};
-ghost use Rattle.lcm_model.specs.Plans.{plan};
-ghost use Rattle.lcm_model.specs.Refusals.{ask_refusal, case_in, situation};
-ghost use Rattle.lcm_plans.specs.Cases.{HasSmallSerials};
+ghost use Rattle.lcm_plans.specs.Cases.{CanBeAsked, HasSmallSerials};
 
 use lcm_events::{Change, Event, Operation, Vnfd};
 use lcm_model::{count_operations, descriptor_of, is_live_in};
-use lcm_plans::{ask_refusal_in, plan_of_ask};
+use lcm_plans::plan_of_ask;
 use std::alloc::{AllocError, Global};
 
 /// Whether two changes are the same.
@@ -46,36 +43,6 @@ fn are_same(a: &[Change], b: &[Change]) -> bool
     are_equal(a, b)
 }
 
-/// Whether an ask isn't refused.
-fn is_accepted(
-    alloc: Global,
-    vnfd: &Vnfd,
-    events: &[Event],
-    operation: &Operation,
-) -> Result<bool, AllocError>
-    requires valid { IsValid vnfd.now }
-    requires serials { HasSmallSerials (reverse events.now) operation.now.instance }
-    ensures { IfOk result (λ yes. IsTrue yes ↔ (ask_refusal vnfd.now (situation vnfd.now (reverse events.now) operation.now.instance) operation.now.ask ≡ None)) }
-{
-    let refusal = ask_refusal_in(alloc, vnfd, events, operation.instance, &operation.ask)?;
-    Ok(refusal.is_none())
-}
-
-/// Whether the operation's changes are its plan.
-fn has_plan(
-    alloc: Global,
-    vnfd: &Vnfd,
-    events: &[Event],
-    operation: &Operation,
-) -> Result<bool, AllocError>
-    requires valid { IsValid vnfd.now }
-    requires serials { HasSmallSerials (reverse events.now) operation.now.instance }
-    ensures { IfOk result (λ yes. IsTrue yes ↔ (operation.now.changes ≡ plan (case_in vnfd.now (situation vnfd.now (reverse events.now) operation.now.instance) operation.now.ask))) }
-{
-    let plan = plan_of_ask(alloc, vnfd, events, operation.instance, &operation.ask)?;
-    Ok(are_same(operation.changes.as_slice(), plan.as_slice()))
-}
-
 /// Whether an ask isn't refused, and the operation's changes are its plan.
 fn is_plan_of(
     alloc: Global,
@@ -83,41 +50,42 @@ fn is_plan_of(
     events: &[Event],
     operation: &Operation,
 ) -> Result<bool, AllocError>
-    requires valid { IsValid vnfd.now }
-    requires serials { HasSmallSerials (reverse events.now) operation.now.instance }
+    requires { CanBeAsked vnfd.now (reverse events.now) operation.now.instance }
     ensures { IfOk result (λ yes. IsTrue yes ↔ IsPlanOf (reverse events.now) operation.now (Some vnfd.now)) }
 {
-    let accepted = is_accepted(alloc, vnfd, events, operation)?;
-    let planned = has_plan(alloc, vnfd, events, operation)?;
-    Ok(accepted && planned)
+    match plan_of_ask(alloc, vnfd, events, operation.instance, &operation.ask)? {
+        Ok(plan) => Ok(are_same(operation.changes.as_slice(), plan.as_slice())),
+        Err(_) => Ok(false),
+    }
 }
 
-/// The descriptor of an instance, which is valid.
-fn valid_descriptor_of(events: &[Event], instance: u64) -> Option<&Vnfd>
-    requires { HasValidDescriptors (reverse events.now) }
+/// The descriptor of an instance of a legal history, by which an ask of it can be judged.
+fn descriptor_in(events: &[Event], instance: u64) -> Option<&Vnfd>
+    requires legal { IsLegalOfOne (reverse events.now) }
+    requires serials { HasSmallSerials (reverse events.now) instance }
     ensures value { option_copied result ≡ descriptor (reverse events.now) instance }
-    ensures valid { IfSome result (λ d. IsValid d.now) }
+    ensures known { IfSome result (λ d. CanBeAsked d.now (reverse events.now) instance) }
 {
     descriptor_of(events, instance)
 }
 
 /// Whether an operation is accepted with its plan.
 fn is_planned(alloc: Global, events: &[Event], operation: &Operation) -> Result<bool, AllocError>
-    requires valid { HasValidDescriptors (reverse events.now) }
+    requires legal { IsLegalOfOne (reverse events.now) }
     requires serials { HasSmallSerials (reverse events.now) operation.now.instance }
     ensures { IfOk result (λ yes. IsTrue yes ↔ IsPlanOf (reverse events.now) operation.now (descriptor (reverse events.now) operation.now.instance)) }
 {
-    match valid_descriptor_of(events, operation.instance) {
+    match descriptor_in(events, operation.instance) {
         Some(vnfd) => is_plan_of(alloc, vnfd, events, operation),
         None => Ok(false),
     }
 }
 
-/// Whether an operation may be asked for.
+/// Whether an operation may be asked for, after a legal history.
 ///
 /// Source: SOL 003 5.4.4 to 5.4.10 (the tasks of an individual VNF instance).
 pub fn may_ask(alloc: Global, events: &[Event], operation: &Operation) -> Result<bool, AllocError>
-    requires valid { HasValidDescriptors (reverse events.now) }
+    requires legal { IsLegalOfOne (reverse events.now) }
     requires serials { HasSmallSerials (reverse events.now) operation.now.instance }
     ensures { IfOk result (λ yes. IsTrue yes ↔ MayAsk (reverse events.now) operation.now) }
 {

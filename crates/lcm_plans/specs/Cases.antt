@@ -1,42 +1,48 @@
--- What a plan is made for, as the programs hold it (own rule).
-use Rattle.std.specs.Prelude.{Bool, List, not, reverse, true, ℕ, ◌&&◌, ◌<◌, ◌≡◌}
-use Rattle.lcm_events.specs.declared.changes.Def.{Def}
-use Rattle.lcm_model.specs.Descriptors.{IsValid, are_levels_of}
+-- What the programs ask of a history, and how what refuses a plan is told of an ask (own rule).
+use Rattle.std.specs.Prelude.{List, None, Option, Some, [], option_and_then, ℕ, ◌<◌, ◌∷◌, ◌≡◌}
+use Rattle.lcm_events.specs.declared.asks.Ask.{Ask}
+use Rattle.lcm_events.specs.declared.asks.Ask.TheVariants.{Scale}
+use Rattle.lcm_events.specs.declared.descriptor.Vnfd.{Vnfd}
 use Rattle.lcm_events.specs.declared.events.Event.{Event}
+use Rattle.lcm_events.specs.declared.held.Holding.{Holding}
+use Rattle.lcm_model.specs.Allowed.{IsLegalWithin}
 use Rattle.lcm_model.specs.Holding.{top}
-use Rattle.lcm_model.specs.Instances.{inventory}
-use Rattle.lcm_model.specs.Plans.{Case, leaving, new, stay}
-use Rattle.lcm_model.specs.Vnfcs.{Inventory, there}
-use Rattle.lcm_plans.specs.declared.plans.PlanCase.{PlanCase}
-use Rattle.lcm_plans.specs.declared.plans.Serials.{Serials}
-use Rattle.lcm_plans.specs.declared.plans.Serials.TheVariants.{Leaving, New, Staying, Standing}
-use Rattle.lcm_plans.specs.declared.plans.Test.{Test}
-use Rattle.lcm_plans.specs.declared.plans.Test.TheVariants.{Missing, Runs, Stands, StandsStopped}
-
--- the case that the values of a plan's program make (own rule)
-abbrev pub case_of : PlanCase → Case
-case_of p = record { vnfd = p.vnfd.now; held = inventory (reverse p.events.now) p.instance; ask = p.ask.now; to = p.to.now }
+use Rattle.lcm_model.specs.Levels.{aspect_at, target}
+use Rattle.lcm_model.specs.Lives.{descriptor}
+use Rattle.lcm_model.specs.Refusals.{step_refusal}
+use Rattle.lcm_model.specs.Words.{first_some}
+use Rattle.lcm_model.specs.declared.refusals.Refusal.{Refusal}
+use Rattle.change_planner.specs.Planning.{refusal}
+use Rattle.change_planner.specs.declared.refusals.PlanRefusal.{PlanRefusal}
+use Rattle.change_planner.specs.declared.refusals.PlanRefusal.TheVariants.{AboveProfile, Memory, NothingToDo, TooMany, UnknownVnfc}
+use Rattle.lcm_model.specs.declared.refusals.Refusal.TheVariants as refusals
 
 -- no serial of the instance is past the limit of a holding (own limit)
 abbrev pub HasSmallSerials : List Event → ℕ → Type 0
 HasSmallSerials H i = (v : ℕ) → top H i v < 2147483648
 
--- a plan can be made: the descriptor is valid, the levels are its own, and no serial is past the limit of a holding (own rule)
-pub record CanBePlanned (p : Case) : Type 0 where
-  pub valid : IsValid p.vnfd
-  pub levels : are_levels_of p.vnfd p.to ≡ true
-  pub small : (v : ℕ) → p.held.top v < 2147483648
+-- an ask of the instance can be judged: the history is a manager's legal one, the descriptor is the instance's, and no serial
+-- is past the limit of a holding (own rule)
+pub record CanBeAsked (d : Vnfd) (H : List Event) (i : ℕ) : Type 0 where
+  pub width : ℕ
+  pub manager : ℕ
+  pub legal : IsLegalWithin width manager H
+  pub described : descriptor H i ≡ Some d
+  pub small : HasSmallSerials H i
 
--- the serials of a VDU that a phase of a plan is about (own rule)
-abbrev pub serials_of : Serials → Case → ℕ → List ℕ
-serials_of Standing p v = there p.vnfd p.held v
-serials_of Staying p v = stay p v
-serials_of New p v = new p v
-serials_of Leaving p v = leaving p v
+-- why the steps of SCALE are refused from these levels; no other ask has steps (SOL 003 5.5.2.5)
+abbrev pub scale_refusal : Vnfd → List ℕ → Ask → Option Refusal
+scale_refusal d levels (Scale way aspect steps) = option_and_then (step_refusal way steps) (aspect_at d levels aspect)
+scale_refusal d levels _ = None
 
--- a definition is one that a phase of a plan is about (own rule)
-abbrev pub passes : Test → Inventory → Def → Bool
-passes Stands held x = held.stands x
-passes Missing held x = not (held.stands x)
-passes StandsStopped held x = held.stands x && not (held.runs x)
-passes Runs held x = held.runs x
+-- how a plan's refusal is told of an ask; want of memory refuses nothing (own rule)
+abbrev pub told_as : PlanRefusal → Option Refusal
+told_as (UnknownVnfc place) = Some refusals.UnknownVnfc
+told_as NothingToDo = Some refusals.NothingToDo
+told_as (AboveProfile vdu) = Some refusals.AboveProfile
+told_as (TooMany size) = Some refusals.TooManyResources
+told_as Memory = None
+
+-- why an ask is refused over what a holding says stands: by its steps, then as its plan is (own rule)
+abbrev pub refusal_over : Vnfd → Holding → Ask → Option Refusal
+refusal_over d h ask = first_some (scale_refusal d h.levels ask ∷ option_and_then told_as (refusal d h ask (target d h.levels ask)) ∷ [])

@@ -1,5 +1,5 @@
 //! What stands of an instance, the plan of an operation, and why an operation is refused: a plain, slow program for
-//! each, over a list of events.
+//! each, over a list of events. The plan over what stands is change_planner's.
 #![tactic(auto)]
 
 mod aims;
@@ -13,8 +13,5 @@ pub use holdings::{defs_up_to_in, holding_in};
 pub use machines::{
     is_in_step_in, is_partial_in, is_there_in, is_whole_in, push_machine, there_in,
 };
-pub use plans::{PlanCase, plan_in};
-pub use refusals::{
-    ask_refusal_in, content_refusal_in, has_nothing_to_do_in, is_above_profile_in, is_too_large_in,
-    naming_refusal_in, plan_of_ask, plan_refusal_in, state_refusal_in, task_refusal_in,
-};
+pub use plans::{ask_refusal_in, plan_of_ask};
+pub use refusals::{content_refusal_in, state_refusal_in};

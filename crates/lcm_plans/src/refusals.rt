@@ -1,30 +1,17 @@
-//! Why an operation or a task is refused.
+//! Why an operation is refused by its content, by its instance's state and by its steps.
 
-ghost use Rattle.std.specs.Prelude.{◌≡◌, ◌==◌, ◌&&◌, IfOk, filter, find, length, not, option_and_then, option_copied, reverse, true, zip};
-ghost use Rattle.std.specs.Cmp.Lexicographic.{pointwise};
+ghost use Rattle.std.specs.Prelude.{◌≡◌, ◌==◌, ◌&&◌, IfOk, find, length, not, option_and_then, option_copied, reverse, true, zip};
 ghost use Rattle.std.specs.List.{list_any};
 ghost use Rattle.lcm_events.specs.Same.{same_name};
 ghost use Rattle.lcm_model.specs.Descriptors.{IsValid, are_levels_of};
-ghost use Rattle.lcm_model.specs.Holding.{stands};
-ghost use Rattle.lcm_model.specs.Instances.{inventory, levels};
-ghost use Rattle.lcm_model.specs.Levels.{is_aspect, target};
-ghost use Rattle.lcm_model.specs.Plans.{plan};
-ghost use Rattle.lcm_model.specs.Refusals.{aim_refusal, ask_refusal, aspect_named, case_in, content_refusal, created, has_aspect, has_nothing_to_do, has_task, instantiation_refusal, is_above, is_above_profile, is_known_level, is_terminate, is_too_large, names_twice, naming_refusal, needs_started, needs_step, plan_refusal, serves, situation, state_refusal, step_refusal, task_refusal};
-ghost use Rattle.lcm_model.specs.Vnfcs.{is_there};
-ghost use Rattle.lcm_plans.specs.Cases.{HasSmallSerials};
+ghost use Rattle.lcm_model.specs.Levels.{is_aspect};
+ghost use Rattle.lcm_model.specs.Refusals.{aim_refusal, aspect_named, content_refusal, has_aspect, instantiation_refusal, is_above, is_known_level, names_twice, needs_started, needs_step, situation, state_refusal, step_refusal};
+ghost use Rattle.lcm_plans.specs.Cases.{scale_refusal};
 
-use crate::aims::{aimed_in, levels_in, target_in};
-use crate::holdings::defs_up_to_in;
-use crate::machines::{is_in_step_in, is_there_in};
-use crate::plans::{PlanCase, plan_in};
-use lcm_events::{
-    Aim, Ask, Aspect, AspectLevel, Change, Def, Event, OpKind, OpState, ScaleWay, Task, Verb, Vnfc,
-    Vnfd,
-};
-use lcm_model::{
-    Refusal, TaskRefusal, count_in, is_busy, is_instantiated_in, is_started_in, level_named,
-    stands_in, works,
-};
+use crate::aims::levels_in;
+use crate::machines::is_in_step_in;
+use lcm_events::{Aim, Ask, Aspect, AspectLevel, Event, ScaleWay, Vnfd};
+use lcm_model::{Refusal, is_busy, is_instantiated_in, is_started_in, level_named};
 use std::alloc::{AllocError, Global};
 use vnfm_base::Name;
 
@@ -213,45 +200,6 @@ fn instantiation_refusal_in(ask: &Ask, instantiated: bool) -> Option<Refusal>
     }
 }
 
-/// Whether the ask is TERMINATE.
-fn is_terminate_in(ask: &Ask) -> bool
-    ensures { result ≡ is_terminate ask.now }
-{
-    matches!(ask, Ask::Terminate { .. })
-}
-
-/// Whether a task may be asked in a state.
-fn serves_in(task: Task, state: OpState) -> bool
-    ensures { result ≡ serves task state }
-{
-    match task {
-        Task::Cancel => works(state),
-        _ => state == OpState::FailedTemp,
-    }
-}
-
-/// Whether the operation has the task: TERMINATE isn't rolled back.
-fn has_task_in(kind: OpKind, task: Task) -> bool
-    ensures { result ≡ has_task kind task }
-{
-    !matches!((kind, task), (OpKind::Terminate, Task::Rollback))
-}
-
-/// Why a task on an occurrence is refused.
-///
-/// Source: SOL 003 5.4.14 to 5.4.17 (Retry, Rollback, Fail, Cancel operation task).
-pub fn task_refusal_in(kind: OpKind, state: OpState, task: Task) -> Option<TaskRefusal>
-    ensures { result ≡ task_refusal kind state task }
-{
-    if !has_task_in(kind, task) {
-        Some(TaskRefusal::NotSupported)
-    } else if !serves_in(task, state) {
-        Some(TaskRefusal::WrongState(state))
-    } else {
-        None
-    }
-}
-
 /// Why an instance's state refuses an ask.
 ///
 /// Source: SOL 003 5.4.4 to 5.4.10 (the tasks of an individual VNF instance); "in step" is an own rule.
@@ -334,261 +282,16 @@ fn steps_refusal_in(
     None
 }
 
-/// Whether one of the named machines has nothing that stands.
-fn names_absent(
-    alloc: Global,
-    vnfd: &Vnfd,
-    events: &[Event],
-    instance: u64,
-    named: &[Vnfc],
-) -> Result<bool, AllocError>
-    requires { IsValid vnfd.now }
-    ensures { IfOk result (λ yes. yes ≡ list_any (λ x. not (is_there vnfd.now (inventory (reverse events.now) instance) x.vdu x.serial)) named.now) }
-{
-    for x in named {
-        if !is_there_in(alloc, vnfd, events, instance, x.vdu, x.serial)? {
-            return Ok(true);
-        }
-    }
-    Ok(false)
-}
-
-/// Why what an ask names is refused against what stands.
-///
-/// Source: SOL 003 5.5.2.5 (ScaleVnfRequest), 5.5.2.9 (HealVnfRequest).
+/// Why the steps of SCALE are refused from these levels; no other ask has steps.
 #[tactic(auto, using(lcm_model::proofs::LevelLaws::levels_length))]
-pub fn naming_refusal_in(
-    alloc: Global,
-    vnfd: &Vnfd,
-    events: &[Event],
-    instance: u64,
-    ask: &Ask,
-) -> Result<Option<Refusal>, AllocError>
-    requires { IsValid vnfd.now }
-    ensures { IfOk result (λ why. why ≡ naming_refusal vnfd.now (situation vnfd.now (reverse events.now) instance) ask.now) }
+pub(crate) fn scale_refusal_in(vnfd: &Vnfd, present: &[u32], ask: &Ask) -> Option<Refusal>
+    requires { are_levels_of vnfd.now present.now ≡ true }
+    ensures { result ≡ scale_refusal vnfd.now present.now ask.now }
 {
     match ask {
         Ask::Scale { way, aspect, steps } => {
-            let present = levels_in(alloc, vnfd, events, instance)?;
-            Ok(steps_refusal_in(
-                vnfd.aspects.as_slice(),
-                present.as_slice(),
-                aspect,
-                *way,
-                *steps,
-            ))
+            steps_refusal_in(vnfd.aspects.as_slice(), present, aspect, *way, *steps)
         }
-        Ask::Heal { named, .. } => {
-            if names_absent(alloc, vnfd, events, instance, named.as_slice())? {
-                Ok(Some(Refusal::UnknownVnfc))
-            } else {
-                Ok(None)
-            }
-        }
-        _ => Ok(None),
+        _ => None,
     }
-}
-
-/// Whether two lists of levels are equal.
-fn are_same(a: &[u32], b: &[u32]) -> bool
-    ensures { result ≡ pointwise ◌==◌ a.now b.now }
-{
-    a == b
-}
-
-/// Whether an ask aims at what is already so.
-///
-/// Source: docs/MODEL.md, "Refusals".
-pub fn has_nothing_to_do_in(
-    alloc: Global,
-    vnfd: &Vnfd,
-    events: &[Event],
-    instance: u64,
-    ask: &Ask,
-) -> Result<bool, AllocError>
-    requires { IsValid vnfd.now }
-    ensures { IfOk result (λ yes. yes ≡ has_nothing_to_do vnfd.now (situation vnfd.now (reverse events.now) instance) ask.now) }
-{
-    match ask {
-        Ask::ScaleToLevel(aim) => {
-            let present = levels_in(alloc, vnfd, events, instance)?;
-            let aimed = aimed_in(alloc, vnfd, present.as_slice(), aim)?;
-            Ok(are_same(aimed.as_slice(), present.as_slice()))
-        }
-        Ask::Operate { started, .. } => Ok(*started == is_started_in(events, instance)),
-        _ => Ok(false),
-    }
-}
-
-/// Whether some VDU would have more machines than its maximum at these levels.
-///
-/// Source: SOL 001, the property vdu_profile.
-pub fn is_above_profile_in(vnfd: &Vnfd, to: &[u32]) -> bool
-    requires valid { IsValid vnfd.now }
-    requires levels { are_levels_of vnfd.now to.now ≡ true }
-    ensures { result ≡ is_above_profile vnfd.now to.now }
-{
-    for (number, vdu) in vnfd.vdus.as_slice().iter().enumerate() {
-        if vdu.maximum < count_in(vnfd, number as u16, to) {
-            return true;
-        }
-    }
-    false
-}
-
-/// How many of these definitions stand.
-fn count_standing(events: &[Event], instance: u64, defs: &[Def]) -> u64
-    ensures { result ≡ length (filter (stands (reverse events.now) instance) defs.now) }
-{
-    let mut count = 0;
-    for def in defs {
-        if stands_in(events, instance, def) {
-            count += 1;
-        }
-    }
-    count
-}
-
-/// How many definitions the changes create.
-fn count_created(changes: &[Change]) -> u64
-    ensures { result ≡ created changes.now }
-{
-    let mut count = 0;
-    for change in changes {
-        if change.verb == Verb::Create {
-            count += 1;
-        }
-    }
-    count
-}
-
-/// Whether what the changes create and what stands is more than an instance may have.
-///
-/// Source: own limit.
-pub fn is_too_large_in(
-    alloc: Global,
-    vnfd: &Vnfd,
-    events: &[Event],
-    instance: u64,
-    changes: &[Change],
-) -> Result<bool, AllocError>
-    requires { IsValid vnfd.now }
-    ensures { IfOk result (λ yes. yes ≡ is_too_large vnfd.now (inventory (reverse events.now) instance) changes.now) }
-{
-    let created = count_created(changes);
-    let defs = defs_up_to_in(alloc, vnfd, events, instance)?;
-    let standing = count_standing(events, instance, defs.as_slice());
-    Ok(0 < created && (2_500 < created || 2_500 - created < standing))
-}
-
-/// The plan of an ask after a history.
-///
-/// Source: docs/MODEL.md, "Plans".
-pub fn plan_of_ask(
-    alloc: Global,
-    vnfd: &Vnfd,
-    events: &[Event],
-    instance: u64,
-    ask: &Ask,
-) -> Result<Vec<Change>, AllocError>
-    requires valid { IsValid vnfd.now }
-    requires serials { HasSmallSerials (reverse events.now) instance }
-    ensures { IfOk result (λ v. v.items ≡ plan (case_in vnfd.now (situation vnfd.now (reverse events.now) instance) ask.now)) }
-{
-    let present = levels_in(alloc, vnfd, events, instance)?;
-    let to = target_in(alloc, vnfd, present.as_slice(), ask)?;
-    let case = PlanCase {
-        vnfd,
-        events,
-        instance,
-        ask,
-        to: to.as_slice(),
-    };
-    plan_in(alloc, &case)
-}
-
-/// Whether an ask would lead to more machines of a VDU than its maximum.
-fn leads_above_profile(
-    alloc: Global,
-    vnfd: &Vnfd,
-    events: &[Event],
-    instance: u64,
-    ask: &Ask,
-) -> Result<bool, AllocError>
-    requires { IsValid vnfd.now }
-    ensures { IfOk result (λ yes. yes ≡ (not (is_terminate ask.now) && is_above_profile vnfd.now (target vnfd.now (levels vnfd.now (reverse events.now) instance) ask.now))) }
-{
-    let present = levels_in(alloc, vnfd, events, instance)?;
-    let to = target_in(alloc, vnfd, present.as_slice(), ask)?;
-    let above = is_above_profile_in(vnfd, to.as_slice());
-    Ok(!is_terminate_in(ask) && above)
-}
-
-/// Whether an ask would lead to more resources than an instance may have.
-fn leads_too_large(
-    alloc: Global,
-    vnfd: &Vnfd,
-    events: &[Event],
-    instance: u64,
-    ask: &Ask,
-) -> Result<bool, AllocError>
-    requires valid { IsValid vnfd.now }
-    requires serials { HasSmallSerials (reverse events.now) instance }
-    ensures { IfOk result (λ yes. yes ≡ is_too_large vnfd.now (inventory (reverse events.now) instance) (plan (case_in vnfd.now (situation vnfd.now (reverse events.now) instance) ask.now))) }
-{
-    let changes = plan_of_ask(alloc, vnfd, events, instance, ask)?;
-    is_too_large_in(alloc, vnfd, events, instance, changes.as_slice())
-}
-
-/// Why an ask is refused against what stands and what is planned.
-///
-/// Source: SOL 003 5.4.4 to 5.4.10 (the tasks of an individual VNF instance); the limits are own rules.
-pub fn plan_refusal_in(
-    alloc: Global,
-    vnfd: &Vnfd,
-    events: &[Event],
-    instance: u64,
-    ask: &Ask,
-) -> Result<Option<Refusal>, AllocError>
-    requires valid { IsValid vnfd.now }
-    requires serials { HasSmallSerials (reverse events.now) instance }
-    ensures { IfOk result (λ why. why ≡ plan_refusal vnfd.now (situation vnfd.now (reverse events.now) instance) ask.now) }
-{
-    if let Some(wrong) = naming_refusal_in(alloc, vnfd, events, instance, ask)? {
-        return Ok(Some(wrong));
-    }
-    if has_nothing_to_do_in(alloc, vnfd, events, instance, ask)? {
-        return Ok(Some(Refusal::NothingToDo));
-    }
-    if leads_above_profile(alloc, vnfd, events, instance, ask)? {
-        return Ok(Some(Refusal::AboveProfile));
-    }
-    if leads_too_large(alloc, vnfd, events, instance, ask)? {
-        Ok(Some(Refusal::TooManyResources))
-    } else {
-        Ok(None)
-    }
-}
-
-/// Why an ask is refused: by its content, by the instance's state, by what stands and is planned, in this order.
-///
-/// Source: docs/MODEL.md, "Refusals".
-pub fn ask_refusal_in(
-    alloc: Global,
-    vnfd: &Vnfd,
-    events: &[Event],
-    instance: u64,
-    ask: &Ask,
-) -> Result<Option<Refusal>, AllocError>
-    requires valid { IsValid vnfd.now }
-    requires serials { HasSmallSerials (reverse events.now) instance }
-    ensures { IfOk result (λ why. why ≡ ask_refusal vnfd.now (situation vnfd.now (reverse events.now) instance) ask.now) }
-{
-    if let Some(wrong) = content_refusal_in(vnfd, ask) {
-        return Ok(Some(wrong));
-    }
-    if let Some(wrong) = state_refusal_in(alloc, vnfd, events, instance, ask)? {
-        return Ok(Some(wrong));
-    }
-    plan_refusal_in(alloc, vnfd, events, instance, ask)
 }

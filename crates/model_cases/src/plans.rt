@@ -1,14 +1,21 @@
-//! A plan that was written out by hand.
+//! A plan that was written out by hand, after the history in which its instance was made.
+
+ghost use Rattle.std.specs.Prelude.{IfOk, reverse};
+ghost use Rattle.lcm_judge.specs.Facts.{HaveIdentNumbers};
+ghost use Rattle.lcm_judge.specs.Judged.{HaveSmallSerials};
+ghost use Rattle.lcm_model.specs.Allowed.{IsLegal};
 
 use lcm_events::{
-    Ask, Aspect, Change, Def, DefKind, Level, Listed, Port, Row, Storage, Vdu, Verb, Vnfd,
+    Ask, Aspect, Change, Def, DefKind, Event, EventKind, Level, Listed, Port, Row, Storage, Vdu,
+    Verb, Vnfd,
 };
-use lcm_model::is_valid;
+use lcm_judge::is_legal;
+use lcm_model::{Refusal, descriptor_of, is_valid};
 use lcm_plans::{ask_refusal_in, plan_of_ask};
-use std::alloc::Global;
+use std::alloc::{AllocError, Global};
 use std::process::Abort;
 use std::test::Fail;
-use vnfm_base::Name;
+use vnfm_base::{Moment, Name};
 
 fn name(rt: &impl Abort, text: &str) -> Name {
     Name::of(text.as_bytes()).expect(rt, "a name")
@@ -100,6 +107,83 @@ fn created(phase: u8, kind: DefKind, item: u16, vdu: u16, serial: u32) -> Change
     }
 }
 
+/// A history in which a descriptor is onboarded, and an instance of it is made.
+fn first_events(alloc: Global, vnfd: Vnfd) -> Result<Vec<Event>, AllocError>
+    ensures serials { IfOk result (λ events. HaveSmallSerials (reverse events.items)) }
+    ensures numbers { IfOk result (λ events. HaveIdentNumbers events.items) }
+{
+    let moment = Moment::of(1_785_672_000_000);
+    let made = EventKind::Created {
+        instance: 1,
+        vnfd: vnfd.descriptor_id,
+        name: None,
+        text: None,
+    };
+    let mut events: Vec<Event> = Vec::new(alloc);
+    events.push(Event {
+        moment,
+        kind: EventKind::Onboarded(vnfd),
+    })?;
+    events.push(Event { moment, kind: made })?;
+    Ok(events)
+}
+
+/// Whether an ask of the first instance after a legal history comes to these changes.
+fn comes_to(
+    alloc: Global,
+    events: &[Event],
+    ask: &Ask,
+    expected: &[Change],
+) -> Result<bool, AllocError>
+    requires legal { IsLegal 1 (reverse events.now) }
+    requires serials { HaveSmallSerials (reverse events.now) }
+{
+    match descriptor_of(events, 1) {
+        Some(vnfd) => match plan_of_ask(alloc, vnfd, events, 1, ask)? {
+            Ok(changes) => Ok(changes.as_slice() == expected),
+            Err(_) => Ok(false),
+        },
+        None => Ok(false),
+    }
+}
+
+/// Whether an ask of the first instance after a legal history is refused so.
+fn is_refused(
+    alloc: Global,
+    events: &[Event],
+    ask: &Ask,
+    expected: Option<Refusal>,
+) -> Result<bool, AllocError>
+    requires legal { IsLegal 1 (reverse events.now) }
+    requires serials { HaveSmallSerials (reverse events.now) }
+{
+    match descriptor_of(events, 1) {
+        Some(vnfd) => Ok(ask_refusal_in(alloc, vnfd, events, 1, ask)? == expected),
+        None => Ok(false),
+    }
+}
+
+/// Whether the history is legal, the first ask comes to these changes and isn't refused, and the second is refused so.
+fn are_judged(
+    alloc: Global,
+    events: &[Event],
+    first: &Ask,
+    changes: &[Change],
+    second: &Ask,
+    why: Refusal,
+) -> Result<bool, AllocError>
+    requires serials { HaveSmallSerials (reverse events.now) }
+    requires numbers { HaveIdentNumbers events.now }
+{
+    if !is_legal(alloc, 1, events)? {
+        return Ok(false);
+    }
+    let planned = comes_to(alloc, events, first, changes)?;
+    let accepted = is_refused(alloc, events, first, None)?;
+    let refused = is_refused(alloc, events, second, Some(why))?;
+    Ok(planned && accepted && refused)
+}
+
 #[test]
 fn the_first_plan_makes_thirteen_resources_in_order(rt: HostRuntime) -> Result<(), Fail> {
     let alloc = rt.alloc();
@@ -108,9 +192,11 @@ fn the_first_plan_makes_thirteen_resources_in_order(rt: HostRuntime) -> Result<(
         flavour: name(&rt, "simple"),
         level: None,
     };
+    let early = Ask::Operate {
+        started: false,
+        stop: None,
+    };
     assert!(rt; is_valid(&vnfd));
-    assert!(rt; ask_refusal_in(alloc, &vnfd, &[], 1, &ask)?.is_none());
-    let changes = plan_of_ask(alloc, &vnfd, &[], 1, &ask)?;
     let expected = [
         created(0, DefKind::Link, 0, 65_535, 0),
         created(0, DefKind::Link, 1, 65_535, 0),
@@ -126,6 +212,16 @@ fn the_first_plan_makes_thirteen_resources_in_order(rt: HostRuntime) -> Result<(
         created(3, DefKind::Port, 1, 0, 2),
         created(3, DefKind::Port, 2, 1, 1),
     ];
-    assert!(rt; changes.as_slice() == expected.as_slice());
+    let events = first_events(alloc, vnfd)?;
+    assert!(rt;
+        are_judged(
+            alloc,
+            events.as_slice(),
+            &ask,
+            &expected,
+            &early,
+            Refusal::NotInstantiated
+        )?
+    );
     Ok(())
 }

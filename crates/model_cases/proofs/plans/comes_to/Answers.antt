@@ -1,0 +1,12 @@
+use Rattle.std.proofs.Common.{Bor, Option, reverse, subst}
+use Rattle.std.specs.Prelude.{IfSome}
+use Rattle.lcm_events.specs.declared.descriptor.Vnfd.{Vnfd}
+use Rattle.lcm_judge.proofs.HistoryLaws.{found_asked}
+use Rattle.lcm_plans.specs.Cases.{CanBeAsked}
+use Rattle.model_cases.proofs.plans.comes_to.Goals as goal
+
+pub plan_of_ask-requires : goal.plan_of_ask-requires
+plan_of_ask-requires c =
+    let H = reverse c.args.events.now in
+    subst (λ (o : Option (Bor Vnfd)). IfSome o (λ d. CanBeAsked d.now H 1)) c.in-Some.is
+    (found_asked H 1 c.descriptor_of.result (1, c.requires.legal) (c.requires.serials 1) c.descriptor_of.ensures)
