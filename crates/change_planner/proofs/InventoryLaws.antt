@@ -14,7 +14,7 @@ use Rattle.lcm_events.specs.declared.events.Event.{Event}
 use Rattle.lcm_events.specs.declared.events.Operation.{Operation}
 use Rattle.lcm_events.specs.declared.held.Held.{Held}
 use Rattle.lcm_laws.proofs.AskLaws.{runs-stands}
-use Rattle.lcm_laws.proofs.HoldingLaws.{holding_exact}
+use Rattle.lcm_laws.proofs.HoldingLaws.{holding_exact, map_get, range_get}
 use Rattle.lcm_laws.proofs.Lists.{and_left, and_right, and_true, by_test}
 use Rattle.lcm_laws.proofs.Members.{any_in, in_map, of_filter, of_map}
 use Rattle.lcm_laws.proofs.StandLaws.{described}
@@ -82,20 +82,10 @@ runs_said d H i x h e =
     any_in (λ y. same_def y.def x && y.running) from.0 (holding d H i).items from.1 (and_true _ _ same running)
 
 -- the greatest serials
-pub range_get : (a n v : ℕ) → v < n → slice_get (range_with_len a n) v ≡ Some (a + v)
-range_get a zero v h = absurd (omega (arith, h))
-range_get a (suc n) zero h = let e : a ≡ a + 0 = omega arith in ap Some e
-range_get a (suc n) (suc v) h = let e : (a + 1) + v ≡ a + suc v = omega arith in range_get (a + 1) n v (omega (arith, h)) ∙ ap Some e
-
 range_past : (a n v : ℕ) → n ≤ v → slice_get (range_with_len a n) v ≡ None
 range_past a zero v h = refl
 range_past a (suc n) zero h = absurd (omega (arith, h))
 range_past a (suc n) (suc v) h = range_past (a + 1) n v (omega (arith, h))
-
-pub map_get : {A B : Type 0} → (f : A → B) (xs : List A) (n : ℕ) (x : A) → slice_get xs n ≡ Some x → slice_get (map f xs) n ≡ Some (f x)
-map_get f [] n x e = absurd cc
-map_get f (y ∷ xs) zero x e = let is : y ≡ x = cc in ap (λ z. Some (f z)) is
-map_get f (y ∷ xs) (suc n) x e = map_get f xs n x e
 
 map_past : {A B : Type 0} → (f : A → B) (xs : List A) (n : ℕ) → slice_get xs n ≡ None → slice_get (map f xs) n ≡ None
 map_past f [] n e = refl

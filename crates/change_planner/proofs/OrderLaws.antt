@@ -1,13 +1,14 @@
 -- Lists in order, and the order of a holding's items.
-use Rattle.std.proofs.Common.{◌≡◌, ◌≤◌, ◌<◌, ◌&&◌, ◌||◌, ◌==◌, ◌∙◌, ℕ, List, [], ◌∷◌, Bool, true, false, refl, ap, sym, subst, arith, inl, inr, ◌⊎◌, ltb, ltb-true, lt-ltb, eqb-true, eq-eqb, get_or, drop, zero, ◌-◌, length, suc, ◌+◌}
+use Rattle.std.proofs.Common.{◌≡◌, ◌≤◌, ◌<◌, ◌&&◌, ◌||◌, ◌==◌, ◌∙◌, ℕ, List, [], ◌∷◌, Bool, true, false, refl, ap, sym, subst, arith, inl, inr, ◌⊎◌, ltb, ltb-true, eqb-true, get_or, drop, zero, ◌-◌, length, suc, ◌+◌}
 use Rattle.lcm_events.specs.Descriptors.{is_rising}
 use Rattle.lcm_events.specs.Same.{kind_number, same_kind}
 use Rattle.lcm_events.specs.declared.changes.Def.{Def}
 use Rattle.lcm_events.specs.declared.descriptor.Vnfd.{Vnfd}
 use Rattle.lcm_events.specs.declared.held.Held.{Held}
 use Rattle.lcm_events.specs.declared.held.Holding.{Holding}
-use Rattle.lcm_laws.proofs.Lists.{and_left, and_right, and_true, by_test}
+use Rattle.lcm_laws.proofs.Lists.{and_left, and_right, by_test}
 use Rattle.lcm_laws.proofs.Members.{Rises}
+use Rattle.lcm_laws.proofs.PlanOrder.{lead_less, lead_same}
 use Rattle.lcm_model.specs.Descriptors.{IsHoldingOf, is_def_before}
 use Rattle.lcm_model.specs.Planned.{is_before}
 use Rattle.lcm_model.specs.Words.{IsIn}
@@ -45,16 +46,6 @@ leads m n ms ns e = by_test (ltb m n)
     (λ not_less.
     let rest : ((m == n) && is_before ms ns) ≡ true = subst (λ (b : Bool). (b || ((m == n) && is_before ms ns)) ≡ true) not_less e in
     inr (eqb-true m n (and_left _ _ rest), and_right (m == n) _ rest))
-
-or_right : (a b : Bool) → b ≡ true → (a || b) ≡ true
-or_right true b e = refl
-or_right false b e = e
-
-pub lead_less : (m n : ℕ) (ms ns : List ℕ) → m < n → is_before (m ∷ ms) (n ∷ ns) ≡ true
-lead_less m n ms ns h = let e : ltb m n ≡ true = lt-ltb m n h in rw e refl
-
-pub lead_same : (m n : ℕ) (ms ns : List ℕ) → m ≡ n → is_before ms ns ≡ true → is_before (m ∷ ms) (n ∷ ns) ≡ true
-lead_same m n ms ns e h = or_right (ltb m n) ((m == n) && is_before ms ns) (and_true (m == n) (is_before ms ns) (eq-eqb m n e) h)
 
 by_leads : (m n k : ℕ) (ms ns ks : List ℕ) → (is_before ms ns ≡ true → is_before ns ks ≡ true → is_before ms ks ≡ true)
     → (m < n) ⊎ ((m ≡ n) × (is_before ms ns ≡ true)) → (n < k) ⊎ ((n ≡ k) × (is_before ns ks ≡ true)) → is_before (m ∷ ms) (k ∷ ks) ≡ true

@@ -6,7 +6,6 @@ use Rattle.std.specs.List.{list_all, list_any, range_with_len}
 use Rattle.std.specs.Option.{option_map_or}
 use Rattle.std.specs.Prelude.{if◌then◌else◌, nat_le, unwrap_or}
 use Rattle.lcm_events.specs.Same.{same_kind}
-use Rattle.lcm_events.proofs.SameLaws.{def_ext}
 use Rattle.lcm_events.specs.declared.changes.Def.{Def}
 use Rattle.lcm_events.specs.declared.changes.DefKind.{DefKind}
 use Rattle.lcm_events.specs.declared.changes.DefKind.TheVariants.{Compute, Link, Port, Storage}
@@ -14,13 +13,13 @@ use Rattle.lcm_events.specs.declared.descriptor.Vdu.{Vdu}
 use Rattle.lcm_events.specs.declared.descriptor.Vnfd.{Vnfd}
 use Rattle.lcm_events.specs.declared.held.Held.{Held}
 use Rattle.lcm_events.specs.declared.held.Holding.{Holding}
-use Rattle.lcm_laws.proofs.BoundLaws.{Differ, all_parts, few}
+use Rattle.lcm_laws.proofs.AskLaws.{item_in}
+use Rattle.lcm_laws.proofs.BoundLaws.{Differ, all_parts, few, machine_differs}
 use Rattle.lcm_laws.proofs.CoverLaws.{all_in}
-use Rattle.lcm_laws.proofs.HoldingLaws.{all_of}
+use Rattle.lcm_laws.proofs.HoldingLaws.{all_of, few_vdus}
 use Rattle.lcm_laws.proofs.Lists.{and_left, and_right, and_true, by_test}
-use Rattle.lcm_laws.proofs.Members.{Less, Rises, among_in, any_in, get_in, in_either, in_filter, in_map, in_range, of_filter, of_map, of_range, rises_append, rises_filter, rises_map, rises_range, rising_rises}
-use Rattle.lcm_laws.proofs.PlanMembers.{OfMachine, in_all, of_defs}
-use Rattle.lcm_laws.proofs.PlanOrder.{items_rise}
+use Rattle.lcm_laws.proofs.Members.{Less, Rises, among_in, any_in, get_in, in_filter, in_map, in_range, of_filter, of_map, of_range, rises_filter, rises_map, rises_range, rising_rises}
+use Rattle.lcm_laws.proofs.PlanMembers.{OfMachine, in_all}
 use Rattle.lcm_model.specs.Descriptors.{IsHoldingOf, IsValid, is_def_up_to, is_valid_vdu}
 use Rattle.lcm_model.specs.Instances.{inventory_of}
 use Rattle.lcm_model.specs.Vnfcs.{all_defs, def_of, defs, is_def_in, is_def_of, is_there, is_whole, items, storages_of, there}
@@ -99,11 +98,6 @@ pub record IsOfVdu (d : Vnfd) (h : Holding) (y : Held) : Type 0 where
   pub above : 0 < y.def.serial
   pub low : y.def.serial ≤ (inventory_of h).top y.def.vdu
 
-item_in : (d : Vnfd) (kind : DefKind) (x : Def) → x.kind ≡ kind → IsIn x.item (items d kind x.vdu) → IsIn x (defs d kind x.vdu x.serial)
-item_in d kind x is h =
-    let same : def_of kind x.vdu x.serial x.item ≡ x = def_ext (sym is) refl refl refl in
-    subst (λ (y : Def). IsIn y (defs d kind x.vdu x.serial)) same (in_map (def_of kind x.vdu x.serial) x.item (items d kind x.vdu) h)
-
 machine_item : (d : Vnfd) (kind : DefKind) (x : Def) → x.kind ≡ kind
     → (ltb x.vdu (length d.vdus) && is_among (items d kind x.vdu) x.item && ltb 0 x.serial) ≡ true
     → (x.vdu < length d.vdus) × IsIn x (all_defs d x.vdu x.serial) × (0 < x.serial)
@@ -134,9 +128,6 @@ machine_of d h y is k other =
       above = facts.2;
       low = leb-true y.def.serial (unwrap_or (slice_get h.top y.def.vdu) 0) (subst (λ (b : Bool). (b || nat_le y.def.serial (unwrap_or (slice_get h.top y.def.vdu) 0)) ≡ true) other low);
     }
-
-pub few_vdus : (d : Vnfd) → IsValid d → length d.vdus ≤ 64
-few_vdus d valid = leb-true (length d.vdus) 64 (and_left _ _ (and_left _ _ (and_left _ _ (and_left _ _ (and_left _ _ (and_left _ _ valid.counts))))))
 
 link_item : (d : Vnfd) (kind : DefKind) (x : Def) → (same_kind kind Link ≡ true) → is_def_in d kind x ≡ true → x.vdu ≡ 65535
 link_item d Link x is e = eqb-true x.vdu 65535 (and_right _ _ (and_left _ _ e))
@@ -232,27 +223,6 @@ part_there d h to v s can = same_test (list_any (is_part v s) h.items) (is_there
     (λ e.
     let item = there_item d h v s e in
     any_in (is_part v s) item.0 h.items item.1 (says_part v s item.0 (of_machine-no_link item.0.def.kind item.2) item.3 item.4))
-
--- the definitions of a machine differ
-items_differ : (d : Vnfd) (kind : DefKind) (v s : ℕ) → IsValid d → Rises Differ (defs d kind v s)
-items_differ d kind v s valid =
-    rises_map Less Differ (def_of kind v s) (items d kind v) (λ a b ha hb less e.
-    let same : a ≡ b = ap (λ (x : Def). x.item) e in absurd (omega (arith, less, same))) (items_rise d kind v valid)
-
-kinds_differ : (d : Vnfd) (j k : DefKind) (v s : ℕ) (x y : Def) → (j ≡ k → ⊥) → IsIn x (defs d j v s) → IsIn y (defs d k v s) → Differ x y
-kinds_differ d j k v s x y no_way hx hy e =
-    no_way (sym (of_defs d j v s x hx).0 ∙ (ap (λ (z : Def). z.kind) e ∙ (of_defs d k v s y hy).0))
-
-pub machine_differs : (d : Vnfd) (v s : ℕ) → IsValid d → Rises Differ (all_defs d v s)
-machine_differs d v s valid =
-    rises_append Differ (defs d Storage v s ++ defs d Compute v s) (defs d Port v s)
-    (rises_append Differ (defs d Storage v s) (defs d Compute v s) (items_differ d Storage v s valid) (items_differ d Compute v s valid)
-    (λ x y hx hy. kinds_differ d Storage Compute v s x y (λ e. cc) hx hy))
-    (items_differ d Port v s valid)
-    (λ x y hx hy. elim (in_either x (defs d Storage v s) (defs d Compute v s) hx) [
-      | inl g ↦ kinds_differ d Storage Port v s x y (λ e. cc) g hy
-      | inr g ↦ kinds_differ d Compute Port v s x y (λ e. cc) g hy
-    ])
 
 -- what stands of a machine
 abbrev held_parts : Holding → ℕ → ℕ → List Def

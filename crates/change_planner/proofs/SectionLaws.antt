@@ -14,10 +14,11 @@ use Rattle.lcm_events.specs.declared.changes.Verb.TheVariants.{Remove, Start, St
 use Rattle.lcm_events.specs.declared.descriptor.Vnfd.{Vnfd}
 use Rattle.lcm_events.specs.declared.held.Held.{Held}
 use Rattle.lcm_events.specs.declared.held.Holding.{Holding}
+use Rattle.lcm_laws.proofs.HoldingLaws.{map_get, range_get}
 use Rattle.lcm_laws.proofs.Lists.{and_left, and_right, and_true, by_test}
 use Rattle.lcm_laws.proofs.Members.{Rises, any_in, among_in, in_among, in_filter, in_front, in_map, in_range, of_filter, of_map, rises_filter, rises_map}
 use Rattle.lcm_laws.proofs.PlanMembers.{in_defs_of, of_defs_of}
-use Rattle.lcm_laws.proofs.PlanOrder.{Before, plan_rises}
+use Rattle.lcm_laws.proofs.PlanOrder.{Before, lead_less, lead_same, plan_rises}
 use Rattle.lcm_model.specs.Descriptors.{IsValid}
 use Rattle.lcm_model.specs.Instances.{inventory_of}
 use Rattle.lcm_model.specs.Planned.{is_before, key}
@@ -27,8 +28,8 @@ use Rattle.lcm_model.specs.Words.{IsIn, is_among}
 use Rattle.change_planner.specs.Inventories.{case_of}
 use Rattle.change_planner.specs.Rolls.{CanBePlanned, changes_if, changes_where, is_link, is_running, is_stopped, leaves, roll_of, stays_by}
 use Rattle.change_planner.specs.declared.rolls.Roll.{Roll}
-use Rattle.change_planner.proofs.InventoryLaws.{map_get, of_any, range_get, said, says, says_runs}
-use Rattle.change_planner.proofs.OrderLaws.{Sooner, before_once, def_key, items_in_order, lead_less, lead_same, leads, sooner_differs, unique}
+use Rattle.change_planner.proofs.InventoryLaws.{of_any, said, says, says_runs}
+use Rattle.change_planner.proofs.OrderLaws.{Sooner, before_once, def_key, items_in_order, leads, sooner_differs, unique}
 use Rattle.change_planner.proofs.RollLaws.{IsOfVdu, item_there, known_item, machine_of}
 
 -- no two changes stand before each other

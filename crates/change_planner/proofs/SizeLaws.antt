@@ -1,5 +1,5 @@
 -- How much stands, and what the rolls of a case are.
-use Rattle.std.proofs.Common.{◌≡◌, ◌≤◌, ◌+◌, ◌&&◌, ◌∙◌, ℕ, List, [], ◌∷◌, Bool, true, false, Option, None, Some, not, refl, ap, sym, subst, length, map, filter, flat_map, arith, inl, ltb, lt-ltb, ltb-false}
+use Rattle.std.proofs.Common.{◌≡◌, ◌≤◌, ◌+◌, ◌&&◌, ◌∙◌, ℕ, List, [], ◌∷◌, Bool, true, false, Option, None, Some, refl, ap, sym, subst, length, map, filter, flat_map, arith, inl, ltb, lt-ltb, ltb-false}
 use Rattle.std.proofs.lemmas.List.{length-map}
 use Rattle.std.specs.List.{enumerate_from, range_with_len}
 use Rattle.lcm_events.specs.Descriptors.{is_rising}
@@ -11,16 +11,17 @@ use Rattle.lcm_events.specs.declared.changes.DefKind.TheVariants.{Link}
 use Rattle.lcm_events.specs.declared.descriptor.Vnfd.{Vnfd}
 use Rattle.lcm_events.specs.declared.held.Held.{Held}
 use Rattle.lcm_events.specs.declared.held.Holding.{Holding}
-use Rattle.lcm_laws.proofs.BoundLaws.{Differ, all_parts, few, vdu_in}
-use Rattle.lcm_laws.proofs.HoldingLaws.{all_of}
+use Rattle.lcm_laws.proofs.BoundLaws.{Differ, few, up_to_differ, vdu_in}
+use Rattle.lcm_laws.proofs.HoldingLaws.{all_of, few_vdus}
 use Rattle.lcm_laws.proofs.Lists.{and_left, and_true, by_test}
-use Rattle.lcm_laws.proofs.Members.{Less, Rises, in_back, in_filter, in_flat_map, in_front, in_range, of_filter, of_flat_map, of_map, of_range, rises_append, rises_filter, rises_flat_map, rises_map, rises_range, rises_take}
+use Rattle.lcm_laws.proofs.Members.{Less, Rises, in_back, in_filter, in_flat_map, in_front, in_range, of_filter, of_map, rises_filter, rises_map, rises_take}
+use Rattle.lcm_laws.proofs.PlanOrder.{may_stay_rises}
 use Rattle.lcm_laws.proofs.SerialLaws.{range_length}
 use Rattle.lcm_model.specs.Descriptors.{IsHoldingOf, IsValid}
 use Rattle.lcm_model.specs.Instances.{defs_up_to, inventory_of}
-use Rattle.lcm_model.specs.Plans.{is_named, may_stay, plan, stay, stay_by, want}
+use Rattle.lcm_model.specs.Plans.{may_stay, plan, stay, stay_by, want}
 use Rattle.lcm_model.specs.Refusals.{created, standing}
-use Rattle.lcm_model.specs.Vnfcs.{all_defs, is_there, is_whole, link_def, links, there, vdu_numbers}
+use Rattle.lcm_model.specs.Vnfcs.{all_defs, links, vdu_numbers}
 use Rattle.lcm_model.specs.Words.{IsIn, first_some, when}
 use Rattle.change_planner.specs.Inventories.{case_of}
 use Rattle.change_planner.specs.Planning.{IsTooMany, is_oversized, planned_size}
@@ -30,38 +31,8 @@ use Rattle.change_planner.specs.declared.rolls.Roll.{Roll}
 use Rattle.change_planner.proofs.InventoryLaws.{said, says}
 use Rattle.change_planner.proofs.OrderLaws.{Sooner, items_in_order, sooner_differs}
 use Rattle.change_planner.proofs.PlanLaws.{created_is, plan_is, plan_size}
-use Rattle.change_planner.proofs.RollLaws.{few_vdus, known_item, machine_differs, machine_of}
+use Rattle.change_planner.proofs.RollLaws.{known_item, machine_of}
 use Rattle.change_planner.proofs.SectionLaws.{link_known, rolls_of}
-
-link_is : (d : Vnfd) (x : Def) → IsIn x (links d) → x.vdu ≡ 65535
-link_is d x h = let from = of_map link_def x (range_with_len 0 (length d.links)) h in sym (ap (λ (y : Def). y.vdu) from.2)
-
--- the definitions up to some serials differ
-up_to_differ : (d : Vnfd) (top : ℕ → ℕ) → IsValid d → Rises Differ (defs_up_to d top)
-up_to_differ d top valid =
-    rises_append Differ (flat_map (λ v. flat_map (all_defs d v) (range_with_len 1 (top v))) (vdu_numbers d)) (links d)
-    (rises_flat_map Less Differ (λ v. flat_map (all_defs d v) (range_with_len 1 (top v))) (vdu_numbers d) (rises_range 0 (length d.vdus))
-    (λ v within.
-    rises_flat_map Less Differ (all_defs d v) (range_with_len 1 (top v)) (rises_range 1 (top v)) (λ s inside. machine_differs d v s valid)
-    (λ r s x y less hx hy e.
-    let a = (all_parts d v r x hx).2 in let b = (all_parts d v s y hy).2 in let same : x.serial ≡ y.serial = ap (λ (z : Def). z.serial) e in
-    absurd (omega (arith, less, a, b, same))))
-    (λ u v x y less hx hy e.
-    let from_x = of_flat_map (all_defs d u) x (range_with_len 1 (top u)) hx in
-    let from_y = of_flat_map (all_defs d v) y (range_with_len 1 (top v)) hy in
-    let a = (all_parts d u from_x.0 x from_x.2).1 in let b = (all_parts d v from_y.0 y from_y.2).1 in
-    let same : x.vdu ≡ y.vdu = ap (λ (z : Def). z.vdu) e in absurd (omega (arith, less, a, b, same))))
-    (rises_map Less Differ link_def (range_with_len 0 (length d.links)) (λ a b ha hb less e.
-    let same : a ≡ b = ap (λ (x : Def). x.item) e in absurd (omega (arith, less, same))) (rises_range 0 (length d.links)))
-    (λ x y hx hy e.
-    let from = of_flat_map (λ v. flat_map (all_defs d v) (range_with_len 1 (top v))) x (vdu_numbers d) hx in
-    let machine = of_flat_map (all_defs d from.0) x (range_with_len 1 (top from.0)) from.2 in
-    let at = (all_parts d from.0 machine.0 x machine.2).1 in
-    let low = (of_range from.0 0 (length d.vdus) from.1).1 in
-    let most = few_vdus d valid in
-    let far = link_is d y hy in
-    let same : x.vdu ≡ y.vdu = ap (λ (z : Def). z.vdu) e in
-    absurd (omega (arith, at, low, most, far, same)))
 
 item_up_to : (d : Vnfd) (h : Holding) (y : Held) → IsHoldingOf d h → IsIn y h.items → IsIn y.def (defs_up_to d (inventory_of h).top)
 item_up_to d h y is k = by_test (same_kind y.def.kind Link)
@@ -120,26 +91,13 @@ plan_small d h ask to can e =
     omega (arith, made, stands, size, same, sized)
 
 -- the serials of a VDU that stay rise
-there_rises : (d : Vnfd) (h : Holding) (v : ℕ) → Rises Less (there d (inventory_of h) v)
-there_rises d h v = rises_filter Less (is_there d (inventory_of h) v) (range_with_len 1 ((inventory_of h).top v)) (rises_range 1 ((inventory_of h).top v))
-
-may_stay_rises : (d : Vnfd) (h : Holding) (to : List ℕ) (whole ask : Ask) (v : ℕ) → Rises Less (may_stay ask (case_of d h whole to) v)
-may_stay_rises d h to whole (Instantiate flavour level) v = tt
-may_stay_rises d h to whole (Terminate mode timeout) v = tt
-may_stay_rises d h to whole (Heal cause []) v = tt
-may_stay_rises d h to whole (Heal cause (x ∷ named)) v =
-    rises_filter Less (λ s. is_whole d (inventory_of h) v s && not (is_named (x ∷ named) v s)) (there d (inventory_of h) v) (there_rises d h v)
-may_stay_rises d h to whole (Scale way aspect steps) v = there_rises d h v
-may_stay_rises d h to whole (ScaleToLevel aim) v = there_rises d h v
-may_stay_rises d h to whole (Operate started stop) v = there_rises d h v
-
 stay_rises : (d : Vnfd) (h : Holding) (to : List ℕ) (whole ask : Ask) (v : ℕ) → Rises Less (stay_by ask (case_of d h whole to) v)
-stay_rises d h to whole (Operate started stop) v = may_stay_rises d h to whole (Operate started stop) v
-stay_rises d h to whole (Instantiate flavour level) v = rises_take Less (want (case_of d h whole to) v) (may_stay (Instantiate flavour level) (case_of d h whole to) v) (may_stay_rises d h to whole (Instantiate flavour level) v)
-stay_rises d h to whole (Terminate mode timeout) v = rises_take Less (want (case_of d h whole to) v) (may_stay (Terminate mode timeout) (case_of d h whole to) v) (may_stay_rises d h to whole (Terminate mode timeout) v)
-stay_rises d h to whole (Heal cause named) v = rises_take Less (want (case_of d h whole to) v) (may_stay (Heal cause named) (case_of d h whole to) v) (may_stay_rises d h to whole (Heal cause named) v)
-stay_rises d h to whole (Scale way aspect steps) v = rises_take Less (want (case_of d h whole to) v) (may_stay (Scale way aspect steps) (case_of d h whole to) v) (may_stay_rises d h to whole (Scale way aspect steps) v)
-stay_rises d h to whole (ScaleToLevel aim) v = rises_take Less (want (case_of d h whole to) v) (may_stay (ScaleToLevel aim) (case_of d h whole to) v) (may_stay_rises d h to whole (ScaleToLevel aim) v)
+stay_rises d h to whole (Operate started stop) v = may_stay_rises (case_of d h whole to) (Operate started stop) v
+stay_rises d h to whole (Instantiate flavour level) v = rises_take Less (want (case_of d h whole to) v) (may_stay (Instantiate flavour level) (case_of d h whole to) v) (may_stay_rises (case_of d h whole to) (Instantiate flavour level) v)
+stay_rises d h to whole (Terminate mode timeout) v = rises_take Less (want (case_of d h whole to) v) (may_stay (Terminate mode timeout) (case_of d h whole to) v) (may_stay_rises (case_of d h whole to) (Terminate mode timeout) v)
+stay_rises d h to whole (Heal cause named) v = rises_take Less (want (case_of d h whole to) v) (may_stay (Heal cause named) (case_of d h whole to) v) (may_stay_rises (case_of d h whole to) (Heal cause named) v)
+stay_rises d h to whole (Scale way aspect steps) v = rises_take Less (want (case_of d h whole to) v) (may_stay (Scale way aspect steps) (case_of d h whole to) v) (may_stay_rises (case_of d h whole to) (Scale way aspect steps) v)
+stay_rises d h to whole (ScaleToLevel aim) v = rises_take Less (want (case_of d h whole to) v) (may_stay (ScaleToLevel aim) (case_of d h whole to) v) (may_stay_rises (case_of d h whole to) (ScaleToLevel aim) v)
 
 rising_of : (ns : List ℕ) → Rises Less ns → is_rising ltb ns ≡ true
 rising_of [] h = refl
