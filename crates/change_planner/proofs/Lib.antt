@@ -9,3 +9,4 @@ pub mod RangeLaws
 pub mod SectionLaws
 pub mod PlanLaws
 pub mod SizeLaws
+pub mod FitLaws

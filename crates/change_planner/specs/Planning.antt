@@ -1,16 +1,22 @@
 -- Plans over what a holding says stands, and why there is none (own rule over SOL 003 5.4.4 to 5.4.10).
 use Rattle.std.specs.List.{enumerate_from}
-use Rattle.std.specs.Prelude.{Bool, List, None, Option, [], false, find, nat_lt, not, option_map, true, ℕ, ◌&&◌, ◌+◌, ◌==◌, ◌∷◌, ◌≡◌}
+use Rattle.std.specs.Prelude.{Bool, List, None, Option, [], false, find, length, nat_lt, not, option_map, true, ℕ, ◌&&◌, ◌+◌, ◌==◌, ◌∷◌, ◌≡◌, ◌≤◌}
 use Rattle.std.specs.Cmp.Lexicographic.{pointwise}
 use Rattle.lcm_events.specs.declared.asks.Ask.{Ask}
 use Rattle.lcm_events.specs.declared.asks.Ask.TheVariants.{Heal, Operate, ScaleToLevel, Terminate}
 use Rattle.lcm_events.specs.declared.asks.Vnfc.{Vnfc}
+use Rattle.lcm_events.specs.declared.changes.Change.{Change}
 use Rattle.lcm_events.specs.declared.descriptor.Vnfd.{Vnfd}
+use Rattle.lcm_events.specs.declared.events.EventKind.TheVariants.{Asked}
 use Rattle.lcm_events.specs.declared.held.Holding.{Holding}
+use Rattle.lcm_events.specs.declared.states.Role.{Role}
+use Rattle.event_codec.specs.Spell.{spelling}
+use Rattle.event_codec.specs.Typed.{TypedAsk}
+use Rattle.lcm_laws.specs.Records.{NamesFew}
 use Rattle.lcm_model.specs.Instances.{inventory_of}
 use Rattle.lcm_model.specs.Levels.{count}
 use Rattle.lcm_model.specs.Plans.{plan}
-use Rattle.lcm_model.specs.Refusals.{created, standing}
+use Rattle.lcm_model.specs.Refusals.{content_refusal, created, standing}
 use Rattle.lcm_model.specs.Vnfcs.{is_there}
 use Rattle.lcm_model.specs.Words.{first_some, same_bool, when}
 use Rattle.change_planner.specs.Inventories.{case_of}
@@ -64,3 +70,10 @@ refusal d h ask to = first_some (first_refusal d h ask to ∷ when (is_oversized
 -- the refusal is that of a plan that is too large (own limit)
 abbrev pub IsTooMany : Vnfd → Holding → Ask → List ℕ → PlanRefusal → Type 0
 IsTooMany d h ask to why = (is_oversized d h ask to ≡ true) × (why ≡ TooMany (planned_size d h ask to))
+
+-- the ask with these changes fits a record of 65,536 bytes, whatever its texts and its numbers are, where its content isn't refused, so
+-- that its names are the descriptor's and no aspect is named twice, and it names at most 512 machines (own limit)
+abbrev pub FitsRecord : Vnfd → Ask → List Change → Type 0
+FitsRecord d ask changes =
+    content_refusal d ask ≡ None → TypedAsk ask → NamesFew ask → (time occ instance : ℕ) (role : Role)
+    → length (spelling (record { moment = time; kind = Asked (record { occ = occ; instance = instance; role = role; ask = ask; changes = changes }) })) ≤ 65536

@@ -7,7 +7,7 @@ ghost use Rattle.lcm_model.specs.Descriptors.{IsValid, are_levels_of};
 ghost use Rattle.lcm_model.specs.Plans.{plan};
 ghost use Rattle.lcm_model.specs.Vnfcs.{vdu_numbers};
 ghost use Rattle.change_planner.specs.Inventories.{case_of};
-ghost use Rattle.change_planner.specs.Planning.{IsTooMany, above_profile, aims_at_present, first_refusal, is_oversized, refusal, vdu_above};
+ghost use Rattle.change_planner.specs.Planning.{FitsRecord, IsTooMany, above_profile, aims_at_present, first_refusal, is_oversized, refusal, vdu_above};
 ghost use Rattle.change_planner.specs.Rolls.{CanBePlanned, are_rising, case_in, is_small, links_to_make, parts_made, parts_of, roll_of};
 
 use crate::plans::{changes_in, links_in};
@@ -173,11 +173,13 @@ fn plan_in(alloc: Global, case: &PlanCase) -> Result<Vec<Change>, PlanRefusal>
 /// where SCALE_TO_LEVEL aims at the present levels or OPERATE at the present state; `AboveProfile` exactly where a VDU would
 /// have more machines than its maximum, but for TERMINATE; `TooMany` exactly where something is made, and what stands and what
 /// is made are more than 2,500 definitions; `Memory`, which may stand in place of a plan or of `TooMany` alone.
-/// A plan has at most 5,000 changes. Its time is that of a few passes over what stands and over the plan, and of a search
+/// A plan has at most 5,000 changes, and the event that asks for it fits a record of 65,536 bytes, where the ask's content isn't
+/// refused and it names at most 512 machines. Its time is that of a few passes over what stands and over the plan, and of a search
 /// for each item; where HEAL names machines, each of a VDU's machines is counted over what stands.
 ///
 /// Source: SOL 003 5.4.4 to 5.4.10 (the tasks of an individual VNF instance); the changes, their order and the limits are own
 /// rules.
+#[tactic(auto, using(crate::proofs::FitLaws::record_fits))]
 pub fn plan(
     alloc: Global,
     vnfd: &Vnfd,
@@ -191,6 +193,7 @@ pub fn plan(
     ensures accepted { IfOk result (λ changes. refusal vnfd.now holding.now ask.now to.now ≡ None) }
     ensures refused { IfErr result (λ why. (why ≡ PlanRefusal.Memory) ⊎ (refusal vnfd.now holding.now ask.now to.now ≡ Some why)) }
     ensures small { IfOk result (λ changes. length changes ≤ 5000) }
+    ensures fits { IfOk result (λ changes. FitsRecord vnfd.now ask.now changes) }
 {
     let case = PlanCase {
         vnfd,
