@@ -1,0 +1,3 @@
+pub mod Sorted
+pub mod LiveLaws
+pub mod RowLaws

@@ -1,0 +1,155 @@
+-- What each event makes of the rows, and what is found among them.
+use Rattle.std.proofs.Common.{◌≡◌, ◌++◌, ◌==◌, ◌&&◌, ◌∙◌, ℕ, List, [], ◌∷◌, Bool, false, not, Option, None, Some, refl, ap, sym, subst, map, filter, find, reverse, option_map, arith}
+use mathlib.Core.List.{reverse-cons}
+use Rattle.lcm_events.specs.Same.{same_name}
+use Rattle.lcm_laws.proofs.StandLaws.{same_name-true}
+use Rattle.lcm_events.specs.declared.descriptor.Vnfd.{Vnfd}
+use Rattle.lcm_events.specs.declared.events.Event.{Event}
+use Rattle.lcm_events.specs.declared.events.EventKind.{EventKind}
+use Rattle.lcm_events.specs.declared.events.EventKind.TheVariants.{Created, Deleted, Onboarded, Subscribed, Unsubscribed}
+use Rattle.lcm_events.specs.declared.filters.Filter.{Filter}
+use Rattle.lcm_events.specs.declared.states.Role.{Role}
+use Rattle.lcm_model.specs.Allowed.{IsAllowedWithin, IsLegalWithin}
+use Rattle.lcm_model.specs.Lives.{Subscription, creations, descriptor_named, descriptors, is_deleted, is_kept, is_unsubscribed, live_instances, subscriptions}
+use Rattle.lcm_model.specs.Words.{otherwise, when}
+use Rattle.lcm_laws.proofs.Histories.{event, legal_induction}
+use Rattle.lcm_laws.proofs.Lists.{by_test}
+use Rattle.lcm_laws.proofs.NumberLaws.{instances_counted, subscriptions_counted}
+use Rattle.instance_table.specs.Rows.{Rows, StandsFor, continued, instance, instance_row, instance_rows, is_continued, rows, subscription_at, subscription_row, subscription_rows}
+use Rattle.instance_table.specs.Steps.{Rises, first_instance, first_subscription, rows_after, without_instance, without_subscription}
+use Rattle.instance_table.specs.declared.rows.InstanceRow.{InstanceRow}
+use Rattle.instance_table.specs.declared.rows.SubscriptionRow.{SubscriptionRow}
+use Rattle.instance_table.proofs.LiveLaws.{deleted_made, ended_made, false_by, fewer, find-filter, find-map, flip, if_there, one_more, without-not}
+use Rattle.instance_table.proofs.Sorted.{falls-counted, falls-filter, falls-map, find-end, find-reverse, rises-reverse}
+
+-- a new instance is last
+created-step : (width m : ℕ) (H : List Event) (time i : ℕ) (vnfd : List ℕ) (name text : Option (List ℕ)) → IsLegalWithin width m H
+    → IsAllowedWithin width m H (Created i vnfd name text)
+    → instance_rows (event time (Created i vnfd name text) ∷ H) ≡ instance_rows H ++ first_instance i vnfd name text ∷ []
+unfolding is_kept
+created-step width m H time i vnfd name text legal allowed =
+    let none : is_deleted H i ≡ false = false_by (is_deleted H i) (λ gone. let made = deleted_made width m H legal i gone in omega (arith, made, allowed.number)) in
+    one_more instance_row (is_kept H) (record { instance = i; vnfd = vnfd; name = name; text = text }) (creations H) (ap not none)
+
+-- a deleted instance is gone
+deleted-step : (H : List Event) (time i : ℕ) → instance_rows (event time (Deleted i) ∷ H) ≡ without_instance i (instance_rows H)
+unfolding is_kept
+deleted-step H time i =
+    fewer instance_row (λ r. not (r.number == i)) (is_kept H) (is_kept (event time (Deleted i) ∷ H)) (creations H)
+    (λ x. without-not (i == x.instance) (is_deleted H x.instance) ∙ ap (λ (b : Bool). not b && not (is_deleted H x.instance)) (flip i x.instance))
+
+-- a new subscription is last
+subscribed-step : (width m : ℕ) (H : List Event) (time s : ℕ) (role : Role) (callback : List ℕ) (filter : Filter) → IsLegalWithin width m H
+    → IsAllowedWithin width m H (Subscribed s role callback filter)
+    → subscription_rows (event time (Subscribed s role callback filter) ∷ H) ≡ subscription_rows H ++ first_subscription s role callback filter ∷ []
+unfolding is_continued
+subscribed-step width m H time s role callback filter legal allowed =
+    let none : is_unsubscribed H s ≡ false = false_by (is_unsubscribed H s) (λ gone. let made = ended_made width m H legal s gone in omega (arith, made, allowed.number)) in
+    one_more (subscription_row H) (is_continued H) (record { number = s; role = role; callback = callback; filter = filter }) (subscriptions H) (ap not none)
+
+-- an ended subscription is gone
+unsubscribed-step : (H : List Event) (time s : ℕ) → subscription_rows (event time (Unsubscribed s) ∷ H) ≡ without_subscription s (subscription_rows H)
+unfolding is_continued
+unsubscribed-step H time s =
+    fewer (subscription_row H) (λ r. not (r.number == s)) (is_continued H) (is_continued (event time (Unsubscribed s) ∷ H)) (subscriptions H)
+    (λ x. without-not (s == x.number) (is_unsubscribed H x.number) ∙ ap (λ (b : Bool). not b && not (is_unsubscribed H x.number)) (flip s x.number))
+
+with_descriptors : (rs : Rows) (x y : List Vnfd) → x ≡ y → record rs { descriptors = x } ≡ record rs { descriptors = y }
+with_descriptors rs x y e = ap (λ (z : List Vnfd). record rs { descriptors = z }) e
+
+with_instances : (rs : Rows) (x y : List InstanceRow) (m n : ℕ) → x ≡ y → m ≡ n → record rs { instances = x; instances_made = m } ≡ record rs { instances = y; instances_made = n }
+with_instances rs x y m n e f =
+    ap (λ (z : List InstanceRow). record rs { instances = z; instances_made = m }) e ∙ ap (λ (k : ℕ). record rs { instances = y; instances_made = k }) f
+
+with_subscriptions : (rs : Rows) (x y : List SubscriptionRow) (m n : ℕ) → x ≡ y → m ≡ n
+    → record rs { subscriptions = x; subscriptions_made = m } ≡ record rs { subscriptions = y; subscriptions_made = n }
+with_subscriptions rs x y m n e f =
+    ap (λ (z : List SubscriptionRow). record rs { subscriptions = z; subscriptions_made = m }) e ∙ ap (λ (k : ℕ). record rs { subscriptions = y; subscriptions_made = k }) f
+
+-- what an event makes of the rows
+pub rows-step : (width m : ℕ) (H : List Event) (time : ℕ) (k : EventKind) → IsLegalWithin width m H → IsAllowedWithin width m H k
+    → rows (event time k ∷ H) ≡ rows_after k (rows H)
+unfolding is_kept is_continued
+rows-step width m H time (Onboarded d) legal allowed = with_descriptors (rows H) _ _ (reverse-cons d (descriptors H))
+rows-step width m H time (Created i vnfd name text) legal allowed =
+    with_instances (rows H) _ _ _ _ (created-step width m H time i vnfd name text legal allowed) (omega (arith, allowed.number))
+rows-step width m H time (Deleted i) legal allowed = with_instances (rows H) _ _ _ _ (deleted-step H time i) refl
+rows-step width m H time (Subscribed s role callback filter) legal allowed =
+    with_subscriptions (rows H) _ _ _ _ (subscribed-step width m H time s role callback filter legal allowed) (omega (arith, allowed.number))
+rows-step width m H time (Unsubscribed s) legal allowed = with_subscriptions (rows H) _ _ _ _ (unsubscribed-step H time s) refl
+rows-step width m H time _ legal allowed = refl
+
+-- rows that followed an event
+pub applied : (width m : ℕ) (H : List Event) (e : Event) (old new : Rows) → IsLegalWithin width m H → IsAllowedWithin width m H e.kind → StandsFor old H
+    → new ≡ rows_after e.kind old → StandsFor new (e ∷ H)
+applied width m H e old new legal allowed stands is =
+    is ∙ (ap (λ (rs : Rows). rows_after e.kind rs) stands ∙ sym (rows-step width m H e.moment e.kind legal allowed))
+
+-- an event that the rows leave alone
+pub unchanged : (k : EventKind) (rs : Rows) → ((d : Vnfd) → k ≡ Onboarded d → ⊥) → ((i : ℕ) (vnfd : List ℕ) (name text : Option (List ℕ)) → k ≡ Created i vnfd name text → ⊥)
+    → ((i : ℕ) → k ≡ Deleted i → ⊥) → ((s : ℕ) (role : Role) (callback : List ℕ) (filter : Filter) → k ≡ Subscribed s role callback filter → ⊥)
+    → ((s : ℕ) → k ≡ Unsubscribed s → ⊥) → rs ≡ rows_after k rs
+unchanged (Onboarded d) rs f g h j l = absurd (f d refl)
+unchanged (Created i vnfd name text) rs f g h j l = absurd (g i vnfd name text refl)
+unchanged (Deleted i) rs f g h j l = absurd (h i refl)
+unchanged (Subscribed s role callback filter) rs f g h j l = absurd (j s role callback filter refl)
+unchanged (Unsubscribed s) rs f g h j l = absurd (l s refl)
+unchanged _ rs f g h j l = refl
+
+-- what is found is the instance of this number
+pub instance_found : (width m : ℕ) (H : List Event) (rs : Rows) (i : ℕ) (x : Option InstanceRow) → IsLegalWithin width m H → StandsFor rs H
+    → (Rises (λ r. r.number) rs.instances → x ≡ find (λ r. r.number == i) rs.instances) → x ≡ instance H i
+unfolding is_kept
+instance_found width m H rs i x legal stands is_found =
+    let falls = falls-filter (λ x. x.instance) (is_kept H) (creations H) (falls-counted (λ x. x.instance) (creations H) (instances_counted width m H legal)) in
+    let is : rs.instances ≡ instance_rows H = ap (λ (r : Rows). r.instances) stands in
+    let f : InstanceRow → ℕ = λ r. r.number in
+    let mapped = falls-map f instance_row (live_instances H) falls in
+    is_found (subst (λ (ys : List InstanceRow). Rises f ys) (sym is) (rises-reverse f (map instance_row (live_instances H)) mapped))
+    ∙ (ap (λ (ys : List InstanceRow). find (λ r. r.number == i) ys) is
+    ∙ (find-reverse f i (map instance_row (live_instances H)) mapped
+    ∙ (find-map f instance_row i (live_instances H)
+    ∙ (ap (option_map instance_row) (find-filter (λ x. x.instance) (is_kept H) i (creations H) (not (is_deleted H i)) (λ x e. ap (λ (n : ℕ). not (is_deleted H n)) e))
+    ∙ if_there instance_row (find (λ x. x.instance == i) (creations H)) (not (is_deleted H i))))))
+
+-- what is found is the subscription of this number
+pub subscription_found : (width m : ℕ) (H : List Event) (rs : Rows) (s : ℕ) (x : Option SubscriptionRow) → IsLegalWithin width m H → StandsFor rs H
+    → (Rises (λ r. r.number) rs.subscriptions → x ≡ find (λ r. r.number == s) rs.subscriptions) → x ≡ subscription_at H s
+unfolding is_continued
+subscription_found width m H rs s x legal stands is_found =
+    let g : Subscription → SubscriptionRow = subscription_row H in
+    let falls = falls-filter (λ x. x.number) (is_continued H) (subscriptions H) (falls-counted (λ x. x.number) (subscriptions H) (subscriptions_counted width m H legal)) in
+    let is : rs.subscriptions ≡ subscription_rows H = ap (λ (r : Rows). r.subscriptions) stands in
+    let f : SubscriptionRow → ℕ = λ r. r.number in
+    let mapped = falls-map f g (continued H) falls in
+    is_found (subst (λ (ys : List SubscriptionRow). Rises f ys) (sym is) (rises-reverse f (map g (continued H)) mapped))
+    ∙ (ap (λ (ys : List SubscriptionRow). find (λ r. r.number == s) ys) is
+    ∙ (find-reverse f s (map g (continued H)) mapped
+    ∙ (find-map f g s (continued H)
+    ∙ (ap (option_map g) (find-filter (λ x. x.number) (is_continued H) s (subscriptions H) (not (is_unsubscribed H s)) (λ x e. ap (λ (n : ℕ). not (is_unsubscribed H n)) e))
+    ∙ if_there g (find (λ x. x.number == s) (subscriptions H)) (not (is_unsubscribed H s))))))
+
+vnfd_step : (width m : ℕ) (H : List Event) (time : ℕ) (k : EventKind) (id : List ℕ) → IsAllowedWithin width m H k
+    → find (λ d. same_name d.descriptor_id id) (reverse (descriptors H)) ≡ descriptor_named H id
+    → find (λ d. same_name d.descriptor_id id) (reverse (descriptors (event time k ∷ H))) ≡ descriptor_named (event time k ∷ H) id
+vnfd_step width m H time (Onboarded d) id allowed h =
+    let p : Vnfd → Bool = λ d. same_name d.descriptor_id id in
+    ap (find p) (reverse-cons d (descriptors H))
+    ∙ (find-end p (reverse (descriptors H)) d
+    ∙ (ap (λ (y : Option Vnfd). otherwise y (when (p d) d)) h
+    ∙ by_test (same_name d.descriptor_id id)
+    (λ same.
+    let is : d.descriptor_id ≡ id = same_name-true d.descriptor_id id same in
+    let none : descriptor_named H id ≡ None = subst (λ (n : List ℕ). descriptor_named H n ≡ None) is allowed.unknown in
+    rw (same, none) refl)
+    (λ other. rw other (or_none (descriptor_named H id))))) where
+      or_none : (y : Option Vnfd) → otherwise y None ≡ y
+      or_none None = refl
+      or_none (Some y) = refl
+vnfd_step width m H time _ id allowed h = h
+
+-- a descriptor is found from either end
+pub vnfd_found : (width m : ℕ) (H : List Event) (id : List ℕ) → IsLegalWithin width m H → find (λ d. same_name d.descriptor_id id) (reverse (descriptors H)) ≡ descriptor_named H id
+vnfd_found width m H id legal =
+    legal_induction width m (λ H. find (λ d. same_name d.descriptor_id id) (reverse (descriptors H)) ≡ descriptor_named H id) refl
+    (λ H time k legal allowed h. vnfd_step width m H time k id allowed h) H legal

@@ -1,0 +1,76 @@
+-- What the rows of the table are: a function of the history (SOL 003 5.4.2, VNF instances; 5.4.18, Subscriptions).
+use Rattle.std.specs.Prelude.{Bool, List, None, Option, if◌then◌else◌, filter, length, map, not, option_map, reverse, ℕ, ◌≡◌}
+use Rattle.lcm_events.specs.declared.descriptor.Vnfd.{Vnfd}
+use Rattle.lcm_events.specs.declared.events.Event.{Event}
+use Rattle.lcm_model.specs.Lives.{CreatedInstance, Subscription, creation, descriptors, instances_made, is_live, is_subscribed, is_unsubscribed, live_instances, subscription, subscriptions, subscriptions_made}
+use Rattle.vnfm_base.specs.declared.identifier.Kind.{Kind}
+use Rattle.vnfm_base.specs.declared.identifier.Kind.TheVariants as kinds
+use Rattle.instance_table.specs.declared.rows.InstanceRow.{InstanceRow}
+use Rattle.instance_table.specs.declared.rows.SubscriptionRow.{SubscriptionRow}
+
+-- what the table keeps: descriptors, live instances and live subscriptions in the order in which they came, and how many
+-- instances and subscriptions were ever made
+pub record Rows : Type 0 where
+  pub descriptors : List Vnfd
+  pub instances : List InstanceRow
+  pub subscriptions : List SubscriptionRow
+  pub instances_made : ℕ
+  pub subscriptions_made : ℕ
+
+-- the row of an instance (SOL 003 5.5.2.2)
+abbrev pub instance_row : CreatedInstance → InstanceRow
+instance_row x = record { number = x.instance; vnfd = x.vnfd; name = x.name; text = x.text }
+
+-- the rows of the live instances, in the order of their numbers (SOL 003 5.4.2)
+abbrev pub instance_rows : List Event → List InstanceRow
+instance_rows H = reverse (map instance_row (live_instances H))
+
+-- the row of the instance of this number, where it is live (SOL 003 5.4.3)
+abbrev pub instance : List Event → ℕ → Option InstanceRow
+instance H i = if is_live H i then option_map instance_row (creation H i) else None
+
+-- a subscription was not ended (SOL 003 5.4.19)
+unfoldable pub is_continued : List Event → Subscription → Bool
+is_continued H x = not (is_unsubscribed H x.number)
+
+-- the subscriptions of both roles that were not ended, the latest first (SOL 003 5.4.18)
+abbrev pub continued : List Event → List Subscription
+continued H = filter (is_continued H) (subscriptions H)
+
+-- the row of a subscription (SOL 003 5.5.2.16)
+abbrev pub subscription_row : List Event → Subscription → SubscriptionRow
+subscription_row H x = record { number = x.number; role = x.role; callback = x.callback; filter = x.filter }
+
+-- the rows of the live subscriptions, in the order of their numbers (SOL 003 5.4.18)
+abbrev pub subscription_rows : List Event → List SubscriptionRow
+subscription_rows H = reverse (map (subscription_row H) (continued H))
+
+-- the row of the subscription of this number, where it is live (SOL 003 5.4.19)
+abbrev pub subscription_at : List Event → ℕ → Option SubscriptionRow
+subscription_at H s = if is_subscribed H s then option_map (subscription_row H) (subscription H s) else None
+
+-- what the history says of descriptors, instances and subscriptions
+abbrev pub rows : List Event → Rows
+rows H = record {
+  descriptors = reverse (descriptors H);
+  instances = instance_rows H;
+  subscriptions = subscription_rows H;
+  instances_made = instances_made H;
+  subscriptions_made = subscriptions_made H;
+}
+
+-- the rows are those of the history
+abbrev pub StandsFor : Rows → List Event → Type 0
+StandsFor rs H = rs ≡ rows H
+
+-- how many of a kind were made, of the two kinds that the table counts (own rule)
+abbrev pub made : Kind → List Event → ℕ
+made kinds.Instance H = instances_made H
+made kinds.Subscription H = subscriptions_made H
+made _ H = 0
+
+-- how many of a kind are live, of the two kinds that the table counts (own rule)
+abbrev pub live : Kind → List Event → ℕ
+live kinds.Instance H = length (live_instances H)
+live kinds.Subscription H = length (continued H)
+live _ H = 0

@@ -1,0 +1,85 @@
+-- What the table shows, what is reserved beside its rows, and what its calls do (own rule).
+use Rattle.std.specs.Prelude.{Bool, List, Option, Some, false, true, ℕ, ◌∷◌, ◌<◌, ◌≡◌, ◌≤◌, length}
+use Rattle.lcm_events.specs.declared.descriptor.Vnfd.{Vnfd}
+use Rattle.lcm_events.specs.declared.events.Event.{Event}
+use Rattle.lcm_events.specs.declared.events.EventKind.{EventKind}
+use Rattle.lcm_events.specs.declared.events.EventKind.TheVariants.{Created, Onboarded, Subscribed}
+use Rattle.lcm_model.specs.Allowed.{IsAllowedWithin, IsLegalWithin}
+use Rattle.lcm_model.specs.Lives.{descriptor_named, descriptors}
+use Rattle.vnfm_base.specs.declared.identifier.Kind.{Kind}
+use Rattle.vnfm_base.specs.declared.identifier.Kind.TheVariants as kinds
+use Rattle.instance_table.specs.Rows.{Rows, StandsFor, instance, live, made, subscription_at}
+use Rattle.instance_table.specs.Steps.{first_instance, first_subscription}
+use Rattle.instance_table.specs.declared.rows.InstanceRow.{InstanceRow}
+use Rattle.instance_table.specs.declared.rows.SubscriptionRow.{SubscriptionRow}
+
+-- what is reserved: a descriptor, an instance and a subscription that are to come, and room for how many more rows of each
+pub record Reserved : Type 0 where
+  pub descriptor : Option Vnfd
+  pub instance : Option InstanceRow
+  pub subscription : Option SubscriptionRow
+  pub descriptors : ℕ
+  pub instances : ℕ
+  pub subscriptions : ℕ
+
+-- what a contract sees of the table: its rows, and what is reserved
+pub record Shown : Type 0 where
+  pub rows : Rows
+  pub reserved : Reserved
+
+-- the event needs a reservation
+abbrev pub needs_room : EventKind → Bool
+needs_room (Onboarded d) = true
+needs_room (Created i vnfd name text) = true
+needs_room (Subscribed s role callback filter) = true
+needs_room _ = false
+
+-- what the event needs is reserved
+abbrev pub HasRoom : EventKind → Reserved → Type 0
+HasRoom (Onboarded d) r = (r.descriptor ≡ Some d) × (0 < r.descriptors)
+HasRoom (Created i vnfd name text) r = (r.instance ≡ Some (first_instance i vnfd name text)) × (0 < r.instances)
+HasRoom (Subscribed s role callback filter) r = (r.subscription ≡ Some (first_subscription s role callback filter)) × (0 < r.subscriptions)
+HasRoom _ r = Unit {0}
+
+-- what was reserved is reserved: what is to come as it was, and at least as much room
+pub record IsKept (old new : Reserved) : Type 0 where
+  pub descriptor : new.descriptor ≡ old.descriptor
+  pub instance : new.instance ≡ old.instance
+  pub subscription : new.subscription ≡ old.subscription
+  pub descriptors : old.descriptors ≤ new.descriptors
+  pub instances : old.instances ≤ new.instances
+  pub subscriptions : old.subscriptions ≤ new.subscriptions
+
+-- rows that stood for a legal history stand for it with the event that was allowed after it
+abbrev pub Applies : Event → Rows → Rows → Type 0
+Applies e old new = (width m : ℕ) (H : List Event) → IsLegalWithin width m H → IsAllowedWithin width m H e.kind → StandsFor old H → StandsFor new (e ∷ H)
+
+-- what is found is the descriptor of this identifier in each legal history that the rows stand for
+abbrev pub FindsVnfd : List ℕ → Option Vnfd → Rows → Type 0
+FindsVnfd id x rs = (width m : ℕ) (H : List Event) → IsLegalWithin width m H → StandsFor rs H → x ≡ descriptor_named H id
+
+-- what is found is the row of the live instance of this number in each legal history that the rows stand for
+abbrev pub FindsInstance : ℕ → Option InstanceRow → Rows → Type 0
+FindsInstance i x rs = (width m : ℕ) (H : List Event) → IsLegalWithin width m H → StandsFor rs H → x ≡ instance H i
+
+-- what is found is the row of the live subscription of this number in each legal history that the rows stand for
+abbrev pub FindsSubscription : ℕ → Option SubscriptionRow → Rows → Type 0
+FindsSubscription s x rs = (width m : ℕ) (H : List Event) → IsLegalWithin width m H → StandsFor rs H → x ≡ subscription_at H s
+
+-- the table counts the kind
+abbrev pub is_counted : Kind → Bool
+is_counted kinds.Instance = true
+is_counted kinds.Subscription = true
+is_counted _ = false
+
+-- this is how many of the kind were made in each history that the rows stand for
+abbrev pub CountsMade : Kind → ℕ → Rows → Type 0
+CountsMade kind n rs = (H : List Event) → StandsFor rs H → n ≡ made kind H
+
+-- this is how many of the kind are live in each history that the rows stand for
+abbrev pub CountsLive : Kind → ℕ → Rows → Type 0
+CountsLive kind n rs = (H : List Event) → StandsFor rs H → n ≡ live kind H
+
+-- this is how many descriptors each history has that the rows stand for
+abbrev pub CountsDescriptors : ℕ → Rows → Type 0
+CountsDescriptors n rs = (H : List Event) → StandsFor rs H → n ≡ length (descriptors H)

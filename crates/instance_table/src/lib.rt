@@ -1,0 +1,9 @@
+//! The table of descriptors, instances and subscriptions: what the history says of each, kept event by event.
+#![tactic(auto)]
+
+mod copies;
+mod rows;
+mod table;
+
+pub use rows::{InstanceRow, SubscriptionRow};
+pub use table::InstanceTable;
