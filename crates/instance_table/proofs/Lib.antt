@@ -1,3 +1,4 @@
 pub mod Sorted
 pub mod LiveLaws
+pub mod DeliveryLaws
 pub mod RowLaws

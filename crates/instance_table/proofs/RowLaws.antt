@@ -1,22 +1,25 @@
 -- What each event makes of the rows, and what is found among them.
-use Rattle.std.proofs.Common.{◌≡◌, ◌++◌, ◌==◌, ◌&&◌, ◌∙◌, ℕ, List, [], ◌∷◌, Bool, false, not, Option, None, Some, refl, ap, sym, subst, map, filter, find, reverse, option_map, arith}
+use Rattle.std.proofs.Common.{◌≡◌, ◌++◌, ◌==◌, ◌&&◌, ◌∙◌, ℕ, List, [], ◌∷◌, Bool, false, not, Option, None, Some, refl, ap, sym, subst, map, filter, find, reverse, option_map, arith, length, cond, true, max, nat_le, eq-eqb, ◌||◌, ◌<◌, ◌+◌, eqb-true}
 use mathlib.Core.List.{reverse-cons}
 use Rattle.lcm_events.specs.Same.{same_name}
 use Rattle.lcm_laws.proofs.StandLaws.{same_name-true}
 use Rattle.lcm_events.specs.declared.descriptor.Vnfd.{Vnfd}
 use Rattle.lcm_events.specs.declared.events.Event.{Event}
 use Rattle.lcm_events.specs.declared.events.EventKind.{EventKind}
-use Rattle.lcm_events.specs.declared.events.EventKind.TheVariants.{Created, Deleted, Onboarded, Subscribed, Unsubscribed}
+use Rattle.lcm_events.specs.declared.events.EventKind.TheVariants.{Created, Deleted, Onboarded, Posted, Subscribed, Unsubscribed}
+use Rattle.lcm_events.specs.declared.events.PostOutcome.{PostOutcome}
 use Rattle.lcm_events.specs.declared.filters.Filter.{Filter}
 use Rattle.lcm_events.specs.declared.states.Role.{Role}
 use Rattle.lcm_model.specs.Allowed.{IsAllowedWithin, IsLegalWithin}
-use Rattle.lcm_model.specs.Lives.{Subscription, creations, descriptor_named, descriptors, is_deleted, is_kept, is_unsubscribed, live_instances, subscriptions}
+use Rattle.lcm_model.specs.Lives.{Subscription, creations, descriptor_named, descriptors, is_deleted, is_kept, is_unsubscribed, live_instances, subscriptions, subscriptions_made}
+use Rattle.lcm_model.specs.Notices.{is_delivered, posts}
+use Rattle.instance_table.proofs.DeliveryLaws.{cursor-other, cursor-posted, never_posted, tries-other, tries-posted}
 use Rattle.lcm_model.specs.Words.{otherwise, when}
 use Rattle.lcm_laws.proofs.Histories.{event, legal_induction}
 use Rattle.lcm_laws.proofs.Lists.{by_test}
-use Rattle.lcm_laws.proofs.NumberLaws.{instances_counted, subscriptions_counted}
-use Rattle.instance_table.specs.Rows.{Rows, StandsFor, continued, instance, instance_row, instance_rows, is_continued, rows, subscription_at, subscription_row, subscription_rows}
-use Rattle.instance_table.specs.Steps.{Rises, first_instance, first_subscription, rows_after, without_instance, without_subscription}
+use Rattle.lcm_laws.proofs.NumberLaws.{IsCounted, instances_counted, subscriptions_counted}
+use Rattle.instance_table.specs.Rows.{Rows, StandsFor, continued, instance, instance_row, instance_rows, is_continued, rows, subscription_at, subscription_row, subscription_rows, tries_past}
+use Rattle.instance_table.specs.Steps.{Rises, after_post, changed, first_instance, first_subscription, next_place, posted, rows_after, without_instance, without_subscription}
 use Rattle.instance_table.specs.declared.rows.InstanceRow.{InstanceRow}
 use Rattle.instance_table.specs.declared.rows.SubscriptionRow.{SubscriptionRow}
 use Rattle.instance_table.proofs.LiveLaws.{deleted_made, ended_made, false_by, fewer, find-filter, find-map, flip, if_there, one_more, without-not}
@@ -38,14 +41,86 @@ deleted-step H time i =
     fewer instance_row (λ r. not (r.number == i)) (is_kept H) (is_kept (event time (Deleted i) ∷ H)) (creations H)
     (λ x. without-not (i == x.instance) (is_deleted H x.instance) ∙ ap (λ (b : Bool). not b && not (is_deleted H x.instance)) (flip i x.instance))
 
+-- rows that differ in how far notices were delivered alone
+with_delivery : (r : SubscriptionRow) (a b c d i j : ℕ) → a ≡ b → c ≡ d → i ≡ j → record r { from = a; cursor = c; tries = i } ≡ record r { from = b; cursor = d; tries = j }
+with_delivery r a b c d i j e f g =
+    ap (λ (n : ℕ). record r { from = n; cursor = c; tries = i }) e
+    ∙ (ap (λ (n : ℕ). record r { from = b; cursor = n; tries = i }) f ∙ ap (λ (n : ℕ). record r { from = b; cursor = d; tries = n }) g)
+
+-- a subscription that was made before another
+older_row : (H : List Event) (time s : ℕ) (role : Role) (callback : List ℕ) (filter : Filter) (x : Subscription) → (s == x.number) ≡ false
+    → subscription_row (event time (Subscribed s role callback filter) ∷ H) x ≡ subscription_row H x
+older_row H time s role callback filter x other = rw other refl
+
+older_rows : (H : List Event) (time s : ℕ) (role : Role) (callback : List ℕ) (f : Filter) (p : Subscription → Bool) (xs : List Subscription) → IsCounted (λ x. x.number) xs → length xs < s
+    → map (subscription_row (event time (Subscribed s role callback f) ∷ H)) (filter p xs) ≡ map (subscription_row H) (filter p xs)
+older_rows H time s role callback f p [] counted less = refl
+older_rows H time s role callback f p (x ∷ xs) counted less =
+    let number = counted.0 in
+    let other : (s == x.number) ≡ false = false_by (s == x.number) (λ same. let is : s ≡ x.number = eqb-true s x.number same in omega (arith, is, number, less)) in
+    let rest = older_rows H time s role callback f p xs counted.1 (omega (arith, less)) in
+    by_test (p x)
+    (λ passes. rw passes (ap (λ (r : SubscriptionRow). r ∷ map (subscription_row (event time (Subscribed s role callback f) ∷ H)) (filter p xs)) (older_row H time s role callback f x other)
+    ∙ ap (λ (rs : List SubscriptionRow). subscription_row H x ∷ rs) rest))
+    (λ fails. rw fails rest)
+
+new_row : (width m : ℕ) (H : List Event) (time s : ℕ) (role : Role) (callback : List ℕ) (f : Filter) → IsLegalWithin width m H → s ≡ subscriptions_made H + 1
+    → subscription_row (event time (Subscribed s role callback f) ∷ H) (record { number = s; role = role; callback = callback; filter = f }) ≡ first_subscription (length H + 1) s role callback f
+new_row width m H time s role callback f legal number =
+    let own : (s == s) ≡ true = eq-eqb s s refl in
+    let none : posts H s ≡ [] = never_posted width m H legal s (omega (arith, number)) in
+    let most : max (length H + 1) 0 ≡ length H + 1 = omega arith in
+    rw (own, none, most) refl
+
 -- a new subscription is last
 subscribed-step : (width m : ℕ) (H : List Event) (time s : ℕ) (role : Role) (callback : List ℕ) (filter : Filter) → IsLegalWithin width m H
     → IsAllowedWithin width m H (Subscribed s role callback filter)
-    → subscription_rows (event time (Subscribed s role callback filter) ∷ H) ≡ subscription_rows H ++ first_subscription s role callback filter ∷ []
+    → subscription_rows (event time (Subscribed s role callback filter) ∷ H) ≡ subscription_rows H ++ first_subscription (length H + 1) s role callback filter ∷ []
 unfolding is_continued
 subscribed-step width m H time s role callback filter legal allowed =
+    let after = event time (Subscribed s role callback filter) ∷ H in
     let none : is_unsubscribed H s ≡ false = false_by (is_unsubscribed H s) (λ gone. let made = ended_made width m H legal s gone in omega (arith, made, allowed.number)) in
-    one_more (subscription_row H) (is_continued H) (record { number = s; role = role; callback = callback; filter = filter }) (subscriptions H) (ap not none)
+    one_more (subscription_row after) (is_continued H) (record { number = s; role = role; callback = callback; filter = filter }) (subscriptions H) (ap not none)
+    ∙ (ap (λ (rs : List SubscriptionRow). reverse rs ++ subscription_row after (record { number = s; role = role; callback = callback; filter = filter }) ∷ [])
+    (older_rows H time s role callback filter (is_continued H) (subscriptions H) (subscriptions_counted width m H legal) (omega (arith, allowed.number)))
+    ∙ ap (λ (r : SubscriptionRow). subscription_rows H ++ r ∷ []) (new_row width m H time s role callback filter legal allowed.number))
+
+posted_own : (b : Bool) (r : SubscriptionRow) (place : ℕ) → record r { cursor = cond b place r.cursor; tries = cond b 0 (r.tries + 1) } ≡ cond b (record r { cursor = place; tries = 0 }) (record r { tries = r.tries + 1 })
+posted_own true r place = refl
+posted_own false r place = refl
+
+posted_row : (width m : ℕ) (H : List Event) (time s place : ℕ) (outcome : PostOutcome) (x : Subscription) → IsLegalWithin width m H → IsAllowedWithin width m H (Posted s place outcome)
+    → subscription_row (event time (Posted s place outcome) ∷ H) x ≡ posted s place outcome (subscription_row H x)
+posted_row width m H time s place outcome x legal allowed = by_test (s == x.number)
+    (λ same.
+    let turned : (x.number == s) ≡ true = flip x.number s ∙ same in
+    with_delivery (subscription_row H x) _ _ _ _ _ _ refl (cursor-posted width m H time s place x.number outcome legal allowed same) (tries-posted width m H time s place x.number outcome legal allowed same)
+    ∙ (posted_own (is_delivered outcome || nat_le 4 (tries_past H x.number)) (subscription_row H x) place ∙ ap (λ (b : Bool). cond b (after_post place outcome (subscription_row H x)) (subscription_row H x)) (sym turned)))
+    (λ other.
+    let turned : (x.number == s) ≡ false = flip x.number s ∙ other in
+    with_delivery (subscription_row H x) _ _ _ _ _ _ refl (cursor-other H time s place x.number outcome other) (tries-other H time s place x.number outcome other)
+    ∙ ap (λ (b : Bool). cond b (after_post place outcome (subscription_row H x)) (subscription_row H x)) (sym turned))
+
+map_reverse : {A B : Type 0} → (f : A → B) (xs : List A) → reverse (map f xs) ≡ map f (reverse xs)
+map_reverse f [] = refl
+map_reverse f (x ∷ xs) =
+    reverse-cons (f x) (map f xs) ∙ (ap (λ ys. ys ++ f x ∷ []) (map_reverse f xs) ∙ (sym (map_end f (reverse xs) x) ∙ ap (map f) (sym (reverse-cons x xs)))) where
+      map_end : {A B : Type 0} → (f : A → B) (xs : List A) (y : A) → map f (xs ++ y ∷ []) ≡ map f xs ++ f y ∷ []
+      map_end f [] y = refl
+      map_end f (x ∷ xs) y = ap (λ ys. f x ∷ ys) (map_end f xs y)
+
+map_both : {A B : Type 0} → (f g : A → B) (h : B → B) (xs : List A) → ((x : A) → g x ≡ h (f x)) → map g xs ≡ map h (map f xs)
+map_both f g h [] e = refl
+map_both f g h (x ∷ xs) e = ap (λ y. y ∷ map g xs) (e x) ∙ ap (λ ys. h (f x) ∷ ys) (map_both f g h xs e)
+
+-- a post changes the row of its subscription alone
+posted-step : (width m : ℕ) (H : List Event) (time s place : ℕ) (outcome : PostOutcome) → IsLegalWithin width m H → IsAllowedWithin width m H (Posted s place outcome)
+    → subscription_rows (event time (Posted s place outcome) ∷ H) ≡ map (posted s place outcome) (subscription_rows H)
+unfolding is_continued
+posted-step width m H time s place outcome legal allowed =
+    ap reverse (map_both (subscription_row H) (subscription_row (event time (Posted s place outcome) ∷ H)) (posted s place outcome) (continued H)
+    (λ x. posted_row width m H time s place outcome x legal allowed))
+    ∙ map_reverse (posted s place outcome) (map (subscription_row H) (continued H))
 
 -- an ended subscription is gone
 unsubscribed-step : (H : List Event) (time s : ℕ) → subscription_rows (event time (Unsubscribed s) ∷ H) ≡ without_subscription s (subscription_rows H)
@@ -54,47 +129,67 @@ unsubscribed-step H time s =
     fewer (subscription_row H) (λ r. not (r.number == s)) (is_continued H) (is_continued (event time (Unsubscribed s) ∷ H)) (subscriptions H)
     (λ x. without-not (s == x.number) (is_unsubscribed H x.number) ∙ ap (λ (b : Bool). not b && not (is_unsubscribed H x.number)) (flip s x.number))
 
-with_descriptors : (rs : Rows) (x y : List Vnfd) → x ≡ y → record rs { descriptors = x } ≡ record rs { descriptors = y }
-with_descriptors rs x y e = ap (λ (z : List Vnfd). record rs { descriptors = z }) e
+with_descriptors : (rs : Rows) (x y : List Vnfd) (m n : ℕ) → x ≡ y → m ≡ n → record rs { descriptors = x; events = m } ≡ record rs { descriptors = y; events = n }
+with_descriptors rs x y m n e f = ap (λ (z : List Vnfd). record rs { descriptors = z; events = m }) e ∙ ap (λ (k : ℕ). record rs { descriptors = y; events = k }) f
 
-with_instances : (rs : Rows) (x y : List InstanceRow) (m n : ℕ) → x ≡ y → m ≡ n → record rs { instances = x; instances_made = m } ≡ record rs { instances = y; instances_made = n }
-with_instances rs x y m n e f =
-    ap (λ (z : List InstanceRow). record rs { instances = z; instances_made = m }) e ∙ ap (λ (k : ℕ). record rs { instances = y; instances_made = k }) f
+with_instances : (rs : Rows) (x y : List InstanceRow) (i j m n : ℕ) → x ≡ y → i ≡ j → m ≡ n
+    → record rs { instances = x; instances_made = i; events = m } ≡ record rs { instances = y; instances_made = j; events = n }
+with_instances rs x y i j m n e f g =
+    ap (λ (z : List InstanceRow). record rs { instances = z; instances_made = i; events = m }) e
+    ∙ (ap (λ (k : ℕ). record rs { instances = y; instances_made = k; events = m }) f ∙ ap (λ (k : ℕ). record rs { instances = y; instances_made = j; events = k }) g)
 
-with_subscriptions : (rs : Rows) (x y : List SubscriptionRow) (m n : ℕ) → x ≡ y → m ≡ n
-    → record rs { subscriptions = x; subscriptions_made = m } ≡ record rs { subscriptions = y; subscriptions_made = n }
-with_subscriptions rs x y m n e f =
-    ap (λ (z : List SubscriptionRow). record rs { subscriptions = z; subscriptions_made = m }) e ∙ ap (λ (k : ℕ). record rs { subscriptions = y; subscriptions_made = k }) f
+with_subscriptions : (rs : Rows) (x y : List SubscriptionRow) (i j m n : ℕ) → x ≡ y → i ≡ j → m ≡ n
+    → record rs { subscriptions = x; subscriptions_made = i; events = m } ≡ record rs { subscriptions = y; subscriptions_made = j; events = n }
+with_subscriptions rs x y i j m n e f g =
+    ap (λ (z : List SubscriptionRow). record rs { subscriptions = z; subscriptions_made = i; events = m }) e
+    ∙ (ap (λ (k : ℕ). record rs { subscriptions = y; subscriptions_made = k; events = m }) f ∙ ap (λ (k : ℕ). record rs { subscriptions = y; subscriptions_made = j; events = k }) g)
+
+with_events : (rs : Rows) (m n : ℕ) → m ≡ n → record rs { events = m } ≡ record rs { events = n }
+with_events rs m n e = ap (λ (k : ℕ). record rs { events = k }) e
 
 -- what an event makes of the rows
-pub rows-step : (width m : ℕ) (H : List Event) (time : ℕ) (k : EventKind) → IsLegalWithin width m H → IsAllowedWithin width m H k
+pub rows-step : (width m : ℕ) (H : List Event) (time : ℕ) (k : EventKind) → length H < 18446744073709551615 → IsLegalWithin width m H → IsAllowedWithin width m H k
     → rows (event time k ∷ H) ≡ rows_after k (rows H)
 unfolding is_kept is_continued
-rows-step width m H time (Onboarded d) legal allowed = with_descriptors (rows H) _ _ (reverse-cons d (descriptors H))
-rows-step width m H time (Created i vnfd name text) legal allowed =
-    with_instances (rows H) _ _ _ _ (created-step width m H time i vnfd name text legal allowed) (omega (arith, allowed.number))
-rows-step width m H time (Deleted i) legal allowed = with_instances (rows H) _ _ _ _ (deleted-step H time i) refl
-rows-step width m H time (Subscribed s role callback filter) legal allowed =
-    with_subscriptions (rows H) _ _ _ _ (subscribed-step width m H time s role callback filter legal allowed) (omega (arith, allowed.number))
-rows-step width m H time (Unsubscribed s) legal allowed = with_subscriptions (rows H) _ _ _ _ (unsubscribed-step H time s) refl
-rows-step width m H time _ legal allowed = refl
+rows-step width m H time (Onboarded d) short legal allowed = with_descriptors (rows H) _ _ _ _ (reverse-cons d (descriptors H)) (omega (arith, short))
+rows-step width m H time (Created i vnfd name text) short legal allowed =
+    with_instances (rows H) _ _ _ _ _ _ (created-step width m H time i vnfd name text legal allowed) (omega (arith, allowed.number)) (omega (arith, short))
+rows-step width m H time (Deleted i) short legal allowed = with_instances (rows H) _ _ _ _ _ _ (deleted-step H time i) refl (omega (arith, short))
+rows-step width m H time (Subscribed s role callback filter) short legal allowed =
+    let place : length H + 1 ≡ next_place (length H) = omega (arith, short) in
+    with_subscriptions (rows H) _ _ _ _ _ _
+    (subscribed-step width m H time s role callback filter legal allowed ∙ ap (λ (n : ℕ). subscription_rows H ++ first_subscription n s role callback filter ∷ []) place)
+    (omega (arith, allowed.number)) (omega (arith, short))
+rows-step width m H time (Unsubscribed s) short legal allowed = with_subscriptions (rows H) _ _ _ _ _ _ (unsubscribed-step H time s) refl (omega (arith, short))
+rows-step width m H time (Posted s place outcome) short legal allowed =
+    with_subscriptions (rows H) _ _ _ _ _ _ (posted-step width m H time s place outcome legal allowed) refl (omega (arith, short))
+rows-step width m H time _ short legal allowed = with_events (rows H) _ _ (omega (arith, short))
+
+-- the live subscriptions stand in the order of their numbers
+pub subscriptions_rise : (width m : ℕ) (H : List Event) (rs : Rows) → IsLegalWithin width m H → StandsFor rs H → Rises (λ r. r.number) rs.subscriptions
+subscriptions_rise width m H rs legal stands =
+    let g : Subscription → SubscriptionRow = subscription_row H in
+    let falls = falls-filter (λ x. x.number) (is_continued H) (subscriptions H) (falls-counted (λ x. x.number) (subscriptions H) (subscriptions_counted width m H legal)) in
+    let f : SubscriptionRow → ℕ = λ r. r.number in
+    subst (λ (ys : List SubscriptionRow). Rises f ys) (sym (ap (λ (r : Rows). r.subscriptions) stands)) (rises-reverse f (map g (continued H)) (falls-map f g (continued H) falls))
 
 -- rows that followed an event
-pub applied : (width m : ℕ) (H : List Event) (e : Event) (old new : Rows) → IsLegalWithin width m H → IsAllowedWithin width m H e.kind → StandsFor old H
+pub applied : (width m : ℕ) (H : List Event) (e : Event) (old new : Rows) → length H < 18446744073709551615 → IsLegalWithin width m H → IsAllowedWithin width m H e.kind → StandsFor old H
     → new ≡ rows_after e.kind old → StandsFor new (e ∷ H)
-applied width m H e old new legal allowed stands is =
-    is ∙ (ap (λ (rs : Rows). rows_after e.kind rs) stands ∙ sym (rows-step width m H e.moment e.kind legal allowed))
+applied width m H e old new short legal allowed stands is =
+    is ∙ (ap (λ (rs : Rows). rows_after e.kind rs) stands ∙ sym (rows-step width m H e.moment e.kind short legal allowed))
 
--- an event that the rows leave alone
+-- an event that changes no row
 pub unchanged : (k : EventKind) (rs : Rows) → ((d : Vnfd) → k ≡ Onboarded d → ⊥) → ((i : ℕ) (vnfd : List ℕ) (name text : Option (List ℕ)) → k ≡ Created i vnfd name text → ⊥)
     → ((i : ℕ) → k ≡ Deleted i → ⊥) → ((s : ℕ) (role : Role) (callback : List ℕ) (filter : Filter) → k ≡ Subscribed s role callback filter → ⊥)
-    → ((s : ℕ) → k ≡ Unsubscribed s → ⊥) → rs ≡ rows_after k rs
-unchanged (Onboarded d) rs f g h j l = absurd (f d refl)
-unchanged (Created i vnfd name text) rs f g h j l = absurd (g i vnfd name text refl)
-unchanged (Deleted i) rs f g h j l = absurd (h i refl)
-unchanged (Subscribed s role callback filter) rs f g h j l = absurd (j s role callback filter refl)
-unchanged (Unsubscribed s) rs f g h j l = absurd (l s refl)
-unchanged _ rs f g h j l = refl
+    → ((s : ℕ) → k ≡ Unsubscribed s → ⊥) → ((s place : ℕ) (outcome : PostOutcome) → k ≡ Posted s place outcome → ⊥) → rs ≡ changed k rs
+unchanged (Onboarded d) rs f g h j l n = absurd (f d refl)
+unchanged (Created i vnfd name text) rs f g h j l n = absurd (g i vnfd name text refl)
+unchanged (Deleted i) rs f g h j l n = absurd (h i refl)
+unchanged (Subscribed s role callback filter) rs f g h j l n = absurd (j s role callback filter refl)
+unchanged (Unsubscribed s) rs f g h j l n = absurd (l s refl)
+unchanged (Posted s place outcome) rs f g h j l n = absurd (n s place outcome refl)
+unchanged _ rs f g h j l n = refl
 
 -- what is found is the instance of this number
 pub instance_found : (width m : ℕ) (H : List Event) (rs : Rows) (i : ℕ) (x : Option InstanceRow) → IsLegalWithin width m H → StandsFor rs H

@@ -1,12 +1,12 @@
 -- Lists in the order of a number that each entry has.
-use Rattle.std.proofs.Common.{◌≡◌, ◌≤◌, ◌<◌, ◌+◌, ◌++◌, ◌==◌, ◌∙◌, ℕ, List, [], ◌∷◌, zero, suc, Bool, true, false, cond, Option, None, Some, refl, ap, sym, subst, length, map, filter, find, reverse, slice_get, arith, eqb-true, eq-eqb, nat_lt, lt-ltb, ltb-true, ltb-false}
+use Rattle.std.proofs.Common.{◌≡◌, ◌≤◌, ◌<◌, ◌+◌, ◌++◌, ◌==◌, ◌∙◌, ℕ, List, [], ◌∷◌, zero, suc, Bool, true, false, cond, Option, None, Some, refl, ap, sym, subst, length, map, filter, find, reverse, slice_get, arith, eqb-true, eq-eqb, nat_lt, lt-ltb, ltb-true, ltb-false, set, get_or}
 use Rattle.std.specs.Prelude.{slice_index_or}
 use Rattle.std.specs.List.Sorted.{IsPartitionPoint, IsPartitionedBy}
 use mathlib.Core.List.{reverse-cons}
 use Rattle.lcm_model.specs.Words.{otherwise, when}
 use Rattle.lcm_laws.proofs.Lists.{by_test}
 use Rattle.lcm_laws.proofs.NumberLaws.{IsCounted}
-use Rattle.instance_table.specs.Steps.{Over, Rises, with_key}
+use Rattle.instance_table.specs.Steps.{Over, Rises, update, with_key}
 
 -- all numbers are below this one
 abbrev pub Under : {A : Type 0} → (A → ℕ) → ℕ → List A → Type 0
@@ -168,3 +168,48 @@ pub found : {A : Type 0} → (f : A → ℕ) (n : ℕ) (xs : List A) (k : ℕ) �
     → with_key f n (slice_get xs k) ≡ find (λ x. f x == n) xs
 found f n xs k r h point =
     ap (λ (j : ℕ). with_key f n (slice_get xs j)) (leading-is f n xs k h (point (parted f n xs r))) ∙ found-behind f n xs r
+
+-- nothing changes beyond the end
+pub update-past : {A : Type 0} → (f : A → A) (n : ℕ) (xs : List A) → length xs ≤ n → update f n xs ≡ xs
+update-past f n [] h = refl
+update-past f zero (x ∷ xs) h = absurd (omega (arith, h))
+update-past f (suc n) (x ∷ xs) h = ap (λ ys. x ∷ ys) (update-past f n xs (omega (arith, h)))
+
+-- what is written at a place is what the change makes of the entry there
+pub update-set : {A : Type 0} → (f : A → A) (n : ℕ) (xs : List A) (x : A) → n < length xs → x ≡ get_or xs n x → set xs n (f x) ≡ update f n xs
+update-set f n [] x h e = absurd (omega (arith, h))
+update-set f zero (y ∷ ys) x h e = ap (λ z. f z ∷ ys) e
+update-set f (suc n) (y ∷ ys) x h e = ap (λ zs. y ∷ zs) (update-set f n ys x (omega (arith, h)) e)
+
+-- a place that isn't within is beyond the end
+pub not_within : (n k : ℕ) → (n < k → false ≡ true) → k ≤ n
+not_within n zero f = omega arith
+not_within zero (suc k) f = let e : false ≡ true = f (omega arith) in cc
+not_within (suc n) (suc k) f = let less : k ≤ n = not_within n k (λ h. f (omega (arith, h))) in omega (arith, less)
+
+over-same : {A : Type 0} → (f : A → ℕ) (n k : ℕ) (g : A → A) (xs : List A) → Over f k xs → n ≤ k → ((x : A) → (f x == n) ≡ false → g x ≡ x) → xs ≡ map g xs
+over-same f n k g [] b h e = refl
+over-same f n k g (x ∷ xs) b h e =
+    let up = b.0 in
+    let other : (f x == n) ≡ false = by_test (f x == n) (λ same. let is : f x ≡ n = eqb-true (f x) n same in absurd (omega (arith, up, h, is))) (λ no. no) in
+    ap (λ ys. x ∷ ys) (over-same f n k g xs b.1 h e) ∙ ap (λ y. y ∷ map g xs) (sym (e x other))
+
+update-leading : {A : Type 0} → (f : A → ℕ) (n : ℕ) (g : A → A) (xs : List A) → Rises f xs → ((x : A) → (f x == n) ≡ false → g x ≡ x) → update g (leading f n xs) xs ≡ map g xs
+update-leading f n g [] r e = refl
+update-leading f n g (x ∷ xs) r e = by_test (nat_lt (f x) n)
+    (λ low.
+    let less = ltb-true (f x) n low in
+    let other : (f x == n) ≡ false = by_test (f x == n) (λ same. let is : f x ≡ n = eqb-true (f x) n same in absurd (omega (arith, less, is))) (λ no. no) in
+    rw low (ap (λ ys. x ∷ ys) (update-leading f n g xs r.1 e) ∙ ap (λ y. y ∷ map g xs) (sym (e x other))))
+    (λ high. let more = ltb-false (f x) n high in rw high (ap (λ ys. g x ∷ ys) (over-same f n (f x) g xs r.0 more e)))
+
+changed_here : {A : Type 0} → (f : A → ℕ) (n : ℕ) (g : A → A) (xs : List A) (k : ℕ) → Rises f xs → ((x : A) → (f x == n) ≡ false → g x ≡ x) → k ≤ length xs
+    → (IsPartitionedBy (λ x. nat_lt (f x) n) xs → IsPartitionPoint (λ x. nat_lt (f x) n ≡ true) (λ x. nat_lt (f x) n ≡ false) xs k) → update g k xs ≡ map g xs
+changed_here f n g xs k r e h point =
+    ap (λ (j : ℕ). update g j xs) (leading-is f n xs k h (point (parted f n xs r))) ∙ update-leading f n g xs r e
+
+-- what changes one number alone is done where a search by number leads
+pub changed_one : {A : Type 0} → (f : A → ℕ) (n : ℕ) (g : A → A) (xs ys : List A) (k : ℕ) → ys ≡ xs → Rises f xs → ((x : A) → (f x == n) ≡ false → g x ≡ x) → k ≤ length ys
+    → (IsPartitionedBy (λ x. nat_lt (f x) n) ys → IsPartitionPoint (λ x. nat_lt (f x) n ≡ true) (λ x. nat_lt (f x) n ≡ false) ys k) → update g k xs ≡ map g xs
+changed_one f n g xs ys k is r e h point =
+    subst (λ zs. update g k zs ≡ map g zs) is (changed_here f n g ys k (subst (λ zs. Rises f zs) (sym is) r) e h point)

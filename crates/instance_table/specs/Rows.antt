@@ -1,21 +1,23 @@
 -- What the rows of the table are: a function of the history (SOL 003 5.4.2, VNF instances; 5.4.18, Subscriptions).
-use Rattle.std.specs.Prelude.{Bool, List, None, Option, if◌then◌else◌, filter, length, map, not, option_map, reverse, ℕ, ◌≡◌}
+use Rattle.std.specs.Prelude.{Bool, List, None, Option, if◌then◌else◌, filter, length, map, nat_lt, not, option_map, reverse, ℕ, ◌&&◌, ◌≡◌}
 use Rattle.lcm_events.specs.declared.descriptor.Vnfd.{Vnfd}
 use Rattle.lcm_events.specs.declared.events.Event.{Event}
 use Rattle.lcm_model.specs.Lives.{CreatedInstance, Subscription, creation, descriptors, instances_made, is_live, is_subscribed, is_unsubscribed, live_instances, subscription, subscriptions, subscriptions_made}
+use Rattle.lcm_model.specs.Notices.{cursor, posts, subscribed_at}
 use Rattle.vnfm_base.specs.declared.identifier.Kind.{Kind}
 use Rattle.vnfm_base.specs.declared.identifier.Kind.TheVariants as kinds
 use Rattle.instance_table.specs.declared.rows.InstanceRow.{InstanceRow}
 use Rattle.instance_table.specs.declared.rows.SubscriptionRow.{SubscriptionRow}
 
--- what the table keeps: descriptors, live instances and live subscriptions in the order in which they came, and how many
--- instances and subscriptions were ever made
+-- what the table keeps: descriptors, live instances and live subscriptions in the order in which they came, how many
+-- instances and subscriptions were ever made, and how many events there are
 pub record Rows : Type 0 where
   pub descriptors : List Vnfd
   pub instances : List InstanceRow
   pub subscriptions : List SubscriptionRow
   pub instances_made : ℕ
   pub subscriptions_made : ℕ
+  pub events : ℕ
 
 -- the row of an instance (SOL 003 5.5.2.2)
 abbrev pub instance_row : CreatedInstance → InstanceRow
@@ -37,9 +39,13 @@ is_continued H x = not (is_unsubscribed H x.number)
 abbrev pub continued : List Event → List Subscription
 continued H = filter (is_continued H) (subscriptions H)
 
--- the row of a subscription (SOL 003 5.5.2.16)
+-- how often the notice past the cursor was posted and not taken: the posts past the cursor that weren't taken (own rule)
+abbrev pub tries_past : List Event → ℕ → ℕ
+tries_past H s = length (filter (λ p. nat_lt (cursor H s) p.0 && not p.1) (posts H s))
+
+-- the row of a subscription, and how far its notices were delivered (SOL 003 5.5.2.16)
 abbrev pub subscription_row : List Event → Subscription → SubscriptionRow
-subscription_row H x = record { number = x.number; role = x.role; callback = x.callback; filter = x.filter }
+subscription_row H x = record { number = x.number; role = x.role; callback = x.callback; filter = x.filter; from = subscribed_at H x.number; cursor = cursor H x.number; tries = tries_past H x.number }
 
 -- the rows of the live subscriptions, in the order of their numbers (SOL 003 5.4.18)
 abbrev pub subscription_rows : List Event → List SubscriptionRow
@@ -57,6 +63,7 @@ rows H = record {
   subscriptions = subscription_rows H;
   instances_made = instances_made H;
   subscriptions_made = subscriptions_made H;
+  events = length H;
 }
 
 -- the rows are those of the history

@@ -1,9 +1,11 @@
 -- What each event makes of the rows.
-use Rattle.std.specs.Prelude.{List, None, Option, Some, filter, not, ℕ, [], ◌++◌, ◌<◌, ◌==◌, ◌∷◌}
+use Rattle.std.specs.Prelude.{List, None, Option, Some, filter, if◌then◌else◌, map, min, nat_le, not, suc, zero, ℕ, [], ◌+◌, ◌++◌, ◌<◌, ◌==◌, ◌||◌, ◌∷◌}
 use Rattle.lcm_events.specs.declared.events.EventKind.{EventKind}
-use Rattle.lcm_events.specs.declared.events.EventKind.TheVariants.{Created, Deleted, Onboarded, Subscribed, Unsubscribed}
+use Rattle.lcm_events.specs.declared.events.EventKind.TheVariants.{Created, Deleted, Onboarded, Posted, Subscribed, Unsubscribed}
+use Rattle.lcm_events.specs.declared.events.PostOutcome.{PostOutcome}
 use Rattle.lcm_events.specs.declared.filters.Filter.{Filter}
 use Rattle.lcm_events.specs.declared.states.Role.{Role}
+use Rattle.lcm_model.specs.Notices.{is_delivered}
 use Rattle.lcm_model.specs.Words.{when}
 use Rattle.instance_table.specs.Rows.{Rows}
 use Rattle.instance_table.specs.declared.rows.InstanceRow.{InstanceRow}
@@ -13,9 +15,31 @@ use Rattle.instance_table.specs.declared.rows.SubscriptionRow.{SubscriptionRow}
 abbrev pub first_instance : ℕ → List ℕ → Option (List ℕ) → Option (List ℕ) → InstanceRow
 first_instance i vnfd name text = record { number = i; vnfd = vnfd; name = name; text = text }
 
--- the row of a subscription that is made
-abbrev pub first_subscription : ℕ → Role → List ℕ → Filter → SubscriptionRow
-first_subscription s role callback filter = record { number = s; role = role; callback = callback; filter = filter }
+-- the row of a subscription that is made by the event at this place
+abbrev pub first_subscription : ℕ → ℕ → Role → List ℕ → Filter → SubscriptionRow
+first_subscription at s role callback filter = record { number = s; role = role; callback = callback; filter = filter; from = at; cursor = at; tries = 0 }
+
+-- the row, where the event that made its subscription stands at this place
+abbrev pub begun_at : ℕ → SubscriptionRow → SubscriptionRow
+begun_at at r = record r { from = at; cursor = at }
+
+-- the row after the notice at this place was posted: the cursor comes to it where it was taken, or not taken for the fifth time
+abbrev pub after_post : ℕ → PostOutcome → SubscriptionRow → SubscriptionRow
+after_post place outcome r = if is_delivered outcome || nat_le 4 r.tries then record r { cursor = place; tries = 0 } else record r { tries = r.tries + 1 }
+
+-- a row after the notice at this place was posted to the subscription of this number
+abbrev pub posted : ℕ → ℕ → PostOutcome → SubscriptionRow → SubscriptionRow
+posted s place outcome r = if r.number == s then after_post place outcome r else r
+
+-- a list with the entry at this place changed
+abbrev pub update : {A : Type 0} → (A → A) → ℕ → List A → List A
+update f n [] = []
+update f zero (x ∷ xs) = f x ∷ xs
+update f (suc n) (x ∷ xs) = x ∷ update f n xs
+
+-- the place behind this many events, of those that 64 bits can name
+abbrev pub next_place : ℕ → ℕ
+next_place n = min (n + 1) 18446744073709551615
 
 -- all numbers are above this one
 abbrev pub Over : {A : Type 0} → (A → ℕ) → ℕ → List A → Type 0
@@ -40,11 +64,16 @@ without_instance i rs = filter (λ r. not (r.number == i)) rs
 abbrev pub without_subscription : ℕ → List SubscriptionRow → List SubscriptionRow
 without_subscription s rs = filter (λ r. not (r.number == s)) rs
 
+-- the rows after an event that isn't counted yet
+abbrev pub changed : EventKind → Rows → Rows
+changed (Onboarded d) rs = record rs { descriptors = rs.descriptors ++ d ∷ [] }
+changed (Created i vnfd name text) rs = record rs { instances = rs.instances ++ first_instance i vnfd name text ∷ []; instances_made = i }
+changed (Deleted i) rs = record rs { instances = without_instance i rs.instances }
+changed (Subscribed s role callback filter) rs = record rs { subscriptions = rs.subscriptions ++ first_subscription (next_place rs.events) s role callback filter ∷ []; subscriptions_made = s }
+changed (Unsubscribed s) rs = record rs { subscriptions = without_subscription s rs.subscriptions }
+changed (Posted s place outcome) rs = record rs { subscriptions = map (posted s place outcome) rs.subscriptions }
+changed _ rs = rs
+
 -- the rows after an event
 abbrev pub rows_after : EventKind → Rows → Rows
-rows_after (Onboarded d) rs = record rs { descriptors = rs.descriptors ++ d ∷ [] }
-rows_after (Created i vnfd name text) rs = record rs { instances = rs.instances ++ first_instance i vnfd name text ∷ []; instances_made = i }
-rows_after (Deleted i) rs = record rs { instances = without_instance i rs.instances }
-rows_after (Subscribed s role callback filter) rs = record rs { subscriptions = rs.subscriptions ++ first_subscription s role callback filter ∷ []; subscriptions_made = s }
-rows_after (Unsubscribed s) rs = record rs { subscriptions = without_subscription s rs.subscriptions }
-rows_after _ rs = rs
+rows_after k rs = record (changed k rs) { events = next_place (changed k rs).events }

@@ -38,7 +38,7 @@ needs_room _ = false
 abbrev pub HasRoom : EventKind → Reserved → Type 0
 HasRoom (Onboarded d) r = (r.descriptor ≡ Some d) × (0 < r.descriptors)
 HasRoom (Created i vnfd name text) r = (r.instance ≡ Some (first_instance i vnfd name text)) × (0 < r.instances)
-HasRoom (Subscribed s role callback filter) r = (r.subscription ≡ Some (first_subscription s role callback filter)) × (0 < r.subscriptions)
+HasRoom (Subscribed s role callback filter) r = (r.subscription ≡ Some (first_subscription 0 s role callback filter)) × (0 < r.subscriptions)
 HasRoom _ r = Unit {0}
 
 -- what was reserved is reserved: what is to come as it was, and at least as much room
@@ -50,9 +50,9 @@ pub record IsKept (old new : Reserved) : Type 0 where
   pub instances : old.instances ≤ new.instances
   pub subscriptions : old.subscriptions ≤ new.subscriptions
 
--- rows that stood for a legal history stand for it with the event that was allowed after it
+-- rows that stood for a legal history stand for it with the event that was allowed after it, where 64 bits can name its place
 abbrev pub Applies : Event → Rows → Rows → Type 0
-Applies e old new = (width m : ℕ) (H : List Event) → IsLegalWithin width m H → IsAllowedWithin width m H e.kind → StandsFor old H → StandsFor new (e ∷ H)
+Applies e old new = (width m : ℕ) (H : List Event) → length H < 18446744073709551615 → IsLegalWithin width m H → IsAllowedWithin width m H e.kind → StandsFor old H → StandsFor new (e ∷ H)
 
 -- what is found is the descriptor of this identifier in each legal history that the rows stand for
 abbrev pub FindsVnfd : List ℕ → Option Vnfd → Rows → Type 0

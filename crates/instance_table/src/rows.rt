@@ -1,7 +1,14 @@
-//! The rows of instances and subscriptions.
+//! The rows of instances and subscriptions, and what a post makes of a row.
 
-use lcm_events::{Filter, Role};
+ghost use Rattle.std.specs.Prelude.{◌≡◌};
+ghost use Rattle.lcm_model.specs.Notices.{is_delivered};
+ghost use Rattle.instance_table.specs.Steps.{after_post, begun_at, posted};
+
+use lcm_events::{Filter, PostOutcome, Role};
 use vnfm_base::{Line, Name};
+
+/// Posts of a notice after which it is given up.
+const TRIES: u8 = 5;
 
 /// What the history says of a live instance.
 ///
@@ -31,4 +38,51 @@ pub struct SubscriptionRow {
     pub callback: Line,
     /// What it asks to be told.
     pub filter: Filter,
+    /// The place in the journal, from 1, of the event that made it.
+    pub from: u64,
+    /// The place of the last notice that was delivered or given up, or else that of the event that made it.
+    pub cursor: u64,
+    /// How often the notice past the cursor was posted and not taken.
+    pub tries: u8,
+}
+
+/// Whether a notice was taken.
+fn is_delivered(outcome: PostOutcome) -> bool
+    ensures { result ≡ is_delivered outcome }
+{
+    match outcome {
+        PostOutcome::Delivered => true,
+        PostOutcome::NotTaken => false,
+    }
+}
+
+impl SubscriptionRow {
+    /// The event that made it stands at this place.
+    pub fn begin_at(&mut self, place: u64)
+        ensures { self.new ≡ begun_at place self.old }
+    {
+        self.from = place;
+        self.cursor = place;
+    }
+
+    /// The notice at this place was posted.
+    fn record_post(&mut self, place: u64, outcome: PostOutcome)
+        ensures { self.new ≡ after_post place outcome self.old }
+    {
+        if is_delivered(outcome) || self.tries >= TRIES - 1 {
+            self.cursor = place;
+            self.tries = 0;
+        } else {
+            self.tries += 1;
+        }
+    }
+
+    /// The notice at this place was posted to the subscription of this number, which may be another.
+    pub fn follow_post(&mut self, number: u64, place: u64, outcome: PostOutcome)
+        ensures { self.new ≡ posted number place outcome self.old }
+    {
+        if self.number == number {
+            self.record_post(place, outcome);
+        }
+    }
 }

@@ -1,18 +1,18 @@
 //! The table: a row for each descriptor, each live instance and each live subscription, in the order in which they came.
 
-ghost use Rattle.std.specs.Prelude.{◌≡◌, ◌-◌, ◌<◌, ◌≤◌, ℕ, [], ◌++◌, ◌∷◌, Some, None, true, false, find, nat_lt, ◌==◌, length, option_copied, slice_get, OnOk, vec_len, vec_capacity};
+ghost use Rattle.std.specs.Prelude.{◌≡◌, ◌-◌, ◌<◌, ◌≤◌, ℕ, [], ◌++◌, ◌∷◌, Some, None, true, false, find, nat_lt, ◌==◌, length, map, option_copied, slice_get, OnOk, vec_len, vec_capacity};
 ghost use Rattle.std.specs.List.Sorted.{IsPartitionPoint, IsPartitionedBy};
 ghost use Rattle.lcm_events.specs.Same.{same_name};
 ghost use Rattle.lcm_events.specs.declared.descriptor.Vnfd.{Vnfd};
 ghost use Rattle.instance_table.specs.declared.rows.InstanceRow.{InstanceRow};
 ghost use Rattle.instance_table.specs.declared.rows.SubscriptionRow.{SubscriptionRow};
 ghost use Rattle.instance_table.specs.Rows.{Rows, StandsFor};
-ghost use Rattle.instance_table.specs.Steps.{Rises, first_instance, first_subscription, with_key, without_instance, without_subscription};
+ghost use Rattle.instance_table.specs.Steps.{Rises, begun_at, changed, first_instance, first_subscription, next_place, posted, update, with_key, without_instance, without_subscription};
 ghost use Rattle.instance_table.specs.Table.{Applies, CountsDescriptors, CountsLive, CountsMade, FindsInstance, FindsSubscription, FindsVnfd, HasRoom, IsKept, Reserved, Shown, is_counted, needs_room};
 
 use crate::copies::{copied_filter, copied_line, copied_vnfd};
 use crate::rows::{InstanceRow, SubscriptionRow};
-use lcm_events::{Event, EventKind, Filter, Role, Vnfd};
+use lcm_events::{Event, EventKind, Filter, PostOutcome, Role, Vnfd};
 use std::alloc::{AllocError, Global};
 use std::marker::Model;
 use vnfm_base::{Kind, Line, Name};
@@ -27,6 +27,7 @@ pub struct InstanceTable {
     subscriptions: Vec<SubscriptionRow>,
     instances_made: u64,
     subscriptions_made: u64,
+    events: u64,
     descriptor: Option<Vnfd>,
     instance: Option<InstanceRow>,
     subscription: Option<SubscriptionRow>,
@@ -39,7 +40,7 @@ impl Model for InstanceTable {
 
     ghost Value = { Shown };
 
-    ghost view = { λ t. record { rows = record { descriptors = t.descriptors.items; instances = t.instances.items; subscriptions = t.subscriptions.items; instances_made = t.instances_made; subscriptions_made = t.subscriptions_made }; reserved = record { descriptor = t.descriptor; instance = t.instance; subscription = t.subscription; descriptors = vec_capacity t.descriptors - vec_len t.descriptors; instances = vec_capacity t.instances - vec_len t.instances; subscriptions = vec_capacity t.subscriptions - vec_len t.subscriptions } } };
+    ghost view = { λ t. record { rows = record { descriptors = t.descriptors.items; instances = t.instances.items; subscriptions = t.subscriptions.items; instances_made = t.instances_made; subscriptions_made = t.subscriptions_made; events = t.events }; reserved = record { descriptor = t.descriptor; instance = t.instance; subscription = t.subscription; descriptors = vec_capacity t.descriptors - vec_len t.descriptors; instances = vec_capacity t.instances - vec_len t.instances; subscriptions = vec_capacity t.subscriptions - vec_len t.subscriptions } } };
 }
 
 /// The first descriptor of this identifier.
@@ -144,6 +145,41 @@ fn remove_subscription(rows: &mut Vec<SubscriptionRow>, number: u64)
     rows.retain(|row| !(row.number == number));
 }
 
+/// Lets the row at this place follow a post. Nothing happens beyond the end.
+fn post_at(
+    rows: &mut Vec<SubscriptionRow>,
+    at: usize,
+    number: u64,
+    place: u64,
+    outcome: PostOutcome,
+)
+    ensures items { rows.new.items ≡ update (posted number place outcome) at rows.old.items }
+    ensures length { vec_len rows.new ≡ vec_len rows.old }
+    ensures capacity { vec_capacity rows.new ≡ vec_capacity rows.old }
+{
+    match rows.get_mut(at) {
+        Some(row) => row.follow_post(number, place, outcome),
+        None => {}
+    }
+}
+
+/// Lets the row of this number follow a post, where the numbers rise.
+fn post_in(rows: &mut Vec<SubscriptionRow>, number: u64, place: u64, outcome: PostOutcome)
+    ensures items { Rises (λ r. r.number) rows.old.items → rows.new.items ≡ map (posted number place outcome) rows.old.items }
+    ensures length { vec_len rows.new ≡ vec_len rows.old }
+    ensures capacity { vec_capacity rows.new ≡ vec_capacity rows.old }
+{
+    let at = subscription_place(rows.as_slice(), number);
+    post_at(rows, at, number, place, outcome);
+}
+
+/// The place behind this many events.
+fn next_place(events: u64) -> u64
+    ensures { result ≡ next_place events }
+{
+    events.saturating_add(1)
+}
+
 impl InstanceTable {
     /// A table with no row, which takes no memory until something is reserved.
     pub fn new(alloc: Global) -> Self
@@ -158,6 +194,7 @@ impl InstanceTable {
             subscriptions: Vec::new(alloc),
             instances_made: 0,
             subscriptions_made: 0,
+            events: 0,
             descriptor: None,
             instance: None,
             subscription: None,
@@ -209,7 +246,7 @@ impl InstanceTable {
         filter: &Filter,
     ) -> Result<(), AllocError>
         ensures kept { self.new.rows ≡ self.old.rows }
-        ensures laid { OnOk result (self.new.reserved.subscription ≡ Some (first_subscription number role callback.now filter.now)) }
+        ensures laid { OnOk result (self.new.reserved.subscription ≡ Some (first_subscription 0 number role callback.now filter.now)) }
         ensures spare { OnOk result (0 < self.new.reserved.subscriptions) }
     {
         self.subscriptions.reserve(1)?;
@@ -220,6 +257,9 @@ impl InstanceTable {
             role,
             callback,
             filter,
+            from: 0,
+            cursor: 0,
+            tries: 0,
         });
         Ok(())
     }
@@ -274,9 +314,10 @@ impl InstanceTable {
     /// Puts the reserved subscription last, which is the one of this number.
     fn put_subscription(&mut self, number: u64)
         requires spare { 0 < self.old.reserved.subscriptions }
-        ensures rows { (r : SubscriptionRow) → self.old.reserved.subscription ≡ Some r → self.new.rows ≡ record self.old.rows { subscriptions = self.old.rows.subscriptions ++ r ∷ []; subscriptions_made = number } }
+        ensures rows { (r : SubscriptionRow) → self.old.reserved.subscription ≡ Some r → self.new.rows ≡ record self.old.rows { subscriptions = self.old.rows.subscriptions ++ begun_at (next_place self.old.rows.events) r ∷ []; subscriptions_made = number } }
     {
-        if let Some(row) = self.subscription.take() {
+        if let Some(mut row) = self.subscription.take() {
+            row.begin_at(next_place(self.events));
             self.subscriptions.push_reserved(row);
         }
         self.subscriptions_made = number;
@@ -298,6 +339,43 @@ impl InstanceTable {
         remove_subscription(&mut self.subscriptions, number);
     }
 
+    /// Lets the subscription of this number follow a post.
+    fn post(&mut self, number: u64, place: u64, outcome: PostOutcome)
+        ensures rows { Rises (λ r. r.number) self.old.rows.subscriptions → self.new.rows ≡ record self.old.rows { subscriptions = map (posted number place outcome) self.old.rows.subscriptions } }
+        ensures reserved { self.new.reserved ≡ self.old.reserved }
+    {
+        post_in(&mut self.subscriptions, number, place, outcome);
+    }
+
+    /// Counts one more event.
+    fn count_event(&mut self)
+        ensures rows { self.new.rows ≡ record self.old.rows { events = next_place self.old.rows.events } }
+        ensures reserved { self.new.reserved ≡ self.old.reserved }
+    {
+        self.events = next_place(self.events);
+    }
+
+    /// Lets the rows follow an event, which isn't counted yet.
+    fn follow(&mut self, kind: &EventKind)
+        requires room { HasRoom kind.now self.old.reserved }
+        ensures rows { Rises (λ r. r.number) self.old.rows.subscriptions → self.new.rows ≡ changed kind.now self.old.rows }
+        ensures stays { needs_room kind.now ≡ false → IsKept self.old.reserved self.new.reserved }
+    {
+        match kind {
+            EventKind::Onboarded(_) => self.put_descriptor(),
+            EventKind::Created { instance, .. } => self.put_instance(*instance),
+            EventKind::Deleted { instance } => self.leave_instance(*instance),
+            EventKind::Subscribed { subscription, .. } => self.put_subscription(*subscription),
+            EventKind::Unsubscribed { subscription } => self.leave_subscription(*subscription),
+            EventKind::Posted {
+                subscription,
+                place,
+                outcome,
+            } => self.post(*subscription, *place, *outcome),
+            _ => {}
+        }
+    }
+
     /// Lets the rows follow an event, from what is reserved for it: no memory is taken.
     ///
     /// Source: own rule.
@@ -306,14 +384,8 @@ impl InstanceTable {
         ensures applies { Applies e.now self.old.rows self.new.rows }
         ensures stays { needs_room e.now.kind ≡ false → IsKept self.old.reserved self.new.reserved }
     {
-        match &e.kind {
-            EventKind::Onboarded(_) => self.put_descriptor(),
-            EventKind::Created { instance, .. } => self.put_instance(*instance),
-            EventKind::Deleted { instance } => self.leave_instance(*instance),
-            EventKind::Subscribed { subscription, .. } => self.put_subscription(*subscription),
-            EventKind::Unsubscribed { subscription } => self.leave_subscription(*subscription),
-            _ => {}
-        }
+        self.follow(&e.kind);
+        self.count_event();
     }
 
     /// The descriptor of this identifier; none exactly where the history has none.
