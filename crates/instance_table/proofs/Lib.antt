@@ -1,4 +1,5 @@
 pub mod Sorted
 pub mod LiveLaws
 pub mod DeliveryLaws
+pub mod GoingLaws
 pub mod RowLaws

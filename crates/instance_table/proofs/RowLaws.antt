@@ -6,20 +6,27 @@ use Rattle.lcm_laws.proofs.StandLaws.{same_name-true}
 use Rattle.lcm_events.specs.declared.descriptor.Vnfd.{Vnfd}
 use Rattle.lcm_events.specs.declared.events.Event.{Event}
 use Rattle.lcm_events.specs.declared.events.EventKind.{EventKind}
-use Rattle.lcm_events.specs.declared.events.EventKind.TheVariants.{Created, Deleted, Onboarded, Posted, Subscribed, Unsubscribed}
+use Rattle.lcm_events.specs.declared.events.EventKind.TheVariants.{Asked, Created, Deleted, Moved, Onboarded, Posted, Subscribed, Unsubscribed}
 use Rattle.lcm_events.specs.declared.events.PostOutcome.{PostOutcome}
 use Rattle.lcm_events.specs.declared.filters.Filter.{Filter}
 use Rattle.lcm_events.specs.declared.states.Role.{Role}
 use Rattle.lcm_model.specs.Allowed.{IsAllowedWithin, IsLegalWithin}
-use Rattle.lcm_model.specs.Lives.{Subscription, creations, descriptor_named, descriptors, is_deleted, is_kept, is_unsubscribed, live_instances, subscriptions, subscriptions_made}
+use Rattle.lcm_model.specs.Lives.{CreatedInstance, Subscription, creations, descriptor_named, descriptors, is_deleted, is_kept, is_unsubscribed, live_instances, subscriptions, subscriptions_made}
 use Rattle.lcm_model.specs.Notices.{is_delivered, posts}
 use Rattle.instance_table.proofs.DeliveryLaws.{cursor-other, cursor-posted, never_posted, tries-other, tries-posted}
+use Rattle.lcm_events.specs.declared.events.Operation.{Operation}
+use Rattle.lcm_events.specs.declared.states.OpState.{OpState}
+use Rattle.lcm_model.specs.Instances.{moving}
+use Rattle.lcm_model.specs.Operations.{goes_on, operation, operations}
+use Rattle.lcm_laws.proofs.HoldLaws.{moved_from, some_value}
+use Rattle.instance_table.specs.declared.going.Going.{Going}
+use Rattle.instance_table.proofs.GoingLaws.{going-asked, going-found, going-moved, moved_instance, new_instance}
 use Rattle.lcm_model.specs.Words.{otherwise, when}
 use Rattle.lcm_laws.proofs.Histories.{event, legal_induction}
 use Rattle.lcm_laws.proofs.Lists.{by_test}
-use Rattle.lcm_laws.proofs.NumberLaws.{IsCounted, instances_counted, subscriptions_counted}
-use Rattle.instance_table.specs.Rows.{Rows, StandsFor, continued, instance, instance_row, instance_rows, is_continued, rows, subscription_at, subscription_row, subscription_rows, tries_past}
-use Rattle.instance_table.specs.Steps.{Rises, after_post, changed, first_instance, first_subscription, next_place, posted, rows_after, without_instance, without_subscription}
+use Rattle.lcm_laws.proofs.NumberLaws.{IsCounted, instances_counted, operations_counted, subscriptions_counted}
+use Rattle.instance_table.specs.Rows.{Rows, StandsFor, continued, going_of, instance, instance_row, instance_rows, is_continued, rows, subscription_at, subscription_row, subscription_rows, tries_past}
+use Rattle.instance_table.specs.Steps.{AreOrdered, Rises, after_post, end_of, ended, moved, changed, first_instance, first_subscription, next_place, posted, rows_after, without_instance, without_subscription}
 use Rattle.instance_table.specs.declared.rows.InstanceRow.{InstanceRow}
 use Rattle.instance_table.specs.declared.rows.SubscriptionRow.{SubscriptionRow}
 use Rattle.instance_table.proofs.LiveLaws.{deleted_made, ended_made, false_by, fewer, find-filter, find-map, flip, if_there, one_more, without-not}
@@ -29,16 +36,17 @@ use Rattle.instance_table.proofs.Sorted.{falls-counted, falls-filter, falls-map,
 created-step : (width m : ℕ) (H : List Event) (time i : ℕ) (vnfd : List ℕ) (name text : Option (List ℕ)) → IsLegalWithin width m H
     → IsAllowedWithin width m H (Created i vnfd name text)
     → instance_rows (event time (Created i vnfd name text) ∷ H) ≡ instance_rows H ++ first_instance i vnfd name text ∷ []
-unfolding is_kept
+unfolding is_kept moving
 created-step width m H time i vnfd name text legal allowed =
     let none : is_deleted H i ≡ false = false_by (is_deleted H i) (λ gone. let made = deleted_made width m H legal i gone in omega (arith, made, allowed.number)) in
-    one_more instance_row (is_kept H) (record { instance = i; vnfd = vnfd; name = name; text = text }) (creations H) (ap not none)
+    one_more (instance_row H) (is_kept H) (record { instance = i; vnfd = vnfd; name = name; text = text }) (creations H) (ap not none)
+    ∙ ap (λ (r : InstanceRow). instance_rows H ++ r ∷ []) (new_instance width m H time i vnfd name text legal allowed.number)
 
 -- a deleted instance is gone
 deleted-step : (H : List Event) (time i : ℕ) → instance_rows (event time (Deleted i) ∷ H) ≡ without_instance i (instance_rows H)
-unfolding is_kept
+unfolding is_kept moving
 deleted-step H time i =
-    fewer instance_row (λ r. not (r.number == i)) (is_kept H) (is_kept (event time (Deleted i) ∷ H)) (creations H)
+    fewer (instance_row H) (λ r. not (r.number == i)) (is_kept H) (is_kept (event time (Deleted i) ∷ H)) (creations H)
     (λ x. without-not (i == x.instance) (is_deleted H x.instance) ∙ ap (λ (b : Bool). not b && not (is_deleted H x.instance)) (flip i x.instance))
 
 -- rows that differ in how far notices were delivered alone
@@ -113,6 +121,15 @@ map_both : {A B : Type 0} → (f g : A → B) (h : B → B) (xs : List A) → ((
 map_both f g h [] e = refl
 map_both f g h (x ∷ xs) e = ap (λ y. y ∷ map g xs) (e x) ∙ ap (λ ys. h (f x) ∷ ys) (map_both f g h xs e)
 
+-- a move changes the row of its instance alone
+moved-step : (H : List Event) (time o : ℕ) (to : OpState) (a : Operation) → operation H o ≡ Some a
+    → instance_rows (event time (Moved o to) ∷ H) ≡ map (ended a.instance (end_of to (going_of a))) (instance_rows H)
+unfolding is_kept
+moved-step H time o to a e =
+    ap reverse (map_both (instance_row H) (instance_row (event time (Moved o to) ∷ H)) (ended a.instance (end_of to (going_of a))) (live_instances H)
+    (λ x. moved_instance H time o to a x e))
+    ∙ map_reverse (ended a.instance (end_of to (going_of a))) (map (instance_row H) (live_instances H))
+
 -- a post changes the row of its subscription alone
 posted-step : (width m : ℕ) (H : List Event) (time s place : ℕ) (outcome : PostOutcome) → IsLegalWithin width m H → IsAllowedWithin width m H (Posted s place outcome)
     → subscription_rows (event time (Posted s place outcome) ∷ H) ≡ map (posted s place outcome) (subscription_rows H)
@@ -144,13 +161,22 @@ with_subscriptions rs x y i j m n e f g =
     ap (λ (z : List SubscriptionRow). record rs { subscriptions = z; subscriptions_made = i; events = m }) e
     ∙ (ap (λ (k : ℕ). record rs { subscriptions = y; subscriptions_made = k; events = m }) f ∙ ap (λ (k : ℕ). record rs { subscriptions = y; subscriptions_made = j; events = k }) g)
 
+with_going : (rs : Rows) (x y : List Going) (m n : ℕ) → x ≡ y → m ≡ n → record rs { going = x; events = m } ≡ record rs { going = y; events = n }
+with_going rs x y m n e f = ap (λ (z : List Going). record rs { going = z; events = m }) e ∙ ap (λ (k : ℕ). record rs { going = y; events = k }) f
+
+with_moved : (rs : Rows) (w x : List InstanceRow) (y z : List Going) (m n : ℕ) → w ≡ x → y ≡ z → m ≡ n
+    → record rs { instances = w; going = y; events = m } ≡ record rs { instances = x; going = z; events = n }
+with_moved rs w x y z m n e f g =
+    ap (λ (v : List InstanceRow). record rs { instances = v; going = y; events = m }) e
+    ∙ (ap (λ (v : List Going). record rs { instances = x; going = v; events = m }) f ∙ ap (λ (k : ℕ). record rs { instances = x; going = z; events = k }) g)
+
 with_events : (rs : Rows) (m n : ℕ) → m ≡ n → record rs { events = m } ≡ record rs { events = n }
 with_events rs m n e = ap (λ (k : ℕ). record rs { events = k }) e
 
 -- what an event makes of the rows
 pub rows-step : (width m : ℕ) (H : List Event) (time : ℕ) (k : EventKind) → length H < 18446744073709551615 → IsLegalWithin width m H → IsAllowedWithin width m H k
     → rows (event time k ∷ H) ≡ rows_after k (rows H)
-unfolding is_kept is_continued
+unfolding is_kept is_continued moving goes_on
 rows-step width m H time (Onboarded d) short legal allowed = with_descriptors (rows H) _ _ _ _ (reverse-cons d (descriptors H)) (omega (arith, short))
 rows-step width m H time (Created i vnfd name text) short legal allowed =
     with_instances (rows H) _ _ _ _ _ _ (created-step width m H time i vnfd name text legal allowed) (omega (arith, allowed.number)) (omega (arith, short))
@@ -163,15 +189,27 @@ rows-step width m H time (Subscribed s role callback filter) short legal allowed
 rows-step width m H time (Unsubscribed s) short legal allowed = with_subscriptions (rows H) _ _ _ _ _ _ (unsubscribed-step H time s) refl (omega (arith, short))
 rows-step width m H time (Posted s place outcome) short legal allowed =
     with_subscriptions (rows H) _ _ _ _ _ _ (posted-step width m H time s place outcome legal allowed) refl (omega (arith, short))
+rows-step width m H time (Asked a) short legal allowed = with_going (rows H) _ _ _ _ (going-asked width m H time a legal allowed) (omega (arith, short))
+rows-step width m H time (Moved o to) short legal allowed =
+    let found = some_value (operation H o) allowed.0 in
+    with_moved (rows H) _ _ _ _ _ _ (moved-step H time o to found.0 found.1) (going-moved H time o to (moved_from H o to allowed.1)) (omega (arith, short))
+    ∙ ap (λ (g : Option Going). record (moved o to g (rows H)) { events = next_place (moved o to g (rows H)).events }) (sym (going-found width m H o to found.0 legal allowed found.1))
 rows-step width m H time _ short legal allowed = with_events (rows H) _ _ (omega (arith, short))
 
--- the live subscriptions stand in the order of their numbers
-pub subscriptions_rise : (width m : ℕ) (H : List Event) (rs : Rows) → IsLegalWithin width m H → StandsFor rs H → Rises (λ r. r.number) rs.subscriptions
-subscriptions_rise width m H rs legal stands =
-    let g : Subscription → SubscriptionRow = subscription_row H in
-    let falls = falls-filter (λ x. x.number) (is_continued H) (subscriptions H) (falls-counted (λ x. x.number) (subscriptions H) (subscriptions_counted width m H legal)) in
-    let f : SubscriptionRow → ℕ = λ r. r.number in
-    subst (λ (ys : List SubscriptionRow). Rises f ys) (sym (ap (λ (r : Rows). r.subscriptions) stands)) (rises-reverse f (map g (continued H)) (falls-map f g (continued H) falls))
+-- instances, subscriptions and operations stand in the order of their numbers
+pub ordered : (width m : ℕ) (H : List Event) (rs : Rows) → IsLegalWithin width m H → StandsFor rs H → AreOrdered rs
+ordered width m H rs legal stands =
+    let f : InstanceRow → ℕ = λ r. r.number in
+    let g : SubscriptionRow → ℕ = λ r. r.number in
+    let h : Going → ℕ = λ r. r.occ in
+    let lives = falls-filter (λ x. x.instance) (is_kept H) (creations H) (falls-counted (λ x. x.instance) (creations H) (instances_counted width m H legal)) in
+    let subs = falls-filter (λ x. x.number) (is_continued H) (subscriptions H) (falls-counted (λ x. x.number) (subscriptions H) (subscriptions_counted width m H legal)) in
+    let ops = falls-filter (λ x. x.occ) (goes_on H) (operations H) (falls-counted (λ x. x.occ) (operations H) (operations_counted width m H legal)) in
+    record {
+      instances = subst (λ (ys : List InstanceRow). Rises f ys) (sym (ap (λ (r : Rows). r.instances) stands)) (rises-reverse f (map (instance_row H) (live_instances H)) (falls-map f (instance_row H) (live_instances H) lives));
+      subscriptions = subst (λ (ys : List SubscriptionRow). Rises g ys) (sym (ap (λ (r : Rows). r.subscriptions) stands)) (rises-reverse g (map (subscription_row H) (continued H)) (falls-map g (subscription_row H) (continued H) subs));
+      going = subst (λ (ys : List Going). Rises h ys) (sym (ap (λ (r : Rows). r.going) stands)) (rises-reverse h (map going_of (filter (goes_on H) (operations H))) (falls-map h going_of (filter (goes_on H) (operations H)) ops));
+    }
 
 -- rows that followed an event
 pub applied : (width m : ℕ) (H : List Event) (e : Event) (old new : Rows) → length H < 18446744073709551615 → IsLegalWithin width m H → IsAllowedWithin width m H e.kind → StandsFor old H
@@ -182,30 +220,34 @@ applied width m H e old new short legal allowed stands is =
 -- an event that changes no row
 pub unchanged : (k : EventKind) (rs : Rows) → ((d : Vnfd) → k ≡ Onboarded d → ⊥) → ((i : ℕ) (vnfd : List ℕ) (name text : Option (List ℕ)) → k ≡ Created i vnfd name text → ⊥)
     → ((i : ℕ) → k ≡ Deleted i → ⊥) → ((s : ℕ) (role : Role) (callback : List ℕ) (filter : Filter) → k ≡ Subscribed s role callback filter → ⊥)
-    → ((s : ℕ) → k ≡ Unsubscribed s → ⊥) → ((s place : ℕ) (outcome : PostOutcome) → k ≡ Posted s place outcome → ⊥) → rs ≡ changed k rs
-unchanged (Onboarded d) rs f g h j l n = absurd (f d refl)
-unchanged (Created i vnfd name text) rs f g h j l n = absurd (g i vnfd name text refl)
-unchanged (Deleted i) rs f g h j l n = absurd (h i refl)
-unchanged (Subscribed s role callback filter) rs f g h j l n = absurd (j s role callback filter refl)
-unchanged (Unsubscribed s) rs f g h j l n = absurd (l s refl)
-unchanged (Posted s place outcome) rs f g h j l n = absurd (n s place outcome refl)
-unchanged _ rs f g h j l n = refl
+    → ((s : ℕ) → k ≡ Unsubscribed s → ⊥) → ((s place : ℕ) (outcome : PostOutcome) → k ≡ Posted s place outcome → ⊥) → ((a : Operation) → k ≡ Asked a → ⊥)
+    → ((o : ℕ) (to : OpState) → k ≡ Moved o to → ⊥) → rs ≡ changed k rs
+unchanged (Onboarded d) rs f g h j l n p q = absurd (f d refl)
+unchanged (Created i vnfd name text) rs f g h j l n p q = absurd (g i vnfd name text refl)
+unchanged (Deleted i) rs f g h j l n p q = absurd (h i refl)
+unchanged (Subscribed s role callback filter) rs f g h j l n p q = absurd (j s role callback filter refl)
+unchanged (Unsubscribed s) rs f g h j l n p q = absurd (l s refl)
+unchanged (Posted s place outcome) rs f g h j l n p q = absurd (n s place outcome refl)
+unchanged (Asked a) rs f g h j l n p q = absurd (p a refl)
+unchanged (Moved o to) rs f g h j l n p q = absurd (q o to refl)
+unchanged _ rs f g h j l n p q = refl
 
 -- what is found is the instance of this number
 pub instance_found : (width m : ℕ) (H : List Event) (rs : Rows) (i : ℕ) (x : Option InstanceRow) → IsLegalWithin width m H → StandsFor rs H
     → (Rises (λ r. r.number) rs.instances → x ≡ find (λ r. r.number == i) rs.instances) → x ≡ instance H i
 unfolding is_kept
 instance_found width m H rs i x legal stands is_found =
+    let g : CreatedInstance → InstanceRow = instance_row H in
     let falls = falls-filter (λ x. x.instance) (is_kept H) (creations H) (falls-counted (λ x. x.instance) (creations H) (instances_counted width m H legal)) in
     let is : rs.instances ≡ instance_rows H = ap (λ (r : Rows). r.instances) stands in
     let f : InstanceRow → ℕ = λ r. r.number in
-    let mapped = falls-map f instance_row (live_instances H) falls in
-    is_found (subst (λ (ys : List InstanceRow). Rises f ys) (sym is) (rises-reverse f (map instance_row (live_instances H)) mapped))
+    let mapped = falls-map f g (live_instances H) falls in
+    is_found (subst (λ (ys : List InstanceRow). Rises f ys) (sym is) (rises-reverse f (map g (live_instances H)) mapped))
     ∙ (ap (λ (ys : List InstanceRow). find (λ r. r.number == i) ys) is
-    ∙ (find-reverse f i (map instance_row (live_instances H)) mapped
-    ∙ (find-map f instance_row i (live_instances H)
-    ∙ (ap (option_map instance_row) (find-filter (λ x. x.instance) (is_kept H) i (creations H) (not (is_deleted H i)) (λ x e. ap (λ (n : ℕ). not (is_deleted H n)) e))
-    ∙ if_there instance_row (find (λ x. x.instance == i) (creations H)) (not (is_deleted H i))))))
+    ∙ (find-reverse f i (map g (live_instances H)) mapped
+    ∙ (find-map f g i (live_instances H)
+    ∙ (ap (option_map g) (find-filter (λ x. x.instance) (is_kept H) i (creations H) (not (is_deleted H i)) (λ x e. ap (λ (n : ℕ). not (is_deleted H n)) e))
+    ∙ if_there g (find (λ x. x.instance == i) (creations H)) (not (is_deleted H i))))))
 
 -- what is found is the subscription of this number
 pub subscription_found : (width m : ℕ) (H : List Event) (rs : Rows) (s : ℕ) (x : Option SubscriptionRow) → IsLegalWithin width m H → StandsFor rs H

@@ -3,33 +3,42 @@ use Rattle.std.specs.Prelude.{Bool, List, None, Option, if◌then◌else◌, fil
 use Rattle.lcm_events.specs.declared.descriptor.Vnfd.{Vnfd}
 use Rattle.lcm_events.specs.declared.events.Event.{Event}
 use Rattle.lcm_model.specs.Lives.{CreatedInstance, Subscription, creation, descriptors, instances_made, is_live, is_subscribed, is_unsubscribed, live_instances, subscription, subscriptions, subscriptions_made}
+use Rattle.lcm_events.specs.declared.asks.Ask.{Ask}
+use Rattle.lcm_events.specs.declared.events.Operation.{Operation}
+use Rattle.lcm_events.specs.declared.states.OpState.{OpState}
+use Rattle.lcm_events.specs.declared.states.OpState.TheVariants.{Completed, Failed}
+use Rattle.lcm_model.specs.Instances.{instantiates, is_instantiated, is_started, starts_or_stops}
+use Rattle.lcm_model.specs.Operations.{goes_on, operations}
+use Rattle.instance_table.specs.declared.going.Ending.{Ending}
+use Rattle.instance_table.specs.declared.going.Going.{Going}
 use Rattle.lcm_model.specs.Notices.{cursor, posts, subscribed_at}
 use Rattle.vnfm_base.specs.declared.identifier.Kind.{Kind}
 use Rattle.vnfm_base.specs.declared.identifier.Kind.TheVariants as kinds
 use Rattle.instance_table.specs.declared.rows.InstanceRow.{InstanceRow}
 use Rattle.instance_table.specs.declared.rows.SubscriptionRow.{SubscriptionRow}
 
--- what the table keeps: descriptors, live instances and live subscriptions in the order in which they came, how many
--- instances and subscriptions were ever made, and how many events there are
+-- what the table keeps: descriptors, live instances, live subscriptions and operations that go on in the order in which
+-- they came, how many instances and subscriptions were ever made, and how many events there are
 pub record Rows : Type 0 where
   pub descriptors : List Vnfd
   pub instances : List InstanceRow
   pub subscriptions : List SubscriptionRow
+  pub going : List Going
   pub instances_made : ℕ
   pub subscriptions_made : ℕ
   pub events : ℕ
 
 -- the row of an instance (SOL 003 5.5.2.2)
-abbrev pub instance_row : CreatedInstance → InstanceRow
-instance_row x = record { number = x.instance; vnfd = x.vnfd; name = x.name; text = x.text }
+abbrev pub instance_row : List Event → CreatedInstance → InstanceRow
+instance_row H x = record { number = x.instance; vnfd = x.vnfd; name = x.name; text = x.text; instantiated = is_instantiated H x.instance; started = is_started H x.instance }
 
 -- the rows of the live instances, in the order of their numbers (SOL 003 5.4.2)
 abbrev pub instance_rows : List Event → List InstanceRow
-instance_rows H = reverse (map instance_row (live_instances H))
+instance_rows H = reverse (map (instance_row H) (live_instances H))
 
 -- the row of the instance of this number, where it is live (SOL 003 5.4.3)
 abbrev pub instance : List Event → ℕ → Option InstanceRow
-instance H i = if is_live H i then option_map instance_row (creation H i) else None
+instance H i = if is_live H i then option_map (instance_row H) (creation H i) else None
 
 -- a subscription was not ended (SOL 003 5.4.19)
 unfoldable pub is_continued : List Event → Subscription → Bool
@@ -55,12 +64,25 @@ subscription_rows H = reverse (map (subscription_row H) (continued H))
 abbrev pub subscription_at : List Event → ℕ → Option SubscriptionRow
 subscription_at H s = if is_subscribed H s then option_map (subscription_row H) (subscription H s) else None
 
--- what the history says of descriptors, instances and subscriptions
+-- what a move of an operation to this state says of its instance (SOL 003 5.5.2.2)
+abbrev pub ending : Ask → OpState → Ending
+ending ask to = record { instantiated = instantiates ask to; started = starts_or_stops ask to }
+
+-- an operation that goes on, with what its end says of its instance (own rule)
+abbrev pub going_of : Operation → Going
+going_of a = record { occ = a.occ; instance = a.instance; completed = ending a.ask Completed; failed = ending a.ask Failed }
+
+-- the operations that go on, in the order of their numbers (SOL 003 5.6.2)
+abbrev pub going : List Event → List Going
+going H = reverse (map going_of (filter (goes_on H) (operations H)))
+
+-- what the history says of descriptors, instances, subscriptions and operations that go on
 abbrev pub rows : List Event → Rows
 rows H = record {
   descriptors = reverse (descriptors H);
   instances = instance_rows H;
   subscriptions = subscription_rows H;
+  going = going H;
   instances_made = instances_made H;
   subscriptions_made = subscriptions_made H;
   events = length H;

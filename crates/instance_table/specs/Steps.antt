@@ -1,19 +1,24 @@
 -- What each event makes of the rows.
-use Rattle.std.specs.Prelude.{List, None, Option, Some, filter, if◌then◌else◌, map, min, nat_le, not, suc, zero, ℕ, [], ◌+◌, ◌++◌, ◌<◌, ◌==◌, ◌||◌, ◌∷◌}
+use Rattle.std.specs.Prelude.{List, None, Option, Some, false, filter, find, unwrap_or, if◌then◌else◌, map, min, nat_le, not, suc, zero, ℕ, [], ◌+◌, ◌++◌, ◌<◌, ◌==◌, ◌||◌, ◌∷◌}
 use Rattle.lcm_events.specs.declared.events.EventKind.{EventKind}
-use Rattle.lcm_events.specs.declared.events.EventKind.TheVariants.{Created, Deleted, Onboarded, Posted, Subscribed, Unsubscribed}
+use Rattle.lcm_events.specs.declared.events.EventKind.TheVariants.{Asked, Created, Deleted, Moved, Onboarded, Posted, Subscribed, Unsubscribed}
 use Rattle.lcm_events.specs.declared.events.PostOutcome.{PostOutcome}
 use Rattle.lcm_events.specs.declared.filters.Filter.{Filter}
 use Rattle.lcm_events.specs.declared.states.Role.{Role}
 use Rattle.lcm_model.specs.Notices.{is_delivered}
 use Rattle.lcm_model.specs.Words.{when}
-use Rattle.instance_table.specs.Rows.{Rows}
+use Rattle.lcm_events.specs.declared.states.OpState.{OpState}
+use Rattle.lcm_events.specs.declared.states.OpState.TheVariants.{Completed, Failed}
+use Rattle.lcm_model.specs.Moves.{is_final}
+use Rattle.instance_table.specs.declared.going.Ending.{Ending}
+use Rattle.instance_table.specs.declared.going.Going.{Going}
+use Rattle.instance_table.specs.Rows.{Rows, going_of}
 use Rattle.instance_table.specs.declared.rows.InstanceRow.{InstanceRow}
 use Rattle.instance_table.specs.declared.rows.SubscriptionRow.{SubscriptionRow}
 
 -- the row of an instance that is created
 abbrev pub first_instance : ℕ → List ℕ → Option (List ℕ) → Option (List ℕ) → InstanceRow
-first_instance i vnfd name text = record { number = i; vnfd = vnfd; name = name; text = text }
+first_instance i vnfd name text = record { number = i; vnfd = vnfd; name = name; text = text; instantiated = false; started = false }
 
 -- the row of a subscription that is made by the event at this place
 abbrev pub first_subscription : ℕ → ℕ → Role → List ℕ → Filter → SubscriptionRow
@@ -30,6 +35,33 @@ after_post place outcome r = if is_delivered outcome || nat_le 4 r.tries then re
 -- a row after the notice at this place was posted to the subscription of this number
 abbrev pub posted : ℕ → ℕ → PostOutcome → SubscriptionRow → SubscriptionRow
 posted s place outcome r = if r.number == s then after_post place outcome r else r
+
+-- the row after the end of an operation said this
+abbrev pub after_end : Ending → InstanceRow → InstanceRow
+after_end e r = record r { instantiated = unwrap_or e.instantiated r.instantiated; started = unwrap_or e.started r.started }
+
+-- a row after the end of an operation of the instance of this number said this
+abbrev pub ended : ℕ → Ending → InstanceRow → InstanceRow
+ended i e r = if r.number == i then after_end e r else r
+
+-- what a move to this state says of the operation's instance
+abbrev pub end_of : OpState → Going → Ending
+end_of Completed g = g.completed
+end_of Failed g = g.failed
+end_of _ g = record { instantiated = None; started = None }
+
+-- the operations without the one of this occurrence
+abbrev pub without_operation : ℕ → List Going → List Going
+without_operation o gs = filter (λ g. not (g.occ == o)) gs
+
+-- the operations that go on after a move of this occurrence
+abbrev pub going_moved : ℕ → OpState → List Going → List Going
+going_moved o to gs = if is_final to then without_operation o gs else gs
+
+-- the rows after a move of this operation
+abbrev pub moved : ℕ → OpState → Option Going → Rows → Rows
+moved o to None rs = rs
+moved o to (Some g) rs = record rs { instances = map (ended g.instance (end_of to g)) rs.instances; going = going_moved o to rs.going }
 
 -- a list with the entry at this place changed
 abbrev pub update : {A : Type 0} → (A → A) → ℕ → List A → List A
@@ -64,6 +96,12 @@ without_instance i rs = filter (λ r. not (r.number == i)) rs
 abbrev pub without_subscription : ℕ → List SubscriptionRow → List SubscriptionRow
 without_subscription s rs = filter (λ r. not (r.number == s)) rs
 
+-- instances, subscriptions and operations stand in the order of their numbers
+pub record AreOrdered (rs : Rows) : Type 0 where
+  pub instances : Rises (λ r. r.number) rs.instances
+  pub subscriptions : Rises (λ r. r.number) rs.subscriptions
+  pub going : Rises (λ g. g.occ) rs.going
+
 -- the rows after an event that isn't counted yet
 abbrev pub changed : EventKind → Rows → Rows
 changed (Onboarded d) rs = record rs { descriptors = rs.descriptors ++ d ∷ [] }
@@ -72,6 +110,8 @@ changed (Deleted i) rs = record rs { instances = without_instance i rs.instances
 changed (Subscribed s role callback filter) rs = record rs { subscriptions = rs.subscriptions ++ first_subscription (next_place rs.events) s role callback filter ∷ []; subscriptions_made = s }
 changed (Unsubscribed s) rs = record rs { subscriptions = without_subscription s rs.subscriptions }
 changed (Posted s place outcome) rs = record rs { subscriptions = map (posted s place outcome) rs.subscriptions }
+changed (Asked a) rs = record rs { going = rs.going ++ going_of a ∷ [] }
+changed (Moved o to) rs = moved o to (find (λ g. g.occ == o) rs.going) rs
 changed _ rs = rs
 
 -- the rows after an event

@@ -3,7 +3,7 @@ use Rattle.std.specs.Prelude.{Bool, List, Option, Some, false, true, ℕ, ◌∷
 use Rattle.lcm_events.specs.declared.descriptor.Vnfd.{Vnfd}
 use Rattle.lcm_events.specs.declared.events.Event.{Event}
 use Rattle.lcm_events.specs.declared.events.EventKind.{EventKind}
-use Rattle.lcm_events.specs.declared.events.EventKind.TheVariants.{Created, Onboarded, Subscribed}
+use Rattle.lcm_events.specs.declared.events.EventKind.TheVariants.{Asked, Created, Onboarded, Subscribed}
 use Rattle.lcm_model.specs.Allowed.{IsAllowedWithin, IsLegalWithin}
 use Rattle.lcm_model.specs.Lives.{descriptor_named, descriptors}
 use Rattle.vnfm_base.specs.declared.identifier.Kind.{Kind}
@@ -14,6 +14,7 @@ use Rattle.instance_table.specs.declared.rows.InstanceRow.{InstanceRow}
 use Rattle.instance_table.specs.declared.rows.SubscriptionRow.{SubscriptionRow}
 
 -- what is reserved: a descriptor, an instance and a subscription that are to come, and room for how many more rows of each
+-- and more operations
 pub record Reserved : Type 0 where
   pub descriptor : Option Vnfd
   pub instance : Option InstanceRow
@@ -21,6 +22,7 @@ pub record Reserved : Type 0 where
   pub descriptors : ℕ
   pub instances : ℕ
   pub subscriptions : ℕ
+  pub going : ℕ
 
 -- what a contract sees of the table: its rows, and what is reserved
 pub record Shown : Type 0 where
@@ -32,6 +34,7 @@ abbrev pub needs_room : EventKind → Bool
 needs_room (Onboarded d) = true
 needs_room (Created i vnfd name text) = true
 needs_room (Subscribed s role callback filter) = true
+needs_room (Asked a) = true
 needs_room _ = false
 
 -- what the event needs is reserved
@@ -39,6 +42,7 @@ abbrev pub HasRoom : EventKind → Reserved → Type 0
 HasRoom (Onboarded d) r = (r.descriptor ≡ Some d) × (0 < r.descriptors)
 HasRoom (Created i vnfd name text) r = (r.instance ≡ Some (first_instance i vnfd name text)) × (0 < r.instances)
 HasRoom (Subscribed s role callback filter) r = (r.subscription ≡ Some (first_subscription 0 s role callback filter)) × (0 < r.subscriptions)
+HasRoom (Asked a) r = 0 < r.going
 HasRoom _ r = Unit {0}
 
 -- what was reserved is reserved: what is to come as it was, and at least as much room
@@ -49,6 +53,7 @@ pub record IsKept (old new : Reserved) : Type 0 where
   pub descriptors : old.descriptors ≤ new.descriptors
   pub instances : old.instances ≤ new.instances
   pub subscriptions : old.subscriptions ≤ new.subscriptions
+  pub going : old.going ≤ new.going
 
 -- rows that stood for a legal history stand for it with the event that was allowed after it, where 64 bits can name its place
 abbrev pub Applies : Event → Rows → Rows → Type 0

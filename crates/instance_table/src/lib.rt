@@ -2,8 +2,10 @@
 #![tactic(auto)]
 
 mod copies;
+mod going;
 mod rows;
 mod table;
 
+pub use going::{Ending, Going};
 pub use rows::{InstanceRow, SubscriptionRow};
 pub use table::InstanceTable;

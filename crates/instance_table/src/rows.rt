@@ -1,9 +1,10 @@
-//! The rows of instances and subscriptions, and what a post makes of a row.
+//! The rows of instances and subscriptions, and what a post or the end of an operation makes of a row.
 
 ghost use Rattle.std.specs.Prelude.{◌≡◌};
 ghost use Rattle.lcm_model.specs.Notices.{is_delivered};
-ghost use Rattle.instance_table.specs.Steps.{after_post, begun_at, posted};
+ghost use Rattle.instance_table.specs.Steps.{after_end, after_post, begun_at, ended, posted};
 
+use crate::going::Ending;
 use lcm_events::{Filter, PostOutcome, Role};
 use vnfm_base::{Line, Name};
 
@@ -23,6 +24,29 @@ pub struct InstanceRow {
     pub name: Option<Name>,
     /// The description that the request gave.
     pub text: Option<Line>,
+    /// INSTANTIATED, not NOT_INSTANTIATED.
+    pub instantiated: bool,
+    /// STARTED, not STOPPED.
+    pub started: bool,
+}
+
+impl InstanceRow {
+    /// An operation of the instance ended.
+    fn record_end(&mut self, ending: Ending)
+        ensures { self.new ≡ after_end ending self.old }
+    {
+        self.instantiated = ending.instantiated.unwrap_or(self.instantiated);
+        self.started = ending.started.unwrap_or(self.started);
+    }
+
+    /// An operation of the instance of this number ended, which may be another.
+    pub fn follow_end(&mut self, number: u64, ending: Ending)
+        ensures { self.new ≡ ended number ending self.old }
+    {
+        if self.number == number {
+            self.record_end(ending);
+        }
+    }
 }
 
 /// What the history says of a live subscription.

@@ -6,18 +6,19 @@ ghost use Rattle.lcm_events.specs.Same.{same_name};
 ghost use Rattle.lcm_events.specs.declared.descriptor.Vnfd.{Vnfd};
 ghost use Rattle.instance_table.specs.declared.rows.InstanceRow.{InstanceRow};
 ghost use Rattle.instance_table.specs.declared.rows.SubscriptionRow.{SubscriptionRow};
-ghost use Rattle.instance_table.specs.Rows.{Rows, StandsFor};
-ghost use Rattle.instance_table.specs.Steps.{Rises, begun_at, changed, first_instance, first_subscription, next_place, posted, update, with_key, without_instance, without_subscription};
+ghost use Rattle.instance_table.specs.Rows.{Rows, StandsFor, going_of};
+ghost use Rattle.instance_table.specs.Steps.{AreOrdered, Rises, begun_at, changed, ended, moved, first_instance, first_subscription, next_place, posted, update, with_key, without_instance, without_subscription};
 ghost use Rattle.instance_table.specs.Table.{Applies, CountsDescriptors, CountsLive, CountsMade, FindsInstance, FindsSubscription, FindsVnfd, HasRoom, IsKept, Reserved, Shown, is_counted, needs_room};
 
 use crate::copies::{copied_filter, copied_line, copied_vnfd};
+use crate::going::{Ending, Going, going_in, move_going};
 use crate::rows::{InstanceRow, SubscriptionRow};
-use lcm_events::{Event, EventKind, Filter, PostOutcome, Role, Vnfd};
+use lcm_events::{Event, EventKind, Filter, OpState, Operation, PostOutcome, Role, Vnfd};
 use std::alloc::{AllocError, Global};
 use std::marker::Model;
 use vnfm_base::{Kind, Line, Name};
 
-/// The table of descriptors, live instances and live subscriptions.
+/// The table of descriptors, live instances and live subscriptions, and of the operations that go on.
 ///
 /// A contract sees its rows, and beside them what is reserved for an event.
 #[derive(Debug, Drop)]
@@ -25,6 +26,7 @@ pub struct InstanceTable {
     descriptors: Vec<Vnfd>,
     instances: Vec<InstanceRow>,
     subscriptions: Vec<SubscriptionRow>,
+    going: Vec<Going>,
     instances_made: u64,
     subscriptions_made: u64,
     events: u64,
@@ -40,7 +42,7 @@ impl Model for InstanceTable {
 
     ghost Value = { Shown };
 
-    ghost view = { λ t. record { rows = record { descriptors = t.descriptors.items; instances = t.instances.items; subscriptions = t.subscriptions.items; instances_made = t.instances_made; subscriptions_made = t.subscriptions_made; events = t.events }; reserved = record { descriptor = t.descriptor; instance = t.instance; subscription = t.subscription; descriptors = vec_capacity t.descriptors - vec_len t.descriptors; instances = vec_capacity t.instances - vec_len t.instances; subscriptions = vec_capacity t.subscriptions - vec_len t.subscriptions } } };
+    ghost view = { λ t. record { rows = record { descriptors = t.descriptors.items; instances = t.instances.items; subscriptions = t.subscriptions.items; going = t.going.items; instances_made = t.instances_made; subscriptions_made = t.subscriptions_made; events = t.events }; reserved = record { descriptor = t.descriptor; instance = t.instance; subscription = t.subscription; descriptors = vec_capacity t.descriptors - vec_len t.descriptors; instances = vec_capacity t.instances - vec_len t.instances; subscriptions = vec_capacity t.subscriptions - vec_len t.subscriptions; going = vec_capacity t.going - vec_len t.going } } };
 }
 
 /// The first descriptor of this identifier.
@@ -173,6 +175,28 @@ fn post_in(rows: &mut Vec<SubscriptionRow>, number: u64, place: u64, outcome: Po
     post_at(rows, at, number, place, outcome);
 }
 
+/// Lets the row at this place follow the end of an operation. Nothing happens beyond the end.
+fn end_at(rows: &mut Vec<InstanceRow>, at: usize, number: u64, ending: Ending)
+    ensures items { rows.new.items ≡ update (ended number ending) at rows.old.items }
+    ensures length { vec_len rows.new ≡ vec_len rows.old }
+    ensures capacity { vec_capacity rows.new ≡ vec_capacity rows.old }
+{
+    match rows.get_mut(at) {
+        Some(row) => row.follow_end(number, ending),
+        None => {}
+    }
+}
+
+/// Lets the row of this number follow the end of an operation, where the numbers rise.
+fn end_in(rows: &mut Vec<InstanceRow>, number: u64, ending: Ending)
+    ensures items { Rises (λ r. r.number) rows.old.items → rows.new.items ≡ map (ended number ending) rows.old.items }
+    ensures length { vec_len rows.new ≡ vec_len rows.old }
+    ensures capacity { vec_capacity rows.new ≡ vec_capacity rows.old }
+{
+    let at = instance_place(rows.as_slice(), number);
+    end_at(rows, at, number, ending);
+}
+
 /// The place behind this many events.
 fn next_place(events: u64) -> u64
     ensures { result ≡ next_place events }
@@ -192,6 +216,7 @@ impl InstanceTable {
             descriptors: Vec::new(alloc),
             instances: Vec::new(alloc),
             subscriptions: Vec::new(alloc),
+            going: Vec::new(alloc),
             instances_made: 0,
             subscriptions_made: 0,
             events: 0,
@@ -232,6 +257,8 @@ impl InstanceTable {
             vnfd,
             name,
             text,
+            instantiated: false,
+            started: false,
         });
         Ok(())
     }
@@ -264,6 +291,15 @@ impl InstanceTable {
         Ok(())
     }
 
+    /// Reserves room for one more operation that goes on.
+    fn reserve_going(&mut self) -> Result<(), AllocError>
+        ensures kept { self.new.rows ≡ self.old.rows }
+        ensures spare { OnOk result (0 < self.new.reserved.going) }
+    {
+        self.going.reserve(1)?;
+        Ok(())
+    }
+
     /// Reserves the memory that an event needs, so that `apply` takes none. The rows stay, also after an error.
     ///
     /// Source: own rule.
@@ -286,6 +322,7 @@ impl InstanceTable {
                 callback,
                 filter,
             } => self.reserve_subscription(alloc, *subscription, *role, callback, filter),
+            EventKind::Asked(_) => self.reserve_going(),
             _ => Ok(()),
         }
     }
@@ -347,6 +384,50 @@ impl InstanceTable {
         post_in(&mut self.subscriptions, number, place, outcome);
     }
 
+    /// Puts an operation last among those that go on.
+    fn put_going(&mut self, operation: &Operation)
+        requires spare { 0 < self.old.reserved.going }
+        ensures rows { self.new.rows ≡ record self.old.rows { going = self.old.rows.going ++ going_of operation.now ∷ [] } }
+    {
+        self.going.push_reserved(Going::of(operation));
+    }
+
+    /// The operation that goes on of this occurrence, where the numbers rise.
+    fn going_numbered(&self, occ: u64) -> Option<Going>
+        ensures { Rises (λ g. g.occ) self.now.rows.going → result ≡ find (λ g. g.occ == occ) self.now.rows.going }
+    {
+        going_in(self.going.as_slice(), occ)
+    }
+
+    /// Lets the instance of an operation follow its move, and the operations that go on too.
+    fn move_operation(&mut self, going: Going, occ: u64, to: OpState)
+        ensures rows { Rises (λ r. r.number) self.old.rows.instances → self.new.rows ≡ moved occ to (Some going) self.old.rows }
+        ensures reserved { IsKept self.old.reserved self.new.reserved }
+    {
+        end_in(&mut self.instances, going.instance, going.end(to));
+        move_going(&mut self.going, occ, to);
+    }
+
+    /// Lets the rows follow a move of this operation, where one goes on.
+    fn move_found(&mut self, found: Option<Going>, occ: u64, to: OpState)
+        ensures rows { Rises (λ r. r.number) self.old.rows.instances → self.new.rows ≡ moved occ to found self.old.rows }
+        ensures reserved { IsKept self.old.reserved self.new.reserved }
+    {
+        match found {
+            Some(going) => self.move_operation(going, occ, to),
+            None => {}
+        }
+    }
+
+    /// Lets the rows follow a move.
+    fn follow_move(&mut self, occ: u64, to: OpState)
+        ensures rows { AreOrdered self.old.rows → self.new.rows ≡ moved occ to (find (λ g. g.occ == occ) self.old.rows.going) self.old.rows }
+        ensures reserved { IsKept self.old.reserved self.new.reserved }
+    {
+        let found = self.going_numbered(occ);
+        self.move_found(found, occ, to);
+    }
+
     /// Counts one more event.
     fn count_event(&mut self)
         ensures rows { self.new.rows ≡ record self.old.rows { events = next_place self.old.rows.events } }
@@ -358,7 +439,7 @@ impl InstanceTable {
     /// Lets the rows follow an event, which isn't counted yet.
     fn follow(&mut self, kind: &EventKind)
         requires room { HasRoom kind.now self.old.reserved }
-        ensures rows { Rises (λ r. r.number) self.old.rows.subscriptions → self.new.rows ≡ changed kind.now self.old.rows }
+        ensures rows { AreOrdered self.old.rows → self.new.rows ≡ changed kind.now self.old.rows }
         ensures stays { needs_room kind.now ≡ false → IsKept self.old.reserved self.new.reserved }
     {
         match kind {
@@ -372,6 +453,8 @@ impl InstanceTable {
                 place,
                 outcome,
             } => self.post(*subscription, *place, *outcome),
+            EventKind::Asked(operation) => self.put_going(operation),
+            EventKind::Moved { occ, to } => self.follow_move(*occ, *to),
             _ => {}
         }
     }
