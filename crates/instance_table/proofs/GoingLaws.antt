@@ -12,7 +12,7 @@ use Rattle.lcm_events.specs.declared.states.OpState.{OpState}
 use Rattle.lcm_events.specs.declared.states.OpState.TheVariants.{Completed, Failed}
 use Rattle.lcm_model.specs.Allowed.{IsAllowedWithin, IsLegalWithin}
 use Rattle.lcm_model.specs.Instances.{instantiates, moving, starts_or_stops}
-use Rattle.lcm_model.specs.Lives.{CreatedInstance, creation, creations, instances_made, is_deleted}
+use Rattle.lcm_model.specs.Lives.{CreatedInstance, creation, creations, descriptor_named, instances_made, is_deleted}
 use Rattle.lcm_model.specs.Moves.{is_final, state}
 use Rattle.lcm_model.specs.Operations.{goes_on, operation, operations}
 use Rattle.lcm_model.specs.Words.{first, told}
@@ -22,12 +22,13 @@ use Rattle.lcm_laws.proofs.Histories.{event, legal_induction}
 use Rattle.lcm_laws.proofs.Lists.{and_left, by_test}
 use Rattle.lcm_laws.proofs.NumberLaws.{found_exactly, found_within, instances_counted, operations_counted}
 use Rattle.lcm_laws.proofs.OngoingLaws.{state-moved}
-use Rattle.instance_table.specs.Rows.{ending, going, going_of, instance_row}
-use Rattle.instance_table.specs.Steps.{after_end, end_of, ended, first_instance, going_moved, without_operation}
+use Rattle.instance_table.specs.Rows.{ending, going, going_of, instance_row, tops}
+use Rattle.instance_table.specs.Steps.{after_end, asked, raised, end_of, ended, first_instance, going_moved, without_operation}
 use Rattle.instance_table.specs.declared.going.Ending.{Ending}
 use Rattle.instance_table.specs.declared.going.Going.{Going}
 use Rattle.instance_table.specs.declared.rows.InstanceRow.{InstanceRow}
 use Rattle.instance_table.proofs.LiveLaws.{fewer, find-filter, find-map, flip, one_more}
+use Rattle.instance_table.proofs.TopLaws.{new_tops, tops-asked}
 use Rattle.instance_table.proofs.Sorted.{falls-counted, falls-filter, falls-map, find-reverse}
 
 -- an operation is of an instance that was made
@@ -78,14 +79,32 @@ unmoved ask width m H legal = legal_induction width m (Unmoved ask) (λ i high. 
 with_state : (r : InstanceRow) (a b c d : Bool) → a ≡ b → c ≡ d → record r { instantiated = a; started = c } ≡ record r { instantiated = b; started = d }
 with_state r a b c d e f = ap (λ (x : Bool). record r { instantiated = x; started = c }) e ∙ ap (λ (x : Bool). record r { instantiated = b; started = x }) f
 
+with_all : (r : InstanceRow) (a b c d : Bool) (m n : List ℕ) → a ≡ b → c ≡ d → m ≡ n → record r { instantiated = a; started = c; top = m } ≡ record r { instantiated = b; started = d; top = n }
+with_all r a b c d m n e f g =
+    ap (λ (x : Bool). record r { instantiated = x; started = c; top = m }) e
+    ∙ (ap (λ (x : Bool). record r { instantiated = b; started = x; top = m }) f ∙ ap (λ (ns : List ℕ). record r { instantiated = b; started = d; top = ns }) g)
+
 -- the row of an instance when it is created
 pub new_instance : (width m : ℕ) (H : List Event) (time i : ℕ) (vnfd : List ℕ) (name text : Option (List ℕ)) → IsLegalWithin width m H → i ≡ instances_made H + 1
-    → instance_row (event time (Created i vnfd name text) ∷ H) (record { instance = i; vnfd = vnfd; name = name; text = text }) ≡ first_instance i vnfd name text
+    → instance_row (event time (Created i vnfd name text) ∷ H) (record { instance = i; vnfd = vnfd; name = name; text = text }) ≡ first_instance (descriptor_named H vnfd) i vnfd name text
 unfolding moving
 new_instance width m H time i vnfd name text legal number =
-    with_state (first_instance i vnfd name text) _ _ _ _
+    with_all (first_instance None i vnfd name text) _ _ _ _ _ _
     (ap (λ (bs : List Bool). unwrap_or (first bs) false) (unmoved instantiates width m H legal i (omega (arith, number))))
     (ap (λ (bs : List Bool). unwrap_or (first bs) false) (unmoved starts_or_stops width m H legal i (omega (arith, number))))
+    (new_tops width m H time i vnfd name text legal number)
+
+asked_when : (b : Bool) (r : InstanceRow) (ts : List ℕ) → record r { top = cond b ts r.top } ≡ cond b (record r { top = ts }) r
+asked_when true r ts = refl
+asked_when false r ts = refl
+
+-- what an ask makes of the row of an instance
+pub asked_instance : (H : List Event) (time : ℕ) (a : Operation) (x : CreatedInstance) → instance_row (event time (Asked a) ∷ H) x ≡ asked a.instance a.changes (instance_row H x)
+unfolding moving
+asked_instance H time a x =
+    ap (λ (ts : List ℕ). record (instance_row H x) { top = ts }) (tops-asked H time a x)
+    ∙ (asked_when (a.instance == x.instance) (instance_row H x) (raised a.changes (tops H x))
+    ∙ ap (λ (b : Bool). cond b (record (instance_row H x) { top = raised a.changes (tops H x) }) (instance_row H x)) (flip a.instance x.instance))
 
 -- what is kept of an operation says what a move to a state says
 end-law : (ask : Ask) (to : OpState) (a : Operation) → a.ask ≡ ask → end_of to (going_of a) ≡ ending ask to

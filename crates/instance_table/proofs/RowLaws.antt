@@ -20,13 +20,14 @@ use Rattle.lcm_model.specs.Instances.{moving}
 use Rattle.lcm_model.specs.Operations.{goes_on, operation, operations}
 use Rattle.lcm_laws.proofs.HoldLaws.{moved_from, some_value}
 use Rattle.instance_table.specs.declared.going.Going.{Going}
-use Rattle.instance_table.proofs.GoingLaws.{going-asked, going-found, going-moved, moved_instance, new_instance}
+use Rattle.instance_table.proofs.TopLaws.{onboarded_instances}
+use Rattle.instance_table.proofs.GoingLaws.{asked_instance, going-asked, going-found, going-moved, moved_instance, new_instance}
 use Rattle.lcm_model.specs.Words.{otherwise, when}
 use Rattle.lcm_laws.proofs.Histories.{event, legal_induction}
 use Rattle.lcm_laws.proofs.Lists.{by_test}
 use Rattle.lcm_laws.proofs.NumberLaws.{IsCounted, instances_counted, operations_counted, subscriptions_counted}
 use Rattle.instance_table.specs.Rows.{Rows, StandsFor, continued, going_of, instance, instance_row, instance_rows, is_continued, rows, subscription_at, subscription_row, subscription_rows, tries_past}
-use Rattle.instance_table.specs.Steps.{AreOrdered, Rises, after_post, end_of, ended, moved, changed, first_instance, first_subscription, next_place, posted, rows_after, without_instance, without_subscription}
+use Rattle.instance_table.specs.Steps.{AreOrdered, Rises, after_post, asked, end_of, ended, moved, changed, first_instance, first_subscription, next_place, posted, rows_after, without_instance, without_subscription}
 use Rattle.instance_table.specs.declared.rows.InstanceRow.{InstanceRow}
 use Rattle.instance_table.specs.declared.rows.SubscriptionRow.{SubscriptionRow}
 use Rattle.instance_table.proofs.LiveLaws.{deleted_made, ended_made, false_by, fewer, find-filter, find-map, flip, if_there, one_more, without-not}
@@ -35,7 +36,7 @@ use Rattle.instance_table.proofs.Sorted.{falls-counted, falls-filter, falls-map,
 -- a new instance is last
 created-step : (width m : ℕ) (H : List Event) (time i : ℕ) (vnfd : List ℕ) (name text : Option (List ℕ)) → IsLegalWithin width m H
     → IsAllowedWithin width m H (Created i vnfd name text)
-    → instance_rows (event time (Created i vnfd name text) ∷ H) ≡ instance_rows H ++ first_instance i vnfd name text ∷ []
+    → instance_rows (event time (Created i vnfd name text) ∷ H) ≡ instance_rows H ++ first_instance (descriptor_named H vnfd) i vnfd name text ∷ []
 unfolding is_kept moving
 created-step width m H time i vnfd name text legal allowed =
     let none : is_deleted H i ≡ false = false_by (is_deleted H i) (λ gone. let made = deleted_made width m H legal i gone in omega (arith, made, allowed.number)) in
@@ -121,6 +122,13 @@ map_both : {A B : Type 0} → (f g : A → B) (h : B → B) (xs : List A) → ((
 map_both f g h [] e = refl
 map_both f g h (x ∷ xs) e = ap (λ y. y ∷ map g xs) (e x) ∙ ap (λ ys. h (f x) ∷ ys) (map_both f g h xs e)
 
+-- an ask changes the row of its instance alone
+asked-step : (H : List Event) (time : ℕ) (a : Operation) → instance_rows (event time (Asked a) ∷ H) ≡ map (asked a.instance a.changes) (instance_rows H)
+unfolding is_kept
+asked-step H time a =
+    ap reverse (map_both (instance_row H) (instance_row (event time (Asked a) ∷ H)) (asked a.instance a.changes) (live_instances H) (λ x. asked_instance H time a x))
+    ∙ map_reverse (asked a.instance a.changes) (map (instance_row H) (live_instances H))
+
 -- a move changes the row of its instance alone
 moved-step : (H : List Event) (time o : ℕ) (to : OpState) (a : Operation) → operation H o ≡ Some a
     → instance_rows (event time (Moved o to) ∷ H) ≡ map (ended a.instance (end_of to (going_of a))) (instance_rows H)
@@ -146,8 +154,36 @@ unsubscribed-step H time s =
     fewer (subscription_row H) (λ r. not (r.number == s)) (is_continued H) (is_continued (event time (Unsubscribed s) ∷ H)) (subscriptions H)
     (λ x. without-not (s == x.number) (is_unsubscribed H x.number) ∙ ap (λ (b : Bool). not b && not (is_unsubscribed H x.number)) (flip s x.number))
 
-with_descriptors : (rs : Rows) (x y : List Vnfd) (m n : ℕ) → x ≡ y → m ≡ n → record rs { descriptors = x; events = m } ≡ record rs { descriptors = y; events = n }
-with_descriptors rs x y m n e f = ap (λ (z : List Vnfd). record rs { descriptors = z; events = m }) e ∙ ap (λ (k : ℕ). record rs { descriptors = y; events = k }) f
+vnfd_step : (width m : ℕ) (H : List Event) (time : ℕ) (k : EventKind) (id : List ℕ) → IsAllowedWithin width m H k
+    → find (λ d. same_name d.descriptor_id id) (reverse (descriptors H)) ≡ descriptor_named H id
+    → find (λ d. same_name d.descriptor_id id) (reverse (descriptors (event time k ∷ H))) ≡ descriptor_named (event time k ∷ H) id
+vnfd_step width m H time (Onboarded d) id allowed h =
+    let p : Vnfd → Bool = λ d. same_name d.descriptor_id id in
+    ap (find p) (reverse-cons d (descriptors H))
+    ∙ (find-end p (reverse (descriptors H)) d
+    ∙ (ap (λ (y : Option Vnfd). otherwise y (when (p d) d)) h
+    ∙ by_test (same_name d.descriptor_id id)
+    (λ same.
+    let is : d.descriptor_id ≡ id = same_name-true d.descriptor_id id same in
+    let none : descriptor_named H id ≡ None = subst (λ (n : List ℕ). descriptor_named H n ≡ None) is allowed.unknown in
+    rw (same, none) refl)
+    (λ other. rw other (or_none (descriptor_named H id))))) where
+      or_none : (y : Option Vnfd) → otherwise y None ≡ y
+      or_none None = refl
+      or_none (Some y) = refl
+vnfd_step width m H time _ id allowed h = h
+
+-- a descriptor is found from either end
+pub vnfd_found : (width m : ℕ) (H : List Event) (id : List ℕ) → IsLegalWithin width m H → find (λ d. same_name d.descriptor_id id) (reverse (descriptors H)) ≡ descriptor_named H id
+vnfd_found width m H id legal =
+    legal_induction width m (λ H. find (λ d. same_name d.descriptor_id id) (reverse (descriptors H)) ≡ descriptor_named H id) refl
+    (λ H time k legal allowed h. vnfd_step width m H time k id allowed h) H legal
+
+with_descriptors : (rs : Rows) (x y : List Vnfd) (v w : List InstanceRow) (m n : ℕ) → x ≡ y → v ≡ w → m ≡ n
+    → record rs { descriptors = x; instances = v; events = m } ≡ record rs { descriptors = y; instances = w; events = n }
+with_descriptors rs x y v w m n e f g =
+    ap (λ (z : List Vnfd). record rs { descriptors = z; instances = v; events = m }) e
+    ∙ (ap (λ (z : List InstanceRow). record rs { descriptors = y; instances = z; events = m }) f ∙ ap (λ (k : ℕ). record rs { descriptors = y; instances = w; events = k }) g)
 
 with_instances : (rs : Rows) (x y : List InstanceRow) (i j m n : ℕ) → x ≡ y → i ≡ j → m ≡ n
     → record rs { instances = x; instances_made = i; events = m } ≡ record rs { instances = y; instances_made = j; events = n }
@@ -160,9 +196,6 @@ with_subscriptions : (rs : Rows) (x y : List SubscriptionRow) (i j m n : ℕ) �
 with_subscriptions rs x y i j m n e f g =
     ap (λ (z : List SubscriptionRow). record rs { subscriptions = z; subscriptions_made = i; events = m }) e
     ∙ (ap (λ (k : ℕ). record rs { subscriptions = y; subscriptions_made = k; events = m }) f ∙ ap (λ (k : ℕ). record rs { subscriptions = y; subscriptions_made = j; events = k }) g)
-
-with_going : (rs : Rows) (x y : List Going) (m n : ℕ) → x ≡ y → m ≡ n → record rs { going = x; events = m } ≡ record rs { going = y; events = n }
-with_going rs x y m n e f = ap (λ (z : List Going). record rs { going = z; events = m }) e ∙ ap (λ (k : ℕ). record rs { going = y; events = k }) f
 
 with_moved : (rs : Rows) (w x : List InstanceRow) (y z : List Going) (m n : ℕ) → w ≡ x → y ≡ z → m ≡ n
     → record rs { instances = w; going = y; events = m } ≡ record rs { instances = x; going = z; events = n }
@@ -177,9 +210,11 @@ with_events rs m n e = ap (λ (k : ℕ). record rs { events = k }) e
 pub rows-step : (width m : ℕ) (H : List Event) (time : ℕ) (k : EventKind) → length H < 18446744073709551615 → IsLegalWithin width m H → IsAllowedWithin width m H k
     → rows (event time k ∷ H) ≡ rows_after k (rows H)
 unfolding is_kept is_continued moving goes_on
-rows-step width m H time (Onboarded d) short legal allowed = with_descriptors (rows H) _ _ _ _ (reverse-cons d (descriptors H)) (omega (arith, short))
+rows-step width m H time (Onboarded d) short legal allowed = with_descriptors (rows H) _ _ _ _ _ _ (reverse-cons d (descriptors H)) (onboarded_instances width m H time d legal allowed) (omega (arith, short))
 rows-step width m H time (Created i vnfd name text) short legal allowed =
-    with_instances (rows H) _ _ _ _ _ _ (created-step width m H time i vnfd name text legal allowed) (omega (arith, allowed.number)) (omega (arith, short))
+    with_instances (rows H) _ _ _ _ _ _
+    (created-step width m H time i vnfd name text legal allowed ∙ ap (λ (d : Option Vnfd). instance_rows H ++ first_instance d i vnfd name text ∷ []) (sym (vnfd_found width m H vnfd legal)))
+    (omega (arith, allowed.number)) (omega (arith, short))
 rows-step width m H time (Deleted i) short legal allowed = with_instances (rows H) _ _ _ _ _ _ (deleted-step H time i) refl (omega (arith, short))
 rows-step width m H time (Subscribed s role callback filter) short legal allowed =
     let place : length H + 1 ≡ next_place (length H) = omega (arith, short) in
@@ -189,7 +224,7 @@ rows-step width m H time (Subscribed s role callback filter) short legal allowed
 rows-step width m H time (Unsubscribed s) short legal allowed = with_subscriptions (rows H) _ _ _ _ _ _ (unsubscribed-step H time s) refl (omega (arith, short))
 rows-step width m H time (Posted s place outcome) short legal allowed =
     with_subscriptions (rows H) _ _ _ _ _ _ (posted-step width m H time s place outcome legal allowed) refl (omega (arith, short))
-rows-step width m H time (Asked a) short legal allowed = with_going (rows H) _ _ _ _ (going-asked width m H time a legal allowed) (omega (arith, short))
+rows-step width m H time (Asked a) short legal allowed = with_moved (rows H) _ _ _ _ _ _ (asked-step H time a) (going-asked width m H time a legal allowed) (omega (arith, short))
 rows-step width m H time (Moved o to) short legal allowed =
     let found = some_value (operation H o) allowed.0 in
     with_moved (rows H) _ _ _ _ _ _ (moved-step H time o to found.0 found.1) (going-moved H time o to (moved_from H o to allowed.1)) (omega (arith, short))
@@ -265,28 +300,3 @@ subscription_found width m H rs s x legal stands is_found =
     ∙ (find-map f g s (continued H)
     ∙ (ap (option_map g) (find-filter (λ x. x.number) (is_continued H) s (subscriptions H) (not (is_unsubscribed H s)) (λ x e. ap (λ (n : ℕ). not (is_unsubscribed H n)) e))
     ∙ if_there g (find (λ x. x.number == s) (subscriptions H)) (not (is_unsubscribed H s))))))
-
-vnfd_step : (width m : ℕ) (H : List Event) (time : ℕ) (k : EventKind) (id : List ℕ) → IsAllowedWithin width m H k
-    → find (λ d. same_name d.descriptor_id id) (reverse (descriptors H)) ≡ descriptor_named H id
-    → find (λ d. same_name d.descriptor_id id) (reverse (descriptors (event time k ∷ H))) ≡ descriptor_named (event time k ∷ H) id
-vnfd_step width m H time (Onboarded d) id allowed h =
-    let p : Vnfd → Bool = λ d. same_name d.descriptor_id id in
-    ap (find p) (reverse-cons d (descriptors H))
-    ∙ (find-end p (reverse (descriptors H)) d
-    ∙ (ap (λ (y : Option Vnfd). otherwise y (when (p d) d)) h
-    ∙ by_test (same_name d.descriptor_id id)
-    (λ same.
-    let is : d.descriptor_id ≡ id = same_name-true d.descriptor_id id same in
-    let none : descriptor_named H id ≡ None = subst (λ (n : List ℕ). descriptor_named H n ≡ None) is allowed.unknown in
-    rw (same, none) refl)
-    (λ other. rw other (or_none (descriptor_named H id))))) where
-      or_none : (y : Option Vnfd) → otherwise y None ≡ y
-      or_none None = refl
-      or_none (Some y) = refl
-vnfd_step width m H time _ id allowed h = h
-
--- a descriptor is found from either end
-pub vnfd_found : (width m : ℕ) (H : List Event) (id : List ℕ) → IsLegalWithin width m H → find (λ d. same_name d.descriptor_id id) (reverse (descriptors H)) ≡ descriptor_named H id
-vnfd_found width m H id legal =
-    legal_induction width m (λ H. find (λ d. same_name d.descriptor_id id) (reverse (descriptors H)) ≡ descriptor_named H id) refl
-    (λ H time k legal allowed h. vnfd_step width m H time k id allowed h) H legal

@@ -1,8 +1,8 @@
 -- What the rows of the table are: a function of the history (SOL 003 5.4.2, VNF instances; 5.4.18, Subscriptions).
-use Rattle.std.specs.Prelude.{Bool, List, None, Option, if◌then◌else◌, filter, length, map, nat_lt, not, option_map, reverse, ℕ, ◌&&◌, ◌≡◌}
+use Rattle.std.specs.Prelude.{Bool, List, [], None, Option, if◌then◌else◌, filter, length, map, nat_lt, not, option_map, reverse, ℕ, ◌&&◌, ◌≡◌}
 use Rattle.lcm_events.specs.declared.descriptor.Vnfd.{Vnfd}
 use Rattle.lcm_events.specs.declared.events.Event.{Event}
-use Rattle.lcm_model.specs.Lives.{CreatedInstance, Subscription, creation, descriptors, instances_made, is_live, is_subscribed, is_unsubscribed, live_instances, subscription, subscriptions, subscriptions_made}
+use Rattle.lcm_model.specs.Lives.{CreatedInstance, Subscription, creation, descriptor_named, descriptors, instances_made, is_live, is_subscribed, is_unsubscribed, live_instances, subscription, subscriptions, subscriptions_made}
 use Rattle.lcm_events.specs.declared.asks.Ask.{Ask}
 use Rattle.lcm_events.specs.declared.events.Operation.{Operation}
 use Rattle.lcm_events.specs.declared.states.OpState.{OpState}
@@ -11,6 +11,9 @@ use Rattle.lcm_model.specs.Instances.{instantiates, is_instantiated, is_started,
 use Rattle.lcm_model.specs.Operations.{goes_on, operations}
 use Rattle.instance_table.specs.declared.going.Ending.{Ending}
 use Rattle.instance_table.specs.declared.going.Going.{Going}
+use Rattle.std.specs.Option.{option_map_or}
+use Rattle.lcm_model.specs.Holding.{top}
+use Rattle.lcm_model.specs.Vnfcs.{vdu_numbers}
 use Rattle.lcm_model.specs.Notices.{cursor, posts, subscribed_at}
 use Rattle.vnfm_base.specs.declared.identifier.Kind.{Kind}
 use Rattle.vnfm_base.specs.declared.identifier.Kind.TheVariants as kinds
@@ -28,9 +31,13 @@ pub record Rows : Type 0 where
   pub subscriptions_made : ℕ
   pub events : ℕ
 
+-- the greatest serial number that any change of the instance gave, for each VDU of its descriptor (own rule)
+abbrev pub tops : List Event → CreatedInstance → List ℕ
+tops H x = option_map_or (λ d. map (top H x.instance) (vdu_numbers d)) (descriptor_named H x.vnfd) []
+
 -- the row of an instance (SOL 003 5.5.2.2)
 abbrev pub instance_row : List Event → CreatedInstance → InstanceRow
-instance_row H x = record { number = x.instance; vnfd = x.vnfd; name = x.name; text = x.text; instantiated = is_instantiated H x.instance; started = is_started H x.instance }
+instance_row H x = record { number = x.instance; vnfd = x.vnfd; name = x.name; text = x.text; instantiated = is_instantiated H x.instance; started = is_started H x.instance; top = tops H x }
 
 -- the rows of the live instances, in the order of their numbers (SOL 003 5.4.2)
 abbrev pub instance_rows : List Event → List InstanceRow

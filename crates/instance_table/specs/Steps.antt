@@ -1,5 +1,9 @@
 -- What each event makes of the rows.
-use Rattle.std.specs.Prelude.{List, None, Option, Some, false, filter, find, unwrap_or, if◌then◌else◌, map, min, nat_le, not, suc, zero, ℕ, [], ◌+◌, ◌++◌, ◌<◌, ◌==◌, ◌||◌, ◌∷◌}
+use Rattle.std.specs.Prelude.{List, None, Option, Some, false, filter, find, unwrap_or, if◌then◌else◌, length, map, max, min, nat_le, replicate, not, suc, zero, ℕ, [], ◌+◌, ◌++◌, ◌<◌, ◌==◌, ◌||◌, ◌∷◌}
+use Rattle.std.specs.Option.{option_map_or}
+use Rattle.lcm_events.specs.Same.{same_name}
+use Rattle.lcm_events.specs.declared.changes.Change.{Change}
+use Rattle.lcm_events.specs.declared.descriptor.Vnfd.{Vnfd}
 use Rattle.lcm_events.specs.declared.events.EventKind.{EventKind}
 use Rattle.lcm_events.specs.declared.events.EventKind.TheVariants.{Asked, Created, Deleted, Moved, Onboarded, Posted, Subscribed, Unsubscribed}
 use Rattle.lcm_events.specs.declared.events.PostOutcome.{PostOutcome}
@@ -16,9 +20,19 @@ use Rattle.instance_table.specs.Rows.{Rows, going_of}
 use Rattle.instance_table.specs.declared.rows.InstanceRow.{InstanceRow}
 use Rattle.instance_table.specs.declared.rows.SubscriptionRow.{SubscriptionRow}
 
--- the row of an instance that is created
-abbrev pub first_instance : ℕ → List ℕ → Option (List ℕ) → Option (List ℕ) → InstanceRow
-first_instance i vnfd name text = record { number = i; vnfd = vnfd; name = name; text = text; instantiated = false; started = false }
+-- a list with the entry at this place changed
+abbrev pub update : {A : Type 0} → (A → A) → ℕ → List A → List A
+update f n [] = []
+update f zero (x ∷ xs) = f x ∷ xs
+update f (suc n) (x ∷ xs) = x ∷ update f n xs
+
+-- no serial number was given, for each VDU of a descriptor that is known
+abbrev pub fresh_tops : Option Vnfd → List ℕ
+fresh_tops d = option_map_or (λ d. replicate (length d.vdus) 0) d []
+
+-- the row of an instance that is created of this descriptor
+abbrev pub first_instance : Option Vnfd → ℕ → List ℕ → Option (List ℕ) → Option (List ℕ) → InstanceRow
+first_instance d i vnfd name text = record { number = i; vnfd = vnfd; name = name; text = text; instantiated = false; started = false; top = fresh_tops d }
 
 -- the row of a subscription that is made by the event at this place
 abbrev pub first_subscription : ℕ → ℕ → Role → List ℕ → Filter → SubscriptionRow
@@ -44,6 +58,15 @@ after_end e r = record r { instantiated = unwrap_or e.instantiated r.instantiate
 abbrev pub ended : ℕ → Ending → InstanceRow → InstanceRow
 ended i e r = if r.number == i then after_end e r else r
 
+-- the greatest serial numbers after these changes gave theirs
+abbrev pub raised : List Change → List ℕ → List ℕ
+raised [] ts = ts
+raised (x ∷ xs) ts = raised xs (update (max x.def.serial) x.def.vdu ts)
+
+-- a row after an operation with these changes was asked of the instance of this number
+abbrev pub asked : ℕ → List Change → InstanceRow → InstanceRow
+asked i xs r = if r.number == i then record r { top = raised xs r.top } else r
+
 -- what a move to this state says of the operation's instance
 abbrev pub end_of : OpState → Going → Ending
 end_of Completed g = g.completed
@@ -62,12 +85,6 @@ going_moved o to gs = if is_final to then without_operation o gs else gs
 abbrev pub moved : ℕ → OpState → Option Going → Rows → Rows
 moved o to None rs = rs
 moved o to (Some g) rs = record rs { instances = map (ended g.instance (end_of to g)) rs.instances; going = going_moved o to rs.going }
-
--- a list with the entry at this place changed
-abbrev pub update : {A : Type 0} → (A → A) → ℕ → List A → List A
-update f n [] = []
-update f zero (x ∷ xs) = f x ∷ xs
-update f (suc n) (x ∷ xs) = x ∷ update f n xs
 
 -- the place behind this many events, of those that 64 bits can name
 abbrev pub next_place : ℕ → ℕ
@@ -105,12 +122,12 @@ pub record AreOrdered (rs : Rows) : Type 0 where
 -- the rows after an event that isn't counted yet
 abbrev pub changed : EventKind → Rows → Rows
 changed (Onboarded d) rs = record rs { descriptors = rs.descriptors ++ d ∷ [] }
-changed (Created i vnfd name text) rs = record rs { instances = rs.instances ++ first_instance i vnfd name text ∷ []; instances_made = i }
+changed (Created i vnfd name text) rs = record rs { instances = rs.instances ++ first_instance (find (λ d. same_name d.descriptor_id vnfd) rs.descriptors) i vnfd name text ∷ []; instances_made = i }
 changed (Deleted i) rs = record rs { instances = without_instance i rs.instances }
 changed (Subscribed s role callback filter) rs = record rs { subscriptions = rs.subscriptions ++ first_subscription (next_place rs.events) s role callback filter ∷ []; subscriptions_made = s }
 changed (Unsubscribed s) rs = record rs { subscriptions = without_subscription s rs.subscriptions }
 changed (Posted s place outcome) rs = record rs { subscriptions = map (posted s place outcome) rs.subscriptions }
-changed (Asked a) rs = record rs { going = rs.going ++ going_of a ∷ [] }
+changed (Asked a) rs = record rs { instances = map (asked a.instance a.changes) rs.instances; going = rs.going ++ going_of a ∷ [] }
 changed (Moved o to) rs = moved o to (find (λ g. g.occ == o) rs.going) rs
 changed _ rs = rs
 

@@ -1,5 +1,6 @@
 -- What the table shows, what is reserved beside its rows, and what its calls do (own rule).
-use Rattle.std.specs.Prelude.{Bool, List, Option, Some, false, true, ℕ, ◌∷◌, ◌<◌, ◌≡◌, ◌≤◌, length}
+use Rattle.std.specs.Prelude.{Bool, List, Option, Some, false, true, ℕ, ◌∷◌, ◌<◌, ◌≡◌, ◌≤◌, find, length}
+use Rattle.lcm_events.specs.Same.{same_name}
 use Rattle.lcm_events.specs.declared.descriptor.Vnfd.{Vnfd}
 use Rattle.lcm_events.specs.declared.events.Event.{Event}
 use Rattle.lcm_events.specs.declared.events.EventKind.{EventKind}
@@ -37,13 +38,13 @@ needs_room (Subscribed s role callback filter) = true
 needs_room (Asked a) = true
 needs_room _ = false
 
--- what the event needs is reserved
-abbrev pub HasRoom : EventKind → Reserved → Type 0
-HasRoom (Onboarded d) r = (r.descriptor ≡ Some d) × (0 < r.descriptors)
-HasRoom (Created i vnfd name text) r = (r.instance ≡ Some (first_instance i vnfd name text)) × (0 < r.instances)
-HasRoom (Subscribed s role callback filter) r = (r.subscription ≡ Some (first_subscription 0 s role callback filter)) × (0 < r.subscriptions)
-HasRoom (Asked a) r = 0 < r.going
-HasRoom _ r = Unit {0}
+-- what the event needs is reserved beside these rows
+abbrev pub HasRoom : EventKind → Rows → Reserved → Type 0
+HasRoom (Onboarded d) rs r = (r.descriptor ≡ Some d) × (0 < r.descriptors)
+HasRoom (Created i vnfd name text) rs r = (r.instance ≡ Some (first_instance (find (λ d. same_name d.descriptor_id vnfd) rs.descriptors) i vnfd name text)) × (0 < r.instances)
+HasRoom (Subscribed s role callback filter) rs r = (r.subscription ≡ Some (first_subscription 0 s role callback filter)) × (0 < r.subscriptions)
+HasRoom (Asked a) rs r = 0 < r.going
+HasRoom _ rs r = Unit {0}
 
 -- what was reserved is reserved: what is to come as it was, and at least as much room
 pub record IsKept (old new : Reserved) : Type 0 where

@@ -5,7 +5,9 @@ mod copies;
 mod going;
 mod rows;
 mod table;
+mod tops;
 
 pub use going::{Ending, Going};
 pub use rows::{InstanceRow, SubscriptionRow};
 pub use table::InstanceTable;
+pub use tops::Tops;

@@ -1,11 +1,12 @@
-//! The rows of instances and subscriptions, and what a post or the end of an operation makes of a row.
+//! The rows of instances and subscriptions, and what an ask, the end of an operation or a post makes of a row.
 
 ghost use Rattle.std.specs.Prelude.{◌≡◌};
 ghost use Rattle.lcm_model.specs.Notices.{is_delivered};
-ghost use Rattle.instance_table.specs.Steps.{after_end, after_post, begun_at, ended, posted};
+ghost use Rattle.instance_table.specs.Steps.{after_end, after_post, asked, begun_at, ended, posted};
 
 use crate::going::Ending;
-use lcm_events::{Filter, PostOutcome, Role};
+use crate::tops::Tops;
+use lcm_events::{Change, Filter, PostOutcome, Role};
 use vnfm_base::{Line, Name};
 
 /// Posts of a notice after which it is given up.
@@ -28,6 +29,8 @@ pub struct InstanceRow {
     pub instantiated: bool,
     /// STARTED, not STOPPED.
     pub started: bool,
+    /// The greatest serial number that any change gave, for each VDU.
+    pub top: Tops,
 }
 
 impl InstanceRow {
@@ -37,6 +40,15 @@ impl InstanceRow {
     {
         self.instantiated = ending.instantiated.unwrap_or(self.instantiated);
         self.started = ending.started.unwrap_or(self.started);
+    }
+
+    /// An operation with these changes was asked of the instance of this number, which may be another.
+    pub fn follow_ask(&mut self, number: u64, changes: &[Change])
+        ensures { self.new ≡ asked number changes.now self.old }
+    {
+        if self.number == number {
+            self.top.raise(changes);
+        }
     }
 
     /// An operation of the instance of this number ended, which may be another.

@@ -2,18 +2,20 @@
 
 ghost use Rattle.std.specs.Prelude.{◌≡◌, ◌-◌, ◌<◌, ◌≤◌, ℕ, [], ◌++◌, ◌∷◌, Some, None, true, false, find, nat_lt, ◌==◌, length, map, option_copied, slice_get, OnOk, vec_len, vec_capacity};
 ghost use Rattle.std.specs.List.Sorted.{IsPartitionPoint, IsPartitionedBy};
+ghost use Rattle.std.specs.Option.{option_map_or};
 ghost use Rattle.lcm_events.specs.Same.{same_name};
 ghost use Rattle.lcm_events.specs.declared.descriptor.Vnfd.{Vnfd};
 ghost use Rattle.instance_table.specs.declared.rows.InstanceRow.{InstanceRow};
 ghost use Rattle.instance_table.specs.declared.rows.SubscriptionRow.{SubscriptionRow};
 ghost use Rattle.instance_table.specs.Rows.{Rows, StandsFor, going_of};
-ghost use Rattle.instance_table.specs.Steps.{AreOrdered, Rises, begun_at, changed, ended, moved, first_instance, first_subscription, next_place, posted, update, with_key, without_instance, without_subscription};
+ghost use Rattle.instance_table.specs.Steps.{AreOrdered, Rises, asked, begun_at, changed, ended, moved, first_instance, first_subscription, next_place, posted, update, with_key, without_instance, without_subscription};
 ghost use Rattle.instance_table.specs.Table.{Applies, CountsDescriptors, CountsLive, CountsMade, FindsInstance, FindsSubscription, FindsVnfd, HasRoom, IsKept, Reserved, Shown, is_counted, needs_room};
 
 use crate::copies::{copied_filter, copied_line, copied_vnfd};
 use crate::going::{Ending, Going, going_in, move_going};
 use crate::rows::{InstanceRow, SubscriptionRow};
-use lcm_events::{Event, EventKind, Filter, OpState, Operation, PostOutcome, Role, Vnfd};
+use crate::tops::Tops;
+use lcm_events::{Change, Event, EventKind, Filter, OpState, Operation, PostOutcome, Role, Vnfd};
 use std::alloc::{AllocError, Global};
 use std::marker::Model;
 use vnfm_base::{Kind, Line, Name};
@@ -175,6 +177,24 @@ fn post_in(rows: &mut Vec<SubscriptionRow>, number: u64, place: u64, outcome: Po
     post_at(rows, at, number, place, outcome);
 }
 
+/// Lets the row at this place follow an ask. Nothing happens beyond the end.
+fn ask_at(rows: &mut Vec<InstanceRow>, at: usize, number: u64, changes: &[Change])
+    ensures items { rows.new.items ≡ update (asked number changes.now) at rows.old.items }
+{
+    match rows.get_mut(at) {
+        Some(row) => row.follow_ask(number, changes),
+        None => {}
+    }
+}
+
+/// Lets the row of this number follow an ask, where the numbers rise.
+fn ask_in(rows: &mut Vec<InstanceRow>, number: u64, changes: &[Change])
+    ensures items { Rises (λ r. r.number) rows.old.items → rows.new.items ≡ map (asked number changes.now) rows.old.items }
+{
+    let at = instance_place(rows.as_slice(), number);
+    ask_at(rows, at, number, changes);
+}
+
 /// Lets the row at this place follow the end of an operation. Nothing happens beyond the end.
 fn end_at(rows: &mut Vec<InstanceRow>, at: usize, number: u64, ending: Ending)
     ensures items { rows.new.items ≡ update (ended number ending) at rows.old.items }
@@ -238,20 +258,32 @@ impl InstanceTable {
         Ok(())
     }
 
+    /// How many VDUs the descriptor of this identifier has; 0 where there is none.
+    fn vdus_of(&self, id: &Name) -> usize
+        ensures { result ≡ option_map_or (λ d. length d.vdus) (find (λ d. same_name d.descriptor_id id.now) self.now.rows.descriptors) 0 }
+    {
+        match self.vnfd_named(id) {
+            Some(vnfd) => vnfd.vdus.len(),
+            None => 0,
+        }
+    }
+
     /// Reserves the row of an instance.
     fn reserve_instance(
         &mut self,
+        alloc: Global,
         number: u64,
         vnfd: Name,
         name: Option<Name>,
         text: &Option<Line>,
     ) -> Result<(), AllocError>
         ensures kept { self.new.rows ≡ self.old.rows }
-        ensures laid { OnOk result (self.new.reserved.instance ≡ Some (first_instance number vnfd name text.now)) }
+        ensures laid { OnOk result (self.new.reserved.instance ≡ Some (first_instance (find (λ d. same_name d.descriptor_id vnfd) self.new.rows.descriptors) number vnfd name text.now)) }
         ensures spare { OnOk result (0 < self.new.reserved.instances) }
     {
         self.instances.reserve(1)?;
         let text = copied_line(text)?;
+        let top = Tops::new(alloc, self.vdus_of(&vnfd))?;
         self.instance = Some(InstanceRow {
             number,
             vnfd,
@@ -259,6 +291,7 @@ impl InstanceTable {
             text,
             instantiated: false,
             started: false,
+            top,
         });
         Ok(())
     }
@@ -305,7 +338,7 @@ impl InstanceTable {
     /// Source: own rule.
     pub fn reserve_for(&mut self, alloc: Global, e: &Event) -> Result<(), AllocError>
         ensures kept { self.new.rows ≡ self.old.rows }
-        ensures room { OnOk result (HasRoom e.now.kind self.new.reserved) }
+        ensures room { OnOk result (HasRoom e.now.kind self.new.rows self.new.reserved) }
         ensures stays { needs_room e.now.kind ≡ false → self.new.reserved ≡ self.old.reserved }
     {
         match &e.kind {
@@ -315,7 +348,7 @@ impl InstanceTable {
                 vnfd,
                 name,
                 text,
-            } => self.reserve_instance(*instance, *vnfd, *name, text),
+            } => self.reserve_instance(alloc, *instance, *vnfd, *name, text),
             EventKind::Subscribed {
                 subscription,
                 role,
@@ -384,11 +417,16 @@ impl InstanceTable {
         post_in(&mut self.subscriptions, number, place, outcome);
     }
 
-    /// Puts an operation last among those that go on.
+    /// Lets the instance of an operation follow its ask, and puts the operation last among those that go on.
     fn put_going(&mut self, operation: &Operation)
         requires spare { 0 < self.old.reserved.going }
-        ensures rows { self.new.rows ≡ record self.old.rows { going = self.old.rows.going ++ going_of operation.now ∷ [] } }
+        ensures rows { Rises (λ r. r.number) self.old.rows.instances → self.new.rows ≡ record self.old.rows { instances = map (asked operation.now.instance operation.now.changes) self.old.rows.instances; going = self.old.rows.going ++ going_of operation.now ∷ [] } }
     {
+        ask_in(
+            &mut self.instances,
+            operation.instance,
+            operation.changes.as_slice(),
+        );
         self.going.push_reserved(Going::of(operation));
     }
 
@@ -438,7 +476,7 @@ impl InstanceTable {
 
     /// Lets the rows follow an event, which isn't counted yet.
     fn follow(&mut self, kind: &EventKind)
-        requires room { HasRoom kind.now self.old.reserved }
+        requires room { HasRoom kind.now self.old.rows self.old.reserved }
         ensures rows { AreOrdered self.old.rows → self.new.rows ≡ changed kind.now self.old.rows }
         ensures stays { needs_room kind.now ≡ false → IsKept self.old.reserved self.new.reserved }
     {
@@ -463,7 +501,7 @@ impl InstanceTable {
     ///
     /// Source: own rule.
     pub fn apply(&mut self, e: &Event)
-        requires room { HasRoom e.now.kind self.old.reserved }
+        requires room { HasRoom e.now.kind self.old.rows self.old.reserved }
         ensures applies { Applies e.now self.old.rows self.new.rows }
         ensures stays { needs_room e.now.kind ≡ false → IsKept self.old.reserved self.new.reserved }
     {

@@ -6,15 +6,15 @@ use Rattle.instance_table.proofs.table.InstanceTable.follow.Goals as goal
 
 pub returns-in-Onboarded-clause-rows : goal.returns-in-Onboarded-clause-rows
 returns-in-Onboarded-clause-rows c = λ rises.
-    let room = subst (λ (k : EventKind). HasRoom k c.args.self.now.reserved) c.in-Onboarded.is c.requires.room in
+    let room = subst (λ (k : EventKind). HasRoom k c.args.self.now.rows c.args.self.now.reserved) c.in-Onboarded.is c.requires.room in
     c.put_descriptor.ensures.rows _ room.0 ∙ ap (λ (k : EventKind). changed k c.args.self.now.rows) (sym c.in-Onboarded.is)
 
 pub returns-in-Created-clause-rows : goal.returns-in-Created-clause-rows
 returns-in-Created-clause-rows c = λ rises.
-    let room = subst (λ (k : EventKind). HasRoom k c.args.self.now.reserved) c.in-Created.is c.requires.room in
+    let room = subst (λ (k : EventKind). HasRoom k c.args.self.now.rows c.args.self.now.reserved) c.in-Created.is c.requires.room in
     c.put_instance.ensures.rows _ room.0 ∙ ap (λ (k : EventKind). changed k c.args.self.now.rows) (sym c.in-Created.is)
 
 pub returns-in-Subscribed-clause-rows : goal.returns-in-Subscribed-clause-rows
 returns-in-Subscribed-clause-rows c = λ rises.
-    let room = subst (λ (k : EventKind). HasRoom k c.args.self.now.reserved) c.in-Subscribed.is c.requires.room in
+    let room = subst (λ (k : EventKind). HasRoom k c.args.self.now.rows c.args.self.now.reserved) c.in-Subscribed.is c.requires.room in
     c.put_subscription.ensures.rows _ room.0 ∙ ap (λ (k : EventKind). changed k c.args.self.now.rows) (sym c.in-Subscribed.is)
