@@ -10,7 +10,7 @@ use Rattle.lcm_events.specs.declared.states.Role.{Role}
 use Rattle.std.specs.Prelude.{unwrap_or}
 use Rattle.lcm_model.specs.Allowed.{IsAllowedWithin, IsLegalWithin}
 use Rattle.lcm_model.specs.Lives.{is_unsubscribed, subscription, subscriptions, subscriptions_made}
-use Rattle.lcm_model.specs.Notices.{cursor, is_delivered, next_notice, notice_in, notices, posts, subscribed_at}
+use Rattle.lcm_model.specs.Notices.{cursor, is_delivered, next_notice, notice_in, notices, posts, subscribed_at, tries}
 use Rattle.lcm_model.specs.Words.{greatest, last}
 use Rattle.lcm_laws.proofs.Histories.{event, legal_induction}
 use Rattle.lcm_laws.proofs.Lists.{and_left, by_test}
@@ -341,3 +341,10 @@ cursor-other H time n place s outcome other = ap (λ (ps : Posts). far (subscrib
 -- a post to another subscription leaves the count
 pub tries-other : (H : List Event) (time n place s : ℕ) (outcome : PostOutcome) → (n == s) ≡ false → tries_past (event time (Posted n place outcome) ∷ H) s ≡ tries_past H s
 tries-other H time n place s outcome other = ap (λ (ps : Posts). missed_past (far (subscribed_at H s) ps) ps) (posts_other H time n place s outcome other)
+
+-- the tries past the cursor are those of the notice that comes next
+pub tries-next : (width m : ℕ) (H : List Event) → IsLegalWithin width m H → (s place : ℕ) → next_notice m H s ≡ Some place → tries_past H s ≡ tries H s place
+tries-next width m H legal s place next =
+    let up = ltb-true (cursor H s) place (last_passes (nat_lt (cursor H s)) (notices m H s) place next) in
+    let points : Points (cursor H s) (Some place) (posts H s) = subst (λ (x : Option ℕ). Points (cursor H s) x (posts H s)) next (followed width m H legal s) in
+    sym (same_missed (cursor H s) place (posts H s) (agrees_of (cursor H s) place (posts H s) points up))

@@ -2,11 +2,13 @@
 #![tactic(auto)]
 
 mod copies;
+mod deliveries;
 mod going;
 mod rows;
 mod table;
 mod tops;
 
+pub use deliveries::tries_are_of_the_next_notice;
 pub use going::{Ending, Going};
 pub use rows::{InstanceRow, SubscriptionRow};
 pub use table::InstanceTable;
