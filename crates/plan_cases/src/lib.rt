@@ -7,3 +7,5 @@ mod acts;
 mod plans;
 #[cfg(test)]
 mod rules;
+#[cfg(test)]
+mod targets;

@@ -18,7 +18,7 @@ const MACHINE: DefKind = DefKind::Compute;
 
 const PORT: DefKind = DefKind::Port;
 
-fn name(rt: &impl Abort, text: &str) -> Name {
+pub(crate) fn name(rt: &impl Abort, text: &str) -> Name {
     Name::of(text.as_bytes()).expect(rt, "a name")
 }
 
@@ -56,7 +56,12 @@ fn port(rt: &impl Abort, text: &str, vdu: u16, link: u16) -> Port {
 }
 
 /// The router: VDU_A with two connection points, which scales one by one up to the level given, and VDU_B with one.
-fn router(rt: &impl Abort, alloc: Global, maximum: u32, most: u32) -> Result<Vnfd, Fail> {
+pub(crate) fn router(
+    rt: &impl Abort,
+    alloc: Global,
+    maximum: u32,
+    most: u32,
+) -> Result<Vnfd, Fail> {
     let empty = name(rt, "");
     let unlimited = 4_294_967_295;
     let row = Row {
@@ -98,7 +103,7 @@ fn router(rt: &impl Abort, alloc: Global, maximum: u32, most: u32) -> Result<Vnf
 }
 
 /// A definition: its kind, item, VDU and serial.
-type Part = (DefKind, u16, u16, u32);
+pub(crate) type Part = (DefKind, u16, u16, u32);
 
 /// A change: its verb and definition.
 type Told = (Verb, DefKind, u16, u16, u32);
@@ -108,7 +113,7 @@ const DATA: Part = (LINK, 0, 65_535, 0);
 const MANAGEMENT: Part = (LINK, 1, 65_535, 0);
 
 /// What stands once the router is instantiated with two of VDU_A.
-const STANDING: [Part; 13] = [
+pub(crate) const STANDING: [Part; 13] = [
     (DISK, 0, 0, 1),
     (MACHINE, 0, 0, 1),
     (PORT, 0, 0, 1),
@@ -125,7 +130,7 @@ const STANDING: [Part; 13] = [
 ];
 
 /// A holding of these definitions, whose computes run, at this level of the workers.
-fn holding(
+pub(crate) fn holding(
     rt: &impl Abort,
     alloc: Global,
     parts: &[Part],
@@ -187,14 +192,14 @@ fn told(alloc: Global, changes: &[Change]) -> Result<Vec<Told>, Fail> {
     Ok(list)
 }
 
-fn instantiate(rt: &impl Abort) -> Ask {
+pub(crate) fn instantiate(rt: &impl Abort) -> Ask {
     Ask::Instantiate {
         flavour: name(rt, "simple"),
         level: None,
     }
 }
 
-fn scale_out(rt: &impl Abort, steps: u32) -> Ask {
+pub(crate) fn scale_out(rt: &impl Abort, steps: u32) -> Ask {
     Ask::Scale {
         way: ScaleWay::Out,
         aspect: name(rt, "workers"),
