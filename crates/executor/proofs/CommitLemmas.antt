@@ -22,7 +22,7 @@ use Rattle.journal_core.specs.declared.journal.AppendFault.TheVariants as append
 use Rattle.lcm_events.specs.declared.events.Event.{Event}
 use Rattle.lcm_model.specs.Allowed.{IsAllowed, IsLegal}
 use Rattle.site_traits.specs.Site.{Pair, SiteState, KeepsJobs, LeavesOnly}
-use Rattle.site_traits.proofs.Moments.{is_since}
+use Rattle.site_traits.specs.Moments.{is_since}
 
 -- there is room for the event
 pub room_told : HasRoomBefore → (limit end more : ℕ) (H : List Event) (e : Event) → end ≡ journal_end H → more ≡ length (spelling e) → HasRoom end more limit → is_full limit (e ∷ H) ≡ false

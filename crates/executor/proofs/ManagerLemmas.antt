@@ -12,7 +12,7 @@ use Rattle.journal_core.specs.Load.{Progress, SyncsAndReads}
 use Rattle.lcm_events.specs.declared.events.Event.{Event}
 use Rattle.lcm_model.specs.Allowed.{IsAllowed, IsLegal}
 use Rattle.site_traits.specs.Site.{Pair, SiteState, LeavesOnly, Reads, Same}
-use Rattle.site_traits.proofs.Moments.{weakened, on_file-reads}
+use Rattle.site_traits.specs.Moments.{weakened, on_file-reads}
 use Rattle.executor.specs.History.{spellings}
 use Rattle.executor.specs.Managed.{Managed, IsKept, StandsFor}
 use Rattle.executor.specs.Work.{HasSome}

@@ -9,8 +9,8 @@ use Rattle.lcm_events.specs.declared.events.EventKind.{EventKind}
 use Rattle.lcm_model.specs.Allowed.{IsAllowed}
 use Rattle.journal_core.specs.Load.{SyncsAndReads}
 use Rattle.site_traits.specs.Site.{Pair, SiteState, KeepsJobs, LeavesOnly, Same, FileStep}
-use Rattle.site_traits.proofs.Moments as moments
-use Rattle.site_traits.proofs.Moments.{followed, goes_on, keeps_refl, keeps_then, started, weakened}
+use Rattle.site_traits.specs.Moments as moments
+use Rattle.site_traits.specs.Moments.{followed, goes_on, keeps_refl, keeps_then, started, weakened}
 
 pub extends_refl : (H : List Event) → Extends H H
 extends_refl H = record { more = []; is = refl }

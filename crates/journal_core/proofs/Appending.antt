@@ -4,7 +4,7 @@ use Rattle.std.proofs.lemmas.List.{length_push}
 use Rattle.std.specs.Result.{IsErr}
 use Rattle.std.proofs.lemmas.Result.{IfOk-from_err}
 use Rattle.site_traits.specs.Site.{Pair, SiteState, LeavesOnly, IsSettled, Torn, Holds, FileStep, WritesThrough}
-use Rattle.site_traits.proofs.Moments.{started, goes_on}
+use Rattle.site_traits.specs.Moments.{started, goes_on}
 use Rattle.journal_core.specs.File.{records, piece, size, IsRecord, HasRecords}
 use Rattle.journal_core.specs.declared.marks.Mark.{Mark}
 use Rattle.journal_core.specs.Marks.{IsMark}

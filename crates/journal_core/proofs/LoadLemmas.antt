@@ -5,7 +5,7 @@ use Rattle.std.proofs.lemmas.Nat.{be_bytes_4}
 use Rattle.std.proofs.lemmas.List.{take-append-drop, drop-drop, length_push, append-nil}
 use Rattle.std.proofs.lemmas.List.Elements.{All-push, All-cons, All-nil}
 use Rattle.site_traits.specs.Site.{SiteState, IsSettled, KeepsJobs, Same, Syncs, Reads}
-use Rattle.site_traits.proofs.Moments.{keeps_one, on_file-reads, reads-then}
+use Rattle.site_traits.specs.Moments.{keeps_one, on_file-reads, reads-then}
 use Rattle.journal_core.specs.File.{header, framed, blocks, size, IsRecord, HasRecords}
 use Rattle.journal_core.specs.Header.{HasHeader}
 use Rattle.journal_core.specs.Head.{number, IsClosed, IsOpen, BeginsWith}

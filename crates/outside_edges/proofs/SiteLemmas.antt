@@ -3,7 +3,7 @@ use Rattle.std.proofs.Common.{◌≡◌, ℕ, List, Result, length, take, refl, 
 use Rattle.std.specs.Result.{IsErr}
 use Rattle.std.proofs.lemmas.Result.{IfOk-from_err}
 use Rattle.site_traits.specs.Site.{Cut, Cuts, Holds, IsSettled, Same, SiteState, Syncs, Torn, Writes}
-use Rattle.site_traits.proofs.Moments.{on_file-refl}
+use Rattle.site_traits.specs.Moments.{on_file-refl}
 use Rattle.site_traits.proofs.Writes.{torn-refl}
 
 pub lost_write : {T E : Type 0} (r : Result T E) (at : ℕ) (bytes : List ℕ) (a : SiteState) → IsErr r → Writes at bytes r a a

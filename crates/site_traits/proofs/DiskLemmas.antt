@@ -20,9 +20,9 @@ use Rattle.site_traits.specs.declared.mem_site.Choice.TheVariants as choice
 use Rattle.site_traits.specs.Jobs.{Job, Advances, Arrives, MayArrive, BeginsAs, LooksAs, Answered, unanswered, begin_answered, look_answered, abort_answered}
 use Rattle.site_traits.specs.KeptJobs.{jobs_of, jobs_at, IsEarly, begin_of, arrives, arrived, look_of, found_of, latest_of, latest_changed, looked, aborted_at, is_of, first_changed}
 use Rattle.site_traits.specs.Past.{answered_by, answers_of}
-use Rattle.site_traits.proofs.JobLemmas.{advances-refl}
+use Rattle.site_traits.specs.Advancing.{advances-refl}
 use Rattle.site_traits.proofs.KeptLemmas.{GoesTo, AllGo, all_same, all_changed, all_reversed, jobs_advance, jobs_before, jobs_there, jobs_later, looks_as, go_looked, go_aborted}
-use Rattle.site_traits.proofs.Moments.{on_file-refl, reads-refl}
+use Rattle.site_traits.specs.Moments.{on_file-refl, reads-refl}
 use Rattle.site_traits.proofs.Writes.{torn-refl, on_ok_anyway}
 
 -- the disk after one call more

@@ -21,7 +21,7 @@ use Rattle.site_traits.specs.declared.mem_jobs.Found.TheVariants as found
 use Rattle.site_traits.specs.declared.mem_jobs.KeptJob.{KeptJob}
 use Rattle.site_traits.specs.Jobs.{Job, GoesOn, Advances, LooksAs, phase_of}
 use Rattle.site_traits.specs.KeptJobs.{resource_name, planned_end, ended_as, found_of, look_of, phase_found, has_been, phase_at, phase_now, job_of, job_at, is_there, jobs_of, jobs_at, looked, aborted_at, is_of, first_changed, latest_of, latest_changed, EndedBy, IsEarly, HasNone, IsLatest, IsPlaced, stood, kept_at}
-use Rattle.site_traits.proofs.JobLemmas.{goes_on-refl}
+use Rattle.site_traits.specs.Advancing.{goes_on-refl}
 
 -- digits are no control characters
 digits_plain : (ds : List ℕ) → AllDigits 10 ds → All IsPlain ds

@@ -22,7 +22,7 @@ use Rattle.site_traits.specs.KeptJobs.{begin_of, look_of, found_of, latest_of, l
 use Rattle.site_traits.specs.Past.{Stays, IsBegun, IsNotBegun, BeginsBy, IsLookedAt, IsAborted, answers_of, arrival_by}
 use Rattle.site_traits.specs.Book.{LooksAt, LooksInVain, AbortsAt, AbortsInVain}
 use Rattle.site_traits.proofs.DiskLemmas.{jobs_with, begin_push, look_push, abort_push, on_record, unchanged, early_calls}
-use Rattle.site_traits.proofs.Moments.{lost_begin, lost_look, lost_abort}
+use Rattle.site_traits.specs.Moments.{lost_begin, lost_look, lost_abort}
 
 -- what the site tells with this past
 abbrev pub told_of : List ℕ → Past → SiteState

@@ -2,7 +2,7 @@
 use Rattle.std.proofs.Common.{Result, Ok, Err, OnOk, ◌≡◌, ◌∙◌, sym, ap, ℕ, ◌+◌, ◌<◌, List, [], ◌∷◌, ◌++◌, length, take, drop, get_or, append_assoc, length-append, refl, arith}
 use Rattle.std.proofs.lemmas.List.{take-append-drop, take_at, drop_at, drop_more, length_push}
 use Rattle.site_traits.specs.Site.{SiteState, Torn, Holds, OnFile, Writes, Syncs, WritesThrough}
-use Rattle.site_traits.proofs.Moments.{on_file-reads}
+use Rattle.site_traits.specs.Moments.{on_file-reads}
 
 -- the byte behind the front goes with it
 pushed : (front tail : List ℕ) (gate : ℕ) → front ++ gate ∷ tail ≡ (front ++ gate ∷ []) ++ tail

@@ -1,3 +1,4 @@
+pub mod Advancing
 pub mod Answer
 pub mod Book
 pub mod Clock
@@ -15,6 +16,7 @@ pub mod MemOrchestrator
 pub mod MemPeers
 pub mod MemSink
 pub mod MemSite
+pub mod Moments
 pub mod Past
 pub mod Peers
 pub mod Pieces

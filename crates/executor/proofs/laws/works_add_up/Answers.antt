@@ -1,4 +1,4 @@
-use Rattle.site_traits.proofs.Moments.{keeps_refl}
+use Rattle.site_traits.specs.Moments.{keeps_refl}
 use Rattle.executor.proofs.WorkLemmas.{everywhere, idle, joined, opened_jobs, opened_then, ready_again}
 use Rattle.executor.proofs.laws.works_add_up.Goals as goal
 

@@ -1,6 +1,6 @@
 -- One record more was read and judged.
 use Rattle.std.proofs.Common.{◌∙◌, rules}
-use Rattle.site_traits.proofs.Moments.{reads-refl, reads-then}
+use Rattle.site_traits.specs.Moments.{reads-refl, reads-then}
 use Rattle.executor.proofs.JudgeLemmas.{judges_starved, step_judged, step_so_far}
 use Rattle.executor.proofs.open.judge_all.Goals as goal
 

@@ -1,4 +1,4 @@
-use Rattle.site_traits.proofs.Moments.{reads-refl}
+use Rattle.site_traits.specs.Moments.{reads-refl}
 use Rattle.journal_core.proofs.LoadLemmas.{syncs_and_reads}
 use Rattle.journal_core.proofs.create.stage_of.Goals as goal
 

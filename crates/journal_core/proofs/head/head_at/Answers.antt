@@ -1,4 +1,4 @@
-use Rattle.site_traits.proofs.Moments.{reads-refl}
+use Rattle.site_traits.specs.Moments.{reads-refl}
 use Rattle.std.proofs.Common.{◌≡◌, ◌+◌, min, ◌≤◌, length, drop, [], ◌∷◌, arith}
 use Rattle.std.proofs.lemmas.List.{length-drop}
 use Rattle.journal_core.proofs.HeadLemmas.{read_front}

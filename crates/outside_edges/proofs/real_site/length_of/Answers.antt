@@ -1,4 +1,4 @@
-use Rattle.site_traits.proofs.Moments.{reads-refl}
+use Rattle.site_traits.specs.Moments.{reads-refl}
 use Rattle.outside_edges.proofs.real_site.length_of.Goals as goal
 
 pub returns-in-None-clause-told : goal.returns-in-None-clause-told

@@ -1,4 +1,4 @@
-use Rattle.site_traits.proofs.Moments.{reads-refl}
+use Rattle.site_traits.specs.Moments.{reads-refl}
 use Rattle.edge_cases.proofs.file_fakes.MemFileHostFile.forget_pages.Goals as goal
 
 pub returns-in-Pages-clause-told : goal.returns-in-Pages-clause-told

@@ -1,4 +1,4 @@
-use Rattle.site_traits.proofs.Moments.{reads-refl}
+use Rattle.site_traits.specs.Moments.{reads-refl}
 use Rattle.edge_cases.proofs.file_fakes.MemFileHostFile.is_regular.Goals as goal
 
 pub returns-clause-told : goal.returns-clause-told

@@ -9,7 +9,7 @@ use Rattle.journal_core.specs.declared.journal.AppendFault.{AppendFault}
 use Rattle.journal_core.specs.Asking.{through, AppendAsks}
 use Rattle.journal_core.proofs.AskLemmas.{stops_more, stops_after}
 use Rattle.journal_core.proofs.Records.{has_length, ready_has, records_of}
-use Rattle.site_traits.proofs.Moments.{keeps_file, keeps_one, keeps_refl}
+use Rattle.site_traits.specs.Moments.{keeps_file, keeps_one, keeps_refl}
 use Rattle.journal_core.proofs.Appending.{marks_kept, first_moments, first_ready, second_moments, second_has, stands_more, appends_not}
 use Rattle.journal_core.proofs.journal.Journal.append.Goals as goal
 

@@ -9,7 +9,7 @@ use Rattle.journal_core.specs.declared.create.CreateFault.{CreateFault}
 use Rattle.journal_core.specs.declared.create.Stage.TheVariants as stage
 use Rattle.journal_core.specs.Asking.{left_to_ask, CreateAsks}
 use Rattle.journal_core.proofs.AskLemmas.{sync_stops, stops_after}
-use Rattle.site_traits.proofs.Moments.{keeps_then}
+use Rattle.site_traits.specs.Moments.{keeps_then}
 use Rattle.journal_core.proofs.LoadLemmas.{loading_keeps}
 use Rattle.journal_core.proofs.CreateLemmas.{creates_not, creates_taken, creates_steps, not_taken, ok_not_taken}
 use Rattle.journal_core.proofs.journal.Journal.create.Goals as goal

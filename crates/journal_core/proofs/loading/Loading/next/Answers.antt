@@ -4,7 +4,7 @@ use Rattle.journal_core.specs.declared.head.Head.{Head}
 use Rattle.journal_core.specs.Head.{HeadIs}
 use Rattle.journal_core.specs.Load.{Progress, Loads}
 use Rattle.journal_core.proofs.LoadLemmas.{loads_more, loads_end}
-use Rattle.site_traits.proofs.Moments.{reads-then}
+use Rattle.site_traits.specs.Moments.{reads-then}
 use Rattle.journal_core.proofs.loading.Loading.next.Goals as goal
 
 pub returns-in-Closed-clause-found : goal.returns-in-Closed-clause-found

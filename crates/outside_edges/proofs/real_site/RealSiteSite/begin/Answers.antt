@@ -1,4 +1,4 @@
-use Rattle.site_traits.proofs.Moments.{lost_begin}
+use Rattle.site_traits.specs.Moments.{lost_begin}
 use Rattle.outside_edges.proofs.real_site.RealSiteSite.begin.Goals as goal
 
 pub returns-clause-told : goal.returns-clause-told

@@ -1,4 +1,5 @@
--- How a run of calls of a site goes on: what a stop since its start may leave.
+-- What follows of the words on moments: how a run of calls of a site goes on, and what a stop since its start may leave. Each holds of any fact
+-- of pairs, so none can be the clause of a call; every crate that says what a stop leaves cites them (own rules).
 use Rattle.std.proofs.Common.{◌≡◌, ◌∙◌, sym, subst, ℕ, List, inl, inr, ⊎_elim, refl, arith}
 use Rattle.lcm_events.specs.declared.acts.Act.{Act}
 use Rattle.lcm_events.specs.declared.attempts.Tag.{Tag}
@@ -7,7 +8,7 @@ use Rattle.site_traits.specs.declared.jobs.LookAnswer.TheVariants as look
 use Rattle.site_traits.specs.declared.jobs.AbortAnswer.TheVariants as abort
 use Rattle.site_traits.specs.Jobs.{Job, Advances, MayArrive}
 use Rattle.site_traits.specs.Site.{Pair, SiteState, Passes, LeavesOnly, IsSettled, Same, FileStep, OnFile, Reads, JobStep, OnJobs, Begins, Looks, Aborts, HasItsJobs, KeepsJobs}
-use Rattle.site_traits.proofs.JobLemmas.{advances-refl, advances-then}
+use Rattle.site_traits.specs.Advancing.{advances-refl, advances-then}
 
 -- no call
 pub passes-refl : (step : Pair → Pair → Type 0) (a : SiteState) → ((p : Pair) → step p p) → Passes step a a

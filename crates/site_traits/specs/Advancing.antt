@@ -1,4 +1,4 @@
--- How jobs go on: none, one step, and two steps that are one.
+-- What follows of the word on jobs that go on: no step is one, and two steps are one (own rules).
 use Rattle.std.proofs.Common.{◌∙◌, subst, List, [], ◌∷◌, refl}
 use Rattle.site_traits.specs.declared.jobs.Phase.{Phase}
 use Rattle.site_traits.specs.declared.jobs.Phase.TheVariants.{Running, Done, Broken, Aborted}
