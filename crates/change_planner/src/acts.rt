@@ -2,7 +2,7 @@
 
 ghost use Rattle.std.specs.Prelude.{◌≡◌, ◌++◌, ◌∷◌, IfOk, List, OnOk, [], filter_map, map, option_copied, slice_get, unwrap_or};
 ghost use Rattle.std.specs.Option.{option_map_or};
-ghost use Rattle.lcm_model.specs.Vnfcs.{def_of, link_def, storages_of};
+ghost use Rattle.lcm_model.specs.Vnfcs.{def_of, link_def};
 ghost use Rattle.change_planner.specs.Acts.{ActsAreOnWhatStands, act, done_on, held, place_of, processors, resource_held, size, template_name, vdu_name};
 ghost use Rattle.change_planner.specs.Tags.{IsOfAttempt, act_of};
 ghost use Rattle.lcm_events.specs.declared.attempts.Tag.{Tag};
@@ -10,6 +10,7 @@ ghost use Rattle.lcm_events.specs.declared.events.Event.{Event};
 ghost use Rattle.lcm_model.specs.Grants.{granted_place};
 ghost use Rattle.lcm_model.specs.Needs.{port_links};
 
+use crate::rolls::storages_in;
 use lcm_events::{Act, Change, Def, DefKind, Held, Holding, Names, Place, Verb, Vnfd, Way};
 use std::alloc::{AllocError, Global};
 use vnfm_base::Name;
@@ -121,16 +122,6 @@ fn done_on_in(
         (Verb::Remove | Verb::Start | Verb::Stop, _) => push_resource(&mut names, holding, def)?,
     }
     Ok(names)
-}
-
-/// The numbers of a VDU's storages.
-fn storages_in(vnfd: &Vnfd, vdu: u16) -> &[u16]
-    ensures { result.now ≡ storages_of vnfd.now vdu }
-{
-    match vnfd.vdus.as_slice().get(vdu as usize) {
-        Some(kind) => kind.storages.as_slice(),
-        None => &[],
-    }
 }
 
 /// The empty name.

@@ -20,6 +20,7 @@ pub use holdings::{can_be_planned, holdings_are_inventories, plans_are_those_of_
 use lcm_events::Change;
 pub use planning::plan;
 pub use refusals::PlanRefusal;
+pub use rolls::storages_in;
 
 /// The least number, from 0, of a change whose net is 0, which is the one to make next. `nets` has the net of each change
 /// at the change's number; a change past its end has no net and is passed over.

@@ -109,8 +109,10 @@ fn count_ports(ports: &[Port], vdu: u16) -> usize
     count
 }
 
-/// The numbers of a VDU's storages.
-pub(crate) fn storages_in(vnfd: &Vnfd, vdu: u16) -> &[u16]
+/// The numbers of a VDU's storages in the descriptor, from 0; none where there is no such VDU.
+///
+/// Source: SOL 001, tosca.nodes.nfv.Vdu.Compute.
+pub fn storages_in(vnfd: &Vnfd, vdu: u16) -> &[u16]
     ensures { result.now ≡ storages_of vnfd.now vdu }
 {
     match vnfd.vdus.as_slice().get(vdu as usize) {

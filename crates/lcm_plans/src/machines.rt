@@ -5,9 +5,10 @@ ghost use Rattle.std.specs.List.{enumerate_from, list_all, list_any, range_with_
 ghost use Rattle.lcm_model.specs.Words.{same_bool};
 ghost use Rattle.lcm_model.specs.Holding.{runs, stands};
 ghost use Rattle.lcm_model.specs.Instances.{inventory};
-ghost use Rattle.lcm_model.specs.Vnfcs.{all_defs, compute_def, def_of, defs, is_in_step, is_partial, is_there, is_vdu_in_step, is_whole, link_def, links, storages_of, there, vdu_numbers};
+ghost use Rattle.lcm_model.specs.Vnfcs.{all_defs, compute_def, def_of, defs, is_in_step, is_partial, is_there, is_vdu_in_step, is_whole, link_def, links, there, vdu_numbers};
 ghost use Rattle.lcm_model.specs.Descriptors.{IsValid, are_levels_of};
 
+use change_planner::storages_in;
 use lcm_events::{Def, DefKind, Event, Port, Vnfd};
 use lcm_model::{count_in, runs_in, stands_in, top_of_vdu};
 use std::alloc::{AllocError, Global};
@@ -60,16 +61,6 @@ fn push_ports(list: &mut Vec<Def>, ports: &[Port], vdu: u16, serial: u32) -> Res
         }
     }
     Ok(())
-}
-
-/// The numbers of a VDU's storages.
-fn storages_in(vnfd: &Vnfd, vdu: u16) -> &[u16]
-    ensures { result.now ≡ storages_of vnfd.now vdu }
-{
-    match vnfd.vdus.as_slice().get(vdu as usize) {
-        Some(kind) => kind.storages.as_slice(),
-        None => &[],
-    }
 }
 
 /// Puts the definitions of one kind of a machine last, by item.
