@@ -10,3 +10,5 @@ pub mod SectionLaws
 pub mod PlanLaws
 pub mod SizeLaws
 pub mod FitLaws
+pub mod SpanLaws
+pub mod StepLaws

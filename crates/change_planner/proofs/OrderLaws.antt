@@ -91,7 +91,7 @@ by_key x y =
     && (ltb (kind_number x.kind) (kind_number y.kind) || (same_kind x.kind y.kind && b))))))
     (or_none (ltb x.item y.item) (x.item == y.item))
 
-rising_on : (xs : List Held) → is_rising (λ x y. is_def_before x.def y.def) xs ≡ true → Rises Sooner xs
+pub rising_on : (xs : List Held) → is_rising (λ x y. is_def_before x.def y.def) xs ≡ true → Rises Sooner xs
 rising_on [] e = tt
 rising_on (x ∷ []) e = (λ y h. absurd h, tt)
 rising_on (x ∷ y ∷ xs) e = all (by_key x.def y.def ∙ and_left (is_def_before x.def y.def) _ e) (rising_on (y ∷ xs) (and_right (is_def_before x.def y.def) _ e)) where

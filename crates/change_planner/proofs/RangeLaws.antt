@@ -36,3 +36,7 @@ range_on numbers whole at count h e =
 -- the definitions of a VDU's new machines are no more than this
 pub parts_bound : (machines parts : ℕ) → machines ≤ 1048625535 → parts ≤ 385 → machines * parts ≤ 403720830975
 parts_bound machines parts h k = mul-le machines parts 1048625535 385 h k
+
+-- what the machines of a holding would have, were they whole, is no more than this
+pub whole_bound : (machines parts : ℕ) → machines ≤ 2500 → parts ≤ 385 → machines * parts ≤ 962500
+whole_bound machines parts h k = mul-le machines parts 2500 385 h k

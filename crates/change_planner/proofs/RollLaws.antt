@@ -1,8 +1,8 @@
 -- What stands of the machines of a VDU, read off a holding's items.
-use Rattle.std.proofs.Common.{◌≡◌, ◌≤◌, ◌<◌, ◌+◌, ◌++◌, ◌&&◌, ◌||◌, ◌==◌, ◌∙◌, ℕ, List, [], ◌∷◌, Bool, true, false, not, Option, None, Some, refl, ap, sym, subst, length, map, filter, arith, inl, inr, ◌⊎◌, ltb, ltb-true, eqb-true, eq-eqb, slice_get, length-append, ◌-◌, append_assoc}
+use Rattle.std.proofs.Common.{◌≡◌, ◌≤◌, ◌<◌, ◌+◌, ◌++◌, ◌&&◌, ◌||◌, ◌==◌, ◌∙◌, ℕ, List, [], ◌∷◌, Bool, true, false, not, Option, None, Some, refl, ap, sym, subst, length, map, filter, arith, inl, inr, ◌⊎◌, ltb, ltb-true, lt-ltb, eqb-true, eq-eqb, slice_get, length-append, ◌-◌, append_assoc}
 use Rattle.std.proofs.lemmas.Bool.{leb-true}
 use Rattle.std.proofs.lemmas.List.{length-map}
-use Rattle.std.specs.List.{list_all, list_any, range_with_len}
+use Rattle.std.specs.List.{list_all, range_with_len}
 use Rattle.std.specs.Option.{option_map_or}
 use Rattle.std.specs.Prelude.{if◌then◌else◌, nat_le, unwrap_or}
 use Rattle.lcm_events.specs.Same.{same_kind}
@@ -26,7 +26,7 @@ use Rattle.lcm_model.specs.Vnfcs.{all_defs, def_of, defs, is_def_in, is_def_of, 
 use Rattle.lcm_model.specs.Words.{IsIn, is_among}
 use Rattle.lcm_laws.proofs.SerialLaws.{range_length}
 use Rattle.lcm_model.proofs.ListLaws.{range_step}
-use Rattle.change_planner.specs.Rolls.{CanBePlanned, distinct, is_part, parts_of}
+use Rattle.change_planner.specs.Rolls.{CanBePlanned, distinct, has_vdu, is_at, parts_of}
 use Rattle.change_planner.proofs.InventoryLaws.{of_any, said, same_test, says}
 use Rattle.change_planner.proofs.OrderLaws.{Sooner, items_in_order, serials_in_order, sooner_differs, unique}
 
@@ -191,6 +191,19 @@ distinct_there d h to v can within =
       | inr read ↦ subst (λ (n : ℕ). IsIn n (distinct v 0 h.items)) is read
     ])
 
+-- the serials of a VDU are read off its own items
+pub distinct_own : (v last : ℕ) (ys : List Held) → distinct v last (filter (has_vdu v) ys) ≡ distinct v last ys
+distinct_own v last [] = refl
+distinct_own v last (y ∷ ys) = by_test (y.def.vdu == v)
+    (λ own. by_test (y.def.serial == last)
+    (λ same. rw own (rw own (rw same (distinct_own v last ys))))
+    (λ new. rw own (rw own (rw new (ap (λ ns. y.def.serial ∷ ns) (distinct_own v y.def.serial ys))))))
+    (λ other. rw other (distinct_own v last ys))
+
+pub own_there : (d : Vnfd) (h : Holding) (to : List ℕ) (v : ℕ) (ys : List Held) → CanBePlanned d h to → v < length d.vdus → ys ≡ filter (has_vdu v) h.items
+    → distinct v 0 ys ≡ there d (inventory_of h) v
+own_there d h to v ys can within own = ap (distinct v 0) own ∙ (distinct_own v 0 h.items ∙ distinct_there d h to v can within)
+
 of_machine-no_link : (kind : DefKind) → OfMachine kind → same_kind kind Link ≡ false
 of_machine-no_link Link (inl e) = cc
 of_machine-no_link Link (inr (inl e)) = cc
@@ -199,66 +212,105 @@ of_machine-no_link Storage h = refl
 of_machine-no_link Compute h = refl
 of_machine-no_link Port h = refl
 
-part_says : (v s : ℕ) (y : Held) → is_part v s y ≡ true → (same_kind y.def.kind Link ≡ false) × (y.def.vdu ≡ v) × (y.def.serial ≡ s)
-part_says v s y e = (
-  is_not (same_kind y.def.kind Link) (and_left _ _ (and_left _ _ e)),
-  eqb-true y.def.vdu v (and_right _ _ (and_left _ _ e)),
-  eqb-true y.def.serial s (and_right _ _ e),
-) where
-  is_not : (b : Bool) → not b ≡ true → b ≡ false
-  is_not true e = cc
-  is_not false e = refl
+-- an entry that a list has
+some_of : {A : Type 0} → (xs : List A) → 0 < length xs → (x : A) × IsIn x xs
+some_of [] h = absurd (omega (arith, h))
+some_of (x ∷ xs) h = (x, inl refl)
 
-says_part : (v s : ℕ) (y : Held) → same_kind y.def.kind Link ≡ false → y.def.vdu ≡ v → y.def.serial ≡ s → is_part v s y ≡ true
-says_part v s y other at is = and_true _ _ (and_true _ _ (ap not other) (eq-eqb y.def.vdu v at)) (eq-eqb y.def.serial s is)
+has_some : {A : Type 0} → (x : A) (xs : List A) → IsIn x xs → 0 < length xs
+has_some x [] h = absurd h
+has_some x (y ∷ xs) h = omega arith
 
--- something of a machine stands where an item is of it
-pub part_there : (d : Vnfd) (h : Holding) (to : List ℕ) (v s : ℕ) → CanBePlanned d h to → list_any (is_part v s) h.items ≡ is_there d (inventory_of h) v s
-part_there d h to v s can = same_test (list_any (is_part v s) h.items) (is_there d (inventory_of h) v s)
+-- something of a machine stands where its VDU is the descriptor's and has an item with its serial
+pub there_at : (d : Vnfd) (h : Holding) (to : List ℕ) (v s : ℕ) (ys : List Held) → CanBePlanned d h to → ys ≡ filter (is_at v s) h.items
+    → (ltb v (length d.vdus) && ltb 0 (length ys)) ≡ is_there d (inventory_of h) v s
+there_at d h to v s ys can own = same_test (ltb v (length d.vdus) && ltb 0 (length ys)) (is_there d (inventory_of h) v s)
     (λ e.
-    let from = of_any (is_part v s) h.items e in
-    let part = part_says v s from.0 from.2 in
-    let there : is_there d (inventory_of h) from.0.def.vdu from.0.def.serial ≡ true = item_there d h from.0 (machine_of d h from.0 can.held from.1 part.0) from.1 in
-    subst (λ (n : ℕ). is_there d (inventory_of h) v n ≡ true) part.2 (subst (λ (n : ℕ). is_there d (inventory_of h) n from.0.def.serial ≡ true) part.1 there))
+    let within = ltb-true v (length d.vdus) (and_left _ _ e) in
+    let some = some_of ys (ltb-true 0 (length ys) (and_right (ltb v (length d.vdus)) _ e)) in
+    let y = some.0 in
+    let from = of_filter (is_at v s) y h.items (subst (λ (zs : List Held). IsIn y zs) own some.1) in
+    let at : y.def.vdu ≡ v = eqb-true y.def.vdu v (and_left _ _ from.1) in
+    let is : y.def.serial ≡ s = eqb-true y.def.serial s (and_right (y.def.vdu == v) _ from.1) in
+    let facts = machine_of d h y can.held from.0 (no_link d h y can.valid can.held from.0 (omega (arith, at, within))) in
+    let there : is_there d (inventory_of h) y.def.vdu y.def.serial ≡ true = item_there d h y facts from.0 in
+    subst (λ (n : ℕ). is_there d (inventory_of h) v n ≡ true) is (subst (λ (n : ℕ). is_there d (inventory_of h) n y.def.serial ≡ true) at there))
     (λ e.
     let item = there_item d h v s e in
-    any_in (is_part v s) item.0 h.items item.1 (says_part v s item.0 (of_machine-no_link item.0.def.kind item.2) item.3 item.4))
+    let y = item.0 in
+    let at : y.def.vdu ≡ v = item.3 in
+    let facts = machine_of d h y can.held item.1 (of_machine-no_link y.def.kind item.2) in
+    let low = facts.vdu in
+    let passes : is_at v s y ≡ true = and_true _ _ (eq-eqb y.def.vdu v at) (eq-eqb y.def.serial s item.4) in
+    let among : IsIn y ys = subst (λ (zs : List Held). IsIn y zs) (sym own) (in_filter (is_at v s) y h.items item.1 passes) in
+    and_true _ _ (lt-ltb v (length d.vdus) (omega (arith, at, low))) (lt-ltb 0 (length ys) (has_some y ys among)))
 
--- what stands of a machine
-abbrev held_parts : Holding → ℕ → ℕ → List Def
-held_parts h v s = map (λ y. y.def) (filter (is_part v s) h.items)
+second_is : (a b r : Bool) → a ≡ true → (a && b) ≡ r → b ≡ r
+second_is true b r e f = f
+second_is false b r e f = absurd cc
 
-parts_differ : (d : Vnfd) (h : Holding) (v s : ℕ) → IsHoldingOf d h → Rises Differ (held_parts h v s)
-parts_differ d h v s is =
-    rises_map Sooner Differ (λ y. y.def) (filter (is_part v s) h.items) (λ x y hx hy sooner. sooner_differs x y sooner)
-    (rises_filter Sooner (is_part v s) h.items (items_in_order d h is))
+first_is : (a b r : Bool) → a ≡ false → (a && b) ≡ r → a ≡ r
+first_is true b r e f = absurd cc
+first_is false b r e f = f
 
-parts_among : (d : Vnfd) (h : Holding) (v s : ℕ) (x : Def) → IsHoldingOf d h → IsIn x (held_parts h v s) → IsIn x (all_defs d v s)
-parts_among d h v s x is k =
-    let from = of_map (λ (y : Held). y.def) x (filter (is_part v s) h.items) k in
-    let own = of_filter (is_part v s) from.0 h.items from.1 in
-    let part = part_says v s from.0 own.1 in
-    let facts = machine_of d h from.0 is own.0 part.0 in
-    let here : IsIn from.0.def (all_defs d v s) =
-    subst (λ (n : ℕ). IsIn from.0.def (all_defs d v n)) part.2 (subst (λ (n : ℕ). IsIn from.0.def (all_defs d n from.0.def.serial)) part.1 facts.among) in
-    subst (λ (z : Def). IsIn z (all_defs d v s)) from.2 here
+pub there_known : (d : Vnfd) (h : Holding) (to : List ℕ) (v s : ℕ) (ys : List Held) → CanBePlanned d h to → ys ≡ filter (is_at v s) h.items → v < length d.vdus
+    → ltb 0 (length ys) ≡ is_there d (inventory_of h) v s
+there_known d h to v s ys can own within =
+    second_is (ltb v (length d.vdus)) (ltb 0 (length ys)) (is_there d (inventory_of h) v s) (lt-ltb v (length d.vdus) within) (there_at d h to v s ys can own)
 
-standing_part : (d : Vnfd) (h : Holding) (v s : ℕ) (x : Def) → IsIn x (all_defs d v s) → (inventory_of h).stands x ≡ true → IsIn x (held_parts h v s)
-standing_part d h v s x among stands =
-    let parts = all_parts d v s x among in
-    let from = of_map (λ (z : Held). z.def) x h.items (says h.items x stands) in
-    let same : x ≡ from.0.def = sym from.2 in
-    let other : same_kind from.0.def.kind Link ≡ false = of_machine-no_link from.0.def.kind (subst (λ (z : Def). OfMachine z.kind) same parts.0) in
-    let part : is_part v s from.0 ≡ true = says_part v s from.0 other (ap (λ (z : Def). z.vdu) from.2 ∙ parts.1) (ap (λ (z : Def). z.serial) from.2 ∙ parts.2) in
-    subst (λ (z : Def). IsIn z (held_parts h v s)) from.2 (in_map (λ (z : Held). z.def) from.0 (filter (is_part v s) h.items) (in_filter (is_part v s) from.0 h.items from.1 part))
+pub there_unknown : (d : Vnfd) (h : Holding) (to : List ℕ) (v s : ℕ) (ys : List Held) → CanBePlanned d h to → ys ≡ filter (is_at v s) h.items → length d.vdus ≤ v
+    → ltb v (length d.vdus) ≡ is_there d (inventory_of h) v s
+there_unknown d h to v s ys can own past = by_test (ltb v (length d.vdus))
+    (λ within. let less = ltb-true v (length d.vdus) within in absurd (omega (arith, less, past)))
+    (λ beyond. first_is (ltb v (length d.vdus)) (ltb 0 (length ys)) (is_there d (inventory_of h) v s) beyond (there_at d h to v s ys can own))
 
-part_stands : (h : Holding) (v s : ℕ) (x : Def) → IsIn x (held_parts h v s) → (inventory_of h).stands x ≡ true
-part_stands h v s x k =
-    let from = of_map (λ (y : Held). y.def) x (filter (is_part v s) h.items) k in
-    let own = of_filter (is_part v s) from.0 h.items from.1 in
+-- the definitions of the items that pass a test
+abbrev pub defs_where : (Held → Bool) → List Held → List Def
+defs_where p ys = map (λ y. y.def) (filter p ys)
+
+pub where_differ : (d : Vnfd) (h : Holding) (p : Held → Bool) → IsHoldingOf d h → Rises Differ (defs_where p h.items)
+where_differ d h p is =
+    rises_map Sooner Differ (λ y. y.def) (filter p h.items) (λ x y hx hy sooner. sooner_differs x y sooner)
+    (rises_filter Sooner p h.items (items_in_order d h is))
+
+pub where_stands : (h : Holding) (p : Held → Bool) (x : Def) → IsIn x (defs_where p h.items) → (inventory_of h).stands x ≡ true
+where_stands h p x k =
+    let from = of_map (λ (y : Held). y.def) x (filter p h.items) k in
+    let own = of_filter p from.0 h.items from.1 in
     said h.items x (subst (λ (z : Def). IsIn z (map (λ y. y.def) h.items)) from.2 (in_map (λ (y : Held). y.def) from.0 h.items own.0))
 
-size_all : (d : Vnfd) (v s : ℕ) → length (all_defs d v s) ≡ parts_of d v
+pub standing_where : (h : Holding) (p : Held → Bool) (x : Def) → ((y : Held) → y.def ≡ x → p y ≡ true) → (inventory_of h).stands x ≡ true → IsIn x (defs_where p h.items)
+standing_where h p x passes stands =
+    let from = of_map (λ (y : Held). y.def) x h.items (says h.items x stands) in
+    subst (λ (z : Def). IsIn z (defs_where p h.items)) from.2 (in_map (λ (y : Held). y.def) from.0 (filter p h.items) (in_filter p from.0 h.items from.1 (passes from.0 from.2)))
+
+with_first : {A : Type 0} → (z x : A) (ys zs : List A) → (x ≡ z) ⊎ IsIn z ys → IsIn x zs → (IsIn z ys → IsIn z zs) → IsIn z zs
+with_first {A} z x ys zs (inl e) among f = subst (λ (w : A). IsIn w zs) e among
+with_first z x ys zs (inr k) among f = f k
+
+-- of these definitions as many stand as there are, exactly where all do
+pub counted_all : (h : Holding) (xs ds : List Def) → Rises Differ xs → Rises Differ ds → ((x : Def) → IsIn x xs → IsIn x ds) → ((x : Def) → IsIn x xs → (inventory_of h).stands x ≡ true)
+    → ((x : Def) → IsIn x ds → (inventory_of h).stands x ≡ true → IsIn x xs) → (length xs == length ds) ≡ list_all (inventory_of h).stands ds
+counted_all h xs ds hx hd among stands standing =
+    let most : length xs ≤ length ds = few xs ds hx among in
+    same_test (length xs == length ds) (list_all (inventory_of h).stands ds)
+    (λ e.
+    let equal = eqb-true (length xs) (length ds) e in
+    all_of (inventory_of h).stands ds (λ x own. by_test ((inventory_of h).stands x)
+    (λ yes. yes)
+    (λ missing.
+    let more : length (x ∷ xs) ≤ length ds = few (x ∷ xs) ds (
+      λ z k same. let has : (inventory_of h).stands x ≡ true = subst (λ (w : Def). (inventory_of h).stands w ≡ true) (sym same) (stands z k) in
+          let clash : true ≡ false = sym has ∙ missing in absurd cc,
+      hx,
+    )
+    (λ z k. with_first z x xs ds k own (λ g. among z g)) in
+    absurd (omega (arith, more, equal)))))
+    (λ whole.
+    let least : length ds ≤ length xs = few ds xs hd (λ x own. standing x own (all_in (inventory_of h).stands x ds whole own)) in
+    eq-eqb (length xs) (length ds) (omega (arith, least, most)))
+
+pub size_all : (d : Vnfd) (v s : ℕ) → length (all_defs d v s) ≡ parts_of d v
 size_all d v s =
     let a = length-append (defs d Storage v s ++ defs d Compute v s) (defs d Port v s) in
     let b = length-append (defs d Storage v s) (defs d Compute v s) in
@@ -267,35 +319,32 @@ size_all d v s =
     let k = length-map (items d Port v) (def_of Port v s) in
     omega (arith, a, b, m, n, k)
 
-with_first : {A : Type 0} → (z x : A) (ys zs : List A) → (x ≡ z) ⊎ IsIn z ys → IsIn x zs → (IsIn z ys → IsIn z zs) → IsIn z zs
-with_first {A} z x ys zs (inl e) among f = subst (λ (w : A). IsIn w zs) e among
-with_first z x ys zs (inr k) among f = f k
+-- an item of a machine has one of its definitions
+part_among : (d : Vnfd) (h : Holding) (v s : ℕ) (x : Def) → IsValid d → IsHoldingOf d h → v < length d.vdus → IsIn x (defs_where (is_at v s) h.items) → IsIn x (all_defs d v s)
+part_among d h v s x valid is within k =
+    let from = of_map (λ (y : Held). y.def) x (filter (is_at v s) h.items) k in
+    let own = of_filter (is_at v s) from.0 h.items from.1 in
+    let y = from.0 in
+    let at : y.def.vdu ≡ v = eqb-true y.def.vdu v (and_left _ _ own.1) in
+    let same : y.def.serial ≡ s = eqb-true y.def.serial s (and_right (y.def.vdu == v) _ own.1) in
+    let facts = machine_of d h y is own.0 (no_link d h y valid is own.0 (omega (arith, at, within))) in
+    let here : IsIn y.def (all_defs d v s) = subst (λ (n : ℕ). IsIn y.def (all_defs d v n)) same (subst (λ (n : ℕ). IsIn y.def (all_defs d n y.def.serial)) at facts.among) in
+    subst (λ (z : Def). IsIn z (all_defs d v s)) from.2 here
+
+among_part : (d : Vnfd) (h : Holding) (v s : ℕ) (x : Def) → IsIn x (all_defs d v s) → (inventory_of h).stands x ≡ true → IsIn x (defs_where (is_at v s) h.items)
+among_part d h v s x among stands =
+    let parts = all_parts d v s x among in
+    standing_where h (is_at v s) x (λ y e. and_true _ _ (eq-eqb y.def.vdu v (ap (λ (z : Def). z.vdu) e ∙ parts.1)) (eq-eqb y.def.serial s (ap (λ (z : Def). z.serial) e ∙ parts.2))) stands
 
 -- a machine is whole where as many of its definitions stand as it has
-pub counted_whole : (d : Vnfd) (h : Holding) (to : List ℕ) (v s : ℕ) → CanBePlanned d h to
-    → (length (filter (is_part v s) h.items) == parts_of d v) ≡ is_whole d (inventory_of h) v s
-counted_whole d h to v s can =
-    let size = size_all d v s in
-    let held = length-map (filter (is_part v s) h.items) (λ y. y.def) in
-    let differ = parts_differ d h v s can.held in
-    let most : length (held_parts h v s) ≤ length (all_defs d v s) = few (held_parts h v s) (all_defs d v s) differ (λ x k. parts_among d h v s x can.held k) in
-    same_test (length (filter (is_part v s) h.items) == parts_of d v) (is_whole d (inventory_of h) v s)
-    (λ e.
-    let equal = eqb-true (length (filter (is_part v s) h.items)) (parts_of d v) e in
-    all_of (inventory_of h).stands (all_defs d v s) (λ x among. by_test ((inventory_of h).stands x)
-    (λ stands. stands)
-    (λ missing.
-    let more : length (x ∷ held_parts h v s) ≤ length (all_defs d v s) = few (x ∷ held_parts h v s) (all_defs d v s) (
-      λ z k same. let has : (inventory_of h).stands x ≡ true = subst (λ (w : Def). (inventory_of h).stands w ≡ true) (sym same) (part_stands h v s z k) in
-          let clash : true ≡ false = sym has ∙ missing in absurd cc,
-      differ,
-    )
-    (λ z k. with_first z x (held_parts h v s) (all_defs d v s) k among (λ g. parts_among d h v s z can.held g)) in
-    absurd (omega (arith, more, held, size, equal)))))
-    (λ whole.
-    let least : length (all_defs d v s) ≤ length (held_parts h v s) = few (all_defs d v s) (held_parts h v s) (machine_differs d v s can.valid)
-    (λ x among. standing_part d h v s x among (all_in (inventory_of h).stands x (all_defs d v s) whole among)) in
-    eq-eqb (length (filter (is_part v s) h.items)) (parts_of d v) (omega (arith, least, most, held, size)))
+pub counted_whole : (d : Vnfd) (h : Holding) (to : List ℕ) (v s : ℕ) (ys : List Held) → CanBePlanned d h to → v < length d.vdus → ys ≡ filter (is_at v s) h.items
+    → (length ys == parts_of d v) ≡ is_whole d (inventory_of h) v s
+counted_whole d h to v s ys can within own =
+    ap (λ (zs : List Held). length zs == parts_of d v) own
+    ∙ (ap (λ n. n == parts_of d v) (sym (length-map (filter (is_at v s) h.items) (λ y. y.def)))
+    ∙ (ap (λ n. length (defs_where (is_at v s) h.items) == n) (sym (size_all d v s))
+    ∙ counted_all h (defs_where (is_at v s) h.items) (all_defs d v s) (where_differ d h (is_at v s) can.held) (machine_differs d v s can.valid)
+    (λ x k. part_among d h v s x can.valid can.held within k) (λ x k. where_stands h (is_at v s) x k) (λ x k stands. among_part d h v s x k stands)))
 
 map_same : (xs : List ℕ) → map (λ x. x) xs ≡ xs
 map_same [] = refl

@@ -154,7 +154,7 @@ one_item (z ∷ ys) x y h (inr a) (inl b) e = absurd (sooner_differs z x (h.0 x 
 one_item (z ∷ ys) x y h (inr a) (inr b) e = one_item ys x y h.1 a b e
 
 -- an item that doesn't run says that its compute doesn't
-still : (ys : List Held) (y : Held) → Rises Sooner ys → IsIn y ys → not y.running ≡ true → says_runs ys y.def ≡ false
+pub still : (ys : List Held) (y : Held) → Rises Sooner ys → IsIn y ys → not y.running ≡ true → says_runs ys y.def ≡ false
 still ys y h k e = by_test (says_runs ys y.def)
     (λ runs.
     let from = of_any (λ (z : Held). same_def z.def y.def && z.running) ys runs in
@@ -164,20 +164,20 @@ still ys y h k e = by_test (says_runs ys y.def)
     (λ none. none)
 
 -- an item that runs says that its compute does
-moves : (ys : List Held) (y : Held) → IsIn y ys → y.running ≡ true → says_runs ys y.def ≡ true
+pub moves : (ys : List Held) (y : Held) → IsIn y ys → y.running ≡ true → says_runs ys y.def ≡ true
 moves ys y k e = any_in (λ z. same_def z.def y.def && z.running) y ys k (and_true _ _ (same_def-refl y.def) e)
 
 item_stands : (ys : List Held) (y : Held) → IsIn y ys → list_any (λ z. same_def z.def y.def) ys ≡ true
 item_stands ys y k = said ys y.def (in_map (λ (z : Held). z.def) y ys k)
 
-item_of : (ys : List Held) (x : Def) → list_any (λ y. same_def y.def x) ys ≡ true → (y : Held) × IsIn y ys × (y.def ≡ x)
+pub item_of : (ys : List Held) (x : Def) → list_any (λ y. same_def y.def x) ys ≡ true → (y : Held) × IsIn y ys × (y.def ≡ x)
 item_of ys x e = let from = of_map (λ (y : Held). y.def) x ys (says ys x e) in (from.0, from.1, from.2)
 
 not_link-by : (kind : DefKind) (y : Held) → same_kind kind Link ≡ false → same_kind y.def.kind kind ≡ true → same_kind y.def.kind Link ≡ false
 not_link-by kind y other e = subst (λ (k : DefKind). same_kind k Link ≡ false) (sym (same_kind-true y.def.kind kind e)) other
 
 -- the serial of an item's machine is there
-serial_there : (d : Vnfd) (h : Holding) (y : Held) → IsOfVdu d h y → IsIn y h.items → IsIn y.def.serial (there d (inventory_of h) y.def.vdu)
+pub serial_there : (d : Vnfd) (h : Holding) (y : Held) → IsOfVdu d h y → IsIn y h.items → IsIn y.def.serial (there d (inventory_of h) y.def.vdu)
 serial_there d h y is k =
     let above = is.above in let low = is.low in
     in_filter (is_there d (inventory_of h) y.def.vdu) y.def.serial (range_with_len 1 ((inventory_of h).top y.def.vdu))

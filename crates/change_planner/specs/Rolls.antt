@@ -1,7 +1,7 @@
 -- What becomes of the machines of a VDU, and which changes of a plan what stands gives (own rule).
 use Rattle.std.specs.List.{enumerate_from, list_all}
 use Rattle.std.specs.Option.{option_map_or}
-use Rattle.std.specs.Prelude.{Bool, List, [], false, filter, flat_map, if◌then◌else◌, length, map, nat_le, nat_lt, not, slice_get, true, ℕ, ◌&&◌, ◌*◌, ◌+◌, ◌++◌, ◌-◌, ◌==◌, ◌∷◌, ◌≡◌}
+use Rattle.std.specs.Prelude.{Bool, List, [], false, filter, flat_map, if◌then◌else◌, length, map, nat_le, nat_lt, not, slice_get, true, ℕ, ◌&&◌, ◌*◌, ◌+◌, ◌++◌, ◌-◌, ◌==◌, ◌||◌, ◌∷◌, ◌≡◌}
 use Rattle.std.specs.List.{range_with_len}
 use Rattle.lcm_events.specs.Descriptors.{is_rising}
 use Rattle.lcm_events.specs.Same.{same_kind}
@@ -16,10 +16,10 @@ use Rattle.lcm_events.specs.declared.changes.Verb.TheVariants.{Create, Remove, S
 use Rattle.lcm_events.specs.declared.descriptor.Vnfd.{Vnfd}
 use Rattle.lcm_events.specs.declared.held.Held.{Held}
 use Rattle.lcm_events.specs.declared.held.Holding.{Holding}
-use Rattle.lcm_model.specs.Descriptors.{IsHoldingOf, IsValid, are_levels_of}
+use Rattle.lcm_model.specs.Descriptors.{IsHoldingOf, IsValid, are_levels_of, is_def_before}
 use Rattle.lcm_model.specs.Plans.{Case, change, makes_links, removes_links, starts, stay, stops, want}
 use Rattle.lcm_model.specs.Vnfcs.{defs, items, link_def}
-use Rattle.lcm_model.specs.Words.{is_among, total}
+use Rattle.lcm_model.specs.Words.{is_among, same_bool, total}
 use Rattle.change_planner.specs.Inventories.{case_of}
 use Rattle.change_planner.specs.declared.plans.Pick.{Pick}
 use Rattle.change_planner.specs.declared.plans.Pick.TheVariants.{Leaving, Links, Running, Stopped}
@@ -123,9 +123,25 @@ abbrev pub distinct : ℕ → ℕ → List Held → List ℕ
 distinct v last [] = []
 distinct v last (y ∷ ys) = if (y.def.vdu == v) && not (y.def.serial == last) then y.def.serial ∷ distinct v y.def.serial ys else distinct v last ys
 
--- the item is of this machine (own rule)
-abbrev pub is_part : ℕ → ℕ → Held → Bool
-is_part v s y = not (same_kind y.def.kind Link) && (y.def.vdu == v) && (y.def.serial == s)
+-- the items stand in the order of a holding: by VDU, serial, kind and item (own rule)
+abbrev pub are_in_order : List Held → Bool
+are_in_order ys = is_rising (λ x y. is_def_before x.def y.def) ys
+
+-- the item stands before those of the VDU with this serial (own rule)
+abbrev pub comes_before : ℕ → ℕ → Held → Bool
+comes_before v s y = nat_lt y.def.vdu v || ((y.def.vdu == v) && nat_lt y.def.serial s)
+
+-- the item is of the VDU; those of links are of 65535 (own rule)
+abbrev pub has_vdu : ℕ → Held → Bool
+has_vdu v y = y.def.vdu == v
+
+-- the item is of the VDU and has this serial (own rule)
+abbrev pub is_at : ℕ → ℕ → Held → Bool
+is_at v s y = (y.def.vdu == v) && (y.def.serial == s)
+
+-- the item is no compute, or runs exactly where the instance is started (own rule)
+abbrev pub runs_as_meant : Bool → Held → Bool
+runs_as_meant started y = not (same_kind y.def.kind Compute) || same_bool started y.running
 
 -- how many definitions each machine of a VDU has (own rule)
 abbrev pub parts_of : Vnfd → ℕ → ℕ

@@ -10,13 +10,16 @@ ghost use Rattle.lcm_model.specs.Words.{first};
 
 mod acts;
 mod holdings;
+mod in_step;
 mod planning;
 mod plans;
 mod refusals;
 mod rolls;
+mod spans;
 
 pub use acts::{act_in, acts_are_on_what_stands, forward_act};
 pub use holdings::{can_be_planned, holdings_are_inventories, plans_are_those_of_histories};
+pub use in_step::is_in_step;
 use lcm_events::Change;
 pub use planning::plan;
 pub use refusals::PlanRefusal;

@@ -174,8 +174,8 @@ fn plan_in(alloc: Global, case: &PlanCase) -> Result<Vec<Change>, PlanRefusal>
 /// have more machines than its maximum, but for TERMINATE; `TooMany` exactly where something is made, and what stands and what
 /// is made are more than 2,500 definitions; `Memory`, which may stand in place of a plan or of `TooMany` alone.
 /// A plan has at most 5,000 changes, and the event that asks for it fits a record of 65,536 bytes, where the ask's content isn't
-/// refused and it names at most 512 machines. Its time is that of a few passes over what stands and over the plan, and of a search
-/// for each item; where HEAL names machines, each of a VDU's machines is counted over what stands.
+/// refused and it names at most 512 machines. Its time is that of a few passes over what stands and over the plan, and of some
+/// searches for each item, each VDU and each machine that HEAL names, whose list is walked once for each VDU.
 ///
 /// Source: SOL 003 5.4.4 to 5.4.10 (the tasks of an individual VNF instance); the changes, their order and the limits are own
 /// rules.

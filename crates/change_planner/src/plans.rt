@@ -2,6 +2,7 @@
 
 ghost use Rattle.std.specs.Prelude.{◌≡◌, ◌++◌, ◌+◌, ◌*◌, ◌<◌, ◌≤◌, ◌==◌, IfOk, OnOk, filter, flat_map, length, map, nat_lt, not, true};
 ghost use Rattle.std.specs.List.{enumerate_from, list_all, range_with_len};
+ghost use Rattle.std.specs.List.Sorted.{IsNonDecreasing};
 ghost use Rattle.lcm_events.specs.Descriptors.{is_rising};
 ghost use Rattle.lcm_model.specs.Descriptors.{IsValid};
 ghost use Rattle.lcm_model.specs.Plans.{change, makes_links, phase, removes_links, starts, stops};
@@ -54,12 +55,20 @@ fn change_of(verb: Verb, def: Def) -> Change
     }
 }
 
+/// Whether a number is among others, of which none stands before a lesser one.
+pub(crate) fn is_among_sorted(numbers: &[u32], number: u32) -> bool
+    requires { IsNonDecreasing numbers.now }
+    ensures { result ≡ is_among numbers.now number }
+{
+    numbers.binary_search(&number).is_ok()
+}
+
 /// Whether a number is among rising ones.
 fn is_among_rising(numbers: &[u32], number: u32) -> bool
     requires { is_rising nat_lt numbers.now ≡ true }
     ensures { result ≡ is_among numbers.now number }
 {
-    numbers.binary_search(&number).is_ok()
+    is_among_sorted(numbers, number)
 }
 
 /// Whether the machine of an item stays.

@@ -1,15 +1,19 @@
 //! What becomes of the machines of each VDU.
 
-ghost use Rattle.std.specs.Prelude.{◌≡◌, ◌+◌, ◌-◌, ◌<◌, ◌≤◌, ◌&&◌, ◌==◌, IfOk, filter, length, map, not, true};
-ghost use Rattle.std.specs.List.{enumerate_from, list_all, list_any};
+ghost use Rattle.std.specs.Prelude.{◌≡◌, ◌+◌, ◌-◌, ◌<◌, ◌≤◌, ◌&&◌, ◌==◌, IfOk, filter, length, map, not, true, ℕ};
+ghost use Rattle.std.specs.List.{enumerate_from, list_all};
+ghost use Rattle.std.specs.List.Sorted.{IsNonDecreasing};
 ghost use Rattle.lcm_model.specs.Descriptors.{IsValid};
 ghost use Rattle.lcm_model.specs.Instances.{inventory_of};
 ghost use Rattle.lcm_model.specs.Plans.{is_named, may_stay, stay, want};
 ghost use Rattle.lcm_model.specs.Vnfcs.{is_there, is_whole, storages_of, there, vdu_numbers};
+ghost use Rattle.lcm_model.specs.Words.{is_among};
 ghost use Rattle.change_planner.specs.Planning.{unknown_among, unknown_vnfc};
-ghost use Rattle.change_planner.specs.Rolls.{CanBePlanned, are_rising, case_in, distinct, is_part, is_small, missing_by, parts_of, roll_of};
+ghost use Rattle.change_planner.specs.Rolls.{CanBePlanned, are_rising, case_in, distinct, is_small, missing_by, parts_of, roll_of};
 
-use lcm_events::{Ask, DefKind, Held, Holding, Listed, Port, Vnfc, Vnfd};
+use crate::plans::is_among_sorted;
+use crate::spans::{items_at, items_of_vdu};
+use lcm_events::{Ask, Held, Holding, Listed, Port, Vnfc, Vnfd};
 use lcm_model::count_in;
 use std::alloc::{AllocError, Global};
 
@@ -53,46 +57,14 @@ fn distinct_in(alloc: Global, items: &[Held], vdu: u16) -> Result<Vec<u32>, Allo
 }
 
 /// The serials of a VDU of which something stands, rising.
-#[tactic(auto, using(crate::proofs::RollLaws::distinct_there))]
+#[tactic(auto, using(crate::proofs::RollLaws::own_there))]
 fn there_in(alloc: Global, case: &PlanCase, vdu: u16) -> Result<Vec<u32>, AllocError>
     requires held { CanBePlanned case.now.vnfd.now case.now.holding.now case.now.to.now }
     requires known { vdu < length case.now.vnfd.now.vdus }
     ensures { IfOk result (λ v. v.items ≡ there case.now.vnfd.now (inventory_of case.now.holding.now) vdu) }
 {
-    distinct_in(alloc, case.holding.items.as_slice(), vdu)
-}
-
-/// Whether an item is of a machine.
-fn is_of_machine(item: &Held, vdu: u16, serial: u32) -> bool
-    ensures { result ≡ is_part vdu serial item.now }
-{
-    item.def.kind != DefKind::Link && item.def.vdu == vdu && item.def.serial == serial
-}
-
-/// How many items are of a machine.
-fn count_parts(items: &[Held], vdu: u16, serial: u32) -> usize
-    ensures value { result ≡ length (filter (is_part vdu serial) items.now) }
-    ensures bound { result ≤ length items.now }
-{
-    let mut count = 0;
-    for item in items {
-        if is_of_machine(item, vdu, serial) {
-            count += 1;
-        }
-    }
-    count
-}
-
-/// Whether one of the items is of a machine.
-fn has_part(items: &[Held], vdu: u16, serial: u32) -> bool
-    ensures { result ≡ list_any (is_part vdu serial) items.now }
-{
-    for item in items {
-        if is_of_machine(item, vdu, serial) {
-            return true;
-        }
-    }
-    false
+    let items = items_of_vdu(case.holding.items.as_slice(), vdu);
+    distinct_in(alloc, items, vdu)
 }
 
 /// How many of the ports are of a VDU.
@@ -131,26 +103,63 @@ pub(crate) fn size_of_machine(vnfd: &Vnfd, vdu: u16) -> usize
     storages_in(vnfd, vdu).len() + 1 + count_ports(vnfd.ports.as_slice(), vdu)
 }
 
-/// Whether a machine is named.
-fn is_named_in(named: &[Vnfc], vdu: u16, serial: u32) -> bool
-    ensures { result ≡ is_named named.now vdu serial }
+/// The serials of a VDU that are named.
+fn serials_named(alloc: Global, named: &[Vnfc], vdu: u16) -> Result<Vec<u32>, AllocError>
+    ensures { IfOk result (λ v. v.items ≡ map (λ x. x.serial) (filter (λ x. x.vdu == vdu) named.now)) }
 {
+    let mut serials: Vec<u32> = Vec::new(alloc);
     for vnfc in named {
-        if vnfc.vdu == vdu && vnfc.serial == serial {
-            return true;
+        if vnfc.vdu == vdu {
+            serials.push(vnfc.serial)?;
         }
     }
-    false
+    Ok(serials)
 }
 
-/// Whether all definitions of a machine stand.
+/// The serials of a VDU that are named, none before a lesser one.
+fn named_in(alloc: Global, named: &[Vnfc], vdu: u16) -> Result<Vec<u32>, AllocError>
+    ensures named { IfOk result (λ v. (s : ℕ) → is_among v.items s ≡ is_named named.now vdu s) }
+    ensures sorted { IfOk result (λ v. IsNonDecreasing v.items) }
+{
+    let mut serials = serials_named(alloc, named, vdu)?;
+    serials.sort()?;
+    Ok(serials)
+}
+
+/// Whether all definitions of a machine stand, of which a whole one has so many.
 #[tactic(auto, using(crate::proofs::RollLaws::counted_whole))]
-fn is_whole_in(case: &PlanCase, vdu: u16, serial: u32) -> bool
-    requires { CanBePlanned case.now.vnfd.now case.now.holding.now case.now.to.now }
+fn is_whole_in(case: &PlanCase, vdu: u16, size: usize, serial: u32) -> bool
+    requires held { CanBePlanned case.now.vnfd.now case.now.holding.now case.now.to.now }
+    requires known { vdu < length case.now.vnfd.now.vdus }
+    requires size { size ≡ parts_of case.now.vnfd.now vdu }
     ensures { result ≡ is_whole case.now.vnfd.now (inventory_of case.now.holding.now) vdu serial }
 {
-    let standing = count_parts(case.holding.items.as_slice(), vdu, serial);
-    standing == size_of_machine(case.vnfd, vdu)
+    let standing = items_at(case.holding.items.as_slice(), vdu, serial);
+    standing.len() == size
+}
+
+/// Those of these serials whose machines are whole, of this size, and aren't in a list in which none stands before a lesser one.
+fn whole_without(
+    alloc: Global,
+    case: &PlanCase,
+    vdu: u16,
+    size: usize,
+    named: &[u32],
+    serials: &[u32],
+) -> Result<Vec<u32>, AllocError>
+    requires held { CanBePlanned case.now.vnfd.now case.now.holding.now case.now.to.now }
+    requires known { vdu < length case.now.vnfd.now.vdus }
+    requires size { size ≡ parts_of case.now.vnfd.now vdu }
+    requires sorted { IsNonDecreasing named.now }
+    ensures { IfOk result (λ v. v.items ≡ filter (λ s. is_whole case.now.vnfd.now (inventory_of case.now.holding.now) vdu s && not (is_among named.now s)) serials.now) }
+{
+    let mut kept: Vec<u32> = Vec::new(alloc);
+    for serial in serials {
+        if is_whole_in(case, vdu, size, *serial) && !is_among_sorted(named, *serial) {
+            kept.push(*serial)?;
+        }
+    }
+    Ok(kept)
 }
 
 /// Those of these serials whose machines are whole and aren't named.
@@ -161,16 +170,13 @@ fn whole_unnamed(
     named: &[Vnfc],
     serials: &[u32],
 ) -> Result<Vec<u32>, AllocError>
-    requires { CanBePlanned case.now.vnfd.now case.now.holding.now case.now.to.now }
+    requires held { CanBePlanned case.now.vnfd.now case.now.holding.now case.now.to.now }
+    requires known { vdu < length case.now.vnfd.now.vdus }
     ensures { IfOk result (λ v. v.items ≡ filter (λ s. is_whole case.now.vnfd.now (inventory_of case.now.holding.now) vdu s && not (is_named named.now vdu s)) serials.now) }
 {
-    let mut kept: Vec<u32> = Vec::new(alloc);
-    for serial in serials {
-        if is_whole_in(case, vdu, *serial) && !is_named_in(named, vdu, *serial) {
-            kept.push(*serial)?;
-        }
-    }
-    Ok(kept)
+    let named = named_in(alloc, named, vdu)?;
+    let size = size_of_machine(case.vnfd, vdu);
+    whole_without(alloc, case, vdu, size, named.as_slice(), serials)
 }
 
 /// The serials of a VDU that the ask may leave.
@@ -287,13 +293,14 @@ pub(crate) fn rolls_in(alloc: Global, case: &PlanCase) -> Result<Vec<Roll>, Allo
 }
 
 /// Whether something of a machine stands.
-#[tactic(auto, using(crate::proofs::RollLaws::part_there))]
+#[tactic(auto, using(crate::proofs::RollLaws::there_at))]
 fn is_there_in(vnfd: &Vnfd, holding: &Holding, to: &[u32], vnfc: &Vnfc) -> bool
     requires { CanBePlanned vnfd.now holding.now to.now }
     ensures { result ≡ is_there vnfd.now (inventory_of holding.now) vnfc.now.vdu vnfc.now.serial }
 {
     let _to = to;
-    has_part(holding.items.as_slice(), vnfc.vdu, vnfc.serial)
+    let standing = items_at(holding.items.as_slice(), vnfc.vdu, vnfc.serial);
+    (vnfc.vdu as usize) < vnfd.vdus.len() && 0 < standing.len()
 }
 
 /// The place, from 0, of the first of these machines of which nothing stands.
