@@ -11,33 +11,25 @@ use Rattle.lcm_events.specs.declared.held.Holding.{Holding}
 use Rattle.lcm_laws.proofs.HoldingLaws.{holding_of}
 use Rattle.lcm_laws.proofs.Lists.{by_test}
 use Rattle.lcm_laws.proofs.PlanHistory.{descriptor_valid}
-use Rattle.lcm_model.specs.Descriptors.{IsValid, are_levels_of}
-use Rattle.lcm_model.specs.Instances.{holding, inventory_of, is_instantiated, is_started, levels}
+use Rattle.lcm_model.specs.Descriptors.{IsHoldingOf, IsValid}
+use Rattle.lcm_model.specs.Instances.{holding, inventory, inventory_of, is_instantiated, is_started, levels}
 use Rattle.lcm_model.specs.Levels.{target}
 use Rattle.lcm_model.specs.Plans.{plan}
-use Rattle.lcm_model.specs.Refusals.{Situation, case_in, has_nothing_to_do, is_above_profile, is_terminate, naming_refusal, plan_refusal, situation}
+use Rattle.lcm_model.specs.Refusals.{Situation, case_in, has_nothing_to_do, is_above_profile, is_terminate, naming_refusal, plan_refusal, situation, state_refusal}
 use Rattle.lcm_model.specs.Vnfcs.{Inventory, is_there}
-use Rattle.lcm_model.specs.Words.{first_some, when}
+use Rattle.lcm_model.specs.Operations.{ongoing}
+use Rattle.lcm_model.specs.Words.{first, first_some, when}
 use Rattle.lcm_model.specs.declared.refusals.Refusal.{Refusal}
 use Rattle.change_planner.proofs.InventoryLaws.{holding_tells, plans_agree}
 use Rattle.change_planner.specs.Inventories.{case_of}
 use Rattle.change_planner.specs.Planning.{above_profile, aims_at_present, is_oversized, planned_size, unknown_among, unknown_vnfc, vdu_above}
-use Rattle.change_planner.specs.Rolls.{CanBePlanned}
 use Rattle.change_planner.specs.declared.refusals.PlanRefusal.TheVariants.{AboveProfile, NothingToDo, TooMany, UnknownVnfc}
-use Rattle.lcm_plans.specs.Cases.{CanBeAsked, refusal_over, scale_refusal, told_as}
+use Rattle.lcm_plans.specs.Cases.{CanBeAsked, refusal_over, scale_refusal, situation_over, standing_refusal, told_as}
 use Rattle.lcm_model.specs.declared.refusals.Refusal.TheVariants as refusals
 
 -- the descriptor of an instance that can be asked is valid
 pub asked_valid : (d : Vnfd) (H : List Event) (i : ℕ) → CanBeAsked d H i → IsValid d
 asked_valid d H i can = descriptor_valid can.width can.manager H i d can.legal can.described
-
--- a plan can be made over its holding
-pub asked_planned : (d : Vnfd) (H : List Event) (i : ℕ) (h : Holding) (to : List ℕ) → CanBeAsked d H i → h ≡ holding d H i → are_levels_of d to ≡ true → CanBePlanned d h to
-asked_planned d H i h to can is of = record {
-  valid = asked_valid d H i can;
-  levels = of;
-  held = rw is (holding_of can.width can.manager H can.legal i d can.described can.small);
-}
 
 -- one is found where one passes
 found_some : {A : Type 0} → (p : A → Bool) (xs : List A) → is_some (find p xs) ≡ list_any p xs
@@ -134,36 +126,29 @@ pub plans_same : (d : Vnfd) (H : List Event) (i : ℕ) (ask : Ask) → CanBeAske
     → plan (case_of d (holding d H i) ask (target d (levels d H i) ask)) ≡ plan (case_in d (situation d H i) ask)
 plans_same d H i ask can = plans_agree can.width can.manager H can.legal i d can.described ask
 
--- the levels of its holding are the descriptor's
-pub asked_levels : (d : Vnfd) (H : List Event) (i : ℕ) (h : Holding) → CanBeAsked d H i → h ≡ holding d H i → are_levels_of d h.levels ≡ true
-asked_levels d H i h can is = rw is (holding_of can.width can.manager H can.legal i d can.described can.small).levels
+-- the same of a holding that is found
+pub planned_same : (d : Vnfd) (H : List Event) (i : ℕ) (h : Holding) (ask : Ask) → CanBeAsked d H i → h ≡ holding d H i
+    → plan (case_of d h ask (target d h.levels ask)) ≡ plan (case_in d (situation d H i) ask)
+planned_same d H i h ask can is = ap (λ (g : Holding). plan (case_of d g ask (target d g.levels ask))) is ∙ plans_same d H i ask can
 
--- the same of a holding and levels that are found
-pub planned_same : (d : Vnfd) (H : List Event) (i : ℕ) (h : Holding) (ask : Ask) (to : List ℕ) → CanBeAsked d H i → h ≡ holding d H i → to ≡ target d h.levels ask
-    → plan (case_of d h ask to) ≡ plan (case_in d (situation d H i) ask)
-planned_same d H i h ask to can is at =
-    ap (λ ls. plan (case_of d h ask ls)) at
-    ∙ (ap (λ (g : Holding). plan (case_of d g ask (target d g.levels ask))) is ∙ plans_same d H i ask can)
-
-pub refused_same : (d : Vnfd) (H : List Event) (i : ℕ) (h : Holding) (ask : Ask) → CanBeAsked d H i → h ≡ holding d H i
+refused_same : (d : Vnfd) (H : List Event) (i : ℕ) (h : Holding) (ask : Ask) → CanBeAsked d H i → h ≡ holding d H i
     → refusal_over d h ask ≡ plan_refusal d (situation d H i) ask
 refused_same d H i h ask can is = ap (λ (g : Holding). refusal_over d g ask) is ∙ refusals_agree d H i ask can
 
--- what refuses first refuses whatever comes after
-pub refused_first : (c s p : Option Refusal) (w : Refusal) → first_some (c ∷ s ∷ []) ≡ Some w → first_some (c ∷ s ∷ p ∷ []) ≡ Some w
-refused_first (Some c) s p w e = e
-refused_first None (Some s) p w e = e
-refused_first None None p w e = absurd cc
+-- how an instance is after a history is as its holding says
+situation_same : (d : Vnfd) (H : List Event) (i : ℕ) (h : Holding) (busy : Bool) → CanBeAsked d H i → h ≡ holding d H i → busy ≡ is_some (first (ongoing H i))
+    → situation_over h busy ≡ situation d H i
+situation_same d H i h busy can is goes =
+    ap (λ (g : Holding). situation_over g busy) is
+    ∙ (ap (λ (held : Inventory). seen d H i held busy) (holding_tells can.width can.manager H can.legal i d can.described) ∙ ap (λ (b : Bool). seen d H i (inventory H i) b) goes)
 
--- where nothing refuses first, the last one tells
-pub passed_first : (c s p : Option Refusal) → first_some (c ∷ s ∷ []) ≡ None → p ≡ first_some (c ∷ s ∷ p ∷ [])
-passed_first (Some c) s p e = absurd cc
-passed_first None (Some s) p e = absurd cc
-passed_first None None None e = refl
-passed_first None None (Some w) e = refl
+-- what refuses an ask over its holding refuses it after the history
+pub standing_same : (d : Vnfd) (H : List Event) (i : ℕ) (h : Holding) (busy : Bool) (ask : Ask) → CanBeAsked d H i → h ≡ holding d H i → busy ≡ is_some (first (ongoing H i))
+    → standing_refusal d h busy ask ≡ first_some (state_refusal d (situation d H i) ask ∷ plan_refusal d (situation d H i) ask ∷ [])
+standing_same d H i h busy ask can is goes =
+    ap (λ (s : Situation). first_some (state_refusal d s ask ∷ refusal_over d h ask ∷ [])) (situation_same d H i h busy can is goes)
+    ∙ ap (λ (o : Option Refusal). first_some (state_refusal d (situation d H i) ask ∷ o ∷ [])) (refused_same d H i h ask can is)
 
--- where nothing refuses by the state, the state's answer is the whole
-pub content_passed : (c s : Option Refusal) → c ≡ None → s ≡ first_some (c ∷ s ∷ [])
-content_passed (Some w) s e = absurd cc
-content_passed None None e = refl
-content_passed None (Some w) e = refl
+-- its holding is the descriptor's
+pub asked_held : (d : Vnfd) (H : List Event) (i : ℕ) (h : Holding) → CanBeAsked d H i → h ≡ holding d H i → IsHoldingOf d h
+asked_held d H i h can is = rw is (holding_of can.width can.manager H can.legal i d can.described can.small)

@@ -1,2 +1,3 @@
 pub mod RangeLaws
 pub mod AskedLaws
+pub mod ChangeLaws

@@ -1,5 +1,5 @@
 -- What the programs ask of a history, and how what refuses a plan is told of an ask (own rule).
-use Rattle.std.specs.Prelude.{List, None, Option, Some, [], option_and_then, ℕ, ◌<◌, ◌∷◌, ◌≡◌}
+use Rattle.std.specs.Prelude.{Bool, List, None, Option, Some, [], option_and_then, ℕ, ◌<◌, ◌∷◌, ◌≡◌}
 use Rattle.lcm_events.specs.declared.asks.Ask.{Ask}
 use Rattle.lcm_events.specs.declared.asks.Ask.TheVariants.{Scale}
 use Rattle.lcm_events.specs.declared.descriptor.Vnfd.{Vnfd}
@@ -7,9 +7,10 @@ use Rattle.lcm_events.specs.declared.events.Event.{Event}
 use Rattle.lcm_events.specs.declared.held.Holding.{Holding}
 use Rattle.lcm_model.specs.Allowed.{IsLegalWithin}
 use Rattle.lcm_model.specs.Holding.{top}
+use Rattle.lcm_model.specs.Instances.{inventory_of}
 use Rattle.lcm_model.specs.Levels.{aspect_at, target}
 use Rattle.lcm_model.specs.Lives.{descriptor}
-use Rattle.lcm_model.specs.Refusals.{step_refusal}
+use Rattle.lcm_model.specs.Refusals.{Situation, state_refusal, step_refusal}
 use Rattle.lcm_model.specs.Words.{first_some}
 use Rattle.lcm_model.specs.declared.refusals.Refusal.{Refusal}
 use Rattle.change_planner.specs.Planning.{refusal}
@@ -46,3 +47,17 @@ told_as Memory = None
 -- why an ask is refused over what a holding says stands: by its steps, then as its plan is (own rule)
 abbrev pub refusal_over : Vnfd → Holding → Ask → Option Refusal
 refusal_over d h ask = first_some (scale_refusal d h.levels ask ∷ option_and_then told_as (refusal d h ask (target d h.levels ask)) ∷ [])
+
+-- how an instance is, as its holding says; busy where an operation of it goes on (own rule)
+abbrev pub situation_over : Holding → Bool → Situation
+situation_over h busy = record {
+  instantiated = h.instantiated;
+  started = h.started;
+  levels = h.levels;
+  held = inventory_of h;
+  busy = busy;
+}
+
+-- why an ask is refused over what a holding says stands: by the instance's state, by its steps, then as its plan is (own rule)
+abbrev pub standing_refusal : Vnfd → Holding → Bool → Ask → Option Refusal
+standing_refusal d h busy ask = first_some (state_refusal d (situation_over h busy) ask ∷ refusal_over d h ask ∷ [])

@@ -1,21 +1,21 @@
 //! The plan of an ask, over what stands and after a history.
 
 ghost use Rattle.std.specs.Prelude.{◌≡◌, ◌∷◌, [], IfErr, IfOk, None, Some, reverse};
-ghost use Rattle.lcm_model.specs.Descriptors.{IsValid};
+ghost use Rattle.lcm_model.specs.Descriptors.{IsHoldingOf, IsValid};
 ghost use Rattle.lcm_model.specs.Levels.{target};
 ghost use Rattle.lcm_model.specs.Plans.{plan};
-ghost use Rattle.lcm_model.specs.Refusals.{ask_refusal, case_in, content_refusal, plan_refusal, situation, state_refusal};
+ghost use Rattle.lcm_model.specs.Refusals.{ask_refusal, case_in, plan_refusal, situation, state_refusal};
 ghost use Rattle.lcm_model.specs.Words.{first_some};
 ghost use Rattle.change_planner.specs.Inventories.{case_of};
 ghost use Rattle.change_planner.specs.Rolls.{CanBePlanned};
-ghost use Rattle.lcm_plans.specs.Cases.{CanBeAsked, refusal_over, told_as};
+ghost use Rattle.lcm_plans.specs.Cases.{CanBeAsked, refusal_over, standing_refusal, told_as};
 
 use crate::aims::target_in;
 use crate::holdings::holding_in;
-use crate::refusals::{content_refusal_in, scale_refusal_in, state_refusal_in};
+use crate::refusals::{content_refusal_in, scale_refusal_in, state_refusal_over};
 use change_planner::PlanRefusal;
 use lcm_events::{Ask, Changes, Event, Holding, Levels, Listed, Vnfd};
-use lcm_model::Refusal;
+use lcm_model::{Refusal, is_busy};
 use std::alloc::{AllocError, Global};
 
 /// How a plan's refusal is told; want of memory refuses nothing.
@@ -31,7 +31,7 @@ fn refusal_of(why: &PlanRefusal) -> Option<Refusal>
     }
 }
 
-/// The plan of an ask over what stands, or why it is refused.
+/// The plan of an ask over what stands, with the levels that it aims at, or why it is refused.
 fn plan_over(
     alloc: Global,
     vnfd: &Vnfd,
@@ -57,7 +57,47 @@ fn plan_over(
     }
 }
 
-/// The plan of an ask after a history, or why it is refused against what stands and what is planned.
+/// The plan of an ask over what stands, or why it is refused.
+fn plan_aimed(
+    alloc: Global,
+    vnfd: &Vnfd,
+    holding: &Holding,
+    ask: &Ask,
+) -> Result<Result<Changes, Refusal>, AllocError>
+    requires valid { IsValid vnfd.now }
+    requires held { IsHoldingOf vnfd.now holding.now }
+    ensures planned { IfOk result (λ answer. IfOk answer (λ changes. changes ≡ plan (case_of vnfd.now holding.now ask.now (target vnfd.now holding.now.levels ask.now)))) }
+    ensures accepted { IfOk result (λ answer. IfOk answer (λ changes. refusal_over vnfd.now holding.now ask.now ≡ None)) }
+    ensures refused { IfOk result (λ answer. IfErr answer (λ why. refusal_over vnfd.now holding.now ask.now ≡ Some why)) }
+{
+    let to = Listed::of(target_in(alloc, vnfd, holding.levels.as_slice(), ask)?);
+    plan_over(alloc, vnfd, holding, ask, &to)
+}
+
+/// The plan of an ask over what stands, or why it is refused: by the instance's state, where `busy` says that an operation of it goes on, by
+/// what stands, or by what is planned, in this order. That the ask's content isn't refused is asked apart.
+///
+/// Source: docs/MODEL.md, "Plans" and "Refusals".
+pub fn plan_standing(
+    alloc: Global,
+    vnfd: &Vnfd,
+    holding: &Holding,
+    busy: bool,
+    ask: &Ask,
+) -> Result<Result<Changes, Refusal>, AllocError>
+    requires valid { IsValid vnfd.now }
+    requires held { IsHoldingOf vnfd.now holding.now }
+    ensures planned { IfOk result (λ answer. IfOk answer (λ changes. changes ≡ plan (case_of vnfd.now holding.now ask.now (target vnfd.now holding.now.levels ask.now)))) }
+    ensures accepted { IfOk result (λ answer. IfOk answer (λ changes. standing_refusal vnfd.now holding.now busy ask.now ≡ None)) }
+    ensures refused { IfOk result (λ answer. IfErr answer (λ why. standing_refusal vnfd.now holding.now busy ask.now ≡ Some why)) }
+{
+    match state_refusal_over(vnfd, holding, busy, ask) {
+        Some(wrong) => Ok(Err(wrong)),
+        None => plan_aimed(alloc, vnfd, holding, ask),
+    }
+}
+
+/// The plan of an ask after a history, or why it is refused by the instance's state, by what stands and by what is planned.
 fn plan_after(
     alloc: Global,
     vnfd: &Vnfd,
@@ -67,35 +107,18 @@ fn plan_after(
 ) -> Result<Result<Changes, Refusal>, AllocError>
     requires { CanBeAsked vnfd.now (reverse events.now) instance }
     ensures planned { IfOk result (λ answer. IfOk answer (λ changes. changes ≡ plan (case_in vnfd.now (situation vnfd.now (reverse events.now) instance) ask.now))) }
-    ensures accepted { IfOk result (λ answer. IfOk answer (λ changes. plan_refusal vnfd.now (situation vnfd.now (reverse events.now) instance) ask.now ≡ None)) }
-    ensures refused { IfOk result (λ answer. IfErr answer (λ why. plan_refusal vnfd.now (situation vnfd.now (reverse events.now) instance) ask.now ≡ Some why)) }
+    ensures accepted { IfOk result (λ answer. IfOk answer (λ changes. first_some (state_refusal vnfd.now (situation vnfd.now (reverse events.now) instance) ask.now ∷ plan_refusal vnfd.now (situation vnfd.now (reverse events.now) instance) ask.now ∷ []) ≡ None)) }
+    ensures refused { IfOk result (λ answer. IfErr answer (λ why. first_some (state_refusal vnfd.now (situation vnfd.now (reverse events.now) instance) ask.now ∷ plan_refusal vnfd.now (situation vnfd.now (reverse events.now) instance) ask.now ∷ []) ≡ Some why)) }
 {
+    let busy = is_busy(events, instance);
     let holding = holding_in(alloc, vnfd, events, instance)?;
-    let to = Listed::of(target_in(alloc, vnfd, holding.levels.as_slice(), ask)?);
-    plan_over(alloc, vnfd, &holding, ask, &to)
-}
-
-/// Why an ask is refused by its content or by the instance's state.
-fn first_refusal_in(
-    alloc: Global,
-    vnfd: &Vnfd,
-    events: &[Event],
-    instance: u64,
-    ask: &Ask,
-) -> Result<Option<Refusal>, AllocError>
-    requires { IsValid vnfd.now }
-    ensures { IfOk result (λ why. why ≡ first_some (content_refusal vnfd.now ask.now ∷ state_refusal vnfd.now (situation vnfd.now (reverse events.now) instance) ask.now ∷ [])) }
-{
-    match content_refusal_in(vnfd, ask) {
-        Some(wrong) => Ok(Some(wrong)),
-        None => state_refusal_in(alloc, vnfd, events, instance, ask),
-    }
+    plan_standing(alloc, vnfd, &holding, busy, ask)
 }
 
 /// The plan of an ask after a legal history, or why the ask is refused: by its content, by the instance's state, by what stands
 /// and is planned, in this order.
 ///
-/// What stands is asked of the history once, and the plan is `change_planner::plan`'s.
+/// What stands is asked of the history once; whether it is in step, and the plan, are change_planner's.
 /// Source: docs/MODEL.md, "Plans" and "Refusals".
 pub fn plan_of_ask(
     alloc: Global,
@@ -109,7 +132,7 @@ pub fn plan_of_ask(
     ensures accepted { IfOk result (λ answer. IfOk answer (λ changes. ask_refusal vnfd.now (situation vnfd.now (reverse events.now) instance) ask.now ≡ None)) }
     ensures refused { IfOk result (λ answer. IfErr answer (λ why. ask_refusal vnfd.now (situation vnfd.now (reverse events.now) instance) ask.now ≡ Some why)) }
 {
-    match first_refusal_in(alloc, vnfd, events, instance, ask)? {
+    match content_refusal_in(vnfd, ask) {
         Some(wrong) => Ok(Err(wrong)),
         None => plan_after(alloc, vnfd, events, instance, ask),
     }

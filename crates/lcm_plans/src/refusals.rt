@@ -1,18 +1,17 @@
 //! Why an operation is refused by its content, by its instance's state and by its steps.
 
-ghost use Rattle.std.specs.Prelude.{◌≡◌, ◌==◌, ◌&&◌, IfOk, find, length, not, option_and_then, option_copied, reverse, true, zip};
+ghost use Rattle.std.specs.Prelude.{◌≡◌, ◌==◌, ◌&&◌, find, length, not, option_and_then, option_copied, true, zip, ℕ};
 ghost use Rattle.std.specs.List.{list_any};
 ghost use Rattle.lcm_events.specs.Same.{same_name};
-ghost use Rattle.lcm_model.specs.Descriptors.{IsValid, are_levels_of};
+ghost use Rattle.lcm_model.specs.Descriptors.{IsHoldingOf, IsValid, are_levels_of};
+ghost use Rattle.lcm_model.specs.Instances.{inventory_of};
 ghost use Rattle.lcm_model.specs.Levels.{is_aspect};
-ghost use Rattle.lcm_model.specs.Refusals.{aim_refusal, aspect_named, content_refusal, has_aspect, instantiation_refusal, is_above, is_known_level, names_twice, needs_started, needs_step, situation, state_refusal, step_refusal};
-ghost use Rattle.lcm_plans.specs.Cases.{scale_refusal};
+ghost use Rattle.lcm_model.specs.Refusals.{aim_refusal, aspect_named, content_refusal, has_aspect, instantiation_refusal, is_above, is_known_level, names_twice, needs_started, needs_step, state_refusal, step_refusal};
+ghost use Rattle.lcm_model.specs.Vnfcs.{is_in_step};
+ghost use Rattle.lcm_plans.specs.Cases.{scale_refusal, situation_over};
 
-use crate::aims::levels_in;
-use crate::machines::is_in_step_in;
-use lcm_events::{Aim, Ask, Aspect, AspectLevel, Event, ScaleWay, Vnfd};
-use lcm_model::{Refusal, is_busy, is_instantiated_in, is_started_in, level_named};
-use std::alloc::{AllocError, Global};
+use lcm_events::{Aim, Ask, Aspect, AspectLevel, Holding, ScaleWay, Vnfd};
+use lcm_model::{Refusal, aspect_of, level_named};
 use vnfm_base::Name;
 
 /// Whether the level is the descriptor's, or none is named.
@@ -200,40 +199,45 @@ fn instantiation_refusal_in(ask: &Ask, instantiated: bool) -> Option<Refusal>
     }
 }
 
-/// Why an instance's state refuses an ask.
+/// Whether the operation needs an instance in step, and this one isn't.
+fn is_out_of_step(vnfd: &Vnfd, holding: &Holding, ask: &Ask) -> bool
+    requires valid { IsValid vnfd.now }
+    requires held { IsHoldingOf vnfd.now holding.now }
+    ensures { result ≡ (needs_step ask.now && not (is_in_step vnfd.now (inventory_of holding.now) holding.now.levels holding.now.started)) }
+{
+    needs_step_in(ask) && !change_planner::is_in_step(vnfd, holding)
+}
+
+/// Why an instance's state refuses an ask, over what stands of it; `busy` where an operation of it goes on.
 ///
 /// Source: SOL 003 5.4.4 to 5.4.10 (the tasks of an individual VNF instance); "in step" is an own rule.
-pub fn state_refusal_in(
-    alloc: Global,
+pub(crate) fn state_refusal_over(
     vnfd: &Vnfd,
-    events: &[Event],
-    instance: u64,
+    holding: &Holding,
+    busy: bool,
     ask: &Ask,
-) -> Result<Option<Refusal>, AllocError>
-    requires { IsValid vnfd.now }
-    ensures { IfOk result (λ why. why ≡ state_refusal vnfd.now (situation vnfd.now (reverse events.now) instance) ask.now) }
+) -> Option<Refusal>
+    requires valid { IsValid vnfd.now }
+    requires held { IsHoldingOf vnfd.now holding.now }
+    ensures { result ≡ state_refusal vnfd.now (situation_over holding.now busy) ask.now }
 {
-    let levels = levels_in(alloc, vnfd, events, instance)?;
-    let started = is_started_in(events, instance);
-    let in_step = is_in_step_in(alloc, vnfd, events, instance, levels.as_slice(), started)?;
-    let busy = is_busy(events, instance);
-    if let Some(wrong) = instantiation_refusal_in(ask, is_instantiated_in(events, instance)) {
-        return Ok(Some(wrong));
+    if let Some(wrong) = instantiation_refusal_in(ask, holding.instantiated) {
+        return Some(wrong);
     }
     if busy {
-        Ok(Some(Refusal::Ongoing))
-    } else if needs_step_in(ask) && !in_step {
-        Ok(Some(Refusal::OutOfStep))
-    } else if needs_started_in(ask) && !started {
-        Ok(Some(Refusal::Stopped))
+        Some(Refusal::Ongoing)
+    } else if is_out_of_step(vnfd, holding, ask) {
+        Some(Refusal::OutOfStep)
+    } else if needs_started_in(ask) && !holding.started {
+        Some(Refusal::Stopped)
     } else {
-        Ok(None)
+        None
     }
 }
 
-/// Why steps in this way from an aspect's level are refused.
-fn step_refusal_in(way: ScaleWay, steps: u32, aspect: &Aspect, level: u32) -> Option<Refusal>
-    ensures { result ≡ step_refusal way steps (aspect.now, level) }
+/// Why steps in this way from a level are refused, where the aspect's maximum is this.
+fn step_refusal_in(way: ScaleWay, steps: u32, maximum: u32, level: u32) -> Option<Refusal>
+    ensures { (a : Aspect × ℕ) → a.0.maximum ≡ maximum → a.1 ≡ level → result ≡ step_refusal way steps a }
 {
     match way {
         ScaleWay::In => {
@@ -244,22 +248,13 @@ fn step_refusal_in(way: ScaleWay, steps: u32, aspect: &Aspect, level: u32) -> Op
             }
         }
         ScaleWay::Out => {
-            if (aspect.maximum as u64) < level as u64 + steps as u64 {
+            if (maximum as u64) < level as u64 + steps as u64 {
                 Some(Refusal::AboveMaximum)
             } else {
                 None
             }
         }
     }
-}
-
-/// Whether an aspect with its level has this name.
-#[tactic(auto, unfolding(lcm_model::specs::Levels::is_aspect))]
-fn has_name(name: &Name, aspect: &Aspect, level: u32) -> bool
-    ensures { result ≡ is_aspect name.now (aspect.now, level) }
-{
-    let _level = level;
-    aspect.name == *name
 }
 
 /// Why steps of the aspect of this name are refused.
@@ -273,13 +268,10 @@ fn steps_refusal_in(
     requires { length present.now ≡ length aspects.now }
     ensures { result ≡ option_and_then (step_refusal way steps) (find (is_aspect name.now) (zip aspects.now present.now)) }
 {
-    for (at, aspect) in aspects.iter().enumerate() {
-        let level = present[at];
-        if has_name(name, aspect, level) {
-            return step_refusal_in(way, steps, aspect, level);
-        }
+    match aspect_of(aspects, present, name) {
+        Some((maximum, level)) => step_refusal_in(way, steps, maximum, level),
+        None => None,
     }
-    None
 }
 
 /// Why the steps of SCALE are refused from these levels; no other ask has steps.
