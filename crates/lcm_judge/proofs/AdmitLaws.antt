@@ -10,23 +10,6 @@ use Rattle.lcm_model.specs.Lives.{Subscription, subscription}
 use Rattle.lcm_model.specs.Notices.{admits, facts_of, matches, notice_in}
 use Rattle.lcm_model.specs.Words.{when}
 
-not_empty : (n : ℕ) → (suc n == 0) ≡ false
-not_empty n = grind (arith, nat_tests)
-
--- an empty list asks nothing, another that one of its entries passes
-pub admits_by : {A : Type 0} → (xs : List A) (p : A → Bool) → admits xs p ≡ ((length xs == 0) || list_any p xs)
-admits_by [] p = refl
-admits_by (x ∷ xs) p = sym (ap (λ b. b || list_any p (x ∷ xs)) (not_empty (length xs)))
-
-none_passes : {A : Type 0} → (xs : List A) → list_any (λ x. false) xs ≡ false
-none_passes [] = refl
-none_passes (x ∷ xs) = none_passes xs
-
--- what passes nowhere is admitted by an empty list alone
-pub admits_none : {A : Type 0} → (xs : List A) → admits xs (λ x. false) ≡ (length xs == 0)
-admits_none [] = refl
-admits_none (x ∷ xs) = none_passes xs ∙ sym (not_empty (length xs))
-
 -- a question to a part of what may be there is a question to that part
 pub part_first : {A B C : Type 0} → (f : A → B) (g : B → Option C) (o : Option A) → option_and_then (λ x. g (f x)) o ≡ option_and_then g (option_map f o)
 part_first f g None = refl

@@ -1,16 +1,11 @@
--- What a notice tells, as the programs hold it, and the numbers that its identifiers can carry (own rule).
+-- The numbers that identifiers can carry, and what posts of a notice say, as words that a proof opens by name (own rule).
 use Rattle.std.specs.List.{All}
 use Rattle.std.specs.Prelude.{Bool, List, ℕ, ◌&&◌, ◌==◌}
 use Rattle.lcm_events.specs.declared.events.Event.{Event}
 use Rattle.lcm_events.specs.declared.events.EventKind.{EventKind}
 use Rattle.lcm_events.specs.declared.events.EventKind.TheVariants.{Created}
-use Rattle.lcm_judge.specs.declared.notices.Facts.{Facts}
-use Rattle.lcm_model.specs.Notices.{NoticeFacts, is_passed}
+use Rattle.lcm_model.specs.Notices.{is_passed}
 use Rattle.vnfm_base.specs.Ident.{IsIdentNumber}
-
--- the facts that the values of a notice's program make (own rule)
-abbrev pub facts_in : Facts → NoticeFacts
-facts_in f = record { which = f.which; vnfd = f.vnfd; instance = f.instance; name = f.name; op = f.op; state = f.state }
 
 -- an instance that the event creates has a number that an identifier can carry (own rule)
 abbrev pub HasIdentNumber : EventKind → Type 0

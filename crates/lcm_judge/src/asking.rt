@@ -1,47 +1,15 @@
 //! Whether an operation may be asked for.
 
 ghost use Rattle.std.specs.Prelude.{◌≡◌, ◌↔◌, IfOk, IfSome, IsTrue, Some, option_copied, reverse};
-ghost use Rattle.std.specs.Cmp.Lexicographic.{pointwise};
-ghost use Rattle.lcm_events.specs.Same.{same_change};
 ghost use Rattle.lcm_judge.specs.Judged.{IsLegalOfOne};
 ghost use Rattle.lcm_model.specs.Allowed.{IsPlanOf, MayAsk};
 ghost use Rattle.lcm_model.specs.Lives.{descriptor};
 ghost use Rattle.lcm_plans.specs.Cases.{CanBeAsked, HasSmallSerials};
 
-use lcm_events::{Change, Event, Operation, Vnfd};
+use lcm_events::{Event, Operation, Vnfd};
 use lcm_model::{count_operations, descriptor_of, is_live_in};
-use lcm_plans::plan_of_ask;
+use lcm_plans::{are_same, plan_of_ask};
 use std::alloc::{AllocError, Global};
-
-/// Whether two changes are the same.
-fn is_same(a: &Change, b: &Change) -> bool
-    ensures { result ≡ same_change a.now b.now }
-{
-    *a == *b
-}
-
-/// Whether two lists have the same changes.
-#[tactic(auto, using(crate::proofs::ChangeLaws::other_length))]
-fn are_equal(a: &[Change], b: &[Change]) -> bool
-    ensures { result ≡ pointwise same_change a.now b.now }
-{
-    if a.len() != b.len() {
-        return false;
-    }
-    for (at, change) in a.iter().enumerate() {
-        if !is_same(change, &b[at]) {
-            return false;
-        }
-    }
-    true
-}
-
-/// Whether two lists of changes are equal.
-fn are_same(a: &[Change], b: &[Change]) -> bool
-    ensures { IsTrue result ↔ (a.now ≡ b.now) }
-{
-    are_equal(a, b)
-}
 
 /// Whether an ask isn't refused, and the operation's changes are its plan.
 fn is_plan_of(

@@ -2,13 +2,11 @@
 #![tactic(auto)]
 
 mod asking;
-mod filters;
 mod judge;
 mod notices;
 mod posting;
 
 pub use asking::may_ask;
-pub use filters::matches_in;
 pub use judge::{is_allowed, is_legal};
-pub use notices::{Facts, next_notice_in};
+pub use notices::next_notice_in;
 pub use posting::{cursor_in, may_post};

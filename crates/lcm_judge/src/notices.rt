@@ -2,42 +2,29 @@
 
 ghost use Rattle.std.specs.Prelude.{◌≡◌, IfSome, Some, None, option_map, option_and_then, reverse, false, length, ◌+◌};
 ghost use Rattle.std.specs.Option.{option_map_or};
-ghost use Rattle.lcm_judge.specs.Facts.{HasIdentNumber, HaveIdentNumbers, facts_in};
+ghost use Rattle.lcm_judge.specs.Facts.{HasIdentNumber, HaveIdentNumbers};
+ghost use Rattle.subscription_filter.specs.Facts.{facts_in};
 ghost use Rattle.lcm_model.specs.Lives.{creation};
 ghost use Rattle.lcm_model.specs.Notices.{facts_of, is_noticed, matches, next_notice, notice_in, occurrence_facts};
 ghost use Rattle.lcm_model.specs.Words.{last, when};
 ghost use Rattle.vnfm_base.specs.Ident.{IsIdentNumber};
 
-use crate::filters::matches_in;
 use crate::posting::cursor_in;
-use lcm_events::{Event, EventKind, Filter, NoticeKind, OpKind, OpState, Operation};
+use lcm_events::{Event, EventKind, Filter, NoticeKind, OpState, Operation};
 use lcm_model::{filter_of, op_kind, operation_in};
-use vnfm_base::Name;
-
-/// What a filter asks of a notice.
-///
-/// Source: SOL 003 5.5.3 (LifecycleChangeNotificationsFilter).
-#[derive(Clone, Copy, Debug)]
-pub struct Facts {
-    /// The kind of the notice.
-    pub which: NoticeKind,
-    /// The descriptor's identifier.
-    pub vnfd: Name,
-    /// The number of the instance.
-    pub instance: u64,
-    /// The instance's name.
-    pub name: Option<Name>,
-    /// The operation.
-    pub op: Option<OpKind>,
-    /// The operation's state.
-    pub state: Option<OpState>,
-}
+use subscription_filter::{NoticeFacts, matches};
 
 /// What a notice of an operation's state tells.
-fn occurrence_facts_in(past: &[Event], to: OpState, operation: &Operation) -> Option<Facts>
+fn occurrence_facts_in(
+    manager: u32,
+    past: &[Event],
+    to: OpState,
+    operation: &Operation,
+) -> Option<NoticeFacts>
     requires { HaveIdentNumbers past.now }
     ensures value { option_map facts_in result ≡ occurrence_facts (reverse past.now) to operation.now }
     ensures number { IfSome result (λ f. IsIdentNumber f.instance) }
+    ensures manager { IfSome result (λ f. f.manager ≡ manager) }
 {
     let mut found = None;
     for event in past {
@@ -49,13 +36,14 @@ fn occurrence_facts_in(past: &[Event], to: OpState, operation: &Operation) -> Op
         } = &event.kind
         {
             if *instance == operation.instance {
-                found = Some(Facts {
+                found = Some(NoticeFacts {
                     which: NoticeKind::Occurrence,
                     vnfd: *vnfd,
                     instance: *instance,
                     name: *name,
                     op: Some(op_kind(&operation.ask)),
                     state: Some(to),
+                    manager,
                 });
             }
         }
@@ -64,10 +52,11 @@ fn occurrence_facts_in(past: &[Event], to: OpState, operation: &Operation) -> Op
 }
 
 /// What the notice of a deletion tells.
-fn deletion_facts_in(past: &[Event], deleted: u64) -> Option<Facts>
+fn deletion_facts_in(manager: u32, past: &[Event], deleted: u64) -> Option<NoticeFacts>
     requires { HaveIdentNumbers past.now }
     ensures value { option_map facts_in result ≡ facts_of (reverse past.now) (EventKind.Deleted deleted) }
     ensures number { IfSome result (λ f. IsIdentNumber f.instance) }
+    ensures manager { IfSome result (λ f. f.manager ≡ manager) }
 {
     let mut found = None;
     for event in past {
@@ -79,13 +68,14 @@ fn deletion_facts_in(past: &[Event], deleted: u64) -> Option<Facts>
         } = &event.kind
         {
             if *instance == deleted {
-                found = Some(Facts {
+                found = Some(NoticeFacts {
                     which: NoticeKind::Deletion,
                     vnfd: *vnfd,
                     instance: *instance,
                     name: *name,
                     op: None,
                     state: None,
+                    manager,
                 });
             }
         }
@@ -94,11 +84,12 @@ fn deletion_facts_in(past: &[Event], deleted: u64) -> Option<Facts>
 }
 
 /// What the notice of an event tells, after its past, where the event makes one.
-fn facts_after(past: &[Event], kind: &EventKind) -> Option<Facts>
+fn facts_after(manager: u32, past: &[Event], kind: &EventKind) -> Option<NoticeFacts>
     requires before { HaveIdentNumbers past.now }
     requires here { HasIdentNumber kind.now }
     ensures value { option_map facts_in result ≡ facts_of (reverse past.now) kind.now }
     ensures number { IfSome result (λ f. IsIdentNumber f.instance) }
+    ensures manager { IfSome result (λ f. f.manager ≡ manager) }
 {
     match kind {
         EventKind::Created {
@@ -106,18 +97,24 @@ fn facts_after(past: &[Event], kind: &EventKind) -> Option<Facts>
             vnfd,
             name,
             ..
-        } => Some(Facts {
+        } => Some(NoticeFacts {
             which: NoticeKind::Creation,
             vnfd: *vnfd,
             instance: *instance,
             name: *name,
             op: None,
             state: None,
+            manager,
         }),
-        EventKind::Deleted { instance } => deletion_facts_in(past, *instance),
-        EventKind::Asked(operation) => occurrence_facts_in(past, OpState::Starting, operation),
+        EventKind::Deleted { instance } => deletion_facts_in(manager, past, *instance),
+        EventKind::Asked(operation) => occurrence_facts_in(
+            manager,
+            past,
+            OpState::Starting,
+            operation,
+        ),
         EventKind::Moved { occ, to } => match operation_in(past, *occ) {
-            Some(operation) => occurrence_facts_in(past, *to, operation),
+            Some(operation) => occurrence_facts_in(manager, past, *to, operation),
             None => None,
         },
         _ => None,
@@ -130,8 +127,8 @@ fn is_noticed_in(manager: u32, past: &[Event], kind: &EventKind, filter: &Filter
     requires here { HasIdentNumber kind.now }
     ensures { result ≡ option_map_or (matches manager filter.now) (facts_of (reverse past.now) kind.now) false }
 {
-    match facts_after(past, kind) {
-        Some(facts) => matches_in(manager, filter, &facts),
+    match facts_after(manager, past, kind) {
+        Some(facts) => matches(filter, &facts),
         None => false,
     }
 }

@@ -1,15 +1,35 @@
-//! Whether a filter lets a notice through.
+//! What a filter asks of a notice, and whether it lets it through.
 
 ghost use Rattle.std.specs.Prelude.{◌≡◌, ◌==◌};
 ghost use Rattle.lcm_events.specs.Same.{same_name, same_state};
-ghost use Rattle.lcm_judge.specs.Facts.{facts_in};
+ghost use Rattle.subscription_filter.specs.Facts.{facts_in};
 ghost use Rattle.lcm_model.specs.Notices.{admits, admits_given, admits_if_given, instance_text, is_type_of, matches, notice_number};
 ghost use Rattle.std.specs.List.{list_any};
 ghost use Rattle.vnfm_base.specs.Ident.{IsIdentNumber};
 
-use crate::notices::Facts;
 use lcm_events::{Filter, NoticeKind, OpKind, OpState, OperationType};
 use vnfm_base::{Kind, Name, ident, ident_text};
+
+/// What a filter asks of a notice.
+///
+/// Source: SOL 003 5.5.3 (LifecycleChangeNotificationsFilter).
+#[derive(Clone, Copy, Debug)]
+pub struct NoticeFacts {
+    /// The kind of the notice.
+    pub which: NoticeKind,
+    /// The descriptor's identifier.
+    pub vnfd: Name,
+    /// The number of the instance.
+    pub instance: u64,
+    /// The instance's name.
+    pub name: Option<Name>,
+    /// The operation; none for a creation and a deletion.
+    pub op: Option<OpKind>,
+    /// The operation's state; none for a creation and a deletion.
+    pub state: Option<OpState>,
+    /// The number of the manager, which is in the identifier of the instance.
+    pub manager: u32,
+}
 
 /// Whether one of the names is this one.
 fn is_named(names: &[Name], name: &Name) -> bool
@@ -149,18 +169,20 @@ fn admits_state(states: &[OpState], state: Option<OpState>) -> bool
     }
 }
 
-/// Whether the filter lets the notice through: each of its lists does.
+/// Whether the filter lets the notice through: each of its lists does. An empty list asks nothing; a list of operation types or states asks
+/// nothing of a creation or a deletion.
 ///
+/// Condition: the instance's number is from 1 to 2^62 - 1.
 /// Source: SOL 003 5.5.3 (LifecycleChangeNotificationsFilter).
-pub fn matches_in(manager: u32, filter: &Filter, facts: &Facts) -> bool
-    requires { IsIdentNumber facts.now.instance }
-    ensures { result ≡ matches manager filter.now (facts_in facts.now) }
+pub fn matches(filter: &Filter, notice: &NoticeFacts) -> bool
+    requires { IsIdentNumber notice.now.instance }
+    ensures { result ≡ matches notice.now.manager filter.now (facts_in notice.now) }
 {
-    let vnfds = admits_name(filter.vnfds.as_slice(), &facts.vnfd);
-    let instances = admits_instance(filter.instances.as_slice(), manager, facts.instance);
-    let names = admits_name_given(filter.names.as_slice(), &facts.name);
-    let kinds = admits_kind(filter.notices.as_slice(), facts.which);
-    let types = admits_type(filter.operations.as_slice(), facts.op);
-    let states = admits_state(filter.states.as_slice(), facts.state);
+    let vnfds = admits_name(filter.vnfds.as_slice(), &notice.vnfd);
+    let instances = admits_instance(filter.instances.as_slice(), notice.manager, notice.instance);
+    let names = admits_name_given(filter.names.as_slice(), &notice.name);
+    let kinds = admits_kind(filter.notices.as_slice(), notice.which);
+    let types = admits_type(filter.operations.as_slice(), notice.op);
+    let states = admits_state(filter.states.as_slice(), notice.state);
     vnfds && instances && names && kinds && types && states
 }

@@ -1,5 +1,0 @@
-use Rattle.lcm_judge.proofs.ChangeLaws.{same_changes}
-use Rattle.lcm_judge.proofs.asking.are_same.Goals as goal
-
-pub returns : goal.returns
-returns c = same_changes c.are_equal.result c.args.a.now c.args.b.now c.are_equal.ensures
