@@ -1,12 +1,12 @@
 //! Plans what becomes of an instance of so many machines.
 //!
-//! `plan_bench MACHINES [times]` makes the holding of an instance whose machines are computes alone, and plans over it a
-//! graceful termination, a heal of all, and a heal of the first machine; it prints how many changes each plan has, and with
-//! `times` the nanoseconds of processor time that it took.
+//! `plan_bench MACHINES [times]` makes the holding of an instance whose machines are computes alone, asks whether it is in step,
+//! and plans over it a graceful termination, a heal of all, a heal of the first machine, and a heal of every second one by name;
+//! it prints how many changes each plan has, and with `times` the nanoseconds of processor time that it took.
 #![tactic(auto)]
 
 use anyhow::{Context, Result, bail, ensure};
-use change_planner::{can_be_planned, plan};
+use change_planner::{can_be_planned, is_in_step, plan};
 use lcm_events::{
     Ask, Def, DefKind, Held, Holding, Level, Levels, Listed, Place, StopType, Vdu, Vnfc, Vnfd,
 };
@@ -116,6 +116,20 @@ fn holding(alloc: Global, machines: u32) -> Result<Holding> {
     })
 }
 
+/// Every second machine, from the first on.
+fn every_second(alloc: Global, machines: u32) -> Result<Vec<Vnfc>> {
+    let mut named: Vec<Vnfc> = Vec::new(alloc);
+    for at in 0..machines {
+        if at % 2 == 0 {
+            named.push(Vnfc {
+                vdu: 0,
+                serial: at.saturating_add(1),
+            })?;
+        }
+    }
+    Ok(named)
+}
+
 /// Plans an ask, and prints how many changes it has or why it has none, and maybe how long it took.
 fn measure(
     rt: &(impl CpuClock + Print + AllocGlobal),
@@ -142,11 +156,32 @@ fn measure(
     Ok(())
 }
 
+/// Asks whether the instance is in step, and prints the answer, and maybe how long it took.
+fn judge(
+    rt: &(impl CpuClock + Print + AllocGlobal),
+    vnfd: &Vnfd,
+    holding: &Holding,
+    times: bool,
+) -> Result<()> {
+    if !can_be_planned(vnfd, holding, &holding.levels) {
+        bail!("the machines are too many");
+    }
+    let begun = rt.process_cpu_time()?;
+    let answer = is_in_step(vnfd, holding);
+    let ended = rt.process_cpu_time()?;
+    println!(rt; "step: {answer}")?;
+    if times {
+        println!(rt; "step {} ns", ended.saturating_sub(begun).as_nanos())?;
+    }
+    Ok(())
+}
+
 fn run(rt: &(impl Env + CpuClock + Print + AllocGlobal)) -> Result<()> {
     let words = Words::read(rt)?;
     let alloc = rt.alloc();
     let vnfd = descriptor(alloc, words.machines)?;
     let holding = holding(alloc, words.machines)?;
+    judge(rt, &vnfd, &holding, words.times)?;
     let graceful = Ask::Terminate {
         mode: StopType::Graceful,
         timeout: None,
@@ -162,7 +197,12 @@ fn run(rt: &(impl Env + CpuClock + Print + AllocGlobal)) -> Result<()> {
         cause: None,
         named: Listed::of(vec![in alloc; first]?),
     };
-    measure(rt, &vnfd, &holding, "mend", &one, words.times)
+    measure(rt, &vnfd, &holding, "mend", &one, words.times)?;
+    let half = Ask::Heal {
+        cause: None,
+        named: Listed::of(every_second(alloc, words.machines)?),
+    };
+    measure(rt, &vnfd, &holding, "half", &half, words.times)
 }
 
 fn main(rt: HostRuntime) -> Result<()> {

@@ -4,6 +4,8 @@
 #[cfg(test)]
 mod acts;
 #[cfg(test)]
+mod in_step;
+#[cfg(test)]
 mod plans;
 #[cfg(test)]
 mod rules;
