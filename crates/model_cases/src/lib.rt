@@ -9,3 +9,5 @@ mod placing;
 mod plans;
 #[cfg(test)]
 mod tables;
+#[cfg(test)]
+mod uses;

@@ -43,10 +43,10 @@ differs {A} f g k (suc n) (suc j) x v at is e =
     ap (λ (w : A). w ∷ map g (range_with_len (k + 1) n)) (e k (apart x k (λ same. omega (arith, at, same))))
     ∙ ap (λ (vs : List A). f k ∷ vs) (differs f g (k + 1) n j x v (omega (arith, at)) is e)
 
-all_alike : (f : ℕ → ℕ) (k n v : ℕ) → ((c : ℕ) → f c ≡ v) → map f (range_with_len k n) ≡ replicate n v
+pub all_alike : {A : Type 0} → (f : ℕ → A) (k n : ℕ) (v : A) → ((c : ℕ) → f c ≡ v) → map f (range_with_len k n) ≡ replicate n v
 all_alike f k zero v e = refl
-all_alike f k (suc n) v e =
-    ap (λ (w : ℕ). w ∷ map f (range_with_len (k + 1) n)) (e k) ∙ ap (λ (vs : List ℕ). v ∷ vs) (all_alike f (k + 1) n v e)
+all_alike {A} f k (suc n) v e =
+    ap (λ (w : A). w ∷ map f (range_with_len (k + 1) n)) (e k) ∙ ap (λ (vs : List A). v ∷ vs) (all_alike f (k + 1) n v e)
 
 -- how many attempts there were at a change
 abbrev pub tried : List Event → ℕ → ℕ → ℕ
@@ -58,12 +58,12 @@ tried-own H time t o c own = rw own refl
 tried-other : (H : List Event) (time : ℕ) (t : Tag) (o c : ℕ) → is_of o c t ≡ false → tried (event time (Intent t) ∷ H) o c ≡ tried H o c
 tried-other H time t o c other = rw other refl
 
-own_change : (t : Tag) (o : ℕ) → (t.occ == o) ≡ true → is_of o t.change t ≡ true
+pub own_change : (t : Tag) (o : ℕ) → (t.occ == o) ≡ true → is_of o t.change t ≡ true
 own_change t o same = rw same (same_self t.change) where
   same_self : (n : ℕ) → (n == n) ≡ true
   same_self n = by_test (n == n) (λ yes. yes) (λ no. absurd (false-eqb n n (sym no) refl))
 
-other_change : (t : Tag) (o c : ℕ) → (t.change == c) ≡ false → is_of o c t ≡ false
+pub other_change : (t : Tag) (o c : ℕ) → (t.change == c) ≡ false → is_of o c t ≡ false
 other_change t o c other = by_test (t.occ == o) (λ a. rw (a, other) refl) (λ b. rw b refl)
 
 pub attempts-begun : (width m : ℕ) (H : List Event) (time : ℕ) (t : Tag) (a : Operation) → (t.occ == a.occ) ≡ true → IsAllowedWithin width m H (Intent t)

@@ -2,6 +2,7 @@ pub mod Updates
 pub mod PendingSteps
 pub mod ChangeSteps
 pub mod EndedLaws
+pub mod UsedSteps
 pub mod RowSteps
 pub mod HomeLaws
 pub mod RowsSteps
@@ -13,4 +14,7 @@ pub mod BeginLaws
 pub mod PlanPhases
 pub mod GoingLaws
 pub mod OngoingSteps
+pub mod KnownSteps
 pub mod TableLaws
+pub mod PackedLaws
+pub mod ResourceLaws

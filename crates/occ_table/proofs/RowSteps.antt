@@ -1,7 +1,7 @@
 -- What each event makes of a row.
 use Rattle.occ_table.proofs.ChangeSteps.{attempts-begun, attempts-begun_other, nets-ended, nets-ended_other}
 use Rattle.std.proofs.Common.{◌≡◌, ◌<◌, ◌+◌, ◌||◌, ◌==◌, ◌∙◌, ℕ, List, ◌∷◌, suc, Bool, true, false, cond, Option, None, Some, refl, ap, map, subst, min, arith, nat_le, eqb-true, leb-false, length, ◌≤◌}
-use Rattle.std.specs.List.{cons_option, list_any}
+use Rattle.std.specs.List.{list_any}
 use Rattle.std.specs.Option.{option_map_or}
 use Rattle.lcm_events.specs.declared.events.Event.{Event}
 use Rattle.lcm_events.specs.declared.events.EventKind.{EventKind}
@@ -14,7 +14,7 @@ use Rattle.lcm_events.specs.declared.states.CancelMode.TheVariants.{Forceful, Gr
 use Rattle.lcm_model.specs.Allowed.{IsAllowedWithin, IsLegalWithin}
 use Rattle.lcm_model.specs.Grants.{answers, has_ended, is_last, troubled_tries}
 use Rattle.lcm_model.specs.Since.{is_cancelled, is_forced}
-use Rattle.lcm_model.specs.Words.{first, otherwise, told, when}
+use Rattle.lcm_model.specs.Words.{otherwise, told, when}
 use Rattle.lcm_events.specs.declared.attempts.Outcome.{Outcome}
 use Rattle.lcm_events.specs.declared.attempts.Outcome.TheVariants.{Aborted, Broken, Done, NotBegun}
 use Rattle.lcm_events.specs.declared.attempts.Tag.{Tag}
@@ -45,11 +45,13 @@ use Rattle.occ_table.specs.Ended.{is_over, kept}
 use Rattle.occ_table.specs.Rows.{numbers}
 use Rattle.occ_table.proofs.EndedLaws.{kept_set, moved_row, starting_not_over, works_not_over}
 use Rattle.occ_table.proofs.PendingSteps.{known_failed, pendings-begun, pendings-begun_other, pendings-ended, pendings-ended_other, pendings-failed, pendings-failed_other, trouble-settled, trouble-settled_other}
+use Rattle.occ_table.proofs.UsedSteps.{first_cons, used_told, uses-ended, uses-ended_other}
 use Rattle.occ_table.specs.declared.rows.OccRow.{OccRow}
+use Rattle.occ_table.specs.declared.used.Used.{Used}
 
--- what an event of this moment makes of the row of this occurrence
-abbrev pub row_by : ℕ → EventKind → ℕ → OccRow → OccRow
-row_by time k o r = cond (option_map_or (λ n. n == o) (occurrence_of k) false) (row_after time k r) r
+-- what an event of this moment makes of the row of this occurrence, by which a change has used something, or nothing
+abbrev pub row_by : ℕ → Option Used → EventKind → ℕ → OccRow → OccRow
+row_by time x k o r = cond (option_map_or (λ n. n == o) (occurrence_of k) false) (row_after time x k r) r
 
 by_own : (b : Bool) (r s : OccRow) → b ≡ true → r ≡ cond b r s
 by_own true r s e = refl
@@ -66,16 +68,17 @@ with_begun : (r : OccRow) (p q : List Pending) (m n : List ℕ) → p ≡ q → 
 with_begun r p q m n e f =
     ap (λ (x : List Pending). record r { pending = x; attempts = m }) e ∙ ap (λ (x : List ℕ). record r { pending = q; attempts = x }) f
 
-with_settled : (r : OccRow) (a b : Bool) (x y : Option Cause) (p q : List Pending) (m n : List ℕ) (v w i j : List ℕ) → a ≡ b → x ≡ y → p ≡ q → m ≡ n → v ≡ w → i ≡ j
-    → record r { trouble = a; cause = x; pending = p; nets = m; waiting = v; made = i }
-    ≡ record r { trouble = b; cause = y; pending = q; nets = n; waiting = w; made = j }
-with_settled r a b x y p q m n v w i j e f g h k l =
-    ap (λ (z : Bool). record r { trouble = z; cause = x; pending = p; nets = m; waiting = v; made = i }) e
-    ∙ (ap (λ (z : Option Cause). record r { trouble = b; cause = z; pending = p; nets = m; waiting = v; made = i }) f
-    ∙ (ap (λ (z : List Pending). record r { trouble = b; cause = y; pending = z; nets = m; waiting = v; made = i }) g
-    ∙ (ap (λ (z : List ℕ). record r { trouble = b; cause = y; pending = q; nets = z; waiting = v; made = i }) h
-    ∙ (ap (λ (z : List ℕ). record r { trouble = b; cause = y; pending = q; nets = n; waiting = z; made = i }) k
-    ∙ ap (λ (z : List ℕ). record r { trouble = b; cause = y; pending = q; nets = n; waiting = w; made = z }) l))))
+with_settled : (r : OccRow) (a b : Bool) (x y : Option Cause) (p q : List Pending) (m n : List ℕ) (v w i j : List ℕ) (s t : List (Option Used)) → a ≡ b → x ≡ y → p ≡ q → m ≡ n → v ≡ w → i ≡ j → s ≡ t
+    → record r { trouble = a; cause = x; pending = p; nets = m; waiting = v; made = i; used = s }
+    ≡ record r { trouble = b; cause = y; pending = q; nets = n; waiting = w; made = j; used = t }
+with_settled r a b x y p q m n v w i j s t e f g h k l u =
+    ap (λ (z : Bool). record r { trouble = z; cause = x; pending = p; nets = m; waiting = v; made = i; used = s }) e
+    ∙ (ap (λ (z : Option Cause). record r { trouble = b; cause = z; pending = p; nets = m; waiting = v; made = i; used = s }) f
+    ∙ (ap (λ (z : List Pending). record r { trouble = b; cause = y; pending = z; nets = m; waiting = v; made = i; used = s }) g
+    ∙ (ap (λ (z : List ℕ). record r { trouble = b; cause = y; pending = q; nets = z; waiting = v; made = i; used = s }) h
+    ∙ (ap (λ (z : List ℕ). record r { trouble = b; cause = y; pending = q; nets = n; waiting = z; made = i; used = s }) k
+    ∙ (ap (λ (z : List ℕ). record r { trouble = b; cause = y; pending = q; nets = n; waiting = w; made = z; used = s }) l
+    ∙ ap (λ (z : List (Option Used)). record r { trouble = b; cause = y; pending = q; nets = n; waiting = w; made = j; used = z }) u)))))
 
 -- the counts of an occurrence after an attempt at it has ended
 tallied : (width m : ℕ) (H : List Event) (time : ℕ) (t : Tag) (outcome : Outcome) (a : Operation) (n : ℕ) → n ≤ 1 → (t.occ == a.occ) ≡ true → length a.changes ≤ 5000
@@ -90,11 +93,6 @@ tallied width m H time t outcome a n low same few legal opened =
 tallied_other : (H : List Event) (time : ℕ) (t : Tag) (outcome : Outcome) (a : Operation) (n : ℕ) → (t.occ == a.occ) ≡ false
     → tallies n a.changes (nets (event time (Settled t outcome) ∷ H) a) ≡ tallies n a.changes (nets H a)
 tallied_other H time t outcome a n other = ap (λ (ns : List ℕ). tallies n a.changes ns) (nets-ended_other H time t outcome a other)
-
--- the latest cause is that of the event, where it gives one
-first_cons : {A : Type 0} → (x : Option A) (xs : List A) → first (cons_option x xs) ≡ otherwise x (first xs)
-first_cons None xs = refl
-first_cons (Some x) xs = refl
 
 cause-known : (H : List Event) (t : Tag) (outcome : Outcome) (o : ℕ) → is_open H t ≡ true → (t.occ == o) ≡ true
     → cause_of_end H t outcome ≡ cause_among t outcome (pendings H o)
@@ -132,7 +130,7 @@ caused : (H : List Event) (time n : ℕ) (mode : CancelMode) (o : ℕ) → (n ==
 caused H time n mode o same = rw same refl
 
 cancelled : (H : List Event) (time n : ℕ) (mode : CancelMode) (a : Operation) → (n == a.occ) ≡ true
-    → row (event time (CancelAsked n mode) ∷ H) a ≡ row_after time (CancelAsked n mode) (row H a)
+    → row (event time (CancelAsked n mode) ∷ H) a ≡ row_after time None (CancelAsked n mode) (row H a)
 unfolding is_unsettled
 cancelled H time n mode a same = with_cancel (row H a) _ _ _ _ (cancel-next mode H time n a.occ same) (caused H time n mode a.occ same)
 
@@ -164,7 +162,7 @@ answered H time n Trouble a same going =
 
 -- what an event about an occurrence makes of a row
 pub row-step : (width m : ℕ) (H : List Event) (time : ℕ) (k : EventKind) (n : ℕ) (a : Operation) → occurrence_of k ≡ Some n → IsIn a (operations H) → width ≤ 4 → IsLegalWithin width m H
-    → IsAllowedWithin width m H k → row (event time k ∷ H) a ≡ row_by time k a.occ (row H a)
+    → IsAllowedWithin width m H k → row (event time k ∷ H) a ≡ row_by time (used_told H k) k a.occ (row H a)
 unfolding is_unsettled
 row-step width m H time (GrantTried o answer) n a e among wide legal allowed = by_test (o == a.occ)
     (λ same.
@@ -203,10 +201,10 @@ row-step width m H time (CallFailed t) n a e among wide legal allowed = by_test 
 row-step width m H time (Settled t outcome) n a e among wide legal allowed = by_test (t.occ == a.occ)
     (λ same.
     let few : length a.changes ≤ 5000 = plans_small width m H legal a among in
-    with_settled (row H a) _ _ _ _ _ _ _ _ _ _ _ _ (trouble-settled H t outcome a.occ allowed same) (cause-settled H time t outcome a.occ allowed same) (pendings-ended H time t outcome a.occ) (nets-ended width m H time t outcome a same legal allowed)
+    with_settled (row H a) _ _ _ _ _ _ _ _ _ _ _ _ _ _ (trouble-settled H t outcome a.occ allowed same) (cause-settled H time t outcome a.occ allowed same) (pendings-ended H time t outcome a.occ) (nets-ended width m H time t outcome a same legal allowed)
     (tallied width m H time t outcome a 0 (omega arith) same few legal allowed) (tallied width m H time t outcome a 1 (omega arith) same few legal allowed)
-    ∙ by_own (t.occ == a.occ) _ _ same)
-    (λ other. with_settled (row H a) _ _ _ _ _ _ _ _ _ _ _ _ (trouble-settled_other H t outcome a.occ other) (cause-settled_other H time t outcome a.occ other) (pendings-ended_other H time t outcome a.occ other) (nets-ended_other H time t outcome a other)
+    (uses-ended H time t outcome a same) ∙ by_own (t.occ == a.occ) _ _ same)
+    (λ other. with_settled (row H a) _ _ _ _ _ _ _ _ _ _ _ _ _ _ (trouble-settled_other H t outcome a.occ other) (cause-settled_other H time t outcome a.occ other) (pendings-ended_other H time t outcome a.occ other) (nets-ended_other H time t outcome a other)
     (tallied_other H time t outcome a 0 other) (tallied_other H time t outcome a 1 other)
-    ∙ by_other (t.occ == a.occ) _ _ other)
+    (uses-ended_other H time t outcome a other) ∙ by_other (t.occ == a.occ) _ _ other)
 row-step width m H time _ n a e among wide legal allowed = cc

@@ -1,6 +1,9 @@
 -- What each event makes of the rows, and what is found among them.
 use Rattle.lcm_events.specs.declared.places.Place.{Place}
-use Rattle.occ_table.proofs.ChangeSteps.{attempts-none, nets-none}
+use Rattle.occ_table.proofs.ChangeSteps.{all_alike, attempts-none, nets-none}
+use Rattle.occ_table.proofs.UsedSteps.{used_told}
+use Rattle.occ_table.specs.Used.{used, used_in}
+use Rattle.occ_table.specs.declared.used.Used.{Used}
 use Rattle.lcm_model.specs.Attempts.{is_unsettled}
 use Rattle.std.proofs.Common.{◌≡◌, ◌≢◌, ◌≤◌, ◌<◌, ◌+◌, ◌-◌, ◌++◌, ◌==◌, ◌∙◌, ℕ, List, [], ◌∷◌, zero, suc, Bool, true, false, cond, Option, None, Some, is_some, refl, ap, sym, subst, length, map, reverse, arith, eqb-true, false-eqb, slice_get, replicate, inl, inr}
 use Rattle.std.specs.Option.{option_map_or}
@@ -59,24 +62,25 @@ changed f g h (x ∷ xs) n counted low e =
 
 -- an event about an occurrence changes its row alone
 about-step : (width m : ℕ) (H : List Event) (time : ℕ) (k : EventKind) (n : ℕ) → occurrence_of k ≡ Some n → width ≤ 4 → IsLegalWithin width m H → IsAllowedWithin width m H k
-    → reverse (map (row (event time k ∷ H)) (operations H)) ≡ update (row_after time k) (n - 1) (rows H)
+    → reverse (map (row (event time k ∷ H)) (operations H)) ≡ update (row_after time (used_told H k) k) (n - 1) (rows H)
 about-step width m H time k n e wide legal allowed =
-    changed (row H) (row (event time k ∷ H)) (row_after time k) (operations H) n (operations_counted width m H legal)
+    changed (row H) (row (event time k ∷ H)) (row_after time (used_told H k) k) (operations H) n (operations_counted width m H legal)
     ((found_exactly width m H legal n).0 (about_asked width m H k legal allowed n e)).0
     (λ a among. row-step width m H time k n a e among wide legal allowed
-    ∙ ap (λ (o : Option ℕ). cond (option_map_or (λ n. n == a.occ) o false) (row_after time k (row H a)) (row H a)) e)
+    ∙ ap (λ (o : Option ℕ). cond (option_map_or (λ n. n == a.occ) o false) (row_after time (used_told H k) k (row H a)) (row H a)) e)
 
 pub none_there : {A : Type 0} → (x : Option A) → (is_some x ≡ true → ⊥) → x ≡ None
 none_there None f = refl
 none_there (Some x) f = absurd (f refl)
 
-with_lists : (r : OccRow) {n k v w : List ℕ} → r.nets ≡ n → r.attempts ≡ k → r.waiting ≡ v → r.made ≡ w
-    → r ≡ record r { nets = n; attempts = k; waiting = v; made = w }
-with_lists r {n} {k} {v} {w} e f g h =
+with_lists : (r : OccRow) {n k v w : List ℕ} {u : List (Option Used)} → r.nets ≡ n → r.attempts ≡ k → r.waiting ≡ v → r.made ≡ w → r.used ≡ u
+    → r ≡ record r { nets = n; attempts = k; waiting = v; made = w; used = u }
+with_lists r {n} {k} {v} {w} {u} e f g h l =
     ap (λ (x : List ℕ). record r { nets = x }) e
     ∙ (ap (λ (x : List ℕ). record r { nets = n; attempts = x }) f
     ∙ (ap (λ (x : List ℕ). record r { nets = n; attempts = k; waiting = x }) g
-    ∙ ap (λ (x : List ℕ). record r { nets = n; attempts = k; waiting = v; made = x }) h))
+    ∙ (ap (λ (x : List ℕ). record r { nets = n; attempts = k; waiting = v; made = x }) h
+    ∙ ap (λ (x : List (Option Used)). record r { nets = n; attempts = k; waiting = v; made = w; used = x }) l)))
 
 -- an event that isn't about an occurrence gives it no cause
 not_caused : (H : List Event) (k : EventKind) (o : ℕ) → (occurrence_of k ≡ Some o → ⊥) → cause_in o H k ≡ None
@@ -109,6 +113,27 @@ uncaused width m H legal o none =
     legal_induction width m (λ H. operation H o ≡ None → cause H o ≡ None) (λ e. refl)
     (λ H time k legal allowed h. uncaused_step width m H time k o legal allowed h) H legal none
 
+-- an event that isn't about an occurrence tells nothing that a change of it used
+not_used : (H : List Event) (k : EventKind) (o c : ℕ) → (occurrence_of k ≡ Some o → ⊥) → used_in o c H k ≡ None
+not_used H (Settled t outcome) o c f = by_test (t.occ == o) (λ same. absurd (f (ap Some (eqb-true t.occ o same)))) (λ other. rw other refl)
+not_used H _ o c f = refl
+
+unused_step : (width m : ℕ) (H : List Event) (time : ℕ) (k : EventKind) (o c : ℕ) → IsLegalWithin width m H → IsAllowedWithin width m H k
+    → (operation H o ≡ None → used H o c ≡ None) → operation (event time k ∷ H) o ≡ None → used (event time k ∷ H) o c ≡ None
+unused_step width m H time k o c legal allowed h e =
+    let none : operation H o ≡ None = unasked_before H time k o e in
+    let away : used_in o c H k ≡ None = not_used H k o c (λ about.
+    let asked : is_some (operation H o) ≡ true = about_asked width m H k legal allowed o about in
+    let clash : is_some {T = Operation} None ≡ true = subst (λ (a : Option Operation). is_some a ≡ true) none asked in
+    cc) in
+    rw away (h none)
+
+-- no change used anything of an occurrence that wasn't asked for
+unused : (width m : ℕ) (H : List Event) → IsLegalWithin width m H → (o c : ℕ) → operation H o ≡ None → used H o c ≡ None
+unused width m H legal o c none =
+    legal_induction width m (λ H. operation H o ≡ None → used H o c ≡ None) (λ e. refl)
+    (λ H time k legal allowed h. unused_step width m H time k o c legal allowed h) H legal none
+
 asked_row : (H : List Event) (time : ℕ) (a : Operation) → row (event time (Asked a) ∷ H) a ≡ record (row H a) { asked = time; entered = time }
 unfolding is_unsettled
 asked_row H time a = let own : (a.occ == a.occ) ≡ true = eq-refl a.occ in rw own refl
@@ -127,6 +152,7 @@ first width m H time a legal allowed =
     ∙ (with_lists (record (row H a) { asked = time; entered = time }) none_made (kept_all (is_over H a.occ) _ fresh ∙ attempts-none H a still)
     (ap (λ (ns : List ℕ). tallies 0 a.changes ns) none_made ∙ waiting-fresh a.changes)
     (ap (λ (ns : List ℕ). tallies 1 a.changes ns) none_made ∙ made-fresh a.changes)
+    (all_alike (used H a.occ) 0 (length a.changes) None (λ c. unused width m H legal a.occ c none))
     ∙ rw (still.moves, still.answers, still.cancels, still.no_trouble, still.none_open, still.grant, calm) refl)
 
 older_row : (H : List Event) (time : ℕ) (a x : Operation) → (a.occ == x.occ) ≡ false → row (event time (Asked a) ∷ H) x ≡ row H x
@@ -162,7 +188,7 @@ created_row H time i v name text a other = rw other refl
 
 -- what an event makes of the rows
 pub rows-step : (width m : ℕ) (H : List Event) (time : ℕ) (k : EventKind) → width ≤ 4 → IsLegalWithin width m H → IsAllowedWithin width m H k
-    → rows (event time k ∷ H) ≡ rows_after (vnfds H) time k (rows H)
+    → rows (event time k ∷ H) ≡ rows_after (vnfds H) time (used_told H k) k (rows H)
 unfolding is_unsettled
 rows-step width m H time (Asked a) wide legal allowed =
     let new : Operation → OccRow = row (event time (Asked a) ∷ H) in
@@ -185,11 +211,12 @@ rows-step width m H time (CancelAsked n mode) wide legal allowed = about-step wi
 rows-step width m H time _ wide legal allowed = refl
 
 -- rows that stood for a history stand for it with one event more
-pub applied : (width m : ℕ) (H : List Event) (e : Event) (old : List OccRow) (vs : List (List ℕ)) → width ≤ 4 → IsLegalWithin width m H → IsAllowedWithin width m H e.kind
-    → StandsFor old H → vs ≡ vnfds H → StandsFor (rows_after vs e.moment e.kind old) (e ∷ H)
-applied width m H e old vs wide legal allowed stands are =
-    ap (λ (rs : List OccRow). rows_after vs e.moment e.kind rs) stands
-    ∙ (ap (λ (us : List (List ℕ)). rows_after us e.moment e.kind (rows H)) are ∙ sym (rows-step width m H e.moment e.kind wide legal allowed))
+pub applied : (width m : ℕ) (H : List Event) (e : Event) (old : List OccRow) (vs : List (List ℕ)) (x : Option Used) → width ≤ 4 → IsLegalWithin width m H
+    → IsAllowedWithin width m H e.kind → StandsFor old H → vs ≡ vnfds H → x ≡ used_told H e.kind → StandsFor (rows_after vs e.moment x e.kind old) (e ∷ H)
+applied width m H e old vs x wide legal allowed stands are told =
+    ap (λ (rs : List OccRow). rows_after vs e.moment x e.kind rs) stands
+    ∙ (ap (λ (us : List (List ℕ)). rows_after us e.moment x e.kind (rows H)) are
+    ∙ (ap (λ (y : Option Used). rows_after (vnfds H) e.moment y e.kind (rows H)) told ∙ sym (rows-step width m H e.moment e.kind wide legal allowed)))
 
 -- an event is about a number from 1
 pub low : (width m : ℕ) (H : List Event) (k : EventKind) (n : ℕ) → occurrence_of k ≡ Some n → IsLegalWithin width m H → IsAllowedWithin width m H k → 1 ≤ n
@@ -208,8 +235,8 @@ none-zero width m H legal =
 
 -- rows that followed an event that asks for no operation
 pub followed : (width m : ℕ) (H : List Event) (time : ℕ) (vs : List (List ℕ)) (k : EventKind) (old new : List OccRow) → ((a : Operation) → k ≡ Asked a → ⊥)
-    → ((n : ℕ) → occurrence_of k ≡ Some n → 1 ≤ n → new ≡ rows_about (occurrence_of k) time k old) → (occurrence_of k ≡ None → new ≡ old)
-    → IsLegalWithin width m H → IsAllowedWithin width m H k → new ≡ rows_after vs time k old
+    → ((n : ℕ) → occurrence_of k ≡ Some n → 1 ≤ n → new ≡ rows_about (occurrence_of k) time None k old) → (occurrence_of k ≡ None → new ≡ old)
+    → IsLegalWithin width m H → IsAllowedWithin width m H k → new ≡ rows_after vs time None k old
 followed width m H time vs (Asked a) old new not g h legal allowed = absurd (not a refl)
 followed width m H time vs (GrantTried n answer) old new not g h legal allowed = g n refl (low width m H (GrantTried n answer) n refl legal allowed)
 followed width m H time vs (Granted n grant places spots) old new not g h legal allowed = g n refl (low width m H (Granted n grant places spots) n refl legal allowed)
@@ -236,7 +263,7 @@ not_bringing _ f g = refl
 -- what a try with a location makes of the rows
 pub told_rows : (time n : ℕ) (answer : GrantTry) (location : Option (List ℕ)) (old new : List OccRow) → is_later answer ≡ true
     → ((at : List ℕ) → answer ≡ Later at → location ≡ Some at) → ((at : List ℕ) → location ≡ Some at → new ≡ update (after_told at) (n - 1) old)
-    → new ≡ update (row_after time (GrantTried n answer)) (n - 1) old
+    → new ≡ update (row_after time None (GrantTried n answer)) (n - 1) old
 told_rows time n (Later at) location old new later room put = put at (room at refl)
 told_rows time n Trouble location old new later room put = cc
 told_rows time n NotCovering location old new later room put = cc

@@ -28,6 +28,18 @@ update-front f (suc n) [] x e = refl
 update-front f zero (y ∷ ys) x e = refl
 update-front f (suc n) (y ∷ ys) x e = ap (λ zs. y ∷ zs) (update-front f n ys x (λ same. e (ap suc same)))
 
+-- two changes, one after the other
+pub update-both : {A : Type 0} → (f g : A → A) (n : ℕ) (xs : List A) → update f n (update g n xs) ≡ update (λ x. f (g x)) n xs
+update-both f g n [] = refl
+update-both f g zero (x ∷ xs) = refl
+update-both f g (suc n) (x ∷ xs) = ap (λ ys. x ∷ ys) (update-both f g n xs)
+
+-- a change that leaves each entry
+pub update-none : {A : Type 0} → (f : A → A) (n : ℕ) (xs : List A) → ((x : A) → f x ≡ x) → update f n xs ≡ xs
+update-none f n [] e = refl
+update-none f zero (x ∷ xs) e = ap (λ y. y ∷ xs) (e x)
+update-none f (suc n) (x ∷ xs) e = ap (λ ys. x ∷ ys) (update-none f n xs e)
+
 -- as many entries
 pub update-length : {A : Type 0} → (f : A → A) (n : ℕ) (xs : List A) → length (update f n xs) ≡ length xs
 update-length f n [] = refl

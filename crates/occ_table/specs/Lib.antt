@@ -2,7 +2,10 @@ pub mod Descriptors
 pub mod Ended
 pub mod Going
 pub mod Ongoing
+pub mod Packed
 pub mod Phases
+pub mod Used
+pub mod Resources
 pub mod Steps
 pub mod Rows
 pub mod Table

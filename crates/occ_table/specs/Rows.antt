@@ -21,6 +21,7 @@ use Rattle.lcm_model.specs.Words.{first, told, when}
 use Rattle.occ_table.specs.Descriptors.{vnfd}
 use Rattle.occ_table.specs.Ended.{is_over, kept, kept_grant}
 use Rattle.occ_table.specs.Phases.{tallies}
+use Rattle.occ_table.specs.Used.{used}
 use Rattle.occ_table.specs.declared.causes.Cause.{Cause}
 use Rattle.occ_table.specs.declared.causes.Cause.TheVariants as causes
 use Rattle.occ_table.specs.declared.pending.Pending.{Pending}
@@ -102,6 +103,7 @@ row H a = record {
   waiting = tallies 0 a.changes (nets H a);
   made = tallies 1 a.changes (nets H a);
   attempts = kept (is_over H a.occ) (map (λ c. length (attempts H a.occ c)) (numbers a));
+  used = map (used H a.occ) (numbers a);
   state = state H a.occ;
   asked = asked H a.occ;
   entered = entered H a.occ;

@@ -36,6 +36,7 @@ use Rattle.occ_table.specs.declared.causes.Cause.{Cause}
 use Rattle.occ_table.specs.declared.causes.Cause.TheVariants as causes
 use Rattle.occ_table.specs.declared.pending.Pending.{Pending}
 use Rattle.occ_table.specs.declared.rows.OccRow.{OccRow}
+use Rattle.occ_table.specs.declared.used.Used.{Used}
 
 -- the row of an operation that is asked for at this time, which names no descriptor yet
 abbrev pub first_row : ℕ → Operation → OccRow
@@ -49,6 +50,7 @@ first_row time a = record {
   waiting = in_phases a.changes;
   made = replicate 9 0;
   attempts = replicate (length a.changes) 0;
+  used = replicate (length a.changes) None;
   state = Starting;
   asked = time;
   entered = time;
@@ -162,17 +164,26 @@ is_bringing (Granted o name places spots) = true
 is_bringing (GrantTried o answer) = is_later answer
 is_bringing _ = false
 
--- the row after an event of this moment that is about its occurrence
-abbrev pub row_after : ℕ → EventKind → OccRow → OccRow
-row_after time (GrantTried o answer) r = after_answer answer r
-row_after time (Granted o name places spots) r = after_granted (record { name = name; places = places; spots = spots }) r
-row_after time (Denied o) r = record r { ended = true; cause = Some causes.Denied }
-row_after time (Moved o to) r = after_move time to r
-row_after time (CancelAsked o mode) r = record r { cancel = after_cancel mode r.cancel; cause = Some causes.Cancelled }
-row_after time (Intent t) r = after_begun t r
-row_after time (CallFailed t) r = record r { pending = map (failed_by t) r.pending }
-row_after time (Settled t outcome) r = after_settled t outcome r
-row_after time _ r = r
+-- what each change used, after one has used something, or nothing
+abbrev pub put_used : ℕ → Option Used → List (Option Used) → List (Option Used)
+put_used c None us = us
+put_used c (Some u) us = slice_set us c (Some u)
+
+-- the row after its change of this number has used something, or nothing
+abbrev pub noted : ℕ → Option Used → OccRow → OccRow
+noted c x r = record r { used = put_used c x r.used }
+
+-- the row after an event of this moment that is about its occurrence, by which its change has used something, or nothing
+abbrev pub row_after : ℕ → Option Used → EventKind → OccRow → OccRow
+row_after time x (GrantTried o answer) r = after_answer answer r
+row_after time x (Granted o name places spots) r = after_granted (record { name = name; places = places; spots = spots }) r
+row_after time x (Denied o) r = record r { ended = true; cause = Some causes.Denied }
+row_after time x (Moved o to) r = after_move time to r
+row_after time x (CancelAsked o mode) r = record r { cancel = after_cancel mode r.cancel; cause = Some causes.Cancelled }
+row_after time x (Intent t) r = after_begun t r
+row_after time x (CallFailed t) r = record r { pending = map (failed_by t) r.pending }
+row_after time x (Settled t outcome) r = noted t.change x (after_settled t outcome r)
+row_after time x _ r = r
 
 -- a list with the entry at this place changed
 abbrev pub update : {A : Type 0} → (A → A) → ℕ → List A → List A
@@ -181,18 +192,18 @@ update f zero (x ∷ xs) = f x ∷ xs
 update f (suc n) (x ∷ xs) = x ∷ update f n xs
 
 -- the rows after an event of this moment about this occurrence, or about none
-abbrev pub rows_about : Option ℕ → ℕ → EventKind → List OccRow → List OccRow
-rows_about None time k rs = rs
-rows_about (Some o) time k rs = update (row_after time k) (o - 1) rs
+abbrev pub rows_about : Option ℕ → ℕ → Option Used → EventKind → List OccRow → List OccRow
+rows_about None time x k rs = rs
+rows_about (Some o) time x k rs = update (row_after time x k) (o - 1) rs
 
 -- the row with the descriptor of its instance
 abbrev pub described : List ℕ → OccRow → OccRow
 described v r = record r { vnfd = v }
 
--- the rows after an event of this moment, where the instances have these descriptors
-abbrev pub rows_after : List (List ℕ) → ℕ → EventKind → List OccRow → List OccRow
-rows_after vs time (Asked a) rs = rs ++ described (vnfd_in a.instance vs) (first_row time a) ∷ []
-rows_after vs time k rs = rows_about (occurrence_of k) time k rs
+-- the rows after an event of this moment, where the instances have these descriptors, and by which a change has used something, or nothing
+abbrev pub rows_after : List (List ℕ) → ℕ → Option Used → EventKind → List OccRow → List OccRow
+rows_after vs time x (Asked a) rs = rs ++ described (vnfd_in a.instance vs) (first_row time a) ∷ []
+rows_after vs time x k rs = rows_about (occurrence_of k) time x k rs
 
 -- no attempt is open
 abbrev pub none_open : List Pending → Bool

@@ -9,8 +9,11 @@ mod judges;
 mod ongoing;
 mod pending;
 mod phases;
+mod resources;
+mod rooms;
 mod rows;
 mod table;
+mod used;
 mod vnfds;
 
 pub use causes::Cause;
@@ -19,3 +22,4 @@ pub use pending::{Pending, Pendings};
 pub use phases::PHASES;
 pub use rows::{Grant, OccRow};
 pub use table::OccTable;
+pub use used::{Used, Uses};

@@ -7,19 +7,22 @@ ghost use Rattle.std.specs.Prelude.{◌≡◌, ◌&&◌, ◌↔◌, IfOk, IsTrue
 ghost use Rattle.lcm_model.specs.Words.{otherwise, when};
 ghost use Rattle.occ_table.specs.declared.causes.Cause.TheVariants as causes;
 ghost use Rattle.occ_table.specs.Ended.{stripped};
-ghost use Rattle.occ_table.specs.Steps.{after_answer, after_cancel, after_move, forgotten, after_settled, after_told, after_trouble, begun, cause_among, described, failed_by, first_row, is_trouble_among, row_after, after_begun, nets_after, after_granted, is_bringing, is_later, gives_up_row, has_stopped_row, is_asking_row, is_new_try_row, MayTake, MayBeginRow, counts_for, is_next, is_turn, is_quiet_row, may_move_from};
+ghost use Rattle.occ_table.specs.Resources.{deed_by, place_by};
+ghost use Rattle.occ_table.specs.Steps.{after_answer, after_cancel, after_move, forgotten, after_settled, after_told, after_trouble, begun, cause_among, described, failed_by, first_row, is_trouble_among, row_after, after_begun, nets_after, noted, after_granted, is_bringing, is_later, gives_up_row, has_stopped_row, is_asking_row, is_new_try_row, MayTake, MayBeginRow, counts_for, is_next, is_turn, is_quiet_row, may_move_from};
 
 use crate::asks::{copied_ask, copied_line};
 use crate::causes::Cause;
 use crate::cells::Cells;
 use crate::pending::Pendings;
 use crate::phases::{PHASES, are_clear, are_none, count_phases, shift};
+use crate::resources::Deed;
+use crate::used::{PackedUsed, Uses};
 use crate::vnfds::no_name;
 use lcm_events::{
     Ask, CancelMode, Changes, EventKind, GrantTry, Listed, OpState, Operation, Outcome, Place,
     Role, Tag, Way,
 };
-use lcm_model::{ends, is_placing};
+use lcm_model::{Effect, ends, is_placing, place_in, verb_in_way};
 use std::alloc::{AllocError, Global};
 use vnfm_base::{Line, Moment, Name};
 
@@ -118,6 +121,8 @@ pub struct OccRow {
     pub made: [u64; PHASES],
     /// How many attempts there were at each change; none is listed once the occurrence is over.
     pub attempts: Cells<u32>,
+    /// What each change used last: the resource that its last attempt that was done and no undo made, removed or powered, with its place.
+    pub used: Uses,
     /// The state that it is in.
     pub state: OpState,
     /// When it was asked for.
@@ -181,6 +186,7 @@ impl OccRow {
         let changes = operation.changes.as_slice().to_vec(alloc)?;
         let nets = vec![in alloc; 0u8; changes.len()]?;
         let attempts = vec![in alloc; 0u32; changes.len()]?;
+        let used = Uses::none(alloc, changes.len())?;
         let waiting = count_phases(changes.as_slice());
         let pending = Pendings::new(alloc)?;
         Ok(OccRow {
@@ -193,6 +199,7 @@ impl OccRow {
             waiting,
             made: [0; PHASES],
             attempts: Cells::of(attempts),
+            used,
             state: OpState::Starting,
             asked: moment,
             entered: moment,
@@ -217,6 +224,7 @@ impl OccRow {
         let changes = self.changes.as_slice().to_vec(alloc)?;
         let nets = self.nets.as_slice().to_vec(alloc)?;
         let attempts = self.attempts.as_slice().to_vec(alloc)?;
+        let used = self.used.copy(alloc)?;
         let location = copied_line(&self.location)?;
         let pending = self.pending.copy(alloc)?;
         let grant = copied_grant(alloc, &self.grant)?;
@@ -230,6 +238,7 @@ impl OccRow {
             waiting: self.waiting,
             made: self.made,
             attempts: Cells::of(attempts),
+            used,
             state: self.state,
             asked: self.asked,
             entered: self.entered,
@@ -430,7 +439,7 @@ impl OccRow {
     /// An event of this moment about the occurrence came, for which nothing is laid aside.
     pub fn follow(&mut self, moment: Moment, kind: &EventKind)
         requires { is_bringing kind.now ≡ false }
-        ensures { self.new ≡ row_after moment kind.now self.old }
+        ensures { self.new ≡ row_after moment None kind.now self.old }
     {
         match kind {
             EventKind::GrantTried { answer, .. } => self.record_answer(answer),
@@ -442,6 +451,41 @@ impl OccRow {
             EventKind::CancelAsked { mode, .. } => self.record_cancel(*mode),
             _ => {}
         }
+    }
+
+    /// The place that the grant gave to the change of this number.
+    fn place_of(&self, change: u16) -> Option<Place>
+        ensures { result ≡ place_by change self.now }
+    {
+        match &self.grant {
+            Some(grant) => place_in(grant.places.as_slice(), grant.spots.as_slice(), change),
+            None => None,
+        }
+    }
+
+    /// What an attempt did that was done with this name, and the place that was granted to its change.
+    pub fn deed(&self, tag: &Tag, resource: Name) -> Option<Deed>
+        ensures { result ≡ deed_by tag.now resource self.now }
+    {
+        let change = self.changes.as_slice().get(tag.change as usize)?;
+        let effect = Effect {
+            tag: *tag,
+            instance: self.instance,
+            def: change.def,
+            verb: verb_in_way(tag.way, change.verb),
+            resource,
+        };
+        Some(Deed {
+            effect,
+            place: self.place_of(tag.change),
+        })
+    }
+
+    /// Its change of this number has used this last.
+    pub fn note(&mut self, change: u16, used: PackedUsed)
+        ensures { self.new ≡ noted change (Some used) self.old }
+    {
+        self.used.set(change as usize, used);
     }
 
     /// Whether its work is at rest: no open attempt, no trouble, no cancel.

@@ -2,27 +2,35 @@
 
 ghost use Rattle.occ_table.specs.declared.rows.Grant.{Grant};
 ghost use Rattle.std.specs.Prelude.{◌≡◌, ◌-◌, ◌<◌, ◌≤◌, ℕ, List, [], ◌++◌, ◌∷◌, Some, None, true, false, find, nat_lt, length, option_copied, slice_get, IsOk, OnOk, vec_len, vec_capacity};
-ghost use Rattle.lcm_events.specs.declared.events.EventKind.TheVariants.{GrantTried};
+ghost use Rattle.lcm_events.specs.declared.attempts.Outcome.TheVariants.{Done};
+ghost use Rattle.lcm_events.specs.declared.changes.Def.{Def};
+ghost use Rattle.lcm_events.specs.declared.events.EventKind.TheVariants.{GrantTried, Settled};
+ghost use Rattle.lcm_model.specs.Attempts.{is_done};
 ghost use Rattle.lcm_model.specs.Operations.{occurrence_of};
-ghost use Rattle.occ_table.specs.Descriptors.{vnfd_in};
+ghost use Rattle.occ_table.specs.Descriptors.{numbered, vnfd_in};
 ghost use Rattle.occ_table.specs.Going.{Rises, active_moved};
 ghost use Rattle.occ_table.specs.Ongoing.{instance_in, ongoing_in, ongoing_moved, with_ongoing};
-ghost use Rattle.occ_table.specs.Steps.{described, first_row, row_after, rows_about, update, after_granted, after_told, is_bringing, is_later};
+ghost use Rattle.occ_table.specs.Steps.{described, first_row, noted, row_after, rows_about, update, after_granted, after_told, is_bringing, is_later};
+ghost use Rattle.occ_table.specs.Resources.{deed_of, kept_of, known_after, used_after};
 ghost use Rattle.occ_table.specs.Rows.{StandsFor};
-ghost use Rattle.occ_table.specs.Table.{Applies, Counts, Follows, GoesOn, HasRoom, HasRoomFor, IsTableOf, Looks, Occurrences, Reserved, needs_room};
+ghost use Rattle.occ_table.specs.Table.{Applies, Counts, Follows, GoesOn, HasNames, HasRoom, HasRoomFor, IsTableOf, Looks, Occurrences, Reserved, needs_room};
 
 use crate::going::{append, first_above, move_active, reserve_places};
 use crate::ongoing::{instance_of, move_ongoing, ongoing_at, set_ongoing};
+use crate::resources::{Deed, Resources};
+use crate::rooms::Rooms;
 use crate::rows::{Grant, OccRow};
+use crate::used::{PackedUsed, Used};
 use crate::vnfds::vnfd_at;
-use lcm_events::{Event, EventKind, GrantTry, Listed, OpState, Operation, Place};
+use lcm_events::{Event, EventKind, GrantTry, Listed, OpState, Operation, Outcome, Place, Tag};
 use std::alloc::{AllocError, Global};
 use std::marker::Model;
 use vnfm_base::{Line, Moment, Name};
 
 /// The table of occurrences.
 ///
-/// A contract sees its rows, which occurrences are active, which operation of each instance goes on, and what is reserved for an event.
+/// A contract sees its rows, which occurrences are active, which operation of each instance goes on, which resource each definition has that
+/// was ever made, and what is reserved for an event.
 /// Each row has a place among the active numbers, so that a move needs no memory.
 #[derive(Debug, Drop)]
 pub struct OccTable {
@@ -30,9 +38,11 @@ pub struct OccTable {
     active: Vec<u64>,
     ongoing: Vec<Option<u64>>,
     vnfds: Vec<Name>,
+    resources: Resources,
     row: Option<OccRow>,
     grant: Option<Grant>,
     location: Option<Line>,
+    names: Rooms,
 }
 
 impl Model for OccTable {
@@ -41,7 +51,7 @@ impl Model for OccTable {
 
     ghost Value = { Occurrences };
 
-    ghost view = { λ t. record { rows = t.rows.items; active = t.active.items; ongoing = t.ongoing.items; vnfds = t.vnfds.items; reserved = record { row = t.row; grant = t.grant; location = t.location; spare = vec_capacity t.rows - vec_len t.rows; places = vec_capacity t.active - vec_len t.rows; instances = vec_capacity t.ongoing - vec_len t.ongoing; names = vec_capacity t.vnfds - vec_len t.vnfds } } };
+    ghost view = { λ t. record { rows = t.rows.items; active = t.active.items; ongoing = t.ongoing.items; vnfds = t.vnfds.items; resources = t.resources.entries; reserved = record { row = t.row; grant = t.grant; location = t.location; spare = vec_capacity t.rows - vec_len t.rows; places = vec_capacity t.active - vec_len t.rows; instances = vec_capacity t.ongoing - vec_len t.ongoing; names = vec_capacity t.vnfds - vec_len t.vnfds; resources = t.resources.spare; made_names = t.resources.room; used_names = t.names } } };
 
     ghost invariant = { λ t. vec_len t.rows ≤ vec_capacity t.active };
 }
@@ -66,7 +76,7 @@ fn occurrence_in(kind: &EventKind) -> Option<u64>
 /// Lets the row at this place follow an event of this moment. Nothing happens beyond the end.
 fn follow_at(rows: &mut Vec<OccRow>, at: usize, moment: Moment, kind: &EventKind)
     requires { is_bringing kind.now ≡ false }
-    ensures items { rows.new.items ≡ update (row_after moment kind.now) at rows.old.items }
+    ensures items { rows.new.items ≡ update (row_after moment None kind.now) at rows.old.items }
     ensures length { vec_len rows.new ≡ vec_len rows.old }
     ensures capacity { vec_capacity rows.new ≡ vec_capacity rows.old }
 {
@@ -98,6 +108,37 @@ fn tell_at(rows: &mut Vec<OccRow>, at: usize, location: Line)
     }
 }
 
+/// Notes in the row at this place what its change of this number used. Nothing happens beyond the end.
+fn note_at(rows: &mut Vec<OccRow>, at: usize, change: u16, used: PackedUsed)
+    ensures items { rows.new.items ≡ update (noted change (Some used)) at rows.old.items }
+    ensures length { vec_len rows.new ≡ vec_len rows.old }
+{
+    match rows.get_mut(at) {
+        Some(row) => row.note(change, used),
+        None => {}
+    }
+}
+
+/// The row of the occurrence of this number, where there is one.
+fn row_of(rows: &[OccRow], occ: u64) -> Option<&OccRow>
+    ensures { option_copied result ≡ numbered occ rows.now }
+{
+    if occ == 0 {
+        return None;
+    }
+    rows.get((occ - 1) as usize)
+}
+
+/// What an attempt did that was done with this name, by the row of its occurrence.
+fn deed_of(rows: &[OccRow], tag: &Tag, resource: Name) -> Option<Deed>
+    ensures { result ≡ deed_of tag.now (Done resource) rows.now }
+{
+    match row_of(rows, tag.occ) {
+        Some(row) => row.deed(tag, resource),
+        None => None,
+    }
+}
+
 /// Whether an answer tells where the grant will be.
 fn is_later(answer: &GrantTry) -> bool
     ensures { result ≡ is_later answer.now }
@@ -121,9 +162,11 @@ impl OccTable {
             active: Vec::new(alloc),
             ongoing: Vec::new(alloc),
             vnfds: Vec::new(alloc),
+            resources: Resources::new(alloc),
             row: None,
             grant: None,
             location: None,
+            names: Rooms::new(),
         }
     }
 
@@ -184,12 +227,23 @@ impl OccTable {
         Ok(())
     }
 
+    /// Reserves a place for what an attempt did, whatever the name is of what it made.
+    fn reserve_done(&mut self, alloc: Global) -> Result<(), AllocError>
+        ensures kept { self.new ≡ record self.old { resources = self.new.resources; reserved = self.new.reserved } }
+        ensures resources { (i : ℕ) (x : Def) → kept_of self.new.resources i x ≡ kept_of self.old.resources i x }
+        ensures room { OnOk result (HasNames (Done []) self.new.reserved) }
+    {
+        self.resources.reserve(alloc)?;
+        self.names.reserve(alloc)
+    }
+
     /// Reserves the memory that an event needs, so that `apply` takes none. All else stays, also after an error, which never comes for an event
     /// that needs no memory.
     ///
     /// Source: own rule.
     pub fn reserve_for(&mut self, alloc: Global, e: &Event) -> Result<(), AllocError>
-        ensures kept { self.new ≡ record self.old { reserved = self.new.reserved } }
+        ensures kept { self.new ≡ record self.old { resources = self.new.resources; reserved = self.new.reserved } }
+        ensures resources { (i : ℕ) (x : Def) → kept_of self.new.resources i x ≡ kept_of self.old.resources i x }
         ensures room { OnOk result (HasRoom e.now self.new.reserved) }
         ensures free { needs_room e.now.kind ≡ false → IsOk result }
         ensures stays { needs_room e.now.kind ≡ false → self.new.reserved ≡ self.old.reserved }
@@ -207,6 +261,10 @@ impl OccTable {
                 answer: GrantTry::Later(location),
                 ..
             } => self.reserve_location(location),
+            EventKind::Settled {
+                outcome: Outcome::Done(_),
+                ..
+            } => self.reserve_done(alloc),
             _ => Ok(()),
         }
     }
@@ -216,6 +274,7 @@ impl OccTable {
         ensures active { self.new.active ≡ self.old.active }
         ensures ongoing { self.new.ongoing ≡ self.old.ongoing }
         ensures vnfds { self.new.vnfds ≡ self.old.vnfds }
+        ensures resources { self.new.resources ≡ self.old.resources }
         ensures rows { (g : Grant) → self.old.reserved.grant ≡ Some g → 1 ≤ occ → self.new.rows ≡ update (after_granted g) (occ - 1) self.old.rows }
     {
         if let Some(grant) = self.grant.take() {
@@ -230,6 +289,7 @@ impl OccTable {
         ensures active { self.new.active ≡ self.old.active }
         ensures ongoing { self.new.ongoing ≡ self.old.ongoing }
         ensures vnfds { self.new.vnfds ≡ self.old.vnfds }
+        ensures resources { self.new.resources ≡ self.old.resources }
         ensures rows { (at : List ℕ) → self.old.reserved.location ≡ Some at → 1 ≤ occ → self.new.rows ≡ update (after_told at) (occ - 1) self.old.rows }
     {
         if let Some(location) = self.location.take() {
@@ -247,6 +307,7 @@ impl OccTable {
         ensures active { self.new.active ≡ self.old.active }
         ensures ongoing { self.new.ongoing ≡ self.old.ongoing ++ None ∷ [] }
         ensures vnfds { self.new.vnfds ≡ self.old.vnfds ++ vnfd ∷ [] }
+        ensures resources { self.new.resources ≡ self.old.resources }
     {
         self.ongoing.push_reserved(None);
         self.vnfds.push_reserved(vnfd);
@@ -260,6 +321,7 @@ impl OccTable {
         ensures active { length self.old.active ≤ length self.old.rows → self.new.active ≡ self.old.active ++ occ ∷ [] }
         ensures ongoing { self.new.ongoing ≡ with_ongoing instance (Some occ) self.old.ongoing }
         ensures vnfds { self.new.vnfds ≡ self.old.vnfds }
+        ensures resources { self.new.resources ≡ self.old.resources }
     {
         let vnfd = vnfd_at(self.vnfds.as_slice(), instance);
         if let Some(mut row) = self.row.take() {
@@ -273,10 +335,11 @@ impl OccTable {
     /// Lets the row of an occurrence follow its move, and the active numbers and the ongoing operations too.
     fn follow_move(&mut self, moment: Moment, occ: u64, to: OpState, kind: &EventKind)
         requires { is_bringing kind.now ≡ false }
-        ensures numbered { 1 ≤ occ → self.new.rows ≡ update (row_after moment kind.now) (occ - 1) self.old.rows }
+        ensures numbered { 1 ≤ occ → self.new.rows ≡ update (row_after moment None kind.now) (occ - 1) self.old.rows }
         ensures active { length (active_moved occ to self.old.active) ≤ length self.old.rows → self.new.active ≡ active_moved occ to self.old.active }
         ensures ongoing { self.new.ongoing ≡ ongoing_moved (instance_in occ self.old.rows) to self.old.ongoing }
         ensures vnfds { self.new.vnfds ≡ self.old.vnfds }
+        ensures resources { self.new.resources ≡ self.old.resources }
         ensures reserved { self.new.reserved ≡ self.old.reserved }
     {
         let instance = instance_of(self.rows.as_slice(), occ);
@@ -291,10 +354,11 @@ impl OccTable {
     fn follow(&mut self, occ: u64, moment: Moment, kind: &EventKind)
         requires low { 1 ≤ occ }
         requires nothing_brought { is_bringing kind.now ≡ false }
-        ensures rows { self.new.rows ≡ update (row_after moment kind.now) (occ - 1) self.old.rows }
+        ensures rows { self.new.rows ≡ update (row_after moment None kind.now) (occ - 1) self.old.rows }
         ensures active { self.new.active ≡ self.old.active }
         ensures ongoing { self.new.ongoing ≡ self.old.ongoing }
         ensures vnfds { self.new.vnfds ≡ self.old.vnfds }
+        ensures resources { self.new.resources ≡ self.old.resources }
         ensures reserved { self.new.reserved ≡ self.old.reserved }
     {
         follow_at(&mut self.rows, (occ - 1) as usize, moment, kind);
@@ -303,11 +367,12 @@ impl OccTable {
     /// Lets the row of the occurrence that an event of this moment is about follow it.
     fn follow_about(&mut self, moment: Moment, kind: &EventKind)
         requires { is_bringing kind.now ≡ false }
-        ensures numbered { (n : ℕ) → occurrence_of kind.now ≡ Some n → 1 ≤ n → self.new.rows ≡ rows_about (occurrence_of kind.now) moment kind.now self.old.rows }
+        ensures numbered { (n : ℕ) → occurrence_of kind.now ≡ Some n → 1 ≤ n → self.new.rows ≡ rows_about (occurrence_of kind.now) moment None kind.now self.old.rows }
         ensures none { occurrence_of kind.now ≡ None → self.new.rows ≡ self.old.rows }
         ensures active { self.new.active ≡ self.old.active }
         ensures ongoing { self.new.ongoing ≡ self.old.ongoing }
         ensures vnfds { self.new.vnfds ≡ self.old.vnfds }
+        ensures resources { self.new.resources ≡ self.old.resources }
         ensures reserved { self.new.reserved ≡ self.old.reserved }
     {
         match occurrence_in(kind) {
@@ -323,16 +388,96 @@ impl OccTable {
     /// Lets the row of an occurrence follow a try of its grant exchange.
     fn follow_try(&mut self, moment: Moment, occ: u64, answer: &GrantTry, kind: &EventKind)
         requires { kind.now ≡ GrantTried occ answer.now }
-        ensures numbered { HasRoomFor moment kind.now self.old.reserved → 1 ≤ occ → self.new.rows ≡ update (row_after moment kind.now) (occ - 1) self.old.rows }
+        ensures numbered { HasRoomFor moment kind.now self.old.reserved → 1 ≤ occ → self.new.rows ≡ update (row_after moment None kind.now) (occ - 1) self.old.rows }
         ensures active { self.new.active ≡ self.old.active }
         ensures ongoing { self.new.ongoing ≡ self.old.ongoing }
         ensures vnfds { self.new.vnfds ≡ self.old.vnfds }
+        ensures resources { self.new.resources ≡ self.old.resources }
         ensures reserved { needs_room kind.now ≡ false → self.new.reserved ≡ self.old.reserved }
     {
         if is_later(answer) {
             self.put_location(occ);
         } else {
             self.follow_about(moment, kind);
+        }
+    }
+
+    /// The change of this number of an occurrence has used this last, or nothing new.
+    fn note(&mut self, occ: u64, change: u16, used: &Option<Used>)
+        requires { 765 ≤ self.old.reserved.used_names }
+        ensures rows { 1 ≤ occ → self.new.rows ≡ update (noted change used.now) (occ - 1) self.old.rows }
+        ensures active { self.new.active ≡ self.old.active }
+        ensures ongoing { self.new.ongoing ≡ self.old.ongoing }
+        ensures vnfds { self.new.vnfds ≡ self.old.vnfds }
+        ensures resources { self.new.resources ≡ self.old.resources }
+    {
+        match used {
+            Some(used) => self.put_used(occ, change, used),
+            None => {}
+        }
+    }
+
+    /// Puts what the change of this number of an occurrence has used last into the reserved text, and that into its row.
+    fn put_used(&mut self, occ: u64, change: u16, used: &Used)
+        requires { 765 ≤ self.old.reserved.used_names }
+        ensures rows { 1 ≤ occ → self.new.rows ≡ update (noted change (Some used.now)) (occ - 1) self.old.rows }
+        ensures active { self.new.active ≡ self.old.active }
+        ensures ongoing { self.new.ongoing ≡ self.old.ongoing }
+        ensures vnfds { self.new.vnfds ≡ self.old.vnfds }
+        ensures resources { self.new.resources ≡ self.old.resources }
+    {
+        if let Some(names) = self.names.take(used.names_len()) {
+            let used = PackedUsed::of(names, used);
+            if occ > 0 {
+                note_at(&mut self.rows, (occ - 1) as usize, change, used);
+            }
+        }
+    }
+
+    /// Learns what an attempt did that was done with this name, and tells what its change used.
+    fn take_deed(&mut self, tag: &Tag, resource: Name) -> Option<Used>
+        requires { HasNames (Done resource) self.old.reserved }
+        ensures used { result ≡ used_after (deed_of tag.now (Done resource) self.old.rows) (kept_of self.old.resources) }
+        ensures rows { self.new.rows ≡ self.old.rows }
+        ensures active { self.new.active ≡ self.old.active }
+        ensures ongoing { self.new.ongoing ≡ self.old.ongoing }
+        ensures vnfds { self.new.vnfds ≡ self.old.vnfds }
+        ensures resources { (i : ℕ) (x : Def) → kept_of self.new.resources i x ≡ known_after (deed_of tag.now (Done resource) self.old.rows) (kept_of self.old.resources) i x }
+        ensures names { self.new.reserved.used_names ≡ self.old.reserved.used_names }
+    {
+        let deed = deed_of(self.rows.as_slice(), tag, resource);
+        self.resources.take(&deed)
+    }
+
+    /// Lets the row of an occurrence follow the end of an attempt that was done with this name.
+    fn follow_done(&mut self, moment: Moment, tag: &Tag, resource: Name, kind: &EventKind)
+        requires kind { kind.now ≡ Settled tag.now (Done resource) }
+        requires room { HasNames (Done resource) self.old.reserved }
+        ensures rows { 1 ≤ tag.now.occ → self.new.rows ≡ update (row_after moment (used_after (deed_of tag.now (Done resource) self.old.rows) (kept_of self.old.resources)) kind.now) (tag.now.occ - 1) self.old.rows }
+        ensures active { self.new.active ≡ self.old.active }
+        ensures ongoing { self.new.ongoing ≡ self.old.ongoing }
+        ensures vnfds { self.new.vnfds ≡ self.old.vnfds }
+        ensures resources { (i : ℕ) (x : Def) → kept_of self.new.resources i x ≡ known_after (deed_of tag.now (Done resource) self.old.rows) (kept_of self.old.resources) i x }
+    {
+        let used = self.take_deed(tag, resource);
+        self.follow_about(moment, kind);
+        self.note(tag.occ, tag.change, &used);
+    }
+
+    /// Lets the row of an occurrence follow the end of an attempt.
+    fn follow_end(&mut self, moment: Moment, tag: &Tag, outcome: &Outcome, kind: &EventKind)
+        requires kind { kind.now ≡ Settled tag.now outcome.now }
+        requires room { HasNames outcome.now self.old.reserved }
+        ensures rows { 1 ≤ tag.now.occ → self.new.rows ≡ update (row_after moment (used_after (deed_of tag.now outcome.now self.old.rows) (kept_of self.old.resources)) kind.now) (tag.now.occ - 1) self.old.rows }
+        ensures active { self.new.active ≡ self.old.active }
+        ensures ongoing { self.new.ongoing ≡ self.old.ongoing }
+        ensures vnfds { self.new.vnfds ≡ self.old.vnfds }
+        ensures resources { (i : ℕ) (x : Def) → kept_of self.new.resources i x ≡ known_after (deed_of tag.now outcome.now self.old.rows) (kept_of self.old.resources) i x }
+        ensures reserved { is_done outcome.now ≡ false → self.new.reserved ≡ self.old.reserved }
+    {
+        match outcome {
+            Outcome::Done(resource) => self.follow_done(moment, tag, *resource, kind),
+            _ => self.follow_about(moment, kind),
         }
     }
 
@@ -352,6 +497,9 @@ impl OccTable {
                 self.follow_try(e.moment, *occ, answer, &e.kind);
             }
             EventKind::Moved { occ, to } => self.follow_move(e.moment, *occ, *to, &e.kind),
+            EventKind::Settled { tag, outcome } => {
+                self.follow_end(e.moment, tag, outcome, &e.kind);
+            }
             kind => self.follow_about(e.moment, kind),
         }
     }

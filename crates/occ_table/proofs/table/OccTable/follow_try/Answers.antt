@@ -1,4 +1,4 @@
-use Rattle.std.proofs.Common.{◌∙◌, ap, sym, subst, ◌≡◌, ◌-◌, List, Some, Option, ℕ, true, false}
+use Rattle.std.proofs.Common.{◌∙◌, ap, sym, subst, ◌≡◌, ◌-◌, List, None, Some, Option, ℕ, true, false}
 use Rattle.lcm_events.specs.declared.events.EventKind.{EventKind}
 use Rattle.lcm_events.specs.declared.events.EventKind.TheVariants.{GrantTried}
 use Rattle.lcm_events.specs.declared.events.GrantTry.{GrantTry}
@@ -21,10 +21,11 @@ returns-then-is_later c =
           told_rows time n c.args.answer.now kept.location old c.put_location.new.self.rows later
           (λ at e. subst (λ (k : EventKind). HasRoomFor time k kept) (c.requires ∙ ap (λ (a : GrantTry). GrantTried n a) e) room)
           (λ at e. c.put_location.ensures.rows at e from)
-          ∙ ap (λ (k : EventKind). update (row_after time k) (n - 1) old) (sym c.requires);
+          ∙ ap (λ (k : EventKind). update (row_after time None k) (n - 1) old) (sym c.requires);
       active = c.put_location.ensures.active;
       ongoing = c.put_location.ensures.ongoing;
       vnfds = c.put_location.ensures.vnfds;
+      resources = c.put_location.ensures.resources;
       reserved = λ none.
           let yes : true ≡ false = sym (needs_location n c.args.answer.now later) ∙ (sym (ap needs_room c.requires) ∙ none) in
           cc;
@@ -36,10 +37,11 @@ returns-else-is_later c =
     record {
       numbered = λ room from.
           c.follow_about.ensures.numbered c.args.occ about from
-          ∙ ap (λ (o : Option ℕ). rows_about o c.args.moment c.args.kind.now c.args.self.now.rows) about;
+          ∙ ap (λ (o : Option ℕ). rows_about o c.args.moment None c.args.kind.now c.args.self.now.rows) about;
       active = c.follow_about.ensures.active;
       ongoing = c.follow_about.ensures.ongoing;
       vnfds = c.follow_about.ensures.vnfds;
+      resources = c.follow_about.ensures.resources;
       reserved = λ none. c.follow_about.ensures.reserved;
     }
 
