@@ -1,8 +1,8 @@
 //! Events of a manager's first hours, written out by hand.
 
 use lcm_events::{
-    Ask, Change, Def, DefKind, EventKind, Filter, Listed, OpState, Operation, PostOutcome, Role,
-    StopType, Vdu, Verb, Vnfd,
+    Aim, Ask, Aspect, AspectLevel, Change, Def, DefKind, EventKind, Filter, Level, Listed, OpState,
+    Operation, Outcome, Place, PostOutcome, Role, ScaleWay, StopType, Tag, Vdu, Verb, Vnfd,
 };
 use std::alloc::Global;
 use std::process::Abort;
@@ -24,9 +24,31 @@ fn vdu(rt: &impl Abort, alloc: Global, text: &str) -> Vdu {
     }
 }
 
-/// A descriptor of two VDUs.
+fn aspect(rt: &impl Abort, alloc: Global, text: &str) -> Aspect {
+    Aspect {
+        name: name(rt, text),
+        maximum: 5,
+        steps: 0,
+        rows: Listed::new(alloc),
+    }
+}
+
+fn level(rt: &impl Abort, alloc: Global, text: &str, numbers: (u32, u32)) -> Result<Level, Fail> {
+    let numbers = vec![in alloc; numbers.0, numbers.1]?;
+    Ok(Level {
+        name: name(rt, text),
+        numbers: Listed::of(numbers),
+    })
+}
+
+/// A descriptor of two VDUs, two aspects and two levels.
 fn vnfd(rt: &impl Abort, alloc: Global, id: &str) -> Result<Vnfd, Fail> {
     let vdus = vec![in alloc; vdu(rt, alloc, "front"), vdu(rt, alloc, "back")]?;
+    let aspects = vec![in alloc; aspect(rt, alloc, "callers"), aspect(rt, alloc, "readers")]?;
+    let levels = vec![in alloc;
+        level(rt, alloc, "big", (3, 4))?,
+        level(rt, alloc, "small", (0, 1))?,
+    ]?;
     Ok(Vnfd {
         descriptor_id: name(rt, id),
         provider: name(rt, "Example"),
@@ -38,9 +60,9 @@ fn vnfd(rt: &impl Abort, alloc: Global, id: &str) -> Result<Vnfd, Fail> {
         storages: Listed::new(alloc),
         links: Listed::new(alloc),
         ports: Listed::new(alloc),
-        aspects: Listed::new(alloc),
-        levels: Listed::new(alloc),
-        default_level: 0,
+        aspects: Listed::of(aspects),
+        levels: Listed::of(levels),
+        default_level: 1,
     })
 }
 
@@ -83,37 +105,83 @@ fn asked(alloc: Global, occ: u64, ask: Ask) -> EventKind {
     })
 }
 
-pub fn instantiate(rt: &impl Abort, alloc: Global, occ: u64) -> EventKind {
-    asked(
-        alloc,
-        occ,
-        Ask::Instantiate {
+/// What an instance is asked.
+#[derive(Clone, Copy, PartialEq, Eq, Debug)]
+pub enum Request {
+    /// INSTANTIATE at the default level.
+    Instantiate,
+    /// INSTANTIATE at a level.
+    InstantiateAt(&'static str),
+    /// SCALE of the readers by steps.
+    Scale(ScaleWay, u32),
+    /// SCALE_TO_LEVEL of all.
+    ScaleTo(&'static str),
+    /// SCALE_TO_LEVEL of the callers alone.
+    ScaleCallers(u32),
+    /// OPERATE to STOPPED.
+    Stop,
+    /// TERMINATE.
+    Terminate,
+}
+
+/// An event that the tables of tests name.
+#[derive(Clone, Copy, PartialEq, Eq, Debug)]
+pub enum Step {
+    /// An instance of the first descriptor is created.
+    Created(u64),
+    /// An operation is requested of instance 1.
+    Asked(u64, Request),
+    /// An occurrence moves.
+    Moved(u64, OpState),
+    /// The notice at a place is posted to subscription 1.
+    Posted(u64, PostOutcome),
+}
+
+/// The callers are to have this level.
+fn callers_at(rt: &impl Abort, alloc: Global, level: u32) -> Result<Ask, Fail> {
+    let aspect = name(rt, "callers");
+    let named = vec![in alloc; AspectLevel { aspect, level }]?;
+    Ok(Ask::ScaleToLevel(Aim::Aspects(Listed::of(named))))
+}
+
+/// The ask of a request.
+fn ask_of(rt: &impl Abort, alloc: Global, request: Request) -> Result<Ask, Fail> {
+    let ask = match request {
+        Request::Instantiate => Ask::Instantiate {
             flavour: name(rt, "simple"),
             level: None,
         },
-    )
-}
-
-pub fn stop(alloc: Global, occ: u64) -> EventKind {
-    asked(
-        alloc,
-        occ,
-        Ask::Operate {
+        Request::InstantiateAt(level) => Ask::Instantiate {
+            flavour: name(rt, "simple"),
+            level: Some(name(rt, level)),
+        },
+        Request::Scale(way, steps) => Ask::Scale {
+            way,
+            aspect: name(rt, "readers"),
+            steps,
+        },
+        Request::ScaleTo(level) => Ask::ScaleToLevel(Aim::Level(name(rt, level))),
+        Request::ScaleCallers(level) => callers_at(rt, alloc, level)?,
+        Request::Stop => Ask::Operate {
             started: false,
             stop: None,
         },
-    )
-}
-
-pub fn terminate(alloc: Global, occ: u64) -> EventKind {
-    asked(
-        alloc,
-        occ,
-        Ask::Terminate {
+        Request::Terminate => Ask::Terminate {
             mode: StopType::Forceful,
             timeout: None,
         },
-    )
+    };
+    Ok(ask)
+}
+
+/// An operation that is requested of instance 1, without changes.
+pub fn requested(
+    rt: &impl Abort,
+    alloc: Global,
+    occ: u64,
+    request: Request,
+) -> Result<EventKind, Fail> {
+    Ok(asked(alloc, occ, ask_of(rt, alloc, request)?))
 }
 
 /// A machine that is made.
@@ -128,6 +196,59 @@ fn machine(vdu: u16, serial: u32) -> Change {
             serial,
         },
     }
+}
+
+/// A change of the first machine of the first VDU.
+fn change(phase: u8, verb: Verb) -> Change {
+    Change {
+        phase,
+        verb,
+        def: machine(0, 1).def,
+    }
+}
+
+/// An operation that stops and takes away the first machine of the first VDU.
+pub fn removing(alloc: Global, occ: u64) -> Result<EventKind, Fail> {
+    let changes = vec![in alloc; change(4, Verb::Stop), change(6, Verb::Remove)]?;
+    Ok(EventKind::Asked(Operation {
+        occ,
+        instance: 1,
+        role: Role::Orchestrator,
+        ask: Ask::Terminate {
+            mode: StopType::Graceful,
+            timeout: None,
+        },
+        changes: Listed::of(changes),
+    }))
+}
+
+fn place(rt: &impl Abort, text: &str) -> Place {
+    Place {
+        vim: name(rt, text),
+        zone: name(rt, ""),
+    }
+}
+
+/// A grant of two places, of which the first three changes have the first, the second and the first.
+pub fn granted(
+    rt: &impl Abort,
+    alloc: Global,
+    occ: u64,
+    places: (&str, &str),
+) -> Result<EventKind, Fail> {
+    let places = vec![in alloc; place(rt, places.0), place(rt, places.1)]?;
+    let spots: Vec<u8> = vec![in alloc; 0u8, 1u8, 0u8]?;
+    Ok(EventKind::Granted {
+        occ,
+        grant: name(rt, "grant"),
+        places: Listed::of(places),
+        spots: Listed::of(spots),
+    })
+}
+
+/// An attempt that ended.
+pub fn settled(tag: Tag, outcome: Outcome) -> EventKind {
+    EventKind::Settled { tag, outcome }
 }
 
 /// A link that is made.
@@ -169,10 +290,20 @@ pub fn moved(occ: u64, to: OpState) -> EventKind {
     EventKind::Moved { occ, to }
 }
 
-pub fn posted(place: u64, outcome: PostOutcome) -> EventKind {
+fn posted(place: u64, outcome: PostOutcome) -> EventKind {
     EventKind::Posted {
         subscription: 1,
         place,
         outcome,
+    }
+}
+
+/// The event of a step.
+pub fn event_of(rt: &impl Abort, alloc: Global, step: Step) -> Result<EventKind, Fail> {
+    match step {
+        Step::Created(instance) => Ok(created(rt, instance, "vnfd-1")),
+        Step::Asked(occ, request) => requested(rt, alloc, occ, request),
+        Step::Moved(occ, to) => Ok(moved(occ, to)),
+        Step::Posted(place, outcome) => Ok(posted(place, outcome)),
     }
 }

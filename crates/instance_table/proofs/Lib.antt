@@ -1,6 +1,10 @@
 pub mod Sorted
 pub mod LiveLaws
+pub mod CountLaws
 pub mod DeliveryLaws
 pub mod TopLaws
+pub mod LevelLaws
+pub mod HoldingSteps
+pub mod RoomLaws
 pub mod GoingLaws
 pub mod RowLaws

@@ -1,6 +1,6 @@
 -- Lists in the order of a number that each entry has.
-use Rattle.std.proofs.Common.{◌≡◌, ◌≤◌, ◌<◌, ◌+◌, ◌++◌, ◌==◌, ◌∙◌, ℕ, List, [], ◌∷◌, zero, suc, Bool, true, false, cond, Option, None, Some, refl, ap, sym, subst, length, map, filter, find, reverse, slice_get, arith, eqb-true, eq-eqb, nat_lt, lt-ltb, ltb-true, ltb-false, set, get_or}
-use Rattle.std.specs.Prelude.{slice_index_or}
+use Rattle.std.proofs.Common.{◌≡◌, ◌≤◌, ◌<◌, ◌+◌, ◌++◌, ◌==◌, ◌∙◌, ℕ, List, [], ◌∷◌, zero, suc, Bool, true, false, cond, Option, None, Some, refl, ap, sym, subst, length, map, filter, find, reverse, slice_get, arith, eqb-true, eq-eqb, nat_lt, lt-ltb, ltb-true, ltb-false, set, get_or, is_some, not, remove}
+use Rattle.std.specs.Prelude.{IfSome, slice_index_or}
 use Rattle.std.specs.List.Sorted.{IsPartitionPoint, IsPartitionedBy}
 use mathlib.Core.List.{reverse-cons}
 use Rattle.lcm_model.specs.Words.{otherwise, when}
@@ -213,3 +213,68 @@ pub changed_one : {A : Type 0} → (f : A → ℕ) (n : ℕ) (g : A → A) (xs y
     → (IsPartitionedBy (λ x. nat_lt (f x) n) ys → IsPartitionPoint (λ x. nat_lt (f x) n ≡ true) (λ x. nat_lt (f x) n ≡ false) ys k) → update g k xs ≡ map g xs
 changed_one f n g xs ys k is r e h point =
     subst (λ zs. update g k zs ≡ map g zs) is (changed_here f n g ys k (subst (λ zs. Rises f zs) (sym is) r) e h point)
+
+-- what is found at the place where a search by number leads
+pub found_at : {A : Type 0} → (f : A → ℕ) (n : ℕ) (xs ys : List A) (k : ℕ) → ys ≡ xs → Rises f xs → k ≤ length ys
+    → (IsPartitionedBy (λ x. nat_lt (f x) n) ys → IsPartitionPoint (λ x. nat_lt (f x) n ≡ true) (λ x. nat_lt (f x) n ≡ false) ys k)
+    → with_key f n (slice_get xs k) ≡ find (λ x. f x == n) xs
+found_at f n xs ys k is r h point =
+    subst (λ zs. with_key f n (slice_get zs k) ≡ find (λ x. f x == n) zs) is (found f n ys k (subst (λ zs. Rises f zs) (sym is) r) h point)
+
+-- an entry with this number stands within the list
+pub key_within : {A : Type 0} → (f : A → ℕ) (n : ℕ) (xs : List A) (k : ℕ) → is_some (with_key f n (slice_get xs k)) ≡ true → k < length xs
+key_within f n [] k e = cc
+key_within f n (x ∷ xs) zero e = omega arith
+key_within f n (x ∷ xs) (suc k) e = let less = key_within f n xs k e in omega (arith, less)
+
+-- the entry at a place is the one with this number there
+pub key_taken : {A : Type 0} → (f : A → ℕ) (n : ℕ) (xs : List A) (k : ℕ) (r : A) → is_some (with_key f n (slice_get xs k)) ≡ true → r ≡ slice_index_or xs k r
+    → Some r ≡ with_key f n (slice_get xs k)
+key_taken f n [] k r e g = cc
+key_taken f n (x ∷ xs) zero r e g = by_test (f x == n)
+    (λ same. rw same (ap Some g))
+    (λ other. let none : is_some (when (f x == n) x) ≡ false = rw other refl in let clash : true ≡ false = sym e ∙ none in cc)
+key_taken f n (x ∷ xs) (suc k) r e g = key_taken f n xs k r e g
+
+over-stay : {A : Type 0} → (f : A → ℕ) (n k : ℕ) (xs : List A) → Over f k xs → n ≤ k → xs ≡ filter (λ x. not (f x == n)) xs
+over-stay f n k [] b h = refl
+over-stay f n k (x ∷ xs) b h =
+    let up = b.0 in
+    let other : (f x == n) ≡ false = by_test (f x == n) (λ same. let is : f x ≡ n = eqb-true (f x) n same in absurd (omega (arith, up, h, is))) (λ no. no) in
+    rw other (ap (λ ys. x ∷ ys) (over-stay f n k xs b.1 h))
+
+cons-cond : {A : Type 0} → (x : A) (b : Bool) (xs ys : List A) → cond b (x ∷ xs) (x ∷ ys) ≡ x ∷ cond b xs ys
+cons-cond x true xs ys = refl
+cons-cond x false xs ys = refl
+
+-- a list without the entry that a search by number leads to, if it has the number
+removed-leading : {A : Type 0} → (f : A → ℕ) (n : ℕ) (xs : List A) → Rises f xs
+    → cond (is_some (with_key f n (slice_get xs (leading f n xs)))) (remove xs (leading f n xs)) xs ≡ filter (λ x. not (f x == n)) xs
+removed-leading f n [] r = refl
+removed-leading f n (x ∷ xs) r = by_test (nat_lt (f x) n)
+    (λ low.
+    let less = ltb-true (f x) n low in
+    let other : (f x == n) ≡ false = by_test (f x == n) (λ same. let is : f x ≡ n = eqb-true (f x) n same in absurd (omega (arith, less, is))) (λ no. no) in
+    rw (low, other) (cons-cond x (is_some (with_key f n (slice_get xs (leading f n xs)))) (remove xs (leading f n xs)) xs ∙ ap (λ ys. x ∷ ys) (removed-leading f n xs r.1)))
+    (λ high.
+    let more = ltb-false (f x) n high in
+    let rest = over-stay f n (f x) xs r.0 more in
+    rw high (by_test (f x == n) (λ same. rw same rest) (λ other. rw other (ap (λ ys. x ∷ ys) rest))))
+
+-- what is taken out where a search by number leads
+pub removed_at : {A : Type 0} → (f : A → ℕ) (n : ℕ) (xs ys : List A) (k : ℕ) (r : Option A) → ys ≡ xs → Rises f xs → k ≤ length ys
+    → (IsPartitionedBy (λ x. nat_lt (f x) n) ys → IsPartitionPoint (λ x. nat_lt (f x) n ≡ true) (λ x. nat_lt (f x) n ≡ false) ys k) → r ≡ with_key f n (slice_get xs k)
+    → cond (is_some r) (remove xs k) xs ≡ filter (λ x. not (f x == n)) xs
+removed_at f n xs ys k r is rises h point e =
+    let at : k ≡ leading f n xs = subst (λ zs. k ≡ leading f n zs) is (leading-is f n ys k h (point (parted f n ys (subst (λ zs. Rises f zs) (sym is) rises)))) in
+    ap (λ y. cond (is_some y) (remove xs k) xs) e
+    ∙ (ap (λ (j : ℕ). cond (is_some (with_key f n (slice_get xs j))) (remove xs j) xs) at ∙ removed-leading f n xs rises)
+
+-- what holds of the entry with a number at a place holds of the entry there, where it has the number
+pub key_holds : {A : Type 0} → (f : A → ℕ) (n : ℕ) (P : A → Type 0) (xs : List A) (k : ℕ) (x : A) → k < length xs → x ≡ get_or xs k x → IfSome (with_key f n (slice_get xs k)) P
+    → (f x == n) ≡ true → P x
+key_holds f n P [] k x h e holds same = absurd (omega (arith, h))
+key_holds f n P (y ∷ ys) zero x h e holds same =
+    let own : (f y == n) ≡ true = subst (λ z. (f z == n) ≡ true) e same in
+    subst P (sym e) (subst (λ (b : Bool). IfSome (when b y) P) own holds)
+key_holds f n P (y ∷ ys) (suc k) x h e holds same = key_holds f n P ys k x (omega (arith, h)) e holds same

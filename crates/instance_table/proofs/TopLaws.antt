@@ -1,7 +1,6 @@
 -- The greatest serial numbers, event by event.
-use Rattle.std.proofs.Common.{◌≡◌, ◌<◌, ◌+◌, ◌==◌, ◌∙◌, ℕ, List, [], ◌∷◌, zero, suc, Bool, true, false, cond, not, Option, None, Some, is_some, refl, ap, sym, subst, length, map, max, filter, reverse, replicate, arith, eqb-true, eq-eqb}
+use Rattle.std.proofs.Common.{◌≡◌, ◌<◌, ◌+◌, ◌==◌, ◌∙◌, ℕ, List, [], ◌∷◌, zero, suc, Bool, true, false, cond, not, Option, None, Some, is_some, refl, ap, sym, subst, length, map, max, filter, replicate, arith, eqb-true, eq-eqb, inl, inr}
 use Rattle.std.specs.List.{range_with_len}
-use Rattle.std.specs.Option.{option_map_or}
 use Rattle.lcm_events.specs.Same.{same_name}
 use Rattle.lcm_events.specs.declared.changes.Change.{Change}
 use Rattle.lcm_events.specs.declared.descriptor.Vnfd.{Vnfd}
@@ -19,11 +18,9 @@ use Rattle.lcm_laws.proofs.Histories.{event, legal_induction}
 use Rattle.lcm_laws.proofs.Lists.{and_left, by_test}
 use Rattle.lcm_laws.proofs.NumberLaws.{found_within, instances_counted}
 use Rattle.lcm_laws.proofs.StandLaws.{same_name-true}
-use Rattle.lcm_model.specs.Instances.{moving}
-use Rattle.lcm_model.specs.Lives.{is_kept}
-use Rattle.instance_table.specs.declared.rows.InstanceRow.{InstanceRow}
-use Rattle.instance_table.specs.Rows.{instance_row, instance_rows, tops}
-use Rattle.instance_table.specs.Steps.{fresh_tops, raised, update}
+use Rattle.lcm_laws.proofs.HoldLaws.{some_value}
+use Rattle.lcm_model.specs.Words.{IsIn}
+use Rattle.instance_table.specs.Steps.{raised, update}
 
 -- a list over numbers from one on, where what stands at one of them changes
 same_behind : (g : ℕ → ℕ) (f : ℕ → ℕ) (w k n : ℕ) → w < k → map f (range_with_len k n) ≡ map (λ v. cond (w == v) (g (f v)) (f v)) (range_with_len k n)
@@ -74,36 +71,26 @@ zeros : (k n : ℕ) → map {B = ℕ} (λ v. 0) (range_with_len k n) ≡ replica
 zeros k zero = refl
 zeros k (suc n) = ap (λ (ns : List ℕ). 0 ∷ ns) (zeros (k + 1) n)
 
-no_tops : (width m : ℕ) (H : List Event) (i : ℕ) (d : Option Vnfd) → IsLegalWithin width m H → instances_made H < i → option_map_or (λ d. map (top H i) (vdu_numbers d)) d [] ≡ fresh_tops d
-no_tops width m H i None legal high = refl
-no_tops width m H i (Some d) legal high =
+-- an instance has no serials before it is made
+pub new_tops : (width m : ℕ) (H : List Event) (i : ℕ) (d : Vnfd) → IsLegalWithin width m H → instances_made H < i → map (top H i) (vdu_numbers d) ≡ replicate (length d.vdus) 0
+new_tops width m H i d legal high =
     map_same (top H i) (λ v. 0) (vdu_numbers d) (λ v. ap (λ (xs : List Operation). greatest (map (top_in v) xs)) (unasked width m H legal i high))
     ∙ zeros 0 (length d.vdus)
-
--- an instance has no serials when it is created
-pub new_tops : (width m : ℕ) (H : List Event) (time i : ℕ) (vnfd : List ℕ) (name text : Option (List ℕ)) → IsLegalWithin width m H → i ≡ instances_made H + 1
-    → tops (event time (Created i vnfd name text) ∷ H) (record { instance = i; vnfd = vnfd; name = name; text = text }) ≡ fresh_tops (descriptor_named H vnfd)
-new_tops width m H time i vnfd name text legal number = no_tops width m H i (descriptor_named H vnfd) legal (omega (arith, number))
 
 top-asked : (H : List Event) (time i v : ℕ) (a : Operation) (b : Bool) → (a.instance == i) ≡ b → top (event time (Asked a) ∷ H) i v ≡ cond b (max (top_of v a.changes) (top H i v)) (top H i v)
 unfolding top_in
 top-asked H time i v a true e = rw e refl
 top-asked H time i v a false e = rw e refl
 
-tops_when : (H : List Event) (time i : ℕ) (a : Operation) (d : Option Vnfd) (b : Bool) → (a.instance == i) ≡ b
-    → option_map_or (λ d. map (top (event time (Asked a) ∷ H) i) (vdu_numbers d)) d [] ≡ cond b (raised a.changes (option_map_or (λ d. map (top H i) (vdu_numbers d)) d [])) (option_map_or (λ d. map (top H i) (vdu_numbers d)) d [])
-tops_when H time i a None true e = sym (none_raised a.changes) where
-  none_raised : (xs : List Change) → raised xs [] ≡ []
-  none_raised [] = refl
-  none_raised (x ∷ xs) = none_raised xs
-tops_when H time i a None false e = refl
-tops_when H time i a (Some d) true e =
-    map_same _ _ (vdu_numbers d) (λ v. top-asked H time i v a true e) ∙ sym (raised-each a.changes (top H i) (length d.vdus))
-tops_when H time i a (Some d) false e = map_same _ _ (vdu_numbers d) (λ v. top-asked H time i v a false e)
+tops_when : (H : List Event) (time i : ℕ) (a : Operation) (d : Vnfd) (b : Bool) → (a.instance == i) ≡ b
+    → map (top (event time (Asked a) ∷ H) i) (vdu_numbers d) ≡ cond b (raised a.changes (map (top H i) (vdu_numbers d))) (map (top H i) (vdu_numbers d))
+tops_when H time i a d true e = map_same _ _ (vdu_numbers d) (λ v. top-asked H time i v a true e) ∙ sym (raised-each a.changes (top H i) (length d.vdus))
+tops_when H time i a d false e = map_same _ _ (vdu_numbers d) (λ v. top-asked H time i v a false e)
 
 -- what an ask makes of the serials of an instance
-pub tops-asked : (H : List Event) (time : ℕ) (a : Operation) (x : CreatedInstance) → tops (event time (Asked a) ∷ H) x ≡ cond (a.instance == x.instance) (raised a.changes (tops H x)) (tops H x)
-tops-asked H time a x = tops_when H time x.instance a (descriptor_named H x.vnfd) (a.instance == x.instance) refl
+pub tops-asked : (H : List Event) (time i : ℕ) (a : Operation) (d : Vnfd)
+    → map (top (event time (Asked a) ∷ H) i) (vdu_numbers d) ≡ cond (a.instance == i) (raised a.changes (map (top H i) (vdu_numbers d))) (map (top H i) (vdu_numbers d))
+tops-asked H time i a d = tops_when H time i a d (a.instance == i) refl
 
 -- the descriptors of these instances were onboarded
 abbrev Known : List Event → List CreatedInstance → Type 0
@@ -138,22 +125,20 @@ another H d n none there = by_test (same_name d.descriptor_id n)
     cc)
     (λ other. other)
 
-onboarded_row : (H : List Event) (time : ℕ) (d : Vnfd) (x : CreatedInstance) → same_name d.descriptor_id x.vnfd ≡ false → instance_row (event time (Onboarded d) ∷ H) x ≡ instance_row H x
-unfolding moving
-onboarded_row H time d x other = rw other refl
+known_in : (H : List Event) (xs : List CreatedInstance) (x : CreatedInstance) → Known H xs → IsIn x xs → is_some (descriptor_named H x.vnfd) ≡ true
+known_in H [] x h among = absurd among
+known_in H (y ∷ ys) x h (inl e) = subst (λ (z : CreatedInstance). is_some (descriptor_named H z.vnfd) ≡ true) e h.0
+known_in H (y ∷ ys) x h (inr g) = known_in H ys x h.1 g
 
-onboarded_each : (H : List Event) (time : ℕ) (d : Vnfd) (p : CreatedInstance → Bool) (xs : List CreatedInstance) → descriptor_named H d.descriptor_id ≡ None → Known H xs
-    → map (instance_row (event time (Onboarded d) ∷ H)) (filter p xs) ≡ map (instance_row H) (filter p xs)
-onboarded_each H time d p [] none h = refl
-onboarded_each H time d p (x ∷ xs) none h =
-    let rest = onboarded_each H time d p xs none h.1 in
-    by_test (p x)
-    (λ passes. rw passes (ap (λ (r : InstanceRow). r ∷ map (instance_row (event time (Onboarded d) ∷ H)) (filter p xs)) (onboarded_row H time d x (another H d x.vnfd none h.0))
-    ∙ ap (λ (rs : List InstanceRow). instance_row H x ∷ rs) rest))
-    (λ fails. rw fails rest)
+-- the descriptor of an instance that was created is known
+pub named_of : (width m : ℕ) (H : List Event) (x : CreatedInstance) → IsLegalWithin width m H → IsIn x (creations H) → (d : Vnfd) × (descriptor_named H x.vnfd ≡ Some d)
+named_of width m H x legal among = some_value (descriptor_named H x.vnfd) (known_in H (creations H) x (known width m H legal) among)
 
--- a descriptor that is onboarded changes no row of an instance
-pub onboarded_instances : (width m : ℕ) (H : List Event) (time : ℕ) (d : Vnfd) → IsLegalWithin width m H → IsAllowedWithin width m H (Onboarded d)
-    → instance_rows (event time (Onboarded d) ∷ H) ≡ instance_rows H
-unfolding is_kept
-onboarded_instances width m H time d legal allowed = ap reverse (onboarded_each H time d (is_kept H) (creations H) allowed.unknown (known width m H legal))
+-- a descriptor stays known
+pub named-next : (width m : ℕ) (H : List Event) (time : ℕ) (k : EventKind) (n : List ℕ) (d : Vnfd) → IsAllowedWithin width m H k → descriptor_named H n ≡ Some d
+    → descriptor_named (event time k ∷ H) n ≡ Some d
+named-next width m H time (Onboarded y) n d allowed e =
+    let there : is_some (descriptor_named H n) ≡ true = ap is_some e in
+    let other : same_name y.descriptor_id n ≡ false = another H y n allowed.unknown there in
+    rw other e
+named-next width m H time k n d allowed e = e

@@ -2,3 +2,4 @@ pub mod Rows
 pub mod Steps
 pub mod Table
 pub mod Deliveries
+pub mod Standing

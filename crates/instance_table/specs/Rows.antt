@@ -1,23 +1,30 @@
 -- What the rows of the table are: a function of the history (SOL 003 5.4.2, VNF instances; 5.4.18, Subscriptions).
-use Rattle.std.specs.Prelude.{Bool, List, [], None, Option, if◌then◌else◌, filter, length, map, nat_lt, not, option_map, reverse, ℕ, ◌&&◌, ◌≡◌}
+use Rattle.std.specs.Prelude.{Bool, List, [], None, Option, false, if◌then◌else◌, filter, is_some, length, map, nat_lt, not, option_map, reverse, ℕ, ◌&&◌, ◌≡◌}
 use Rattle.lcm_events.specs.declared.descriptor.Vnfd.{Vnfd}
 use Rattle.lcm_events.specs.declared.events.Event.{Event}
-use Rattle.lcm_model.specs.Lives.{CreatedInstance, Subscription, creation, descriptor_named, descriptors, instances_made, is_live, is_subscribed, is_unsubscribed, live_instances, subscription, subscriptions, subscriptions_made}
+use Rattle.lcm_model.specs.Lives.{CreatedInstance, Subscription, creation, descriptor, descriptor_named, descriptors, instances_made, is_live, is_subscribed, is_unsubscribed, live_instances, subscription, subscriptions, subscriptions_made}
 use Rattle.lcm_events.specs.declared.asks.Ask.{Ask}
 use Rattle.lcm_events.specs.declared.events.Operation.{Operation}
 use Rattle.lcm_events.specs.declared.states.OpState.{OpState}
 use Rattle.lcm_events.specs.declared.states.OpState.TheVariants.{Completed, Failed}
-use Rattle.lcm_model.specs.Instances.{instantiates, is_instantiated, is_started, starts_or_stops}
+use Rattle.lcm_model.specs.Instances.{holding, instantiates, levels, sets_levels, starts_or_stops}
+use Rattle.lcm_model.specs.Levels.{target}
 use Rattle.lcm_model.specs.Operations.{goes_on, operations}
 use Rattle.instance_table.specs.declared.going.Ending.{Ending}
 use Rattle.instance_table.specs.declared.going.Going.{Going}
+use Rattle.instance_table.specs.declared.going.Placing.{Placing}
+use Rattle.lcm_model.specs.Grants.{grant}
 use Rattle.std.specs.Option.{option_map_or}
-use Rattle.lcm_model.specs.Holding.{top}
-use Rattle.lcm_model.specs.Vnfcs.{vdu_numbers}
+use Rattle.lcm_model.specs.Holding.{place}
 use Rattle.lcm_model.specs.Notices.{cursor, posts, subscribed_at}
 use Rattle.vnfm_base.specs.declared.identifier.Kind.{Kind}
 use Rattle.vnfm_base.specs.declared.identifier.Kind.TheVariants as kinds
 use Rattle.instance_table.specs.declared.rows.InstanceRow.{InstanceRow}
+use Rattle.lcm_events.specs.Same.{same_verb}
+use Rattle.lcm_events.specs.declared.changes.Change.{Change}
+use Rattle.lcm_events.specs.declared.changes.Verb.TheVariants.{Remove}
+use Rattle.lcm_events.specs.declared.held.Holding.{Holding}
+use Rattle.lcm_events.specs.declared.places.Place.{Place}
 use Rattle.instance_table.specs.declared.rows.SubscriptionRow.{SubscriptionRow}
 
 -- what the table keeps: descriptors, live instances, live subscriptions and operations that go on in the order in which
@@ -31,13 +38,21 @@ pub record Rows : Type 0 where
   pub subscriptions_made : ℕ
   pub events : ℕ
 
--- the greatest serial number that any change of the instance gave, for each VDU of its descriptor (own rule)
-abbrev pub tops : List Event → CreatedInstance → List ℕ
-tops H x = option_map_or (λ d. map (top H x.instance) (vdu_numbers d)) (descriptor_named H x.vnfd) []
+-- nothing stands of an instance whose descriptor isn't there (own rule)
+abbrev pub unheld : Holding
+unheld = record { instantiated = false; started = false; levels = []; items = []; top = [] }
+
+-- what stands of the instance and how it is meant to stand, by its descriptor (SOL 003 5.5.2.2, instantiatedVnfInfo)
+abbrev pub holding_of : List Event → CreatedInstance → Holding
+holding_of H x = option_map_or (λ d. holding d H x.instance) (descriptor_named H x.vnfd) unheld
+
+-- the row of an instance of which this stands (SOL 003 5.5.2.2)
+abbrev pub row_with : CreatedInstance → Holding → InstanceRow
+row_with x h = record { number = x.instance; vnfd = x.vnfd; name = x.name; text = x.text; holding = h }
 
 -- the row of an instance (SOL 003 5.5.2.2)
 abbrev pub instance_row : List Event → CreatedInstance → InstanceRow
-instance_row H x = record { number = x.instance; vnfd = x.vnfd; name = x.name; text = x.text; instantiated = is_instantiated H x.instance; started = is_started H x.instance; top = tops H x }
+instance_row H x = row_with x (holding_of H x)
 
 -- the rows of the live instances, in the order of their numbers (SOL 003 5.4.2)
 abbrev pub instance_rows : List Event → List InstanceRow
@@ -73,15 +88,27 @@ subscription_at H s = if is_subscribed H s then option_map (subscription_row H) 
 
 -- what a move of an operation to this state says of its instance (SOL 003 5.5.2.2)
 abbrev pub ending : Ask → OpState → Ending
-ending ask to = record { instantiated = instantiates ask to; started = starts_or_stops ask to }
+ending ask to = record { instantiated = instantiates ask to; started = starts_or_stops ask to; levels = is_some (sets_levels ask to) }
 
--- an operation that goes on, with what its end says of its instance (own rule)
-abbrev pub going_of : Operation → Going
-going_of a = record { occ = a.occ; instance = a.instance; completed = ending a.ask Completed; failed = ending a.ask Failed }
+-- the levels that an operation aims at, from those that its instance has while it goes on (SOL 003 5.4.4 to 5.4.6)
+abbrev pub aim : List Event → Operation → List ℕ
+aim H a = option_map_or (λ d. target d (levels d H a.instance) a.ask) (descriptor H a.instance) []
+
+-- the places that the grant of an occurrence gave, where it was granted (SOL 003 9.5.2.3)
+abbrev pub placing : List Event → ℕ → Option Placing
+placing H o = option_map (λ g. record { places = g.places; spots = g.spots }) (grant H o)
+
+-- where what a change of the instance removes stands, so that its undo is at that place (own rule)
+abbrev pub stood_at : List Event → ℕ → Change → Option Place
+stood_at H i k = if same_verb k.verb Remove then place H i k.def else None
+
+-- an operation that goes on, with its changes and their places and what its end says of its instance (own rule)
+abbrev pub going_of : List Event → Operation → Going
+going_of H a = record { occ = a.occ; instance = a.instance; completed = ending a.ask Completed; failed = ending a.ask Failed; aim = aim H a; changes = a.changes; placing = placing H a.occ; stood = map (stood_at H a.instance) a.changes }
 
 -- the operations that go on, in the order of their numbers (SOL 003 5.6.2)
 abbrev pub going : List Event → List Going
-going H = reverse (map going_of (filter (goes_on H) (operations H)))
+going H = reverse (map (going_of H) (filter (goes_on H) (operations H)))
 
 -- what the history says of descriptors, instances, subscriptions and operations that go on
 abbrev pub rows : List Event → Rows

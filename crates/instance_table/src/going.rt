@@ -1,13 +1,13 @@
 //! The operations that go on, and what their ends say of their instances.
 
-ghost use Rattle.std.specs.Prelude.{◌≡◌, ◌≤◌, false, find, length, nat_lt, true, ◌==◌, slice_get, vec_capacity, vec_len};
+ghost use Rattle.std.specs.Prelude.{◌≡◌, ◌≤◌, IfOk, false, find, if◌then◌else◌, is_some, length, map, nat_lt, option_copied, remove, true, ◌==◌, slice_get, vec_capacity, vec_len};
 ghost use Rattle.std.specs.List.Sorted.{IsPartitionPoint, IsPartitionedBy};
-ghost use Rattle.lcm_model.specs.Instances.{instantiates, starts_or_stops};
-ghost use Rattle.instance_table.specs.Rows.{ending, going_of};
-ghost use Rattle.instance_table.specs.Steps.{Rises, end_of, going_moved, with_key, without_operation};
+ghost use Rattle.lcm_model.specs.Instances.{instantiates, sets_levels, starts_or_stops};
+ghost use Rattle.instance_table.specs.Rows.{ending};
+ghost use Rattle.instance_table.specs.Steps.{Rises, begun, end_of, placed, update, with_key, without_operation};
 
-use lcm_events::{Ask, OpState, Operation};
-use lcm_model::ends;
+use lcm_events::{Ask, Changes, Levels, Listed, OpState, Operation, Place};
+use std::alloc::{AllocError, Global};
 
 /// What the end of an operation says of its instance, where it says something.
 ///
@@ -18,12 +18,39 @@ pub struct Ending {
     pub instantiated: Option<bool>,
     /// Whether it is STARTED.
     pub started: Option<bool>,
+    /// Whether its levels are those that the operation aims at.
+    pub levels: bool,
+}
+
+/// The places that a grant gave to the changes of an operation.
+///
+/// Source: SOL 003 9.5.2.3 (Grant).
+#[derive(Debug, Drop)]
+pub struct Placing {
+    /// The distinct places.
+    pub places: Listed<Place>,
+    /// The number of the place of each change.
+    pub spots: Listed<u8>,
+}
+
+impl Placing {
+    /// A copy of what a grant gave.
+    pub fn copied(alloc: Global, places: &[Place], spots: &[u8]) -> Result<Placing, AllocError>
+        ensures { IfOk result (λ p. p ≡ record { places = places.now; spots = spots.now }) }
+    {
+        let places = places.to_vec(alloc)?;
+        let spots = spots.to_vec(alloc)?;
+        Ok(Placing {
+            places: Listed::of(places),
+            spots: Listed::of(spots),
+        })
+    }
 }
 
 /// An operation that goes on.
 ///
 /// Source: SOL 003 5.5.2.13 (VnfLcmOpOcc).
-#[derive(Clone, Copy, PartialEq, Eq, Debug)]
+#[derive(Debug, Drop)]
 pub struct Going {
     /// The number of its occurrence.
     pub occ: u64,
@@ -33,6 +60,14 @@ pub struct Going {
     pub completed: Ending,
     /// What it says of its instance once it is FAILED.
     pub failed: Ending,
+    /// The levels that it aims at.
+    pub aim: Levels,
+    /// Its changes, in the order of its plan.
+    pub changes: Changes,
+    /// The places of its changes, once it is granted.
+    pub placing: Option<Placing>,
+    /// For each change that removes something, where that stands when the operation is asked for; none for the others.
+    pub stood: Listed<Option<Place>>,
 }
 
 /// Whether a move to this state makes the instance INSTANTIATED, or NOT_INSTANTIATED.
@@ -58,6 +93,17 @@ fn starts_or_stops(ask: &Ask, to: OpState) -> Option<bool>
     }
 }
 
+/// Whether a move to this state sets the levels of the instance.
+fn sets_levels(ask: &Ask, to: OpState) -> bool
+    ensures { result ≡ is_some (sets_levels ask.now to) }
+{
+    match (ask, to) {
+        (Ask::Instantiate { .. }, OpState::Completed | OpState::Failed) => true,
+        (Ask::Scale { .. } | Ask::ScaleToLevel(_), OpState::Completed) => true,
+        _ => false,
+    }
+}
+
 /// What a move of an operation to this state says of its instance.
 fn ending_by(ask: &Ask, to: OpState) -> Ending
     ensures { result ≡ ending ask.now to }
@@ -65,19 +111,39 @@ fn ending_by(ask: &Ask, to: OpState) -> Ending
     Ending {
         instantiated: instantiates(ask, to),
         started: starts_or_stops(ask, to),
+        levels: sets_levels(ask, to),
     }
 }
 
 impl Going {
-    /// What is kept of an operation that is asked for.
-    pub fn of(operation: &Operation) -> Going
-        ensures { result ≡ going_of operation.now }
+    /// What is kept of an operation that is asked for, which aims at these levels and removes what stands at these places.
+    pub fn of(
+        alloc: Global,
+        operation: &Operation,
+        aim: Levels,
+        stood: Listed<Option<Place>>,
+    ) -> Result<Going, AllocError>
+        ensures { IfOk result (λ g. g ≡ begun operation.now aim stood) }
     {
-        Going {
+        let changes = operation.changes.as_slice().to_vec(alloc)?;
+        Ok(Going {
             occ: operation.occ,
             instance: operation.instance,
             completed: ending_by(&operation.ask, OpState::Completed),
             failed: ending_by(&operation.ask, OpState::Failed),
+            aim,
+            changes: Listed::of(changes),
+            placing: None,
+            stood,
+        })
+    }
+
+    /// The occurrence of this number, which may be another, was granted these places.
+    fn follow_grant(&mut self, occ: u64, placing: Placing)
+        ensures { self.new ≡ placed occ placing self.old }
+    {
+        if self.occ == occ {
+            self.placing = Some(placing);
         }
     }
 
@@ -91,6 +157,7 @@ impl Going {
             _ => Ending {
                 instantiated: None,
                 started: None,
+                levels: false,
             },
         }
     }
@@ -109,39 +176,76 @@ fn place_of(going: &[Going], occ: u64) -> usize
 }
 
 /// The operation at this place, if it is of this occurrence.
-fn going_at(going: &[Going], at: usize, occ: u64) -> Option<Going>
-    ensures { result ≡ with_key (λ g. g.occ) occ (slice_get going.now at) }
+fn going_at(going: &[Going], at: usize, occ: u64) -> Option<&Going>
+    ensures { option_copied result ≡ with_key (λ g. g.occ) occ (slice_get going.now at) }
 {
     match going.get(at) {
-        Some(found) => { if found.occ == occ { Some(*found) } else { None } }
+        Some(found) => { if found.occ == occ { Some(found) } else { None } }
         None => None,
     }
 }
 
 /// The operation of this occurrence, where the numbers rise.
-pub fn going_in(going: &[Going], occ: u64) -> Option<Going>
-    ensures { Rises (λ g. g.occ) going.now → result ≡ find (λ g. g.occ == occ) going.now }
+pub fn going_in(going: &[Going], occ: u64) -> Option<&Going>
+    ensures { Rises (λ g. g.occ) going.now → option_copied result ≡ find (λ g. g.occ == occ) going.now }
 {
     let at = place_of(going, occ);
     going_at(going, at, occ)
 }
 
-/// Takes the operation of this occurrence out.
-fn leave(going: &mut Vec<Going>, occ: u64)
-    ensures items { going.new.items ≡ without_operation occ going.old.items }
-    ensures length { vec_len going.new ≤ vec_len going.old }
-    ensures capacity { vec_capacity going.new ≡ vec_capacity going.old }
+/// Whether the operation at this place is of this occurrence.
+fn is_at(going: &[Going], at: usize, occ: u64) -> bool
+    ensures { result ≡ is_some (with_key (λ g. g.occ) occ (slice_get going.now at)) }
 {
-    going.retain(|other| !(other.occ == occ));
+    match going.get(at) {
+        Some(found) => found.occ == occ,
+        None => false,
+    }
 }
 
-/// Lets the operations that go on follow a move.
-pub fn move_going(going: &mut Vec<Going>, occ: u64, to: OpState)
-    ensures items { going.new.items ≡ going_moved occ to going.old.items }
+/// Takes the operation at this place out, if it is of this occurrence.
+fn take_at(going: &mut Vec<Going>, at: usize, occ: u64) -> Option<Going>
+    ensures found { result ≡ with_key (λ g. g.occ) occ (slice_get going.old.items at) }
+    ensures items { going.new.items ≡ (if is_some result then remove going.old.items at else going.old.items) }
     ensures length { vec_len going.new ≤ vec_len going.old }
     ensures capacity { vec_capacity going.new ≡ vec_capacity going.old }
 {
-    if ends(to) {
-        leave(going, occ);
+    if is_at(going.as_slice(), at, occ) {
+        Some(going.remove(at))
+    } else {
+        None
     }
+}
+
+/// Takes the operation of this occurrence out, where the numbers rise.
+pub fn take_going(going: &mut Vec<Going>, occ: u64) -> Option<Going>
+    ensures found { Rises (λ g. g.occ) going.old.items → result ≡ find (λ g. g.occ == occ) going.old.items }
+    ensures items { Rises (λ g. g.occ) going.old.items → going.new.items ≡ without_operation occ going.old.items }
+    ensures length { vec_len going.new ≤ vec_len going.old }
+    ensures capacity { vec_capacity going.new ≡ vec_capacity going.old }
+{
+    let at = place_of(going.as_slice(), occ);
+    take_at(going, at, occ)
+}
+
+/// Lets the operation at this place follow a grant. Nothing happens beyond the end.
+fn place_at(going: &mut Vec<Going>, at: usize, occ: u64, placing: Placing)
+    ensures items { going.new.items ≡ update (placed occ placing) at going.old.items }
+    ensures length { vec_len going.new ≡ vec_len going.old }
+    ensures capacity { vec_capacity going.new ≡ vec_capacity going.old }
+{
+    match going.get_mut(at) {
+        Some(found) => found.follow_grant(occ, placing),
+        None => {}
+    }
+}
+
+/// Lets the operation of this occurrence follow a grant, where the numbers rise.
+pub fn place_in(going: &mut Vec<Going>, occ: u64, placing: Placing)
+    ensures items { Rises (λ g. g.occ) going.old.items → going.new.items ≡ map (placed occ placing) going.old.items }
+    ensures length { vec_len going.new ≡ vec_len going.old }
+    ensures capacity { vec_capacity going.new ≡ vec_capacity going.old }
+{
+    let at = place_of(going.as_slice(), occ);
+    place_at(going, at, occ, placing);
 }

@@ -1,15 +1,18 @@
 //! The table of descriptors, instances and subscriptions: what the history says of each, kept event by event.
 #![tactic(auto)]
 
+mod aims;
 mod copies;
 mod deliveries;
 mod going;
 mod rows;
+mod standing;
 mod table;
 mod tops;
+mod work;
 
 pub use deliveries::tries_are_of_the_next_notice;
-pub use going::{Ending, Going};
+pub use going::{Ending, Going, Placing};
 pub use rows::{InstanceRow, SubscriptionRow};
+pub use standing::rows_have_holdings;
 pub use table::InstanceTable;
-pub use tops::Tops;

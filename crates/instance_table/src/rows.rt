@@ -1,12 +1,15 @@
 //! The rows of instances and subscriptions, and what an ask, the end of an operation or a post makes of a row.
 
-ghost use Rattle.std.specs.Prelude.{◌≡◌};
+ghost use Rattle.std.specs.Prelude.{◌≡◌, ◌<◌, ◌==◌, IfOk, OnOk, length, option_copied, replicate, true};
 ghost use Rattle.lcm_model.specs.Notices.{is_delivered};
-ghost use Rattle.instance_table.specs.Steps.{after_end, after_post, asked, begun_at, ended, posted};
+ghost use Rattle.instance_table.specs.Steps.{HasItemRoom, after_end, after_post, after_work, asked, begun_at, ended, first_holding, fresh_levels, fresh_tops, posted};
 
 use crate::going::Ending;
-use crate::tops::Tops;
-use lcm_events::{Change, Filter, PostOutcome, Role};
+use crate::tops::raise_tops;
+use crate::work::{Work, do_in};
+use held_items::Editor;
+use lcm_events::{Change, Filter, Holding, Levels, Listed, PostOutcome, Role, Vnfd};
+use std::alloc::{AllocError, Global};
 use vnfm_base::{Line, Name};
 
 /// Posts of a notice after which it is given up.
@@ -25,38 +28,102 @@ pub struct InstanceRow {
     pub name: Option<Name>,
     /// The description that the request gave.
     pub text: Option<Line>,
-    /// INSTANTIATED, not NOT_INSTANTIATED.
-    pub instantiated: bool,
-    /// STARTED, not STOPPED.
-    pub started: bool,
-    /// The greatest serial number that any change gave, for each VDU.
-    pub top: Tops,
+    /// What stands of it, and how it is meant to stand.
+    pub holding: Holding,
+}
+
+/// So many zeros.
+fn zeros(alloc: Global, count: usize) -> Result<Listed<u32>, AllocError>
+    ensures { IfOk result (λ l. l ≡ replicate count 0) }
+{
+    let numbers = vec![in alloc; 0u32; count]?;
+    Ok(Listed::of(numbers))
+}
+
+/// No serial number of any VDU of a descriptor was given yet.
+fn fresh_tops(alloc: Global, vnfd: Option<&Vnfd>) -> Result<Listed<u32>, AllocError>
+    ensures { IfOk result (λ l. l ≡ fresh_tops (option_copied vnfd.entry)) }
+{
+    match vnfd {
+        Some(vnfd) => zeros(alloc, vnfd.vdus.len()),
+        None => zeros(alloc, 0),
+    }
+}
+
+/// Level 0 of every aspect of a descriptor.
+fn fresh_levels(alloc: Global, vnfd: Option<&Vnfd>) -> Result<Levels, AllocError>
+    ensures { IfOk result (λ l. l ≡ fresh_levels (option_copied vnfd.entry)) }
+{
+    match vnfd {
+        Some(vnfd) => zeros(alloc, vnfd.aspects.len()),
+        None => zeros(alloc, 0),
+    }
+}
+
+/// What stands of an instance that is created of this descriptor: nothing.
+pub fn first_holding(alloc: Global, vnfd: Option<&Vnfd>) -> Result<Holding, AllocError>
+    ensures { IfOk result (λ h. h ≡ first_holding (option_copied vnfd.entry)) }
+{
+    let levels = fresh_levels(alloc, vnfd)?;
+    let top = fresh_tops(alloc, vnfd)?;
+    Ok(Holding {
+        instantiated: false,
+        started: false,
+        levels,
+        items: Listed::new(alloc),
+        top,
+    })
 }
 
 impl InstanceRow {
-    /// An operation of the instance ended.
-    fn record_end(&mut self, ending: Ending)
-        ensures { self.new ≡ after_end ending self.old }
+    /// An operation of the instance ended, which aimed at these levels.
+    fn record_end(&mut self, ending: Ending, aim: Levels)
+        ensures { self.new ≡ after_end ending aim self.old }
     {
-        self.instantiated = ending.instantiated.unwrap_or(self.instantiated);
-        self.started = ending.started.unwrap_or(self.started);
-    }
-
-    /// An operation with these changes was asked of the instance of this number, which may be another.
-    pub fn follow_ask(&mut self, number: u64, changes: &[Change])
-        ensures { self.new ≡ asked number changes.now self.old }
-    {
-        if self.number == number {
-            self.top.raise(changes);
+        let holding = &mut self.holding;
+        holding.instantiated = ending.instantiated.unwrap_or(holding.instantiated);
+        holding.started = ending.started.unwrap_or(holding.started);
+        if ending.levels {
+            holding.levels = aim;
         }
     }
 
-    /// An operation of the instance of this number ended, which may be another.
-    pub fn follow_end(&mut self, number: u64, ending: Ending)
-        ensures { self.new ≡ ended number ending self.old }
+    /// An operation with these changes was asked of the instance of this number, which may be another.
+    pub fn follow_ask(&mut self, alloc: Global, number: u64, changes: &[Change])
+        ensures { self.new ≡ asked number changes.now self.old }
     {
         if self.number == number {
-            self.record_end(ending);
+            raise_tops(alloc, &mut self.holding.top, changes);
+        }
+    }
+
+    /// An operation of the instance of this number, which may be another, ended, and aimed at these levels.
+    pub fn follow_end(&mut self, number: u64, ending: Ending, aim: Levels)
+        ensures { self.new ≡ ended number ending aim self.old }
+    {
+        if self.number == number {
+            self.record_end(ending, aim);
+        }
+    }
+
+    /// Reserves room for one more item, if this is the instance of this number.
+    pub fn reserve_item(&mut self, editor: &mut Editor, number: u64) -> Result<(), AllocError>
+        ensures kept { self.new ≡ self.old }
+        ensures room { OnOk result ((self.old.number == number) ≡ true → length self.old.holding.items < editor.new) }
+    {
+        if self.number == number {
+            editor.reserve_for(&mut self.holding.items)
+        } else {
+            Ok(())
+        }
+    }
+
+    /// Something was done to what stands of an instance, which may be another.
+    pub fn follow_work(&mut self, editor: &mut Editor, work: &Work)
+        ensures { ((self.old.number == work.now.instance) ≡ true → HasItemRoom editor.old self.old) → self.new ≡ after_work work.now self.old }
+    {
+        if self.number == work.instance {
+            do_in(&mut self.holding.items, editor, work);
         }
     }
 }

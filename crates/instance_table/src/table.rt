@@ -1,21 +1,29 @@
 //! The table: a row for each descriptor, each live instance and each live subscription, in the order in which they came.
 
-ghost use Rattle.std.specs.Prelude.{◌≡◌, ◌-◌, ◌<◌, ◌≤◌, ℕ, [], ◌++◌, ◌∷◌, Some, None, true, false, find, nat_lt, ◌==◌, length, map, option_copied, slice_get, OnOk, vec_len, vec_capacity};
+ghost use Rattle.std.specs.Prelude.{◌≡◌, ◌-◌, ◌<◌, ◌≤◌, ℕ, [], ◌++◌, ◌∷◌, Some, None, true, false, find, nat_lt, ◌==◌, length, map, option_copied, slice_get, IfOk, IfSome, OnOk, option_map, vec_len, vec_capacity, filter};
 ghost use Rattle.std.specs.List.Sorted.{IsPartitionPoint, IsPartitionedBy};
-ghost use Rattle.std.specs.Option.{option_map_or};
 ghost use Rattle.lcm_events.specs.Same.{same_name};
 ghost use Rattle.lcm_events.specs.declared.descriptor.Vnfd.{Vnfd};
+ghost use Rattle.lcm_events.specs.declared.events.EventKind.TheVariants.{Settled};
+ghost use Rattle.instance_table.specs.declared.going.Going.{Going};
+ghost use Rattle.instance_table.specs.declared.going.Placing.{Placing};
 ghost use Rattle.instance_table.specs.declared.rows.InstanceRow.{InstanceRow};
 ghost use Rattle.instance_table.specs.declared.rows.SubscriptionRow.{SubscriptionRow};
-ghost use Rattle.instance_table.specs.Rows.{Rows, StandsFor, going_of};
-ghost use Rattle.instance_table.specs.Steps.{AreOrdered, Rises, asked, begun_at, changed, ended, moved, first_instance, first_subscription, next_place, posted, update, with_key, without_instance, without_subscription};
-ghost use Rattle.instance_table.specs.Table.{Applies, CountsDescriptors, CountsLive, CountsMade, FindsInstance, FindsSubscription, FindsVnfd, HasRoom, IsKept, Reserved, Shown, is_counted, needs_room};
+ghost use Rattle.instance_table.specs.Rows.{Rows, StandsFor};
+ghost use Rattle.instance_table.specs.Steps.{AreOrdered, HasItemRoom, Rises, after_work, aim_at, asked, begun_at, changed, end_of, ended, finished, first_aim, first_going, first_instance, first_stood, items_about, work_done, worked, first_subscription, moved, next_place, placed, posted, update, with_key, without_instance, without_operation, without_subscription};
+ghost use Rattle.instance_table.specs.Table.{Applies, CountsDescriptors, CountsLive, CountsMade, FindsInstance, FindsSubscription, FindsVnfd, HasRoom, IsKept, Reserved, Shown, is_counted, needs_room, CountsEvents, CountsLiveOf, is_role_of};
 
+use crate::aims::aim_from;
 use crate::copies::{copied_filter, copied_line, copied_vnfd};
-use crate::going::{Ending, Going, going_in, move_going};
-use crate::rows::{InstanceRow, SubscriptionRow};
-use crate::tops::Tops;
-use lcm_events::{Change, Event, EventKind, Filter, OpState, Operation, PostOutcome, Role, Vnfd};
+use crate::going::{Ending, Going, Placing, going_in, place_in, take_going};
+use crate::rows::{InstanceRow, SubscriptionRow, first_holding};
+use crate::work::{Work, stood_of, work_in};
+use held_items::Editor;
+use lcm_events::{
+    Ask, Change, Event, EventKind, Filter, Levels, Listed, OpState, Operation, Outcome, Place,
+    PostOutcome, Role, Tag, Vnfd,
+};
+use lcm_model::ends;
 use std::alloc::{AllocError, Global};
 use std::marker::Model;
 use vnfm_base::{Kind, Line, Name};
@@ -35,6 +43,9 @@ pub struct InstanceTable {
     descriptor: Option<Vnfd>,
     instance: Option<InstanceRow>,
     subscription: Option<SubscriptionRow>,
+    operation: Option<Going>,
+    placing: Option<Placing>,
+    editor: Editor,
 }
 
 impl Model for InstanceTable {
@@ -44,7 +55,7 @@ impl Model for InstanceTable {
 
     ghost Value = { Shown };
 
-    ghost view = { λ t. record { rows = record { descriptors = t.descriptors.items; instances = t.instances.items; subscriptions = t.subscriptions.items; going = t.going.items; instances_made = t.instances_made; subscriptions_made = t.subscriptions_made; events = t.events }; reserved = record { descriptor = t.descriptor; instance = t.instance; subscription = t.subscription; descriptors = vec_capacity t.descriptors - vec_len t.descriptors; instances = vec_capacity t.instances - vec_len t.instances; subscriptions = vec_capacity t.subscriptions - vec_len t.subscriptions; going = vec_capacity t.going - vec_len t.going } } };
+    ghost view = { λ t. record { rows = record { descriptors = t.descriptors.items; instances = t.instances.items; subscriptions = t.subscriptions.items; going = t.going.items; instances_made = t.instances_made; subscriptions_made = t.subscriptions_made; events = t.events }; reserved = record { descriptor = t.descriptor; instance = t.instance; subscription = t.subscription; operation = t.operation; placing = t.placing; room = t.editor; descriptors = vec_capacity t.descriptors - vec_len t.descriptors; instances = vec_capacity t.instances - vec_len t.instances; subscriptions = vec_capacity t.subscriptions - vec_len t.subscriptions; going = vec_capacity t.going - vec_len t.going } } };
 }
 
 /// The first descriptor of this identifier.
@@ -140,6 +151,19 @@ fn subscription_in(rows: &[SubscriptionRow], number: u64) -> Option<&Subscriptio
     subscription_at(rows, at, number)
 }
 
+/// How many of the subscriptions are a role's.
+fn count_of(rows: &[SubscriptionRow], role: Role) -> u64
+    ensures { result ≡ length (filter (is_role_of role) rows.now) }
+{
+    let mut count = 0;
+    for row in rows {
+        if role == row.role {
+            count += 1;
+        }
+    }
+    count
+}
+
 /// Takes the subscription of this number out.
 fn remove_subscription(rows: &mut Vec<SubscriptionRow>, number: u64)
     ensures items { rows.new.items ≡ without_subscription number rows.old.items }
@@ -180,9 +204,12 @@ fn post_in(rows: &mut Vec<SubscriptionRow>, number: u64, place: u64, outcome: Po
 /// Lets the row at this place follow an ask. Nothing happens beyond the end.
 fn ask_at(rows: &mut Vec<InstanceRow>, at: usize, number: u64, changes: &[Change])
     ensures items { rows.new.items ≡ update (asked number changes.now) at rows.old.items }
+    ensures length { vec_len rows.new ≡ vec_len rows.old }
+    ensures capacity { vec_capacity rows.new ≡ vec_capacity rows.old }
 {
+    let alloc = *rows.allocator();
     match rows.get_mut(at) {
-        Some(row) => row.follow_ask(number, changes),
+        Some(row) => row.follow_ask(alloc, number, changes),
         None => {}
     }
 }
@@ -190,31 +217,80 @@ fn ask_at(rows: &mut Vec<InstanceRow>, at: usize, number: u64, changes: &[Change
 /// Lets the row of this number follow an ask, where the numbers rise.
 fn ask_in(rows: &mut Vec<InstanceRow>, number: u64, changes: &[Change])
     ensures items { Rises (λ r. r.number) rows.old.items → rows.new.items ≡ map (asked number changes.now) rows.old.items }
+    ensures length { vec_len rows.new ≡ vec_len rows.old }
+    ensures capacity { vec_capacity rows.new ≡ vec_capacity rows.old }
 {
     let at = instance_place(rows.as_slice(), number);
     ask_at(rows, at, number, changes);
 }
 
 /// Lets the row at this place follow the end of an operation. Nothing happens beyond the end.
-fn end_at(rows: &mut Vec<InstanceRow>, at: usize, number: u64, ending: Ending)
-    ensures items { rows.new.items ≡ update (ended number ending) at rows.old.items }
+fn end_at(rows: &mut Vec<InstanceRow>, at: usize, number: u64, ending: Ending, aim: Levels)
+    ensures items { rows.new.items ≡ update (ended number ending aim) at rows.old.items }
     ensures length { vec_len rows.new ≡ vec_len rows.old }
     ensures capacity { vec_capacity rows.new ≡ vec_capacity rows.old }
 {
     match rows.get_mut(at) {
-        Some(row) => row.follow_end(number, ending),
+        Some(row) => row.follow_end(number, ending, aim),
         None => {}
     }
 }
 
 /// Lets the row of this number follow the end of an operation, where the numbers rise.
-fn end_in(rows: &mut Vec<InstanceRow>, number: u64, ending: Ending)
-    ensures items { Rises (λ r. r.number) rows.old.items → rows.new.items ≡ map (ended number ending) rows.old.items }
+fn end_in(rows: &mut Vec<InstanceRow>, number: u64, ending: Ending, aim: Levels)
+    ensures items { Rises (λ r. r.number) rows.old.items → rows.new.items ≡ map (ended number ending aim) rows.old.items }
     ensures length { vec_len rows.new ≡ vec_len rows.old }
     ensures capacity { vec_capacity rows.new ≡ vec_capacity rows.old }
 {
     let at = instance_place(rows.as_slice(), number);
-    end_at(rows, at, number, ending);
+    end_at(rows, at, number, ending, aim);
+}
+
+/// Reserves room for one more item of the row at this place, if it has this number.
+fn reserve_at(
+    rows: &mut Vec<InstanceRow>,
+    editor: &mut Editor,
+    at: usize,
+    number: u64,
+) -> Result<(), AllocError>
+    ensures kept { rows.new.items ≡ rows.old.items }
+    ensures room { OnOk result (IfSome (with_key (λ r. r.number) number (slice_get rows.old.items at)) (λ r. length r.holding.items < editor.new)) }
+{
+    match rows.get_mut(at) {
+        Some(row) => row.reserve_item(editor, number),
+        None => Ok(()),
+    }
+}
+
+/// Reserves room for one more item of the row of this number, where the numbers rise.
+fn reserve_in(
+    rows: &mut Vec<InstanceRow>,
+    editor: &mut Editor,
+    number: u64,
+) -> Result<(), AllocError>
+    ensures kept { rows.new.items ≡ rows.old.items }
+    ensures room { OnOk result (Rises (λ r. r.number) rows.old.items → IfSome (find (λ r. r.number == number) rows.old.items) (λ r. length r.holding.items < editor.new)) }
+{
+    let at = instance_place(rows.as_slice(), number);
+    reserve_at(rows, editor, at, number)
+}
+
+/// Lets the row at this place follow what was done to what stands of an instance. Nothing happens beyond the end.
+fn work_at(rows: &mut Vec<InstanceRow>, editor: &mut Editor, at: usize, work: &Work)
+    ensures { IfSome (with_key (λ r. r.number) work.now.instance (slice_get rows.old.items at)) (HasItemRoom editor.old) → rows.new.items ≡ update (after_work work.now) at rows.old.items }
+{
+    match rows.get_mut(at) {
+        Some(row) => row.follow_work(editor, work),
+        None => {}
+    }
+}
+
+/// Lets the row of its instance follow what was done, where the numbers rise.
+fn work_among(rows: &mut Vec<InstanceRow>, editor: &mut Editor, work: &Work)
+    ensures { Rises (λ r. r.number) rows.old.items → IfSome (find (λ r. r.number == work.now.instance) rows.old.items) (HasItemRoom editor.old) → rows.new.items ≡ map (after_work work.now) rows.old.items }
+{
+    let at = instance_place(rows.as_slice(), work.instance);
+    work_at(rows, editor, at, work);
 }
 
 /// The place behind this many events.
@@ -231,6 +307,8 @@ impl InstanceTable {
         ensures descriptor { result.reserved.descriptor ≡ None }
         ensures instance { result.reserved.instance ≡ None }
         ensures subscription { result.reserved.subscription ≡ None }
+        ensures operation { result.reserved.operation ≡ None }
+        ensures placing { result.reserved.placing ≡ None }
     {
         InstanceTable {
             descriptors: Vec::new(alloc),
@@ -243,6 +321,9 @@ impl InstanceTable {
             descriptor: None,
             instance: None,
             subscription: None,
+            operation: None,
+            placing: None,
+            editor: Editor::new(alloc),
         }
     }
 
@@ -256,16 +337,6 @@ impl InstanceTable {
         let copy = copied_vnfd(alloc, vnfd)?;
         self.descriptor = Some(copy);
         Ok(())
-    }
-
-    /// How many VDUs the descriptor of this identifier has; 0 where there is none.
-    fn vdus_of(&self, id: &Name) -> usize
-        ensures { result ≡ option_map_or (λ d. length d.vdus) (find (λ d. same_name d.descriptor_id id.now) self.now.rows.descriptors) 0 }
-    {
-        match self.vnfd_named(id) {
-            Some(vnfd) => vnfd.vdus.len(),
-            None => 0,
-        }
     }
 
     /// Reserves the row of an instance.
@@ -283,15 +354,13 @@ impl InstanceTable {
     {
         self.instances.reserve(1)?;
         let text = copied_line(text)?;
-        let top = Tops::new(alloc, self.vdus_of(&vnfd))?;
+        let holding = first_holding(alloc, self.vnfd_named(&vnfd))?;
         self.instance = Some(InstanceRow {
             number,
             vnfd,
             name,
             text,
-            instantiated: false,
-            started: false,
-            top,
+            holding,
         });
         Ok(())
     }
@@ -324,13 +393,110 @@ impl InstanceTable {
         Ok(())
     }
 
-    /// Reserves room for one more operation that goes on.
-    fn reserve_going(&mut self) -> Result<(), AllocError>
+    /// The levels that an ask aims at, from those of an instance; none where its descriptor isn't there.
+    fn aim_at(&self, alloc: Global, row: &InstanceRow, ask: &Ask) -> Result<Levels, AllocError>
+        ensures { IfOk result (λ l. l ≡ aim_at self.now.rows.descriptors ask.now row.now) }
+    {
+        match self.vnfd_named(&row.vnfd) {
+            Some(vnfd) => aim_from(alloc, vnfd, row.holding.levels.as_slice(), ask),
+            None => Ok(Listed::new(alloc)),
+        }
+    }
+
+    /// The levels that an operation aims at, from those of its instance; none where the instance isn't live.
+    fn aim_of(&self, alloc: Global, operation: &Operation) -> Result<Levels, AllocError>
+        ensures { AreOrdered self.now.rows → IfOk result (λ l. l ≡ first_aim self.now.rows operation.now) }
+    {
+        match self.instance_numbered(operation.instance) {
+            Some(row) => self.aim_at(alloc, row, &operation.ask),
+            None => Ok(Listed::new(alloc)),
+        }
+    }
+
+    /// For each change of an operation that removes something, where that stands; none where the instance isn't live.
+    fn stood_of(
+        &self,
+        alloc: Global,
+        operation: &Operation,
+    ) -> Result<Listed<Option<Place>>, AllocError>
+        ensures { AreOrdered self.now.rows → IfOk result (λ l. l ≡ first_stood self.now.rows operation.now) }
+    {
+        match self.instance_numbered(operation.instance) {
+            Some(row) => stood_of(
+                alloc,
+                row.holding.items.as_slice(),
+                operation.changes.as_slice(),
+            ),
+            None => Ok(Listed::new(alloc)),
+        }
+    }
+
+    /// Reserves what is kept of an operation while it goes on.
+    fn reserve_operation(&mut self, alloc: Global, operation: &Operation) -> Result<(), AllocError>
         ensures kept { self.new.rows ≡ self.old.rows }
+        ensures laid { OnOk result (AreOrdered self.new.rows → self.new.reserved.operation ≡ Some (first_going self.new.rows operation.now)) }
         ensures spare { OnOk result (0 < self.new.reserved.going) }
     {
         self.going.reserve(1)?;
+        let aim = self.aim_of(alloc, operation)?;
+        let stood = self.stood_of(alloc, operation)?;
+        self.operation = Some(Going::of(alloc, operation, aim, stood)?);
         Ok(())
+    }
+
+    /// Reserves what a grant gives.
+    fn reserve_placing(
+        &mut self,
+        alloc: Global,
+        places: &[Place],
+        spots: &[u8],
+    ) -> Result<(), AllocError>
+        ensures kept { self.new.rows ≡ self.old.rows }
+        ensures laid { OnOk result (self.new.reserved.placing ≡ Some (record { places = places.now; spots = spots.now })) }
+    {
+        self.placing = Some(Placing::copied(alloc, places, spots)?);
+        Ok(())
+    }
+
+    /// The instance of the operation that goes on of this occurrence.
+    fn instance_of(&self, occ: u64) -> Option<u64>
+        ensures { Rises (λ g. g.occ) self.now.rows.going → result ≡ option_map (λ g. g.instance) (find (λ g. g.occ == occ) self.now.rows.going) }
+    {
+        match going_in(self.going.as_slice(), occ) {
+            Some(going) => Some(going.instance),
+            None => None,
+        }
+    }
+
+    /// Reserves room for one more item of an instance.
+    fn reserve_item(&mut self, number: u64) -> Result<(), AllocError>
+        ensures kept { self.new.rows ≡ self.old.rows }
+        ensures room { OnOk result (Rises (λ r. r.number) self.new.rows.instances → IfSome (find (λ r. r.number == number) self.new.rows.instances) (λ r. length r.holding.items < self.new.reserved.room)) }
+    {
+        reserve_in(&mut self.instances, &mut self.editor, number)
+    }
+
+    /// Reserves room for one more item of the instance of an occurrence.
+    fn reserve_done(&mut self, occ: u64) -> Result<(), AllocError>
+        ensures kept { self.new.rows ≡ self.old.rows }
+        ensures room { OnOk result (AreOrdered self.new.rows → IfSome (items_about self.new.rows occ) (λ ys. length ys < self.new.reserved.room)) }
+    {
+        match self.instance_of(occ) {
+            Some(number) => self.reserve_item(number),
+            None => Ok(()),
+        }
+    }
+
+    /// Reserves what the end of an attempt needs.
+    fn reserve_settled(&mut self, tag: &Tag, outcome: &Outcome) -> Result<(), AllocError>
+        ensures kept { self.new.rows ≡ self.old.rows }
+        ensures room { OnOk result (HasRoom (Settled tag.now outcome.now) self.new.rows self.new.reserved) }
+        ensures stays { needs_room (Settled tag.now outcome.now) ≡ false → self.new.reserved ≡ self.old.reserved }
+    {
+        match outcome {
+            Outcome::Done(_) => self.reserve_done(tag.occ),
+            _ => Ok(()),
+        }
     }
 
     /// Reserves the memory that an event needs, so that `apply` takes none. The rows stay, also after an error.
@@ -355,7 +521,11 @@ impl InstanceTable {
                 callback,
                 filter,
             } => self.reserve_subscription(alloc, *subscription, *role, callback, filter),
-            EventKind::Asked(_) => self.reserve_going(),
+            EventKind::Asked(operation) => self.reserve_operation(alloc, operation),
+            EventKind::Granted { places, spots, .. } => {
+                self.reserve_placing(alloc, places.as_slice(), spots.as_slice())
+            }
+            EventKind::Settled { tag, outcome } => self.reserve_settled(tag, outcome),
             _ => Ok(()),
         }
     }
@@ -417,53 +587,122 @@ impl InstanceTable {
         post_in(&mut self.subscriptions, number, place, outcome);
     }
 
-    /// Lets the instance of an operation follow its ask, and puts the operation last among those that go on.
-    fn put_going(&mut self, operation: &Operation)
+    /// Puts the reserved operation last among those that go on.
+    fn put_operation(&mut self)
         requires spare { 0 < self.old.reserved.going }
-        ensures rows { Rises (λ r. r.number) self.old.rows.instances → self.new.rows ≡ record self.old.rows { instances = map (asked operation.now.instance operation.now.changes) self.old.rows.instances; going = self.old.rows.going ++ going_of operation.now ∷ [] } }
+        ensures rows { (g : Going) → self.old.reserved.operation ≡ Some g → self.new.rows ≡ record self.old.rows { going = self.old.rows.going ++ g ∷ [] } }
+    {
+        if let Some(going) = self.operation.take() {
+            self.going.push_reserved(going);
+        }
+    }
+
+    /// Lets the instance of an operation follow its ask.
+    fn ask_instance(&mut self, operation: &Operation)
+        ensures rows { Rises (λ r. r.number) self.old.rows.instances → self.new.rows ≡ record self.old.rows { instances = map (asked operation.now.instance operation.now.changes) self.old.rows.instances } }
+        ensures reserved { self.new.reserved ≡ self.old.reserved }
     {
         ask_in(
             &mut self.instances,
             operation.instance,
             operation.changes.as_slice(),
         );
-        self.going.push_reserved(Going::of(operation));
     }
 
-    /// The operation that goes on of this occurrence, where the numbers rise.
-    fn going_numbered(&self, occ: u64) -> Option<Going>
-        ensures { Rises (λ g. g.occ) self.now.rows.going → result ≡ find (λ g. g.occ == occ) self.now.rows.going }
+    /// Lets the rows follow an ask.
+    fn follow_ask(&mut self, operation: &Operation)
+        requires spare { 0 < self.old.reserved.going }
+        ensures rows { (g : Going) → self.old.reserved.operation ≡ Some g → Rises (λ r. r.number) self.old.rows.instances → self.new.rows ≡ record self.old.rows { instances = map (asked operation.now.instance operation.now.changes) self.old.rows.instances; going = self.old.rows.going ++ g ∷ [] } }
     {
-        going_in(self.going.as_slice(), occ)
+        self.ask_instance(operation);
+        self.put_operation();
     }
 
-    /// Lets the instance of an operation follow its move, and the operations that go on too.
-    fn move_operation(&mut self, going: Going, occ: u64, to: OpState)
-        ensures rows { Rises (λ r. r.number) self.old.rows.instances → self.new.rows ≡ moved occ to (Some going) self.old.rows }
-        ensures reserved { IsKept self.old.reserved self.new.reserved }
+    /// Lets the operation that goes on of this occurrence follow its grant, where the numbers rise.
+    fn follow_grant(&mut self, occ: u64)
+        ensures rows { (p : Placing) → self.old.reserved.placing ≡ Some p → Rises (λ g. g.occ) self.old.rows.going → self.new.rows ≡ record self.old.rows { going = map (placed occ p) self.old.rows.going } }
     {
-        end_in(&mut self.instances, going.instance, going.end(to));
-        move_going(&mut self.going, occ, to);
+        if let Some(placing) = self.placing.take() {
+            place_in(&mut self.going, occ, placing);
+        }
     }
 
-    /// Lets the rows follow a move of this operation, where one goes on.
-    fn move_found(&mut self, found: Option<Going>, occ: u64, to: OpState)
-        ensures rows { Rises (λ r. r.number) self.old.rows.instances → self.new.rows ≡ moved occ to found self.old.rows }
-        ensures reserved { IsKept self.old.reserved self.new.reserved }
+    /// What an attempt that is done did.
+    fn work_done(&self, tag: &Tag, name: Name) -> Option<Work>
+        ensures { Rises (λ g. g.occ) self.now.rows.going → result ≡ work_done tag.now name self.now.rows }
     {
-        match found {
-            Some(going) => self.move_operation(going, occ, to),
+        match going_in(self.going.as_slice(), tag.occ) {
+            Some(going) => work_in(going, tag, name),
+            None => None,
+        }
+    }
+
+    /// Lets the instance follow what was done to what stands of it.
+    fn follow_work(&mut self, work: &Work)
+        ensures rows { Rises (λ r. r.number) self.old.rows.instances → IfSome (find (λ r. r.number == work.now.instance) self.old.rows.instances) (HasItemRoom self.old.reserved.room) → self.new.rows ≡ record self.old.rows { instances = map (after_work work.now) self.old.rows.instances } }
+    {
+        work_among(&mut self.instances, &mut self.editor, work);
+    }
+
+    /// Lets the rows follow an attempt that is done.
+    fn follow_done(&mut self, tag: &Tag, name: Name)
+        requires room { AreOrdered self.old.rows → IfSome (items_about self.old.rows tag.now.occ) (λ ys. length ys < self.old.reserved.room) }
+        ensures rows { AreOrdered self.old.rows → self.new.rows ≡ worked (work_done tag.now name self.old.rows) self.old.rows }
+    {
+        match self.work_done(tag, name) {
+            Some(work) => self.follow_work(&work),
             None => {}
+        }
+    }
+
+    /// Lets the rows follow the end of an attempt.
+    fn follow_settled(&mut self, tag: &Tag, outcome: &Outcome)
+        requires room { HasRoom (Settled tag.now outcome.now) self.old.rows self.old.reserved }
+        ensures rows { AreOrdered self.old.rows → self.new.rows ≡ changed (Settled tag.now outcome.now) self.old.rows }
+        ensures stays { needs_room (Settled tag.now outcome.now) ≡ false → IsKept self.old.reserved self.new.reserved }
+    {
+        match outcome {
+            Outcome::Done(name) => self.follow_done(tag, *name),
+            _ => {}
+        }
+    }
+
+    /// Lets the instance of an operation follow its end.
+    fn end_instance(&mut self, going: Going, to: OpState)
+        ensures rows { Rises (λ r. r.number) self.old.rows.instances → self.new.rows ≡ record self.old.rows { instances = map (ended going.instance (end_of to going) going.aim) self.old.rows.instances } }
+        ensures reserved { self.new.reserved ≡ self.old.reserved }
+    {
+        let ending = going.end(to);
+        end_in(&mut self.instances, going.instance, ending, going.aim);
+    }
+
+    /// Takes the operation of this occurrence out of those that go on, where the numbers rise.
+    fn leave_operation(&mut self, occ: u64) -> Option<Going>
+        ensures found { Rises (λ g. g.occ) self.old.rows.going → result ≡ find (λ g. g.occ == occ) self.old.rows.going }
+        ensures rows { Rises (λ g. g.occ) self.old.rows.going → self.new.rows ≡ record self.old.rows { going = without_operation occ self.old.rows.going } }
+        ensures reserved { IsKept self.old.reserved self.new.reserved }
+    {
+        take_going(&mut self.going, occ)
+    }
+
+    /// Lets the rows follow the end of an operation.
+    fn follow_end(&mut self, occ: u64, to: OpState)
+        ensures rows { AreOrdered self.old.rows → self.new.rows ≡ finished occ to (find (λ g. g.occ == occ) self.old.rows.going) self.old.rows }
+        ensures reserved { IsKept self.old.reserved self.new.reserved }
+    {
+        if let Some(going) = self.leave_operation(occ) {
+            self.end_instance(going, to);
         }
     }
 
     /// Lets the rows follow a move.
     fn follow_move(&mut self, occ: u64, to: OpState)
-        ensures rows { AreOrdered self.old.rows → self.new.rows ≡ moved occ to (find (λ g. g.occ == occ) self.old.rows.going) self.old.rows }
+        ensures rows { AreOrdered self.old.rows → self.new.rows ≡ moved occ to self.old.rows }
         ensures reserved { IsKept self.old.reserved self.new.reserved }
     {
-        let found = self.going_numbered(occ);
-        self.move_found(found, occ, to);
+        if ends(to) {
+            self.follow_end(occ, to);
+        }
     }
 
     /// Counts one more event.
@@ -491,7 +730,9 @@ impl InstanceTable {
                 place,
                 outcome,
             } => self.post(*subscription, *place, *outcome),
-            EventKind::Asked(operation) => self.put_going(operation),
+            EventKind::Asked(operation) => self.follow_ask(operation),
+            EventKind::Granted { occ, .. } => self.follow_grant(*occ),
+            EventKind::Settled { tag, outcome } => self.follow_settled(tag, outcome),
             EventKind::Moved { occ, to } => self.follow_move(*occ, *to),
             _ => {}
         }
@@ -585,6 +826,31 @@ impl InstanceTable {
             Kind::Subscription => self.subscriptions.len() as u64,
             Kind::Occurrence | Kind::Notice => 0,
         }
+    }
+
+    /// How many subscriptions of a role are live.
+    ///
+    /// Source: SOL 003 5.4.18 (Subscriptions).
+    pub fn live_of(&self, role: Role) -> u64
+        ensures live { CountsLiveOf role result self.now.rows }
+    {
+        self.count_of(role)
+    }
+
+    /// How many rows of subscriptions are a role's.
+    fn count_of(&self, role: Role) -> u64
+        ensures { result ≡ length (filter (is_role_of role) self.now.rows.subscriptions) }
+    {
+        count_of(self.subscriptions.as_slice(), role)
+    }
+
+    /// How many events the table has followed.
+    ///
+    /// Source: own rule.
+    pub fn events(&self) -> u64
+        ensures events { CountsEvents result self.now.rows }
+    {
+        self.events
     }
 
     /// How many descriptors were onboarded.

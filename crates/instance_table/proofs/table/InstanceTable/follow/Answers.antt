@@ -14,6 +14,11 @@ returns-in-Created-clause-rows c = λ rises.
     let room = subst (λ (k : EventKind). HasRoom k c.args.self.now.rows c.args.self.now.reserved) c.in-Created.is c.requires.room in
     c.put_instance.ensures.rows _ room.0 ∙ ap (λ (k : EventKind). changed k c.args.self.now.rows) (sym c.in-Created.is)
 
+pub returns-in-Granted-clause-rows : goal.returns-in-Granted-clause-rows
+returns-in-Granted-clause-rows c = λ rises.
+    let room = subst (λ (k : EventKind). HasRoom k c.args.self.now.rows c.args.self.now.reserved) c.in-Granted.is c.requires.room in
+    c.follow_grant.ensures.rows _ room rises.going ∙ ap (λ (k : EventKind). changed k c.args.self.now.rows) (sym c.in-Granted.is)
+
 pub returns-in-Subscribed-clause-rows : goal.returns-in-Subscribed-clause-rows
 returns-in-Subscribed-clause-rows c = λ rises.
     let room = subst (λ (k : EventKind). HasRoom k c.args.self.now.rows c.args.self.now.reserved) c.in-Subscribed.is c.requires.room in
