@@ -1,0 +1,4 @@
+mod AskLaws
+mod FoundLaws
+mod LiveLaws
+mod NoticeLaws

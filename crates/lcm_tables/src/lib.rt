@@ -1,0 +1,9 @@
+//! Both tables of a history as one: whether an event may follow, room for it, and the tables after it. Nothing asks a list of events.
+#![tactic(auto)]
+
+mod asks;
+mod judges;
+mod notices;
+mod tables;
+
+pub use tables::Tables;
