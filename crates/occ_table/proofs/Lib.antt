@@ -18,3 +18,4 @@ pub mod KnownSteps
 pub mod TableLaws
 pub mod PackedLaws
 pub mod ResourceLaws
+pub mod VnfdLaws

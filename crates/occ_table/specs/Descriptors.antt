@@ -1,5 +1,6 @@
 -- Which descriptor each instance was made of (SOL 003 5.5.2.2, VnfInstance, vnfdId).
-use Rattle.std.specs.Prelude.{List, None, Option, [], if◌then◌else◌, map, option_map, reverse, slice_get, unwrap_or, ℕ, ◌++◌, ◌-◌, ◌==◌, ◌∷◌}
+use Rattle.std.specs.List.{AllByRecursion}
+use Rattle.std.specs.Prelude.{List, None, Option, [], if◌then◌else◌, length, map, option_map, reverse, slice_get, unwrap_or, ℕ, ◌++◌, ◌-◌, ◌<◌, ◌==◌, ◌∷◌}
 use Rattle.lcm_events.specs.declared.events.Event.{Event}
 use Rattle.lcm_events.specs.declared.events.EventKind.{EventKind}
 use Rattle.lcm_events.specs.declared.events.EventKind.TheVariants.{Created}
@@ -25,3 +26,20 @@ vnfd_in i vs = unwrap_or (numbered i vs) []
 abbrev pub vnfds_after : EventKind → List (List ℕ) → List (List ℕ)
 vnfds_after (Created instance vnfd name text) vs = vs ++ vnfd ∷ []
 vnfds_after _ vs = vs
+
+-- the name at this place of a list, or no bytes beyond its end
+abbrev pub name_at : List (List ℕ) → ℕ → List ℕ
+name_at names n = unwrap_or (slice_get names n) []
+
+-- the descriptors of instances that are told by places in a list of names (own format)
+abbrev pub named_by : List (List ℕ) → List ℕ → List (List ℕ)
+named_by names numbers = map (name_at names) numbers
+
+-- each place is one of the list (own format)
+abbrev pub NamesEach : List (List ℕ) → List ℕ → Type 0
+NamesEach names numbers = AllByRecursion (λ n. n < length names) numbers
+
+-- what is kept of descriptors: that of each instance, and for how many more instances there is room (own rule)
+pub record KeptDescriptors : Type 0 where
+  pub vnfds : List (List ℕ)
+  pub spare : ℕ

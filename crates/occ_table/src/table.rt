@@ -21,7 +21,7 @@ use crate::resources::{Deed, Resources};
 use crate::rooms::Rooms;
 use crate::rows::{Grant, OccRow};
 use crate::used::{PackedUsed, Used};
-use crate::vnfds::vnfd_at;
+use crate::vnfds::Vnfds;
 use lcm_events::{Event, EventKind, GrantTry, Listed, OpState, Operation, Outcome, Place, Tag};
 use std::alloc::{AllocError, Global};
 use std::marker::Model;
@@ -32,17 +32,34 @@ use vnfm_base::{Line, Moment, Name};
 /// A contract sees its rows, which occurrences are active, which operation of each instance goes on, which resource each definition has that
 /// was ever made, and what is reserved for an event.
 /// Each row has a place among the active numbers, so that a move needs no memory.
-#[derive(Debug, Drop)]
+#[derive(Debug)]
 pub struct OccTable {
     rows: Vec<OccRow>,
     active: Vec<u64>,
     ongoing: Vec<Option<u64>>,
-    vnfds: Vec<Name>,
+    vnfds: Vnfds,
     resources: Resources,
     row: Option<OccRow>,
     grant: Option<Grant>,
     location: Option<Line>,
     names: Rooms,
+}
+
+impl Drop for OccTable {
+    // Written out, so that the proof of a caller calls it and doesn't take the table apart at each of its ends.
+    fn drop(self) {
+        let OccTable {
+            rows: _,
+            active: _,
+            ongoing: _,
+            vnfds: _,
+            resources: _,
+            row: _,
+            grant: _,
+            location: _,
+            names: _,
+        } = self;
+    }
 }
 
 impl Model for OccTable {
@@ -51,7 +68,7 @@ impl Model for OccTable {
 
     ghost Value = { Occurrences };
 
-    ghost view = { λ t. record { rows = t.rows.items; active = t.active.items; ongoing = t.ongoing.items; vnfds = t.vnfds.items; resources = t.resources.entries; reserved = record { row = t.row; grant = t.grant; location = t.location; spare = vec_capacity t.rows - vec_len t.rows; places = vec_capacity t.active - vec_len t.rows; instances = vec_capacity t.ongoing - vec_len t.ongoing; names = vec_capacity t.vnfds - vec_len t.vnfds; resources = t.resources.spare; made_names = t.resources.room; used_names = t.names } } };
+    ghost view = { λ t. record { rows = t.rows.items; active = t.active.items; ongoing = t.ongoing.items; vnfds = t.vnfds.vnfds; resources = t.resources.entries; reserved = record { row = t.row; grant = t.grant; location = t.location; spare = vec_capacity t.rows - vec_len t.rows; places = vec_capacity t.active - vec_len t.rows; instances = vec_capacity t.ongoing - vec_len t.ongoing; names = t.vnfds.spare; resources = t.resources.spare; made_names = t.resources.room; used_names = t.names } } };
 
     ghost invariant = { λ t. vec_len t.rows ≤ vec_capacity t.active };
 }
@@ -161,7 +178,7 @@ impl OccTable {
             rows: Vec::new(alloc),
             active: Vec::new(alloc),
             ongoing: Vec::new(alloc),
-            vnfds: Vec::new(alloc),
+            vnfds: Vnfds::new(alloc),
             resources: Resources::new(alloc),
             row: None,
             grant: None,
@@ -223,8 +240,7 @@ impl OccTable {
         ensures names { OnOk result (0 < self.new.reserved.names) }
     {
         self.ongoing.reserve(1)?;
-        self.vnfds.reserve(1)?;
-        Ok(())
+        self.vnfds.reserve()
     }
 
     /// Reserves a place for what an attempt did, whatever the name is of what it made.
@@ -310,7 +326,7 @@ impl OccTable {
         ensures resources { self.new.resources ≡ self.old.resources }
     {
         self.ongoing.push_reserved(None);
-        self.vnfds.push_reserved(vnfd);
+        self.vnfds.push(vnfd);
     }
 
     /// Puts the reserved row last, and its number last among the active ones: it is the ongoing operation of its instance.
@@ -323,7 +339,7 @@ impl OccTable {
         ensures vnfds { self.new.vnfds ≡ self.old.vnfds }
         ensures resources { self.new.resources ≡ self.old.resources }
     {
-        let vnfd = vnfd_at(self.vnfds.as_slice(), instance);
+        let vnfd = self.vnfds.at(instance);
         if let Some(mut row) = self.row.take() {
             row.describe(vnfd);
             self.rows.push_reserved(row);
