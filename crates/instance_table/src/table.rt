@@ -31,7 +31,7 @@ use vnfm_base::{Kind, Line, Name};
 /// The table of descriptors, live instances and live subscriptions, and of the operations that go on.
 ///
 /// A contract sees its rows, and beside them what is reserved for an event.
-#[derive(Debug, Drop)]
+#[derive(Debug)]
 pub struct InstanceTable {
     descriptors: Vec<Vnfd>,
     instances: Vec<InstanceRow>,
@@ -46,6 +46,27 @@ pub struct InstanceTable {
     operation: Option<Going>,
     placing: Option<Placing>,
     editor: Editor,
+}
+
+impl Drop for InstanceTable {
+    // Written out, so that the proof of a caller calls it and doesn't take the table apart at each of its ends.
+    fn drop(self) {
+        let InstanceTable {
+            descriptors: _,
+            instances: _,
+            subscriptions: _,
+            going: _,
+            instances_made: _,
+            subscriptions_made: _,
+            events: _,
+            descriptor: _,
+            instance: _,
+            subscription: _,
+            operation: _,
+            placing: _,
+            editor: _,
+        } = self;
+    }
 }
 
 impl Model for InstanceTable {

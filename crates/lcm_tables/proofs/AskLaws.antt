@@ -1,5 +1,5 @@
 -- An ask is judged after a history as it is judged over what stands of its instance.
-use Rattle.std.proofs.Common.{◌≡◌, ◌&&◌, ◌+◌, ◌∙◌, ◌↔◌, IsTrue, ℕ, List, [], ◌∷◌, Bool, true, false, Option, None, Some, is_some, refl, ap, sym, subst}
+use Rattle.std.proofs.Common.{◌≡◌, ◌&&◌, ◌+◌, ◌∙◌, ◌↔◌, IsTrue, ℕ, List, [], ◌∷◌, Bool, true, Option, None, Some, is_some, refl, ap, sym, subst}
 use Rattle.std.specs.Prelude.{option_and_then}
 use Rattle.lcm_events.specs.declared.descriptor.Vnfd.{Vnfd}
 use Rattle.lcm_events.specs.declared.events.Event.{Event}
@@ -8,7 +8,7 @@ use Rattle.lcm_events.specs.declared.held.Holding.{Holding}
 use Rattle.lcm_model.specs.Allowed.{IsLegal, IsPlanOf, MayAsk}
 use Rattle.lcm_model.specs.Descriptors.{IsHoldingOf, IsValid}
 use Rattle.lcm_model.specs.Instances.{holding}
-use Rattle.lcm_model.specs.Lives.{CreatedInstance, creation, descriptor, descriptor_named, is_live}
+use Rattle.lcm_model.specs.Lives.{CreatedInstance, descriptor, descriptor_named, is_live}
 use Rattle.lcm_model.specs.Operations.{occurrences_made, ongoing}
 use Rattle.lcm_model.specs.Refusals.{content_refusal, plan_refusal, situation, state_refusal}
 use Rattle.lcm_model.specs.Words.{first, first_some}
@@ -16,7 +16,7 @@ use Rattle.lcm_model.specs.Work.{window}
 use Rattle.lcm_laws.proofs.Lists.{and_left, and_right, and_true, none_of-front, none_of-rest}
 use Rattle.lcm_plans.proofs.AskedLaws.{asked_held, asked_valid, planned_same, standing_same}
 use Rattle.lcm_plans.specs.Cases.{CanBeAsked}
-use Rattle.instance_table.specs.Rows.{instance, instance_row}
+use Rattle.instance_table.specs.Rows.{instance}
 use Rattle.instance_table.specs.declared.rows.InstanceRow.{InstanceRow}
 use Rattle.lcm_tables.specs.Asking.{IsAskedOf, IsPlanOver}
 use Rattle.lcm_tables.specs.Tables.{IsSmall}

@@ -17,10 +17,17 @@ use subscription_filter::NoticeFacts;
 /// The notices that wait for each live subscription: for each a queue of their places in the journal.
 ///
 /// A contract sees the queues, and beside them what is reserved for an event.
-#[derive(Debug, Drop)]
+#[derive(Debug)]
 pub struct NoticeTable {
     queues: Vec<QueueRow>,
     next: Option<QueueRow>,
+}
+
+impl Drop for NoticeTable {
+    // Written out, so that the proof of a caller calls it and doesn't take the table apart at each of its ends.
+    fn drop(self) {
+        let NoticeTable { queues: _, next: _ } = self;
+    }
 }
 
 impl Model for NoticeTable {
