@@ -1,28 +1,28 @@
 -- One record more, as it was judged.
-use Rattle.std.proofs.Common.{◌≡◌, ◌+◌, ℕ, List, [], ◌∷◌, ◌++◌, length, map, reverse, Option, Some, None, Result, Ok, Err, ap, ◌∙◌, sym, subst, refl, arith, append_assoc}
+use Rattle.std.proofs.Common.{◌≡◌, ◌+◌, ℕ, List, [], ◌∷◌, ◌++◌, ◌<◌, length, Option, Some, None, Result, Ok, Err, ap, ◌∙◌, sym, subst, refl, arith, rules, append_assoc}
 use Rattle.std.specs.List.{AllByRecursion}
-use Rattle.std.proofs.lemmas.Grind.{reverse_onto}
-use Rattle.std.proofs.lemmas.List.{map_push}
-use Rattle.event_codec.specs.Spell.{spelling}
 use Rattle.event_codec.specs.Valid.{IsEvent}
 use Rattle.journal_core.specs.File.{size}
-use Rattle.journal_core.specs.Room.{Adds, AddsUp}
-use Rattle.journal_core.specs.Load.{Progress, Loads, ReadsOn}
+use Rattle.journal_core.specs.Room.{Adds, AddsUp, TakesMore}
+use Rattle.journal_core.specs.Load.{Progress, IsBegun, Loads, LoadsAll, ReadsOn}
+use Rattle.journal_core.specs.declared.journal.TheConstants.{MAX_FILE}
+use Rattle.instance_table.specs.Rows.{Rows}
 use Rattle.lcm_events.specs.declared.events.Event.{Event}
+use Rattle.lcm_laws.specs.Serials.{SerialsAreCounted}
 use Rattle.lcm_model.specs.Allowed.{IsLegal}
+use Rattle.lcm_tables.specs.Tables.{AreTablesOf, HasSmallHistory}
+use Rattle.lcm_tables.specs.declared.tables.Tables.{Tables}
 use Rattle.site_traits.specs.Site.{SiteState, Reads}
 use Rattle.std.specs.Result.{IsErrAnd}
 use Rattle.executor.specs.declared.manager.OpenFault.{OpenFault}
 use Rattle.executor.specs.declared.manager.OpenFault.TheVariants as opening
 use Rattle.executor.specs.History.{spellings}
-use Rattle.executor.specs.Loading.{IsNext, StepsFrom, JudgesNext, AreJudged, IsJudged, JudgesAll, JudgesSoFar}
+use Rattle.executor.specs.Loading.{IsNext, StepsFrom, JudgesNext, AreJudged, IsJudged, IsThrough, IsUnderWay, JudgesAll}
 use Rattle.executor.specs.Open.{IsBadAt}
 use Rattle.executor.specs.Room.{journal_end}
 use Rattle.executor.specs.declared.open.Judged.{Judged}
-
--- the spellings with one event more
-pub spellings-cons : (e : Event) (H : List Event) → spellings (e ∷ H) ≡ spellings H ++ spelling e ∷ []
-spellings-cons e H = ap (map spelling) (reverse_onto H e []) ∙ map_push spelling (reverse H) e
+use Rattle.executor.proofs.SerialLemmas.{small}
+use Rattle.executor.proofs.SpellingLemmas.{spellings-cons}
 
 pub steps_legal : (m n : ℕ) (bytes : List ℕ) (bad : Option ℕ) (H : List Event) (bad' : Option ℕ) (H' : List Event) → StepsFrom m n bytes bad H bad' H' → IsLegal m H → IsLegal m H'
 steps_legal m n bytes (Some k) H bad' H' step legal = subst (IsLegal m) (sym step.1) legal
@@ -54,14 +54,16 @@ end_more up m bytes bad H H' k k' on end more =
     up (spellings H) bytes k k' (end on.none) more
     ∙ ap size (ap (λ b. spellings H ++ b ∷ []) on.next.spelled ∙ sym (spellings-cons on.event H) ∙ ap spellings (sym on.is))
 
-pub step_judged : AddsUp → (j j' : Judged) (l l' : Progress) → IsJudged j l → ReadsOn l l' → JudgesNext l'.manager l'.count l'.record_bytes j j' → IsJudged j' l'
-step_judged up j j' l l' judged reads step =
-    let on = goes_on l'.manager l'.count l'.record_bytes j.bad (reverse j.events.items) j'.bad (reverse j'.events.items) step in
+step_judged : AddsUp → (j j' : Judged) (l l' : Progress) (H H' : List Event) → IsJudged j l H → ReadsOn l l' → StepsFrom l'.manager l'.count l'.record_bytes j.bad H j'.bad H'
+    → AreTablesOf l'.manager j'.tables H' → IsJudged j' l' H'
+step_judged up j j' l l' H H' judged reads step tables =
+    let on = goes_on l'.manager l'.count l'.record_bytes j.bad H j'.bad H' step in
     record {
-      legal = steps_legal l'.manager l'.count l'.record_bytes j.bad (reverse j.events.items) j'.bad (reverse j'.events.items) step (rw reads.manager judged.legal);
-      events = steps_events l'.manager l'.count l'.record_bytes j.bad (reverse j.events.items) j'.bad (reverse j'.events.items) step judged.events;
-      count = λ none. count_more l'.manager l'.record_bytes j.bad (reverse j.events.items) (reverse j'.events.items) l.count l'.count (on none) judged.count reads.count;
-      end = λ none. end_more up l'.manager l'.record_bytes j.bad (reverse j.events.items) (reverse j'.events.items) l.end l'.end (on none) judged.end reads.end;
+      tables = tables;
+      legal = steps_legal l'.manager l'.count l'.record_bytes j.bad H j'.bad H' step (rw reads.manager judged.legal);
+      events = steps_events l'.manager l'.count l'.record_bytes j.bad H j'.bad H' step judged.events;
+      count = λ none. count_more l'.manager l'.record_bytes j.bad H H' l.count l'.count (on none) judged.count reads.count;
+      end = λ none. end_more up l'.manager l'.record_bytes j.bad H H' l.end l'.end (on none) judged.end reads.end;
     }
 
 -- the records with one more, as they were judged
@@ -93,14 +95,59 @@ are_judged m n bytes None H (Some k) H' rs step judged legal events place = reco
   none = λ e is spelled allowed. step.1 e (record { spelled = spelled; event = is; allowed = allowed });
 }
 
-pub step_so_far : (j j' : Judged) (l l' : Progress) (a b : SiteState) → IsJudged j l → ReadsOn l l' → JudgesNext l'.manager l'.count l'.record_bytes j j'
-    → (so_far : JudgesSoFar j l a) → Loads (so_far.rs ++ l'.record_bytes ∷ []) l' b → JudgesSoFar j' l' b
-step_so_far j j' l l' a b is reads step so_far loads = record {
-  rs = so_far.rs ++ l'.record_bytes ∷ [];
-  loads = loads;
-  judged = are_judged l'.manager l'.count l'.record_bytes j.bad (reverse j.events.items) j'.bad (reverse j'.events.items) so_far.rs step
-      (rw reads.manager so_far.judged) (rw reads.manager is.legal) is.events (λ none. let count = is.count none in let more = reads.count in omega arith);
+-- one record more was read and judged
+pub step_on : (tells : Type 0) → AddsUp → TakesMore → SerialsAreCounted → (j j' : Judged) (l l' : Progress) (a b : SiteState) → IsUnderWay tells j l a → l.end < MAX_FILE → ReadsOn l l' → JudgesNext l'.count l'.record_bytes j j'
+    → (tells → (rs : List (List ℕ)) → Loads rs l a → Loads (rs ++ l'.record_bytes ∷ []) l' b) → IsUnderWay tells j' l' b
+step_on tells up longer law j j' l l' a b way within reads step loads =
+    let H = way.history in
+    let is = way.judged in
+    let next = step l'.manager H (λ none. small longer l.manager H law is.legal (rw (← is.end none) within)) (rw reads.manager is.legal) (rw reads.manager is.tables) in
+    record {
+      history = next.0;
+      judged = step_judged up j j' l l' H next.0 is reads next.1 next.2;
+      so_far = λ told.
+          let so_far = way.so_far told in
+          record {
+            rs = so_far.rs ++ l'.record_bytes ∷ [];
+            loads = loads told so_far.rs so_far.loads;
+            judged = are_judged l'.manager l'.count l'.record_bytes j.bad H j'.bad next.0 so_far.rs next.1
+                (rw reads.manager so_far.judged) (rw reads.manager is.legal) is.events (λ none. let count = is.count none in let more = reads.count in omega arith);
+          };
+    }
+
+-- where no record was bad, the tables are those of a small history
+pub small_so_far : (tells : Type 0) → TakesMore → SerialsAreCounted → (j : Judged) (l : Progress) (s : SiteState) → IsUnderWay tells j l s → l.end < MAX_FILE → j.bad ≡ None → HasSmallHistory j.tables
+small_so_far tells longer law j l s way within none =
+    let is = way.judged in
+    let fits : journal_end way.history < MAX_FILE = rw (← is.end none) within in
+    record { manager = l.manager; history = way.history; legal = is.legal; small = small longer l.manager way.history law is.legal fits; tables = is.tables }
+
+-- tables have one number of events
+pub few_events : (t : Tables) → HasSmallHistory t → (m : ℕ) (H : List Event) → AreTablesOf m t H → length H < 4611686018427387903
+few_events t some m H tables =
+    let one : t.instances.rows.events ≡ length some.history = ap (λ (r : Rows). r.events) some.tables.instances in
+    let other : t.instances.rows.events ≡ length H = ap (λ (r : Rows). r.events) tables.instances in
+    omega (arith, one, other, some.small.events)
+
+-- before the first record
+pub none_judged : (tells : Type 0) (t : Tables) (l : Progress) (s : SiteState) → IsBegun l → (tells → Loads [] l s) → AreTablesOf l.manager t []
+    → IsUnderWay tells (record { tables = t; bad = None }) l s
+none_judged tells t l s begun loads tables = record {
+  history = [];
+  judged = record { tables = tables; legal = search rules; events = search rules; count = λ none. search rules; end = λ none. search rules };
+  so_far = λ told. record { rs = []; loads = loads told; judged = refl };
 }
+
+-- behind the last one
+pub all_judged : (tells : Type 0) (j : Judged) (l k : Progress) (a b : SiteState) → IsUnderWay tells j l a → k.manager ≡ l.manager → k.count ≡ l.count → k.end ≡ l.end
+    → (tells → (rs : List (List ℕ)) → Loads rs l a → LoadsAll rs k b) → IsThrough tells j k b
+all_judged tells j l k a b way manager count end ends =
+    let is = way.judged in
+    record {
+      history = way.history;
+      judged = record { tables = rw manager is.tables; legal = rw manager is.legal; events = is.events; count = λ none. count ∙ is.count none; end = λ none. end ∙ is.end none };
+      all = λ told. let so_far = way.so_far told in record { rs = so_far.rs; loads = ends told so_far.rs so_far.loads; judged = rw manager so_far.judged };
+    }
 
 -- there was no memory to judge it
 pub judges_starved : (r : Result Judged OpenFault) (rs : List (List ℕ)) (l : Progress) (a b : SiteState) → IsErrAnd r (λ why. why ≡ opening.Memory) → Loads rs l b → Reads a b → JudgesAll r l a b

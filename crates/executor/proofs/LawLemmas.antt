@@ -14,8 +14,7 @@ use Rattle.lcm_model.specs.Allowed.{IsAllowed, IsLegal}
 use Rattle.executor.specs.History.{HasHistory, spellings}
 use Rattle.executor.specs.Laws.{HasOneHistory, HasNoBadRecord, HasOneBadRecord}
 use Rattle.executor.specs.Open.{IsBadAt}
-use Rattle.executor.proofs.JudgeLemmas.{spellings-cons}
-use Rattle.executor.proofs.SpellingLemmas.{same_event}
+use Rattle.executor.proofs.SpellingLemmas.{same_event, spellings-cons}
 
 never_empty : {X : Type 0} (xs : List X) (y : X) (ys : List X) → [] ≡ xs ++ y ∷ ys → ⊥
 never_empty xs y ys same = let short : 0 ≡ length (xs ++ y ∷ ys) = ap length same in omega (arith, length-append xs (y ∷ ys))

@@ -1,7 +1,9 @@
 mod CommitLemmas
+mod FaultLemmas
 mod JudgeLemmas
 pub mod LawLemmas
 pub mod ManagerLemmas
 mod SerialLemmas
 mod SpellingLemmas
 pub mod WorkLemmas
+mod ReadingLemmas

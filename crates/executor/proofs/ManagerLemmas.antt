@@ -1,26 +1,29 @@
 -- What a load and a commit do, from what the journal's calls do.
-use Rattle.std.proofs.Common.{◌≡◌, ◌≤◌, ◌+◌, ℕ, List, [], ◌∷◌, ◌++◌, length, reverse, true, false, Ok, Err, Result, true≢false, ap, ◌∙◌, sym, subst, refl, inl, arith, ⊎_elim}
+use Rattle.std.proofs.Common.{◌≡◌, ◌≤◌, ◌<◌, ◌+◌, ℕ, List, [], ◌∷◌, ◌++◌, length, true, false, Ok, Err, Result, true≢false, ap, ◌∙◌, sym, subst, refl, inl, inr, arith, Option, Some, None, ⊎_elim}
 use Rattle.std.specs.Result.{IsErrAnd}
-use Rattle.std.proofs.lemmas.List.{reverse-append}
 use Rattle.event_codec.specs.Spell.{spelling}
 use Rattle.event_codec.specs.Valid.{IsEvent}
 use Rattle.journal_core.specs.File.{records, size, HasRecords}
+use Rattle.journal_core.specs.Header.{HasHeader}
 use Rattle.journal_core.specs.Room.{Adds, AddsUp}
 use Rattle.journal_core.specs.Journal as journal
 use Rattle.journal_core.specs.Journal.{Ledger, Stands, Appends}
-use Rattle.journal_core.specs.Load.{Progress, SyncsAndReads}
+use Rattle.journal_core.specs.Load.{Progress, SyncsAndReads, ledger_of}
 use Rattle.lcm_events.specs.declared.events.Event.{Event}
 use Rattle.lcm_model.specs.Allowed.{IsAllowed, IsLegal}
 use Rattle.site_traits.specs.Site.{Pair, SiteState, LeavesOnly, Reads, Same}
 use Rattle.site_traits.specs.Moments.{weakened, on_file-reads}
 use Rattle.executor.specs.History.{spellings}
-use Rattle.executor.specs.Managed.{Managed, IsKept, StandsFor}
+use Rattle.executor.specs.Managed.{Managed, IsKept, IsReady, Keeps, KeepsOn, StandsFor}
+use Rattle.lcm_tables.specs.declared.tables.Tables.{Tables}
+use Rattle.lcm_tables.specs.Tables.{Applies, AreTablesOf, StandForSame}
 use Rattle.executor.specs.Work.{HasSome}
-use Rattle.executor.specs.Loading.{Finds}
-use Rattle.executor.specs.Open.{Opens, Refuses}
+use Rattle.executor.specs.Loading.{AreJudged, Finds, IsThrough}
+use Rattle.executor.specs.Open.{IsBadAt, IsBadRecord, Opens, Refuses}
+use Rattle.executor.specs.declared.open.Judged.{Judged}
 use Rattle.executor.specs.declared.manager.OpenFault.{OpenFault}
 use Rattle.executor.specs.declared.manager.OpenFault.TheVariants as opening
-use Rattle.executor.proofs.JudgeLemmas.{spellings-cons}
+use Rattle.executor.proofs.SpellingLemmas.{spellings-cons}
 use Rattle.executor.proofs.WorkLemmas.{extends_refl, extends_one, some_of}
 
 -- a call that syncs and reads, and then one that only reads
@@ -29,10 +32,6 @@ syncs_then a b c ab bc = record {
   on_file = on_file-reads Same a b c ab.on_file bc.on_file (λ i. refl);
   same = bc.same ∙ ab.same;
 }
-
--- an event put behind the others is the latest
-pub reverse-push : (xs : List Event) (e : Event) → reverse (xs ++ e ∷ []) ≡ e ∷ reverse xs
-reverse-push xs e = reverse-append xs (e ∷ [])
 
 -- every event has a spelling of a byte or more
 pub spelling-some : (e : Event) → 1 ≤ length (spelling e)
@@ -85,6 +84,35 @@ refuses_of (opening.BadRecord n) l s found = (l.manager, found.1, inl found.0)
 refuses_of opening.Disk l s found = tt
 refuses_of opening.Memory l s found = (l.manager, found)
 
+-- a journal all of whose records were judged, and none of them bad, is a manager's
+pub opened : (tells : Type 0) (j : Judged) (l : Progress) (s : SiteState) → IsThrough tells j l s → j.bad ≡ None
+    → (H : List Event) × IsReady tells (record { ledger = ledger_of l; tables = j.tables }) H s
+opened tells j l s through none =
+    let is = through.judged in
+    let stands : tells → StandsFor (record { ledger = ledger_of l; tables = j.tables }) through.history s = λ told.
+    let all = through.all told in
+    let P : Option ℕ → Type 0 = λ b. AreJudged l.manager through.history b all.rs in
+    record { journal = all.loads.stands; records = all.loads.records ∙ subst P none all.judged; events = is.events } in (
+      through.history,
+      record {
+        usable = refl;
+        keeps = record { kept = record { legal = is.legal; events = is.events; count = λ _. is.count none; end = λ _. is.end none }; tables = is.tables };
+        stands = stands;
+      },
+    )
+
+-- one of them is bad
+pub bad_found : (tells : Type 0) (j : Judged) (l : Progress) (s : SiteState) (n : ℕ) → IsThrough tells j l s → j.bad ≡ Some n → tells → IsBadRecord n s.image
+bad_found tells j l s n through bad told =
+    let all = through.all told in
+    let P : Option ℕ → Type 0 = λ b. AreJudged l.manager through.history b all.rs in
+    let Q : List (List ℕ) → Type 0 = λ rs. IsBadAt l.manager n rs in
+    (l.manager, all.loads.loads.header, inr (all.loads.stands.file, subst Q (sym all.loads.records) (subst P bad all.judged)))
+
+-- the file has a header
+pub header_found : (tells : Type 0) (j : Judged) (l : Progress) (s : SiteState) → IsThrough tells j l s → tells → (m : ℕ) × HasHeader m s.image
+header_found tells j l s through told = let all = through.all told in (l.manager, all.loads.loads.header)
+
 -- a journal that wasn't opened for this cause
 pub opens_err : (tells : Type 0) (r : Result Managed OpenFault) (why : OpenFault) (s : SiteState) → IsErrAnd r (λ e. e ≡ why)
     → (tells → Refuses why s.image) → Opens tells r s
@@ -99,3 +127,27 @@ kept_closed l k H kept manager closed = record {
   count = λ usable. absurd (true≢false (sym closed ∙ usable));
   end = λ usable. absurd (true≢false (sym closed ∙ usable));
 }
+
+-- what a manager keeps is kept by one whose ledger is the same and whose tables stand for the same
+pub keeps_same : (m n : Managed) → n.ledger ≡ m.ledger → StandForSame m.tables n.tables → KeepsOn m n
+keeps_same m n same tables H keeps =
+    let P : Ledger → Type 0 = λ l. IsKept l H in
+    let Q : Ledger → Type 0 = λ l. AreTablesOf l.manager n.tables H in
+    record { kept = subst P (sym same) keeps.kept; tables = subst Q (sym same) (tables m.ledger.manager H keeps.tables) }
+
+-- and by one of the same manager that is closed
+pub keeps_closed : (m n : Managed) → n.ledger.manager ≡ m.ledger.manager → n.ledger.closed ≡ true → StandForSame m.tables n.tables → KeepsOn m n
+keeps_closed m n number closed tables H keeps =
+    let Q : ℕ → Type 0 = λ k. AreTablesOf k n.tables H in
+    record { kept = kept_closed m.ledger n.ledger H keeps.kept number closed; tables = subst Q (sym number) (tables m.ledger.manager H keeps.tables) }
+
+-- and the history with an event more that was recorded, by one whose tables followed the event from room that was reserved
+pub keeps_more : AddsUp → (m n : Managed) (between : Tables) (H : List Event) (e : Event) → Keeps m H → m.ledger.closed ≡ false → n.ledger.manager ≡ m.ledger.manager
+    → n.ledger.count ≡ m.ledger.count + 1 → Adds (spelling e) m.ledger.end n.ledger.end → IsEvent e → IsAllowed m.ledger.manager H e.kind → StandForSame m.tables between
+    → Applies e between n.tables → length H < 4611686018427387903 → Keeps n (e ∷ H)
+keeps_more up m n between H e keeps usable number count end event allowed same applies few =
+    let Q : ℕ → Type 0 = λ k. AreTablesOf k n.tables (e ∷ H) in
+    record {
+      kept = kept_more up m.ledger n.ledger H e keeps.kept usable number count end event allowed;
+      tables = subst Q (sym number) (applies m.ledger.manager H few keeps.kept.legal allowed (same m.ledger.manager H keeps.tables));
+    }

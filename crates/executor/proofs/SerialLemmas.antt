@@ -1,9 +1,6 @@
 -- A history whose spellings fit a file has small numbers: each change that was asked for takes eleven bytes, and each event one.
-use Rattle.std.proofs.Common.{◌≡◌, ◌<◌, ◌≤◌, ◌+◌, ◌*◌, ℕ, List, [], ◌∷◌, ◌++◌, Option, Some, None, length, reverse, flat_map, refl, sym, subst, arith, length-append}
-use Rattle.std.specs.List.{All, filter_map}
-use Rattle.std.proofs.lemmas.List.Elements.{All-from_recursion, All-push}
-use Rattle.std.proofs.lemmas.Grind.{reverse_onto}
-use Rattle.std.proofs.lemmas.List.{reverse-reverse}
+use Rattle.std.proofs.Common.{◌≡◌, ◌<◌, ◌≤◌, ◌+◌, ◌*◌, ℕ, List, [], ◌∷◌, ◌++◌, Option, Some, None, length, flat_map, refl, arith, length-append}
+use Rattle.std.specs.List.{filter_map}
 use Rattle.event_codec.specs.Numbers as number
 use Rattle.event_codec.specs.Spell as spell
 use Rattle.event_codec.specs.Spell.{u16, u32, spelling}
@@ -12,17 +9,16 @@ use Rattle.journal_core.specs.declared.journal.TheConstants.{MAX_FILE}
 use Rattle.lcm_events.specs.declared.changes.Change.{Change}
 use Rattle.lcm_events.specs.declared.events.Event.{Event}
 use Rattle.lcm_events.specs.declared.events.EventKind.{EventKind}
-use Rattle.lcm_events.specs.declared.events.EventKind.TheVariants.{Asked, Created}
+use Rattle.lcm_events.specs.declared.events.EventKind.TheVariants.{Asked}
 use Rattle.lcm_events.specs.declared.events.Operation.{Operation}
-use Rattle.lcm_judge.specs.Facts.{HasIdentNumber, HaveIdentNumbers}
-use Rattle.lcm_judge.specs.Judged.{HaveSmallSerials}
 use Rattle.lcm_laws.specs.Serials.{SerialsAreCounted, changes_asked}
-use Rattle.lcm_model.specs.Allowed.{IsAllowed, IsLegal}
+use Rattle.lcm_tables.specs.Tables.{IsSmall}
+use Rattle.lcm_model.specs.Allowed.{IsLegal}
 use Rattle.lcm_model.specs.Work.{window}
 use Rattle.lcm_model.specs.Lives.{instances_made, created_in}
 use Rattle.executor.specs.History.{spellings}
 use Rattle.executor.specs.Room.{journal_end}
-use Rattle.executor.proofs.JudgeLemmas.{spellings-cons}
+use Rattle.executor.proofs.SpellingLemmas.{spellings-cons}
 
 filter_map-short : {X Y : Type 0} (h : X → Option Y) (xs : List X) → length (filter_map h xs) ≤ length xs
 filter_map-short h [] = omega arith
@@ -88,31 +84,16 @@ events_fit longer (e ∷ H) =
     let after = end_more longer e H in
     omega (arith, before, after)
 
--- the serials of a legal history that fits a file are small
-pub small_serials : TakesMore → (m : ℕ) (H : List Event) → SerialsAreCounted → IsLegal m H → journal_end H < MAX_FILE → HaveSmallSerials H
-small_serials longer m H law legal small i v =
-    let counted = law window m H legal i v in
-    let fit = changes_fit longer H in
-    omega (arith, counted, fit, small)
+-- a legal history that fits a file is small
+pub small : TakesMore → (m : ℕ) (H : List Event) → SerialsAreCounted → IsLegal m H → journal_end H < MAX_FILE → IsSmall H
+small longer m H law legal fits =
+    let changes = changes_fit longer H in
+    let events = events_fit longer H in
+    record {
+      serials = λ i v. let counted = law window m H legal i v in omega (arith, counted, changes, fits);
+      events = omega (arith, events, fits);
+    }
 
-ident_number : (m : ℕ) (H : List Event) (k : EventKind) → IsAllowed m H k → length H < MAX_FILE → HasIdentNumber k
-ident_number m H (Created i vnfd name text) allowed small =
-    let number = allowed.number in
-    let few = made_within H in
-    (omega (arith, number), omega (arith, number, few, small))
-ident_number m H _ allowed small = tt
-
-ident_numbers : (m : ℕ) (H : List Event) → IsLegal m H → length H < MAX_FILE → All (λ e. HasIdentNumber e.kind) (reverse H)
-ident_numbers m [] legal small = All-from_recursion (λ (e : Event). HasIdentNumber e.kind) [] tt
-ident_numbers m (e ∷ H) legal small =
-    let short : length H < MAX_FILE = omega (arith, small) in
-    let P : List Event → Type 0 = All (λ (x : Event). HasIdentNumber x.kind) in
-    subst P (sym (reverse_onto H e []))
-    (All-push (λ (x : Event). HasIdentNumber x.kind) (reverse H) e (ident_numbers m H legal.1 short) (ident_number m H e.kind legal.0 short))
-
--- the instances of a legal history that fits a file have numbers that identifiers carry
-pub small_numbers : TakesMore → (m : ℕ) (xs : List Event) → IsLegal m (reverse xs) → journal_end (reverse xs) < MAX_FILE → HaveIdentNumbers xs
-small_numbers longer m xs legal small =
-    let fit = events_fit longer (reverse xs) in
-    let P : List Event → Type 0 = HaveIdentNumbers in
-    subst P (reverse-reverse xs) (ident_numbers m (reverse xs) legal (omega (arith, fit, small)))
+-- a history that fits a file has few events
+pub small_end : TakesMore → (H : List Event) → journal_end H < MAX_FILE → length H < 4611686018427387903
+small_end longer H fits = let events = events_fit longer H in omega (arith, events, fits)

@@ -1,12 +1,10 @@
 -- Works in a row are one, and nothing is a work.
 use Rattle.std.proofs.Common.{◌≡◌, ◌∙◌, ℕ, List, [], ◌∷◌, ◌++◌, false, sym, subst, refl, ap, append_assoc}
 use Rattle.executor.specs.History.{HasHistory}
-use Rattle.executor.specs.Managed.{Managed, Keeps, StandsFor, IsReady}
+use Rattle.executor.specs.Managed.{Managed, StandsFor, IsReady}
 use Rattle.executor.specs.Work.{Work, went, stood, aimed, failed, Extends, HasEverywhere, HasSome, Works}
 use Rattle.journal_core.specs.File.{HasRecords}
 use Rattle.lcm_events.specs.declared.events.Event.{Event}
-use Rattle.lcm_events.specs.declared.events.EventKind.{EventKind}
-use Rattle.lcm_model.specs.Allowed.{IsAllowed}
 use Rattle.journal_core.specs.Load.{SyncsAndReads}
 use Rattle.site_traits.specs.Site.{Pair, SiteState, KeepsJobs, LeavesOnly, Same, FileStep}
 use Rattle.site_traits.specs.Moments as moments
@@ -110,11 +108,3 @@ pub opened_jobs : (tells : Type 0) (a b c : SiteState) → tells → SyncsAndRea
 opened_jobs tells a b c told reads =
     let opened : KeepsJobs a b = moments.keeps_one Same a b reads.on_file in
     (opened, λ m H w n works. keeps_then a b c opened (works.site told).jobs)
-
--- an event that is allowed after the history that the manager keeps is allowed after its own
-pub same_allowed : (m : Managed) (k : ℕ) (H : List Event) (e : EventKind) → Keeps m H → IsAllowed k H e → IsAllowed k m.history e
-same_allowed m k H e keeps allowed = let P : List Event → Type 0 = λ G. IsAllowed k G e in subst P (sym keeps.is) allowed
-
--- a manager keeps one history
-pub keeps_one : (m : Managed) (H G : List Event) → Keeps m H → Keeps m G → G ≡ H
-keeps_one m H G one other = sym other.is ∙ one.is

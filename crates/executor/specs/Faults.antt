@@ -3,6 +3,10 @@ use Rattle.journal_core.specs.declared.loading.LoadFault.{LoadFault}
 use Rattle.journal_core.specs.declared.loading.LoadFault.TheVariants as loading
 use Rattle.journal_core.specs.declared.journal.AppendFault.{AppendFault}
 use Rattle.journal_core.specs.declared.journal.AppendFault.TheVariants as appending
+use Rattle.journal_core.specs.declared.back.BackFault.{BackFault}
+use Rattle.journal_core.specs.declared.back.BackFault.TheVariants as backing
+use Rattle.executor.specs.declared.manager.ReadFault.{ReadFault}
+use Rattle.executor.specs.declared.manager.ReadFault.TheVariants as reading
 use Rattle.executor.specs.declared.manager.WorkFault.{WorkFault}
 use Rattle.executor.specs.declared.manager.WorkFault.TheVariants as work
 use Rattle.executor.specs.declared.manager.OpenFault.{OpenFault}
@@ -20,3 +24,8 @@ opened_fault loading.Memory = Memory
 abbrev pub work_fault : AppendFault → WorkFault
 work_fault (appending.Full end more) = work.Full end more
 work_fault appending.Disk = work.Disk
+
+-- which fault of reading an event back a fault of reading a record back is: a broken record is a bad one
+abbrev pub read_fault : BackFault → ReadFault
+read_fault (backing.Broken n) = reading.BadRecord n
+read_fault backing.Disk = reading.Disk

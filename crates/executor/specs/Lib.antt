@@ -6,5 +6,6 @@ pub mod Loading
 pub mod Managed
 pub mod Open
 pub mod Questions
+pub mod Reading
 pub mod Room
 pub mod Work

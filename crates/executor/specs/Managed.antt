@@ -1,4 +1,4 @@
--- What a manager stands for: its journal, and the history of the events that it has.
+-- What a manager stands for: its journal, and the tables of the history of the events in it.
 use Rattle.std.specs.Prelude.{◌≡◌, ℕ, Bool, true, false, List, length}
 use Rattle.std.specs.List.{AllByRecursion}
 use Rattle.event_codec.specs.Typed.{TypedEvent}
@@ -9,14 +9,16 @@ use Rattle.lcm_events.specs.declared.events.Event.{Event}
 use Rattle.lcm_events.specs.declared.events.EventKind.{EventKind}
 use Rattle.lcm_events.specs.declared.events.EventKind.TheVariants.{Settled}
 use Rattle.lcm_model.specs.Allowed.{IsAllowed, IsLegal}
+use Rattle.lcm_tables.specs.Tables.{AreTablesOf}
+use Rattle.lcm_tables.specs.declared.tables.Tables.{Tables}
 use Rattle.site_traits.specs.Site.{SiteState}
 use Rattle.executor.specs.History.{spellings}
 use Rattle.executor.specs.Room.{journal_end}
 
--- a manager: its journal's ledger, and its history, the latest event first
+-- a manager: its journal's ledger, and its tables
 pub record Managed : Type 0 where
   pub ledger : Ledger
-  pub history : List Event
+  pub tables : Tables
 
 -- the history is legal, and the ledger, unless it is closed, counts its events and their bytes
 pub record IsKept (ledger : Ledger) (history : List Event) : Type 0 where
@@ -25,10 +27,18 @@ pub record IsKept (ledger : Ledger) (history : List Event) : Type 0 where
   pub count : ledger.closed ≡ false → ledger.count ≡ length history
   pub end : ledger.closed ≡ false → ledger.end ≡ journal_end history
 
--- the manager keeps this history
+-- the manager keeps this history: it is kept by the ledger, and the tables are its tables
 pub record Keeps (m : Managed) (H : List Event) : Type 0 where
-  pub is : m.history ≡ H
   pub kept : IsKept m.ledger H
+  pub tables : AreTablesOf m.ledger.manager m.tables H
+
+-- the manager keeps some history
+abbrev pub KeepsOne : Managed → Type 0
+KeepsOne m = (H : List Event) × Keeps m H
+
+-- what the second manager was left with of the first: each history that it kept
+abbrev pub KeepsOn : Managed → Managed → Type 0
+KeepsOn m n = (H : List Event) → Keeps m H → Keeps n H
 
 -- nothing is pending on the site, and its file, for which the manager's ledger stands, has this history
 pub record StandsFor (m : Managed) (H : List Event) (s : SiteState) : Type 0 where

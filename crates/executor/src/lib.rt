@@ -4,10 +4,9 @@
 mod laws;
 mod manager;
 mod open;
-mod questions;
 
 pub use laws::{
     a_bad_record_is_the_only_one, a_file_has_one_history, a_legal_history_has_no_bad_record,
     works_add_up,
 };
-pub use manager::{Manager, OpenFault, WorkFault};
+pub use manager::{Manager, OpenFault, ReadFault, WorkFault};

@@ -1,29 +1,32 @@
-//! The manager: its journal, and the history of the events in it. What is acknowledged is on the disk before it is in the
-//! history.
-ghost use Rattle.std.specs.Prelude.{◌≡◌, ◌≢◌, ◌≤◌, ◌<◌, ◌∷◌, ◌++◌, ◌+◌, List, [], length, reverse, option_copied, IfErr, IfOk, OnOk, OnErr, false, true};
+//! The manager: its journal, and the tables of the events in it. What is acknowledged is on the disk before the tables follow it.
+ghost use Rattle.std.specs.Prelude.{◌≡◌, ◌≢◌, ◌≤◌, ◌<◌, ◌+◌, ℕ, List, length, option_copied, IfErr, IfOk, OnOk, OnErr, false, true};
 ghost use Rattle.event_codec.specs.Spell.{spelling};
 ghost use Rattle.event_codec.specs.Valid.{IsEvent};
 ghost use Rattle.event_codec.specs.Typed.{TypedEvent};
 ghost use Rattle.journal_core.specs.Load.{SyncsAndReads};
 ghost use Rattle.executor.specs.Open.{Opens};
 ghost use Rattle.executor.specs.Room.{TellsRoom};
+ghost use Rattle.instance_table.specs.Rows.{live};
+ghost use Rattle.instance_table.specs.Table.{is_counted};
 ghost use Rattle.journal_core.specs.declared.journal.TheConstants.{MAX_FILE, MAX_RECORD};
 ghost use Rattle.lcm_events.specs.declared.events.Event.{Event};
 ghost use Rattle.vnfm_base.specs.Ident.{IsIdentNumber};
 ghost use Rattle.lcm_model.specs.Lives.{descriptor_named, descriptors, instances_made};
-ghost use Rattle.executor.specs.Questions.{is_made, live, made, may_be_live};
+ghost use Rattle.executor.specs.Questions.{is_made, made};
 ghost use Rattle.site_traits.specs.Counts.{Ask, asked, OnlyDiskFails};
 ghost use Rattle.journal_core.specs.Asking.{FailsWhere};
 ghost use Rattle.executor.specs.Asking.{CommitAsks};
-ghost use Rattle.executor.specs.Managed.{IsReady, Keeps, MayRecord};
+ghost use Rattle.executor.specs.Managed.{IsReady, Keeps, KeepsOn, MayRecord};
+ghost use Rattle.executor.specs.Reading.{IsNoSpelling, ReadsEvent};
 ghost use Rattle.executor.specs.Work.{Works, recorded};
 
 use crate::open::judge_all;
-use crate::questions::{count_live, count_made};
-use event_codec::{RecordBuf, TooLong, decode, encode, no_spelling_begins_another};
-use journal_core::{AppendFault, Journal, LoadFault, faults_are_counted, records_add_up};
+use event_codec::{DecodeFault, RecordBuf, TooLong, decode, encode};
+use journal_core::{
+    AppendFault, BackFault, Journal, LoadFault, faults_are_counted, records_add_up,
+};
 use lcm_events::{Event, Vnfd};
-use lcm_model::{count_descriptors, count_instances, descriptor_named_in};
+use lcm_tables::Tables;
 use site_traits::Site;
 use std::alloc::{AllocError, Global};
 use std::marker::Model;
@@ -32,23 +35,22 @@ use vnfm_base::{Kind, Name};
 
 /// The manager of one journal. It never owns the site of its file, which is lent to each call.
 ///
-/// A contract sees its journal's ledger and its history, the latest event first.
+/// A contract sees its journal's ledger and its tables; which histories it keeps is told by both (`Keeps`).
 #[derive(Drop)]
 pub struct Manager<S: Site> {
     journal: Journal<S>,
-    events: Vec<Event>,
+    tables: Tables,
     record: RecordBuf,
 }
 
 impl<S: Site> Model for Manager<S> {
-    ghost use Rattle.std.specs.Prelude.{reverse};
-    ghost use Rattle.executor.specs.Managed.{Managed, IsKept};
+    ghost use Rattle.executor.specs.Managed.{KeepsOne, Managed};
 
     ghost Value = { Managed };
 
-    ghost view = { λ m. record { ledger = m.journal; history = reverse m.events.items } };
+    ghost view = { λ m. record { ledger = m.journal; tables = m.tables } };
 
-    ghost invariant = { λ m. IsKept m.journal (reverse m.events.items) };
+    ghost invariant = { λ m. KeepsOne (record { ledger = m.journal; tables = m.tables }) };
 }
 
 /// Why a journal wasn't opened.
@@ -71,7 +73,7 @@ pub enum OpenFault {
     Memory,
 }
 
-/// Why an event wasn't recorded. After all but `Disk` nothing has changed.
+/// Why an event wasn't recorded. After all but `Disk` nothing has changed but what is reserved.
 #[derive(Debug, Drop, Error)]
 pub enum WorkFault {
     /// The event's spelling has so many bytes, more than a record.
@@ -91,6 +93,20 @@ pub enum WorkFault {
     /// A disk call failed. The manager is closed: whether the event was recorded is known once the journal is loaded again.
     #[error("site fault")]
     Disk,
+}
+
+/// Why an event wasn't read back.
+#[derive(Debug, Drop, Error)]
+pub enum ReadFault {
+    /// The file has no record n any more, or it is no event. It never comes where the site tells its content.
+    #[error("bad record {0}")]
+    BadRecord(u64),
+    /// A disk call failed. The manager is closed: load the journal again.
+    #[error("site fault")]
+    Disk,
+    /// There is no memory.
+    #[error("no memory")]
+    Memory,
 }
 
 impl<S: Site> Manager<S> {
@@ -114,18 +130,19 @@ impl<S: Site> Manager<S> {
         let record = RecordBuf::new(alloc)?;
         Ok(Manager {
             journal: loading.finish(),
-            events: judged.events,
+            tables: judged.tables,
             record,
         })
     }
 
     /// Records an event in a journal that is to end at byte `limit` of the file or before it, with its closed gate: the event is on the
-    /// disk before it is in the history. It is spelled once.
+    /// disk before the tables follow it. It is spelled once, and all memory is taken before it is appended.
     ///
     /// Conditions: the manager isn't closed, and its file has its history; the event keeps the format's rules, is allowed after that
     /// history, and isn't a Settled; the limit is at most the file's.
     /// Refusals, in this order: `TooLong(n)` (bytes), `Full {end, more}` (bytes), each exactly where the spelling and the limit say so;
-    /// `Memory`. After these all is as before. `Disk`, after which the manager is closed, with the history that it had: load it again.
+    /// `Memory`. After these the journal and the site are as before, and so is the history. `Disk`, after which the manager is closed, with the
+    /// history that it had: load it again.
     /// Source: own format, docs/JOURNAL.md and docs/EVENTS.md.
     pub fn commit(
         &mut self,
@@ -137,9 +154,10 @@ impl<S: Site> Manager<S> {
         requires may { (H : List Event) × IsReady S.tells self.old H (S.state site.old) × MayRecord self.old.ledger.manager H e.now }
         requires within { limit ≤ MAX_FILE }
         ensures event { IsEvent e.now }
-        ensures works { (H : List Event) → IsReady S.tells self.old H (S.state site.old)
+        ensures works { (H : List Event) → IsReady S.tells self.old H (S.state site.old) → MayRecord self.old.ledger.manager H e.now
             → Works S.tells self.old.ledger.manager H (recorded H e.now result) self.new (S.state site.old) (S.state site.new) }
-        ensures refused { result ≢ Err WorkFault.Disk → OnErr result ((self.new ≡ self.old) × (site.new ≡ site.old)) }
+        ensures refused { result ≢ Err WorkFault.Disk → OnErr result ((self.new.ledger ≡ self.old.ledger) × (site.new ≡ site.old)) }
+        ensures keeps { OnErr result (KeepsOn self.old self.new) }
         ensures room { (H : List Event) → Keeps self.old H → TellsRoom limit H e.now result }
         ensures asks { CommitAsks result (S.counts site.old) (S.counts site.new) }
         ensures counts { OnlyDiskFails (result ≡ Err WorkFault.Disk) (S.counts site.old) (S.counts site.new) }
@@ -153,14 +171,31 @@ impl<S: Site> Manager<S> {
                 more,
             });
         }
-        put_copy(alloc, &mut self.events, self.record.as_slice())?;
-        match self.journal.append(site, self.record.as_slice()) {
-            Ok(()) => Ok(()),
-            Err(fault) => {
-                take_back(&mut self.events);
-                Err(WorkFault::from(fault))
-            }
-        }
+        self.tables.reserve_for(alloc, e)?;
+        self.journal.append(site, self.record.as_slice())?;
+        self.tables.apply(e);
+        Ok(())
+    }
+
+    /// Event n of the history, from 1, in the order in which the events happened: it is read back from the site's file.
+    ///
+    /// Conditions: the manager isn't closed, and its file has its history; n is from 1 to `records`.
+    /// Refusals: `BadRecord(n)`, which never comes where the site tells its content; `Disk`, after which the manager is closed; `Memory`.
+    /// The history and the file are as before, whatever the answer.
+    /// Source: own format, docs/JOURNAL.md and docs/EVENTS.md.
+    pub fn event_at(&mut self, alloc: Global, site: &mut S, n: u64) -> Result<Event, ReadFault>
+        requires some { 1 ≤ n }
+        requires within { n ≤ self.old.ledger.count }
+        requires ready { (H : List Event) × IsReady S.tells self.old H (S.state site.old) }
+        ensures reads { (H : List Event) → IsReady S.tells self.old H (S.state site.old) → S.tells → ReadsEvent H n result (S.state site.old) (S.state site.new) }
+        ensures ready { (H : List Event) → IsReady S.tells self.old H (S.state site.old) → result ≢ Err ReadFault.Disk → IsReady S.tells self.new H (S.state site.new) }
+        ensures keeps { KeepsOn self.old self.new }
+        ensures bad { (k : ℕ) → result ≡ Err (ReadFault.BadRecord k) → k ≡ n }
+        ensures closed { result ≡ Err ReadFault.Disk → self.new.ledger.closed ≡ true }
+        ensures counts { FailsWhere (result ≡ Err ReadFault.Disk) (S.counts site.old) (S.counts site.new) }
+    {
+        self.journal.read_back(site, n)?;
+        event_of(alloc, self.journal.record_back(), n)
     }
 
     /// The number of the manager.
@@ -185,17 +220,21 @@ impl<S: Site> Manager<S> {
         requires { is_made kind ≡ true }
         ensures { (H : List Event) → Keeps self.now H → result ≡ made kind H }
     {
-        count_made(self.events.as_slice(), kind)
+        match kind {
+            Kind::Instance | Kind::Subscription => self.tables.instances.made(kind),
+            Kind::Occurrence => self.tables.occurrences.made(),
+            Kind::Notice => unreachable!(),
+        }
     }
 
     /// How many of the kind are live. Condition: the kind is `Instance` or `Subscription`.
     ///
     /// Source: SOL 003 5.4.2 (VNF instances), 5.4.18 (Subscriptions).
     pub fn live(&self, kind: Kind) -> u64
-        requires { may_be_live kind ≡ true }
+        requires { is_counted kind ≡ true }
         ensures { (H : List Event) → Keeps self.now H → result ≡ live kind H }
     {
-        count_live(self.events.as_slice(), kind)
+        self.tables.instances.live(kind)
     }
 
     /// How many descriptors were onboarded.
@@ -204,7 +243,7 @@ impl<S: Site> Manager<S> {
     pub fn descriptors(&self) -> u64
         ensures { (H : List Event) → Keeps self.now H → result ≡ length (descriptors H) }
     {
-        count_descriptors(self.events.as_slice())
+        self.tables.instances.descriptors()
     }
 
     /// The descriptor of this identifier. None exactly where none was onboarded under it.
@@ -213,7 +252,7 @@ impl<S: Site> Manager<S> {
     pub fn vnfd(&self, id: &Name) -> Option<&Vnfd>
         ensures { (H : List Event) → Keeps self.now H → option_copied result ≡ descriptor_named H id.now }
     {
-        descriptor_named_in(self.events.as_slice(), id)
+        self.tables.instances.vnfd(id)
     }
 
     /// The number of the next instance. Condition: the manager isn't closed.
@@ -225,7 +264,7 @@ impl<S: Site> Manager<S> {
         ensures identifier { IsIdentNumber result }
     {
         let records = self.journal.count();
-        let made = count_instances(self.events.as_slice());
+        let made = self.tables.instances.made(Kind::Instance);
         after(made, records)
     }
 }
@@ -253,24 +292,17 @@ fn spell(buffer: &mut RecordBuf, e: &Event) -> Result<u32, WorkFault>
     Ok(buffer.as_slice().len() as u32)
 }
 
-/// Puts the event that is spelled so behind the others.
-fn put_copy(alloc: Global, events: &mut Vec<Event>, bytes: &[u8]) -> Result<(), AllocError>
-    ensures ok { (e : Event) → IsEvent e → bytes.now ≡ spelling e → OnOk result (events.new.items ≡ events.old.items ++ e ∷ []) }
-    ensures err { OnErr result (events.new.items ≡ events.old.items) }
+/// The event of which the bytes of record n are the spelling.
+fn event_of(alloc: Global, bytes: &[u8], n: u64) -> Result<Event, ReadFault>
+    ensures found { (e : Event) → IsEvent e → bytes.now ≡ spelling e → IfOk result (λ f. f ≡ e) }
+    ensures none { (k : ℕ) → result ≡ Err (ReadFault.BadRecord k) → (k ≡ n) × IsNoSpelling bytes.now }
+    ensures disk { result ≢ Err ReadFault.Disk }
 {
-    no_spelling_begins_another();
     match decode(alloc, bytes) {
-        Ok(event) => Ok(events.push(event)?),
-        Err(_) => Err(AllocError),
+        Ok(event) => Ok(event),
+        Err(DecodeFault::NotEvent) => Err(ReadFault::BadRecord(n)),
+        Err(DecodeFault::Memory) => Err(ReadFault::Memory),
     }
-}
-
-/// Takes the last event away.
-fn take_back(events: &mut Vec<Event>)
-    ensures { (front : List Event) (e : Event) → events.old.items ≡ front ++ e ∷ [] → events.new.items ≡ front }
-{
-    let kept = events.len().saturating_sub(1);
-    events.truncate(kept);
 }
 
 impl From<LoadFault> for OpenFault {
@@ -316,6 +348,19 @@ impl From<AllocError> for WorkFault {
 
     fn from(_: AllocError) -> WorkFault {
         WorkFault::Memory
+    }
+}
+
+impl From<BackFault> for ReadFault {
+    ghost use Rattle.executor.specs.Faults.{read_fault};
+
+    ghost from_gives = { λ fault e. e ≡ read_fault fault };
+
+    fn from(fault: BackFault) -> ReadFault {
+        match fault {
+            BackFault::Broken(n) => ReadFault::BadRecord(n),
+            BackFault::Disk => ReadFault::Disk,
+        }
     }
 }
 

@@ -203,7 +203,7 @@ fn record<S: Site>(
 ) -> Result<Reply, ApiFault>
     requires creates { (H : List Event) × IsReady S.tells manager.old H (S.state site.old) × MayCreate manager.old H event.now }
     ensures reply { (H : List Event) → Keeps manager.old H → IfOk result (λ given. given ≡ (room_outcome (is_full MAX_REQUESTED (event.now ∷ H)) reply event.now last).reply) }
-    ensures works { (H : List Event) → IsReady S.tells manager.old H (S.state site.old) → Works S.tells manager.old.ledger.manager H
+    ensures works { (H : List Event) → IsReady S.tells manager.old H (S.state site.old) → MayCreate manager.old H event.now → Works S.tells manager.old.ledger.manager H
         (answered (room_outcome (is_full MAX_REQUESTED (event.now ∷ H)) reply event.now last) H result) manager.new (S.state site.old) (S.state site.new) }
     ensures counts { OnlyDiskFails (result ≡ Err ApiFault.Disk) (S.counts site.old) (S.counts site.new) }
 {

@@ -1,7 +1,7 @@
 use Rattle.std.proofs.Common.{◌≡◌, ◌<◌, ◌-◌}
 use Rattle.site_traits.specs.Site.{Reads}
 use Rattle.journal_core.specs.declared.journal.TheConstants.{MAX_FILE}
-use Rattle.executor.specs.Loading.{IsJudged, JudgesSoFar}
+use Rattle.executor.specs.Loading.{IsUnderWay}
 use Rattle.executor.proofs.open.judge_all.Given as goal
 
 -- the records so far were judged
@@ -9,11 +9,10 @@ abbrev pub invariant-loop-judged : goal.invariant-loop-judged
 invariant-loop-judged g l =
     let start = g.S.Site.state l.fn.site in
     record {
-      judged : IsJudged l.judged l.loading;
+      judged : IsUnderWay g.S.Site.tells l.judged l.loading (g.S.Site.state l.site);
       manager : l.loading.manager ≡ l.fn.loading.manager;
       within : l.loading.end < MAX_FILE;
       counts : g.S.Site.counts l.site ≡ g.S.Site.counts l.fn.site;
-      so_far : g.S.Site.tells → JudgesSoFar l.judged l.loading (g.S.Site.state l.site);
       reads : g.S.Site.tells → Reads start (g.S.Site.state l.site);
     }
 

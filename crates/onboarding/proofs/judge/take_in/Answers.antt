@@ -26,7 +26,7 @@ returns-in_err-recorded-clause-works g c = λ H ready.
     let v = verdict H c.args.now c.args.bytes.now in
     let is = recorded_not H c.args.now c.in_ok-vnfd.vnfd c.onboarding-event.result v c.in_err-recorded.field-0.0 c.onboarding-event.ensures (judged.0 c.args.now) (c.in_err-recorded.ensures.room H ready.keeps) in
     rw (err_is c.from_residual-in_err-recorded.result _ c.from_residual-in_err-recorded.ensures.1)
-    (works_as _ _ H _ _ _ _ _ is.work_is (c.in_err-recorded.ensures.works H ready))
+    (works_as _ _ H _ _ _ _ _ is.work_is (c.in_err-recorded.ensures.works H ready (may_record _ _ c.args.now c.in_ok-vnfd.vnfd _ c.onboarding-event.ensures judged.1)))
 
 pub returns-clause-answer : goal.returns-clause-answer
 returns-clause-answer g c = λ H keeps.
@@ -39,4 +39,4 @@ returns-clause-works g c = λ H ready.
     let judged = c.in_ok-vnfd.ensures.judged H ready.keeps in
     works_as _ _ H _ _ _ _ _
     (recorded_done H c.args.now c.in_ok-vnfd.vnfd (verdict H c.args.now c.args.bytes.now) (judged.0 c.args.now) (rw c.onboarding-event.ensures at (c.in_ok-recorded.ensures.room H ready.keeps))).work_is
-    (rw c.onboarding-event.ensures at (c.in_ok-recorded.ensures.works H ready))
+    (rw c.onboarding-event.ensures at (c.in_ok-recorded.ensures.works H ready (may_record _ _ c.args.now c.in_ok-vnfd.vnfd _ c.onboarding-event.ensures judged.1)))
