@@ -1,6 +1,7 @@
 //! Journals that are opened, and those in which a record isn't allowed after those before it.
 
-use executor::{Manager, OpenFault};
+use executor::{Manager, OpenFault, ReadFault};
+use lcm_events::{Event, EventKind};
 use site_traits::{MemSite, SitePlan};
 use std::alloc::{AllocError, Global};
 use std::test::Fail;
@@ -36,8 +37,12 @@ const DENIED: [u8; 22] = [
 /// A record that is no event.
 const NOTHING: [u8; 6] = [1, 0, 0, 0, 1, 0];
 
-/// A site whose file has these records.
-fn site_with(alloc: Global, records: &[&[u8]]) -> Result<MemSite, AllocError> {
+/// A site whose file has these records, of which these disk calls, from 1, fail.
+fn failing_site(
+    alloc: Global,
+    records: &[&[u8]],
+    failing: Vec<u64>,
+) -> Result<MemSite, AllocError> {
     let mut file = HEADER.to_vec(alloc)?;
     for record in records {
         file.extend_from_slice(record)?;
@@ -46,10 +51,15 @@ fn site_with(alloc: Global, records: &[&[u8]]) -> Result<MemSite, AllocError> {
     let plan = SitePlan {
         bytes: 0,
         jobs: 0,
-        failing: Vec::new(alloc),
+        failing,
         work: Vec::new(alloc),
     };
     MemSite::with_file(alloc, plan, file.as_slice())
+}
+
+/// A site whose file has these records.
+fn site_with(alloc: Global, records: &[&[u8]]) -> Result<MemSite, AllocError> {
+    failing_site(alloc, records, Vec::new(alloc))
 }
 
 /// How many records a journal with these has and which of them is the first bad one, or 0; or None for another fault.
@@ -103,5 +113,55 @@ fn asked(alloc: Global) -> Result<Option<(u64, u64, u64, u64)>, AllocError> {
 #[test]
 fn a_manager_answers_from_its_history(rt: HostRuntime) -> Result<(), Fail> {
     assert_eq!(rt; asked(rt.alloc())?, Some((1, 1, 1, 0)));
+    Ok(())
+}
+
+/// How it went to open a journal and to read its second event back.
+#[derive(Clone, Copy, PartialEq, Eq, Debug)]
+enum Reading {
+    /// The journal wasn't opened.
+    Unopened,
+    /// A disk call of the reading failed.
+    Failed,
+    /// The event is that the first instance was created.
+    First,
+    /// Something else.
+    Other,
+}
+
+/// Whether this is how the first instance was created.
+fn is_first(event: &Event) -> bool {
+    matches!(event.kind, EventKind::Created { instance: 1, .. })
+}
+
+/// Opens a journal of two records and reads the second event back, where disk call k fails.
+fn read_second(alloc: Global, k: u64) -> Result<Reading, AllocError> {
+    let failing = vec![in alloc; k]?;
+    let mut site = failing_site(alloc, &[&ONBOARDED, &FIRST], failing)?;
+    let Ok(mut manager) = Manager::load(alloc, &mut site) else {
+        return Ok(Reading::Unopened);
+    };
+    if manager.records() < 2 {
+        return Ok(Reading::Other);
+    }
+    match manager.event_at(alloc, &mut site, 2) {
+        Ok(event) if is_first(&event) => Ok(Reading::First),
+        Err(ReadFault::Disk) => Ok(Reading::Failed),
+        _ => Ok(Reading::Other),
+    }
+}
+
+#[test]
+fn an_event_is_read_back_from_the_file(rt: HostRuntime) -> Result<(), Fail> {
+    let mut failed = false;
+    let mut last = Reading::Unopened;
+    for k in 1..32u64 {
+        let reading = read_second(rt.alloc(), k)?;
+        assert!(rt; reading != Reading::Other);
+        failed = failed || reading == Reading::Failed;
+        last = reading;
+    }
+    assert!(rt; failed);
+    assert_eq!(rt; last, Reading::First);
     Ok(())
 }
