@@ -1,11 +1,11 @@
 #!/usr/bin/env python3
-"""Writes a random legal history of 500 events, with events that aren't allowed between them, for `table_cases`.
+"""Writes a random legal history of 600 events, with events that aren't allowed between them, for `table_cases`.
 
 usage: history.py FOLDER     writes FOLDER/stdin, the events after docs/EVENTS.md, and FOLDER/stdout, what the program must print
 
-Instances of one descriptor live side by side: each is created, asked for operations of all six kinds, and maybe deleted. What may come next
-is judged here by the rules of docs/MODEL.md, written once more in another language; one attempt of an occurrence may be open at once. An entry
-is a byte, 1 where the event is allowed and happens, 0 where it isn't allowed and doesn't; the length of its spelling in four bytes, the high
+Instances of one descriptor live side by side: each is created, asked for operations of all six kinds, and maybe deleted. Subscriptions of both
+roles come and go, and their notices are posted. What may come next, and what the tables say after it, is told here by the rules of
+docs/MODEL.md, written once more in another language; one attempt of an occurrence may be open at once. An entry is a byte, 1 where the event is allowed and happens, 0 where it isn't allowed and doesn't; the length of its spelling in four bytes, the high
 one first; and the spelling. The history is the same each time: its numbers are drawn from one seed.
 """
 import collections
@@ -13,9 +13,12 @@ import os
 import random
 import struct
 import sys
+import uuid
 
-EVENTS = 500
-SEED = 202
+import texts
+
+EVENTS = 600
+SEED = 291
 FIRST_MOMENT = 1_700_000_000_000
 
 u8 = lambda n: struct.pack(">B", n)
@@ -32,10 +35,16 @@ ACTIVE = {STARTING, PROCESSING, ROLLING_BACK}
 FINAL = {COMPLETED, FAILED, ROLLED_BACK}
 GRACEFUL, FORCEFUL = range(2)
 FORWARD, UNDO = range(2)
-VERBS = CREATE, REMOVE, START, STOP = range(4)
+CREATE, REMOVE, START, STOP = range(4)
 UNDONE = {CREATE: REMOVE, REMOVE: CREATE, START: STOP, STOP: START}
 LINK, STORAGE, COMPUTE, PORT = range(4)
 NO_VDU = 65_535
+OCCURRENCE, CREATION, DELETION = range(3)
+DELIVERED, NOT_TAKEN = range(2)
+MANAGER = 1
+VALUES = 64
+POSTS = 5
+OPERATIONS = {"instantiate": 1, "scale": 2, "level": 3, "aspects": 3, "heal": 4, "operate": 5, "terminate": 6}
 
 # The descriptor: an edge router of two machines, one aspect and two levels.
 VDUS = [("VDU_A", 2_147_483_648, 2, 11, 1, [0]), ("VDU_B", 512_000_000, 1, 4_294_967_295, 1, [1])]
@@ -57,6 +66,8 @@ DESCRIPTOR = (
 
 Tag = collections.namedtuple("Tag", "occ change attempt way")
 Change = collections.namedtuple("Change", "phase verb kind item vdu serial")
+Filter = collections.namedtuple("Filter", "vnfds instances names notices operations states", defaults=[[]] * 6)
+Notice = collections.namedtuple("Notice", "which vnfd instance name op state")
 
 
 def spelled_ask(ask):
@@ -89,6 +100,11 @@ def spelled_outcome(outcome):
     return u8(kind) + {0: name, 1: u32}.get(kind, lambda: b"")(*what)
 
 
+def spelled_filter(f):
+    return b"".join([many(name, f.vnfds), many(name, f.instances), many(name, f.names)]
+        + [many(u8, numbers) for numbers in (f.notices, f.operations, f.states)])
+
+
 SPELLED = {
     "onboarded": (1, lambda d: d),
     "created": (2, lambda i, vnfd, called, text: u64(i) + name(vnfd) + option(name, called) + option(line, text)),
@@ -103,22 +119,40 @@ SPELLED = {
     "settled": (10, lambda t, outcome: spelled_tag(t) + spelled_outcome(outcome)),
     "moved": (11, lambda o, to: u64(o) + u8(to)),
     "cancel": (12, lambda o, mode: u64(o) + u8(mode)),
+    "subscribed": (13, lambda s, role, callback, asked: u64(s) + u8(role) + line(callback) + spelled_filter(asked)),
+    "unsubscribed": (14, u64),
+    "posted": (15, lambda s, place, how: u64(s) + u64(place) + u8(how)),
 }
 
 
-class Instance:
-    """What is so of an instance: whether it was deleted, is instantiated and started, its level, and what stands of it."""
+def instance_id(number):
+    """The identifier of an instance: the manager's number, "vm", version 8, the kind 1, and the number under the variant's bit."""
+    return str(uuid.UUID(bytes=u32(MANAGER) + b"vm\x80\x01" + u64(2**63 + number)))
 
-    def __init__(self):
+
+class Instance:
+    """What is so of an instance: whether it was deleted, is instantiated and started, its level, and what stands of it.
+
+    Of each part it knows what was done to it last, the name that the last creation gave, and the place of the last that wasn't an undo.
+    """
+
+    def __init__(self, called, text):
+        self.name = called
+        self.text = text
         self.live = True
         self.instantiated = False
         self.started = False
         self.level = 0
         self.last = {}
+        self.names = {}
+        self.places = {}
         self.top = [0] * len(VDUS)
 
     def stands(self, part):
         return self.last.get(part, REMOVE) != REMOVE
+
+    def known(self, part):
+        return self.names[part], self.places[part]
 
     def runs(self, part):
         return part[0] == COMPUTE and self.last.get(part) in (CREATE, START)
@@ -232,23 +266,32 @@ def refuses(held, busy, ask):
 class Occurrence:
     """What is so of an occurrence."""
 
-    def __init__(self, instance, ask, changes):
+    def __init__(self, instance, role, ask, changes, moment):
         self.instance = instance
+        self.role = role
         self.ask = ask
         self.changes = changes
+        self.asked = self.entered = moment
         self.state = STARTING
-        self.granted = self.ended = self.later = self.trouble = False
+        self.ended = self.trouble = False
         self.tries = 0
-        self.cancel = None
+        self.location = self.grant = self.cancel = self.cause = None
+        self.used = [None] * len(changes)
         self.nets = [0] * len(changes)
         self.attempts = [0] * len(changes)
         self.open = {}
+
+    def is_active(self):
+        return self.state in ACTIVE
+
+    def is_over(self):
+        return self.state in FINAL
 
     def is_asking(self):
         return self.state == STARTING and not self.ended and self.cancel != FORCEFUL
 
     def gives_up(self):
-        return self.cancel == FORCEFUL or (self.ended and not self.granted) or (self.granted and self.cancel is not None)
+        return self.cancel == FORCEFUL or (self.ended and self.grant is None) or (self.grant is not None and self.cancel is not None)
 
     def is_turn(self, number, way):
         phase = self.changes[number].phase
@@ -265,7 +308,7 @@ class Occurrence:
         rests = not self.open and not self.trouble and self.cancel is None
         stopped = not self.open and (self.trouble or self.cancel is not None)
         return {
-            (STARTING, PROCESSING): self.granted and self.cancel is None,
+            (STARTING, PROCESSING): self.grant is not None and self.cancel is None,
             (STARTING, ROLLED_BACK): self.gives_up(),
             (PROCESSING, COMPLETED): rests and all(n == 1 for n in self.nets),
             (PROCESSING, FAILED_TEMP): stopped,
@@ -275,6 +318,44 @@ class Occurrence:
             (FAILED_TEMP, FAILED): True,
             (FAILED_TEMP, ROLLING_BACK): self.ask[0] != "terminate",
         }.get((self.state, to), False)
+
+
+def is_let_through(f, notice):
+    """Whether a filter lets a notice through: each of its lists does, and one without values does."""
+    return (
+        (not f.vnfds or notice.vnfd in f.vnfds) and (not f.instances or instance_id(notice.instance) in f.instances)
+        and (not f.names or notice.name in f.names) and (not f.notices or notice.which in f.notices)
+        and (not f.operations or notice.op is None or notice.op in f.operations)
+        and (not f.states or notice.state is None or notice.state in f.states))
+
+
+class Subscription:
+    """What is so of a subscription: the place of the event that made it, those of its notices, and how each was posted."""
+
+    def __init__(self, role, callback, asked, made):
+        self.role = role
+        self.callback = callback
+        self.filter = asked
+        self.made = made
+        self.live = True
+        self.notices = []
+        self.posts = []
+
+    def failures(self, place):
+        return self.posts.count((place, NOT_TAKEN))
+
+    def cursor(self):
+        """The greatest place of a notice that was taken, or else not taken five times."""
+        return max([self.made] + [p for p, _ in self.posts if (p, DELIVERED) in self.posts or self.failures(p) >= POSTS])
+
+    def first(self):
+        """The place of the first notice past the cursor."""
+        cursor = self.cursor()
+        return min((p for p in self.notices if p > cursor), default=None)
+
+    def tries(self):
+        """How often the notice past the cursor was posted and not taken."""
+        return self.failures(self.first())
 
 
 def is_placing(places, spots, changes):
@@ -295,10 +376,12 @@ class History:
         self.onboarded = False
         self.instances = []
         self.occurrences = []
+        self.subscriptions = []
         self.moment = FIRST_MOMENT
         self.entries = []
+        self.told = []
         self.seen = collections.Counter()
-        self.events = self.wrong = self.rows = self.copies = self.active = 0
+        self.events = self.wrong = 0
 
     def occurrence(self, number):
         return self.occurrences[number - 1] if 1 <= number <= len(self.occurrences) else None
@@ -306,8 +389,25 @@ class History:
     def instance(self, number):
         return self.instances[number - 1] if 1 <= number <= len(self.instances) and self.instances[number - 1].live else None
 
+    def subscription(self, number):
+        return self.subscriptions[number - 1] if 1 <= number <= len(self.subscriptions) and self.subscriptions[number - 1].live else None
+
+    def ongoing(self, number):
+        return next((n for n, o in enumerate(self.occurrences, 1) if o.instance == number and not o.is_over()), None)
+
     def is_busy(self, number):
-        return any(o.instance == number and o.state not in FINAL for o in self.occurrences)
+        return self.ongoing(number) is not None
+
+    def notice(self, kind, *fields):
+        """What the notice of an event tells, where it makes one."""
+        if kind == "created":
+            return Notice(CREATION, fields[1], fields[0], fields[2], None, None)
+        if kind == "deleted":
+            return Notice(DELETION, "vnfd-1", fields[0], self.instances[fields[0] - 1].name, None, None)
+        if kind not in ("asked", "moved"):
+            return None
+        o = self.occurrences[fields[0] - 1]
+        return Notice(OCCURRENCE, "vnfd-1", o.instance, self.instances[o.instance - 1].name, OPERATIONS[o.ask[0]], o.state)
 
     def is_allowed(self, kind, *fields):
         """Whether an event is allowed now."""
@@ -324,12 +424,19 @@ class History:
             return (
                 number == len(self.occurrences) + 1 and held is not None and not refuses(held, self.is_busy(instance), ask)
                 and changes == plan(held, ask))
+        if kind == "subscribed":
+            return fields[0] == len(self.subscriptions) + 1 and all(len(values) <= VALUES for values in fields[3])
+        if kind == "unsubscribed":
+            return self.subscription(fields[0]) is not None
+        if kind == "posted":
+            subscription = self.subscription(fields[0])
+            return subscription is not None and fields[1] == subscription.first()
         t = fields[0]
         occurrence = self.occurrence(t.occ if isinstance(t, Tag) else t)
         if occurrence is None:
             return False
         if kind == "tried":
-            return occurrence.is_asking() and not (fields[1] == 0 and occurrence.later)
+            return occurrence.is_asking() and not (fields[1] == 0 and occurrence.location is not None)
         if kind == "granted":
             return occurrence.is_asking() and fields[1] != "" and is_placing(fields[2], fields[3], len(occurrence.changes))
         if kind == "denied":
@@ -342,14 +449,18 @@ class History:
             return t in occurrence.open
         if kind == "moved":
             return occurrence.may_move(fields[1])
-        return occurrence.state in ACTIVE
+        return occurrence.is_active()
 
     def feature(self, kind, *fields):
         """What is told of an event that may happen now, so that each is seen once."""
         if kind == "asked":
             ask = fields[3]
             return "ask", ask[0], ask[1] if ask[0] in ("scale", "operate", "terminate") else bool(ask[-1])
-        if kind in ("onboarded", "created", "deleted"):
+        if kind == "posted":
+            return kind, fields[2], self.subscription(fields[0]).tries() == POSTS - 1
+        if kind == "subscribed":
+            return kind, fields[1]
+        if kind in ("onboarded", "created", "deleted", "unsubscribed"):
             return kind
         t = fields[0]
         occurrence = self.occurrence(t.occ if isinstance(t, Tag) else t)
@@ -379,57 +490,108 @@ class History:
         assert self.is_allowed(kind, *fields), (kind, fields)
         self.put(1, kind, fields)
         self.seen.update({kind, self.feature(kind, *fields)})
-        self.follow(kind, *fields)
         self.events += 1
-        self.rows += len(self.occurrences)
-        self.copies += kind not in ("onboarded", "created", "deleted", "asked")
-        self.active += sum(o.state in ACTIVE for o in self.occurrences)
+        self.follow(kind, *fields)
+        notice = self.notice(kind, *fields)
+        if notice is not None:
+            self.hear(notice)
+        self.told += texts.after(self, kind, fields[0].occ if isinstance(fields[0], Tag) else fields[0])
+
+    def hear(self, notice):
+        """The last event's notice waits for each subscription whose filter lets it through."""
+        for subscription in self.subscriptions:
+            heard = is_let_through(subscription.filter, notice)
+            if heard:
+                subscription.notices.append(self.events)
+            self.seen.update([("notice", notice.which, heard)])
 
     def follow(self, kind, *fields):
         if kind == "onboarded":
             self.onboarded = True
         elif kind == "created":
-            self.instances.append(Instance())
+            self.instances.append(Instance(*fields[2:]))
         elif kind == "deleted":
             self.instance(fields[0]).live = False
         elif kind == "asked":
-            _, instance, _, ask, changes = fields
-            self.occurrences.append(Occurrence(instance, ask, changes))
+            _, instance, role, ask, changes = fields
+            self.occurrences.append(Occurrence(instance, role, ask, changes, self.moment))
             held = self.instance(instance)
             for change in changes:
                 if change.vdu != NO_VDU:
                     held.top[change.vdu] = max(held.top[change.vdu], change.serial)
+        elif kind == "subscribed":
+            self.subscriptions.append(Subscription(*fields[1:], self.events))
+        elif kind == "unsubscribed":
+            self.subscription(fields[0]).live = False
+        elif kind == "posted":
+            self.subscription(fields[0]).posts.append(fields[1:])
         else:
             t = fields[0]
             occurrence = self.occurrence(t.occ if isinstance(t, Tag) else t)
             self.follow_about(occurrence, kind, *fields)
 
-    def follow_about(self, occurrence, kind, t, what=None, *_):
+    def follow_about(self, occurrence, kind, t, what=None, *rest):
         if kind == "tried":
-            occurrence.later |= what == 0
-            occurrence.tries += what == 1
-            occurrence.ended |= what == 2 or occurrence.tries >= 5
-        elif kind in ("granted", "denied"):
+            self.follow_try(occurrence, what, *rest)
+        elif kind == "granted":
             occurrence.ended = True
-            occurrence.granted = kind == "granted"
+            occurrence.grant = (what, *rest)
+        elif kind == "denied":
+            occurrence.ended = True
+            occurrence.cause = "Denied"
         elif kind == "intent":
             occurrence.attempts[t.change] += 1
             occurrence.open[t] = False
         elif kind == "call failed":
             occurrence.open[t] = True
         elif kind == "settled":
-            failed = occurrence.open.pop(t)
-            occurrence.trouble |= what[0] in (1, 2) or (what[0] == 3 and failed)
-            if what[0] == 0:
-                change = occurrence.changes[t.change]
-                occurrence.nets[t.change] = 1 if t.way == FORWARD else 0
-                held = self.instance(occurrence.instance)
-                held.last[change[2:]] = change.verb if t.way == FORWARD else UNDONE[change.verb]
+            self.follow_settled(occurrence, t, *what)
         elif kind == "moved":
             occurrence.state, occurrence.cancel, occurrence.trouble = what, None, False
+            occurrence.entered = self.moment
             self.follow_end(self.instance(occurrence.instance), occurrence.ask, what)
         else:
             occurrence.cancel = FORCEFUL if FORCEFUL in (what, occurrence.cancel) else GRACEFUL
+            occurrence.cause = "Cancelled"
+
+    def follow_try(self, occurrence, answer, at):
+        if answer == 0:
+            occurrence.location = at
+        occurrence.tries += answer == 1
+        occurrence.ended |= answer == 2 or occurrence.tries >= 5
+        if answer == 2:
+            occurrence.cause = "NotCovering"
+        elif answer == 1 and occurrence.tries == 5:
+            occurrence.cause = "NoGrant"
+
+    def follow_settled(self, occurrence, t, outcome, what=None):
+        failed = occurrence.open.pop(t)
+        cause = {
+            1: f"Broken {{ change: {t.change}, code: {what} }}",
+            2: f"Aborted {{ change: {t.change} }}",
+            3: f"CallFailed {{ change: {t.change} }}" if failed else None,
+        }.get(outcome)
+        if cause is not None:
+            occurrence.trouble = True
+            occurrence.cause = cause
+        if outcome == 0:
+            self.follow_done(occurrence, t, what)
+
+    def follow_done(self, occurrence, t, called):
+        """A change was made or undone, and what was made has this name."""
+        change = occurrence.changes[t.change]
+        part = change[2:]
+        held = self.instance(occurrence.instance)
+        verb = change.verb if t.way == FORWARD else UNDONE[change.verb]
+        occurrence.nets[t.change] = 1 if t.way == FORWARD else 0
+        held.last[part] = verb
+        if verb == CREATE:
+            held.names[part] = called
+        if t.way == FORWARD:
+            if verb == CREATE:
+                _, places, spots = occurrence.grant
+                held.places[part] = places[spots[t.change]]
+            occurrence.used[t.change] = held.known(part)
 
     def follow_end(self, held, ask, state):
         """What an instance is once an operation ended in this state."""
@@ -543,6 +705,52 @@ class History:
             ("settled", t, self.drawn_outcome()),
         ]
 
+    def drawn_filter(self):
+        """What a subscription asks to be told."""
+        draw = self.draw
+        return draw.choice([
+            Filter(),
+            Filter(vnfds=["vnfd-0", "vnfd-1"]),
+            Filter(vnfds=["vnfd-2"]),
+            Filter(instances=[instance_id(draw.randrange(1, len(self.instances) + 2)) for _ in range(2)]),
+            Filter(names=["edge-1"]),
+            Filter(notices=[CREATION, DELETION]),
+            Filter(notices=[OCCURRENCE], states=[COMPLETED, FAILED_TEMP, ROLLED_BACK]),
+            Filter(operations=[OPERATIONS["heal"], 8], names=["edge-1", "edge-2"]),
+            Filter(operations=[OPERATIONS["scale"], OPERATIONS["instantiate"], 9], states=[STARTING, PROCESSING]),
+        ])
+
+    def subscribe(self):
+        """A subscription is made; before it one whose number isn't the next, or whose filter is too large."""
+        number, asked = len(self.subscriptions) + 1, self.drawn_filter()
+        fields = [self.draw.randrange(2), f"http://consumer/{number}", asked]
+        self.refuse(*self.draw.choice([
+            ("subscribed", number - 1, *fields),
+            ("subscribed", number + 1, *fields),
+            ("subscribed", number, *fields[:2], asked._replace(states=[COMPLETED] * (VALUES + 1))),
+            ("subscribed", number, *fields[:2], asked._replace(names=["edge-1"] * (VALUES + 1))),
+        ]))
+        self.happen("subscribed", number, *fields)
+
+    def post(self):
+        """A notice is posted to a subscription, where one waits; before it maybe one that isn't the first that waits."""
+        draw = self.draw
+        number = draw.randrange(1, len(self.subscriptions) + 1)
+        subscription = self.subscriptions[number - 1]
+        first, cursor = subscription.first(), subscription.cursor()
+        if draw.random() < 0.3:
+            self.refuse("posted", number, draw.choice([cursor, subscription.made, self.events + 1, *subscription.notices[-2:]]), draw.randrange(2))
+        if not subscription.live or first is None:
+            return self.refuse("posted", number, first or cursor, draw.randrange(2))
+        taken = [0.8, 0.3, 0.0 if subscription.tries() else 0.5][number % 3]
+        self.happen("posted", number, first, DELIVERED if draw.random() < taken else NOT_TAKEN)
+
+    def unsubscribe(self):
+        """A subscription is ended, where more than two are live."""
+        live = [n for n, s in enumerate(self.subscriptions, 1) if s.live]
+        if len(live) > 2:
+            self.happen("unsubscribed", self.draw.choice(live))
+
     def step(self):
         """The next event, or none; before it maybe one that isn't allowed."""
         draw = self.draw
@@ -553,9 +761,16 @@ class History:
             self.refuse(*draw.choice(about))
         if draw.random() < 0.02:
             return self.refuse(*draw.choice([("onboarded", DESCRIPTOR), ("created", len(self.instances) + 2, "vnfd-1", None, None),
-                ("created", len(self.instances) + 1, "vnfd-2", None, None), ("deleted", draw.randrange(len(self.instances) + 2))]))
+                ("created", len(self.instances) + 1, "vnfd-2", None, None), ("deleted", draw.randrange(len(self.instances) + 2)),
+                ("unsubscribed", draw.randrange(len(self.subscriptions) + 2))]))
         if draw.random() < 0.01 or len(self.instances) < 2:
             return self.happen("created", len(self.instances) + 1, "vnfd-1", draw.choice([None, "edge-1"]), draw.choice([None, "a router"]))
+        if draw.random() < 0.015 or len(self.subscriptions) < 3:
+            return self.subscribe()
+        if draw.random() < 0.008:
+            return self.unsubscribe()
+        if draw.random() < 0.2:
+            return self.post()
         deletable = [i for i in range(1, len(self.instances) + 1) if self.is_allowed("deleted", i) and self.instance(i).top[0]]
         if deletable and draw.random() < 0.05:
             return self.happen("deleted", draw.choice(deletable))
@@ -574,6 +789,9 @@ WANTED = (
         (FAILED_TEMP, ROLLING_BACK), (FAILED_TEMP, FAILED), (ROLLING_BACK, ROLLED_BACK), (ROLLING_BACK, FAILED_TEMP)]]
     + [("settled", outcome, failed) for outcome in range(4) for failed in (False, True)]
     + [("cancel", mode, state) for mode in (GRACEFUL, FORCEFUL) for state in (STARTING, PROCESSING, ROLLING_BACK)]
+    + [("posted", how, last) for how in (DELIVERED, NOT_TAKEN) for last in (False, True)]
+    + [("subscribed", role) for role in range(2)]
+    + [("notice", which, heard) for which in (OCCURRENCE, CREATION, DELETION) for heard in (False, True)]
     + [("tried", 0, False), ("tried", 1, False), ("tried", 1, True), ("tried", 2, False), ("intent", FORWARD), ("intent", UNDO)]
     + [("ask", "instantiate", False), ("ask", "instantiate", True), ("ask", "scale", 0), ("ask", "scale", 1), ("ask", "level", True),
         ("ask", "aspects", True), ("ask", "heal", False), ("ask", "heal", True), ("ask", "operate", True), ("ask", "operate", False),
@@ -597,11 +815,9 @@ def main(folder):
     with open(os.path.join(folder, "stdin"), "wb") as out:
         out.write(b"".join(h.entries))
     with open(os.path.join(folder, "stdout"), "w") as out:
+        out.writelines(f"{told}\n" for told in h.told)
         out.write(f"events {h.events}, allowed {h.events}\n")
         out.write(f"other events {h.wrong}, allowed 0\n")
-        out.write(f"rows {h.rows}, equal {h.rows}\n")
-        out.write(f"copies {h.copies}, equal {h.copies}\n")
-        out.write(f"active {h.active}, found {h.active}\n")
 
 
 if __name__ == "__main__":

@@ -1,1 +1,1 @@
-pub mod ReadyLaws
+mod FollowedLaws
