@@ -1,8 +1,8 @@
 //! Events that are judged after an empty history.
 
 use lcm_events::{CancelMode, EventKind, Level, Listed, OpState, Vnfd};
-use lcm_judge::{is_allowed, is_legal};
-use std::alloc::Global;
+use lcm_tables::Tables;
+use std::alloc::{AllocError, Global};
 use std::process::Abort;
 use std::test::Fail;
 use vnfm_base::Name;
@@ -44,6 +44,13 @@ fn created(rt: &impl Abort, instance: u64) -> EventKind {
     }
 }
 
+/// Whether an event may follow no event at all.
+#[tactic(auto, using(crate::proofs::IdleLaws::none_small))]
+fn may_be_first(alloc: Global, kind: &EventKind) -> Result<bool, AllocError> {
+    let tables = Tables::new(alloc, 1);
+    tables.may_follow(alloc, kind)
+}
+
 #[test]
 fn events_are_judged_after_nothing(rt: HostRuntime) -> Result<(), Fail> {
     let alloc = rt.alloc();
@@ -68,9 +75,8 @@ fn events_are_judged_after_nothing(rt: HostRuntime) -> Result<(), Fail> {
         ),
         (EventKind::Unsubscribed { subscription: 1 }, false),
     ]?;
-    assert!(rt; is_legal(alloc, 1, &[])?);
     for (kind, allowed) in kinds.as_slice() {
-        assert_eq!(rt; is_allowed(alloc, 1, &[], kind)?, *allowed);
+        assert_eq!(rt; may_be_first(alloc, kind)?, *allowed);
     }
     Ok(())
 }

@@ -1,17 +1,18 @@
-//! A plan that was written out by hand, after the history in which its instance was made.
+//! A plan that was written out by hand: made over an instance of which nothing stands, and judged by the tables of the history in which it was
+//! created.
 
-ghost use Rattle.std.specs.Prelude.{IfOk, reverse};
-ghost use Rattle.lcm_judge.specs.Facts.{HaveIdentNumbers};
-ghost use Rattle.lcm_judge.specs.Judged.{HaveSmallSerials};
-ghost use Rattle.lcm_model.specs.Allowed.{IsLegal};
+ghost use Rattle.std.specs.Prelude.{IfOk, IsTrue, None, ◌≡◌};
+ghost use Rattle.lcm_model.specs.Operations.{asked_in};
+ghost use Rattle.model_cases.specs.Idle.{CanFollow, IsIdle, IsSmallIdle};
 
+use change_planner::can_be_planned;
 use lcm_events::{
-    Ask, Aspect, Change, Def, DefKind, Event, EventKind, Level, Listed, Port, Row, Storage, Vdu,
-    Verb, Vnfd,
+    Ask, Aspect, Change, Changes, Def, DefKind, Event, EventKind, Holding, Level, Listed,
+    Operation, Port, Role, Row, Storage, Vdu, Verb, Vnfd,
 };
-use lcm_judge::is_legal;
-use lcm_model::{Refusal, descriptor_of, is_valid};
-use lcm_plans::{ask_refusal_in, plan_of_ask};
+use lcm_model::Refusal;
+use lcm_plans::plan_standing;
+use lcm_tables::Tables;
 use std::alloc::{AllocError, Global};
 use std::process::Abort;
 use std::test::Fail;
@@ -107,97 +108,9 @@ fn created(phase: u8, kind: DefKind, item: u16, vdu: u16, serial: u32) -> Change
     }
 }
 
-/// A history in which a descriptor is onboarded, and an instance of it is made.
-fn first_events(alloc: Global, vnfd: Vnfd) -> Result<Vec<Event>, AllocError>
-    ensures serials { IfOk result (λ events. HaveSmallSerials (reverse events.items)) }
-    ensures numbers { IfOk result (λ events. HaveIdentNumbers events.items) }
-{
-    let moment = Moment::of(1_785_672_000_000);
-    let made = EventKind::Created {
-        instance: 1,
-        vnfd: vnfd.descriptor_id,
-        name: None,
-        text: None,
-    };
-    let mut events: Vec<Event> = Vec::new(alloc);
-    events.push(Event {
-        moment,
-        kind: EventKind::Onboarded(vnfd),
-    })?;
-    events.push(Event { moment, kind: made })?;
-    Ok(events)
-}
-
-/// Whether an ask of the first instance after a legal history comes to these changes.
-fn comes_to(
-    alloc: Global,
-    events: &[Event],
-    ask: &Ask,
-    expected: &[Change],
-) -> Result<bool, AllocError>
-    requires legal { IsLegal 1 (reverse events.now) }
-    requires serials { HaveSmallSerials (reverse events.now) }
-{
-    match descriptor_of(events, 1) {
-        Some(vnfd) => match plan_of_ask(alloc, vnfd, events, 1, ask)? {
-            Ok(changes) => Ok(changes.as_slice() == expected),
-            Err(_) => Ok(false),
-        },
-        None => Ok(false),
-    }
-}
-
-/// Whether an ask of the first instance after a legal history is refused so.
-fn is_refused(
-    alloc: Global,
-    events: &[Event],
-    ask: &Ask,
-    expected: Option<Refusal>,
-) -> Result<bool, AllocError>
-    requires legal { IsLegal 1 (reverse events.now) }
-    requires serials { HaveSmallSerials (reverse events.now) }
-{
-    match descriptor_of(events, 1) {
-        Some(vnfd) => Ok(ask_refusal_in(alloc, vnfd, events, 1, ask)? == expected),
-        None => Ok(false),
-    }
-}
-
-/// Whether the history is legal, the first ask comes to these changes and isn't refused, and the second is refused so.
-fn are_judged(
-    alloc: Global,
-    events: &[Event],
-    first: &Ask,
-    changes: &[Change],
-    second: &Ask,
-    why: Refusal,
-) -> Result<bool, AllocError>
-    requires serials { HaveSmallSerials (reverse events.now) }
-    requires numbers { HaveIdentNumbers events.now }
-{
-    if !is_legal(alloc, 1, events)? {
-        return Ok(false);
-    }
-    let planned = comes_to(alloc, events, first, changes)?;
-    let accepted = is_refused(alloc, events, first, None)?;
-    let refused = is_refused(alloc, events, second, Some(why))?;
-    Ok(planned && accepted && refused)
-}
-
-#[test]
-fn the_first_plan_makes_thirteen_resources_in_order(rt: HostRuntime) -> Result<(), Fail> {
-    let alloc = rt.alloc();
-    let vnfd = router(&rt, alloc)?;
-    let ask = Ask::Instantiate {
-        flavour: name(&rt, "simple"),
-        level: None,
-    };
-    let early = Ask::Operate {
-        started: false,
-        stop: None,
-    };
-    assert!(rt; is_valid(&vnfd));
-    let expected = [
+/// The changes that instantiate it, in order.
+fn thirteen_changes() -> [Change; 13] {
+    [
         created(0, DefKind::Link, 0, 65_535, 0),
         created(0, DefKind::Link, 1, 65_535, 0),
         created(1, DefKind::Storage, 0, 0, 1),
@@ -211,17 +124,222 @@ fn the_first_plan_makes_thirteen_resources_in_order(rt: HostRuntime) -> Result<(
         created(3, DefKind::Port, 0, 0, 2),
         created(3, DefKind::Port, 1, 0, 2),
         created(3, DefKind::Port, 2, 1, 1),
-    ];
-    let events = first_events(alloc, vnfd)?;
-    assert!(rt;
-        are_judged(
-            alloc,
-            events.as_slice(),
-            &ask,
-            &expected,
-            &early,
-            Refusal::NotInstantiated
-        )?
-    );
+    ]
+}
+
+fn instantiate(rt: &impl Abort) -> Ask {
+    Ask::Instantiate {
+        flavour: name(rt, "simple"),
+        level: None,
+    }
+}
+
+fn stop() -> Ask {
+    Ask::Operate {
+        started: false,
+        stop: None,
+    }
+}
+
+/// Nothing stands, of two VDUs and one aspect.
+fn nothing(alloc: Global) -> Result<Holding, Fail> {
+    Ok(Holding {
+        instantiated: false,
+        started: false,
+        levels: Listed::of(vec![in alloc; 0]?),
+        items: Listed::new(alloc),
+        top: Listed::of(vec![in alloc; 0, 0]?),
+    })
+}
+
+/// The plan of an ask over what stands, or why it is refused; none where this can't stand of the descriptor.
+fn planned(
+    alloc: Global,
+    vnfd: &Vnfd,
+    holding: &Holding,
+    ask: &Ask,
+) -> Result<Option<Result<Changes, Refusal>>, AllocError> {
+    if !can_be_planned(vnfd, holding, &holding.levels) {
+        return Ok(None);
+    }
+    Ok(Some(plan_standing(alloc, vnfd, holding, false, ask)?))
+}
+
+/// Whether an ask over what stands comes to these changes.
+fn comes_to(
+    alloc: Global,
+    vnfd: &Vnfd,
+    holding: &Holding,
+    ask: &Ask,
+    expected: &[Change],
+) -> Result<bool, AllocError> {
+    match planned(alloc, vnfd, holding, ask)? {
+        Some(Ok(changes)) => Ok(changes.as_slice() == expected),
+        _ => Ok(false),
+    }
+}
+
+/// Whether an ask over what stands is refused so.
+fn is_refused(
+    alloc: Global,
+    vnfd: &Vnfd,
+    holding: &Holding,
+    ask: &Ask,
+    expected: Refusal,
+) -> Result<bool, AllocError> {
+    match planned(alloc, vnfd, holding, ask)? {
+        Some(Err(why)) => Ok(why == expected),
+        _ => Ok(false),
+    }
+}
+
+#[test]
+fn the_first_plan_makes_thirteen_resources_in_order(rt: HostRuntime) -> Result<(), Fail> {
+    let alloc = rt.alloc();
+    let vnfd = router(&rt, alloc)?;
+    let nothing = nothing(alloc)?;
+    let expected = thirteen_changes();
+    assert!(rt; comes_to(alloc, &vnfd, &nothing, &instantiate(&rt), &expected)?);
+    assert!(rt; is_refused(alloc, &vnfd, &nothing, &stop(), Refusal::NotInstantiated)?);
     Ok(())
+}
+
+fn at_once(kind: EventKind) -> Event
+    ensures { result.kind ≡ kind }
+{
+    Event {
+        moment: Moment::of(1_785_672_000_000),
+        kind,
+    }
+}
+
+/// Whether the tables have followed few events.
+fn are_few(tables: &Tables) -> bool
+    requires { IsIdle tables.now }
+    ensures { IsTrue result → IsSmallIdle tables.now }
+{
+    tables.instances.events() < 1_000
+}
+
+/// Whether an event may follow a small history in which no operation was asked for.
+#[tactic(auto, using(crate::proofs::IdleLaws::small_history, crate::proofs::IdleLaws::judged))]
+fn is_allowed(alloc: Global, tables: &Tables, kind: &EventKind) -> Result<bool, AllocError>
+    requires { IsSmallIdle tables.now }
+    ensures { IfOk result (λ yes. IsTrue yes → CanFollow tables.now kind.now) }
+{
+    tables.may_follow(alloc, kind)
+}
+
+/// Whether an event may follow.
+fn may_follow(alloc: Global, tables: &Tables, kind: &EventKind) -> Result<bool, AllocError>
+    requires { IsIdle tables.now }
+    ensures { IfOk result (λ yes. IsTrue yes → CanFollow tables.now kind.now) }
+{
+    if are_few(tables) {
+        is_allowed(alloc, tables, kind)
+    } else {
+        Ok(false)
+    }
+}
+
+/// Lets the tables follow an event that may follow, and asks for no operation.
+#[tactic(auto, using(crate::proofs::IdleLaws::idle_kept, crate::proofs::IdleLaws::idle_after))]
+fn happen(alloc: Global, tables: &mut Tables, event: &Event) -> Result<(), AllocError>
+    requires can { CanFollow tables.old event.now.kind }
+    requires unasked { asked_in event.now.kind ≡ None }
+    ensures { IsIdle tables.new }
+{
+    tables.reserve_for(alloc, event)?;
+    tables.apply(event);
+    Ok(())
+}
+
+/// Lets the tables follow an event that asks for no operation, where it may follow.
+fn follow(alloc: Global, tables: &mut Tables, event: &Event) -> Result<bool, AllocError>
+    requires idle { IsIdle tables.old }
+    requires unasked { asked_in event.now.kind ≡ None }
+    ensures { IsIdle tables.new }
+{
+    let allowed = may_follow(alloc, tables, &event.kind)?;
+    if allowed {
+        happen(alloc, tables, event)?;
+    }
+    Ok(allowed)
+}
+
+/// Whether the first operation of the first instance may be this ask with these changes.
+fn may_ask(alloc: Global, tables: &Tables, ask: Ask, changes: &[Change]) -> Result<bool, AllocError>
+    requires { IsIdle tables.now }
+{
+    let operation = Operation {
+        occ: 1,
+        instance: 1,
+        role: Role::Orchestrator,
+        ask,
+        changes: Listed::of(changes.to_vec(alloc)?),
+    };
+    may_follow(alloc, tables, &EventKind::Asked(operation))
+}
+
+/// Asks of the first instance are judged by their changes.
+fn judge_asks(rt: &impl Abort, alloc: Global, tables: &Tables) -> Result<(), Fail>
+    requires { IsIdle tables.now }
+{
+    let mut changes = thirteen_changes();
+    assert!(rt; may_ask(alloc, tables, instantiate(rt), &changes)?);
+    assert!(rt; !may_ask(alloc, tables, instantiate(rt), &changes[..12])?);
+    assert!(rt; !may_ask(alloc, tables, instantiate(rt), &[])?);
+    assert!(rt; !may_ask(alloc, tables, stop(), &[])?);
+    changes.swap(0, 1);
+    assert!(rt; !may_ask(alloc, tables, instantiate(rt), &changes)?);
+    Ok(())
+}
+
+/// The tables of no event.
+#[tactic(auto, using(crate::proofs::IdleLaws::idle_none))]
+fn no_event(alloc: Global) -> Tables
+    ensures { IsIdle result }
+{
+    Tables::new(alloc, 1)
+}
+
+/// A descriptor is onboarded.
+fn onboarded(vnfd: Vnfd) -> Event
+    ensures { asked_in result.kind ≡ None }
+{
+    at_once(EventKind::Onboarded(vnfd))
+}
+
+/// The first instance is created of the descriptor of this identifier.
+fn first_instance(vnfd: Name) -> Event
+    ensures { asked_in result.kind ≡ None }
+{
+    at_once(EventKind::Created {
+        instance: 1,
+        vnfd,
+        name: None,
+        text: None,
+    })
+}
+
+/// Lets the tables follow an event that asks for no operation, where it may follow, and lets it go.
+fn take(alloc: Global, tables: &mut Tables, event: Event) -> Result<bool, AllocError>
+    requires idle { IsIdle tables.old }
+    requires unasked { asked_in event.kind ≡ None }
+    ensures { IsIdle tables.new }
+{
+    let followed = follow(alloc, tables, &event);
+    drop(event);
+    followed
+}
+
+#[test]
+fn an_ask_is_judged_by_its_changes(rt: HostRuntime) -> Result<(), Fail> {
+    let alloc = rt.alloc();
+    let vnfd = router(&rt, alloc)?;
+    let descriptor = vnfd.descriptor_id;
+    let mut tables = no_event(alloc);
+    assert!(rt; take(alloc, &mut tables, onboarded(vnfd))?);
+    assert!(rt; take(alloc, &mut tables, first_instance(descriptor))?);
+    judge_asks(&rt, alloc, &tables)
 }
