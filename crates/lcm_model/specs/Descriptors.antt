@@ -4,7 +4,6 @@ use Rattle.std.specs.Option.{option_map_or}
 use Rattle.std.specs.Prelude.{Bool, List, length, map, nat_le, nat_lt, slice_get, true, unwrap_or, zip, ℕ, ◌&&◌, ◌==◌, ◌||◌, ◌≡◌, ◌≤◌}
 use Rattle.lcm_events.specs.Descriptors.{is_name_before, is_rising, is_valid_steps}
 use Rattle.lcm_events.specs.Same.{kind_number, same_kind}
-use Rattle.lcm_events.specs.declared.changes.Change.{Change}
 use Rattle.lcm_events.specs.declared.changes.Def.{Def}
 use Rattle.lcm_events.specs.declared.descriptor.Aspect.{Aspect}
 use Rattle.lcm_events.specs.declared.descriptor.Row.{Row}
@@ -107,7 +106,3 @@ pub record IsHoldingOf (d : Vnfd) (h : Holding) : Type 0 where
   pub known : list_all (λ x. is_def_up_to d h.top x.def) h.items ≡ true
   pub tops : length h.top ≡ length d.vdus
   pub small : list_all (λ n. nat_lt n 2147483648) h.top ≡ true
-
--- the changes are of the descriptor: their definitions are its own (own rule)
-abbrev pub are_changes_of : Vnfd → List Change → Bool
-are_changes_of d xs = list_all (λ c. is_def_of d c.def) xs

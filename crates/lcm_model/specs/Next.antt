@@ -1,6 +1,6 @@
 -- The next action of an active occurrence, and the events that it appends (own rule over SOL 003 5.6.2).
 use Rattle.std.specs.List.{range_with_len}
-use Rattle.std.specs.Prelude.{◌<◌, ◌≤◌, Bool, List, None, Option, Some, [], false, filter, is_some, length, option_and_then, option_map, true, ℕ, ◌+◌, ◌==◌, ◌||◌, ◌∷◌}
+use Rattle.std.specs.Prelude.{Bool, List, None, Option, Some, [], false, filter, is_some, length, option_and_then, option_map, true, ℕ, ◌+◌, ◌==◌, ◌||◌, ◌∷◌}
 use Rattle.lcm_events.specs.declared.attempts.Outcome.TheVariants.{Aborted, Broken, Done, NotBegun}
 use Rattle.lcm_events.specs.declared.attempts.Tag.{Tag}
 use Rattle.lcm_events.specs.declared.attempts.Way.{Way}
@@ -61,11 +61,6 @@ next_at_work H o lines = first_some (
     option_map (look_at (is_forced H o)) (first_open H o)
     ∷ when (has_trouble H o || is_cancelled H o) (MoveTo FailedTemp)
     ∷ lines)
-
--- the changes and the events are few enough that their numbers fit a tag (own rule)
-pub record HasFewAttempts (H : List Event) (o : ℕ) : Type 0 where
-  pub changes : length (changes H o) ≤ 65535
-  pub events : length H < 4294967295
 
 -- what is done in a state: changes are made in order, and undone in the reverse order (own rule)
 abbrev pub next_in : OpState → List Event → ℕ → Option Action

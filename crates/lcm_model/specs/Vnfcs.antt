@@ -1,7 +1,7 @@
 -- The definitions of an instance, and which of its machines are whole (own rule over SOL 003 5.5.3, VnfcResourceInfo).
 use Rattle.std.specs.List.{enumerate_from, list_all, list_any, range_with_len}
 use Rattle.std.specs.Option.{option_map_or}
-use Rattle.std.specs.Prelude.{Bool, List, [], filter, length, map, nat_lt, not, slice_get, ℕ, ◌&&◌, ◌++◌, ◌==◌, ◌∷◌}
+use Rattle.std.specs.Prelude.{Bool, List, [], filter, length, map, nat_lt, slice_get, ℕ, ◌&&◌, ◌++◌, ◌==◌, ◌∷◌}
 use Rattle.lcm_events.specs.declared.changes.Def.{Def}
 use Rattle.lcm_events.specs.declared.changes.DefKind.{DefKind}
 use Rattle.lcm_events.specs.declared.changes.DefKind.TheVariants.{Compute, Link, Port, Storage}
@@ -65,10 +65,6 @@ is_whole d held v s = list_all held.stands (all_defs d v s)
 -- some definition of a machine stands (own rule)
 abbrev pub is_there : Vnfd → Inventory → ℕ → ℕ → Bool
 is_there d held v s = list_any held.stands (all_defs d v s)
-
--- some but not all definitions of a machine stand (own rule)
-abbrev pub is_partial : Vnfd → Inventory → ℕ → ℕ → Bool
-is_partial d held v s = is_there d held v s && not (is_whole d held v s)
 
 -- the serials of a VDU of which something stands, rising (own rule)
 abbrev pub there : Vnfd → Inventory → ℕ → List ℕ

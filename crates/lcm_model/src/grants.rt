@@ -1,90 +1,11 @@
-//! The grant exchange of an occurrence.
+//! The places that a grant gives to changes.
 
-ghost use Rattle.std.specs.Prelude.{◌≡◌, reverse, option_copied};
-ghost use Rattle.lcm_model.specs.Grants.{granted_place, has_ended, is_granted, location, place_at, troubled_tries};
+ghost use Rattle.std.specs.Prelude.{◌≡◌, ◌↔◌, IsTrue, IfOk, nat_lt, slice_get};
+ghost use Rattle.std.specs.List.{list_all, list_any};
+ghost use Rattle.lcm_model.specs.Grants.{IsPlacing, distinct_places, place_at, places_at, same_place, same_places};
 
-use lcm_events::{Event, EventKind, GrantTry, Place};
-use vnfm_base::Line;
-
-/// Whether the occurrence was granted.
-///
-/// Source: docs/MODEL.md, "Grants".
-pub fn is_granted_in(events: &[Event], occ: u64) -> bool
-    ensures { result ≡ is_granted (reverse events.now) occ }
-{
-    let mut granted = false;
-    for event in events {
-        if let EventKind::Granted { occ: answered, .. } = &event.kind {
-            if *answered == occ {
-                granted = true;
-            }
-        }
-    }
-    granted
-}
-
-/// How many grant tries were in trouble.
-///
-/// Source: docs/MODEL.md, "Grants".
-pub fn count_troubled(events: &[Event], occ: u64) -> u64
-    ensures { result ≡ troubled_tries (reverse events.now) occ }
-{
-    let mut count = 0;
-    for event in events {
-        if let EventKind::GrantTried {
-            occ: answered,
-            answer: GrantTry::Trouble,
-        } = &event.kind
-        {
-            if *answered == occ {
-                count += 1;
-            }
-        }
-    }
-    count
-}
-
-/// Whether the exchange has ended.
-///
-/// Source: docs/MODEL.md, "Grants".
-pub fn has_ended_in(events: &[Event], occ: u64) -> bool
-    ensures { result ≡ has_ended (reverse events.now) occ }
-{
-    let mut last = false;
-    for event in events {
-        match &event.kind {
-            EventKind::Granted { occ: answered, .. } if *answered == occ => last = true,
-            EventKind::Denied { occ: answered } if *answered == occ => last = true,
-            EventKind::GrantTried {
-                occ: answered,
-                answer: GrantTry::NotCovering,
-            } if *answered == occ => last = true,
-            _ => (),
-        }
-    }
-    last || 5 <= count_troubled(events, occ)
-}
-
-/// The location at which the grant will be, where one was told.
-///
-/// Source: docs/MODEL.md, "Grants".
-pub fn location_in(events: &[Event], occ: u64) -> Option<&Line>
-    ensures { option_copied result ≡ location (reverse events.now) occ }
-{
-    let mut told = None;
-    for event in events {
-        if let EventKind::GrantTried {
-            occ: answered,
-            answer: GrantTry::Later(at),
-        } = &event.kind
-        {
-            if *answered == occ {
-                told = Some(at);
-            }
-        }
-    }
-    told
-}
+use lcm_events::Place;
+use std::alloc::{AllocError, Global};
 
 /// The place of a change by these places and their numbers.
 ///
@@ -96,25 +17,80 @@ pub fn place_in(places: &[Place], spots: &[u8], change: u16) -> Option<Place>
     places.get(spot as usize).copied()
 }
 
-/// The place that the grant gave to a change.
-///
-/// Source: docs/MODEL.md, "Grants".
-pub fn granted_place_in(events: &[Event], occ: u64, change: u16) -> Option<Place>
-    ensures { result ≡ granted_place (reverse events.now) occ change }
+/// The place of this number in a list.
+fn place_numbered(places: &[Place], spot: u8) -> Option<Place>
+    ensures { result ≡ slice_get places.now spot }
 {
-    let mut place = None;
-    for event in events {
-        if let EventKind::Granted {
-            occ: answered,
-            places,
-            spots,
-            ..
-        } = &event.kind
-        {
-            if *answered == occ {
-                place = place_in(places.as_slice(), spots.as_slice(), change);
-            }
+    places.get(spot as usize).copied()
+}
+
+/// The places that these numbers name in a list.
+fn places_named(alloc: Global, places: &[Place], spots: &[u8]) -> Result<Vec<Place>, AllocError>
+    ensures { IfOk result (λ v. v.items ≡ places_at places.now spots.now) }
+{
+    let mut named = Vec::new(alloc);
+    for spot in spots {
+        if let Some(place) = place_numbered(places, *spot) {
+            named.push(place)?;
         }
     }
-    place
+    Ok(named)
+}
+
+/// Whether a place is in a list.
+fn is_seen(seen: &[Place], place: &Place) -> bool
+    ensures { result ≡ list_any (same_place place.now) seen.now }
+{
+    for other in seen {
+        if *place == *other {
+            return true;
+        }
+    }
+    false
+}
+
+/// Each place once, where it comes first.
+fn each_once(alloc: Global, places: &[Place]) -> Result<Vec<Place>, AllocError>
+    ensures { IfOk result (λ v. v.items ≡ distinct_places places.now) }
+{
+    let mut seen: Vec<Place> = Vec::new(alloc);
+    for place in places {
+        let known = is_seen(seen.as_slice(), place);
+        if !known {
+            seen.push(*place)?;
+        }
+    }
+    Ok(seen)
+}
+
+/// Whether two lists of places are equal.
+fn are_same_places(a: &[Place], b: &[Place]) -> bool
+    ensures { result ≡ same_places a.now b.now }
+{
+    a == b
+}
+
+/// Whether each number names a place of a list.
+fn are_spots_known(spots: &[u8], count: usize) -> bool
+    ensures { result ≡ list_all (λ n. nat_lt n count) spots.now }
+{
+    spots.iter().all(|spot| (*spot as usize) < count)
+}
+
+/// Whether places are named in the order of the first change that has them.
+///
+/// Source: docs/MODEL.md, "Allowed and legal".
+pub fn is_placing(
+    alloc: Global,
+    places: &[Place],
+    spots: &[u8],
+    asked: usize,
+) -> Result<bool, AllocError>
+    ensures { IfOk result (λ yes. IsTrue yes ↔ IsPlacing places.now spots.now asked) }
+{
+    let named = places_named(alloc, places, spots)?;
+    let distinct = each_once(alloc, named.as_slice())?;
+    let known = are_spots_known(spots, places.len());
+    let in_order = are_same_places(distinct.as_slice(), places);
+    Ok(spots.len() == asked && known && in_order && places.len() <= 32)
 }

@@ -1,12 +1,12 @@
 //! How many machines a VDU has at given levels.
 
-ghost use Rattle.std.specs.Prelude.{◌≡◌, ◌+◌, ◌*◌, ◌<◌, ◌≤◌, IfSome, take, length, map, zip, true, nat_le, min, option_copied};
+ghost use Rattle.std.specs.Prelude.{◌≡◌, ◌+◌, ◌*◌, ◌<◌, ◌≤◌, IfSome, take, length, map, zip, true, nat_le, option_copied};
 ghost use Rattle.std.specs.List.{list_all};
 ghost use Rattle.lcm_model.specs.Words.{total};
-ghost use Rattle.lcm_model.specs.Levels.{added, count, has_small_deltas, has_small_row, initial, moved_by, row_adds, row_of, steps_to};
-ghost use Rattle.lcm_model.specs.Descriptors.{IsValid, are_levels_of, is_valid_row, is_valid_aspect};
+ghost use Rattle.lcm_model.specs.Levels.{added, count, has_small_deltas, has_small_row, initial, row_of, steps_to};
+ghost use Rattle.lcm_model.specs.Descriptors.{IsValid, are_levels_of};
 
-use lcm_events::{Aspect, Row, ScaleWay, Vnfd};
+use lcm_events::{Aspect, Row, Vnfd};
 
 /// What the first steps up to a level add.
 #[tactic(auto, using(crate::proofs::ListLaws::steps_one, crate::proofs::ListLaws::steps_many))]

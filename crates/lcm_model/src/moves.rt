@@ -1,9 +1,9 @@
-//! The state of an occurrence, and which states may follow which.
+//! Which states of an occurrence may follow which.
 
-ghost use Rattle.std.specs.Prelude.{◌≡◌, reverse};
-ghost use Rattle.lcm_model.specs.Moves.{edge, is_active, is_final, state};
+ghost use Rattle.std.specs.Prelude.{◌≡◌};
+ghost use Rattle.lcm_model.specs.Moves.{edge, is_active, is_final};
 
-use lcm_events::{Event, EventKind, OpState};
+use lcm_events::OpState;
 
 /// Whether an occurrence may go from the one state to the other.
 ///
@@ -47,21 +47,4 @@ pub fn works(state: OpState) -> bool
         state,
         OpState::Starting | OpState::Processing | OpState::RollingBack
     )
-}
-
-/// The state that an occurrence is in.
-///
-/// Source: docs/MODEL.md, "States".
-pub fn state_after(events: &[Event], occ: u64) -> OpState
-    ensures { result ≡ state (reverse events.now) occ }
-{
-    let mut at = OpState::Starting;
-    for event in events {
-        if let EventKind::Moved { occ: moved, to } = &event.kind {
-            if *moved == occ {
-                at = *to;
-            }
-        }
-    }
-    at
 }

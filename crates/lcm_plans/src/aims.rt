@@ -1,13 +1,12 @@
-//! The levels that an ask aims at, and those of an instance.
+//! The levels that an ask aims at.
 
-ghost use Rattle.std.specs.Prelude.{◌≡◌, IfOk, IfSome, map, option_copied, reverse, true};
-ghost use Rattle.lcm_model.specs.Levels.{aimed, asked_level, at_aspect, default_level, level_of, moved_by, no_levels, replaced, target, to_level};
-ghost use Rattle.lcm_model.specs.Words.{when};
-ghost use Rattle.lcm_model.specs.Instances.{levels, moving, sets_levels};
+ghost use Rattle.std.specs.Prelude.{◌≡◌, IfOk, IfSome, option_copied, true};
+ghost use Rattle.lcm_model.specs.Levels.{aimed, asked_level, at_aspect, default_level, level_of, moved_by, replaced, target, to_level};
+ghost use Rattle.lcm_model.specs.Instances.{levels};
 ghost use Rattle.lcm_model.specs.Descriptors.{IsValid, are_levels_of};
 
-use lcm_events::{Aim, Ask, Aspect, AspectLevel, Event, EventKind, OpState, ScaleWay, Vnfd};
-use lcm_model::{level_named, operation_in, replaced_levels, stepped_levels};
+use lcm_events::{Aim, Ask, AspectLevel, ScaleWay, Vnfd};
+use lcm_model::{level_named, replaced_levels, stepped_levels};
 use std::alloc::{AllocError, Global};
 use vnfm_base::Name;
 
@@ -108,14 +107,7 @@ fn moved_in(
 }
 
 /// The levels that SCALE_TO_LEVEL aims at.
-///
-/// Source: SOL 003 5.5.2.6 (ScaleVnfToLevelRequest).
-pub fn aimed_in(
-    alloc: Global,
-    vnfd: &Vnfd,
-    levels: &[u32],
-    aim: &Aim,
-) -> Result<Vec<u32>, AllocError>
+fn aimed_in(alloc: Global, vnfd: &Vnfd, levels: &[u32], aim: &Aim) -> Result<Vec<u32>, AllocError>
     requires valid { IsValid vnfd.now }
     requires present { are_levels_of vnfd.now levels.now ≡ true }
     ensures value { IfOk result (λ v. v.items ≡ aimed vnfd.now levels.now aim.now) }
@@ -150,74 +142,4 @@ pub fn target_in(
         Ask::ScaleToLevel(aim) => aimed_in(alloc, vnfd, levels, aim),
         _ => copied(alloc, levels),
     }
-}
-
-/// A 0 for each aspect.
-fn zeros(alloc: Global, aspects: &[Aspect]) -> Result<Vec<u32>, AllocError>
-    ensures { IfOk result (λ v. v.items ≡ map (λ a. 0) aspects.now) }
-{
-    let mut levels: Vec<u32> = Vec::new(alloc);
-    for _aspect in aspects {
-        levels.push(0)?;
-    }
-    Ok(levels)
-}
-
-/// Level 0 of every aspect.
-fn zero_levels_in(alloc: Global, vnfd: &Vnfd) -> Result<Vec<u32>, AllocError>
-    ensures value { IfOk result (λ v. v.items ≡ no_levels vnfd.now) }
-    ensures levels { IfOk result (λ v. are_levels_of vnfd.now v.items ≡ true) }
-{
-    let levels = zeros(alloc, vnfd.aspects.as_slice())?;
-    Ok(levels)
-}
-
-/// Whether such a move sets the levels of its instance.
-fn sets_levels_by(ask: &Ask, to: OpState) -> bool
-    ensures { sets_levels ask.now to ≡ when result ask.now }
-{
-    match (ask, to) {
-        (Ask::Instantiate { .. }, OpState::Completed | OpState::Failed) => true,
-        (Ask::Scale { .. }, OpState::Completed) => true,
-        (Ask::ScaleToLevel(_), OpState::Completed) => true,
-        _ => false,
-    }
-}
-
-/// The ask that an event makes the instance's levels follow, after its past.
-#[tactic(auto, unfolding(lcm_model::specs::Instances::moving))]
-fn levels_set_with<'a>(past: &'a [Event], instance: u64, kind: &EventKind) -> Option<&'a Ask>
-    ensures { option_copied result ≡ moving sets_levels instance (reverse past.now) kind.now }
-{
-    let EventKind::Moved { occ, to } = kind else {
-        return None;
-    };
-    let operation = operation_in(past, *occ)?;
-    if operation.instance == instance && sets_levels_by(&operation.ask, *to) {
-        Some(&operation.ask)
-    } else {
-        None
-    }
-}
-
-/// The levels of the instance: those that the asks which set them lead to.
-///
-/// Source: docs/MODEL.md, "The state of an instance".
-pub fn levels_in(
-    alloc: Global,
-    vnfd: &Vnfd,
-    events: &[Event],
-    instance: u64,
-) -> Result<Vec<u32>, AllocError>
-    requires { IsValid vnfd.now }
-    ensures value { IfOk result (λ v. v.items ≡ levels vnfd.now (reverse events.now) instance) }
-    ensures levels { IfOk result (λ v. are_levels_of vnfd.now v.items ≡ true) }
-{
-    let mut now = zero_levels_in(alloc, vnfd)?;
-    for (index, event) in events.iter().enumerate() {
-        if let Some(ask) = levels_set_with(&events[..index], instance, &event.kind) {
-            now = target_in(alloc, vnfd, now.as_slice(), ask)?;
-        }
-    }
-    Ok(now)
 }

@@ -1,21 +1,18 @@
-//! The plan of an ask, over what stands and after a history.
+//! The plan of an ask, over what stands.
 
-ghost use Rattle.std.specs.Prelude.{◌≡◌, ◌∷◌, [], IfErr, IfOk, None, Some, reverse};
+ghost use Rattle.std.specs.Prelude.{◌≡◌, IfErr, IfOk, None, Some};
 ghost use Rattle.lcm_model.specs.Descriptors.{IsHoldingOf, IsValid};
 ghost use Rattle.lcm_model.specs.Levels.{target};
 ghost use Rattle.lcm_model.specs.Plans.{plan};
-ghost use Rattle.lcm_model.specs.Refusals.{ask_refusal, case_in, plan_refusal, situation, state_refusal};
-ghost use Rattle.lcm_model.specs.Words.{first_some};
 ghost use Rattle.change_planner.specs.Inventories.{case_of};
 ghost use Rattle.change_planner.specs.Rolls.{CanBePlanned};
-ghost use Rattle.lcm_plans.specs.Cases.{CanBeAsked, refusal_over, standing_refusal, told_as};
+ghost use Rattle.lcm_plans.specs.Cases.{refusal_over, standing_refusal, told_as};
 
 use crate::aims::target_in;
-use crate::holdings::holding_in;
-use crate::refusals::{content_refusal_in, scale_refusal_in, state_refusal_over};
+use crate::refusals::{scale_refusal_in, state_refusal_over};
 use change_planner::PlanRefusal;
-use lcm_events::{Ask, Changes, Event, Holding, Levels, Listed, Vnfd};
-use lcm_model::{Refusal, is_busy};
+use lcm_events::{Ask, Changes, Holding, Levels, Listed, Vnfd};
+use lcm_model::Refusal;
 use std::alloc::{AllocError, Global};
 
 /// How a plan's refusal is told; want of memory refuses nothing.
@@ -94,65 +91,5 @@ pub fn plan_standing(
     match state_refusal_over(vnfd, holding, busy, ask) {
         Some(wrong) => Ok(Err(wrong)),
         None => plan_aimed(alloc, vnfd, holding, ask),
-    }
-}
-
-/// The plan of an ask after a history, or why it is refused by the instance's state, by what stands and by what is planned.
-fn plan_after(
-    alloc: Global,
-    vnfd: &Vnfd,
-    events: &[Event],
-    instance: u64,
-    ask: &Ask,
-) -> Result<Result<Changes, Refusal>, AllocError>
-    requires { CanBeAsked vnfd.now (reverse events.now) instance }
-    ensures planned { IfOk result (λ answer. IfOk answer (λ changes. changes ≡ plan (case_in vnfd.now (situation vnfd.now (reverse events.now) instance) ask.now))) }
-    ensures accepted { IfOk result (λ answer. IfOk answer (λ changes. first_some (state_refusal vnfd.now (situation vnfd.now (reverse events.now) instance) ask.now ∷ plan_refusal vnfd.now (situation vnfd.now (reverse events.now) instance) ask.now ∷ []) ≡ None)) }
-    ensures refused { IfOk result (λ answer. IfErr answer (λ why. first_some (state_refusal vnfd.now (situation vnfd.now (reverse events.now) instance) ask.now ∷ plan_refusal vnfd.now (situation vnfd.now (reverse events.now) instance) ask.now ∷ []) ≡ Some why)) }
-{
-    let busy = is_busy(events, instance);
-    let holding = holding_in(alloc, vnfd, events, instance)?;
-    plan_standing(alloc, vnfd, &holding, busy, ask)
-}
-
-/// The plan of an ask after a legal history, or why the ask is refused: by its content, by the instance's state, by what stands
-/// and is planned, in this order.
-///
-/// What stands is asked of the history once; whether it is in step, and the plan, are change_planner's.
-/// Source: docs/MODEL.md, "Plans" and "Refusals".
-pub fn plan_of_ask(
-    alloc: Global,
-    vnfd: &Vnfd,
-    events: &[Event],
-    instance: u64,
-    ask: &Ask,
-) -> Result<Result<Changes, Refusal>, AllocError>
-    requires { CanBeAsked vnfd.now (reverse events.now) instance }
-    ensures planned { IfOk result (λ answer. IfOk answer (λ changes. changes ≡ plan (case_in vnfd.now (situation vnfd.now (reverse events.now) instance) ask.now))) }
-    ensures accepted { IfOk result (λ answer. IfOk answer (λ changes. ask_refusal vnfd.now (situation vnfd.now (reverse events.now) instance) ask.now ≡ None)) }
-    ensures refused { IfOk result (λ answer. IfErr answer (λ why. ask_refusal vnfd.now (situation vnfd.now (reverse events.now) instance) ask.now ≡ Some why)) }
-{
-    match content_refusal_in(vnfd, ask) {
-        Some(wrong) => Ok(Err(wrong)),
-        None => plan_after(alloc, vnfd, events, instance, ask),
-    }
-}
-
-/// Why an ask is refused: by its content, by the instance's state, by what stands and is planned, in this order.
-///
-/// Source: docs/MODEL.md, "Refusals".
-pub fn ask_refusal_in(
-    alloc: Global,
-    vnfd: &Vnfd,
-    events: &[Event],
-    instance: u64,
-    ask: &Ask,
-) -> Result<Option<Refusal>, AllocError>
-    requires { CanBeAsked vnfd.now (reverse events.now) instance }
-    ensures { IfOk result (λ why. why ≡ ask_refusal vnfd.now (situation vnfd.now (reverse events.now) instance) ask.now) }
-{
-    match plan_of_ask(alloc, vnfd, events, instance, ask)? {
-        Ok(_) => Ok(None),
-        Err(wrong) => Ok(Some(wrong)),
     }
 }

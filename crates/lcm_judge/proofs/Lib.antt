@@ -1,2 +1,0 @@
-pub mod AdmitLaws
-pub mod HistoryLaws

@@ -1,7 +1,0 @@
-use Rattle.lcm_model.specs.Grants.{location}
-use Rattle.std.proofs.Common.{reverse, take, ◌≡◌}
-use Rattle.std.specs.Prelude.{option_copied}
-use Rattle.lcm_model.proofs.grants.location_in.Given as goal
-
-abbrev pub invariant-loop-event : goal.invariant-loop-event
-invariant-loop-event l = option_copied l.told ≡ location (reverse (take l.event-index l.events)) l.occ

@@ -1,8 +1,0 @@
-use Rattle.lcm_model.specs.Holding.{effects, is_creation}
-use Rattle.lcm_model.specs.Words.{first}
-use Rattle.std.proofs.Common.{reverse, take, ◌≡◌}
-use Rattle.std.specs.Prelude.{filter}
-use Rattle.lcm_model.proofs.holdings.last_creation.Given as goal
-
-abbrev pub invariant-loop-index : goal.invariant-loop-index
-invariant-loop-index l = l.last ≡ first (filter is_creation (effects (reverse (take l.index l.events)) l.instance l.def))

@@ -1,7 +1,0 @@
-use Rattle.lcm_model.specs.Lives.{creation}
-use Rattle.std.proofs.Common.{reverse, take, ◌≡◌}
-use Rattle.std.specs.Prelude.{option_map}
-use Rattle.lcm_model.proofs.lives.vnfd_of.Given as goal
-
-abbrev pub invariant-loop-event : goal.invariant-loop-event
-invariant-loop-event l = l.found ≡ option_map (λ x. x.vnfd) (creation (reverse (take l.event-index l.events)) l.instance)

@@ -1,5 +1,0 @@
-use Rattle.lcm_plans.proofs.RangeLaws.{range_on}
-use Rattle.lcm_plans.proofs.machines.numbers_below.Goals as goal
-
-pub loop-number-preserved : goal.loop-number-preserved
-loop-number-preserved c = rw c.in_ok-push.ensures.items (range_on _ _ _ _ c.loop-number-test.true c.loop-number.invariant)

@@ -1,6 +1,0 @@
-use Rattle.std.proofs.Common.{◌++◌, ◌+◌, ◌-◌, ◌≡◌}
-use Rattle.std.specs.List.{range_with_len}
-use Rattle.lcm_plans.proofs.machines.numbers_from.Given as goal
-
-abbrev pub invariant-loop-at : goal.invariant-loop-at
-invariant-loop-at l = l.numbers.items ++ range_with_len (l.first + l.at) (l.count - l.at) ≡ range_with_len l.first l.count
