@@ -1,2 +1,4 @@
-pub mod TextLemmas
 mod DocumentLemmas
+mod ListLemmas
+pub mod TextLemmas
+mod ViewLemmas

@@ -27,39 +27,49 @@ abbrev pub member_of : List ℕ → Data → Option Data
 member_of name d = option_and_then not_null (get name d)
 
 -- the text, where it is a name (own rule)
-abbrev pub name_in : List ℕ → Option (List ℕ)
-name_in text = if is_short_text 255 text then Some text else None
+abbrev pub name_text : List ℕ → Option (List ℕ)
+name_text text = if is_short_text 255 text then Some text else None
 
 -- the text, where it is a name that isn't empty (own rule)
-abbrev pub some_name_in : List ℕ → Option (List ℕ)
-some_name_in text = if nat_le 1 (length text) then name_in text else None
+abbrev pub some_name_text : List ℕ → Option (List ℕ)
+some_name_text text = if nat_le 1 (length text) then name_text text else None
 
 -- the text, where it is a line (own rule)
-abbrev pub line_in : List ℕ → Option (List ℕ)
-line_in text = if is_short_text 2048 text then Some text else None
+abbrev pub line_text : List ℕ → Option (List ℕ)
+line_text text = if is_short_text 2048 text then Some text else None
 
--- a member that is needed: what `form` takes of its text; missing, or of another form (own rule)
-abbrev pub needed_value : List ℕ → Option (List ℕ) → Result (List ℕ) BodyFault
+-- the forms of a value: what it says, where it has the form (own rule)
+abbrev pub name_in : Data → Option (List ℕ)
+name_in d = option_and_then name_text (as_str d)
+
+abbrev pub some_name_in : Data → Option (List ℕ)
+some_name_in d = option_and_then some_name_text (as_str d)
+
+abbrev pub line_in : Data → Option (List ℕ)
+line_in d = option_and_then line_text (as_str d)
+
+-- a member that is needed: what its value says by its form; missing, or of another form (own rule)
+abbrev pub needed_value : {A : Type 0} → List ℕ → Option A → Result A BodyFault
 needed_value name None = Err (Wrong name)
-needed_value name (Some text) = Ok text
+needed_value name (Some a) = Ok a
 
-abbrev pub needed_member : (List ℕ → Option (List ℕ)) → List ℕ → Option Data → Result (List ℕ) BodyFault
+abbrev pub needed_member : {A : Type 0} → (Data → Option A) → List ℕ → Option Data → Result A BodyFault
 needed_member form name None = Err (Lacks name)
-needed_member form name (Some d) = needed_value name (option_and_then form (as_str d))
+needed_member form name (Some d) = needed_value name (form d)
 
-abbrev pub needed : (List ℕ → Option (List ℕ)) → List ℕ → Data → Result (List ℕ) BodyFault
+abbrev pub needed : {A : Type 0} → (Data → Option A) → List ℕ → Data → Result A BodyFault
 needed form name d = needed_member form name (member_of name d)
 
 -- a member that may be absent (own rule)
-abbrev pub optional_value : List ℕ → Option (List ℕ) → Result (Option (List ℕ)) BodyFault
+abbrev pub optional_value : {A : Type 0} → List ℕ → Option A → Result (Option A) BodyFault
 optional_value name None = Err (Wrong name)
-optional_value name (Some text) = Ok (Some text)
+optional_value name (Some a) = Ok (Some a)
 
-abbrev pub optional_member : (List ℕ → Option (List ℕ)) → List ℕ → Option Data → Result (Option (List ℕ)) BodyFault
+abbrev pub optional_member : {A : Type 0} → (Data → Option A) → List ℕ → Option Data → Result (Option A) BodyFault
 optional_member form name None = Ok None
-optional_member form name (Some d) = optional_value name (option_and_then form (as_str d))
+optional_member form name (Some d) = optional_value name (form d)
 
-abbrev pub optional : (List ℕ → Option (List ℕ)) → List ℕ → Data → Result (Option (List ℕ)) BodyFault
+abbrev pub optional : {A : Type 0} → (Data → Option A) → List ℕ → Data → Result (Option A) BodyFault
 optional form name d = optional_member form name (member_of name d)
 
 -- the first of two readings that fails, or what both give

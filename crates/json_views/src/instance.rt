@@ -3,15 +3,22 @@ ghost use Rattle.std.specs.Prelude.{◌≡◌, ◌++◌, codes, string_bytes, If
 ghost use Rattle.serde_json.specs.View.{view, members_view};
 ghost use Rattle.serde_json.specs.Data.{object, string};
 ghost use Rattle.vnfm_base.specs.Ident.{IsIdentNumber};
-ghost use Rattle.json_views.specs.Instance.{instance_id, instance_path, link, created_instance, created_text, links};
+ghost use Rattle.held_items.specs.Items.{AreInOrder};
+ghost use Rattle.instance_table.specs.Rows.{row_with, unheld};
+ghost use Rattle.json_views.specs.Instance.{created_text, instance_id, instance_path, instance_text, instance_value, instantiation_state};
+ghost use Rattle.json_views.specs.Links.{links};
 ghost use Rattle.json_views.specs.Made.{needed_members, with_product};
 
 use crate::body::CreateBody;
-use lcm_events::Vnfd;
-use serde_json::{Map, Value, json, put};
+use crate::links::links_value;
+use crate::members::{put_where, text_value};
+use crate::resources::info_where;
+use instance_table::InstanceRow;
+use lcm_events::{Holding, Listed, Vnfd};
+use serde_json::{Map, Value, put};
 use std::alloc::{AllocError, Global};
 use uuid::Uuid;
-use vnfm_base::{Bytes, Kind, ident};
+use vnfm_base::{Bytes, Kind, Line, Name, ident};
 
 /// The text of the identifier of instance `n` at this manager.
 ///
@@ -42,11 +49,33 @@ pub fn instance_path(alloc: Global, manager: u32, n: u64) -> Result<String, Allo
     Ok(path)
 }
 
-/// The view of instance `n`, which was created with this body and isn't instantiated. What product it is its descriptor says.
+/// The whole view of instance `n`, whose row is this, as its descriptor has it. The time is linear in what stands, times the
+/// logarithm of that for each storage.
+///
+/// Condition: `n` is from 1 to 2^62 - 1; what stands is in order of definition.
+/// Source: SOL 003 5.5.2.2 (VnfInstance).
+#[tactic(auto, unfolding(crate::specs::Instance::instance_text))]
+pub fn instance_view(
+    alloc: Global,
+    manager: u32,
+    n: u64,
+    row: &InstanceRow,
+    vnfd: &Vnfd,
+) -> Result<Bytes, AllocError>
+    requires number { IsIdentNumber n }
+    requires order { AreInOrder row.now.holding.items }
+    ensures { IfOk result (λ body. body ≡ instance_text manager n row.now vnfd.now) }
+{
+    let value = instance_value(alloc, manager, n, row, vnfd)?;
+    let text = value.to_vec(alloc)?;
+    Ok(Bytes::of_vec(text))
+}
+
+/// The view of instance `n`, which was just created with this body: that of its row. What product it is its descriptor says.
 ///
 /// Condition: `n` is from 1 to 2^62 - 1.
 /// Source: SOL 003 5.5.2.2 (VnfInstance).
-#[tactic(auto, unfolding(crate::specs::Instance::created_text))]
+#[tactic(auto, unfolding(crate::specs::Instance::created_text, crate::specs::Instance::instance_text))]
 pub fn created_view(
     alloc: Global,
     manager: u32,
@@ -57,68 +86,87 @@ pub fn created_view(
     requires { IsIdentNumber n }
     ensures { IfOk result (λ body. body ≡ created_text manager n instance.now vnfd.now) }
 {
-    let members = created_members(alloc, manager, n, instance, vnfd)?;
-    let text = Value::Object(members).to_vec(alloc)?;
-    Ok(Bytes::of_vec(text))
+    let row = idle_row(alloc, n, instance)?;
+    instance_view(alloc, manager, n, &row, vnfd)
 }
 
-#[tactic(auto, unfolding(crate::specs::Made::needed_members))]
-fn created_members(
+/// The row of instance `n`, which was created with this body, and of which nothing stands.
+fn idle_row(alloc: Global, n: u64, instance: &CreateBody) -> Result<InstanceRow, AllocError>
+    ensures { IfOk result (λ row. row ≡ row_with (record { instance = n; vnfd = instance.now.vnfd; name = instance.now.name; text = instance.now.text }) unheld) }
+{
+    let text = match &instance.text {
+        Some(text) => Some(text.clone()?),
+        None => None,
+    };
+    Ok(InstanceRow {
+        number: n,
+        vnfd: instance.vnfd,
+        name: instance.name,
+        text,
+        holding: Holding {
+            instantiated: false,
+            started: false,
+            levels: Listed::new(alloc),
+            items: Listed::new(alloc),
+            top: Listed::new(alloc),
+        },
+    })
+}
+
+fn instance_value(
     alloc: Global,
     manager: u32,
     n: u64,
-    instance: &CreateBody,
+    row: &InstanceRow,
     vnfd: &Vnfd,
-) -> Result<Map<String, Value>, AllocError>
-    requires { IsIdentNumber n }
-    ensures { IfOk result (λ members. object (members_view members.entries) ≡ created_instance manager n instance.now vnfd.now) }
+) -> Result<Value, AllocError>
+    requires number { IsIdentNumber n }
+    requires order { AreInOrder row.now.holding.items }
+    ensures { IfOk result (λ value. view value ≡ instance_value manager n row.now vnfd.now) }
 {
-    let mut members = needed_members(alloc, manager, n, instance.vnfd.as_str(), vnfd)?;
-    if let Some(text) = &instance.text {
-        put(
-            &mut members,
-            alloc,
-            "vnfInstanceDescription",
-            text_value(alloc, text.as_str())?,
-        )?;
-    }
-    if let Some(name) = &instance.name {
-        put(
-            &mut members,
-            alloc,
-            "vnfInstanceName",
-            text_value(alloc, name.as_str())?,
-        )?;
-    }
-    Ok(members)
-}
-
-fn text_value(alloc: Global, text: &str) -> Result<Value, AllocError>
-    ensures { IfOk result (λ value. view value ≡ string text.now) }
-{
-    Ok(Value::String(String::from_str(alloc, text)?))
-}
-
-fn links_value(alloc: Global, path: &str) -> Result<Value, AllocError>
-    ensures { IfOk result (λ value. view value ≡ links path.now) }
-{
-    let mut instantiate = String::from_str(alloc, path)?;
-    instantiate.push_str("/instantiate")?;
-    let mut members = Map::new(alloc);
-    put(
-        &mut members,
-        alloc,
-        "instantiate",
-        link_value(alloc, instantiate.as_str())?,
-    )?;
-    put(&mut members, alloc, "self", link_value(alloc, path)?)?;
+    let members = instance_members(alloc, manager, n, row, vnfd)?;
     Ok(Value::Object(members))
 }
 
-fn link_value(alloc: Global, path: &str) -> Result<Value, AllocError>
-    ensures { IfOk result (λ value. view value ≡ link path.now) }
+fn instance_members(
+    alloc: Global,
+    manager: u32,
+    n: u64,
+    row: &InstanceRow,
+    vnfd: &Vnfd,
+) -> Result<Map<String, Value>, AllocError>
+    requires number { IsIdentNumber n }
+    requires order { AreInOrder row.now.holding.items }
+    ensures { IfOk result (λ members. object (members_view members.entries) ≡ instance_value manager n row.now vnfd.now) }
 {
-    json!(in alloc; {"href": path})
+    let mut members = needed_members(alloc, manager, n, row, vnfd)?;
+    let info = info_where(alloc, vnfd, &row.holding)?;
+    put_where(&mut members, alloc, "instantiatedVnfInfo", info)?;
+    let text = text_where(alloc, &row.text)?;
+    put_where(&mut members, alloc, "vnfInstanceDescription", text)?;
+    let name = name_where(alloc, &row.name)?;
+    put_where(&mut members, alloc, "vnfInstanceName", name)?;
+    Ok(members)
+}
+
+/// A text that may be absent, as a value.
+fn text_where(alloc: Global, text: &Option<Line>) -> Result<Option<Value>, AllocError>
+    ensures { IfOk result (λ value. option_map view value ≡ option_map string text.now) }
+{
+    match text {
+        Some(text) => Ok(Some(text_value(alloc, text.as_str())?)),
+        None => Ok(None),
+    }
+}
+
+/// A name that may be absent, as a value.
+fn name_where(alloc: Global, name: &Option<Name>) -> Result<Option<Value>, AllocError>
+    ensures { IfOk result (λ value. option_map view value ≡ option_map string name.now) }
+{
+    match name {
+        Some(name) => Ok(Some(text_value(alloc, name.as_str())?)),
+        None => Ok(None),
+    }
 }
 
 #[tactic(auto, unfolding(crate::specs::Made::needed_members, crate::specs::Made::with_product))]
@@ -126,29 +174,37 @@ fn needed_members(
     alloc: Global,
     manager: u32,
     n: u64,
-    vnfd_id: &str,
+    row: &InstanceRow,
     vnfd: &Vnfd,
 ) -> Result<Map<String, Value>, AllocError>
     requires { IsIdentNumber n }
-    ensures { IfOk result (λ members. members_view members.entries ≡ needed_members (instance_id manager n) (links (instance_path manager n)) vnfd_id.now vnfd.now) }
+    ensures { IfOk result (λ members. members_view members.entries ≡ needed_members (instance_id manager n) (links row.now.holding.instantiated (instance_path manager n)) row.now.holding.instantiated row.now.vnfd vnfd.now) }
 {
+    let instantiated = row.holding.instantiated;
     let id = instance_id(alloc, manager, n)?;
     let path = instance_path(alloc, manager, n)?;
-    let links = links_value(alloc, path.as_str())?;
+    let links = links_value(alloc, instantiated, path.as_str())?;
     let mut members = Map::new(alloc);
     put(&mut members, alloc, "_links", links)?;
     put(&mut members, alloc, "id", text_value(alloc, id.as_str())?)?;
-    put(
-        &mut members,
-        alloc,
-        "instantiationState",
-        text_value(alloc, "NOT_INSTANTIATED")?,
-    )?;
+    let state = text_value(alloc, instantiation_state(instantiated))?;
+    put(&mut members, alloc, "instantiationState", state)?;
     put_product(&mut members, alloc, vnfd)?;
-    put(&mut members, alloc, "vnfdId", text_value(alloc, vnfd_id)?)?;
+    let vnfd_id = text_value(alloc, row.vnfd.as_str())?;
+    put(&mut members, alloc, "vnfdId", vnfd_id)?;
     let version = text_value(alloc, vnfd.descriptor_version.as_str())?;
     put(&mut members, alloc, "vnfdVersion", version)?;
     Ok(members)
+}
+
+fn instantiation_state(instantiated: bool) -> &'static str
+    ensures { result.now ≡ instantiation_state instantiated }
+{
+    if instantiated {
+        "INSTANTIATED"
+    } else {
+        "NOT_INSTANTIATED"
+    }
 }
 
 #[tactic(auto, unfolding(crate::specs::Made::with_product))]

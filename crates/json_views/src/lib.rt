@@ -2,9 +2,16 @@
 #![tactic(auto)]
 
 mod body;
+mod forms;
 mod instance;
+mod laws;
+mod links;
+mod members;
 mod problem;
+mod resources;
+mod rows;
 
 pub use body::{BodyFault, CreateBody, read_create};
-pub use instance::{created_view, instance_id, instance_path};
+pub use instance::{created_view, instance_id, instance_path, instance_view};
+pub use laws::the_first_failing_member_is_told;
 pub use problem::problem_view;

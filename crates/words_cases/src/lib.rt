@@ -7,3 +7,5 @@ mod lists;
 mod spellings;
 #[cfg(test)]
 mod texts;
+#[cfg(test)]
+mod views;

@@ -1,0 +1,111 @@
+//! What stands of an instance, as its view shows it.
+ghost use Rattle.std.specs.Prelude.{◌≡◌, codes, string_bytes, IfOk, option_map};
+ghost use Rattle.serde_json.specs.View.{view, members_view};
+ghost use Rattle.serde_json.specs.Data.{object, string};
+ghost use Rattle.held_items.specs.Items.{AreInOrder};
+ghost use Rattle.lcm_model.specs.Vnfcs.{storages_of};
+ghost use Rattle.lcm_events.specs.declared.changes.DefKind.TheVariants.{Compute, Link, Storage};
+ghost use Rattle.json_views.specs.Views.{array_of};
+ghost use Rattle.json_views.specs.Resources.{aspect_levels, compute_info, handle, info_where, instantiated_info, link_info, link_name, machine_id, scale_info, standing, standing_storages, storage_id, storage_info, storage_name, vdu_name, vnf_state};
+
+use crate::members::{array_of, text_value};
+use crate::rows::{Computes, Levels, Links, Storages};
+use lcm_events::{AspectLevel, Holding, Vnfd};
+use serde_json::{Map, Value, put};
+use std::alloc::{AllocError, Global};
+
+/// What stands of an instance, where it is INSTANTIATED.
+///
+/// Condition: what stands is in order of definition.
+/// Source: SOL 003 5.5.2.2 (VnfInstance, instantiatedVnfInfo).
+pub fn info_where(
+    alloc: Global,
+    vnfd: &Vnfd,
+    holding: &Holding,
+) -> Result<Option<Value>, AllocError>
+    requires { AreInOrder holding.now.items }
+    ensures { IfOk result (λ info. option_map view info ≡ info_where vnfd.now holding.now) }
+{
+    if holding.instantiated {
+        Ok(Some(instantiated_info(alloc, vnfd, holding)?))
+    } else {
+        Ok(None)
+    }
+}
+
+fn instantiated_info(alloc: Global, vnfd: &Vnfd, holding: &Holding) -> Result<Value, AllocError>
+    requires { AreInOrder holding.now.items }
+    ensures { IfOk result (λ value. view value ≡ instantiated_info vnfd.now holding.now) }
+{
+    let mut members = Map::new(alloc);
+    let points = Value::Array(Vec::new(alloc));
+    put(&mut members, alloc, "extCpInfo", points)?;
+    let flavour = text_value(alloc, vnfd.flavour_id.as_str())?;
+    put(&mut members, alloc, "flavourId", flavour)?;
+    let levels = levels_value(alloc, vnfd, holding)?;
+    put(&mut members, alloc, "scaleStatus", levels)?;
+    let storages = storages_value(alloc, vnfd, holding)?;
+    put(&mut members, alloc, "virtualStorageResourceInfo", storages)?;
+    let state = text_value(alloc, vnf_state(holding.started))?;
+    put(&mut members, alloc, "vnfState", state)?;
+    let links = links_value(alloc, vnfd, holding)?;
+    put(&mut members, alloc, "vnfVirtualLinkResourceInfo", links)?;
+    let computes = computes_value(alloc, vnfd, holding)?;
+    put(&mut members, alloc, "vnfcResourceInfo", computes)?;
+    Ok(Value::Object(members))
+}
+
+fn vnf_state(started: bool) -> &'static str
+    ensures { result.now ≡ vnf_state started }
+{
+    if started { "STARTED" } else { "STOPPED" }
+}
+
+fn levels_value(alloc: Global, vnfd: &Vnfd, holding: &Holding) -> Result<Value, AllocError>
+    ensures { IfOk result (λ value. view value ≡ array_of scale_info (aspect_levels vnfd.now holding.now)) }
+{
+    let levels = aspect_levels(alloc, vnfd, holding)?;
+    array_of(alloc, levels.as_slice(), &Levels {})
+}
+
+/// The levels of the aspects, by name.
+fn aspect_levels(
+    alloc: Global,
+    vnfd: &Vnfd,
+    holding: &Holding,
+) -> Result<Vec<AspectLevel>, AllocError>
+    ensures { IfOk result (λ levels. levels.items ≡ aspect_levels vnfd.now holding.now) }
+{
+    let mut levels = Vec::new(alloc);
+    for (aspect, level) in vnfd
+        .aspects
+        .as_slice()
+        .iter()
+        .zip(holding.levels.as_slice())
+    {
+        levels.push(AspectLevel {
+            aspect: aspect.name,
+            level: *level,
+        })?;
+    }
+    Ok(levels)
+}
+
+fn storages_value(alloc: Global, vnfd: &Vnfd, holding: &Holding) -> Result<Value, AllocError>
+    ensures { IfOk result (λ value. view value ≡ array_of (storage_info vnfd.now) (standing Storage holding.now)) }
+{
+    array_of(alloc, holding.items.as_slice(), &Storages { vnfd })
+}
+
+fn links_value(alloc: Global, vnfd: &Vnfd, holding: &Holding) -> Result<Value, AllocError>
+    ensures { IfOk result (λ value. view value ≡ array_of (link_info vnfd.now) (standing Link holding.now)) }
+{
+    array_of(alloc, holding.items.as_slice(), &Links { vnfd })
+}
+
+fn computes_value(alloc: Global, vnfd: &Vnfd, holding: &Holding) -> Result<Value, AllocError>
+    requires { AreInOrder holding.now.items }
+    ensures { IfOk result (λ value. view value ≡ array_of (compute_info vnfd.now holding.now) (standing Compute holding.now)) }
+{
+    array_of(alloc, holding.items.as_slice(), &Computes { vnfd, holding })
+}

@@ -1,0 +1,244 @@
+//! The entries of the lists of a view: levels of aspects, and resources that stand.
+ghost use Rattle.std.specs.Prelude.{◌≡◌, ◌++◌, codes, decimal, string_bytes, IfOk, is_some, true};
+ghost use Rattle.serde_json.specs.View.{view};
+ghost use Rattle.serde_json.specs.Data.{array, string};
+ghost use Rattle.held_items.specs.Items.{AreInOrder, item_of};
+ghost use Rattle.lcm_events.specs.Same.{same_kind};
+ghost use Rattle.lcm_events.specs.declared.changes.DefKind.TheVariants.{Compute, Link, Storage};
+ghost use Rattle.lcm_model.specs.Vnfcs.{def_of, storages_of};
+ghost use Rattle.json_views.specs.Views.{array_of};
+ghost use Rattle.json_views.specs.Resources.{compute_info, handle, link_info, link_name, machine_id, scale_info, storage_id, storage_ids, storage_info, storage_name, vdu_name};
+
+use crate::members::{Shows, array_of, text_value};
+use held_items::find;
+use itoa::Buffer;
+use lcm_events::{AspectLevel, Def, DefKind, Held, Holding, Vnfd};
+use serde_json::{Value, json};
+use std::alloc::{AllocError, Global};
+
+/// The name of a VDU, empty where the descriptor has none of this number.
+fn vdu_name<'a>(vnfd: &'a Vnfd, vdu: u16) -> &'a str
+    ensures { result.now ≡ vdu_name vnfd.now vdu }
+{
+    match vnfd.vdus.as_slice().get(usize::from(vdu)) {
+        Some(vdu) => vdu.name.as_str(),
+        None => "",
+    }
+}
+
+/// The name of a storage, empty where the descriptor has none of this number.
+fn storage_name<'a>(vnfd: &'a Vnfd, storage: u16) -> &'a str
+    ensures { result.now ≡ storage_name vnfd.now storage }
+{
+    match vnfd.storages.as_slice().get(usize::from(storage)) {
+        Some(storage) => storage.name.as_str(),
+        None => "",
+    }
+}
+
+/// The name of a link, empty where the descriptor has none of this number.
+fn link_name<'a>(vnfd: &'a Vnfd, link: u16) -> &'a str
+    ensures { result.now ≡ link_name vnfd.now link }
+{
+    match vnfd.links.as_slice().get(usize::from(link)) {
+        Some(name) => name.as_str(),
+        None => "",
+    }
+}
+
+/// The identifier of a machine.
+#[tactic(auto, unfolding(crate::specs::Resources::machine_id))]
+fn machine_id(alloc: Global, vnfd: &Vnfd, vdu: u16, serial: u32) -> Result<String, AllocError>
+    ensures { IfOk result (λ id. string_bytes id ≡ machine_id vnfd.now vdu serial) }
+{
+    let mut digits = Buffer::new();
+    let mut id = String::from_str(alloc, vdu_name(vnfd, vdu))?;
+    id.push_str("-")?;
+    id.push_str(digits.format(serial))?;
+    Ok(id)
+}
+
+/// The identifier of a storage of a machine.
+#[tactic(auto, unfolding(crate::specs::Resources::storage_id))]
+fn storage_id(
+    alloc: Global,
+    vnfd: &Vnfd,
+    vdu: u16,
+    serial: u32,
+    storage: u16,
+) -> Result<String, AllocError>
+    ensures { IfOk result (λ id. string_bytes id ≡ storage_id vnfd.now vdu serial storage) }
+{
+    let mut id = machine_id(alloc, vnfd, vdu, serial)?;
+    id.push_str("/")?;
+    id.push_str(storage_name(vnfd, storage))?;
+    Ok(id)
+}
+
+/// The infrastructure's name of an item, and the connection to where it stands.
+fn handle(alloc: Global, item: &Held) -> Result<Value, AllocError>
+    ensures { IfOk result (λ value. view value ≡ handle item.now) }
+{
+    json!(in alloc; {"resourceId": item.resource.as_str(), "vimConnectionId": item.place.vim.as_str()})
+}
+
+/// The levels of all aspects.
+#[derive(Clone, Copy)]
+pub struct Levels {}
+
+impl Shows<AspectLevel> for Levels {
+    ghost IsReady = { λ s. Unit {0} };
+
+    ghost has = { λ s x. true };
+
+    ghost shown = { λ s x. scale_info x };
+
+    fn has(&self, _entry: &AspectLevel) -> bool {
+        true
+    }
+
+    fn show(&self, alloc: Global, entry: &AspectLevel) -> Result<Value, AllocError> {
+        json!(in alloc; {"aspectId": entry.aspect.as_str(), "scaleLevel": entry.level})
+    }
+}
+
+/// The storages that stand.
+#[derive(Clone, Copy)]
+pub struct Storages<'a> {
+    pub vnfd: &'a Vnfd,
+}
+
+impl Shows<Held> for Storages<'_> {
+    ghost IsReady = { λ s. Unit {0} };
+
+    ghost has = { λ s y. same_kind y.def.kind Storage };
+
+    ghost shown = { λ s y. storage_info s.vnfd.now y };
+
+    fn has(&self, item: &Held) -> bool {
+        matches!(item.def.kind, DefKind::Storage)
+    }
+
+    fn show(&self, alloc: Global, item: &Held) -> Result<Value, AllocError> {
+        let def = item.def;
+        let id = storage_id(alloc, self.vnfd, def.vdu, def.serial, def.item)?;
+        let name = storage_name(self.vnfd, def.item);
+        let resource = handle(alloc, item)?;
+        json!(in alloc; {"id": id.as_str(), "storageResource": resource, "virtualStorageDescId": name})
+    }
+}
+
+/// The links that stand.
+#[derive(Clone, Copy)]
+pub struct Links<'a> {
+    pub vnfd: &'a Vnfd,
+}
+
+impl Shows<Held> for Links<'_> {
+    ghost IsReady = { λ s. Unit {0} };
+
+    ghost has = { λ s y. same_kind y.def.kind Link };
+
+    ghost shown = { λ s y. link_info s.vnfd.now y };
+
+    fn has(&self, item: &Held) -> bool {
+        matches!(item.def.kind, DefKind::Link)
+    }
+
+    fn show(&self, alloc: Global, item: &Held) -> Result<Value, AllocError> {
+        let name = link_name(self.vnfd, item.def.item);
+        let resource = handle(alloc, item)?;
+        json!(in alloc; {"id": name, "networkResource": resource, "vnfVirtualLinkDescId": name})
+    }
+}
+
+/// The identifiers of the storages that stand for a machine.
+#[derive(Clone, Copy)]
+struct StorageIds<'a> {
+    vnfd: &'a Vnfd,
+    holding: &'a Holding,
+    vdu: u16,
+    serial: u32,
+}
+
+impl Shows<u16> for StorageIds<'_> {
+    ghost IsReady = { λ s. AreInOrder s.holding.now.items };
+
+    ghost has = { λ s k. is_some (item_of (def_of Storage s.vdu s.serial k) s.holding.now.items) };
+
+    ghost shown = { λ s k. string (storage_id s.vnfd.now s.vdu s.serial k) };
+
+    fn has(&self, storage: &u16) -> bool {
+        let def = Def {
+            kind: DefKind::Storage,
+            item: *storage,
+            vdu: self.vdu,
+            serial: self.serial,
+        };
+        find(self.holding.items.as_slice(), def).is_some()
+    }
+
+    fn show(&self, alloc: Global, storage: &u16) -> Result<Value, AllocError> {
+        let id = storage_id(alloc, self.vnfd, self.vdu, self.serial, *storage)?;
+        text_value(alloc, id.as_str())
+    }
+}
+
+/// The numbers of a VDU's storages.
+fn storages_of<'a>(vnfd: &'a Vnfd, vdu: u16) -> &'a [u16]
+    ensures { result.now ≡ storages_of vnfd.now vdu }
+{
+    match vnfd.vdus.as_slice().get(usize::from(vdu)) {
+        Some(vdu) => vdu.storages.as_slice(),
+        None => &[],
+    }
+}
+
+/// The identifiers of the storages that stand for a machine, as a value.
+#[tactic(auto, unfolding(crate::specs::Resources::storage_ids))]
+fn storage_ids(
+    alloc: Global,
+    vnfd: &Vnfd,
+    holding: &Holding,
+    vdu: u16,
+    serial: u32,
+) -> Result<Value, AllocError>
+    requires { AreInOrder holding.now.items }
+    ensures { IfOk result (λ value. view value ≡ storage_ids vnfd.now holding.now vdu serial) }
+{
+    let ids = StorageIds {
+        vnfd,
+        holding,
+        vdu,
+        serial,
+    };
+    array_of(alloc, storages_of(vnfd, vdu), &ids)
+}
+
+/// The computes that stand.
+#[derive(Clone, Copy)]
+pub struct Computes<'a> {
+    pub vnfd: &'a Vnfd,
+    pub holding: &'a Holding,
+}
+
+impl Shows<Held> for Computes<'_> {
+    ghost IsReady = { λ s. AreInOrder s.holding.now.items };
+
+    ghost has = { λ s y. same_kind y.def.kind Compute };
+
+    ghost shown = { λ s y. compute_info s.vnfd.now s.holding.now y };
+
+    fn has(&self, item: &Held) -> bool {
+        matches!(item.def.kind, DefKind::Compute)
+    }
+
+    fn show(&self, alloc: Global, item: &Held) -> Result<Value, AllocError> {
+        let def = item.def;
+        let storages = storage_ids(alloc, self.vnfd, self.holding, def.vdu, def.serial)?;
+        let id = machine_id(alloc, self.vnfd, def.vdu, def.serial)?;
+        let name = vdu_name(self.vnfd, def.vdu);
+        let resource = handle(alloc, item)?;
+        json!(in alloc; {"computeResource": resource, "id": id.as_str(), "storageResourceIds": storages, "vduId": name})
+    }
+}
