@@ -1,19 +1,33 @@
 #!/usr/bin/env python3
 """Writes a journal of so many events to standard output, after docs/JOURNAL.md and docs/EVENTS.md.
 
-usage: journal.py EVENTS
+usage: journal.py SHAPE EVENTS [NUMBER]
 
-Its history is legal, and has each of the fifteen kinds. One descriptor with one machine is onboarded. Then instances live
-one after the other: each is created, subscribed for, instantiated, stopped with a failed attempt, a retry and a cancel,
-terminated once in vain and once, and deleted.
+Its history is legal: one descriptor with one kind of machine is onboarded, and then
+
+  cycle               instances live one after the other: each is created, subscribed for, instantiated, stopped with a failed attempt,
+                      a retry and a cancel, terminated once in vain and once, and deleted. All fifteen kinds of event are there
+  onboarded NUMBER    the same over the last of so many descriptors, which are onboarded first
+  posted NUMBER       so many subscriptions of both roles are made, which ask for every notice; then instances live so, but without
+                      subscriptions of their own, and each notice is posted to each subscription at once
+  waiting NUMBER      the same, but nothing is posted
+  filtered NUMBER     nothing is posted, since each filter has as many texts as it may, and lets nothing through
+  newest NUMBER       so many instances are created; then one more is created and deleted, in turn
+  oldest NUMBER       the same, but the oldest instance is deleted
+  busy NUMBER         so many instances are created, and instantiated up to the work; then the work on the first one fails and is tried
+                      again, without end
+  large NUMBER        an instance of so many machines is created, instantiated, terminated and deleted, then the next one
+  healed NUMBER       an instance of so many machines is created and instantiated; then its first machine is asked to be healed, which is
+                      denied, without end
 """
 import struct
 import sys
+from collections import deque
 
-u8 = lambda n: struct.pack(">B", n)
-u16 = lambda n: struct.pack(">H", n)
-u32 = lambda n: struct.pack(">I", n)
-u64 = lambda n: struct.pack(">Q", n)
+u8 = struct.Struct(">B").pack
+u16 = struct.Struct(">H").pack
+u32 = struct.Struct(">I").pack
+u64 = struct.Struct(">Q").pack
 name = lambda text: u8(len(text)) + text.encode()
 line = lambda text: u16(len(text)) + text.encode()
 many = lambda entries: u16(len(entries)) + b"".join(entries)
@@ -24,105 +38,243 @@ FIRST_MOMENT = 1_700_000_000_000
 ONBOARDED, CREATED, DELETED, ASKED, GRANT_TRIED, GRANTED, DENIED, INTENT, CALL_FAILED, SETTLED, MOVED, CANCEL_ASKED, SUBSCRIBED, UNSUBSCRIBED, POSTED = range(1, 16)
 PROCESSING, COMPLETED, FAILED_TEMP, FAILED, ROLLING_BACK, ROLLED_BACK = range(1, 7)
 CREATE, REMOVE, START, STOP = range(4)
+DONE = u8(0) + name("server")
+BROKEN = u8(1) + u32(5)
+NOTICED = {CREATED, DELETED, ASKED, MOVED}
+HEADER = b"VNFM-LCM" + u8(1) + u32(MANAGER) + bytes(19)
 
-DESCRIPTOR = (
-    name("machine-1") + name("Example Networks") + name("machine") + name("1.0") + name("1.0") + name("simple")
-    + many([name("machine") + u64(1024) + u32(1) + u32(0xFFFFFFFF) + u32(1) + many([])])
-    + many([]) + many([]) + many([]) + many([])
-    + many([name("only")]) + u16(0)
-)
 
-# The machine's compute with serial 1, and the phases of its changes.
-change = lambda phase, verb: many([u8(phase) + u8(verb) + u8(2) + u16(0) + u16(0) + u32(1)])
-INSTANTIATE = u8(1) + name("simple") + none, change(2, CREATE)
-OPERATE_STOPPED = u8(5) + u8(1) + u8(2), change(4, STOP)
-TERMINATE = u8(6) + u8(1) + none, change(6, REMOVE)
+class Ends(Exception):
+    """The journal has all events that were wanted."""
+
+
+def descriptor(number, machines):
+    """The descriptor of this number, of instances that begin with so many machines of one kind."""
+    return (
+        name(f"machine-{number}") + name("Example Networks") + name("machine") + name("1.0") + name("1.0") + name("simple")
+        + many([name("machine") + u64(1024) + u32(1) + u32(0xFFFFFFFF) + u32(machines) + many([])])
+        + many([]) + many([]) + many([]) + many([])
+        + many([name("only")]) + u16(0)
+    )
+
+
+def change(phase, verb, serial):
+    """A change of a machine's compute."""
+    return u8(phase) + u8(verb) + u8(2) + u16(0) + u16(0) + u32(serial)
+
+
+def changes(phase, verb, machines):
+    """A change of each machine's compute, of which the serials are 1 and on."""
+    return many([change(phase, verb, serial + 1) for serial in range(machines)])
+
+
+def filter_of(values):
+    """A filter with so many values in each list of texts, of which none is that of a notice here."""
+    return many([name(f"no-such-text-{value}") for value in range(values)]) * 3 + many([]) * 3
 
 
 class Journal:
-    """The events so far, and how many were made of each kind that is numbered."""
+    """How many events were written, and how many were made of each kind that is numbered."""
 
-    def __init__(self):
-        self.events = []
+    def __init__(self, out, wanted, machines=1):
+        self.out = out
+        self.wanted = wanted
+        self.events = 0
+        self.instance = 0
         self.occurrence = 0
         self.subscription = 0
+        self.told = []
+        self.instantiate = u8(1) + name("simple") + none + changes(2, CREATE, machines)
+        self.stop = u8(5) + u8(1) + u8(2) + changes(4, STOP, machines)
+        self.terminate = u8(6) + u8(1) + none + changes(6, REMOVE, machines)
+        self.machines = machines
+        out.write(HEADER)
+        self.onboard(1)
 
     def put(self, kind, fields):
-        self.events.append(u8(kind) + u64(FIRST_MOMENT + len(self.events)) + fields)
+        """Writes an event, and the posts of its notice to all who are told."""
+        if self.events == self.wanted:
+            raise Ends
+        self.out.write(u8(1) + u32(9 + len(fields)) + u8(kind) + u64(FIRST_MOMENT + self.events) + fields)
+        self.events += 1
+        if self.told and kind in NOTICED:
+            place = self.events
+            for subscription in self.told:
+                self.post(subscription, place)
 
-    def ask(self, instance, asked):
+    def post(self, subscription, place):
+        self.put(POSTED, u64(subscription) + u64(place) + u8(0))
+
+    def onboard(self, number):
+        """Onboards a descriptor, of which the instances are from now on."""
+        self.vnfd = name(f"machine-{number}")
+        self.put(ONBOARDED, descriptor(number, self.machines))
+
+    def create(self):
+        self.instance += 1
+        self.put(CREATED, u64(self.instance) + self.vnfd + none + none)
+
+    def delete(self, instance):
+        self.put(DELETED, u64(instance))
+
+    def ask(self, asked):
         self.occurrence += 1
-        self.put(ASKED, u64(self.occurrence) + u64(instance) + u8(0) + asked[0] + asked[1])
+        self.put(ASKED, u64(self.occurrence) + u64(self.instance) + u8(0) + asked)
 
     def move(self, to):
         self.put(MOVED, u64(self.occurrence) + u8(to))
 
     def grant(self):
-        self.put(GRANTED, u64(self.occurrence) + name("grant") + u8(1) + name("vim-1") + name("zone-1") + many([u8(0)]))
+        self.put(GRANTED, u64(self.occurrence) + name("grant") + u8(1) + name("vim-1") + name("zone-1") + u16(self.machines) + bytes(self.machines))
         self.move(PROCESSING)
 
-    def tag(self, attempt):
-        return u64(self.occurrence) + u16(0) + u32(attempt) + u8(0)
+    def deny(self):
+        self.put(DENIED, u64(self.occurrence))
+        self.move(ROLLED_BACK)
 
-    def begin(self, attempt):
-        self.put(INTENT, self.tag(attempt))
+    def tag(self, attempt, change=0):
+        return u64(self.occurrence) + u16(change) + u32(attempt) + u8(0)
 
-    def settle(self, attempt, outcome):
-        self.put(SETTLED, self.tag(attempt) + outcome)
+    def begin(self, attempt, change=0):
+        self.put(INTENT, self.tag(attempt, change))
 
-    def subscribe(self):
+    def settle(self, attempt, outcome, change=0):
+        self.put(SETTLED, self.tag(attempt, change) + outcome)
+
+    def subscribe(self, role=0, values=0):
         self.subscription += 1
-        self.put(SUBSCRIBED, u64(self.subscription) + u8(0) + line("http://receiver.example/") + many([]) * 6)
+        self.put(SUBSCRIBED, u64(self.subscription) + u8(role) + line("http://receiver.example/") + filter_of(values))
 
-    def live(self, instance):
-        """The whole life of an instance."""
-        done = u8(0) + name("server")
-        self.put(CREATED, u64(instance) + name("machine-1") + none + none)
-        self.subscribe()
-        self.ask(instance, INSTANTIATE)
-        noticed = len(self.events)
-        self.put(POSTED, u64(self.subscription) + u64(noticed) + u8(0))
+    def live(self, subscribes):
+        """The whole life of an instance, which maybe has a subscription of its own."""
+        self.create()
+        if subscribes:
+            self.subscribe()
+        self.ask(self.instantiate)
+        if subscribes:
+            self.post(self.subscription, self.events)
         self.put(GRANT_TRIED, u64(self.occurrence) + u8(1))
         self.put(GRANT_TRIED, u64(self.occurrence) + u8(0) + line("/grant/v1/grants/1"))
         self.grant()
         self.begin(1)
         self.put(CALL_FAILED, self.tag(1))
-        self.settle(1, done)
+        self.settle(1, DONE)
         self.move(COMPLETED)
-        self.ask(instance, OPERATE_STOPPED)
+        self.ask(self.stop)
         self.grant()
         self.begin(1)
-        self.settle(1, u8(1) + u32(5))
+        self.settle(1, BROKEN)
         self.move(FAILED_TEMP)
         self.move(PROCESSING)
         self.begin(2)
         self.put(CANCEL_ASKED, u64(self.occurrence) + u8(0))
-        self.settle(2, done)
+        self.settle(2, DONE)
         self.move(FAILED_TEMP)
         self.move(PROCESSING)
         self.move(COMPLETED)
-        self.ask(instance, TERMINATE)
-        self.put(DENIED, u64(self.occurrence))
-        self.move(ROLLED_BACK)
-        self.ask(instance, TERMINATE)
+        self.ask(self.terminate)
+        self.deny()
+        self.ask(self.terminate)
         self.grant()
         self.begin(1)
-        self.settle(1, done)
+        self.settle(1, DONE)
         self.move(COMPLETED)
-        self.put(UNSUBSCRIBED, u64(self.subscription))
-        self.put(DELETED, u64(instance))
+        if subscribes:
+            self.put(UNSUBSCRIBED, u64(self.subscription))
+        self.delete(self.instance)
+
+    def work(self, asked):
+        """An operation that changes each machine, without a fault."""
+        self.ask(asked)
+        self.grant()
+        for change in range(self.machines):
+            self.begin(1, change)
+            self.settle(1, DONE, change)
+        self.move(COMPLETED)
 
 
-def main(word):
-    journal = Journal()
-    journal.put(ONBOARDED, DESCRIPTOR)
-    instance = 0
-    while len(journal.events) < int(word):
-        instance += 1
-        journal.live(instance)
-    out = [b"VNFM-LCM" + u8(1) + u32(MANAGER) + bytes(19)]
-    out += [u8(1) + u32(len(event)) + event for event in journal.events[: int(word)]]
-    sys.stdout.buffer.write(b"".join(out) + u8(0))
+def cycle(journal, _):
+    while True:
+        journal.live(True)
 
 
-main(sys.argv[1])
+def onboarded(journal, number):
+    for more in range(1, number):
+        journal.onboard(more + 1)
+    cycle(journal, number)
+
+
+def told(journal, number, values=0, posts=False):
+    for subscription in range(number):
+        journal.subscribe(subscription % 2, values)
+    if posts:
+        journal.told = range(1, number + 1)
+    while True:
+        journal.live(False)
+
+
+def in_turn(journal, number, newest):
+    live = deque()
+    while True:
+        journal.create()
+        live.append(journal.instance)
+        if len(live) > number:
+            journal.delete(live.pop() if newest else live.popleft())
+
+
+def busy(journal, number):
+    for _ in range(number):
+        journal.create()
+        journal.ask(journal.instantiate)
+        journal.grant()
+    journal.occurrence = 1
+    attempt = 0
+    while True:
+        attempt += 1
+        journal.begin(attempt)
+        journal.settle(attempt, BROKEN)
+        journal.move(FAILED_TEMP)
+        journal.move(PROCESSING)
+
+
+def large(journal, _):
+    while True:
+        journal.create()
+        journal.work(journal.instantiate)
+        journal.work(journal.terminate)
+        journal.delete(journal.instance)
+
+
+def healed(journal, number):
+    journal.create()
+    journal.work(journal.instantiate)
+    top = number
+    while True:
+        top += 1
+        journal.ask(u8(4) + none + many([u16(0) + u32(1)]) + many([change(2, CREATE, top), change(6, REMOVE, 1)]))
+        journal.deny()
+
+
+SHAPES = {
+    "cycle": cycle,
+    "onboarded": onboarded,
+    "posted": lambda journal, number: told(journal, number, posts=True),
+    "waiting": told,
+    "filtered": lambda journal, number: told(journal, number, values=64),
+    "newest": lambda journal, number: in_turn(journal, number, True),
+    "oldest": lambda journal, number: in_turn(journal, number, False),
+    "busy": busy,
+    "large": large,
+    "healed": healed,
+}
+
+
+def main(shape, events, number="1"):
+    out = sys.stdout.buffer
+    try:
+        SHAPES[shape](Journal(out, int(events), int(number) if shape in ("large", "healed") else 1), int(number))
+    except Ends:
+        out.write(u8(0))
+
+
+main(*sys.argv[1:])

@@ -1,58 +1,108 @@
-//! Loads the journal that stands on standard input, as a manager.
+//! Opens a journal as a manager, or reads its records and decodes each once.
 //!
-//! `load_bench [times]` prints how many records it has, or why it isn't opened, and with `times` the nanoseconds of processor
-//! time that loading it took.
+//! - `load_bench` does both with the journal on standard input, and prints how many records there are each time.
+//! - `load_bench load [PATH]` opens the journal on standard input or at a path as a manager, and prints how many records it has and the
+//!   nanoseconds of processor time.
+//! - `load_bench decode [PATH]` reads its records, decodes each once and keeps nothing, and prints the same.
 #![tactic(auto)]
 
-use anyhow::{Result, ensure};
-use executor::{Manager, OpenFault};
-use site_traits::{MemSite, SitePlan};
-use std::alloc::{AllocGlobal, Global};
-use std::env;
+mod decoding;
+mod held;
+mod words;
+
+use crate::decoding::decode_all;
+use crate::held::HeldFile;
+use crate::words::{Mode, Words};
+use anyhow::{Result, bail};
+use executor::Manager;
+use host_calls::StdFiles;
+use outside_edges::{FolderSync, RealSite};
+use site_traits::Site;
+use standard_streams::{NullFiles, hold_streams};
+use std::alloc::AllocGlobal;
 use std::env::Env;
+use std::fs::File;
 use std::io::{Input, Print, Read};
-use std::time::CpuClock;
+use std::rt::Files;
+use std::time::{CpuClock, Duration};
 
-/// Whether the words of the command line ask for times.
-fn asks_for_times(rt: &(impl Env + AllocGlobal)) -> Result<bool> {
-    let mut words = env::args(rt)?;
-    let _program = words.next();
-    let Some(word) = words.next() else {
-        return Ok(false);
-    };
-    ensure!(word.as_str() == "times", "the first word isn't `times`");
-    Ok(true)
+/// How many records a journal has, and how long it took to learn it.
+#[derive(Clone, Copy, Debug)]
+struct Measured {
+    records: u64,
+    took: Duration,
 }
 
-/// How many records the journal of the site's file has.
-fn load(alloc: Global, site: &mut MemSite) -> Result<u64, OpenFault> {
-    let manager = Manager::load(alloc, site)?;
-    Ok(manager.records())
-}
-
-/// Loads the journal on standard input.
-fn run(rt: &(impl Env + CpuClock + Input + Print + AllocGlobal)) -> Result<()> {
-    let times = asks_for_times(rt)?;
-    let mut file = Vec::new(rt.alloc());
-    rt.reader().read_to_end(&mut file)?;
-    let plan = SitePlan {
-        bytes: 0,
-        jobs: 0,
-        failing: Vec::new(rt.alloc()),
-        work: Vec::new(rt.alloc()),
-    };
-    let mut site = MemSite::with_file(rt.alloc(), plan, file.as_slice())?;
+/// Opens the journal of a site's file as a manager.
+fn load<S: Site>(rt: &(impl CpuClock + AllocGlobal), site: &mut S) -> Result<Measured> {
     let begun = rt.process_cpu_time()?;
-    let loaded = load(rt.alloc(), &mut site);
-    let ended = rt.process_cpu_time()?;
+    let loaded = Manager::load(rt.alloc(), site);
+    let took = rt.process_cpu_time()?.saturating_sub(begun);
     match loaded {
-        Ok(records) => println!(rt; "records {records}")?,
-        Err(fault) => println!(rt; "{fault}")?,
+        Ok(manager) => Ok(Measured {
+            records: manager.records(),
+            took,
+        }),
+        Err(fault) => bail!("{fault}"),
     }
-    if times {
-        println!(rt; "loading {} ns", ended.saturating_sub(begun).as_nanos())?;
+}
+
+/// Reads and decodes the records of a site's file.
+fn decode<S: Site>(rt: &(impl CpuClock + AllocGlobal), site: &mut S) -> Result<Measured> {
+    let begun = rt.process_cpu_time()?;
+    let records = decode_all(rt.alloc(), site)?;
+    let took = rt.process_cpu_time()?.saturating_sub(begun);
+    Ok(Measured { records, took })
+}
+
+/// Does what the mode says, and prints what was measured.
+fn measure<S: Site>(
+    rt: &(impl CpuClock + Print + AllocGlobal),
+    mode: Mode,
+    site: &mut S,
+) -> Result<()> {
+    match mode {
+        Mode::Both => {
+            println!(rt; "loaded {}", load(rt, site)?.records)?;
+            println!(rt; "decoded {}", decode(rt, site)?.records)?;
+        }
+        Mode::Load => print(rt, load(rt, site)?)?,
+        Mode::Decode => print(rt, decode(rt, site)?)?,
     }
     Ok(())
+}
+
+/// Prints what was measured.
+fn print(rt: &impl Print, measured: Measured) -> Result<()> {
+    println!(rt; "records {}", measured.records)?;
+    println!(rt; "took {} ns", measured.took.as_nanos())?;
+    Ok(())
+}
+
+/// The site of the file on standard input.
+fn site_of_input(rt: &(impl Input + AllocGlobal)) -> Result<HeldFile> {
+    let mut file = Vec::new(rt.alloc());
+    rt.reader().read_to_end(&mut file)?;
+    Ok(HeldFile::of(file))
+}
+
+/// The site of the file at this path.
+fn site_at(rt: &(impl Files<File = File> + AllocGlobal), path: &str) -> Result<RealSite<File>> {
+    let streams = hold_streams(&mut NullFiles::of(rt))?;
+    let mut site = RealSite::made();
+    site.open(&mut StdFiles::of(rt), &streams, path, FolderSync::WhereMade)?;
+    Ok(site)
+}
+
+/// Does what the words of the command line ask for.
+fn run(
+    rt: &(impl Env + CpuClock + Files<File = File> + Input + Print + AllocGlobal),
+) -> Result<()> {
+    let Words { mode, path } = Words::read(rt)?;
+    match path {
+        Some(path) => measure(rt, mode, &mut site_at(rt, path.as_str())?),
+        None => measure(rt, mode, &mut site_of_input(rt)?),
+    }
 }
 
 fn main(rt: HostRuntime) -> Result<()> {
