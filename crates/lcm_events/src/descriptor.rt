@@ -6,7 +6,7 @@ use vnfm_base::Name;
 /// A descriptor.
 ///
 /// Source: SOL 001, the node type of a VNF and its properties.
-#[derive(Debug, Drop)]
+#[derive(Debug)]
 pub struct Vnfd {
     /// Its identifier, `vnfdId`.
     pub descriptor_id: Name,
@@ -34,6 +34,27 @@ pub struct Vnfd {
     pub levels: Listed<Level>,
     /// The number of the level that counts where none is asked for.
     pub default_level: u16,
+}
+
+impl Drop for Vnfd {
+    // Written out, so that the proof of a caller calls it and doesn't take the descriptor apart at each of its ends.
+    fn drop(self) {
+        let Vnfd {
+            descriptor_id: _,
+            provider: _,
+            product_name: _,
+            software_version: _,
+            descriptor_version: _,
+            flavour_id: _,
+            vdus: _,
+            storages: _,
+            links: _,
+            ports: _,
+            aspects: _,
+            levels: _,
+            default_level: _,
+        } = self;
+    }
 }
 
 /// A virtualisation deployment unit: a kind of machine.
