@@ -6,12 +6,13 @@ ghost use Rattle.event_codec.specs.Typed.{TypedEvent};
 ghost use Rattle.journal_core.specs.Load.{SyncsAndReads};
 ghost use Rattle.executor.specs.Open.{Opens};
 ghost use Rattle.executor.specs.Room.{TellsRoom};
-ghost use Rattle.instance_table.specs.Rows.{live};
+ghost use Rattle.instance_table.specs.Rows.{StandsFor, live};
 ghost use Rattle.instance_table.specs.Table.{is_counted};
 ghost use Rattle.journal_core.specs.declared.journal.TheConstants.{MAX_FILE, MAX_RECORD};
 ghost use Rattle.lcm_events.specs.declared.events.Event.{Event};
 ghost use Rattle.vnfm_base.specs.Ident.{IsIdentNumber};
-ghost use Rattle.lcm_model.specs.Lives.{descriptor_named, descriptors, instances_made};
+ghost use Rattle.lcm_model.specs.Lives.{descriptor_named, descriptors, instances_made, is_live};
+ghost use Rattle.lcm_model.specs.Refusals.{delete_refusal};
 ghost use Rattle.executor.specs.Questions.{is_made, made};
 ghost use Rattle.site_traits.specs.Counts.{Ask, asked, OnlyDiskFails};
 ghost use Rattle.journal_core.specs.Asking.{FailsWhere};
@@ -25,7 +26,9 @@ use event_codec::{DecodeFault, RecordBuf, TooLong, decode, encode};
 use journal_core::{
     AppendFault, BackFault, Journal, LoadFault, faults_are_counted, records_add_up,
 };
+use instance_table::InstanceTable;
 use lcm_events::{Event, Vnfd};
+use lcm_model::Refusal;
 use lcm_tables::Tables;
 use site_traits::Site;
 use std::alloc::{AllocError, Global};
@@ -253,6 +256,27 @@ impl<S: Site> Manager<S> {
         ensures { (H : List Event) → Keeps self.now H → option_copied result ≡ descriptor_named H id.now }
     {
         self.tables.instances.vnfd(id)
+    }
+
+    /// The table of descriptors, live instances and live subscriptions of the history. Condition: the manager isn't closed.
+    ///
+    /// Source: SOL 003 5.4.2 (VNF instances), 5.4.18 (Subscriptions).
+    pub fn instances(&self) -> &InstanceTable
+        requires { self.now.ledger.closed ≡ false }
+        ensures rows { (H : List Event) → Keeps self.now H → StandsFor result.now.rows H }
+        ensures few { (H : List Event) → Keeps self.now H → length H < MAX_FILE }
+    {
+        let _records = self.journal.count();
+        &self.tables.instances
+    }
+
+    /// Why the deletion of a live instance is refused, where it is: it is INSTANTIATED, or one of its operations goes on, in this order.
+    ///
+    /// Source: SOL 003 5.4.3.3.5 (DELETE of an individual VNF instance).
+    pub fn delete_refusal(&self, instance: u64) -> Option<Refusal>
+        ensures { (H : List Event) → Keeps self.now H → is_live H instance ≡ true → result ≡ delete_refusal H instance }
+    {
+        self.tables.delete_refusal(instance)
     }
 
     /// The number of the next instance. Condition: the manager isn't closed.

@@ -418,7 +418,8 @@ rows-step width m H time (Moved o to) short legal allowed =
 rows-step width m H time k short legal allowed =
     rows_by _ _ refl (ap reverse (rows-stay width m H time k (is_kept H) legal allowed refl)) refl (all_kept width m H time k legal allowed) refl refl (omega (arith, short))
 
-of_reverse : {A : Type 0} → (y : A) (xs : List A) → IsIn y (reverse xs) → IsIn y xs
+-- what is in a list the other way round is in it
+pub of_reverse : {A : Type 0} → (y : A) (xs : List A) → IsIn y (reverse xs) → IsIn y xs
 of_reverse y [] h = h
 of_reverse y (x ∷ xs) h = elim (in_either y (reverse xs) (x ∷ []) (subst (λ ys. IsIn y ys) (reverse-cons x xs) h)) [
   | inl front ↦ inr (of_reverse y xs front)

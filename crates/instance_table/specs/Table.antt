@@ -1,5 +1,5 @@
 -- What the table shows, what is reserved beside its rows, and what its calls do (own rule).
-use Rattle.std.specs.Prelude.{Bool, IfSome, List, Option, Some, false, true, ℕ, ◌∷◌, ◌<◌, ◌≡◌, ◌≤◌, find, length}
+use Rattle.std.specs.Prelude.{Bool, IfSome, List, Option, Some, false, true, ℕ, ◌==◌, ◌∷◌, ◌<◌, ◌≡◌, ◌≤◌, find, length}
 use Rattle.lcm_events.specs.Same.{same_name, same_role}
 use Rattle.lcm_events.specs.declared.descriptor.Vnfd.{Vnfd}
 use Rattle.lcm_events.specs.declared.events.Event.{Event}
@@ -11,7 +11,7 @@ use Rattle.lcm_events.specs.declared.states.Role.{Role}
 use Rattle.lcm_model.specs.Lives.{descriptor_named, descriptors, live_subscriptions}
 use Rattle.vnfm_base.specs.declared.identifier.Kind.{Kind}
 use Rattle.vnfm_base.specs.declared.identifier.Kind.TheVariants as kinds
-use Rattle.instance_table.specs.Rows.{Rows, StandsFor, instance, live, made, subscription_at}
+use Rattle.instance_table.specs.Rows.{Rows, StandsFor, instance, instance_rows, live, made, subscription_at}
 use Rattle.instance_table.specs.Steps.{AreOrdered, first_going, first_instance, first_subscription, items_about}
 use Rattle.instance_table.specs.declared.going.Going.{Going}
 use Rattle.instance_table.specs.declared.going.Placing.{Placing}
@@ -78,9 +78,21 @@ Applies e old new = (width m : ℕ) (H : List Event) → length H < 184467440737
 abbrev pub FindsVnfd : List ℕ → Option Vnfd → Rows → Type 0
 FindsVnfd id x rs = (width m : ℕ) (H : List Event) → IsLegalWithin width m H → StandsFor rs H → x ≡ descriptor_named H id
 
+-- the first descriptor of this identifier among those that the table keeps
+abbrev pub vnfd_named : Rows → List ℕ → Option Vnfd
+vnfd_named rs id = find (λ d. same_name d.descriptor_id id) rs.descriptors
+
+-- these are the rows of the live instances, in the order of their numbers, of each history that the rows stand for
+abbrev pub ListsInstances : List InstanceRow → Rows → Type 0
+ListsInstances xs rs = (H : List Event) → StandsFor rs H → xs ≡ instance_rows H
+
 -- what is found is the row of the live instance of this number in each legal history that the rows stand for
 abbrev pub FindsInstance : ℕ → Option InstanceRow → Rows → Type 0
 FindsInstance i x rs = (width m : ℕ) (H : List Event) → IsLegalWithin width m H → StandsFor rs H → x ≡ instance H i
+
+-- what is found is the row of this number among those of the live instances, in each legal history that the rows stand for
+abbrev pub FindsAmong : ℕ → Option InstanceRow → Rows → Type 0
+FindsAmong i x rs = (width m : ℕ) (H : List Event) → IsLegalWithin width m H → StandsFor rs H → x ≡ find (λ r. r.number == i) (instance_rows H)
 
 -- what is found is the row of the live subscription of this number in each legal history that the rows stand for
 abbrev pub FindsSubscription : ℕ → Option SubscriptionRow → Rows → Type 0

@@ -11,7 +11,7 @@ ghost use Rattle.instance_table.specs.declared.rows.InstanceRow.{InstanceRow};
 ghost use Rattle.instance_table.specs.declared.rows.SubscriptionRow.{SubscriptionRow};
 ghost use Rattle.instance_table.specs.Rows.{Rows, StandsFor};
 ghost use Rattle.instance_table.specs.Steps.{AreOrdered, HasItemRoom, Rises, after_work, aim_at, asked, begun_at, changed, end_of, ended, finished, first_aim, first_going, first_instance, first_stood, items_about, work_done, worked, first_subscription, moved, next_place, placed, posted, update, with_key, without_instance, without_operation, without_subscription};
-ghost use Rattle.instance_table.specs.Table.{Applies, CountsDescriptors, CountsLive, CountsMade, FindsInstance, FindsSubscription, FindsVnfd, HasRoom, IsKept, Reserved, Shown, is_counted, needs_room, CountsEvents, CountsLiveOf, is_role_of};
+ghost use Rattle.instance_table.specs.Table.{Applies, CountsDescriptors, CountsLive, CountsMade, FindsAmong, FindsInstance, FindsSubscription, FindsVnfd, HasRoom, IsKept, ListsInstances, Reserved, Shown, is_counted, needs_room, CountsEvents, CountsLiveOf, is_role_of, vnfd_named};
 
 use crate::aims::aim_from;
 use crate::copies::{copied_filter, copied_line, copied_vnfd};
@@ -776,6 +776,7 @@ impl InstanceTable {
     /// Source: SOL 003 5.5.2.2 (VnfInstance, vnfdId).
     pub fn vnfd(&self, id: &Name) -> Option<&Vnfd>
         ensures finds { FindsVnfd id.now (option_copied result) self.now.rows }
+        ensures named { option_copied result ≡ vnfd_named self.now.rows id.now }
     {
         self.vnfd_named(id)
     }
@@ -792,6 +793,7 @@ impl InstanceTable {
     /// Source: SOL 003 5.4.3 (Individual VNF instance).
     pub fn instance(&self, n: u64) -> Option<&InstanceRow>
         ensures finds { FindsInstance n (option_copied result) self.now.rows }
+        ensures among { FindsAmong n (option_copied result) self.now.rows }
     {
         self.instance_numbered(n)
     }
@@ -801,6 +803,16 @@ impl InstanceTable {
         ensures { Rises (λ r. r.number) self.now.rows.instances → option_copied result ≡ find (λ r. r.number == n) self.now.rows.instances }
     {
         instance_in(self.instances.as_slice(), n)
+    }
+
+    /// The rows of the live instances, in the order of their numbers.
+    ///
+    /// Source: SOL 003 5.4.2 (VNF instances).
+    pub fn instances(&self) -> &[InstanceRow]
+        ensures rows { result.now ≡ self.now.rows.instances }
+        ensures lists { ListsInstances result.now self.now.rows }
+    {
+        self.instances.as_slice()
     }
 
     /// The row of the subscription of this number; none exactly where there is no live subscription of that number.

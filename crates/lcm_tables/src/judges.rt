@@ -7,13 +7,14 @@ ghost use Rattle.lcm_model.specs.Instances.{is_instantiated};
 ghost use Rattle.lcm_model.specs.Lives.{descriptor_named, is_live, is_subscribed};
 ghost use Rattle.lcm_model.specs.Notices.{is_small_filter};
 ghost use Rattle.lcm_model.specs.Operations.{occurrence_of, ongoing};
+ghost use Rattle.lcm_model.specs.Refusals.{delete_refusal};
 ghost use Rattle.lcm_model.specs.Words.{first};
 ghost use Rattle.lcm_tables.specs.Tables.{Judges, Says};
 
 use crate::tables::Tables;
 use instance_table::rows_have_holdings;
 use lcm_events::{EventKind, Filter, Role, Vnfd};
-use lcm_model::is_valid;
+use lcm_model::{Refusal, is_valid};
 use std::alloc::{AllocError, Global};
 use vnfm_base::{Kind, Name};
 
@@ -125,6 +126,23 @@ impl Tables {
         let idle = self.is_idle(instance);
         let busy = self.is_busy(instance);
         idle && !busy
+    }
+
+    /// Why the deletion of a live instance is refused, where it is: it is INSTANTIATED, or one of its operations goes on, in this order.
+    ///
+    /// Source: SOL 003 5.4.3.3.5 (DELETE of an individual VNF instance).
+    pub fn delete_refusal(&self, instance: u64) -> Option<Refusal>
+        ensures { Says (λ H. is_live H instance ≡ true → result ≡ delete_refusal H instance) self.now }
+    {
+        let idle = self.is_idle(instance);
+        let busy = self.is_busy(instance);
+        if !idle {
+            Some(Refusal::Instantiated)
+        } else if busy {
+            Some(Refusal::Ongoing)
+        } else {
+            None
+        }
     }
 
     /// Whether a subscription of this number may be made: the number is the next, its role has room, and its filter is small.

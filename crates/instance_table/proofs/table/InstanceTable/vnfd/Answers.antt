@@ -11,4 +11,5 @@ returns c = record {
       c.vnfd_named.ensures
       ∙ (ap (λ (rs : Rows). find (λ (d : Vnfd). same_name d.descriptor_id c.args.id.now) rs.descriptors) stands
       ∙ vnfd_found width m H c.args.id.now legal);
+  named = c.vnfd_named.ensures;
 }
