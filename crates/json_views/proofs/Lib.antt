@@ -1,4 +1,5 @@
 mod DocumentLemmas
 mod ListLemmas
+mod ShowLaws
 pub mod TextLemmas
 mod ViewLemmas

@@ -1,15 +1,19 @@
 -- The members of a view, and that it has no float.
 use Rattle.std.proofs.Common.{◌≡◌, ℕ, List, [], ◌∷◌, Bool, true, false, ◌||◌, Option, Some, None, codes, map, refl, sym}
 use Rattle.std.specs.Prelude.{if◌then◌else◌, option_map}
-use Rattle.serde_json.specs.Data.{Data, Members, object, string}
+use Rattle.std.specs.Option.{option_map_or}
+use Rattle.serde_json.specs.Data.{Data, Members, null, object, string}
 use Rattle.serde_json.specs.View.{items_of}
 use Rattle.serde_json.specs.Written.{has_float, items_have_float, members_have_float}
+use Rattle.instance_table.specs.Rows.{Rows}
+use Rattle.instance_table.specs.Table.{vnfd_named}
 use Rattle.instance_table.specs.declared.rows.InstanceRow.{InstanceRow}
 use Rattle.lcm_events.specs.declared.changes.DefKind.TheVariants.{Compute, Link, Storage}
 use Rattle.lcm_events.specs.declared.descriptor.Vnfd.{Vnfd}
 use Rattle.lcm_events.specs.declared.held.Held.{Held}
 use Rattle.lcm_events.specs.declared.held.Holding.{Holding}
 use Rattle.json_views.specs.Instance.{instance_id, instance_path, instance_value}
+use Rattle.json_views.specs.Instances.{instances_value, row_value}
 use Rattle.json_views.specs.Links.{links}
 use Rattle.json_views.specs.Made.{needed_members}
 use Rattle.json_views.specs.Resources.{aspect_levels, compute_info, info_where, instantiated_info, link_info, scale_info, standing, standing_storages, storage_id, storage_ids, storage_info}
@@ -32,11 +36,11 @@ members_made manager n row d (Some z) (Some y) None i t m = rw (sym i, sym t, sy
 members_made manager n row d (Some z) (Some y) (Some x) i t m = rw (sym i, sym t, sym m) refl
 
 -- neither of two has a float
-or_false : (a b : Bool) → a ≡ false → b ≡ false → (a || b) ≡ false
+pub or_false : (a b : Bool) → a ≡ false → b ≡ false → (a || b) ≡ false
 or_false a b ha hb = rw (ha, hb) refl
 
 -- an array of values without a float has none
-array_plain : {A : Type 0} (shown : A → Data) → ((x : A) → has_float (shown x) ≡ false) → (xs : List A) → items_have_float (items_of (map shown xs)) ≡ false
+pub array_plain : {A : Type 0} (shown : A → Data) → ((x : A) → has_float (shown x) ≡ false) → (xs : List A) → items_have_float (items_of (map shown xs)) ≡ false
 array_plain shown plain [] = refl
 array_plain shown plain (x ∷ xs) = or_false _ _ (plain x) (array_plain shown plain xs)
 
@@ -56,15 +60,15 @@ info_plain d h =
     refl)))
 
 -- a member that may be absent has no float where its value has none
-abbrev IsPlain : Option Data → Type 0
+abbrev pub IsPlain : Option Data → Type 0
 IsPlain None = Unit {0}
 IsPlain (Some d) = has_float d ≡ false
 
-where_plain : (name : List ℕ) (o : Option Data) (rest : Members) → IsPlain o → members_have_float rest ≡ false → members_have_float (member_where name o rest) ≡ false
+pub where_plain : (name : List ℕ) (o : Option Data) (rest : Members) → IsPlain o → members_have_float rest ≡ false → members_have_float (member_where name o rest) ≡ false
 where_plain name None rest plain others = others
 where_plain name (Some d) rest plain others = or_false (has_float d) (members_have_float rest) plain others
 
-text_plain : (o : Option (List ℕ)) → IsPlain (option_map string o)
+pub text_plain : (o : Option (List ℕ)) → IsPlain (option_map string o)
 text_plain None = tt
 text_plain (Some text) = refl
 
@@ -84,3 +88,11 @@ instance_plain manager n row d =
     (where_plain (codes "vnfInstanceDescription") (option_map string row.text) _ (text_plain row.text)
     (where_plain (codes "vnfInstanceName") (option_map string row.name) _ (text_plain row.name)
     refl)))
+
+-- nor has that of all instances
+row_plain : (manager : ℕ) (row : InstanceRow) (o : Option Vnfd) → has_float (option_map_or (instance_value manager row.number row) o null) ≡ false
+row_plain manager row None = refl
+row_plain manager row (Some d) = instance_plain manager row.number row d
+
+pub instances_plain : (manager : ℕ) (rs : Rows) → has_float (instances_value manager rs) ≡ false
+instances_plain manager rs = array_plain (row_value manager rs) (λ row. row_plain manager row (vnfd_named rs row.vnfd)) rs.instances

@@ -1,8 +1,10 @@
 pub mod Body
 pub mod Instance
+pub mod Instances
 pub mod Links
 pub mod Made
 pub mod Problem
 pub mod Resources
+pub mod Showable
 pub mod Tables
 pub mod Views

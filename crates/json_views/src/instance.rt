@@ -2,7 +2,7 @@
 ghost use Rattle.std.specs.Prelude.{◌≡◌, ◌++◌, codes, string_bytes, IfOk, OnOk, option_map};
 ghost use Rattle.serde_json.specs.View.{view, members_view};
 ghost use Rattle.serde_json.specs.Data.{object, string};
-ghost use Rattle.vnfm_base.specs.Ident.{IsIdentNumber};
+ghost use Rattle.vnfm_base.specs.Ident.{IsIdentNumber, ident, ident_text};
 ghost use Rattle.held_items.specs.Items.{AreInOrder};
 ghost use Rattle.instance_table.specs.Rows.{row_with, unheld};
 ghost use Rattle.json_views.specs.Instance.{created_text, instance_id, instance_path, instance_text, instance_value, instantiation_state};
@@ -11,25 +11,34 @@ ghost use Rattle.json_views.specs.Made.{needed_members, with_product};
 
 use crate::body::CreateBody;
 use crate::links::links_value;
-use crate::members::{put_where, text_value};
+use crate::members::{name_where, put_where, text_value, text_where};
 use crate::resources::info_where;
 use instance_table::InstanceRow;
 use lcm_events::{Holding, Listed, Vnfd};
 use serde_json::{Map, Value, put};
 use std::alloc::{AllocError, Global};
 use uuid::Uuid;
-use vnfm_base::{Bytes, Kind, Line, Name, ident};
+use vnfm_base::{Bytes, Kind, ident};
 
 /// The text of the identifier of instance `n` at this manager.
 ///
 /// Condition: `n` is from 1 to 2^62 - 1.
 /// Source: RFC 9562 4.
-#[tactic(auto, unfolding(crate::specs::Instance::instance_id, vnfm_base::specs::Ident::ident_text))]
+#[tactic(auto, unfolding(crate::specs::Instance::instance_id))]
 pub fn instance_id(alloc: Global, manager: u32, n: u64) -> Result<String, AllocError>
     requires { IsIdentNumber n }
     ensures { IfOk result (λ id. string_bytes id ≡ instance_id manager n) }
 {
-    let id = ident(manager, Kind::Instance, n);
+    identifier(alloc, manager, Kind::Instance, n)
+}
+
+/// The text of an identifier.
+#[tactic(auto, unfolding(vnfm_base::specs::Ident::ident_text))]
+pub fn identifier(alloc: Global, manager: u32, kind: Kind, n: u64) -> Result<String, AllocError>
+    requires { IsIdentNumber n }
+    ensures { IfOk result (λ id. string_bytes id ≡ ident_text (ident manager kind n)) }
+{
+    let id = ident(manager, kind, n);
     let mut buffer = Uuid::encode_buffer();
     String::from_str(alloc, id.hyphenated().encode_lower(&mut buffer))
 }
@@ -113,7 +122,8 @@ fn idle_row(alloc: Global, n: u64, instance: &CreateBody) -> Result<InstanceRow,
     })
 }
 
-fn instance_value(
+/// The whole view of instance `n`, as a value.
+pub fn instance_value(
     alloc: Global,
     manager: u32,
     n: u64,
@@ -147,26 +157,6 @@ fn instance_members(
     let name = name_where(alloc, &row.name)?;
     put_where(&mut members, alloc, "vnfInstanceName", name)?;
     Ok(members)
-}
-
-/// A text that may be absent, as a value.
-fn text_where(alloc: Global, text: &Option<Line>) -> Result<Option<Value>, AllocError>
-    ensures { IfOk result (λ value. option_map view value ≡ option_map string text.now) }
-{
-    match text {
-        Some(text) => Ok(Some(text_value(alloc, text.as_str())?)),
-        None => Ok(None),
-    }
-}
-
-/// A name that may be absent, as a value.
-fn name_where(alloc: Global, name: &Option<Name>) -> Result<Option<Value>, AllocError>
-    ensures { IfOk result (λ value. option_map view value ≡ option_map string name.now) }
-{
-    match name {
-        Some(name) => Ok(Some(text_value(alloc, name.as_str())?)),
-        None => Ok(None),
-    }
 }
 
 #[tactic(auto, unfolding(crate::specs::Made::needed_members, crate::specs::Made::with_product))]

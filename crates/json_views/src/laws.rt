@@ -1,4 +1,5 @@
-//! What the definitions of bodies come to.
+//! What the definitions of bodies come to, and which rows can be shown.
+ghost use Rattle.json_views.specs.Showable.{LegalRowsCanBeShown};
 ghost use Rattle.json_views.specs.Tables.{RefusesFirstFault};
 
 /// A JSON object is refused as the body of a create request exactly for the first member, in the order of the body's table,
@@ -7,4 +8,12 @@ ghost use Rattle.json_views.specs.Tables.{RefusesFirstFault};
 /// Source: own rule over SOL 003 5.5.2.3 (CreateVnfRequest).
 pub fn the_first_failing_member_is_told()
     ensures { RefusesFirstFault }
+{}
+
+/// The rows of a legal history can be shown: all of them by `instances_view`, and each that is found by its number by `instance_view`,
+/// with the descriptor that it names.
+///
+/// Source: own rule.
+pub fn legal_rows_can_be_shown()
+    ensures { LegalRowsCanBeShown }
 {}

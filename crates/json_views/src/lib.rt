@@ -4,6 +4,7 @@
 mod body;
 mod forms;
 mod instance;
+mod instances;
 mod laws;
 mod links;
 mod members;
@@ -13,5 +14,6 @@ mod rows;
 
 pub use body::{BodyFault, CreateBody, read_create};
 pub use instance::{created_view, instance_id, instance_path, instance_view};
-pub use laws::the_first_failing_member_is_told;
+pub use instances::instances_view;
+pub use laws::{legal_rows_can_be_shown, the_first_failing_member_is_told};
 pub use problem::problem_view;

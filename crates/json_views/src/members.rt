@@ -1,17 +1,38 @@
 //! Members and lists of a view.
-ghost use Rattle.std.specs.Prelude.{◌≡◌, IfOk, OnOk, filter, map, option_map};
+ghost use Rattle.std.specs.Prelude.{◌≡◌, All, IfOk, OnOk, filter, map, option_map};
 ghost use Rattle.serde_json.specs.View.{items_of, members_view, view};
 ghost use Rattle.serde_json.specs.Data.{array, string};
 ghost use Rattle.json_views.specs.Views.{array_of, put_where};
 
 use serde_json::{Map, Value, put};
 use std::alloc::{AllocError, Global};
+use vnfm_base::{Line, Name};
 
 /// A text as a value.
 pub fn text_value(alloc: Global, text: &str) -> Result<Value, AllocError>
     ensures { IfOk result (λ value. view value ≡ string text.now) }
 {
     Ok(Value::String(String::from_str(alloc, text)?))
+}
+
+/// A text that may be absent, as a value.
+pub fn text_where(alloc: Global, text: &Option<Line>) -> Result<Option<Value>, AllocError>
+    ensures { IfOk result (λ value. option_map view value ≡ option_map string text.now) }
+{
+    match text {
+        Some(text) => Ok(Some(text_value(alloc, text.as_str())?)),
+        None => Ok(None),
+    }
+}
+
+/// A name that may be absent, as a value.
+pub fn name_where(alloc: Global, name: &Option<Name>) -> Result<Option<Value>, AllocError>
+    ensures { IfOk result (λ value. option_map view value ≡ option_map string name.now) }
+{
+    match name {
+        Some(name) => Ok(Some(text_value(alloc, name.as_str())?)),
+        None => Ok(None),
+    }
 }
 
 /// Puts a member that is there where there is a value of it.
@@ -36,6 +57,8 @@ pub trait Shows<T> {
 
     ghost IsReady: { Self → Type 0 };
 
+    ghost MayShow: { Self → T → Type 0 } = { λ s x. Unit {0} };
+
     ghost has: { Self → T → Bool };
 
     ghost shown: { Self → T → Data };
@@ -43,11 +66,13 @@ pub trait Shows<T> {
     /// Whether the entry is shown.
     fn has(&self, entry: &T) -> bool
         requires ready { IsReady self.now }
+        requires entry { MayShow self.now entry.now }
         ensures { result ≡ has self.now entry.now };
 
     /// What it is shown as.
     fn show(&self, alloc: Global, entry: &T) -> Result<Value, AllocError>
         requires ready { IsReady self.now }
+        requires entry { MayShow self.now entry.now }
         ensures { IfOk result (λ value. view value ≡ shown self.now entry.now) };
 }
 
@@ -58,6 +83,7 @@ pub fn array_of<T, S: Shows<T>>(
     shows: &S,
 ) -> Result<Value, AllocError>
     requires ready { S.IsReady shows.now }
+    requires each { All (S.MayShow shows.now) entries.now }
     ensures { IfOk result (λ value. view value ≡ array_of (S.shown shows.now) (filter (S.has shows.now) entries.now)) }
 {
     Ok(Value::Array(values_of(alloc, entries, shows)?))
@@ -69,6 +95,7 @@ fn values_of<T, S: Shows<T>>(
     shows: &S,
 ) -> Result<Vec<Value>, AllocError>
     requires ready { S.IsReady shows.now }
+    requires each { All (S.MayShow shows.now) entries.now }
     ensures { IfOk result (λ values. map view values.items ≡ map (S.shown shows.now) (filter (S.has shows.now) entries.now)) }
 {
     let mut values = Vec::new(alloc);
