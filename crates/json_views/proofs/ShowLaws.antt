@@ -1,13 +1,13 @@
 -- The rows of a legal history can be shown.
 use Rattle.std.proofs.Common.{◌≡◌, ◌≤◌, ◌<◌, ◌==◌, ◌∙◌, ℕ, List, [], ◌∷◌, Bool, true, not, cond, Option, None, Some, is_some, refl, ap, sym, subst, arith, length, map, find, option_map, inl, inr}
-use Rattle.std.specs.Prelude.{All, filter_map, option_and_then}
+use Rattle.std.specs.Prelude.{All, filter_map}
 use Rattle.std.proofs.lemmas.List.Elements.{All-cons, All-nil}
 use Rattle.lcm_events.specs.Same.{same_name}
 use Rattle.lcm_events.specs.declared.descriptor.Vnfd.{Vnfd}
 use Rattle.lcm_events.specs.declared.events.Event.{Event}
 use Rattle.lcm_events.specs.declared.held.Holding.{Holding}
 use Rattle.lcm_model.specs.Allowed.{IsLegalWithin}
-use Rattle.lcm_model.specs.Lives.{CreatedInstance, created_in, creation, creations, descriptor, descriptor_named, instances_made, is_deleted, is_kept, is_live, live_instances}
+use Rattle.lcm_model.specs.Lives.{CreatedInstance, created_in, creation, creations, descriptor_named, instances_made, is_deleted, is_kept, is_live, live_instances}
 use Rattle.lcm_model.specs.Words.{IsIn}
 use Rattle.lcm_laws.proofs.HoldLaws.{some_value}
 use Rattle.lcm_laws.proofs.Lists.{and_left, by_test}
@@ -23,7 +23,7 @@ use Rattle.instance_table.specs.Rows.{Rows, StandsFor, instance, instance_row, i
 use Rattle.instance_table.specs.Table.{vnfd_named}
 use Rattle.instance_table.specs.declared.rows.InstanceRow.{InstanceRow}
 use Rattle.vnfm_base.specs.Ident.{IsIdentNumber}
-use Rattle.json_views.specs.Instances.{CanBeShown, IsShowable}
+use Rattle.json_views.specs.Instances.{IsShowable}
 use Rattle.json_views.specs.Showable.{CanAllBeShown, IsFoundShowable}
 
 -- what holds of each that is in a list holds of all

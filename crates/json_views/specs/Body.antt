@@ -9,6 +9,7 @@ use Rattle.vnfm_base.specs.Text.{is_short_text}
 use Rattle.json_views.specs.declared.body.BodyFault.{BodyFault}
 use Rattle.json_views.specs.declared.body.BodyFault.TheVariants.{Malformed, Lacks, Wrong, Memory}
 use Rattle.json_views.specs.declared.body.CreateBody.{CreateBody}
+use Rattle.json_views.specs.declared.tasks.InstantiateBody.{InstantiateBody}
 
 -- the value is there, where an object is asked for (RFC 8259 4)
 abbrev pub only_object : Data → Option Data
@@ -86,12 +87,27 @@ create_in d =
     and_then (optional line_in (codes "vnfInstanceDescription") d) (λ text.
     Ok (record { vnfd = vnfd; name = name; text = text }))))
 
+-- what is read of the JSON object that the bytes are, where they are one (own rule)
+abbrev pub object_read : {A : Type 0} → (Data → Result A BodyFault) → Option Data → Result A BodyFault
+object_read body None = Err Malformed
+object_read body (Some d) = body d
+
 abbrev pub create_read : Option Data → Result CreateBody BodyFault
-create_read None = Err Malformed
-create_read (Some d) = create_in d
+create_read d = object_read create_in d
 
 abbrev pub create_of : List ℕ → Result CreateBody BodyFault
 create_of bytes = create_read (document bytes)
+
+-- an instantiate request's body: the first member that is missing or wrong, in this order, or what it says (SOL 003 5.5.2.4
+-- InstantiateVnfRequest)
+abbrev pub instantiate_in : Data → Result InstantiateBody BodyFault
+instantiate_in d =
+    and_then (needed some_name_in (codes "flavourId") d) (λ flavour.
+    and_then (optional name_in (codes "instantiationLevelId") d) (λ level.
+    Ok (record { flavour = flavour; level = level })))
+
+abbrev pub instantiate_of : List ℕ → Result InstantiateBody BodyFault
+instantiate_of bytes = object_read instantiate_in (document bytes)
 
 -- the answer is what is expected, unless there was no memory for it
 abbrev pub Gives : {A : Type 0} → Result A BodyFault → Result A BodyFault → Type 0

@@ -3,7 +3,7 @@
 use Rattle.std.specs.Prelude.{◌≡◌, Bool, true, false, List, [], ◌∷◌, ℕ, codes, if◌then◌else◌, is_some, map, Option, Some, None, Result, Ok, Err}
 use Rattle.serde_json.specs.Data.{Data}
 use Rattle.lcm_model.specs.Words.{first_some}
-use Rattle.json_views.specs.Body.{create_in, line_in, member_of, name_in, some_name_in}
+use Rattle.json_views.specs.Body.{line_in, member_of, name_in, some_name_in}
 use Rattle.json_views.specs.declared.body.BodyFault.{BodyFault}
 use Rattle.json_views.specs.declared.body.BodyFault.TheVariants.{Lacks, Wrong}
 
@@ -45,7 +45,13 @@ create_table =
     ∷ optional_row line_in (codes "vnfInstanceDescription")
     ∷ []
 
--- an object is refused as a create request's body for the first member of its table that is missing or wrong, and for nothing
--- else
-abbrev pub RefusesFirstFault : Type 0
-RefusesFirstFault = (d : Data) → fault_in (create_in d) ≡ first_fault create_table d
+-- the table of an instantiate request's body (SOL 003 5.5.2.4, InstantiateVnfRequest)
+abbrev pub instantiate_table : List Row
+instantiate_table =
+    needed_row some_name_in (codes "flavourId")
+    ∷ optional_row name_in (codes "instantiationLevelId")
+    ∷ []
+
+-- an object is refused as a body for the first member of its table that is missing or wrong, and for nothing else
+abbrev pub RefusesFirstFault : {A : Type 0} → (Data → Result A BodyFault) → List Row → Type 0
+RefusesFirstFault body table = (d : Data) → fault_in (body d) ≡ first_fault table d

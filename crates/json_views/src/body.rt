@@ -65,7 +65,7 @@ fn create_body(alloc: Global, value: &Value) -> Result<CreateBody, BodyFault>
 }
 
 /// The JSON object that the bytes are.
-fn object(alloc: Global, bytes: &[u8]) -> Result<Value, BodyFault>
+pub fn object(alloc: Global, bytes: &[u8]) -> Result<Value, BodyFault>
     ensures ok { IfOk result (λ value. document bytes.now ≡ Some (view value)) }
     ensures malformed { result ≡ Err BodyFault.Malformed → document bytes.now ≡ None }
     ensures only { IfErr result IsMalformedOrMemory }

@@ -1,13 +1,15 @@
 //! What the definitions of bodies come to, and which rows can be shown.
+ghost use Rattle.json_views.specs.Body.{create_in, instantiate_in};
 ghost use Rattle.json_views.specs.Showable.{LegalRowsCanBeShown};
-ghost use Rattle.json_views.specs.Tables.{RefusesFirstFault};
+ghost use Rattle.json_views.specs.Tables.{RefusesFirstFault, create_table, instantiate_table};
 
-/// A JSON object is refused as the body of a create request exactly for the first member, in the order of the body's table,
-/// that is missing or wrong.
+/// A JSON object is refused as the body of a request exactly for the first member, in the order of the body's table, that is
+/// missing or wrong.
 ///
-/// Source: own rule over SOL 003 5.5.2.3 (CreateVnfRequest).
+/// Source: own rule over SOL 003 5.5.2.3 (CreateVnfRequest), 5.5.2.4 (InstantiateVnfRequest).
 pub fn the_first_failing_member_is_told()
-    ensures { RefusesFirstFault }
+    ensures create { RefusesFirstFault create_in create_table }
+    ensures instantiate { RefusesFirstFault instantiate_in instantiate_table }
 {}
 
 /// The rows of a legal history can be shown: all of them by `instances_view`, and each that is found by its number by `instance_view`,

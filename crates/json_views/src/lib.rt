@@ -11,9 +11,11 @@ mod members;
 mod problem;
 mod resources;
 mod rows;
+mod tasks;
 
 pub use body::{BodyFault, CreateBody, read_create};
 pub use instance::{created_view, instance_id, instance_path, instance_view};
 pub use instances::instances_view;
 pub use laws::{legal_rows_can_be_shown, the_first_failing_member_is_told};
 pub use problem::problem_view;
+pub use tasks::{InstantiateBody, read_instantiate};

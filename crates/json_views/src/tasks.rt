@@ -1,0 +1,42 @@
+//! The bodies of the tasks of an instance.
+ghost use Rattle.std.specs.Prelude.{◌≡◌, IsOk};
+ghost use Rattle.serde_json.specs.View.{view};
+ghost use Rattle.json_views.specs.Body.{Gives, instantiate_in, instantiate_of};
+
+use crate::body::{BodyFault, object};
+use crate::forms::{AnyName, SomeName, needed, optional};
+use serde_json::Value;
+use std::alloc::Global;
+use vnfm_base::Name;
+
+/// The body of an instantiate request.
+///
+/// Source: SOL 003 5.5.2.4 (InstantiateVnfRequest).
+#[derive(Drop)]
+pub struct InstantiateBody {
+    /// `flavourId`, not empty.
+    pub flavour: Name,
+    /// `instantiationLevelId`.
+    pub level: Option<Name>,
+}
+
+/// Reads the body of an instantiate request.
+///
+/// Refusals: `Malformed` exactly where the bytes are no JSON object; `Lacks` and `Wrong` with the first member that fails,
+/// in the order `flavourId`, `instantiationLevelId`; `Memory`, where there was none to read the bytes as JSON.
+/// Source: SOL 003 5.5.2.4 (InstantiateVnfRequest).
+pub fn read_instantiate(alloc: Global, bytes: &[u8]) -> Result<InstantiateBody, BodyFault>
+    ensures { Gives result (instantiate_of bytes.now) }
+{
+    let value = object(alloc, bytes)?;
+    instantiate_body(alloc, &value)
+}
+
+fn instantiate_body(alloc: Global, value: &Value) -> Result<InstantiateBody, BodyFault>
+    ensures gives { Gives result (instantiate_in (view value.now)) }
+    ensures memory { result ≡ Err BodyFault.Memory → IsOk (instantiate_in (view value.now)) }
+{
+    let flavour = needed(alloc, value, "flavourId", &SomeName {})?;
+    let level = optional(alloc, value, "instantiationLevelId", &AnyName {})?;
+    Ok(InstantiateBody { flavour, level })
+}
