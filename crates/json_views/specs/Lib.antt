@@ -1,10 +1,15 @@
+pub mod Affected
 pub mod Body
 pub mod Instance
 pub mod Instances
 pub mod Links
 pub mod Made
+pub mod MadeOccurrence
+pub mod Occurrence
+pub mod Params
 pub mod Problem
 pub mod Resources
 pub mod Showable
 pub mod Tables
 pub mod Views
+pub mod Words

@@ -35,9 +35,13 @@ machine_id d v s = vdu_name d v ++ codes "-" ++ decimal s
 unfoldable pub storage_id : Vnfd → ℕ → ℕ → ℕ → List ℕ
 storage_id d v s k = machine_id d v s ++ codes "/" ++ storage_name d k
 
--- the infrastructure's name of an item, and the connection to where it stands (SOL 003 5.5.3, ResourceHandle)
+-- the infrastructure's name of a resource, and the connection to where it stands (SOL 003 5.5.3, ResourceHandle)
+abbrev pub handle_of : List ℕ → List ℕ → Data
+handle_of resource vim = object (member (codes "resourceId") (string resource) (member (codes "vimConnectionId") (string vim) no_members))
+
+-- that of an item
 abbrev pub handle : Held → Data
-handle y = object (member (codes "resourceId") (string y.resource) (member (codes "vimConnectionId") (string y.place.vim) no_members))
+handle y = handle_of y.resource y.place.vim
 
 -- the storages of its VDU that stand for this machine (own rule)
 abbrev pub standing_storages : Vnfd → Holding → ℕ → ℕ → List ℕ

@@ -1,21 +1,28 @@
 //! Request bodies read from JSON, and the views that answers show written as JSON.
 #![tactic(auto)]
 
+mod affected;
 mod body;
+mod errors;
 mod forms;
 mod instance;
 mod instances;
 mod laws;
 mod links;
 mod members;
+mod occurrence;
+mod occurrence_links;
+mod params;
 mod problem;
 mod resources;
 mod rows;
 mod tasks;
+mod words;
 
 pub use body::{BodyFault, CreateBody, read_create};
 pub use instance::{created_view, instance_id, instance_path, instance_view};
 pub use instances::instances_view;
 pub use laws::{legal_rows_can_be_shown, the_first_failing_member_is_told};
+pub use occurrence::{occurrence_id, occurrence_path, occurrence_view};
 pub use problem::problem_view;
 pub use tasks::{InstantiateBody, read_instantiate};

@@ -48,7 +48,7 @@ fn active_links(alloc: Global, path: &str) -> Result<Map<String, Value>, AllocEr
 }
 
 /// The link to a task of what is at this path.
-fn task_link(alloc: Global, path: &str, task: &str) -> Result<Value, AllocError>
+pub fn task_link(alloc: Global, path: &str, task: &str) -> Result<Value, AllocError>
     ensures { IfOk result (λ value. view value ≡ task_link path.now task.now) }
 {
     let mut target = String::from_str(alloc, path)?;
@@ -57,7 +57,8 @@ fn task_link(alloc: Global, path: &str, task: &str) -> Result<Value, AllocError>
     link_value(alloc, target.as_str())
 }
 
-fn link_value(alloc: Global, path: &str) -> Result<Value, AllocError>
+/// The link to a path.
+pub fn link_value(alloc: Global, path: &str) -> Result<Value, AllocError>
     ensures { IfOk result (λ value. view value ≡ link path.now) }
 {
     json!(in alloc; {"href": path})

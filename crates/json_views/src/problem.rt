@@ -18,7 +18,8 @@ pub fn problem_view(alloc: Global, status: u16, detail: &str) -> Result<Bytes, A
     Ok(Bytes::of_vec(text))
 }
 
-fn problem_value(alloc: Global, status: u16, detail: &str) -> Result<Value, AllocError>
+/// The same, as a value.
+pub fn problem_value(alloc: Global, status: u16, detail: &str) -> Result<Value, AllocError>
     ensures { IfOk result (λ value. view value ≡ problem status detail.now) }
 {
     json!(in alloc; {"detail": detail, "status": status})

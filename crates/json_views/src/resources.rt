@@ -55,7 +55,8 @@ fn instantiated_info(alloc: Global, vnfd: &Vnfd, holding: &Holding) -> Result<Va
     Ok(Value::Object(members))
 }
 
-fn vnf_state(started: bool) -> &'static str
+/// Whether it is started.
+pub fn vnf_state(started: bool) -> &'static str
     ensures { result.now ≡ vnf_state started }
 {
     if started { "STARTED" } else { "STOPPED" }

@@ -7,17 +7,18 @@ ghost use Rattle.lcm_events.specs.Same.{same_kind};
 ghost use Rattle.lcm_events.specs.declared.changes.DefKind.TheVariants.{Compute, Link, Storage};
 ghost use Rattle.lcm_model.specs.Vnfcs.{def_of, storages_of};
 ghost use Rattle.json_views.specs.Views.{array_of};
-ghost use Rattle.json_views.specs.Resources.{compute_info, handle, link_info, link_name, machine_id, scale_info, storage_id, storage_ids, storage_info, storage_name, vdu_name};
+ghost use Rattle.json_views.specs.Resources.{compute_info, handle, handle_of, link_info, link_name, machine_id, scale_info, storage_id, storage_ids, storage_info, storage_name, vdu_name};
 
 use crate::members::{Shows, array_of, text_value};
 use held_items::find;
 use itoa::Buffer;
-use lcm_events::{AspectLevel, Def, DefKind, Held, Holding, Vnfd};
+use lcm_events::{AspectLevel, Def, DefKind, Held, Holding, Place, Vnfd};
 use serde_json::{Value, json};
 use std::alloc::{AllocError, Global};
+use vnfm_base::Name;
 
 /// The name of a VDU, empty where the descriptor has none of this number.
-fn vdu_name<'a>(vnfd: &'a Vnfd, vdu: u16) -> &'a str
+pub fn vdu_name<'a>(vnfd: &'a Vnfd, vdu: u16) -> &'a str
     ensures { result.now ≡ vdu_name vnfd.now vdu }
 {
     match vnfd.vdus.as_slice().get(usize::from(vdu)) {
@@ -27,7 +28,7 @@ fn vdu_name<'a>(vnfd: &'a Vnfd, vdu: u16) -> &'a str
 }
 
 /// The name of a storage, empty where the descriptor has none of this number.
-fn storage_name<'a>(vnfd: &'a Vnfd, storage: u16) -> &'a str
+pub fn storage_name<'a>(vnfd: &'a Vnfd, storage: u16) -> &'a str
     ensures { result.now ≡ storage_name vnfd.now storage }
 {
     match vnfd.storages.as_slice().get(usize::from(storage)) {
@@ -37,7 +38,7 @@ fn storage_name<'a>(vnfd: &'a Vnfd, storage: u16) -> &'a str
 }
 
 /// The name of a link, empty where the descriptor has none of this number.
-fn link_name<'a>(vnfd: &'a Vnfd, link: u16) -> &'a str
+pub fn link_name<'a>(vnfd: &'a Vnfd, link: u16) -> &'a str
     ensures { result.now ≡ link_name vnfd.now link }
 {
     match vnfd.links.as_slice().get(usize::from(link)) {
@@ -48,7 +49,7 @@ fn link_name<'a>(vnfd: &'a Vnfd, link: u16) -> &'a str
 
 /// The identifier of a machine.
 #[tactic(auto, unfolding(crate::specs::Resources::machine_id))]
-fn machine_id(alloc: Global, vnfd: &Vnfd, vdu: u16, serial: u32) -> Result<String, AllocError>
+pub fn machine_id(alloc: Global, vnfd: &Vnfd, vdu: u16, serial: u32) -> Result<String, AllocError>
     ensures { IfOk result (λ id. string_bytes id ≡ machine_id vnfd.now vdu serial) }
 {
     let mut digits = Buffer::new();
@@ -60,7 +61,7 @@ fn machine_id(alloc: Global, vnfd: &Vnfd, vdu: u16, serial: u32) -> Result<Strin
 
 /// The identifier of a storage of a machine.
 #[tactic(auto, unfolding(crate::specs::Resources::storage_id))]
-fn storage_id(
+pub fn storage_id(
     alloc: Global,
     vnfd: &Vnfd,
     vdu: u16,
@@ -75,11 +76,18 @@ fn storage_id(
     Ok(id)
 }
 
-/// The infrastructure's name of an item, and the connection to where it stands.
+/// The infrastructure's name of a resource, and the connection to where it stands.
+pub fn handle_of(alloc: Global, resource: &Name, place: &Place) -> Result<Value, AllocError>
+    ensures { IfOk result (λ value. view value ≡ handle_of resource.now place.now.vim) }
+{
+    json!(in alloc; {"resourceId": resource.as_str(), "vimConnectionId": place.vim.as_str()})
+}
+
+/// That of an item.
 fn handle(alloc: Global, item: &Held) -> Result<Value, AllocError>
     ensures { IfOk result (λ value. view value ≡ handle item.now) }
 {
-    json!(in alloc; {"resourceId": item.resource.as_str(), "vimConnectionId": item.place.vim.as_str()})
+    handle_of(alloc, &item.resource, &item.place)
 }
 
 /// The levels of all aspects.
