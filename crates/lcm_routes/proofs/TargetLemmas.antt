@@ -1,5 +1,5 @@
 -- What stands in an answer that may be missing.
-use Rattle.std.proofs.Common.{◌≡◌, ℕ, List, Option, Some, None, Bor, refl, sym, ap, ◌∙◌}
+use Rattle.std.proofs.Common.{◌≡◌, ℕ, List, Option, Some, None, Bor, ap}
 use Rattle.std.specs.Option.{unwrap_or, option_map}
 
 -- a text or another one, by the bytes of both

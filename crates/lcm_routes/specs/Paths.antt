@@ -1,4 +1,4 @@
--- Which resource of the VNF lifecycle management interface a path names (SOL 003 5.3, figure and table of resources).
+-- Which resource of the VNF lifecycle management interface a path names (SOL 003 5.3, Resource structure and methods).
 use Rattle.std.specs.Prelude.{ℕ, List, [], ◌∷◌, codes, Option, Some, None, if◌then◌else◌}
 use Rattle.std.specs.Str.{bytes_eq}
 use Rattle.lcm_events.specs.declared.asks.OpKind.TheVariants.{Instantiate, Scale, ScaleToLevel, Heal, Operate, Terminate, ChangeFlavour}
@@ -7,23 +7,23 @@ use Rattle.lcm_routes.specs.declared.resources.Resource.{Resource}
 use Rattle.lcm_routes.specs.declared.resources.Resource.TheVariants.{Instances, Instance, InstanceTask, Occurrences, Occurrence, OccurrenceTask, Subscriptions, Subscription}
 use Rattle.lcm_routes.specs.Targets.{segments}
 
--- the resources that stand under an item, each by its name
+-- names, each with the resource that it stands for
 abbrev pub Names : Type 0
 Names = List (List ℕ × Resource)
 
--- the tasks of an instance, in byte order (SOL 003 5.4.4 to 5.4.11)
+-- the tasks of an instance (SOL 003 5.4.4 to 5.4.10, from Instantiate VNF task to Operate VNF task)
 abbrev pub instance_tasks : Names
 instance_tasks =
     (codes "change_flavour", InstanceTask ChangeFlavour)
     ∷ (codes "heal", InstanceTask Heal)
     ∷ (codes "instantiate", InstanceTask Instantiate)
     ∷ (codes "operate", InstanceTask Operate)
-    ∷ (codes "scale", InstanceTask Scale)
     ∷ (codes "scale_to_level", InstanceTask ScaleToLevel)
+    ∷ (codes "scale", InstanceTask Scale)
     ∷ (codes "terminate", InstanceTask Terminate)
     ∷ []
 
--- the tasks of an occurrence, in byte order (SOL 003 5.4.14 to 5.4.17)
+-- the tasks of an occurrence (SOL 003 5.4.14 to 5.4.17, Retry, Rollback, Fail and Cancel operation task)
 abbrev pub occurrence_tasks : Names
 occurrence_tasks =
     (codes "cancel", OccurrenceTask Cancel)
@@ -32,7 +32,7 @@ occurrence_tasks =
     ∷ (codes "rollback", OccurrenceTask Rollback)
     ∷ []
 
--- a subscription has no task (SOL 003 5.4.19)
+-- a subscription has no task (SOL 003 5.4.19, Individual subscription)
 abbrev pub subscription_tasks : Names
 subscription_tasks = []
 
@@ -48,7 +48,7 @@ pub record Collection : Type 0 where
   pub item : Resource
   pub tasks : Names
 
--- the instances, the occurrences and the subscriptions (SOL 003 5.4.2 to 5.4.19)
+-- the instances, the occurrences and the subscriptions (SOL 003 5.4.2, 5.4.12 and 5.4.18)
 abbrev pub collections : List Collection
 collections =
     record { name = codes "subscriptions"; whole = Subscriptions; item = Subscription; tasks = subscription_tasks }
@@ -72,7 +72,7 @@ among (c ∷ others) [] = None
 among (c ∷ others) (name ∷ rest) = if bytes_eq name c.name then below c rest else among others (name ∷ rest)
 
 -- the segments in front of each collection's name: the empty one before the first slash, the interface and its version
--- (SOL 003 4.4.1, 5.2)
+-- (SOL 003 5.3, Resource structure and methods)
 abbrev pub root : List (List ℕ)
 root = [] ∷ codes "vnflcm" ∷ codes "v1" ∷ []
 

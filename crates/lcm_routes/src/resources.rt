@@ -4,7 +4,7 @@ use lcm_events::{OpKind, Task};
 
 /// What a path names.
 ///
-/// Source: SOL 003 5.3.
+/// Source: SOL 003 5.3 (Resource structure and methods).
 #[derive(Clone, Copy, PartialEq, Eq, Debug)]
 pub enum Resource {
     /// All instances.

@@ -6,7 +6,7 @@ ghost use Rattle.lcm_routes.specs.Targets.{asks_filter, identifier_in, is_filter
 
 /// The path of a request target: up to its first `?`, all of it where it has none.
 ///
-/// Source: RFC 3986 3.3.
+/// Source: RFC 3986 3.3 (Path).
 pub fn path_of(target: &str) -> &str
     ensures { result.now ≡ path_of target.now }
 {
@@ -18,7 +18,7 @@ pub fn path_of(target: &str) -> &str
 
 /// The query of a request target: behind its first `?`, empty where it has none.
 ///
-/// Source: RFC 3986 3.4.
+/// Source: RFC 3986 3.4 (Query).
 pub fn query_of(target: &str) -> &str
     ensures { result.now ≡ query_of target.now }
 {
@@ -30,7 +30,7 @@ pub fn query_of(target: &str) -> &str
 
 /// Whether a part of the query, whose parts are joined by `&`, begins with `filter=`.
 ///
-/// Source: SOL 013 5.2.
+/// Source: SOL 013 (attribute-based filtering).
 pub fn asks_filter(target: &str) -> bool
     ensures { result ≡ asks_filter target.now }
 {
@@ -47,7 +47,7 @@ fn is_filter(part: &str) -> bool
 /// The text of the identifier in a path: its fifth segment, which stands behind the collection's name and its slash, up to the
 /// next slash or the end. It is empty where there is none.
 ///
-/// Source: SOL 003 4.4.1, RFC 3986 3.3.
+/// Source: SOL 003 5.3 (Resource structure and methods), RFC 3986 3.3 (Path).
 pub fn identifier_in(path: &str) -> &str
     ensures { result.now ≡ identifier_in path.now }
 {
