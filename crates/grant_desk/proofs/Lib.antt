@@ -1,0 +1,2 @@
+mod TallyLaws
+mod SeenLaws

@@ -1,0 +1,12 @@
+//! Grants: what is asked of the orchestrator, what it answers, and whether the answer covers what was asked.
+#![tactic(auto)]
+
+mod covering;
+mod identifiers;
+mod parts;
+mod places;
+mod rows;
+mod tallies;
+
+pub use covering::covers;
+pub use rows::{GrantRow, GrantRows};
