@@ -1,2 +1,3 @@
 mod TallyLaws
 mod SeenLaws
+mod GrantLemmas

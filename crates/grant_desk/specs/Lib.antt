@@ -1,3 +1,4 @@
 pub mod Parts
 pub mod Tallies
 pub mod Seen
+pub mod Answers

@@ -1,12 +1,15 @@
 //! Grants: what is asked of the orchestrator, what it answers, and whether the answer covers what was asked.
 #![tactic(auto)]
 
+mod answers;
 mod covering;
+mod grants;
 mod identifiers;
 mod parts;
 mod places;
 mod rows;
 mod tallies;
 
+pub use answers::{GrantAnswer, read_answer};
 pub use covering::covers;
 pub use rows::{GrantRow, GrantRows};
