@@ -1,3 +1,4 @@
 mod TallyLaws
 mod SeenLaws
 mod GrantLemmas
+mod PlacingLaws

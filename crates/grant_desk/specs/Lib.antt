@@ -2,3 +2,4 @@ pub mod Parts
 pub mod Tallies
 pub mod Seen
 pub mod Answers
+pub mod Placing

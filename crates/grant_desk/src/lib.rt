@@ -7,9 +7,11 @@ mod grants;
 mod identifiers;
 mod parts;
 mod places;
+mod placing;
 mod rows;
 mod tallies;
 
 pub use answers::{GrantAnswer, read_answer};
 pub use covering::covers;
+pub use placing::{Placing, places_of};
 pub use rows::{GrantRow, GrantRows};
