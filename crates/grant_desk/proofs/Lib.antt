@@ -2,3 +2,4 @@ mod TallyLaws
 mod SeenLaws
 mod GrantLemmas
 mod PlacingLaws
+mod RequestLaws

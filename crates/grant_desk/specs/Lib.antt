@@ -3,3 +3,5 @@ pub mod Tallies
 pub mod Seen
 pub mod Answers
 pub mod Placing
+pub mod Requests
+pub mod Made

@@ -3,15 +3,18 @@
 
 mod answers;
 mod covering;
+mod entries;
 mod grants;
 mod identifiers;
 mod parts;
 mod places;
 mod placing;
+mod requests;
 mod rows;
 mod tallies;
 
 pub use answers::{GrantAnswer, read_answer};
 pub use covering::covers;
 pub use placing::{Placing, places_of};
+pub use requests::{GrantAsker, grant_body};
 pub use rows::{GrantRow, GrantRows};

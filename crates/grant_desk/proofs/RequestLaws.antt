@@ -1,0 +1,71 @@
+-- A grant request has no float.
+use Rattle.std.proofs.Common.{◌≡◌, ℕ, List, [], ◌∷◌, Bool, true, false, ◌||◌, Option, Some, None, codes, map, refl}
+use Rattle.std.specs.List.{enumerate_from}
+use Rattle.std.specs.Prelude.{filter, option_map}
+use Rattle.serde_json.specs.Data.{Data, Members}
+use Rattle.serde_json.specs.View.{items_of}
+use Rattle.serde_json.specs.Written.{has_float, items_have_float, members_have_float}
+use Rattle.change_planner.specs.Acts.{template_name}
+use Rattle.held_items.specs.Items.{item_of}
+use Rattle.lcm_events.specs.declared.asks.Ask.{Ask}
+use Rattle.lcm_events.specs.declared.changes.Change.{Change}
+use Rattle.lcm_events.specs.declared.changes.Def.{Def}
+use Rattle.lcm_events.specs.declared.changes.DefKind.{DefKind}
+use Rattle.lcm_events.specs.declared.changes.DefKind.TheVariants.{Compute, Link, Port, Storage}
+use Rattle.lcm_events.specs.declared.changes.Verb.{Verb}
+use Rattle.lcm_events.specs.declared.changes.Verb.TheVariants.{Create, Remove, Start, Stop}
+use Rattle.lcm_events.specs.declared.descriptor.Vnfd.{Vnfd}
+use Rattle.lcm_events.specs.declared.held.Held.{Held}
+use Rattle.lcm_events.specs.declared.held.Holding.{Holding}
+use Rattle.grant_desk.specs.Parts.{asks}
+use Rattle.grant_desk.specs.Requests.{entries, entry, handle, member_where, request, resource_for, vdu_for}
+use Rattle.grant_desk.specs.declared.parts.Part.{Part}
+use Rattle.grant_desk.specs.declared.parts.Part.TheVariants as part
+use Rattle.grant_desk.specs.declared.requests.GrantAsker.{GrantAsker}
+
+-- neither of two has a float
+or_false : (a b : Bool) → a ≡ false → b ≡ false → (a || b) ≡ false
+or_false a b ha hb = rw (ha, hb) refl
+
+-- an array of values without a float has none
+array_plain : {A : Type 0} (shown : A → Data) → ((x : A) → has_float (shown x) ≡ false) → (xs : List A) → items_have_float (items_of (map shown xs)) ≡ false
+array_plain shown plain [] = refl
+array_plain shown plain (x ∷ xs) = or_false _ _ (plain x) (array_plain shown plain xs)
+
+-- a member that may be absent has no float where its value has none
+abbrev IsPlain : Option Data → Type 0
+IsPlain None = Unit {0}
+IsPlain (Some d) = has_float d ≡ false
+
+where_plain : (name : List ℕ) (o : Option Data) (rest : Members) → IsPlain o → members_have_float rest ≡ false → members_have_float (member_where name o rest) ≡ false
+where_plain name None rest plain others = others
+where_plain name (Some d) rest plain others = or_false (has_float d) (members_have_float rest) plain others
+
+handle_plain : (o : Option Held) → IsPlain (option_map handle o)
+handle_plain None = tt
+handle_plain (Some y) = refl
+
+resource_plain : (v : Verb) (o : Option Held) → IsPlain (resource_for v o)
+resource_plain Create o = tt
+resource_plain Remove o = handle_plain o
+resource_plain Start o = handle_plain o
+resource_plain Stop o = handle_plain o
+
+vdu_plain : (d : Vnfd) (k : DefKind) (x : Def) → IsPlain (vdu_for d k x)
+vdu_plain d Link x = tt
+vdu_plain d Storage x = refl
+vdu_plain d Compute x = refl
+vdu_plain d Port x = refl
+
+entry_plain : (d : Vnfd) (h : Holding) (x : ℕ × Change) → has_float (entry d h x) ≡ false
+entry_plain d h x =
+    where_plain (codes "resource") (resource_for x.1.verb (item_of x.1.def h.items)) _ (resource_plain x.1.verb (item_of x.1.def h.items))
+    (where_plain (codes "vduId") (vdu_for d x.1.def.kind x.1.def) _ (vdu_plain d x.1.def.kind x.1.def) refl)
+
+entries_plain : (d : Vnfd) (h : Holding) (p : Part) (xs : List Change) → has_float (entries d h p xs) ≡ false
+unfolding entries
+entries_plain d h p xs = array_plain (entry d h) (entry_plain d h) (filter (λ x. asks p x.1.verb) (enumerate_from 0 xs))
+
+pub request_plain : (d : Vnfd) (h : Holding) (who : GrantAsker) (ask : Ask) (xs : List Change) → has_float (request d h who ask xs) ≡ false
+request_plain d h who ask xs =
+    or_false _ _ (entries_plain d h part.Add xs) (or_false _ _ (entries_plain d h part.Remove xs) (or_false _ _ (entries_plain d h part.Update xs) refl))
