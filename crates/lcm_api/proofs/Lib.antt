@@ -1,4 +1,4 @@
-pub mod AddedLemmas
+mod InstanceLemmas
 mod ListenLemmas
 mod StepLemmas
 mod StepsLemmas

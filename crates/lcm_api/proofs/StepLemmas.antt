@@ -14,11 +14,11 @@ use Rattle.lcm_events.specs.declared.events.EventKind.TheVariants.{Created}
 use Rattle.lcm_events.specs.declared.descriptor.Vnfd.{Vnfd}
 use Rattle.lcm_model.specs.Lives.{descriptor_named, instances_made, live_instances}
 use Rattle.journal_core.specs.declared.journal.TheConstants.{MAX_RECORD}
-use Rattle.lcm_api.specs.Outcome.{create_outcome, creation, created}
-use Rattle.lcm_api.specs.Steps.{IsStep}
+use Rattle.lcm_api.specs.Creating.{create_outcome, creation, created}
+use Rattle.lcm_api.specs.Recording.{IsPlanned}
 use Rattle.lcm_api.specs.declared.create.TheConstants.{MAX_INSTANCES}
 use Rattle.lcm_api.specs.declared.reply.Reply.{Reply}
-use Rattle.lcm_api.specs.declared.create.Step.TheVariants.{Creates}
+use Rattle.lcm_api.specs.declared.record.Planned.TheVariants.{Records}
 
 -- the creation of the instance of this number
 abbrev pub created_as : ℕ → ℕ → CreateBody → Event
@@ -60,7 +60,7 @@ creation_fits n now body is =
 -- the instance is created, if there is room for it
 pub step_creates : (m : Managed) (H : List Event) (now : ℕ) (body : CreateBody) (last : Bool) (vnfd : Vnfd) (reply : Reply) (event : Event) → descriptor_named H body.vnfd ≡ Some vnfd
     → length (live_instances H) < MAX_INSTANCES → event ≡ creation H now body
-    → reply ≡ created m.ledger.manager (instances_made H + 1) body vnfd last → IsStep (create_outcome m.ledger.manager H now body last) m H last (Creates event reply)
+    → reply ≡ created m.ledger.manager (instances_made H + 1) body vnfd last → IsPlanned (create_outcome m.ledger.manager H now body last) m H last (Records event reply)
 step_creates m H now body last vnfd reply event known room event_is reply_is =
     rw (event_is, reply_is) (
       rw (known, lt-leb MAX_INSTANCES (length (live_instances H)) room) refl,

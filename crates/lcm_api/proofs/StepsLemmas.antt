@@ -11,7 +11,8 @@ use Rattle.http_wire.specs.declared.request.WireFault.TheVariants as wire
 use Rattle.lcm_api.specs.Mouth.{MouthState, OnlyAtDoor, Takes}
 use Rattle.lcm_api.specs.Response.{text}
 use Rattle.lcm_api.specs.Answering.{IsAcknowledged, IsOutcomeOf}
-use Rattle.lcm_api.specs.Outcome.{outcome, refusal, starved}
+use Rattle.lcm_api.specs.Outcome.{outcome}
+use Rattle.lcm_api.specs.Replies.{refusal, starved}
 use Rattle.lcm_api.specs.Session.{Ask, Last, Ending, Talk, asked_last, has_reply, is_breaking, once_answered, outcome_of, replies, reply_last, said, taken_by, work_last}
 use Rattle.lcm_api.specs.Step.{Responds, IsAbout, IsStep, answered_one, ended_so}
 use Rattle.lcm_api.specs.declared.session.Step.{Step}

@@ -6,7 +6,8 @@ use Rattle.executor.specs.Work.{Work, went, broke}
 use Rattle.http_wire.specs.declared.request.Request.{Request}
 use Rattle.lcm_events.specs.declared.events.Event.{Event}
 use Rattle.site_traits.specs.Site.{Pair, SiteState}
-use Rattle.lcm_api.specs.Outcome.{Outcome, outcome}
+use Rattle.lcm_api.specs.Outcome.{outcome}
+use Rattle.lcm_api.specs.Replies.{Outcome}
 use Rattle.lcm_api.specs.declared.reply.Reply.{Reply}
 use Rattle.lcm_api.specs.declared.answer.ApiFault.{ApiFault}
 use Rattle.lcm_api.specs.declared.answer.ApiFault.TheVariants as fault

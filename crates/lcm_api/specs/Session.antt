@@ -5,7 +5,8 @@ use Rattle.std.specs.Result.{is_ok}
 use Rattle.executor.specs.Work.{Work, went, broke}
 use Rattle.http_wire.specs.declared.request.Request.{Request}
 use Rattle.http_wire.specs.declared.request.WireFault.{WireFault}
-use Rattle.lcm_api.specs.Outcome.{Outcome, outcome, starved, faulted}
+use Rattle.lcm_api.specs.Outcome.{outcome}
+use Rattle.lcm_api.specs.Replies.{Outcome, starved, faulted}
 use Rattle.lcm_api.specs.Response.{text}
 use Rattle.lcm_api.specs.declared.door.DoorFailed.{DoorFailed}
 use Rattle.lcm_api.specs.declared.reply.Reply.{Reply}

@@ -7,7 +7,7 @@ use Rattle.executor.specs.Work.{Works}
 use Rattle.http_wire.specs.declared.TheConstants.{CONNECTION_REQUESTS}
 use Rattle.http_wire.specs.declared.request.Request.{Request}
 use Rattle.lcm_api.specs.Mouth.{MouthState, OnlyAtDoor}
-use Rattle.lcm_api.specs.Outcome.{starved}
+use Rattle.lcm_api.specs.Replies.{starved}
 use Rattle.lcm_api.specs.Response.{text}
 use Rattle.lcm_api.specs.Telling.{TellCause, Tells}
 use Rattle.lcm_api.specs.declared.door.DoorFailed.{DoorFailed}

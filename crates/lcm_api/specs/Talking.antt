@@ -13,7 +13,7 @@ use Rattle.http_wire.specs.declared.request.Taken.TheVariants as taken
 use Rattle.http_wire.specs.declared.request.WireFault.{WireFault}
 use Rattle.http_wire.specs.declared.request.WireFault.TheVariants as fault
 use Rattle.lcm_api.specs.Mouth.{MouthState, Takes}
-use Rattle.lcm_api.specs.Outcome.{malformed, too_large, starved}
+use Rattle.lcm_api.specs.Replies.{malformed, too_large, starved}
 use Rattle.lcm_api.specs.Response.{text}
 use Rattle.lcm_api.specs.Session.{Ask, Last, Ending, Talk, over, unheard, untold, life, once_answered, replies, said, taken_by, reply_last, work_of}
 use Rattle.lcm_api.specs.declared.door.DoorFailed.{DoorFailed}

@@ -8,10 +8,12 @@ ghost use Rattle.lcm_events.specs.declared.events.Event.{Event};
 ghost use Rattle.site_traits.specs.Counts.{OnlyDiskFails};
 
 use crate::create::create;
+use crate::instances::{delete, list, show, task};
 use crate::reply::{Reply, refusal};
-use crate::route::{Route, route_of};
+use crate::route::{Route, Routing, not_allowed, route_of};
 use executor::{Manager, works_add_up};
 use http_wire::Request;
+use lcm_routes::Routes;
 use site_traits::Site;
 use std::alloc::{AllocError, Global};
 use thiserror::Error;
@@ -32,11 +34,12 @@ pub enum ApiFault {
 ///
 /// Refusals of the request are replies. Refusals of the call: `Memory`, after which nothing has changed; `Disk`, after which
 /// the manager is closed.
-/// Source: SOL 003 5.4.2 (VNF instances).
+/// Source: SOL 003 5.4 (Resources of the VNF Lifecycle Management interface).
 pub fn answer<S: Site>(
     alloc: Global,
     manager: &mut Manager<S>,
     site: &mut S,
+    routes: &Routes,
     request: &Request,
     now: Moment,
 ) -> Result<Reply, ApiFault>
@@ -47,9 +50,14 @@ pub fn answer<S: Site>(
     ensures counts { OnlyDiskFails (result ≡ Err ApiFault.Disk) (S.counts site.old) (S.counts site.new) }
 {
     works_add_up::<S>();
-    match route_of(request) {
-        Some(Route::Create) => create(alloc, manager, site, request, now),
-        None => Ok(refusal(alloc, 404, "no such resource", request.last)?),
+    match route_of(routes, request) {
+        Routing::Nowhere => Ok(refusal(alloc, 404, "no such resource", request.last)?),
+        Routing::NotAllowed(resource) => Ok(not_allowed(alloc, resource, request.last)?),
+        Routing::Served(Route::ListInstances) => Ok(list(alloc, manager, request)?),
+        Routing::Served(Route::CreateInstance) => create(alloc, manager, site, request, now),
+        Routing::Served(Route::ShowInstance) => Ok(show(alloc, manager, request)?),
+        Routing::Served(Route::DeleteInstance) => delete(alloc, manager, site, request, now),
+        Routing::Served(Route::InstanceTask) => Ok(task(alloc, manager, request)?),
     }
 }
 

@@ -1,21 +1,22 @@
 //! Creating an instance: POST on the instances.
-ghost use Rattle.std.specs.Prelude.{◌≡◌, ◌∷◌, ◌++◌, List, IfOk, false};
+ghost use Rattle.std.specs.Prelude.{◌≡◌, ◌++◌, List, IfOk, false};
 ghost use Rattle.lcm_events.specs.declared.events.Event.{Event};
 ghost use Rattle.lcm_events.specs.declared.events.EventKind.TheVariants.{Created};
 ghost use Rattle.site_traits.specs.Counts.{OnlyDiskFails};
 ghost use Rattle.executor.specs.Managed.{IsReady, Keeps};
-ghost use Rattle.executor.specs.Room.{is_full};
 ghost use Rattle.executor.specs.Work.{Works};
-ghost use Rattle.json_views.specs.Body.{create_of};
 ghost use Rattle.lcm_api.specs.Answering.{answered};
+ghost use Rattle.lcm_api.specs.Creating.{create_instance, create_outcome, created};
 ghost use Rattle.lcm_api.specs.Judging.{IsRefusedBody, IsVerdict};
-ghost use Rattle.lcm_api.specs.Outcome.{body_outcome, create_outcome, created, refusal, room_outcome};
-ghost use Rattle.lcm_api.specs.Steps.{IsStep, MayCreate};
+ghost use Rattle.lcm_api.specs.Recording.{IsPlanned};
+ghost use Rattle.lcm_api.specs.Replies.{refusal};
 ghost use Rattle.vnfm_base.specs.Ident.{IsIdentNumber};
 
 use crate::answer::ApiFault;
+use crate::media::is_json;
+use crate::record::{Planned, carry_out};
 use crate::reply::{Reply, refusal};
-use executor::{Manager, WorkFault, works_add_up};
+use executor::{Manager, works_add_up};
 use http_wire::Request;
 use json_views::{BodyFault, CreateBody, created_view, instance_path, read_create};
 use lcm_events::{Event, EventKind, Vnfd};
@@ -26,19 +27,9 @@ use vnfm_base::{Kind, Line, Moment, Name};
 /// Instances that may be live at one time.
 pub const MAX_INSTANCES: u64 = 1_000;
 
-/// Bytes of the journal up to which requests are taken. What works on behind them has the rest.
-pub const MAX_REQUESTED: u64 = 201_326_592;
-
-/// What a create request comes to: a refusal, or the event and the reply that acknowledges it.
-#[derive(Drop)]
-enum Step {
-    Refused(Reply),
-    Creates(Event, Reply),
-}
-
 /// Answers a request that creates an instance.
 ///
-/// Refusals of the request are replies, in this order: 400 for its body, 422 for a descriptor that wasn't onboarded, 507 for too many
+/// Refusals of the request are replies, in this order: 415 for its media type, 400 for its body, 422 for a descriptor that wasn't onboarded, 507 for too many
 /// instances or a full journal. Refusals of the call: `Memory`, after which nothing has changed; `Disk`, after which the manager is closed.
 /// Source: SOL 003 5.4.2.3.1.
 pub fn create<S: Site>(
@@ -49,9 +40,9 @@ pub fn create<S: Site>(
     now: Moment,
 ) -> Result<Reply, ApiFault>
     requires ready { (H : List Event) × IsReady S.tells manager.old H (S.state site.old) }
-    ensures reply { (H : List Event) → Keeps manager.old H → IfOk result (λ given. given ≡ (body_outcome manager.old.ledger.manager H now (create_of request.now.body) request.now.last).reply) }
+    ensures reply { (H : List Event) → Keeps manager.old H → IfOk result (λ given. given ≡ (create_instance manager.old.ledger.manager H now request.now).reply) }
     ensures works { (H : List Event) → IsReady S.tells manager.old H (S.state site.old) → Works S.tells manager.old.ledger.manager H
-        (answered (body_outcome manager.old.ledger.manager H now (create_of request.now.body) request.now.last) H result) manager.new (S.state site.old) (S.state site.new) }
+        (answered (create_instance manager.old.ledger.manager H now request.now) H result) manager.new (S.state site.old) (S.state site.new) }
     ensures counts { OnlyDiskFails (result ≡ Err ApiFault.Disk) (S.counts site.old) (S.counts site.new) }
 {
     works_add_up::<S>();
@@ -70,10 +61,14 @@ enum Verdict {
     Create(CreateBody),
 }
 
-/// Judges a request to create an instance by its body.
+/// Judges a request to create an instance by its media type and its body.
 fn judge(alloc: Global, request: &Request) -> Result<Verdict, AllocError>
     ensures { IfOk result (IsVerdict request.now) }
 {
+    if !is_json(&request.media) {
+        let refused = refusal(alloc, 415, "body must be application/json", request.last)?;
+        return Ok(Verdict::Refused(refused));
+    }
     match read_create(alloc, request.body.as_slice()) {
         Ok(body) => Ok(Verdict::Create(body)),
         Err(fault) => Ok(Verdict::Refused(refused_body(alloc, &fault, request.last)?)),
@@ -117,14 +112,8 @@ fn create_as<S: Site>(
     ensures counts { OnlyDiskFails (result ≡ Err ApiFault.Disk) (S.counts site.old) (S.counts site.new) }
 {
     works_add_up::<S>();
-    match prepare(alloc, manager, body, now, last)? {
-        Step::Refused(reply) => Ok(reply),
-        Step::Creates(event, reply) => {
-            let answer = record(alloc, manager, site, &event, reply, last);
-            drop(event);
-            answer
-        }
-    }
+    let planned = prepare(alloc, manager, body, now, last)?;
+    carry_out(alloc, manager, site, planned, last)
 }
 
 /// What a create request with this body comes to, before it is known whether there is room for it.
@@ -134,23 +123,23 @@ fn prepare<S: Site>(
     body: CreateBody,
     now: Moment,
     last: bool,
-) -> Result<Step, AllocError>
+) -> Result<Planned, AllocError>
     requires usable { manager.now.ledger.closed ≡ false }
-    ensures step { (H : List Event) → Keeps manager.now H → IfOk result (IsStep (create_outcome manager.now.ledger.manager H now body last) manager.now H last) }
+    ensures planned { (H : List Event) → Keeps manager.now H → IfOk result (IsPlanned (create_outcome manager.now.ledger.manager H now body last) manager.now H last) }
 {
     let Some(vnfd) = manager.vnfd(&body.vnfd) else {
-        return Ok(Step::Refused(refusal(alloc, 422, "vnfdId is not onboarded", last)?));
+        return Ok(Planned::Told(refusal(alloc, 422, "vnfdId is not onboarded", last)?));
     };
     if manager.live(Kind::Instance) >= MAX_INSTANCES {
-        return Ok(Step::Refused(refusal(alloc, 507, "too many instances", last)?));
+        return Ok(Planned::Told(refusal(alloc, 507, "too many instances", last)?));
     }
     let n = manager.next_instance();
     let reply = created(alloc, manager.number(), n, &body, vnfd, last)?;
-    Ok(Step::Creates(creation(n, now, body), reply))
+    Ok(Planned::Records(creation(n, now, body), reply))
 }
 
 /// The answer to a create request.
-#[tactic(auto, unfolding(crate::specs::Outcome::created))]
+#[tactic(auto, unfolding(crate::specs::Creating::created))]
 fn created(
     alloc: Global,
     manager: u32,
@@ -189,30 +178,5 @@ fn creation(instance: u64, moment: Moment, body: CreateBody) -> Event
             name: body.name,
             text: body.text,
         },
-    }
-}
-
-/// Records the event, and then gives the reply. Where there is no room for it, it is refused.
-fn record<S: Site>(
-    alloc: Global,
-    manager: &mut Manager<S>,
-    site: &mut S,
-    event: &Event,
-    reply: Reply,
-    last: bool,
-) -> Result<Reply, ApiFault>
-    requires creates { (H : List Event) × IsReady S.tells manager.old H (S.state site.old) × MayCreate manager.old H event.now }
-    ensures reply { (H : List Event) → Keeps manager.old H → IfOk result (λ given. given ≡ (room_outcome (is_full MAX_REQUESTED (event.now ∷ H)) reply event.now last).reply) }
-    ensures works { (H : List Event) → IsReady S.tells manager.old H (S.state site.old) → MayCreate manager.old H event.now → Works S.tells manager.old.ledger.manager H
-        (answered (room_outcome (is_full MAX_REQUESTED (event.now ∷ H)) reply event.now last) H result) manager.new (S.state site.old) (S.state site.new) }
-    ensures counts { OnlyDiskFails (result ≡ Err ApiFault.Disk) (S.counts site.old) (S.counts site.new) }
-{
-    match manager.commit(alloc, site, event, MAX_REQUESTED) {
-        Ok(()) => Ok(reply),
-        Err(WorkFault::Full { .. }) => Ok(refusal(alloc, 507, "journal full", last)?),
-        // A creation is far shorter than a record.
-        Err(WorkFault::TooLong(_)) => unreachable!(),
-        Err(WorkFault::Memory) => Err(ApiFault::Memory),
-        Err(WorkFault::Disk) => Err(ApiFault::Disk),
     }
 }

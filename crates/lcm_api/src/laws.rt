@@ -2,7 +2,8 @@
 ghost use Rattle.std.specs.Prelude.{◌≡◌};
 ghost use Rattle.lcm_api.specs.Laws.{AreLastAsAsked};
 
-use crate::create::{MAX_INSTANCES, MAX_REQUESTED};
+use crate::create::MAX_INSTANCES;
+use crate::record::MAX_REQUESTED;
 
 /// The connection ends with the reply to a request exactly where it ends with the request.
 ///

@@ -4,21 +4,25 @@
 mod answer;
 mod create;
 mod door;
+mod instances;
 mod laws;
 mod listen;
+mod media;
 mod mouth;
 mod outgoing;
+mod record;
 mod reply;
 mod route;
 mod session;
 mod tell;
 
 pub use answer::ApiFault;
-pub use create::{MAX_INSTANCES, MAX_REQUESTED};
+pub use create::MAX_INSTANCES;
 pub use door::DoorFailed;
 pub use http_wire::{Request, WireFault};
 pub use laws::{a_reply_is_last_where_its_request_is, limits_are_fixed};
 pub use listen::Reading;
 pub use mouth::Mouth;
+pub use record::MAX_REQUESTED;
 pub use reply::Reply;
 pub use session::{Closed, answer_session};

@@ -17,17 +17,19 @@ use crate::tell::tell_reply;
 use executor::Manager;
 use http_wire::{CONNECTION_REQUESTS, Request, Taken, Wire, WireFault};
 use lcm_events::Role;
+use lcm_routes::Routes;
 use site_traits::{Door, NextAnswer, Site};
 use std::alloc::{AllocError, Global};
 use std::marker::Model;
 
-/// The requests of connections, with room for one answer, and the request in hand with the role that it was heard for.
+/// The requests of connections, with room for one answer and the paths that requests may name, and the request in hand with the role that it was heard for.
 ///
 /// It owns the wire and with it the door, and `tell` is the one call that writes to the door.
 #[derive(Drop)]
 pub struct Mouth<D: Door> {
     wire: Wire<D>,
     outgoing: Outgoing,
+    routes: Routes,
     hand: Option<Request>,
     role: Role,
 }
@@ -51,9 +53,11 @@ impl<D: Door> Mouth<D> {
     {
         let wire = Wire::new(alloc, door)?;
         let outgoing = Outgoing::new(alloc)?;
+        let routes = Routes::new(alloc)?;
         Ok(Mouth {
             wire,
             outgoing,
+            routes,
             hand: None,
             role: Role::Orchestrator,
         })
@@ -150,6 +154,11 @@ impl<D: Door> Mouth<D> {
         ensures kept { OnlyAtDoor self.old self.new }
     {
         tell_reply(self.wire.door_mut(), &mut self.outgoing, reply)
+    }
+
+    /// The paths that a request may name.
+    pub fn routes(&self) -> &Routes {
+        &self.routes
     }
 
     /// The request in hand. Condition: one is in hand.

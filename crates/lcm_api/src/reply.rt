@@ -1,8 +1,10 @@
 //! A reply, and those that no route has for its own.
 ghost use Rattle.std.specs.Prelude.{◌≡◌, IfOk};
-ghost use Rattle.lcm_api.specs.Outcome.{bare, malformed, refusal, too_large};
+ghost use Rattle.lcm_api.specs.Refusals.{refusal_status, refusal_text};
+ghost use Rattle.lcm_api.specs.Replies.{bare, malformed, refusal, shown, too_large};
 
 use json_views::problem_view;
+use lcm_model::Refusal;
 use std::alloc::{AllocError, Global};
 use vnfm_base::{Bytes, Line, Name};
 
@@ -26,7 +28,7 @@ pub struct Reply {
 }
 
 /// A refusal with this status and this detail, and whether the connection ends with it.
-#[tactic(auto, unfolding(crate::specs::Outcome::refusal))]
+#[tactic(auto, unfolding(crate::specs::Replies::refusal))]
 pub fn refusal(alloc: Global, status: u16, detail: &str, last: bool) -> Result<Reply, AllocError>
     ensures { IfOk result (λ reply. reply ≡ refusal status detail.now last) }
 {
@@ -39,6 +41,72 @@ pub fn refusal(alloc: Global, status: u16, detail: &str, last: bool) -> Result<R
         body,
         last,
     })
+}
+
+/// The refusal for what the model refuses, and whether the connection ends with it.
+///
+/// Source: SOL 003 5.4.3 to 5.4.10; the statuses and texts are own rules, docs/FORMATS.md.
+pub fn refusal_for(alloc: Global, why: Refusal, last: bool) -> Result<Reply, AllocError>
+    ensures { IfOk result (λ reply. reply ≡ refusal (refusal_status why) (refusal_text why) last) }
+{
+    refusal(alloc, refusal_status(why), refusal_text(why), last)
+}
+
+/// The status of what the model refuses.
+fn refusal_status(why: Refusal) -> u16
+    ensures { result ≡ refusal_status why }
+{
+    match why {
+        Refusal::Instantiated
+        | Refusal::NotInstantiated
+        | Refusal::Ongoing
+        | Refusal::OutOfStep
+        | Refusal::Stopped => 409,
+        Refusal::TooManyResources => 507,
+        _ => 422,
+    }
+}
+
+/// The text of what the model refuses.
+fn refusal_text(why: Refusal) -> &'static str
+    ensures { result.now ≡ refusal_text why }
+{
+    match why {
+        Refusal::UnknownFlavour => "flavourId is not in the descriptor",
+        Refusal::UnknownLevel => "instantiationLevelId is not in the descriptor",
+        Refusal::UnknownAspect => "aspectId is not in the descriptor",
+        Refusal::NoSteps => "numberOfSteps is 0",
+        Refusal::AspectTwice => "scaleInfo names an aspect twice",
+        Refusal::LevelAboveMaximum => "scaleLevel is above the maximum",
+        Refusal::Instantiated => "instance is INSTANTIATED",
+        Refusal::NotInstantiated => "instance is not INSTANTIATED",
+        Refusal::Ongoing => "an operation is ongoing",
+        Refusal::OutOfStep => "instance is out of step",
+        Refusal::Stopped => "instance is STOPPED",
+        Refusal::BelowZero => "scale level below zero",
+        Refusal::AboveMaximum => "scale level above the maximum",
+        Refusal::UnknownVnfc => "vnfcInstanceId names no VNFC",
+        Refusal::NothingToDo => "nothing to do",
+        Refusal::AboveProfile => "instances above the maximum of the VDU",
+        Refusal::TooManyResources => "too many resources",
+    }
+}
+
+/// The answer that shows this body.
+///
+/// Source: RFC 9110 15.3.1.
+#[tactic(auto, unfolding(crate::specs::Replies::shown))]
+pub fn shown(body: Bytes, last: bool) -> Reply
+    ensures { result ≡ shown body last }
+{
+    Reply {
+        status: 200,
+        location: None,
+        allow: None,
+        problem: false,
+        body,
+        last,
+    }
 }
 
 /// The refusal of bytes that are no request.

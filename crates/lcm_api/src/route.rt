@@ -1,36 +1,124 @@
-//! Which route a request takes: what it asks for, by its method and its target.
-ghost use Rattle.std.specs.Prelude.{◌≡◌};
-ghost use Rattle.lcm_api.specs.Judging.{Routes};
-ghost use Rattle.lcm_api.specs.Outcome.{is_create, route_of};
+//! Where a request goes: what it asks of which resource, by its target and its method.
+ghost use Rattle.std.specs.Prelude.{◌≡◌, IfOk, Some, true};
+ghost use Rattle.lcm_api.specs.Routes.{allow, not_allowed, routing, routing_to};
+ghost use Rattle.vnfm_base.specs.Text.{is_label};
 
+use crate::reply::Reply;
 use http_wire::Request;
-
-/// The path of the instances.
-const INSTANCES: &str = "/vnflcm/v1/vnf_instances";
+use json_views::problem_view;
+use lcm_routes::{Resource, Routes, path_of};
+use std::alloc::{AllocError, Global};
+use vnfm_base::Name;
 
 /// What a request asks for.
+///
+/// Source: SOL 003 5.4.2.3, 5.4.3.3, 5.4.4.3 to 5.4.10.3.
 #[derive(Clone, Copy, Debug, PartialEq, Eq)]
 pub enum Route {
+    /// It lists the instances.
+    ListInstances,
     /// It creates an instance.
-    Create,
+    CreateInstance,
+    /// It shows an instance.
+    ShowInstance,
+    /// It deletes an instance.
+    DeleteInstance,
+    /// It asks for a task of an instance.
+    InstanceTask,
 }
 
-/// The route of a request; none where no resource has this target and method.
+/// Where a request goes.
+#[derive(Clone, Copy, Debug, PartialEq, Eq)]
+pub enum Routing {
+    /// No resource that is served has its path.
+    Nowhere,
+    /// The resource has no such method.
+    NotAllowed(Resource),
+    /// A route serves it.
+    Served(Route),
+}
+
+/// Where a request goes. It takes no memory.
 ///
-/// Source: SOL 003 5.4.2.3.1.
-pub fn route_of(request: &Request) -> Option<Route>
-    ensures route { result ≡ route_of request.now }
-    ensures comes_to { Routes request.now result }
+/// Source: SOL 003 5.3 (Resource structure and supported HTTP methods); RFC 9110 9.1.
+pub fn route_of(routes: &Routes, request: &Request) -> Routing
+    ensures { result ≡ routing request.now }
 {
-    if is_create(request) {
-        Some(Route::Create)
-    } else {
-        None
+    let found = routes.find(path_of(request.target.as_str()));
+    match found {
+        Some(resource) => routing_to(resource, request.method.as_str()),
+        None => Routing::Nowhere,
     }
 }
 
-fn is_create(request: &Request) -> bool
-    ensures { result ≡ is_create request.now }
+/// Where a request with this method to a resource goes: the table of routes.
+fn routing_to(resource: Resource, method: &str) -> Routing
+    ensures { result ≡ routing_to method.now (Some resource) }
 {
-    request.method.as_str() == "POST" && request.target.as_str() == INSTANCES
+    match resource {
+        Resource::Instances => match method {
+            "GET" => Routing::Served(Route::ListInstances),
+            "POST" => Routing::Served(Route::CreateInstance),
+            _ => Routing::NotAllowed(resource),
+        },
+        Resource::Instance => match method {
+            "DELETE" => Routing::Served(Route::DeleteInstance),
+            "GET" => Routing::Served(Route::ShowInstance),
+            _ => Routing::NotAllowed(resource),
+        },
+        Resource::InstanceTask(_) => match method {
+            "POST" => Routing::Served(Route::InstanceTask),
+            _ => Routing::NotAllowed(resource),
+        },
+        Resource::Occurrences
+        | Resource::Occurrence
+        | Resource::OccurrenceTask(_)
+        | Resource::Subscriptions
+        | Resource::Subscription => Routing::Nowhere,
+    }
+}
+
+/// The methods of a resource, as Allow says them.
+fn allow(resource: Resource) -> Name
+    ensures { result ≡ allow resource }
+{
+    match Name::of(allow_text(resource).as_bytes()) {
+        Some(name) => name,
+        None => unreachable!(),
+    }
+}
+
+/// The text of the methods of a resource, in byte order.
+fn allow_text(resource: Resource) -> &'static str
+    ensures text { result.now ≡ allow resource }
+    ensures label { is_label result.now ≡ true }
+{
+    match resource {
+        Resource::Instances => "GET, POST",
+        Resource::Instance => "DELETE, GET",
+        Resource::InstanceTask(_) => "POST",
+        Resource::Occurrences
+        | Resource::Occurrence
+        | Resource::OccurrenceTask(_)
+        | Resource::Subscriptions
+        | Resource::Subscription => "",
+    }
+}
+
+/// The refusal of a method that a resource hasn't.
+///
+/// Source: RFC 9110 15.5.6, 10.2.1.
+#[tactic(auto, unfolding(crate::specs::Routes::not_allowed))]
+pub fn not_allowed(alloc: Global, resource: Resource, last: bool) -> Result<Reply, AllocError>
+    ensures { IfOk result (λ reply. reply ≡ not_allowed resource last) }
+{
+    let body = problem_view(alloc, 405, "method not allowed")?;
+    Ok(Reply {
+        status: 405,
+        location: None,
+        allow: Some(allow(resource)),
+        problem: true,
+        body,
+        last,
+    })
 }

@@ -150,7 +150,7 @@ fn respond<S: Site, D: Door, K: Clock>(
 {
     works_add_up::<S>();
     let now = Moment::of(clock.now());
-    match answer(alloc, manager, site, mouth.request(), now) {
+    match answer(alloc, manager, site, mouth.routes(), mouth.request(), now) {
         Ok(reply) => match mouth.tell(manager, site, &reply) {
             Ok(()) => Step::Told,
             Err(DoorFailed) => Step::Over,

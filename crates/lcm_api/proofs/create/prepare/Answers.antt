@@ -5,7 +5,7 @@ use Rattle.lcm_api.proofs.create.prepare.Goals as goal
 
 pub returns : goal.returns
 returns g c = record {
-  step = λ H keeps.
+  planned = λ H keeps.
       let number = c.next_instance-n.ensures.number H keeps in
       let live = c.live.ensures H keeps in
       let few = c.if-live-ge-MAX_INSTANCES.false in

@@ -1,4 +1,4 @@
--- A refusal and a creation take over whether the request is the last.
+-- Each reply takes over whether the request is the last.
 use Rattle.std.proofs.Common.{◌≡◌, ◌+◌, ◌++◌, ℕ, List, [], ◌∷◌, length, Bool, true, false, Option, Some, None, Result, Ok, Err, refl}
 use Rattle.std.specs.Prelude.{nat_le, codes, if◌then◌else◌}
 use Rattle.json_views.specs.Body.{and_then, create_of, create_read, document, line_in, name_in, needed, needed_value, needed_member, optional, optional_member, optional_value, some_name_in, member_of}
@@ -8,10 +8,27 @@ use Rattle.json_views.specs.declared.body.CreateBody.{CreateBody}
 use Rattle.lcm_events.specs.declared.events.Event.{Event}
 use Rattle.lcm_events.specs.declared.descriptor.Vnfd.{Vnfd}
 use Rattle.lcm_model.specs.Lives.{descriptor_named, instances_made, live_instances}
-use Rattle.lcm_api.specs.Outcome.{Outcome, body_outcome, described_outcome, created, creation, refusal, refused, room_outcome, route_of, routed}
-use Rattle.lcm_api.specs.declared.route.Route.TheVariants.{Create}
+use Rattle.instance_table.specs.declared.rows.InstanceRow.{InstanceRow}
+use Rattle.lcm_model.specs.Refusals.{delete_refusal}
+use Rattle.lcm_model.specs.declared.refusals.Refusal.{Refusal}
+use Rattle.lcm_routes.specs.Targets.{asks_filter}
+use Rattle.http_wire.specs.declared.request.Request.{Request}
+use Rattle.instance_table.specs.Rows.{rows}
+use Rattle.json_views.specs.Instances.{instances_text}
+use Rattle.lcm_api.specs.Creating.{body_outcome, create_instance, described_outcome, created, creation}
+use Rattle.lcm_api.specs.Instances.{asked_id, delete_found, delete_judged, deleted, deletion, list_instances, named_instance, row_text, show_found, task_found}
+use Rattle.lcm_api.specs.Media.{is_json}
+use Rattle.lcm_api.specs.Outcome.{routed, served}
+use Rattle.lcm_api.specs.Refusals.{refusal_status, refusal_text}
+use Rattle.lcm_api.specs.Replies.{Outcome, refusal, refused, room_outcome, shown, told}
+use Rattle.lcm_api.specs.Routes.{not_allowed, routing}
+use Rattle.lcm_routes.specs.declared.resources.Resource.{Resource}
+use Rattle.lcm_api.specs.declared.route.Route.{Route}
+use Rattle.lcm_api.specs.declared.route.Route.TheVariants.{ListInstances, CreateInstance, ShowInstance, DeleteInstance, InstanceTask}
+use Rattle.lcm_api.specs.declared.route.Routing.TheVariants.{Nowhere, NotAllowed, Served}
 use Rattle.executor.specs.Room.{is_full}
-use Rattle.lcm_api.specs.declared.create.TheConstants.{MAX_INSTANCES, MAX_REQUESTED}
+use Rattle.lcm_api.specs.declared.create.TheConstants.{MAX_INSTANCES}
+use Rattle.lcm_api.specs.declared.record.TheConstants.{MAX_REQUESTED}
 use Rattle.lcm_api.proofs.laws.a_reply_is_last_where_its_request_is.Goals as goal
 
 -- the reading doesn't speak of memory
@@ -89,9 +106,63 @@ body_ends m H now (Err (Lacks name)) last is = refusal_ends 400 (codes "missing 
 body_ends m H now (Err (Wrong name)) last is = refusal_ends 400 (codes "bad " ++ name) last
 body_ends m H now (Err Memory) last is = absurd is
 
+create_ends : (m : ℕ) (H : List Event) (now : ℕ) (r : Request) → EndsAs r.last (create_instance m H now r)
+create_ends m H now r =
+    elim (is_json r.media) as (λ json. EndsAs r.last (if json then body_outcome m H now (create_of r.body) r.last else refused 415 (codes "body must be application/json") r.last)) [
+      | true ↦ body_ends m H now (create_of r.body) r.last (create_of_bytes r.body)
+      | false ↦ refusal_ends 415 (codes "body must be application/json") r.last
+    ]
+
+shown_ends : (body : List ℕ) (last : Bool) → EndsAs last (told (shown body last))
+unfolding shown
+shown_ends body last = refl
+
+not_allowed_ends : (x : Resource) (last : Bool) → EndsAs last (told (not_allowed x last))
+unfolding not_allowed
+not_allowed_ends x last = refl
+
+list_ends : (m : ℕ) (H : List Event) (r : Request) → EndsAs r.last (list_instances m H r)
+list_ends m H r =
+    elim (asks_filter r.target) as (λ filtered. EndsAs r.last (if filtered then refused 400 (codes "filter is not served") r.last else told (shown (instances_text m (rows H)) r.last))) [
+      | true ↦ refusal_ends 400 (codes "filter is not served") r.last
+      | false ↦ shown_ends (instances_text m (rows H)) r.last
+    ]
+
+show_ends : (m : ℕ) (H : List Event) (last : Bool) (found : Option InstanceRow) → EndsAs last (show_found m H last found)
+show_ends m H last None = refusal_ends 404 (codes "no such instance") last
+show_ends m H last (Some row) = shown_ends (row_text m (rows H) row) last
+
+task_ends : (last : Bool) (found : Option InstanceRow) → EndsAs last (task_found last found)
+task_ends last None = refusal_ends 404 (codes "no such instance") last
+task_ends last (Some row) = refusal_ends 404 (codes "task is not supported") last
+
+deletion_ends : (last : Bool) (after : List Event) → EndsAs last (record { reply = deleted last; after = after })
+unfolding deleted
+deletion_ends last after = refl
+
+judged_ends : (H : List Event) (now n : ℕ) (last : Bool) (why : Option Refusal) → EndsAs last (delete_judged H now n last why)
+judged_ends H now n last (Some why) = refusal_ends (refusal_status why) (refusal_text why) last
+judged_ends H now n last None =
+    elim (is_full MAX_REQUESTED (deletion now n ∷ H)) as (λ full. EndsAs last (room_outcome full (deleted last) (deletion now n) last)) [
+      | true ↦ refusal_ends 507 (codes "journal full") last
+      | false ↦ deletion_ends last (deletion now n ∷ [])
+    ]
+
+delete_ends : (H : List Event) (now : ℕ) (last : Bool) (found : Option InstanceRow) → EndsAs last (delete_found H now last found)
+delete_ends H now last None = refusal_ends 404 (codes "no such instance") last
+delete_ends H now last (Some row) = judged_ends H now row.number last (delete_refusal H row.number)
+
+served_ends : (route : Route) (m : ℕ) (H : List Event) (now : ℕ) (r : Request) → EndsAs r.last (served route m H now r)
+served_ends ListInstances m H now r = list_ends m H r
+served_ends CreateInstance m H now r = create_ends m H now r
+served_ends ShowInstance m H now r = show_ends m H r.last (named_instance m H (asked_id r))
+served_ends DeleteInstance m H now r = delete_ends H now r.last (named_instance m H (asked_id r))
+served_ends InstanceTask m H now r = task_ends r.last (named_instance m H (asked_id r))
+
 pub returns : goal.returns
 returns c m H now r =
-    elim (route_of r) as (λ route. EndsAs r.last (routed route m H now r)) [
-      | Some Create ↦ body_ends m H now (create_of r.body) r.last (create_of_bytes r.body)
-      | None ↦ refusal_ends 404 (codes "no such resource") r.last
+    elim (routing r) as (λ to. EndsAs r.last (routed to m H now r)) [
+      | Nowhere ↦ refusal_ends 404 (codes "no such resource") r.last
+      | NotAllowed x ↦ not_allowed_ends x r.last
+      | Served route ↦ served_ends route m H now r
     ]
