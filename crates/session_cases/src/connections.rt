@@ -92,7 +92,7 @@ fn refusals_are_told_byte_by_byte(rt: HostRuntime) -> Result<(), Fail> {
             b"HTTP/1.1 422 Unprocessable Content\r\nContent-Type: application/problem+json\r\nContent-Length: 49\r\n\r\n{\"detail\":\"vnfdId is not onboarded\",\"status\":422}",
         ),
         (
-            b"GET /vnflcm/v1/vnf_instances HTTP/1.1\r\nContent-Length: 0\r\n\r\n",
+            b"GET /vnflcm/v1/vnf_packages HTTP/1.1\r\nContent-Length: 0\r\n\r\n",
             b"HTTP/1.1 404 Not Found\r\nContent-Type: application/problem+json\r\nContent-Length: 42\r\n\r\n{\"detail\":\"no such resource\",\"status\":404}",
         ),
         (

@@ -12,4 +12,6 @@ mod framings;
 #[cfg(test)]
 mod requests;
 #[cfg(test)]
+mod routes;
+#[cfg(test)]
 mod sessions;

@@ -188,25 +188,3 @@ fn a_name_is_written_by_the_rule_of_json(rt: HostRuntime) -> Result<(), Fail> {
 fn holds(all: &[u8], part: &[u8]) -> bool {
     all.windows(part.len().max(1)).any(|window| window == part)
 }
-
-#[test]
-fn other_paths_and_methods_are_answered_and_change_nothing(rt: HostRuntime) -> Result<(), Fail> {
-    let alloc = rt.alloc();
-    let elsewhere: &[u8] =
-        b"HTTP/1.1 404 Not Found\r\nContent-Type: application/problem+json\r\nContent-Length: 42\r\n\r\n{\"detail\":\"no such resource\",\"status\":404}";
-    let cases: [&[u8]; 4] = [
-        b"GET /vnflcm/v1/vnf_instances HTTP/1.1\r\nContent-Length: 0\r\n\r\n",
-        b"GET /vnflcm/v1/vnf_instances HTTP/1.1\r\n\r\n",
-        b"POST /vnflcm/v1/vnf_instances?x HTTP/1.1\r\nContent-Length: 2\r\n\r\n{}",
-        b"POST / HTTP/1.1\r\ncontent-length: 002\r\n\r\n{}",
-    ];
-    for bytes in cases {
-        let mut site = site_with(alloc, &JOURNAL, Vec::new(alloc))?;
-        let ran = once(alloc, &mut site, bytes)?;
-        assert_eq!(rt; ran.status, 0);
-        assert!(rt; ran.told.as_slice() == elsewhere);
-        assert!(rt; ran.ended);
-        assert!(rt; site.file() == JOURNAL.as_slice());
-    }
-    Ok(())
-}

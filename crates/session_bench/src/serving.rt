@@ -1,0 +1,96 @@
+//! One connection of many requests over a site in memory.
+
+use crate::words::Request;
+use anyhow::{Result, bail};
+use executor::Manager;
+use lcm_api::{Mouth, answer_session};
+use lcm_events::Role;
+use site_traits::{DoorPlan, MemDoor, MemSite, NextAnswer, SetClock, SitePlan};
+use std::alloc::{AllocError, AllocGlobal, Global};
+use std::time::{CpuClock, Duration};
+use vnfm_base::Bytes;
+
+/// Bytes of the largest journal.
+const ROOM: usize = 16_777_216;
+
+/// What came of a connection.
+#[derive(Clone, Copy, Debug)]
+pub struct Served {
+    /// Replies that were told.
+    pub replies: u32,
+    /// Their bytes.
+    pub bytes: usize,
+    /// The processor time that serving took.
+    pub took: Duration,
+}
+
+/// A site with this file.
+pub fn site_of(alloc: Global, file: &[u8]) -> Result<MemSite, AllocError> {
+    let plan = SitePlan {
+        bytes: ROOM,
+        jobs: 0,
+        failing: Vec::new(alloc),
+        work: Vec::new(alloc),
+    };
+    MemSite::with_file(alloc, plan, file)
+}
+
+/// Opens the journal of the site, and serves one connection with this request so many times.
+pub fn serve(
+    rt: &(impl CpuClock + AllocGlobal),
+    site: &mut MemSite,
+    request: Request,
+    number: u32,
+) -> Result<Served> {
+    let alloc = rt.alloc();
+    let mut mouth = Mouth::new(alloc, door_of(alloc, request.bytes(), number)?)?;
+    let mut clock = SetClock::new(alloc, Vec::new(alloc))?;
+    let mut manager = match Manager::load(alloc, site) {
+        Ok(manager) => manager,
+        Err(fault) => bail!("{fault}"),
+    };
+    let NextAnswer::Came(_) = mouth.next() else {
+        bail!("no connection came");
+    };
+    let begun = rt.process_cpu_time()?;
+    let answer = answer_session(
+        alloc,
+        &mut manager,
+        site,
+        &mut mouth,
+        &mut clock,
+        Role::Orchestrator,
+    );
+    let took = rt.process_cpu_time()?.saturating_sub(begun);
+    let Ok(replies) = answer else {
+        bail!("the disk failed");
+    };
+    Ok(Served {
+        replies,
+        bytes: mouth.door().conn().out().len(),
+        took,
+    })
+}
+
+/// A door at which one connection comes, with these bytes so many times.
+fn door_of(alloc: Global, bytes: &[u8], number: u32) -> Result<MemDoor, AllocError> {
+    let mut pieces = Vec::new(alloc);
+    pieces.push(Bytes::of_vec(repeated(alloc, bytes, number)?))?;
+    let mut plans = Vec::new(alloc);
+    plans.push(DoorPlan::Conn {
+        role: Role::Orchestrator,
+        pieces,
+        failing_read: None,
+        failing_write: None,
+    })?;
+    MemDoor::new(alloc, plans)
+}
+
+/// These bytes so many times, one behind the other.
+fn repeated(alloc: Global, bytes: &[u8], number: u32) -> Result<Vec<u8>, AllocError> {
+    let mut all = Vec::new(alloc);
+    for _ in 0..number {
+        all.extend_from_slice(bytes)?;
+    }
+    Ok(all)
+}
