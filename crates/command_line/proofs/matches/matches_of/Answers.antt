@@ -1,0 +1,19 @@
+-- `clap` was told of the options, and finds their values.
+use Rattle.std.proofs.Common.{◌≡◌, ap, ap₂, map, ◌∙◌}
+use Rattle.std.proofs.lemmas.Result.{IfOk-weaker}
+use Rattle.clap.specs.Words.{app_of, found_of, is_simple, matches_of, with_rule}
+use Rattle.command_line.proofs.MatchLemmas.{has_values, reader, reader_is_simple}
+use Rattle.command_line.proofs.matches.matches_of.Goals as goal
+
+pub returns : goal.returns
+returns c =
+    let one = c.in_ok-arg.ensures.shape c.option-journal.ensures.local ∙ ap₂ with_rule c.new.ensures.app c.option-journal.ensures.rule in
+    let two = c.in_ok-arg-2.ensures.shape c.option-manager.ensures.local ∙ ap₂ with_rule one c.option-manager.ensures.rule in
+    let three = c.in_ok-arg-3.ensures.shape c.option-role.ensures.local ∙ ap₂ with_rule two c.option-role.ensures.rule in
+    let four = c.in_ok-arg-4.ensures.shape c.option-rounds.ensures.local ∙ ap₂ with_rule three c.option-rounds.ensures.rule in
+    let five = c.in_ok-arg-5.ensures.shape c.option-orchestrator.ensures.local ∙ ap₂ with_rule four c.option-orchestrator.ensures.rule in
+    let all : app_of c.in_ok-all.all ≡ reader = c.in_ok-all.ensures.shape c.option-vim.ensures.local ∙ ap₂ with_rule five c.option-vim.ensures.rule in
+    IfOk-weaker c.try_get_matches_from.result _ _
+    (λ m has command pairs are. has_values (found_of m) (map (λ word. word.now) c.args.words.now) command pairs
+    ((has (ap is_simple all ∙ reader_is_simple)).0 ∙ ap (λ a. matches_of a (map (λ word. word.now) c.args.words.now)) all) are)
+    c.try_get_matches_from.ensures.matches

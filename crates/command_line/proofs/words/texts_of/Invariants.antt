@@ -1,0 +1,6 @@
+-- The words so far were lent.
+use Rattle.std.proofs.Common.{◌≡◌, map, take}
+use Rattle.command_line.proofs.words.texts_of.Given as goal
+
+abbrev pub invariant-loop-word : goal.invariant-loop-word
+invariant-loop-word l = map (λ text. text.now) l.texts.items ≡ take l.word-index l.words

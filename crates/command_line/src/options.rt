@@ -1,0 +1,53 @@
+//! What the words of the command line set.
+use lcm_events::Role;
+use thiserror::Error;
+use vnfm_base::Text;
+
+/// A command.
+#[derive(Clone, Copy, Debug, PartialEq, Eq)]
+pub enum Command {
+    /// Makes a journal.
+    Init,
+    /// Onboards the descriptor on standard input.
+    Onboard,
+    /// Answers the requests on standard input.
+    Once,
+}
+
+/// What the words set; empty or 0 where the command lacks it.
+#[derive(Drop)]
+pub struct Settings {
+    /// The command.
+    pub command: Command,
+    /// The path of the journal's file.
+    pub journal: Text,
+    /// The manager's number.
+    pub manager: u32,
+    /// Who asks on the connections.
+    pub role: Role,
+    /// How many rounds are made.
+    pub rounds: u32,
+    /// The address for the orchestrator's requests.
+    pub listen: Text,
+    /// The address for the element manager's requests.
+    pub em_listen: Text,
+    /// Where grants are to be asked for; empty where nothing is. Nothing asks there yet.
+    pub orchestrator: Text,
+    /// Where the infrastructure is; empty where nothing is. Nothing asks there yet.
+    pub vim: Text,
+    /// The start of a trial.
+    pub start: u64,
+    /// The steps of a trial.
+    pub count: u32,
+}
+
+/// Why the words set nothing.
+#[derive(Debug, Drop, Error)]
+pub enum SettingsFault {
+    /// They are no command.
+    #[error("usage")]
+    Usage,
+    /// There is no memory for the settings.
+    #[error("no memory")]
+    Memory,
+}
