@@ -1,10 +1,11 @@
 -- The line that says why a run ended as it did (own rule, docs/FORMATS.md).
-use Rattle.std.specs.Prelude.{◌≡◌, ℕ, List, ◌∷◌, ◌++◌, codes, Option, Some, None, slice_get}
+use Rattle.std.specs.Prelude.{◌≡◌, ℕ, List, ◌++◌, codes, drop, Option, Some, None, slice_get}
+use Rattle.command_line.specs.Words.{value_in}
 use Rattle.program_words.specs.Wrong.{wrong_of}
 use Rattle.program_words.specs.declared.reason.Reason.{Reason}
 use Rattle.program_words.specs.declared.reason.Reason.TheVariants as say
 use Rattle.program_words.specs.declared.wrong.Wrong.{Wrong}
-use Rattle.program_words.specs.declared.wrong.Wrong.TheVariants.{Word, NoCommand, NoJournal, NoManager, Nothing}
+use Rattle.program_words.specs.declared.wrong.Wrong.TheVariants.{Word, NoCommand, NoValue, NoJournal, NoManager, Nothing}
 
 -- a line that says this
 abbrev pub plain_line : List ℕ → List ℕ
@@ -14,19 +15,24 @@ plain_line text = codes "vnfm: " ++ text ++ codes "\n"
 abbrev pub IsLineOn : List ℕ → List ℕ → List ℕ → Type 0
 IsLineOn joint text line = (quoted : List ℕ) × (line ≡ codes "vnfm: " ++ (quoted ++ (joint ++ (text ++ codes "\n"))))
 
--- a line that says this of the journal, whose path is the third word
-abbrev pub IsAboutJournal : List (List ℕ) → List ℕ → List ℕ → Type 0
-IsAboutJournal (command ∷ option ∷ path ∷ rest) text line = IsLineOn (codes ": ") text line
-IsAboutJournal words text line = line ≡ plain_line text
+-- a line that says this of the journal's path, where there is one
+abbrev pub IsAboutPath : Option (List ℕ) → List ℕ → List ℕ → Type 0
+IsAboutPath (Some path) text line = IsLineOn (codes ": ") text line
+IsAboutPath None text line = line ≡ plain_line text
 
--- a line that says which of the words isn't understood
-abbrev pub IsAboutWord : Option (List ℕ) → List ℕ → Type 0
-IsAboutWord (Some word) line = IsLineOn (codes " ") (codes "isn't understood; vnfm --help says more") line
-IsAboutWord None line = line ≡ plain_line (codes "the words are no command; vnfm --help says more")
+-- a line that says this of the journal, whose path stands behind `--journal`
+abbrev pub IsAboutJournal : List (List ℕ) → List ℕ → List ℕ → Type 0
+IsAboutJournal words text line = IsAboutPath (value_in (codes "--journal") (drop 1 words)) text line
+
+-- a line that says this of one of the words
+abbrev pub IsAboutWord : List ℕ → Option (List ℕ) → List ℕ → Type 0
+IsAboutWord text (Some word) line = IsLineOn (codes " ") text line
+IsAboutWord text None line = line ≡ plain_line (codes "the words are no command; vnfm --help says more")
 
 -- a line that says what is wrong first with the words
 abbrev pub IsWrongLine : List (List ℕ) → Wrong → List ℕ → Type 0
-IsWrongLine words (Word place) line = IsAboutWord (slice_get words place) line
+IsWrongLine words (Word place) line = IsAboutWord (codes "isn't understood; vnfm --help says more") (slice_get words place) line
+IsWrongLine words (NoValue place) line = IsAboutWord (codes "has no value; vnfm --help says more") (slice_get words place) line
 IsWrongLine words NoCommand line = line ≡ plain_line (codes "a command is missing; vnfm --help says more")
 IsWrongLine words NoJournal line = line ≡ plain_line (codes "--journal PATH is missing; vnfm --help says more")
 IsWrongLine words NoManager line = line ≡ plain_line (codes "--manager N is missing; vnfm --help says more")

@@ -1,40 +1,49 @@
 -- What is wrong first with words that are no command (own rule, docs/FORMATS.md).
-use Rattle.std.specs.Prelude.{◌==◌, ◌||◌, not, ℕ, List, [], ◌∷◌, codes, if◌then◌else◌, Bool, false}
+use Rattle.std.specs.Prelude.{◌+◌, ◌&&◌, not, List, [], ◌∷◌, ◌++◌, codes, length, if◌then◌else◌, Bool, true, false, Option, Some, None}
+use Rattle.std.specs.List.{list_any}
 use Rattle.std.specs.Str.{bytes_eq}
+use Rattle.command_line.specs.Words.{Word as Bytes, command_named, options_of, takes}
+use Rattle.command_line.specs.declared.options.Command.{Command}
+use Rattle.command_line.specs.declared.options.Command.TheVariants.{Init, Onboard, Once}
 use Rattle.program_words.specs.declared.wrong.Wrong.{Wrong}
-use Rattle.program_words.specs.declared.wrong.Wrong.TheVariants.{Word, NoCommand, NoJournal, NoManager, Nothing}
+use Rattle.program_words.specs.declared.wrong.Wrong.TheVariants.{Word, NoCommand, NoValue, NoJournal, NoManager, Nothing}
 
--- a word that begins with `-` is no value
-abbrev pub is_option : List ℕ → Bool
-is_option [] = false
-is_option (byte ∷ rest) = byte == 45
+-- the word is among these
+abbrev pub is_among : List Bytes → Bytes → Bool
+is_among words word = list_any (λ other. bytes_eq word other) words
 
--- the word is a command
-abbrev pub is_command : List ℕ → Bool
-is_command word = bytes_eq word (codes "init") || bytes_eq word (codes "onboard") || bytes_eq word (codes "once")
+-- the word is an option of the command, and doesn't stand before
+abbrev pub is_new : Command → List Bytes → Bytes → Bool
+is_new command before word = is_among (options_of command) word && not (is_among before word)
 
--- what is wrong first behind the path of `init`: `--manager` and a number are to stand there. Where a word does, and nothing else is wrong,
--- it is no number.
-abbrev pub at_manager : List (List ℕ) → Wrong
-at_manager [] = NoManager
-at_manager (option ∷ []) = if bytes_eq option (codes "--manager") then NoManager else Word 3
-at_manager (option ∷ number ∷ []) = if bytes_eq option (codes "--manager") then Word 4 else Word 3
-at_manager (option ∷ number ∷ other ∷ rest) = if bytes_eq option (codes "--manager") then Word 5 else Word 3
+-- the command has to have a manager's number
+abbrev pub needs_manager : Command → Bool
+needs_manager Init = true
+needs_manager Onboard = false
+needs_manager Once = false
 
--- what is wrong first behind the path of another command: nothing is to stand there
-abbrev pub at_end : List (List ℕ) → Wrong
-at_end [] = Nothing
-at_end (word ∷ rest) = Word 3
+-- what is wrong where the words end: an option that has to stand doesn't
+abbrev pub wrong_at_end : Command → List Bytes → Wrong
+wrong_at_end command words =
+    if not (is_among words (codes "--journal")) then NoJournal
+    else (if needs_manager command && not (is_among words (codes "--manager")) then NoManager else Nothing)
 
--- what is wrong first behind a command: `--journal` and a path are to stand there
-abbrev pub at_journal : List ℕ → List (List ℕ) → Wrong
-at_journal command [] = NoJournal
-at_journal command (option ∷ []) = if bytes_eq option (codes "--journal") then NoJournal else Word 1
-at_journal command (option ∷ path ∷ behind) =
-    if not (bytes_eq option (codes "--journal")) then Word 1
-    else (if is_option path then Word 2 else (if bytes_eq command (codes "init") then at_manager behind else at_end behind))
+-- what is wrong first behind these words: a word that is no option or stands before, an option without a value, or with one that it doesn't
+-- take; or what is wrong where the words end
+abbrev pub wrong_behind : Command → List Bytes → List Bytes → Wrong
+wrong_behind command before [] = wrong_at_end command before
+wrong_behind command before (option ∷ []) = if is_new command before option then NoValue (length before) else Word (length before)
+wrong_behind command before (option ∷ value ∷ rest) =
+    if is_new command before option
+    then (if takes command (option, value) then wrong_behind command (before ++ option ∷ value ∷ []) rest else Word (length before + 1))
+    else Word (length before)
+
+-- what is wrong first behind the name of a command, if it is one
+abbrev pub wrong_of_command : Option Command → Bytes → List Bytes → Wrong
+wrong_of_command None name rest = Word 0
+wrong_of_command (Some command) name rest = wrong_behind command (name ∷ []) rest
 
 -- what is wrong first with the words
-abbrev pub wrong_of : List (List ℕ) → Wrong
+abbrev pub wrong_of : List Bytes → Wrong
 wrong_of [] = NoCommand
-wrong_of (command ∷ rest) = if is_command command then at_journal command rest else Word 0
+wrong_of (name ∷ rest) = wrong_of_command (command_named name) name rest

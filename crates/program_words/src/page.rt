@@ -24,10 +24,12 @@ const HELP: &str = "vnfm: a VNF lifecycle manager after ETSI GS NFV-SOL 003 V2.6
 
     vnfm init --journal PATH --manager N    make the journal of manager N, from 0 to 4294967295, at PATH
     vnfm onboard --journal PATH             onboard the descriptor on standard input, a JSON document
-    vnfm once --journal PATH                answer the requests on standard input, and record what they ask for
+    vnfm once --journal PATH [OPTION..]     answer the requests on standard input, and record what they ask for
     vnfm COMMAND --help                     print the words of a command, with an example
     vnfm --help                             print this text
     vnfm --version                          print the version
+
+Options stand behind the command in any order, each at most once with its value, which doesn't begin with -.
 
 init takes a file that isn't there, is empty or has one byte, begins with a small v, or was left unfinished by an init of the
 same manager. It overwrites what such a file holds. Any other file is taken, and stays as it is: look at what it is, and give
@@ -37,7 +39,7 @@ The answer of once goes to standard output. A last line, of once on standard err
 went:
     0  journal made for manager N
     0  onboarded ID: V vdus, A aspects, L levels
-    0  done after 1 rounds      the request was answered, with a refusal too
+    0  done after N rounds      the requests were answered, with a refusal too
     2  usage: ..                the words are no command
     3  site fault               a disk call failed
     4  door fault               there was no connection, or the descriptor couldn't be read
@@ -73,9 +75,16 @@ PATH is a journal that init made. The descriptor is read to its end, of at most 
 
 /// What `once --help` prints.
 const ONCE: &str =
-    "vnfm once --journal PATH    answer the requests on standard input, and record what they ask for
+    "vnfm once --journal PATH [OPTION..]    answer the requests on standard input, and record what they ask for
+
+    --role ROLE            who asks on standard input: orchestrator, as where it isn't given, or em, the element manager
+    --rounds N             how many rounds are made, from 0 to 4294967295; 1 where it isn't given. In each the connection is served
+                           that comes, if one does; with 0 nothing is read
+    --orchestrator ADDR    where grants are to be asked for; nothing asks there yet
+    --vim ADDR             where the infrastructure is; nothing asks there yet
 
     vnfm once --journal journal <examples/create.http
+    vnfm once --journal journal --role em --rounds 2 <examples/create.http
 
 PATH is a journal that init made. Standard input is one connection of HTTP/1.1: its requests are answered one by one, up to its
 end or to the first that asks to close it. A body has at most 1048576 bytes. The answers go to standard output.

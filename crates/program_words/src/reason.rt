@@ -1,11 +1,13 @@
 //! Why a run ended as it did, for a person.
-ghost use Rattle.std.specs.Prelude.{◌≡◌, ◌++◌, IfOk, Some, codes, slice_get};
+ghost use Rattle.std.specs.Prelude.{◌≡◌, ◌++◌, IfOk, Some, codes, drop, option_map, slice_get};
 ghost use Rattle.std.specs.String.{string_bytes};
+ghost use Rattle.command_line.specs.Words.{value_in};
 ghost use Rattle.program_words.specs.Lines.{IsAboutJournal, IsAboutWord, IsLineOf, IsLineOn, IsWrongLine, plain_line};
 ghost use Rattle.program_words.specs.Reasons.{lost_reason, reason_of};
 ghost use Rattle.program_words.specs.Wrong.{wrong_of};
 
 use crate::wrong::{Wrong, wrong_of};
+use command_line::value_of;
 use outside_edges::WhyLost;
 use std::alloc::{AllocError, Global};
 use vnfm_base::Text;
@@ -171,9 +173,19 @@ fn quoted(alloc: Global, word: &Text) -> Result<String, AllocError> {
 fn about_journal(alloc: Global, words: &[Text], text: &str) -> Result<String, AllocError>
     ensures { IfOk result (λ line. IsAboutJournal words.now text.now (string_bytes line)) }
 {
+    match path_in(words) {
+        Some(path) => line_on(alloc, path, ": ", text),
+        None => plain(alloc, text),
+    }
+}
+
+/// The journal's path, where the words name one.
+fn path_in(words: &[Text]) -> Option<&Text>
+    ensures { option_map (λ path. path.now) result ≡ value_in (codes "--journal") (drop 1 words.entry.now) }
+{
     match words {
-        [_, _, path, ..] => line_on(alloc, path, ": ", text),
-        _ => plain(alloc, text),
+        [] => None,
+        [_, options @ ..] => value_of(options, "--journal"),
     }
 }
 
@@ -182,20 +194,31 @@ fn wrong_line(alloc: Global, words: &[Text]) -> Result<String, AllocError>
     ensures { IfOk result (λ line. IsWrongLine words.now (wrong_of words.now) (string_bytes line)) }
 {
     match wrong_of(words) {
-        Wrong::Word(place) => word_line(alloc, words, place),
+        Wrong::Word(place) => word_line(
+            alloc,
+            words,
+            place,
+            "isn't understood; vnfm --help says more",
+        ),
         Wrong::NoCommand => plain(alloc, "a command is missing; vnfm --help says more"),
+        Wrong::NoValue(place) => word_line(
+            alloc,
+            words,
+            place,
+            "has no value; vnfm --help says more",
+        ),
         Wrong::NoJournal => plain(alloc, "--journal PATH is missing; vnfm --help says more"),
         Wrong::NoManager => plain(alloc, "--manager N is missing; vnfm --help says more"),
         Wrong::Nothing => plain(alloc, "the words are no command; vnfm --help says more"),
     }
 }
 
-/// The line of the word at this place, which isn't understood.
-fn word_line(alloc: Global, words: &[Text], place: usize) -> Result<String, AllocError>
-    ensures { IfOk result (λ line. IsAboutWord (slice_get words.now place) (string_bytes line)) }
+/// The line that says this of the word at this place.
+fn word_line(alloc: Global, words: &[Text], place: usize, text: &str) -> Result<String, AllocError>
+    ensures { IfOk result (λ line. IsAboutWord text.now (slice_get words.now place) (string_bytes line)) }
 {
     match words.get(place) {
-        Some(word) => line_on(alloc, word, " ", "isn't understood; vnfm --help says more"),
+        Some(word) => line_on(alloc, word, " ", text),
         None => plain(alloc, "the words are no command; vnfm --help says more"),
     }
 }

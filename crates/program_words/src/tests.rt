@@ -1,7 +1,10 @@
-//! What is printed, by words and by status.
+//! What words set, and what is printed, by words and by status.
 use crate::{Page, page_of, reason_of};
+use command_line::{Command, Settings, SettingsFault, settings};
+use lcm_events::Role;
 use outside_edges::WhyLost;
 use std::alloc::{AllocError, Global};
+use std::test::Fail;
 use vnfm_base::Text;
 
 /// These words.
@@ -77,5 +80,327 @@ fn texts_are_asked_for_by_their_words(rt: HostRuntime) -> Result<(), AllocError>
     );
     let more = words_of(alloc, &["--version", "more"])?;
     assert_eq!(rt; page_of(&more), None);
+    Ok(())
+}
+
+/// What these words set, or nothing where they are no command.
+fn set_by(alloc: Global, texts: &[&str]) -> Result<Option<Settings>, AllocError> {
+    let words = words_of(alloc, texts)?;
+    match settings(alloc, &words) {
+        Ok(settings) => Ok(Some(settings)),
+        Err(SettingsFault::Usage) => Ok(None),
+        Err(SettingsFault::Memory) => Err(AllocError),
+    }
+}
+
+/// Whether the settings are those of this command with these values.
+fn are(
+    settings: &Settings,
+    command: Command,
+    journal: &str,
+    manager: u32,
+    role: Role,
+    rounds: u32,
+    orchestrator: &str,
+    vim: &str,
+) -> bool {
+    settings.command == command
+        && settings.journal.as_str() == journal
+        && settings.manager == manager
+        && settings.role == role
+        && settings.rounds == rounds
+        && settings.orchestrator.as_str() == orchestrator
+        && settings.vim.as_str() == vim
+        && settings.listen.as_str() == ""
+        && settings.em_listen.as_str() == ""
+        && settings.start == 0
+        && settings.count == 0
+}
+
+#[test]
+fn init_and_onboard_set_what_they_name(rt: HostRuntime) -> Result<(), Fail> {
+    let alloc = rt.alloc();
+    let cases: [(&[&str], Command, &str, u32); 7] = [
+        (
+            &["init", "--journal", "j", "--manager", "7"],
+            Command::Init,
+            "j",
+            7,
+        ),
+        (
+            &["init", "--manager", "7", "--journal", "j"],
+            Command::Init,
+            "j",
+            7,
+        ),
+        (
+            &["init", "--journal", "", "--manager", "0"],
+            Command::Init,
+            "",
+            0,
+        ),
+        (
+            &["init", "--journal", "a=b c", "--manager", "4294967295"],
+            Command::Init,
+            "a=b c",
+            4_294_967_295,
+        ),
+        (
+            &[
+                "init",
+                "--journal",
+                "j",
+                "--manager",
+                "00000000000000000007",
+            ],
+            Command::Init,
+            "j",
+            7,
+        ),
+        (
+            &["onboard", "--journal", "once"],
+            Command::Onboard,
+            "once",
+            0,
+        ),
+        (&["onboard", "--journal", "=-"], Command::Onboard, "=-", 0),
+    ];
+    for (texts, command, journal, manager) in cases {
+        let set = set_by(alloc, texts)?;
+        let right = set.is_some_and(|set| {
+            are(
+                &set,
+                command,
+                journal,
+                manager,
+                Role::Orchestrator,
+                0,
+                "",
+                "",
+            )
+        });
+        assert!(rt; right, "{journal}");
+    }
+    Ok(())
+}
+
+#[test]
+fn once_has_options_with_defaults(rt: HostRuntime) -> Result<(), Fail> {
+    let alloc = rt.alloc();
+    let cases: [(&[&str], Role, u32, &str, &str); 9] = [
+        (&["once", "--journal", "j"], Role::Orchestrator, 1, "", ""),
+        (
+            &["once", "--journal", "j", "--role", "orchestrator"],
+            Role::Orchestrator,
+            1,
+            "",
+            "",
+        ),
+        (
+            &["once", "--role", "em", "--journal", "j"],
+            Role::Element,
+            1,
+            "",
+            "",
+        ),
+        (
+            &["once", "--journal", "j", "--rounds", "0"],
+            Role::Orchestrator,
+            0,
+            "",
+            "",
+        ),
+        (
+            &["once", "--journal", "j", "--rounds", "03"],
+            Role::Orchestrator,
+            3,
+            "",
+            "",
+        ),
+        (
+            &["once", "--rounds", "4294967295", "--journal", "j"],
+            Role::Orchestrator,
+            4_294_967_295,
+            "",
+            "",
+        ),
+        (
+            &["once", "--journal", "j", "--orchestrator", "none"],
+            Role::Orchestrator,
+            1,
+            "none",
+            "",
+        ),
+        (
+            &["once", "--vim", "", "--journal", "j"],
+            Role::Orchestrator,
+            1,
+            "",
+            "",
+        ),
+        (
+            &[
+                "once",
+                "--vim",
+                "h:1",
+                "--orchestrator",
+                "http://h/x=y",
+                "--rounds",
+                "2",
+                "--journal",
+                "j",
+                "--role",
+                "em",
+            ],
+            Role::Element,
+            2,
+            "http://h/x=y",
+            "h:1",
+        ),
+    ];
+    for (texts, role, rounds, orchestrator, vim) in cases {
+        let set = set_by(alloc, texts)?;
+        let right = set.is_some_and(|set| {
+            are(&set, Command::Once, "j", 0, role, rounds, orchestrator, vim)
+        });
+        assert!(rt; right, "{rounds} {orchestrator} {vim}");
+    }
+    Ok(())
+}
+
+#[test]
+fn words_that_are_no_command_are_told_apart(rt: HostRuntime) -> Result<(), Fail> {
+    let alloc = rt.alloc();
+    let cases: [(&[&str], &str); 38] = [
+        (&[], "a command is missing"),
+        (
+            &["--journal", "j", "once"],
+            "\"--journal\" isn't understood",
+        ),
+        (&["Once", "--journal", "j"], "\"Once\" isn't understood"),
+        (&["serve", "--journal", "j"], "\"serve\" isn't understood"),
+        (&["check", "--journal", "j"], "\"check\" isn't understood"),
+        (
+            &["trial", "--start", "1", "--count", "1"],
+            "\"trial\" isn't understood",
+        ),
+        (&["--", "once", "--journal", "j"], "\"--\" isn't understood"),
+        (&["once"], "--journal PATH is missing"),
+        (&["once", "--rounds", "2"], "--journal PATH is missing"),
+        (&["once", "--journal"], "\"--journal\" has no value"),
+        (
+            &["once", "--journal", "j", "--rounds"],
+            "\"--rounds\" has no value",
+        ),
+        (
+            &["once", "--journal", "j", "more"],
+            "\"more\" isn't understood",
+        ),
+        (&["once", "j"], "\"j\" isn't understood"),
+        (&["once", "--journal", "-j"], "\"-j\" isn't understood"),
+        (&["once", "--journal", "-"], "\"-\" isn't understood"),
+        (
+            &["once", "--journal", "--role", "em"],
+            "\"--role\" isn't understood",
+        ),
+        (
+            &["once", "--vim", "-h", "--journal", "j"],
+            "\"-h\" isn't understood",
+        ),
+        (&["once", "--journal=j"], "\"--journal=j\" isn't understood"),
+        (
+            &["once", "--journal", "j", "--rounds=2", "x"],
+            "\"--rounds=2\" isn't understood",
+        ),
+        (
+            &["once", "--journal", "j", "--", "x"],
+            "\"--\" isn't understood",
+        ),
+        (&["once", "--jour", "j"], "\"--jour\" isn't understood"),
+        (&["once", "-j", "j"], "\"-j\" isn't understood"),
+        (
+            &["once", "--Journal", "j"],
+            "\"--Journal\" isn't understood",
+        ),
+        (
+            &["once", "--journal", "j", "--journal", "j"],
+            "\"--journal\" isn't understood",
+        ),
+        (
+            &["once", "--journal", "j", "--rounds", "2", "--rounds", "2"],
+            "\"--rounds\" isn't understood",
+        ),
+        (
+            &["once", "--journal", "j", "--role", "EM"],
+            "\"EM\" isn't understood",
+        ),
+        (
+            &["once", "--journal", "j", "--role", ""],
+            "\"\" isn't understood",
+        ),
+        (
+            &["once", "--journal", "j", "--rounds", ""],
+            "\"\" isn't understood",
+        ),
+        (
+            &["once", "--journal", "j", "--rounds", "4294967296"],
+            "\"4294967296\" isn't understood",
+        ),
+        (
+            &["once", "--journal", "j", "--rounds", "+1"],
+            "\"+1\" isn't understood",
+        ),
+        (
+            &["once", "--journal", "j", "--manager", "7"],
+            "\"--manager\" isn't understood",
+        ),
+        (
+            &["once", "--journal", "j", "--listen", "h:1"],
+            "\"--listen\" isn't understood",
+        ),
+        (
+            &["onboard", "--journal", "j", "--rounds", "1"],
+            "\"--rounds\" isn't understood",
+        ),
+        (&["init", "--journal", "j"], "--manager N is missing"),
+        (&["init", "--manager", "7"], "--journal PATH is missing"),
+        (
+            &[
+                "init",
+                "--journal",
+                "j",
+                "--manager",
+                "000000000000000000007",
+            ],
+            "\"000000000000000000007\" isn't understood",
+        ),
+        (
+            &["init", "--journal", "j", "--manager", "\u{0667}"],
+            "\"\u{0667}\" isn't understood",
+        ),
+        (
+            &["init", "--journal", "j", "--help", "7"],
+            "\"--help\" isn't understood",
+        ),
+    ];
+    for (texts, what) in cases {
+        let wanted = format!(in alloc; "vnfm: {what}; vnfm --help says more\n")?;
+        let seen = line_of(alloc, texts, 2, None, false)?;
+        assert_eq!(rt; seen.as_str(), wanted.as_str());
+        assert!(rt; set_by(alloc, texts)?.is_none(), "{what}");
+    }
+    Ok(())
+}
+
+#[test]
+fn a_reason_names_the_journal_wherever_it_stands(rt: HostRuntime) -> Result<(), Fail> {
+    let alloc = rt.alloc();
+    for texts in [
+        ["once", "--journal", "j", "--rounds", "2"],
+        ["once", "--rounds", "2", "--journal", "j"],
+    ] {
+        let seen = line_of(alloc, texts.as_slice(), 3, Some(WhyLost::NotAFile), false)?;
+        assert_eq!(rt; seen.as_str(), "vnfm: \"j\": it is not a regular file\n");
+    }
     Ok(())
 }

@@ -1,19 +1,22 @@
 //! Which word isn't understood.
-ghost use Rattle.std.specs.Prelude.{◌≡◌};
-ghost use Rattle.program_words.specs.Wrong.{at_journal, at_manager, is_command, is_option, wrong_of};
+ghost use Rattle.std.specs.Prelude.{◌≡◌, ◌≤◌, drop, length, take};
+ghost use Rattle.program_words.specs.Wrong.{is_among, is_new, needs_manager, wrong_at_end, wrong_behind, wrong_of};
 
+use command_line::{Command, command_named, has_option, takes};
 use vnfm_base::Text;
 
-/// What is wrong first with words that are no command. Of a number it isn't judged whether it is one.
+/// What is wrong first with words that are no command.
 #[derive(Clone, Copy, Debug, PartialEq, Eq)]
 pub enum Wrong {
     /// The word at this place, from 0, isn't understood there.
     Word(usize),
     /// There is no command.
     NoCommand,
-    /// `--journal` and a path are missing behind the command.
+    /// The option at this place, from 0, has no value.
+    NoValue(usize),
+    /// `--journal` and a path are missing.
     NoJournal,
-    /// `--manager` and a number are missing behind the path.
+    /// `--manager` and a number are missing.
     NoManager,
     /// Nothing: of words that are no command there is always something else.
     Nothing,
@@ -25,88 +28,80 @@ pub enum Wrong {
 pub fn wrong_of(words: &[Text]) -> Wrong
     ensures { result ≡ wrong_of words.now }
 {
-    match words {
-        [] => Wrong::NoCommand,
-        [command, rest @ ..] => {
-            if is_command(command) {
-                at_journal(command, rest)
+    let [name, ..] = words else {
+        return Wrong::NoCommand;
+    };
+    match command_named(name) {
+        Some(command) => wrong_behind(command, words),
+        None => Wrong::Word(0),
+    }
+}
+
+/// What is wrong first behind a command's name, which is the first word.
+fn wrong_behind(command: Command, words: &[Text]) -> Wrong
+    requires { 1 ≤ length words.now }
+    ensures { result ≡ wrong_behind command (take 1 words.now) (drop 1 words.now) }
+{
+    let mut at = 1;
+    while let [option, value, ..] = &words[at..] {
+        if !is_new(command, &words[..at], option) {
+            return Wrong::Word(at);
+        }
+        if !takes(command, option, value) {
+            return Wrong::Word(at + 1);
+        }
+        at += 2;
+    }
+    match &words[at..] {
+        [] => wrong_at_end(command, words),
+        [option, ..] => {
+            if is_new(command, &words[..at], option) {
+                Wrong::NoValue(at)
             } else {
-                Wrong::Word(0)
+                Wrong::Word(at)
             }
         }
     }
 }
 
-/// What is wrong first behind a command.
-fn at_journal(command: &Text, rest: &[Text]) -> Wrong
-    ensures { result ≡ at_journal command.now rest.now }
+/// What is wrong where the words end.
+fn wrong_at_end(command: Command, words: &[Text]) -> Wrong
+    ensures { result ≡ wrong_at_end command words.now }
 {
-    match rest {
-        [] => Wrong::NoJournal,
-        [option] => {
-            if option.as_str() == "--journal" {
-                Wrong::NoJournal
-            } else {
-                Wrong::Word(1)
-            }
-        }
-        [option, path, behind @ ..] => {
-            if option.as_str() != "--journal" {
-                Wrong::Word(1)
-            } else if is_option(path.as_bytes()) {
-                Wrong::Word(2)
-            } else if command.as_str() == "init" {
-                at_manager(behind)
-            } else if behind.is_empty() {
-                Wrong::Nothing
-            } else {
-                Wrong::Word(3)
-            }
-        }
+    if !is_among(words, "--journal") {
+        return Wrong::NoJournal;
+    }
+    if needs_manager(command) && !is_among(words, "--manager") {
+        return Wrong::NoManager;
+    }
+    Wrong::Nothing
+}
+
+/// Whether the command has to have a manager's number.
+fn needs_manager(command: Command) -> bool
+    ensures { result ≡ needs_manager command }
+{
+    match command {
+        Command::Init => true,
+        Command::Onboard | Command::Once => false,
     }
 }
 
-/// What is wrong first behind the path of `init`.
-fn at_manager(rest: &[Text]) -> Wrong
-    ensures { result ≡ at_manager rest.now }
+/// Whether the word is an option of the command that doesn't stand before.
+fn is_new(command: Command, before: &[Text], word: &Text) -> bool
+    ensures { result ≡ is_new command before.now word.now }
 {
-    match rest {
-        [] => Wrong::NoManager,
-        [option] => {
-            if option.as_str() == "--manager" {
-                Wrong::NoManager
-            } else {
-                Wrong::Word(3)
-            }
-        }
-        [option, _] => {
-            if option.as_str() == "--manager" {
-                Wrong::Word(4)
-            } else {
-                Wrong::Word(3)
-            }
-        }
-        [option, _, _, ..] => {
-            if option.as_str() == "--manager" {
-                Wrong::Word(5)
-            } else {
-                Wrong::Word(3)
-            }
-        }
-    }
+    has_option(command, word.as_str()) && !is_among(before, word.as_str())
 }
 
-fn is_command(word: &Text) -> bool
-    ensures { result ≡ is_command word.now }
+/// Whether the word is among these.
+fn is_among(words: &[Text], word: &str) -> bool
+    ensures { result ≡ is_among words.now word.now }
 {
-    word.as_str() == "init" || word.as_str() == "onboard" || word.as_str() == "once"
-}
-
-fn is_option(word: &[u8]) -> bool
-    ensures { result ≡ is_option word.now }
-{
-    match word {
-        [] => false,
-        [first, ..] => *first == b'-',
+    for other in words {
+        if word == other.as_str() {
+            return true;
+        }
     }
+    false
 }
