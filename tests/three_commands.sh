@@ -59,6 +59,11 @@ try "init without a manager" /dev/null 2 "$usage" "vnfm: --manager N is missing;
 try "a manager past the last" /dev/null 2 "$usage" "$(unclear 4294967296)" 370 init --journal "$journal" --manager 4294967296
 try "no journal named" "$request" 2 "$usage" "vnfm: --journal PATH is missing; vnfm --help says more" 370 once
 try "an option for a path" "$request" 2 "$usage" "$(unclear --manager)" 370 once --journal --manager
+try "an option twice" "$request" 2 "$usage" "$(unclear --rounds)" 370 once --journal "$journal" --rounds 1 --rounds 1
+try "an option joined to its value" "$request" 2 "$usage" "$(unclear --rounds=2)" 370 once --journal "$journal" --rounds=2
+try "an option without a value" "$request" 2 "$usage" 'vnfm: "--rounds" has no value; vnfm --help says more' 370 \
+    once --journal "$journal" --rounds
+try "no round" "$request" 0 "" "done after 0 rounds" 370 once --rounds 0 --journal "$journal"
 try "no word" "$request" 2 "$usage" "vnfm: a command is missing; vnfm --help says more" 370
 try "a word with a line feed" "$request" 2 "$usage" "$(unclear 'a\nb')" 370 "$(printf 'a\nb')"
 try "--help and a word" /dev/null 2 "$usage" "$(unclear --help)" 370 --help once
@@ -71,7 +76,7 @@ try "init --help" /dev/null 0 \
 try "onboard --help" /dev/null 0 \
     "vnfm onboard --journal PATH    onboard the descriptor on standard input, a JSON document" "" 370 onboard --help
 try "once --help" "$request" 0 \
-    "vnfm once --journal PATH    answer the requests on standard input, and record what they ask for" "" 370 once --help
+    "vnfm once --journal PATH [OPTION..]    answer the requests on standard input, and record what they ask for" "" 370 once --help
 
 # An answer that can't be delivered is recorded all the same.
 "$here/vnfm" once --journal "$journal" <"$request" >/dev/full 2>"$room/err"

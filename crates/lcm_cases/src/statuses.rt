@@ -5,6 +5,7 @@ use memory_runs::{
 use site_traits::DoorPlan;
 use std::alloc::{AllocError, Global};
 use std::test::Fail;
+use vnfm_base::Text;
 
 /// Whether `once` over this file ends with this status and this line, tells nothing, and leaves the file as it was.
 fn ends(alloc: Global, file: &[u8], status: u8, line: &[u8]) -> Result<bool, AllocError> {
@@ -97,7 +98,7 @@ fn a_bad_record_is_named(rt: HostRuntime) -> Result<(), Fail> {
 #[test]
 fn words_that_are_no_command_touch_nothing(rt: HostRuntime) -> Result<(), Fail> {
     let alloc = rt.alloc();
-    let cases: [&[&str]; 20] = [
+    let cases: [&[&str]; 22] = [
         &[],
         &["once"],
         &["once", "--journal"],
@@ -109,7 +110,9 @@ fn words_that_are_no_command_touch_nothing(rt: HostRuntime) -> Result<(), Fail> 
         &["onboard", "--journal", "-j"],
         &["onboard", "--journal", "j", "--manager", "7"],
         &["init", "--journal", "j"],
-        &["init", "--manager", "7", "--journal", "j"],
+        &["once", "--journal", "j", "--journal", "j"],
+        &["once", "--journal", "j", "--rounds"],
+        &["once", "--journal", "j", "--role", "none"],
         &["init", "--journal", "-j", "--manager", "7"],
         &["init", "--journal", "j", "--role", "7"],
         &["init", "--journal", "j", "--manager", ""],
@@ -137,6 +140,70 @@ fn words_that_are_no_command_touch_nothing(rt: HostRuntime) -> Result<(), Fail> 
         assert!(rt; ran.told.is_empty());
         assert_eq!(rt; site.moment(), 0);
     }
+    Ok(())
+}
+
+/// Whether `once` with these words behind it serves this door to its end with this line, so that the journal has so many bytes more, the
+/// clock is read so often, and the last connection is told something or not.
+fn serves(
+    alloc: Global,
+    options: &[&str],
+    connections: usize,
+    line: &[u8],
+    more: usize,
+    clock: u64,
+) -> Result<bool, AllocError> {
+    let mut words = once_words(alloc)?;
+    for text in options {
+        words.push(Text::of_string(String::from_str(alloc, text)?))?;
+    }
+    let mut door = Vec::new(alloc);
+    for _ in 0..connections {
+        door.extend(door_of(alloc, CREATE)?)?;
+    }
+    let mut site = site_with(alloc, &JOURNAL, Vec::new(alloc))?;
+    let ran = run_over(alloc, &words, &mut site, door, None)?;
+    let is_told = ran.told.as_slice().starts_with(b"HTTP/1.1 201 Created\r\n");
+    Ok(
+        ran.status == 0
+            && ran.printed.as_slice() == line
+            && site.file().len() == JOURNAL.len() + more
+            && ran.clock == clock
+            && is_told == (more > 0),
+    )
+}
+
+#[test]
+fn as_many_rounds_are_made_as_the_words_say(rt: HostRuntime) -> Result<(), Fail> {
+    let alloc = rt.alloc();
+    let cases: [(&[&str], usize, &[u8], usize, u64); 6] = [
+        (&["--rounds", "0"], 1, b"done after 0 rounds\n", 0, 0),
+        (&["--rounds", "1"], 2, b"done after 1 rounds\n", 38, 2),
+        (&["--rounds", "3"], 3, b"done after 3 rounds\n", 114, 6),
+        (&["--rounds", "3"], 1, b"done after 3 rounds\n", 38, 4),
+        (&["--role", "em"], 1, b"done after 1 rounds\n", 38, 2),
+        (
+            &["--vim", "h:1", "--orchestrator", "h:2", "--rounds", "2"],
+            2,
+            b"done after 2 rounds\n",
+            76,
+            4,
+        ),
+    ];
+    for (options, connections, line, more, clock) in cases {
+        assert!(rt; serves(alloc, options, connections, line, more, clock)?);
+    }
+    Ok(())
+}
+
+#[test]
+fn options_stand_in_any_order(rt: HostRuntime) -> Result<(), Fail> {
+    let alloc = rt.alloc();
+    let words = words_of(alloc, &["init", "--manager", "7", "--journal", "j"])?;
+    let mut site = site_with(alloc, &[], Vec::new(alloc))?;
+    let ran = run_over(alloc, &words, &mut site, Vec::new(alloc), None)?;
+    assert_eq!(rt; ran.status, 0);
+    assert!(rt; site.file() == MADE.as_slice());
     Ok(())
 }
 

@@ -21,10 +21,11 @@ use Rattle.journal_core.specs.Create.{IsMade}
 use Rattle.journal_core.specs.Header.{IsUnfinished}
 use Rattle.journal_core.specs.declared.create.CreateFault.{CreateFault}
 use Rattle.journal_core.specs.declared.create.CreateFault.TheVariants as creating
-use Rattle.vnfm_cli.specs.Words.{AreInit, AreLoading, AreWordsOf, loads, settings_of}
-use Rattle.vnfm_cli.specs.declared.options.Command.{Command}
-use Rattle.vnfm_cli.specs.declared.options.Command.TheVariants.{Init, Onboard, Once}
-use Rattle.vnfm_cli.specs.declared.options.Settings.{Settings}
+use Rattle.command_line.specs.Words.{settings_of}
+use Rattle.vnfm_cli.specs.Words.{AreInit, AreLoading, AreWordsOf, loads}
+use Rattle.command_line.specs.declared.options.Command.{Command}
+use Rattle.command_line.specs.declared.options.Command.TheVariants.{Init, Onboard, Once}
+use Rattle.command_line.specs.declared.options.Settings.{Settings}
 use Rattle.vnfm_cli.specs.declared.ending.Failure.TheVariants.{SiteFault, DoorFault}
 
 -- words set one thing

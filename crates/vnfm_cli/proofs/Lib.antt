@@ -5,4 +5,3 @@ mod ExactLemmas
 mod RoundLemmas
 mod RunLemmas
 mod WholeLemmas
-mod WordLemmas

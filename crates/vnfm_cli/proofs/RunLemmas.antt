@@ -11,8 +11,8 @@ use Rattle.lcm_api.specs.Talking.{Peers, Tells, World, peers_of, world}
 use Rattle.lcm_events.specs.declared.events.Event.{Event}
 use Rattle.site_traits.specs.Site.{SiteState}
 use Rattle.vnfm_cli.specs.Course.{Course, misused, starved, making, opened, unopened, Deed, IsOf, IsOfWords, Opening, deed_work}
-use Rattle.vnfm_cli.specs.Words.{settings_of}
-use Rattle.vnfm_cli.specs.declared.options.Settings.{Settings}
+use Rattle.command_line.specs.Words.{settings_of}
+use Rattle.command_line.specs.declared.options.Settings.{Settings}
 use Rattle.vnfm_cli.specs.Runs.{AtPeersBy, Deeds, Does, Recovers}
 
 -- what was opened

@@ -6,8 +6,9 @@ use Rattle.lcm_api.specs.Talking.{World}
 use Rattle.site_traits.specs.Counts.{CallCounts, Rose}
 use Rattle.vnfm_cli.specs.Ending.{IsStatus}
 use Rattle.vnfm_cli.specs.Runs.{IsNoJournal, IsOrYields}
-use Rattle.vnfm_cli.specs.Words.{AreInit, AreLoading, AreWordsOf, settings_of}
-use Rattle.vnfm_cli.specs.declared.options.Command.TheVariants.{Onboard}
+use Rattle.command_line.specs.Words.{settings_of}
+use Rattle.vnfm_cli.specs.Words.{AreInit, AreLoading, AreWordsOf}
+use Rattle.command_line.specs.declared.options.Command.TheVariants.{Onboard}
 
 -- Each status has its cause: 2 comes exactly where the words are no command; 4, 7, 9 and 10 only where waiting for a connection or a read of
 -- a descriptor failed, where the line couldn't be put, and for `onboard`; and where the site tells, 5 exactly where the file that is to be

@@ -13,14 +13,15 @@ use Rattle.onboarding.specs.declared.answer.Onboarded.{Onboarded as Said}
 use Rattle.onboarding.specs.declared.answer.OnboardFault.{OnboardFault}
 use Rattle.onboarding.specs.declared.answer.OnboardFault.TheVariants as fault
 use Rattle.vnfm_cli.specs.Ending.{Ending}
-use Rattle.vnfm_cli.specs.Words.{IsCommand, loads, settings_of}
+use Rattle.command_line.specs.Words.{settings_of}
+use Rattle.vnfm_cli.specs.Words.{IsCommand, loads}
 use Rattle.vnfm_cli.specs.declared.ending.Failure.{Failure}
 use Rattle.vnfm_cli.specs.declared.ending.Failure.TheVariants.{Usage, SiteFault, DoorFault, NoJournal, NotAJournal, NoMemory, BadRecord, JournalFull, DescriptorRefused, Taken}
 use Rattle.vnfm_cli.specs.declared.ending.Report.TheVariants.{Done, Made, Onboarded}
-use Rattle.vnfm_cli.specs.declared.options.Command.TheVariants.{Init, Onboard, Once}
-use Rattle.vnfm_cli.specs.declared.options.Settings.{Settings}
-use Rattle.vnfm_cli.specs.declared.options.SettingsFault.{SettingsFault}
-use Rattle.vnfm_cli.specs.declared.options.SettingsFault.TheVariants as setting
+use Rattle.command_line.specs.declared.options.Command.TheVariants.{Init, Onboard, Once}
+use Rattle.command_line.specs.declared.options.Settings.{Settings}
+use Rattle.command_line.specs.declared.options.SettingsFault.{SettingsFault}
+use Rattle.command_line.specs.declared.options.SettingsFault.TheVariants as setting
 
 -- What came of a round: no connection came, or one came, from this role as the door tells, and this talk was held on it.
 pub data Round : Type 0 where

@@ -17,8 +17,8 @@ use Rattle.site_traits.specs.Site.{Pair, SiteState, IsSettled, KeepsJobs, Leaves
 use Rattle.onboarding.specs.Doing.{BringsIn}
 use Rattle.vnfm_cli.specs.Course.{Course, misused, starved, making, unopened, opened, Deed, serving, onboarding, Opening, deed_work, IsOfWords}
 use Rattle.vnfm_cli.specs.Rounds.{Attended}
-use Rattle.vnfm_cli.specs.declared.options.Command.{Command}
-use Rattle.vnfm_cli.specs.declared.options.Command.TheVariants.{Init, Onboard, Once}
+use Rattle.command_line.specs.declared.options.Command.{Command}
+use Rattle.command_line.specs.declared.options.Command.TheVariants.{Init, Onboard, Once}
 
 -- a site that wasn't called: what is read and what a stop may leave are as they were
 pub record IsUntouched (a b : SiteState) : Type 0 where

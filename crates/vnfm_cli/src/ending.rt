@@ -5,8 +5,8 @@ ghost use Rattle.site_traits.specs.Sink.{Puts, SinkCause};
 ghost use Rattle.vnfd_document.specs.Texts.{fault_text};
 ghost use Rattle.vnfm_cli.specs.Ending.{Ends, failure_line, failure_status, full_line, numbered_line, onboarded_line, refusal_text, refused_line, report_line, with_count};
 
-use crate::options::SettingsFault;
 use arrayvec::ArrayString;
+use command_line::SettingsFault;
 use executor::OpenFault;
 use itoa::Buffer;
 use journal_core::CreateFault;

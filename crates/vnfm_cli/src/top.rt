@@ -11,14 +11,14 @@ ghost use Rattle.vnfm_cli.specs.Course.{Course, Deed, IsDeedOf, IsOf, deed_endin
 ghost use Rattle.vnfm_cli.specs.Ending.{Ends};
 ghost use Rattle.vnfm_cli.specs.Causes.{HasCauses};
 ghost use Rattle.vnfm_cli.specs.Runs.{Deeds, Does, IsDoorCause, IsStartOf, MayEndWith, Runs};
-ghost use Rattle.vnfm_cli.specs.Words.{AreWordsOf, loads, settings_of};
-ghost use Rattle.vnfm_cli.specs.declared.options.Command.{Command};
-ghost use Rattle.vnfm_cli.specs.declared.options.Command.TheVariants.{Onboard};
+ghost use Rattle.command_line.specs.Words.{settings_of};
+ghost use Rattle.vnfm_cli.specs.Words.{AreWordsOf, loads};
+ghost use Rattle.command_line.specs.declared.options.Command.{Command};
+ghost use Rattle.command_line.specs.declared.options.Command.TheVariants.{Onboard};
 
 use crate::ending::{Ending, Failure, Report, finish};
-use crate::options::{Command, Settings};
 use crate::rounds::make_rounds;
-use crate::words::settings;
+use command_line::{Command, Settings, settings};
 use executor::{Manager, a_legal_history_has_no_bad_record, works_add_up};
 use journal_core::{Journal, faults_are_counted, files_are_one_thing};
 use lcm_api::Mouth;
@@ -29,13 +29,14 @@ use vnfm_base::Text;
 
 /// Obeys the words, and gives the program's status. One line is put to `out` but for a failed put.
 ///
-/// The words are a command:
+/// The words are a command, behind which its options stand in any order:
 /// - `init --journal PATH --manager N` makes the journal of manager N.
 /// - `onboard --journal PATH` opens the journal, reads the door's first connection, then the clock, and records the descriptor.
-/// - `once --journal PATH` opens the journal and makes one round: it serves one connection of the door, whose requests are answered
-///   one by one, and reads the clock once for each request and once for the round.
+/// - `once --journal PATH` opens the journal and makes as many rounds as `--rounds` says, or one: in each it serves one connection of the
+///   door, where one comes, whose requests are answered one by one for the role of `--role`, and reads the clock once for each request
+///   and once for the round. Rounds go on where nobody comes any more.
 ///
-/// The orchestrator and the courier aren't asked yet.
+/// The orchestrator and the courier aren't asked yet, and `--orchestrator` and `--vim` are used by nothing.
 /// Statuses: 0 the command did its work; 2 the words are no command; 3 exactly where a disk call failed, after which no other is
 /// made; 4 waiting for a connection
 /// failed, or a read of a descriptor; 5 the file is no journal; 6 there is no memory; 7 the line of status 0 couldn't be put; 8 a

@@ -7,10 +7,10 @@ use Rattle.outside_edges.specs.declared.real_site.FolderSync.{FolderSync}
 use Rattle.program_words.specs.Pages.{page_of}
 use Rattle.program_words.specs.declared.page.Page.{Page}
 use Rattle.site_traits.specs.Site.{SiteState}
-use Rattle.vnfm_cli.specs.Words.{Settles, settings_of}
-use Rattle.vnfm_cli.specs.declared.options.Settings.{Settings}
-use Rattle.vnfm_cli.specs.declared.options.SettingsFault.{SettingsFault}
-use Rattle.vnfm_cli.specs.declared.options.SettingsFault.TheVariants.{Usage}
+use Rattle.command_line.specs.Words.{Settles, settings_of}
+use Rattle.command_line.specs.declared.options.Settings.{Settings}
+use Rattle.command_line.specs.declared.options.SettingsFault.{SettingsFault}
+use Rattle.command_line.specs.declared.options.SettingsFault.TheVariants.{Usage}
 use Rattle.vnfm_program.specs.Program.{Goes, Meaning, Obeys, ObeysOrStarves, Opens, Performs, Starts, Objects, folder_of, is_told_on_error, outside_of, tells_of}
 
 -- a file that is the one at this path is the one that the settings name

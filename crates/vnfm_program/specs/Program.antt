@@ -20,10 +20,11 @@ use Rattle.vnfm_cli.specs.Causes.{HasCauses}
 use Rattle.vnfm_cli.specs.Course.{Course, ending_of}
 use Rattle.vnfm_cli.specs.Ending.{Ends}
 use Rattle.vnfm_cli.specs.Runs.{IsDoorCause, IsStartOf, MayEndWith, Runs}
-use Rattle.vnfm_cli.specs.Words.{AreWordsOf, settings_of}
-use Rattle.vnfm_cli.specs.declared.options.Command.{Command}
-use Rattle.vnfm_cli.specs.declared.options.Command.TheVariants.{Init, Onboard, Once}
-use Rattle.vnfm_cli.specs.declared.options.Settings.{Settings}
+use Rattle.command_line.specs.Words.{settings_of}
+use Rattle.vnfm_cli.specs.Words.{AreWordsOf}
+use Rattle.command_line.specs.declared.options.Command.{Command}
+use Rattle.command_line.specs.declared.options.Command.TheVariants.{Init, Onboard, Once}
+use Rattle.command_line.specs.declared.options.Settings.{Settings}
 use Rattle.vnfm_program.specs.Output.{Explains, Output, Prints, Starves}
 
 -- a write on the mouth's connection failed
