@@ -1,4 +1,5 @@
 //! Which grants cover what was asked, and what a grant that does records.
+ghost use Rattle.std.specs.Prelude.{◌<◌};
 
 use crate::router::{CREATED, Part, change, changes, name, place};
 use grant_desk::{GrantRow, GrantRows, covers, places_of};
@@ -62,6 +63,15 @@ fn a_grant_covers_an_instantiation_where_it_names_each_change_once(
     Ok(())
 }
 
+/// A list of this row, where it is there.
+fn one_where(alloc: Global, there: bool, row: &GrantRow) -> Result<Listed<GrantRow>, Fail> {
+    let mut rows: Listed<GrantRow> = Listed::new(alloc);
+    if there {
+        rows.push(*row)?;
+    }
+    Ok(rows)
+}
+
 /// Whether a grant with one row of this identifier in each list that is told covers a plan of one change with this verb.
 fn covers_one(
     rt: &impl Abort,
@@ -70,17 +80,13 @@ fn covers_one(
     id: &str,
     lists: (bool, bool, bool),
 ) -> Result<bool, Fail> {
-    let mut rows = adding(rt, alloc, Listed::new(alloc));
     let row = (name(rt, id), place(rt, ""));
-    if lists.0 {
-        rows.add.push(row)?;
-    }
-    if lists.1 {
-        rows.remove.push(row)?;
-    }
-    if lists.2 {
-        rows.update.push(row)?;
-    }
+    let rows = GrantRows {
+        grant: name(rt, "g1"),
+        add: one_where(alloc, lists.0, &row)?,
+        remove: one_where(alloc, lists.1, &row)?,
+        update: one_where(alloc, lists.2, &row)?,
+    };
     let plan = [change(verb, &(DefKind::Compute, 0, 0, 1))];
     Ok(covers(&plan, &rows))
 }
