@@ -34,10 +34,17 @@ fn read(
     Ok(read_answer(alloc, asked, &heard)?)
 }
 
+/// The word of what is read of an answer of this status with a grant, and with a Location where it is located.
+fn word_of(alloc: Global, asked: bool, status: u16, located: bool) -> Result<&'static str, Fail> {
+    let there = Line::of(alloc, b"/grant/v1/grants/g1")?;
+    let location = if located { Some(&there) } else { None };
+    let answer = read(alloc, asked, status, location, b"{\"id\":\"g1\"}")?;
+    Ok(word(&answer))
+}
+
 #[test]
 fn the_status_says_what_an_answer_is(rt: HostRuntime) -> Result<(), Fail> {
     let alloc = rt.alloc();
-    let there = Line::of(alloc, b"/grant/v1/grants/g1")?;
     let cases = [
         (true, 200, false, "granted"),
         (true, 201, true, "granted"),
@@ -56,16 +63,22 @@ fn the_status_says_what_an_answer_is(rt: HostRuntime) -> Result<(), Fail> {
         (true, 0, false, "trouble"),
         (true, 65_535, true, "trouble"),
     ];
-    for (asked, status, located, expected) in cases.iter() {
-        let location = if *located { Some(&there) } else { None };
-        let answer = read(alloc, *asked, *status, location, b"{\"id\":\"g1\"}")?;
-        assert!(rt; word(&answer) == *expected, "{asked} {status} {located}");
+    for (asked, status, located, expected) in cases {
+        assert!(rt;
+            word_of(alloc, asked, status, located)? == expected,
+            "{asked} {status} {located}"
+        );
     }
+    Ok(())
+}
+
+#[test]
+fn later_tells_its_location(rt: HostRuntime) -> Result<(), Fail> {
+    let alloc = rt.alloc();
+    let there = Line::of(alloc, b"/grant/v1/grants/g1")?;
     let answer = read(alloc, true, 202, Some(&there), b"")?;
-    let GrantAnswer::Later(Some(told)) = answer else {
-        return Ok(assert!(rt; false));
-    };
-    assert!(rt; told == there);
+    let is_there = matches!(&answer, GrantAnswer::Later(Some(told)) if *told == there);
+    assert!(rt; is_there);
     Ok(())
 }
 

@@ -43,32 +43,54 @@ pub fn serve(
     number: u32,
 ) -> Result<Served> {
     let alloc = rt.alloc();
-    let mut mouth = Mouth::new(alloc, door_of(alloc, request.bytes(), number)?)?;
     let mut clock = SetClock::new(alloc, Vec::new(alloc))?;
-    let mut manager = match Manager::load(alloc, site) {
-        Ok(manager) => manager,
-        Err(fault) => bail!("{fault}"),
-    };
+    let door = door_of(alloc, request.bytes(), number)?;
+    let mut mouth = Mouth::new(alloc, door)?;
+    let answered = answer(rt, site, &mut mouth, &mut clock);
+    let bytes = mouth.door().conn().out().len();
+    drop(mouth);
+    let Answered { replies, took } = answered?;
+    Ok(Served {
+        replies,
+        bytes,
+        took,
+    })
+}
+
+/// How many replies were told, and how much processor time that took.
+#[derive(Clone, Copy, Debug)]
+struct Answered {
+    replies: u32,
+    took: Duration,
+}
+
+/// Answers the requests of the connection that comes, over the journal of the site.
+fn answer(
+    rt: &(impl CpuClock + AllocGlobal),
+    site: &mut MemSite,
+    mouth: &mut Mouth<MemDoor>,
+    clock: &mut SetClock,
+) -> Result<Answered> {
+    let alloc = rt.alloc();
     let NextAnswer::Came(_) = mouth.next() else {
         bail!("no connection came");
     };
-    let begun = rt.process_cpu_time()?;
-    let answer = answer_session(
-        alloc,
-        &mut manager,
-        site,
-        &mut mouth,
-        &mut clock,
-        Role::Orchestrator,
-    );
-    let took = rt.process_cpu_time()?.saturating_sub(begun);
-    let Ok(replies) = answer else {
+    let (begun, told, ended) = match Manager::load(alloc, site) {
+        Ok(mut manager) => {
+            let begun = rt.process_cpu_time();
+            let told = answer_session(alloc, &mut manager, site, mouth, clock, Role::Orchestrator);
+            let ended = rt.process_cpu_time();
+            drop(manager);
+            (begun, told, ended)
+        }
+        Err(fault) => bail!("{fault}"),
+    };
+    let Ok(replies) = told else {
         bail!("the disk failed");
     };
-    Ok(Served {
+    Ok(Answered {
         replies,
-        bytes: mouth.door().conn().out().len(),
-        took,
+        took: ended?.saturating_sub(begun?),
     })
 }
 
