@@ -2,7 +2,13 @@
 #![tactic(auto)]
 
 #[cfg(test)]
+mod bodies;
+#[cfg(test)]
+mod instances;
+#[cfg(test)]
 mod lists;
+#[cfg(test)]
+mod occurrences;
 #[cfg(test)]
 mod spellings;
 #[cfg(test)]

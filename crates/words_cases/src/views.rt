@@ -1,9 +1,9 @@
-//! Views written out by hand, and bodies as they are taken or refused.
+//! Views written out by hand.
 ghost use Rattle.vnfm_base.specs.Ident.{IsIdentNumber};
 
 use change_planner::can_be_planned;
 use instance_table::InstanceRow;
-use json_views::{BodyFault, CreateBody, created_view, instance_view, problem_view, read_create};
+use json_views::{CreateBody, created_view, instance_view, problem_view};
 use lcm_events::{
     Aspect, Def, DefKind, Held, Holding, Level, Listed, Place, Port, Storage, Vdu, Vnfd,
 };
@@ -12,7 +12,7 @@ use std::process::Abort;
 use std::test::Fail;
 use vnfm_base::{Line, Name};
 
-fn name(rt: &impl Abort, text: &str) -> Name {
+pub fn name(rt: &impl Abort, text: &str) -> Name {
     Name::of(text.as_bytes()).expect(rt, "a name")
 }
 
@@ -59,7 +59,7 @@ fn aspects(rt: &impl Abort, alloc: Global) -> Result<Listed<Aspect>, Fail> {
 }
 
 /// An edge router: VDU_A with two disks, VDU_B with one, two networks, two aspects.
-fn router(rt: &impl Abort, alloc: Global) -> Result<Vnfd, Fail> {
+pub fn router(rt: &impl Abort, alloc: Global) -> Result<Vnfd, Fail> {
     let port = Port {
         name: name(rt, "CP_A"),
         vdu: 0,
@@ -332,71 +332,5 @@ fn a_refusal_is_shown(rt: HostRuntime) -> Result<(), Fail> {
         view.as_slice(),
         b"{\"detail\":\"no such \\\"instance\\\"\",\"status\":404}".as_slice()
     );
-    Ok(())
-}
-
-fn joined(alloc: Global, front: &str, back: &Name) -> Result<String, AllocError> {
-    let mut text = String::from_str(alloc, front)?;
-    text.push_str(back.as_str())?;
-    Ok(text)
-}
-
-fn refusal(alloc: Global, fault: BodyFault) -> Result<String, AllocError> {
-    match fault {
-        BodyFault::Malformed => String::from_str(alloc, "malformed"),
-        BodyFault::Lacks(member) => joined(alloc, "missing ", &member),
-        BodyFault::Wrong(member) => joined(alloc, "bad ", &member),
-        BodyFault::Memory => String::from_str(alloc, "no memory"),
-    }
-}
-
-/// What a body comes to, as a text.
-fn told(alloc: Global, bytes: &[u8]) -> Result<String, AllocError> {
-    match read_create(alloc, bytes) {
-        Ok(body) => joined(alloc, "taken ", &body.vnfd),
-        Err(fault) => refusal(alloc, fault),
-    }
-}
-
-#[test]
-fn the_first_member_that_fails_is_told(rt: HostRuntime) -> Result<(), Fail> {
-    let rows: [(&str, &str); 13] = [
-        ("{\"vnfdId\":\"v\"}", "taken v"),
-        (
-            "{\"vnfInstanceDescription\":null,\"vnfInstanceName\":null,\"vnfdId\":\"v\"}",
-            "taken v",
-        ),
-        (
-            "{\"vnfInstanceDescription\":\"\",\"vnfInstanceName\":\"\",\"vnfdId\":\"v\",\"x\":1.5}",
-            "taken v",
-        ),
-        ("{\"vnfdId\":7,\"vnfdId\":\"v\"}", "taken v"),
-        ("[]", "malformed"),
-        ("{\"vnfdId\":\"v\"", "malformed"),
-        ("{}", "missing vnfdId"),
-        (
-            "{\"vnfInstanceName\":7,\"vnfInstanceDescription\":7}",
-            "missing vnfdId",
-        ),
-        ("{\"vnfdId\":\"v\",\"vnfdId\":null}", "missing vnfdId"),
-        ("{\"vnfdId\":\"\",\"vnfInstanceName\":7}", "bad vnfdId"),
-        (
-            "{\"vnfInstanceDescription\":7,\"vnfInstanceName\":[],\"vnfdId\":\"v\"}",
-            "bad vnfInstanceName",
-        ),
-        (
-            "{\"vnfInstanceDescription\":\"\\n\",\"vnfInstanceName\":\"n\",\"vnfdId\":\"v\"}",
-            "bad vnfInstanceDescription",
-        ),
-        (
-            "{\"vnfInstanceDescription\":\"d\",\"vnfInstanceName\":\"\\u007f\",\"vnfdId\":\"v\"}",
-            "bad vnfInstanceName",
-        ),
-    ];
-    let alloc = rt.alloc();
-    for (bytes, expected) in rows {
-        let told = told(alloc, bytes.as_bytes())?;
-        assert_eq!(rt; told.as_str(), expected);
-    }
     Ok(())
 }
