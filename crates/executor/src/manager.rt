@@ -23,10 +23,10 @@ ghost use Rattle.executor.specs.Work.{Works, recorded};
 
 use crate::open::judge_all;
 use event_codec::{DecodeFault, RecordBuf, TooLong, decode, encode};
+use instance_table::InstanceTable;
 use journal_core::{
     AppendFault, BackFault, Journal, LoadFault, faults_are_counted, records_add_up,
 };
-use instance_table::InstanceTable;
 use lcm_events::{Event, Vnfd};
 use lcm_model::Refusal;
 use lcm_tables::Tables;

@@ -127,12 +127,25 @@ impl Drop for Ask {
     // Written out, so that the proof of a caller calls it and doesn't take the ask apart at each of its ends.
     fn drop(self) {
         match self {
-            Ask::Instantiate { flavour: _, level: _ } => {}
-            Ask::Scale { way: _, aspect: _, steps: _ } => {}
+            Ask::Instantiate {
+                flavour: _,
+                level: _,
+            } => {}
+            Ask::Scale {
+                way: _,
+                aspect: _,
+                steps: _,
+            } => {}
             Ask::ScaleToLevel(_) => {}
             Ask::Heal { cause: _, named: _ } => {}
-            Ask::Operate { started: _, stop: _ } => {}
-            Ask::Terminate { mode: _, timeout: _ } => {}
+            Ask::Operate {
+                started: _,
+                stop: _,
+            } => {}
+            Ask::Terminate {
+                mode: _,
+                timeout: _,
+            } => {}
         }
     }
 }
