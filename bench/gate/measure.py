@@ -1,10 +1,12 @@
 #!/usr/bin/env python3
-"""Runs `rt ci` with the words that it is given, and prints the processor seconds that each crate took: of its proof, of its
-tests' proofs, and of its wrong bodies (with the second proof of the crate that they begin from). What an earlier run kept
-takes no time, so a whole measurement is one with --anew, or on a machine that has kept nothing.
+"""Runs `rt ci`, and prints the processor seconds that each crate took: of its proof, of its tests' proofs, and of its wrong
+bodies (with the second proof of the crate that they begin from).
 
-    bench/gate/measure.py --anew          the whole gate, from nothing
-    bench/gate/measure.py --anew NAME..   these crates and those below them
+    bench/gate/measure.py [WORD..]        the words are handed to `rt ci` as they are
+
+What `rt ci` takes is the toolchain's to say (`rt help`). Where it takes no word, it always proves everything from nothing,
+and that is the whole measurement. Where it takes from an earlier run what that has proved, this took no time here: a whole
+measurement is then a run that is told to take nothing, or one on a machine that has kept nothing.
 
 The seconds are read from /proc four times a second, so what a short command took in its last quarter of a second is
 missing. Standard output is the table; what `rt ci` prints goes to standard error. Ends with the status of `rt ci`."""
