@@ -1,54 +1,51 @@
 //! The work of changes of a server with one disk and one connection point, over what stands of it.
 
+use crate::routers::{bare, name, no_holding};
 use change_planner::forward_act;
 use lcm_events::{
     Act, Change, Def, DefKind, Held, Holding, Listed, Place, Port, Storage, Vdu, Verb, Vnfd,
 };
 use rollback_plan::undo_act;
-use std::alloc::Global;
+use std::alloc::{AllocError, Global};
 use std::process::Abort;
 use std::test::Fail;
 use vnfm_base::Name;
 
-fn name(rt: &impl Abort, text: &str) -> Name {
-    Name::of(text.as_bytes()).expect(rt, "a name")
-}
-
-/// A server: a machine of 512,000,000 bytes of memory and two processors with a disk, on one network.
-fn server(rt: &impl Abort, alloc: Global) -> Result<Vnfd, Fail> {
-    let empty = name(rt, "");
-    let machine = Vdu {
+/// A machine of 512,000,000 bytes of memory and two processors with a disk.
+fn machine(rt: &impl Abort, alloc: Global) -> Result<Vdu, AllocError> {
+    Ok(Vdu {
         name: name(rt, "VDU_A"),
         memory: 512_000_000,
         cpus: 2,
         maximum: 1,
         initial: 1,
         storages: Listed::of(vec![in alloc; 0]?),
-    };
-    let disk = Storage {
+    })
+}
+
+fn disk(rt: &impl Abort) -> Storage {
+    Storage {
         name: name(rt, "ST_A"),
         size: 1_000_000_000,
-    };
-    let port = Port {
+    }
+}
+
+fn port(rt: &impl Abort) -> Port {
+    Port {
         name: name(rt, "CP_A"),
         vdu: 0,
         link: Some(0),
-    };
-    Ok(Vnfd {
-        descriptor_id: name(rt, "server-1"),
-        provider: empty,
-        product_name: empty,
-        software_version: empty,
-        descriptor_version: empty,
-        flavour_id: name(rt, "simple"),
-        vdus: Listed::of(vec![in alloc; machine]?),
-        storages: Listed::of(vec![in alloc; disk]?),
-        links: Listed::of(vec![in alloc; name(rt, "VL_data")]?),
-        ports: Listed::of(vec![in alloc; port]?),
-        aspects: Listed::new(alloc),
-        levels: Listed::new(alloc),
-        default_level: 0,
-    })
+    }
+}
+
+/// A server: a machine on one network.
+fn server(rt: &impl Abort, alloc: Global) -> Result<Vnfd, AllocError> {
+    let mut vnfd = bare(rt, alloc, "server-1");
+    vnfd.vdus.push(machine(rt, alloc)?)?;
+    vnfd.storages.push(disk(rt))?;
+    vnfd.links.push(name(rt, "VL_data"))?;
+    vnfd.ports.push(port(rt))?;
+    Ok(vnfd)
 }
 
 fn def(kind: DefKind) -> Def {
@@ -81,19 +78,13 @@ fn held(rt: &impl Abort, kind: DefKind, resource: &str) -> Held {
 }
 
 /// The server's disk, machine and network stand.
-fn standing(rt: &impl Abort, alloc: Global) -> Result<Holding, Fail> {
-    let items = vec![in alloc;
-        held(rt, DefKind::Storage, "disk-1"),
-        held(rt, DefKind::Compute, "machine-1"),
-        held(rt, DefKind::Link, "network-1"),
-    ]?;
-    Ok(Holding {
-        instantiated: true,
-        started: true,
-        levels: Listed::new(alloc),
-        items: Listed::of(items),
-        top: Listed::of(vec![in alloc; 1]?),
-    })
+fn standing(rt: &impl Abort, alloc: Global) -> Result<Holding, AllocError> {
+    let mut holding = no_holding(alloc, true);
+    holding.items.push(held(rt, DefKind::Storage, "disk-1"))?;
+    holding.items.push(held(rt, DefKind::Compute, "machine-1"))?;
+    holding.items.push(held(rt, DefKind::Link, "network-1"))?;
+    holding.top.push(1)?;
+    Ok(holding)
 }
 
 fn change(verb: Verb, kind: DefKind) -> Change {
@@ -112,13 +103,27 @@ fn on(rt: &impl Abort, act: &Act, at: usize) -> Name {
     }
 }
 
+/// The work of a change of the server, made or undone.
+fn act_of(
+    rt: &impl Abort,
+    alloc: Global,
+    change: &Change,
+    is_undone: bool,
+    vim: &str,
+) -> Result<Act, AllocError> {
+    let vnfd = server(rt, alloc)?;
+    let holding = standing(rt, alloc)?;
+    if is_undone {
+        undo_act(alloc, &vnfd, &holding, change, &place(rt, vim))
+    } else {
+        forward_act(alloc, &vnfd, &holding, change, &place(rt, vim))
+    }
+}
+
 #[test]
 fn a_port_is_made_on_its_machine_and_its_network(rt: HostRuntime) -> Result<(), Fail> {
-    let alloc = rt.alloc();
-    let vnfd = server(&rt, alloc)?;
-    let holding = standing(&rt, alloc)?;
     let made = change(Verb::Create, DefKind::Port);
-    let act = forward_act(alloc, &vnfd, &holding, &made, &place(&rt, "vim2"))?;
+    let act = act_of(&rt, rt.alloc(), &made, false, "vim2")?;
     assert_eq!(rt; act.template.as_str(), "CP_A");
     assert_eq!(rt; act.vdu.as_str(), "VDU_A");
     assert_eq!(rt; act.vim.as_str(), "vim2");
@@ -130,11 +135,8 @@ fn a_port_is_made_on_its_machine_and_its_network(rt: HostRuntime) -> Result<(), 
 
 #[test]
 fn a_removed_machine_is_made_again_on_its_disk(rt: HostRuntime) -> Result<(), Fail> {
-    let alloc = rt.alloc();
-    let vnfd = server(&rt, alloc)?;
-    let holding = standing(&rt, alloc)?;
     let removed = change(Verb::Remove, DefKind::Compute);
-    let act = undo_act(alloc, &vnfd, &holding, &removed, &place(&rt, "vim1"))?;
+    let act = act_of(&rt, rt.alloc(), &removed, true, "vim1")?;
     assert!(rt; act.verb == Verb::Create);
     assert_eq!(rt; act.template.as_str(), "VDU_A");
     assert_eq!(rt; act.size, 512_000_000);

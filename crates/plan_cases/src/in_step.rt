@@ -1,9 +1,10 @@
 //! Whether an edge router of two machines is in step, as an operator would say.
 
-use crate::plans::{Part, STANDING, holding, router};
+use crate::routers::{ALL, Part, Stands, USUAL, holding, router, running, two};
 use change_planner::{can_be_planned, is_in_step};
-use lcm_events::{DefKind, Held, Holding, Listed, Vnfd};
-use std::alloc::Global;
+use lcm_events::{Holding, Vnfd};
+use std::alloc::{AllocError, Global};
+use std::process::Abort;
 use std::test::Fail;
 
 /// Whether the router is in step; `None` where what stands isn't the descriptor's, which no test wants.
@@ -15,10 +16,21 @@ fn told(vnfd: &Vnfd, holding: &Holding) -> Option<bool> {
     }
 }
 
+/// Whether the router is in step where this stands.
+fn told_of(
+    rt: &impl Abort,
+    alloc: Global,
+    vnfd: &Vnfd,
+    stands: Stands<'_>,
+) -> Result<Option<bool>, AllocError> {
+    let holding = holding(rt, alloc, stands)?;
+    Ok(told(vnfd, &holding))
+}
+
 /// All that stands of the router but for one definition.
-fn without(alloc: Global, place: usize) -> Result<Vec<Part>, Fail> {
+fn without(alloc: Global, place: usize) -> Result<Vec<Part>, AllocError> {
     let mut parts: Vec<Part> = Vec::new(alloc);
-    for (at, part) in STANDING.iter().enumerate() {
+    for (at, part) in ALL.iter().enumerate() {
         if at != place {
             parts.push(*part)?;
         }
@@ -26,67 +38,76 @@ fn without(alloc: Global, place: usize) -> Result<Vec<Part>, Fail> {
     Ok(parts)
 }
 
-#[test]
-fn a_router_is_in_step_where_nothing_is_missing_or_too_much(rt: HostRuntime) -> Result<(), Fail> {
-    let alloc = rt.alloc();
-    let vnfd = router(&rt, alloc, 11, 10)?;
-    for (level, expected) in [(0, false), (1, true), (2, false)].iter() {
-        let all = holding(&rt, alloc, &STANDING, *level, (2, 1))?;
-        assert!(rt; told(&vnfd, &all) == Some(*expected), "level {level}");
-    }
-    let nothing = holding(&rt, alloc, &[], 1, (2, 1))?;
-    assert!(rt; told(&vnfd, &nothing) == Some(false));
-    for place in 0..STANDING.len() {
-        let parts = without(alloc, place)?;
-        let partial = holding(&rt, alloc, parts.as_slice(), 1, (2, 1))?;
-        assert!(rt; told(&vnfd, &partial) == Some(false), "place {place}");
+/// Whether the router is in step where all stands but for one definition.
+fn told_without(
+    rt: &impl Abort,
+    alloc: Global,
+    vnfd: &Vnfd,
+    place: usize,
+) -> Result<Option<bool>, AllocError> {
+    let parts = without(alloc, place)?;
+    told_of(rt, alloc, vnfd, running(&parts, &[1], (2, 1)))
+}
+
+/// At the levels 0 to 2 of the workers, two of VDU_A are too many, just right and too few.
+fn levels_are_told(rt: &impl Abort, alloc: Global, vnfd: &Vnfd) -> Result<(), Fail> {
+    for (level, expected) in [(0, false), (1, true), (2, false)] {
+        let so = told_of(rt, alloc, vnfd, running(&ALL, &[level], (2, 1)))?;
+        assert!(rt; so == Some(expected), "level {level}");
     }
     Ok(())
 }
 
-/// The same, where the router is started or not, and the computes of VDU_A and of VDU_B run or not.
-fn powered(
-    alloc: Global,
-    all: Holding,
-    started: bool,
-    runs: (bool, bool),
-) -> Result<Holding, Fail> {
-    let mut items: Vec<Held> = Vec::new(alloc);
-    for item in all.items.as_slice() {
-        let mut item = *item;
-        item.running = item.def.kind == DefKind::Compute
-            && if item.def.vdu == 0 { runs.0 } else { runs.1 };
-        items.push(item)?;
+fn missing_parts_are_told(rt: &impl Abort, alloc: Global, vnfd: &Vnfd) -> Result<(), Fail> {
+    let nothing = running(&[], &[1], (2, 1));
+    assert!(rt; told_of(rt, alloc, vnfd, nothing)? == Some(false));
+    for place in 0..ALL.len() {
+        assert!(rt;
+            told_without(rt, alloc, vnfd, place)? == Some(false),
+            "place {place}"
+        );
     }
-    Ok(Holding {
-        instantiated: true,
-        started,
-        levels: all.levels,
-        items: Listed::of(items),
-        top: all.top,
-    })
+    Ok(())
+}
+
+#[test]
+fn a_router_is_in_step_where_nothing_is_missing_or_too_much(rt: HostRuntime) -> Result<(), Fail> {
+    let vnfd = router(&rt, rt.alloc(), USUAL)?;
+    levels_are_told(&rt, rt.alloc(), &vnfd)?;
+    missing_parts_are_told(&rt, rt.alloc(), &vnfd)
+}
+
+/// Whether the router is started, whether the computes of VDU_A and of VDU_B run, and whether it is in step then.
+const POWERED: [(bool, (bool, bool), bool); 8] = [
+    (true, (true, true), true),
+    (true, (true, false), false),
+    (true, (false, true), false),
+    (true, (false, false), false),
+    (false, (true, true), false),
+    (false, (true, false), false),
+    (false, (false, true), false),
+    (false, (false, false), true),
+];
+
+fn powers_are_told(rt: &impl Abort, alloc: Global, vnfd: &Vnfd) -> Result<(), Fail> {
+    for (row, (started, run, expected)) in POWERED.iter().enumerate() {
+        let all = Stands {
+            started: *started,
+            run: *run,
+            ..two()
+        };
+        assert!(rt;
+            told_of(rt, alloc, vnfd, all)? == Some(*expected),
+            "row {row}"
+        );
+    }
+    Ok(())
 }
 
 #[test]
 fn a_router_is_in_step_where_its_machines_run_as_it_is_started(
     rt: HostRuntime,
 ) -> Result<(), Fail> {
-    let alloc = rt.alloc();
-    let vnfd = router(&rt, alloc, 11, 10)?;
-    let table = [
-        (true, (true, true), true),
-        (true, (true, false), false),
-        (true, (false, true), false),
-        (true, (false, false), false),
-        (false, (true, true), false),
-        (false, (true, false), false),
-        (false, (false, true), false),
-        (false, (false, false), true),
-    ];
-    for (row, (started, runs, expected)) in table.iter().enumerate() {
-        let all = holding(&rt, alloc, &STANDING, 1, (2, 1))?;
-        let so = powered(alloc, all, *started, *runs)?;
-        assert!(rt; told(&vnfd, &so) == Some(*expected), "row {row}");
-    }
-    Ok(())
+    let vnfd = router(&rt, rt.alloc(), USUAL)?;
+    powers_are_told(&rt, rt.alloc(), &vnfd)
 }

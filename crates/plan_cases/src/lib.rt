@@ -8,6 +8,8 @@ mod in_step;
 #[cfg(test)]
 mod plans;
 #[cfg(test)]
+mod routers;
+#[cfg(test)]
 mod rules;
 #[cfg(test)]
 mod targets;

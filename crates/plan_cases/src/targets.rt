@@ -1,10 +1,12 @@
 //! Which levels an ask aims at, and what its plan at them comes to, as an operator would write it down.
 
-use crate::plans::{Part, STANDING, holding, instantiate, name, router, scale_out};
+use crate::routers::{
+    ALL, Asked, Stands, USUAL, WIDE, ask_of, holding, level, nothing, out, router, running, two,
+};
 use change_planner::{can_be_planned, plan};
-use lcm_events::{Aim, Ask, Holding, Level, Levels, Listed, ScaleWay, Vnfd};
+use lcm_events::{Ask, Holding, Levels, Listed, Vnfd};
 use scaling_levels::target;
-use std::alloc::Global;
+use std::alloc::{AllocError, Global};
 use std::process::Abort;
 use std::test::Fail;
 
@@ -26,7 +28,7 @@ fn planned_at(
 }
 
 /// What an ask comes to: its plan at the levels that it aims at, or why it aims at none.
-fn comes_to(alloc: Global, vnfd: &Vnfd, holding: &Holding, ask: &Ask) -> Result<String, Fail> {
+fn plan_of(alloc: Global, vnfd: &Vnfd, holding: &Holding, ask: &Ask) -> Result<String, Fail> {
     if !can_be_planned(vnfd, holding, &holding.levels) {
         return Ok(format!(in alloc; "no holding of it")?);
     }
@@ -37,7 +39,7 @@ fn comes_to(alloc: Global, vnfd: &Vnfd, holding: &Holding, ask: &Ask) -> Result<
 }
 
 /// The level of the first aspect that an ask aims at, or why it aims at none.
-fn aims_at(alloc: Global, vnfd: &Vnfd, holding: &Holding, ask: &Ask) -> Result<String, Fail> {
+fn aim_of(alloc: Global, vnfd: &Vnfd, holding: &Holding, ask: &Ask) -> Result<String, Fail> {
     if !can_be_planned(vnfd, holding, &holding.levels) {
         return Ok(format!(in alloc; "no holding of it")?);
     }
@@ -50,143 +52,127 @@ fn aims_at(alloc: Global, vnfd: &Vnfd, holding: &Holding, ask: &Ask) -> Result<S
     }
 }
 
+/// What is asked, and what it comes to.
+type Row = (Asked<'static>, &'static str);
+
+/// Over what stands, plans come to this.
+fn plans_are(
+    rt: &impl Abort,
+    alloc: Global,
+    vnfd: &Vnfd,
+    holding: &Holding,
+    rows: &[Row],
+) -> Result<(), Fail> {
+    for (row, (asked, expected)) in rows.iter().enumerate() {
+        let ask = ask_of(rt, alloc, *asked)?;
+        let text = plan_of(alloc, vnfd, holding, &ask)?;
+        assert_eq!(rt; text.as_str(), *expected, "row {row}");
+    }
+    Ok(())
+}
+
+/// Over what stands, asks aim at this.
+fn aims_are(
+    rt: &impl Abort,
+    alloc: Global,
+    vnfd: &Vnfd,
+    holding: &Holding,
+    rows: &[Row],
+) -> Result<(), Fail> {
+    for (row, (asked, expected)) in rows.iter().enumerate() {
+        let ask = ask_of(rt, alloc, *asked)?;
+        let text = aim_of(alloc, vnfd, holding, &ask)?;
+        assert_eq!(rt; text.as_str(), *expected, "row {row}");
+    }
+    Ok(())
+}
+
+/// Of a router over what stands of it, plans come to this.
+fn plans_come_to(
+    rt: &impl Abort,
+    alloc: Global,
+    vnfd: &Vnfd,
+    stands: Stands<'_>,
+    rows: &[Row],
+) -> Result<(), Fail> {
+    let holding = holding(rt, alloc, stands)?;
+    plans_are(rt, alloc, vnfd, &holding, rows)
+}
+
+/// The asks of the usual router of which two of VDU_A stand aim at this.
+fn asks_aim_at(rt: &impl Abort, alloc: Global, rows: &[Row]) -> Result<(), Fail> {
+    let vnfd = router(rt, alloc, USUAL)?;
+    let holding = holding(rt, alloc, two())?;
+    aims_are(rt, alloc, &vnfd, &holding, rows)
+}
+
 /// The router with one more level, at which there are ten more of VDU_A.
-fn with_large(rt: &impl Abort, alloc: Global) -> Result<Vnfd, Fail> {
-    let mut vnfd = router(rt, alloc, 11, 10)?;
-    let large = Level {
-        name: name(rt, "large"),
-        numbers: Listed::of(vec![in alloc; 10]?),
-    };
-    let normal = Level {
-        name: name(rt, "normal"),
-        numbers: Listed::of(vec![in alloc; 1]?),
-    };
-    vnfd.levels = Listed::of(vec![in alloc; large, normal]?);
+fn with_large(rt: &impl Abort, alloc: Global) -> Result<Vnfd, AllocError> {
+    let mut vnfd = router(rt, alloc, USUAL)?;
+    vnfd.levels = Listed::new(alloc);
+    vnfd.levels.push(level(rt, alloc, "large", &[10])?)?;
+    vnfd.levels.push(level(rt, alloc, "normal", &[1])?)?;
     vnfd.default_level = 1;
     Ok(vnfd)
 }
 
-/// The router without an aspect: one of each VDU at its only level.
-fn without_scaling(rt: &impl Abort, alloc: Global) -> Result<Vnfd, Fail> {
-    let mut vnfd = router(rt, alloc, 11, 10)?;
-    let only = Level {
-        name: name(rt, "only"),
-        numbers: Listed::new(alloc),
-    };
-    vnfd.aspects = Listed::new(alloc);
-    vnfd.levels = Listed::of(vec![in alloc; only]?);
-    Ok(vnfd)
-}
-
-/// A holding of these definitions without an aspect.
-fn unscaled(
-    rt: &impl Abort,
-    alloc: Global,
-    parts: &[Part],
-    tops: (u32, u32),
-) -> Result<Holding, Fail> {
-    let mut all = holding(rt, alloc, parts, 0, tops)?;
-    all.levels = Listed::new(alloc);
-    Ok(all)
-}
-
 #[test]
 fn a_larger_level_makes_49_resources(rt: HostRuntime) -> Result<(), Fail> {
-    let alloc = rt.alloc();
-    let vnfd = with_large(&rt, alloc)?;
-    let nothing = holding(&rt, alloc, &[], 0, (0, 0))?;
-    let large = Ask::Instantiate {
-        flavour: name(&rt, "simple"),
-        level: Some(name(&rt, "large")),
-    };
-    assert_eq!(rt;
-        comes_to(alloc, &vnfd, &nothing, &large)?.as_str(),
-        "49 changes"
-    );
-    assert_eq!(rt;
-        comes_to(alloc, &vnfd, &nothing, &instantiate(&rt))?.as_str(),
-        "13 changes"
-    );
-    Ok(())
+    let vnfd = with_large(&rt, rt.alloc())?;
+    let rows = [
+        (Asked::InstantiateAt("large"), "49 changes"),
+        (Asked::Instantiate, "13 changes"),
+    ];
+    plans_come_to(&rt, rt.alloc(), &vnfd, nothing(), &rows)
+}
+
+/// The router without an aspect: one of each VDU at its only level.
+fn without_scaling(rt: &impl Abort, alloc: Global) -> Result<Vnfd, AllocError> {
+    let mut vnfd = router(rt, alloc, USUAL)?;
+    vnfd.aspects = Listed::new(alloc);
+    vnfd.levels = Listed::new(alloc);
+    vnfd.levels.push(level(rt, alloc, "only", &[])?)?;
+    Ok(vnfd)
 }
 
 #[test]
 fn without_scaling_there_is_one_of_each(rt: HostRuntime) -> Result<(), Fail> {
-    let alloc = rt.alloc();
-    let vnfd = without_scaling(&rt, alloc)?;
-    let nothing = unscaled(&rt, alloc, &[], (0, 0))?;
-    assert_eq!(rt;
-        comes_to(alloc, &vnfd, &nothing, &instantiate(&rt))?.as_str(),
-        "9 changes"
-    );
-    assert_eq!(rt;
-        comes_to(alloc, &vnfd, &nothing, &scale_out(&rt, 1))?.as_str(),
-        "no such aspect"
-    );
-    Ok(())
+    let vnfd = without_scaling(&rt, rt.alloc())?;
+    let rows = [
+        (Asked::Instantiate, "9 changes"),
+        (out(1), "no such aspect"),
+    ];
+    plans_come_to(&rt, rt.alloc(), &vnfd, running(&[], &[], (0, 0)), &rows)
 }
 
 /// As many machines are made, 622 of four definitions each, over twelve that stand and over thirteen.
 #[test]
 fn exactly_2500_definitions_are_not_too_many(rt: HostRuntime) -> Result<(), Fail> {
     let alloc = rt.alloc();
-    let wide = router(&rt, alloc, 4_294_967_295, 1_000)?;
-    let twelve = holding(&rt, alloc, &STANDING[..12], 1, (2, 1))?;
-    let thirteen = holding(&rt, alloc, &STANDING, 1, (2, 1))?;
-    let ask = scale_out(&rt, 622);
-    assert_eq!(rt;
-        comes_to(alloc, &wide, &twelve, &ask)?.as_str(),
-        "2488 changes"
-    );
-    assert_eq!(rt;
-        comes_to(alloc, &wide, &thirteen, &ask)?.as_str(),
-        "2501 resources are too many"
-    );
-    Ok(())
-}
-
-/// An ask to scale the workers in.
-fn scale_in(rt: &impl Abort, steps: u32) -> Ask {
-    Ask::Scale {
-        way: ScaleWay::In,
-        aspect: name(rt, "workers"),
-        steps,
-    }
+    let vnfd = router(&rt, alloc, WIDE)?;
+    let twelve = running(&ALL[..12], &[1], (2, 1));
+    plans_come_to(&rt, alloc, &vnfd, twelve, &[(out(622), "2488 changes")])?;
+    let refused = [(out(622), "2501 resources are too many")];
+    plans_come_to(&rt, alloc, &vnfd, two(), &refused)
 }
 
 #[test]
 fn steps_lead_to_a_level_or_are_refused(rt: HostRuntime) -> Result<(), Fail> {
-    let alloc = rt.alloc();
-    let vnfd = router(&rt, alloc, 11, 10)?;
-    let two = holding(&rt, alloc, &STANDING, 1, (2, 1))?;
     let rows = [
-        (scale_out(&rt, 1), "level 2"),
-        (scale_out(&rt, 9), "level 10"),
-        (scale_out(&rt, 10), "scale level above 10"),
-        (scale_in(&rt, 1), "level 0"),
-        (scale_in(&rt, 2), "scale level below zero"),
+        (out(1), "level 2"),
+        (out(9), "level 10"),
+        (out(10), "scale level above 10"),
+        (Asked::ScaleIn(1), "level 0"),
+        (Asked::ScaleIn(2), "scale level below zero"),
     ];
-    for (ask, expected) in rows.iter() {
-        assert_eq!(rt; aims_at(alloc, &vnfd, &two, ask)?.as_str(), *expected);
-    }
-    Ok(())
+    asks_aim_at(&rt, rt.alloc(), &rows)
 }
 
 #[test]
 fn only_steps_of_an_aspect_are_refused(rt: HostRuntime) -> Result<(), Fail> {
-    let alloc = rt.alloc();
-    let vnfd = router(&rt, alloc, 11, 10)?;
-    let two = holding(&rt, alloc, &STANDING, 1, (2, 1))?;
-    let unknown = Ask::Scale {
-        way: ScaleWay::Out,
-        aspect: name(&rt, "drivers"),
-        steps: 10,
-    };
-    let far = Ask::ScaleToLevel(Aim::Level(name(&rt, "far")));
-    assert_eq!(rt;
-        aims_at(alloc, &vnfd, &two, &unknown)?.as_str(),
-        "no such aspect"
-    );
-    assert_eq!(rt; aims_at(alloc, &vnfd, &two, &far)?.as_str(), "level 1");
-    Ok(())
+    let rows = [
+        (Asked::ScaleOut("drivers", 10), "no such aspect"),
+        (Asked::ScaleTo("far"), "level 1"),
+    ];
+    asks_aim_at(&rt, rt.alloc(), &rows)
 }
