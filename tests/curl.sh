@@ -31,7 +31,7 @@ ask "show" 200 "\"vnfInstanceName\":\"edge-1\"" "$root/$first"
 ask "delete" 204 "^HTTP/1.1 204 No Content\$" -X DELETE "$root/$first"
 ask "show what was deleted" 404 '{"detail":"no such instance","status":404}' "$root/$first"
 ask "a method that it hasn't" 405 "^Allow: DELETE, GET\$" -X PATCH "$root/$second"
-ask "two on one connection" 200 "^\[{\"_links\".*\"id\":\"$second\".*}\]\$" "$root?all" -o /dev/null "$root/$second"
+ask "two on one connection" 200 "^\[{\"_links\".*\"id\":\"$second\".*}\]\$" -o - "$root?all" -o /dev/null "$root/$second"
 wait "$relay"
 expect "the relay, status" "$?" 0
 expect "the runs" "$(sort -u "$room/runs")" "done after 1 rounds"

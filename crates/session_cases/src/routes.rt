@@ -51,7 +51,7 @@ fn answer_of(alloc: Global, line: &str, kind: &str, body: &str) -> Result<Vec<u8
 
 /// The refusal with this status line and this detail.
 fn refusal_of(alloc: Global, line: &str, detail: &str) -> Result<Vec<u8>, AllocError> {
-    let status = &line[..3];
+    let status = line.split_once(' ').map_or(line, |(status, _)| status);
     let body = format!(in alloc; "{{\"detail\":\"{detail}\",\"status\":{status}}}")?;
     answer_of(alloc, line, "problem+json", &body)
 }
