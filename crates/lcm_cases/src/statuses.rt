@@ -167,7 +167,7 @@ fn serves(
     Ok(
         ran.status == 0
             && ran.printed.as_slice() == line
-            && site.file().len() == JOURNAL.len() + more
+            && site.file().len() == JOURNAL.len().saturating_add(more)
             && ran.clock == clock
             && is_told == (more > 0),
     )
