@@ -75,6 +75,27 @@ fn writes<D: Door>(
     Ok((dids, left.len()))
 }
 
+/// A connection from which these bytes come at these turns.
+fn giving(alloc: Global, turns: &[Turn]) -> Result<RealDoor<Source, Drain>, AllocError> {
+    let source = Source::of(
+        Vec::from_slice(alloc, b"some body")?,
+        Vec::from_slice(alloc, turns)?,
+    );
+    let drain = Drain::of(Vec::new(alloc), Vec::new(alloc));
+    Ok(RealDoor::made(source, drain, Role::Orchestrator))
+}
+
+/// Whether reads at these turns come to this, and to all bytes.
+fn reads_come_to(alloc: Global, turns: &[Turn], expected: &[Did]) -> Result<bool, AllocError> {
+    let mut door = giving(alloc, turns)?;
+    if !comes(&mut door) {
+        return Ok(false);
+    }
+    let (dids, bytes) = reads(alloc, &mut door, expected.len())?;
+    let read = bytes.as_slice() == b"some body".as_slice() && !door.write_failed();
+    Ok(dids.as_slice() == expected && read)
+}
+
 #[test]
 fn reads_go_on_behind_short_and_interrupted_ones(rt: HostRuntime) -> Result<(), Fail> {
     let alloc = rt.alloc();
@@ -112,19 +133,30 @@ fn reads_go_on_behind_short_and_interrupted_ones(rt: HostRuntime) -> Result<(), 
         ),
     ];
     for (row, (turns, expected)) in table.iter().enumerate() {
-        let source = Source::of(
-            Vec::from_slice(alloc, b"some body")?,
-            Vec::from_slice(alloc, turns)?,
-        );
-        let drain = Drain::of(Vec::new(alloc), Vec::new(alloc));
-        let mut door = RealDoor::made(source, drain, Role::Orchestrator);
-        assert!(rt; comes(&mut door), "row {row}");
-        let (dids, bytes) = reads(alloc, &mut door, expected.len())?;
-        assert!(rt; dids.as_slice() == *expected, "row {row}");
-        assert!(rt; bytes.as_slice() == b"some body".as_slice(), "row {row}");
-        assert!(rt; !door.write_failed(), "row {row}");
+        assert!(rt; reads_come_to(alloc, turns, expected)?, "row {row}");
     }
     Ok(())
+}
+
+/// A connection to which these bytes are to be written at these turns.
+fn taking(alloc: Global, turns: &[Turn]) -> Result<RealDoor<Source, Drain>, AllocError> {
+    let source = Source::of(Vec::new(alloc), Vec::new(alloc));
+    let drain = Drain::of(
+        Vec::from_slice(alloc, b"an answer")?,
+        Vec::from_slice(alloc, turns)?,
+    );
+    Ok(RealDoor::made(source, drain, Role::Orchestrator))
+}
+
+/// Whether writes at these turns come to this, and leave no byte. One that fails is told, and no second connection comes.
+fn writes_come_to(alloc: Global, turns: &[Turn], expected: &[Did]) -> Result<bool, AllocError> {
+    let mut door = taking(alloc, turns)?;
+    if !comes(&mut door) {
+        return Ok(false);
+    }
+    let (dids, left) = writes(alloc, &mut door, b"an answer", expected.len())?;
+    let told = door.write_failed() == expected.contains(&Did::Failed);
+    Ok(dids.as_slice() == expected && left == 0 && told && !comes(&mut door))
 }
 
 #[test]
@@ -143,24 +175,20 @@ fn writes_are_told_as_short_as_they_are(rt: HostRuntime) -> Result<(), Fail> {
         ),
     ];
     for (row, (turns, expected)) in table.iter().enumerate() {
-        let source = Source::of(Vec::new(alloc), Vec::new(alloc));
-        let drain = Drain::of(
-            Vec::from_slice(alloc, b"an answer")?,
-            Vec::from_slice(alloc, turns)?,
-        );
-        let mut door = RealDoor::made(source, drain, Role::Orchestrator);
-        assert!(rt; comes(&mut door), "row {row}");
-        let (dids, left) = writes(alloc, &mut door, b"an answer", expected.len())?;
-        assert!(rt; dids.as_slice() == *expected, "row {row}");
-        assert_eq!(rt; left, 0usize, "row {row}");
-        assert_eq!(rt;
-            door.write_failed(),
-            expected.contains(&Did::Failed),
-            "row {row}"
-        );
-        assert!(rt; !comes(&mut door), "row {row}");
+        assert!(rt; writes_come_to(alloc, turns, expected)?, "row {row}");
     }
     Ok(())
+}
+
+/// Whether a line is put at these turns, and whether the next, or else the same again.
+fn puts(alloc: Global, turns: &[Turn]) -> Result<[bool; 2], AllocError> {
+    let mut sink = RealSink::made(Drain::of(
+        Vec::from_slice(alloc, b"a line\nanother\n")?,
+        Vec::from_slice(alloc, turns)?,
+    ));
+    let first = sink.put(b"a line\n").is_ok();
+    let next: &[u8] = if first { b"another\n" } else { b"a line\n" };
+    Ok([first, sink.put(next).is_ok()])
 }
 
 #[test]
@@ -173,19 +201,8 @@ fn a_line_that_is_cut_short_is_not_put(rt: HostRuntime) -> Result<(), Fail> {
         (&[Turn::Most(7), Turn::Most(5)], [true, false]),
     ];
     for (row, (turns, expected)) in table.iter().enumerate() {
-        let mut sink = RealSink::made(Drain::of(
-            Vec::from_slice(alloc, b"a line\nanother\n")?,
-            Vec::from_slice(alloc, turns)?,
-        ));
-        let first = sink.put(b"a line\n").is_ok();
-        let second = sink
-            .put(if first {
-                &b"another\n"[..]
-            } else {
-                b"a line\n"
-            })
-            .is_ok();
-        assert_eq!(rt; [first, second], *expected, "row {row}");
+        let put = puts(alloc, turns)?;
+        assert_eq!(rt; put, *expected, "row {row}");
     }
     Ok(())
 }

@@ -4,7 +4,7 @@ use lcm_events::{
     Aim, Ask, Aspect, AspectLevel, Change, Def, DefKind, EventKind, Filter, Level, Listed, OpState,
     Operation, Outcome, Place, PostOutcome, Role, ScaleWay, StopType, Tag, Vdu, Verb, Vnfd,
 };
-use std::alloc::Global;
+use std::alloc::{AllocError, Global};
 use std::process::Abort;
 use std::test::Fail;
 use vnfm_base::{Line, Name};
@@ -33,7 +33,12 @@ fn aspect(rt: &impl Abort, alloc: Global, text: &str) -> Aspect {
     }
 }
 
-fn level(rt: &impl Abort, alloc: Global, text: &str, numbers: (u32, u32)) -> Result<Level, Fail> {
+fn level(
+    rt: &impl Abort,
+    alloc: Global,
+    text: &str,
+    numbers: (u32, u32),
+) -> Result<Level, AllocError> {
     let numbers = vec![in alloc; numbers.0, numbers.1]?;
     Ok(Level {
         name: name(rt, text),
@@ -41,29 +46,40 @@ fn level(rt: &impl Abort, alloc: Global, text: &str, numbers: (u32, u32)) -> Res
     })
 }
 
-/// A descriptor of two VDUs, two aspects and two levels.
-fn vnfd(rt: &impl Abort, alloc: Global, id: &str) -> Result<Vnfd, Fail> {
-    let vdus = vec![in alloc; vdu(rt, alloc, "front"), vdu(rt, alloc, "back")]?;
-    let aspects = vec![in alloc; aspect(rt, alloc, "callers"), aspect(rt, alloc, "readers")]?;
-    let levels = vec![in alloc;
-        level(rt, alloc, "big", (3, 4))?,
-        level(rt, alloc, "small", (0, 1))?,
-    ]?;
-    Ok(Vnfd {
+/// A descriptor with nothing in it.
+fn bare(rt: &impl Abort, alloc: Global, id: &str) -> Vnfd {
+    Vnfd {
         descriptor_id: name(rt, id),
         provider: name(rt, "Example"),
         product_name: name(rt, "Router"),
         software_version: name(rt, "1.0"),
         descriptor_version: name(rt, "1.0"),
         flavour_id: name(rt, "simple"),
-        vdus: Listed::of(vdus),
+        vdus: Listed::new(alloc),
         storages: Listed::new(alloc),
         links: Listed::new(alloc),
         ports: Listed::new(alloc),
-        aspects: Listed::of(aspects),
-        levels: Listed::of(levels),
+        aspects: Listed::new(alloc),
+        levels: Listed::new(alloc),
         default_level: 1,
-    })
+    }
+}
+
+/// Two VDUs, two aspects and two levels.
+fn add_parts(rt: &impl Abort, alloc: Global, vnfd: &mut Vnfd) -> Result<(), AllocError> {
+    vnfd.vdus.push(vdu(rt, alloc, "front"))?;
+    vnfd.vdus.push(vdu(rt, alloc, "back"))?;
+    vnfd.aspects.push(aspect(rt, alloc, "callers"))?;
+    vnfd.aspects.push(aspect(rt, alloc, "readers"))?;
+    vnfd.levels.push(level(rt, alloc, "big", (3, 4))?)?;
+    vnfd.levels.push(level(rt, alloc, "small", (0, 1))?)
+}
+
+/// A descriptor of two VDUs, two aspects and two levels.
+fn vnfd(rt: &impl Abort, alloc: Global, id: &str) -> Result<Vnfd, AllocError> {
+    let mut vnfd = bare(rt, alloc, id);
+    add_parts(rt, alloc, &mut vnfd)?;
+    Ok(vnfd)
 }
 
 pub fn onboarded(rt: &impl Abort, alloc: Global, id: &str) -> Result<EventKind, Fail> {

@@ -1,10 +1,13 @@
 //! Stops and faults of a file in memory, broken files, and records at the file's limit.
+ghost use Rattle.std.specs.Prelude.{◌≡◌, length};
+
 use journal_core::{AppendFault, CreateFault, Journal, LoadFault, MAX_FILE};
 use lcm_events::{Act, Tag};
 use site_traits::{
     AbortAnswer, BeginAnswer, Choice, DiskFailed, LookAnswer, MemSite, Site, SitePlan,
 };
 use std::alloc::{AllocError, Global};
+use std::process::Abort;
 use std::test::Fail;
 
 /// A made file of manager 7 with no record.
@@ -59,19 +62,42 @@ fn site_of(alloc: Global, file: &[u8], fault: u64) -> Result<MemSite, AllocError
     )
 }
 
-/// A made file to which the record was appended; how many calls were on record before the append; its answer.
-fn appended(
-    alloc: Global,
-    fault: u64,
-) -> Result<(MemSite, usize, Option<Result<(), AppendFault>>), AllocError> {
-    let mut site = site_of(alloc, &MADE, fault)?;
-    let mut journal = match Journal::load(alloc, &mut site) {
-        Ok(journal) => journal,
-        Err(_) => return Ok((site, 0, None)),
-    };
-    let before = site.moment();
-    let answer = journal.append(&mut site, &RECORD);
-    Ok((site, before, Some(answer)))
+/// What came of an append.
+#[derive(Clone, Copy, Debug, PartialEq, Eq)]
+enum Appended {
+    Done,
+    /// The file has no room for so many bytes more behind this place.
+    Full(u64, u32),
+    Disk,
+    /// The file wasn't loaded.
+    Unloaded,
+}
+
+fn append_says(answer: &Result<(), AppendFault>) -> Appended {
+    match answer {
+        Ok(()) => Appended::Done,
+        Err(AppendFault::Full { end, more }) => Appended::Full(*end, *more),
+        Err(AppendFault::Disk) => Appended::Disk,
+    }
+}
+
+/// Appends the record to a site's file. How many calls were on record before the append, and its answer.
+fn append(alloc: Global, site: &mut MemSite) -> (usize, Appended) {
+    match Journal::load(alloc, site) {
+        Ok(mut journal) => {
+            let before = site.moment();
+            let answer = journal.append(site, &RECORD);
+            (before, append_says(&answer))
+        }
+        Err(_) => (0, Appended::Unloaded),
+    }
+}
+
+/// A made file to which the record was appended.
+fn with_record(alloc: Global) -> Result<MemSite, AllocError> {
+    let mut site = site_of(alloc, &MADE, 0)?;
+    append(alloc, &mut site);
+    Ok(site)
 }
 
 /// What loads say of the file that each choice leaves of a stop after so many calls.
@@ -87,59 +113,101 @@ fn left(alloc: Global, site: &MemSite, moment: usize) -> Result<[Says; 3], Alloc
     Ok(says)
 }
 
-#[test]
-fn an_append_stopped_anywhere_leaves_the_record_or_not(rt: HostRuntime) -> Result<(), Fail> {
-    let alloc = rt.alloc();
-    let (site, before, answer) = appended(alloc, 0)?;
-    assert!(rt; matches!(answer, Some(Ok(()))));
-    let table = [[0, 0, 0], [0, 0, 0], [0, 0, 0], [0, 1, 0], [1, 1, 1]];
-    assert_eq!(rt; site.moment(), before.saturating_add(4));
-    for (call, counts) in table.iter().enumerate() {
-        let says = left(alloc, &site, before.saturating_add(call))?;
-        for k in 0..3usize {
-            assert_eq!(rt;
-                says[k],
-                Says::Has(7, counts[k]),
-                "after {call} calls, choice {k}"
-            );
-        }
+/// So many records after a stop behind each call of an append, by choice.
+const RECORDS_LEFT: [[u64; 3]; 5] = [[0, 0, 0], [0, 0, 0], [0, 0, 0], [0, 1, 0], [1, 1, 1]];
+
+/// That there are so many records, by choice.
+fn records(counts: [u64; 3]) -> [Says; 3] {
+    [
+        Says::Has(7, counts[0]),
+        Says::Has(7, counts[1]),
+        Says::Has(7, counts[2]),
+    ]
+}
+
+/// Behind each of an append's calls, of which so many were made before, a stop leaves the record or not.
+fn stops_leave_records(
+    rt: &impl Abort,
+    alloc: Global,
+    site: &MemSite,
+    before: usize,
+) -> Result<(), Fail> {
+    for (call, counts) in RECORDS_LEFT.iter().enumerate() {
+        let says = left(alloc, site, before.saturating_add(call))?;
+        assert_eq!(rt; says, records(*counts), "after {call} calls");
     }
     Ok(())
+}
+
+#[test]
+fn an_append_stopped_anywhere_leaves_the_record_or_not(rt: HostRuntime) -> Result<(), Fail> {
+    let mut site = site_of(rt.alloc(), &MADE, 0)?;
+    let (before, answer) = append(rt.alloc(), &mut site);
+    assert_eq!(rt; answer, Appended::Done);
+    assert_eq!(rt; site.moment(), before.saturating_add(4));
+    stops_leave_records(&rt, rt.alloc(), &site, before)
+}
+
+/// What comes of an append of which this call fails, how many faults there were, and what a load says of the file then.
+fn append_with(alloc: Global, fault: u64) -> Result<(Appended, u64, Says), AllocError> {
+    let mut site = site_of(alloc, &MADE, fault)?;
+    let (_, answer) = append(alloc, &mut site);
+    let faults = site.faults();
+    Ok((answer, faults, loaded(alloc, &mut site)))
 }
 
 #[test]
 fn an_append_whose_calls_fail_in_turn_leaves_the_record_or_not(
     rt: HostRuntime,
 ) -> Result<(), Fail> {
-    let alloc = rt.alloc();
-    for (fault, count) in [(5u64, 0u64), (6, 0), (7, 0), (8, 1)] {
-        let (mut site, _, answer) = appended(alloc, fault)?;
-        assert!(rt;
-            matches!(answer, Some(Err(AppendFault::Disk))),
-            "fault {fault}"
-        );
-        assert_eq!(rt; site.faults(), 1);
-        assert_eq!(rt;
-            loaded(alloc, &mut site),
-            Says::Has(7, count),
-            "fault {fault}"
-        );
+    for (fault, count) in [(5, 0), (6, 0), (7, 0), (8, 1)] {
+        let came = append_with(rt.alloc(), fault)?;
+        let expected = (Appended::Disk, 1, Says::Has(7, count));
+        assert_eq!(rt; came, expected, "fault {fault}");
+    }
+    Ok(())
+}
+
+/// What a load says of this file, of which call number `fault` is to fail; with 0 none is.
+fn file_says(alloc: Global, file: &[u8], fault: u64) -> Result<Says, AllocError> {
+    let mut site = site_of(alloc, file, fault)?;
+    Ok(loaded(alloc, &mut site))
+}
+
+/// The first six calls of a load are those that it makes.
+fn loads_fail(rt: &impl Abort, alloc: Global, file: &[u8]) -> Result<(), Fail> {
+    for fault in 1..8u64 {
+        let says = if fault < 7 {
+            Says::Disk
+        } else {
+            Says::Has(7, 1)
+        };
+        let said = file_says(alloc, file, fault)?;
+        assert_eq!(rt; said, says, "fault {fault}");
     }
     Ok(())
 }
 
 #[test]
 fn a_load_whose_calls_fail_in_turn_says_so(rt: HostRuntime) -> Result<(), Fail> {
-    let alloc = rt.alloc();
-    let (made, _, _) = appended(alloc, 0)?;
-    for fault in 1..8u64 {
-        let mut site = site_of(alloc, made.file(), fault)?;
-        let says = if fault < 7 {
-            Says::Disk
-        } else {
-            Says::Has(7, 1)
-        };
-        assert_eq!(rt; loaded(alloc, &mut site), says, "fault {fault}");
+    let made = with_record(rt.alloc())?;
+    loads_fail(&rt, rt.alloc(), made.file())
+}
+
+/// What loads say of a stop after so many calls of a making.
+fn stop_of_a_making(moment: usize) -> [Says; 3] {
+    let made = Says::Has(7, 0);
+    match moment {
+        8 => [Says::Unmade, made, Says::Unmade],
+        9 => [made, made, made],
+        _ => [Says::Unmade, Says::Unmade, Says::Unmade],
+    }
+}
+
+fn stops_leave_makings(rt: &impl Abort, alloc: Global, site: &MemSite) -> Result<(), Fail> {
+    for moment in 0..10usize {
+        let says = left(alloc, site, moment)?;
+        assert_eq!(rt; says, stop_of_a_making(moment), "after {moment} calls");
     }
     Ok(())
 }
@@ -148,42 +216,71 @@ fn a_load_whose_calls_fail_in_turn_says_so(rt: HostRuntime) -> Result<(), Fail> 
 fn a_making_stopped_anywhere_leaves_the_file_unfinished_or_made(
     rt: HostRuntime,
 ) -> Result<(), Fail> {
-    let alloc = rt.alloc();
-    let mut site = site_of(alloc, &[], 0)?;
+    let mut site = site_of(rt.alloc(), &[], 0)?;
     assert!(rt; Journal::create(&mut site, 7).is_ok());
     assert_eq!(rt; site.moment(), 9);
     assert!(rt; site.file() == &MADE[..]);
-    let made = Says::Has(7, 0);
-    for moment in 0..10usize {
-        let says = match moment {
-            8 => [Says::Unmade, made, Says::Unmade],
-            9 => [made, made, made],
-            _ => [Says::Unmade, Says::Unmade, Says::Unmade],
-        };
-        assert_eq!(rt; left(alloc, &site, moment)?, says, "after {moment} calls");
+    stops_leave_makings(&rt, rt.alloc(), &site)
+}
+
+/// What came of a making.
+#[derive(Clone, Copy, Debug, PartialEq, Eq)]
+enum Making {
+    Done,
+    Taken,
+    Disk,
+}
+
+fn made(site: &mut MemSite) -> Making {
+    match Journal::create(site, 7) {
+        Ok(()) => Making::Done,
+        Err(CreateFault::Taken) => Making::Taken,
+        Err(CreateFault::Disk) => Making::Disk,
     }
-    Ok(())
+}
+
+/// What came of two makings, what a load says of the file then, and what came of a third making.
+type Makings = (Making, Making, Says, Making);
+
+fn makings(alloc: Global, site: &mut MemSite) -> Makings {
+    let (first, second) = (made(site), made(site));
+    let says = loaded(alloc, site);
+    (first, second, says, made(site))
+}
+
+/// What comes of makings of which this call fails.
+fn makings_with(alloc: Global, fault: u64) -> Result<Makings, AllocError> {
+    let mut site = site_of(alloc, &[], fault)?;
+    Ok(makings(alloc, &mut site))
 }
 
 #[test]
 fn a_making_whose_calls_fail_in_turn_can_go_on(rt: HostRuntime) -> Result<(), Fail> {
-    let alloc = rt.alloc();
     for fault in 1..10u64 {
-        let mut site = site_of(alloc, &[], fault)?;
-        assert!(rt;
-            matches!(Journal::create(&mut site, 7), Err(CreateFault::Disk)),
-            "fault {fault}"
-        );
-        let again = Journal::create(&mut site, 7);
-        if fault < 9 {
-            assert!(rt; again.is_ok(), "fault {fault}");
+        let again = if fault < 9 {
+            Making::Done
         } else {
-            assert!(rt; matches!(again, Err(CreateFault::Taken)));
-        }
-        assert_eq!(rt; loaded(alloc, &mut site), Says::Has(7, 0), "fault {fault}");
-        assert!(rt; matches!(Journal::create(&mut site, 7), Err(CreateFault::Taken)));
+            Making::Taken
+        };
+        let expected = (Making::Disk, again, Says::Has(7, 0), Making::Taken);
+        let came = makings_with(rt.alloc(), fault)?;
+        assert_eq!(rt; came, expected, "fault {fault}");
     }
     Ok(())
+}
+
+/// A made file with these bytes behind its header.
+fn with_records(alloc: Global, behind: &[u8]) -> Result<Vec<u8>, AllocError> {
+    let mut file = Vec::new(alloc);
+    file.extend_from_slice(&MADE[..32])?;
+    file.extend_from_slice(behind)?;
+    Ok(file)
+}
+
+/// What a load says of a made file with these bytes behind its header.
+fn records_say(alloc: Global, behind: &[u8]) -> Result<Says, AllocError> {
+    let file = with_records(alloc, behind)?;
+    file_says(alloc, &file, 0)
 }
 
 #[test]
@@ -202,11 +299,8 @@ fn files_are_whole_or_refused_at_the_first_fault(rt: HostRuntime) -> Result<(), 
         (b"\x01\0\0\0\x01a\x01\0\0\0\x02a", Says::Broken(2)),
     ];
     for (behind, says) in table {
-        let mut file = Vec::new(alloc);
-        file.extend_from_slice(&MADE[..32])?;
-        file.extend_from_slice(behind)?;
-        let mut site = site_of(alloc, &file, 0)?;
-        assert_eq!(rt; loaded(alloc, &mut site), says, "{behind:?}");
+        let said = records_say(alloc, behind)?;
+        assert_eq!(rt; said, says, "{behind:?}");
     }
     Ok(())
 }
@@ -230,8 +324,8 @@ fn files_without_a_header_are_unmade_or_foreign(rt: HostRuntime) -> Result<(), F
         (b"VNFM-LCM\x01\0\0", Says::Foreign(11)),
     ];
     for (file, says) in table {
-        let mut site = site_of(alloc, file, 0)?;
-        assert_eq!(rt; loaded(alloc, &mut site), says, "{file:?}");
+        let said = file_says(alloc, file, 0)?;
+        assert_eq!(rt; said, says, "{file:?}");
     }
     Ok(())
 }
@@ -351,29 +445,44 @@ fn a_record_ends_before_the_limit(rt: HostRuntime) -> Result<(), Fail> {
     Ok(())
 }
 
+/// What came of a record at the end of a far site's file: whether it fits, the answer, whether a byte fewer fits, and how many
+/// records there are.
+#[derive(Clone, Copy, Debug, PartialEq, Eq)]
+struct Filled {
+    fits: bool,
+    answer: Appended,
+    fewer_fits: bool,
+    count: u64,
+}
+
+/// Appends these 45,024 bytes to a far site's file; None where it isn't loaded.
+fn fill(alloc: Global, site: &mut FarSite, bytes: &[u8]) -> Option<Filled>
+    requires { length bytes.now ≡ 45024 }
+{
+    let Ok(mut journal) = Journal::load(alloc, site) else {
+        return None;
+    };
+    let fits = journal.fits(45_024, MAX_FILE);
+    let answer = append_says(&journal.append(site, bytes));
+    Some(Filled {
+        fits,
+        answer,
+        fewer_fits: journal.fits(45_023, MAX_FILE),
+        count: journal.count(),
+    })
+}
+
 #[test]
 fn an_append_is_full_where_its_gate_would_pass_the_limit(rt: HostRuntime) -> Result<(), Fail> {
-    let alloc = rt.alloc();
     let mut site = FarSite::of([0; 5], 268_390_428);
-    let bytes = vec![in alloc; 7u8; 45_024]?;
-    match Journal::load(alloc, &mut site) {
-        Ok(mut journal) => {
-            assert!(rt; !journal.fits(45_024, MAX_FILE));
-            let full = journal.append(&mut site, &bytes[..45_024]);
-            assert!(rt;
-                matches!(
-                    full,
-                    Err(AppendFault::Full {
-                        end: 268_390_427,
-                        more: 45_024
-                    })
-                )
-            );
-            assert!(rt; journal.fits(45_023, MAX_FILE));
-            assert_eq!(rt; journal.count(), 4_095);
-        }
-        Err(_) => assert!(rt; false),
-    }
+    let bytes = vec![in rt.alloc(); 7u8; 45_024]?;
+    let filled = Filled {
+        fits: false,
+        answer: Appended::Full(268_390_427, 45_024),
+        fewer_fits: true,
+        count: 4_095,
+    };
+    assert_eq!(rt; fill(rt.alloc(), &mut site, &bytes), Some(filled));
     Ok(())
 }
 
@@ -382,92 +491,83 @@ fn first_of(bytes: &[u8]) -> u8 {
     if bytes.is_empty() { 0 } else { bytes[0] }
 }
 
-/// What reading records 3, 1 and 2 back, in this order, gave.
-#[derive(Clone, Copy)]
-struct ReadInTurn {
-    third: u8,
-    first: u8,
-    second: u8,
-    moment: usize,
+/// The first bytes of records 3, 1 and 2, read back in this order; None where a call fails.
+fn read_in_turn(alloc: Global, site: &mut MemSite) -> Option<[u8; 3]> {
+    let Ok(mut journal) = Journal::load(alloc, site) else {
+        return None;
+    };
+    if journal.count() != 3 || journal.read_back(site, 3).is_err() {
+        return None;
+    }
+    let third = first_of(journal.record_back());
+    if journal.read_back(site, 1).is_err() {
+        return None;
+    }
+    let first = first_of(journal.record_back());
+    if journal.read_back(site, 2).is_err() {
+        return None;
+    }
+    Some([third, first, first_of(journal.record_back())])
 }
 
-/// The first bytes of records 3, 1 and 2, read back in this order, and how many calls are then on record; None where a call
-/// fails.
-fn read_in_turn(alloc: Global, file: &[u8], fault: u64) -> Result<Option<ReadInTurn>, AllocError> {
+/// What reading the records of this file in turn gave, and how many calls are then on record.
+fn read_of(alloc: Global, file: &[u8], fault: u64) -> Result<(Option<[u8; 3]>, usize), AllocError> {
     let mut site = site_of(alloc, file, fault)?;
-    let mut journal = match Journal::load(alloc, &mut site) {
-        Ok(journal) => journal,
-        Err(_) => return Ok(None),
-    };
-    if journal.count() != 3 {
-        return Ok(None);
-    }
-    let third = match journal.read_back(&mut site, 3) {
-        Ok(()) => first_of(journal.record_back()),
-        Err(_) => return Ok(None),
-    };
-    let first = match journal.read_back(&mut site, 1) {
-        Ok(()) => first_of(journal.record_back()),
-        Err(_) => return Ok(None),
-    };
-    let second = match journal.read_back(&mut site, 2) {
-        Ok(()) => first_of(journal.record_back()),
-        Err(_) => return Ok(None),
-    };
-    Ok(Some(ReadInTurn {
-        third,
-        first,
-        second,
-        moment: site.moment(),
-    }))
+    let read = read_in_turn(alloc, &mut site);
+    Ok((read, site.moment()))
 }
 
-#[test]
-fn records_are_read_back_in_any_order_by_two_reads_each(rt: HostRuntime) -> Result<(), Fail> {
-    let alloc = rt.alloc();
-    let mut file = Vec::new(alloc);
-    file.extend_from_slice(&MADE[..32])?;
-    file.extend_from_slice(b"\x01\0\0\0\x01a\x01\0\0\0\x02bc\x01\0\0\0\x01d\0")?;
-    // A load of three records makes ten calls.
-    match read_in_turn(alloc, &file, 0)? {
-        Some(read) => {
-            assert_eq!(rt; read.third, b'd');
-            assert_eq!(rt; read.first, b'a');
-            assert_eq!(rt; read.second, b'b');
-            assert_eq!(rt; read.moment, 16);
-        }
-        None => assert!(rt; false),
-    }
+/// A file of three records is read in turn unless one of six calls fails. A load of three records makes ten calls.
+fn reads_fail(rt: &impl Abort, alloc: Global, file: &[u8]) -> Result<(), Fail> {
     for fault in 11..17u64 {
-        assert!(rt;
-            read_in_turn(alloc, &file, fault)?.is_none(),
-            "fault {fault}"
-        );
+        let (read, _) = read_of(alloc, file, fault)?;
+        assert!(rt; read.is_none(), "fault {fault}");
     }
     Ok(())
 }
 
 #[test]
-fn a_record_of_many_is_read_back_from_a_place_near_it(rt: HostRuntime) -> Result<(), Fail> {
+fn records_are_read_back_in_any_order_by_two_reads_each(rt: HostRuntime) -> Result<(), Fail> {
     let alloc = rt.alloc();
-    let mut file = Vec::new(alloc);
-    file.extend_from_slice(&MADE[..32])?;
+    let file = with_records(alloc, b"\x01\0\0\0\x01a\x01\0\0\0\x02bc\x01\0\0\0\x01d\0")?;
+    assert_eq!(rt; read_of(alloc, &file, 0)?, (Some(*b"dab"), 16));
+    reads_fail(&rt, alloc, &file)
+}
+
+/// A file of 70,000 records of one byte, the last of its number.
+fn many_records(alloc: Global) -> Result<Vec<u8>, AllocError> {
+    let mut file = with_records(alloc, b"")?;
     for n in 1..70_001u32 {
         file.extend_from_slice(&[1, 0, 0, 0, 1, n.to_be_bytes()[3]])?;
     }
     file.push(0)?;
-    let mut site = site_of(alloc, &file, 0)?;
-    match Journal::load(alloc, &mut site) {
-        Ok(mut journal) => {
-            let before = site.moment();
-            assert_eq!(rt; journal.count(), 70_000);
-            if journal.count() >= 70_000 {
-                assert!(rt; journal.read_back(&mut site, 70_000).is_ok());
-            }
-            assert_eq!(rt; first_of(journal.record_back()), 112);
-            assert_eq!(rt; site.moment(), before.saturating_add(3));
-        }
-        Err(_) => assert!(rt; false),
+    Ok(file)
+}
+
+/// How many records there are, the first byte of the last, and how many calls reading it back made; None where a call fails.
+fn last_of(alloc: Global, site: &mut MemSite) -> Option<(u64, u8, usize)> {
+    let Ok(mut journal) = Journal::load(alloc, site) else {
+        return None;
+    };
+    let before = site.moment();
+    let count = journal.count();
+    if count == 0 || journal.read_back(site, count).is_err() {
+        return None;
     }
+    let calls = site.moment().saturating_sub(before);
+    Some((count, first_of(journal.record_back()), calls))
+}
+
+/// What reading the last record of this file back gives.
+fn last_read(alloc: Global, file: &[u8]) -> Result<Option<(u64, u8, usize)>, AllocError> {
+    let mut site = site_of(alloc, file, 0)?;
+    Ok(last_of(alloc, &mut site))
+}
+
+#[test]
+fn a_record_of_many_is_read_back_from_a_place_near_it(rt: HostRuntime) -> Result<(), Fail> {
+    let file = many_records(rt.alloc())?;
+    let read = last_read(rt.alloc(), &file)?;
+    assert_eq!(rt; read, Some((70_000, 112, 3)));
     Ok(())
 }

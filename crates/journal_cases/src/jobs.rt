@@ -111,42 +111,41 @@ fn counts(site: &MemSite) -> (u64, u64, u64) {
     (site.vim_faults(), site.look_faults(), site.refusals())
 }
 
+/// What came of the first begin: its answer, how the job stands, and the counts.
+type Begun = (BeginAnswer, Stands, (u64, u64, u64));
+
+fn begun(site: &mut MemSite, act: &Act) -> Begun {
+    let answer = site.begin(&tag(1), act);
+    (answer, standing(site, 0), counts(site))
+}
+
+/// What comes of the first begin where it comes out so, and how many calls are then on record.
+fn begun_by(
+    rt: &impl Abort,
+    alloc: Global,
+    arrival: Arrival,
+) -> Result<(Begun, usize), AllocError> {
+    let mut site = site_of(alloc, 2, &[plan(arrival, 0, JobEnd::Done, true)], &[])?;
+    let came = begun(&mut site, &making(rt, alloc));
+    Ok((came, site.moment()))
+}
+
 #[test]
 fn a_begin_comes_out_by_its_plan(rt: HostRuntime) -> Result<(), Fail> {
-    let alloc = rt.alloc();
-    let act = making(&rt, alloc);
+    let (taken, failed) = (BeginAnswer::Begun, BeginAnswer::Failed);
+    let (running, nowhere) = (Stands::Running, Stands::Nowhere);
     let table = [
-        (
-            Arrival::Taken,
-            BeginAnswer::Begun,
-            Stands::Running,
-            (0, 0, 0),
-        ),
-        (
-            Arrival::FailedArrived,
-            BeginAnswer::Failed,
-            Stands::Running,
-            (1, 0, 0),
-        ),
-        (
-            Arrival::FailedLost,
-            BeginAnswer::Failed,
-            Stands::Nowhere,
-            (1, 0, 0),
-        ),
+        (Arrival::Taken, (taken, running, (0, 0, 0))),
+        (Arrival::FailedArrived, (failed, running, (1, 0, 0))),
+        (Arrival::FailedLost, (failed, nowhere, (1, 0, 0))),
         (
             Arrival::Refused(7),
-            BeginAnswer::Refused(7),
-            Stands::Nowhere,
-            (0, 0, 1),
+            (BeginAnswer::Refused(7), nowhere, (0, 0, 1)),
         ),
     ];
-    for (arrival, answer, left, counted) in table {
-        let mut site = site_of(alloc, 2, &[plan(arrival, 0, JobEnd::Done, true)], &[])?;
-        assert_eq!(rt; site.begin(&tag(1), &act), answer);
-        assert_eq!(rt; standing(&site, 0), left, "{arrival:?}");
-        assert_eq!(rt; counts(&site), counted, "{arrival:?}");
-        assert_eq!(rt; site.moment(), 1);
+    for (arrival, expected) in table {
+        let came = begun_by(&rt, rt.alloc(), arrival)?;
+        assert_eq!(rt; came, (expected, 1), "{arrival:?}");
     }
     Ok(())
 }
@@ -162,49 +161,52 @@ fn begun_and_seen(site: &mut MemSite, act: &Act) -> [Stands; 3] {
     says
 }
 
+/// What the first three looks at a job say whose plan is this.
+fn seen_by(rt: &impl Abort, alloc: Global, work: JobPlan) -> Result<[Stands; 3], AllocError> {
+    let mut site = site_of(alloc, 1, &[work], &[])?;
+    Ok(begun_and_seen(&mut site, &making(rt, alloc)))
+}
+
 #[test]
 fn so_many_looks_find_it_running_and_the_next_finds_it_ended(rt: HostRuntime) -> Result<(), Fail> {
-    let alloc = rt.alloc();
-    let act = making(&rt, alloc);
-    let running = Stands::Running;
+    let (running, done, broken) = (Stands::Running, Stands::Done, Stands::Broken(9));
     let table = [
-        (
-            0u16,
-            JobEnd::Done,
-            [Stands::Done, Stands::Done, Stands::Done],
-        ),
-        (
-            1,
-            JobEnd::Broken(9),
-            [running, Stands::Broken(9), Stands::Broken(9)],
-        ),
-        (2, JobEnd::Done, [running, running, Stands::Done]),
+        (0u16, JobEnd::Done, [done, done, done]),
+        (1, JobEnd::Broken(9), [running, broken, broken]),
+        (2, JobEnd::Done, [running, running, done]),
         (3, JobEnd::Broken(4), [running, running, running]),
     ];
     for (looks, end, says) in table {
-        let mut site = site_of(alloc, 1, &[plan(Arrival::Taken, looks, end, true)], &[])?;
-        assert_eq!(rt; begun_and_seen(&mut site, &act), says, "{looks} looks");
+        let said = seen_by(&rt, rt.alloc(), plan(Arrival::Taken, looks, end, true))?;
+        assert_eq!(rt; said, says, "{looks} looks");
     }
     Ok(())
 }
 
+/// Begins jobs of attempts 2 to 12. Whether each was taken.
+fn begin_eleven(site: &mut MemSite, act: &Act) -> bool {
+    for attempt in 2..13u32 {
+        if site.begin(&tag(attempt), act) != BeginAnswer::Begun {
+            return false;
+        }
+    }
+    true
+}
+
+/// The first begin, whose plan is the only one, is lost; those behind it are done at the first look.
+fn begin_twelve(rt: &impl Abort, site: &mut MemSite, act: &Act) {
+    assert_eq!(rt; site.begin(&tag(1), act), BeginAnswer::Failed);
+    assert!(rt; begin_eleven(site, act));
+    assert_eq!(rt; seen(site, 1), Stands::Nowhere);
+    assert!(rt; is_named(site, 2, "r1"));
+    assert!(rt; is_named(site, 12, "r11"));
+}
+
 #[test]
 fn behind_the_plans_each_job_is_done_at_the_first_look(rt: HostRuntime) -> Result<(), Fail> {
-    let alloc = rt.alloc();
-    let act = making(&rt, alloc);
-    let mut site = site_of(
-        alloc,
-        12,
-        &[plan(Arrival::FailedLost, 5, JobEnd::Done, true)],
-        &[],
-    )?;
-    assert_eq!(rt; site.begin(&tag(1), &act), BeginAnswer::Failed);
-    for attempt in 2..13u32 {
-        assert_eq!(rt; site.begin(&tag(attempt), &act), BeginAnswer::Begun);
-    }
-    assert_eq!(rt; seen(&mut site, 1), Stands::Nowhere);
-    assert!(rt; is_named(&mut site, 2, "r1"));
-    assert!(rt; is_named(&mut site, 12, "r11"));
+    let lost = plan(Arrival::FailedLost, 5, JobEnd::Done, true);
+    let mut site = site_of(rt.alloc(), 12, &[lost], &[])?;
+    begin_twelve(&rt, &mut site, &making(&rt, rt.alloc()));
     Ok(())
 }
 
@@ -218,10 +220,20 @@ fn aborted(site: &mut MemSite, act: &Act, looks: u32) -> (AbortAnswer, Stands, S
     (answer, standing(site, 0), seen(site, 1))
 }
 
+/// What comes of an abort after so many looks at a job that is found running by one look, breaks, and can be aborted or not.
+fn aborted_after(
+    rt: &impl Abort,
+    alloc: Global,
+    abortable: bool,
+    looks: u32,
+) -> Result<(AbortAnswer, Stands, Stands), AllocError> {
+    let work = [plan(Arrival::Taken, 1, JobEnd::Broken(3), abortable)];
+    let mut site = site_of(alloc, 1, &work, &[])?;
+    Ok(aborted(&mut site, &making(rt, alloc), looks))
+}
+
 #[test]
 fn an_abort_ends_a_running_job_that_can_be_aborted(rt: HostRuntime) -> Result<(), Fail> {
-    let alloc = rt.alloc();
-    let act = making(&rt, alloc);
     let table = [
         (true, 0, Stands::Aborted, Stands::Aborted),
         (true, 1, Stands::Aborted, Stands::Aborted),
@@ -230,60 +242,82 @@ fn an_abort_ends_a_running_job_that_can_be_aborted(rt: HostRuntime) -> Result<()
         (false, 1, Stands::Running, Stands::Broken(3)),
     ];
     for (abortable, looks, left, next) in table {
-        let work = [plan(Arrival::Taken, 1, JobEnd::Broken(3), abortable)];
-        let mut site = site_of(alloc, 1, &work, &[])?;
-        let says = aborted(&mut site, &act, looks);
-        assert_eq!(rt;
-            says,
-            (AbortAnswer::Asked, left, next),
-            "{abortable}, {looks}"
-        );
+        let says = aborted_after(&rt, rt.alloc(), abortable, looks)?;
+        let expected = (AbortAnswer::Asked, left, next);
+        assert_eq!(rt; says, expected, "{abortable}, {looks}");
     }
     Ok(())
+}
+
+/// Aborts and looks at a job that there isn't.
+fn abort_nothing(rt: &impl Abort, site: &mut MemSite) {
+    assert_eq!(rt; site.abort(&tag(1)), AbortAnswer::Asked);
+    assert_eq!(rt; seen(site, 1), Stands::Nowhere);
+    assert_eq!(rt; counts(site), (0, 0, 0));
 }
 
 #[test]
 fn an_abort_of_no_job_is_asked(rt: HostRuntime) -> Result<(), Fail> {
     let mut site = site_of(rt.alloc(), 1, &[], &[])?;
-    assert_eq!(rt; site.abort(&tag(1)), AbortAnswer::Asked);
-    assert_eq!(rt; seen(&mut site, 1), Stands::Nowhere);
-    assert_eq!(rt; counts(&site), (0, 0, 0));
+    abort_nothing(&rt, &mut site);
     Ok(())
+}
+
+/// Begins so many jobs at a site with room for no more. Whether each was taken.
+fn fill(site: &mut MemSite, act: &Act, jobs: u32) -> bool {
+    for attempt in 0..jobs {
+        if site.begin(&tag(attempt), act) != BeginAnswer::Begun {
+            return false;
+        }
+    }
+    true
+}
+
+/// What comes of one begin more: whether those before it were taken, its answer, how many jobs there are, and the counts.
+type Refused = (bool, BeginAnswer, usize, (u64, u64, u64));
+
+fn begin_one_more(site: &mut MemSite, act: &Act, jobs: u32) -> Refused {
+    let filled = fill(site, act, jobs);
+    let answer = site.begin(&tag(9), act);
+    (filled, answer, site.jobs(), counts(site))
+}
+
+/// What comes of one begin more than a site has room for.
+fn past_the_room(rt: &impl Abort, alloc: Global, jobs: u32) -> Result<Refused, AllocError> {
+    let mut site = site_of(alloc, jobs as usize, &[], &[])?;
+    Ok(begin_one_more(&mut site, &making(rt, alloc), jobs))
 }
 
 #[test]
 fn a_begin_past_the_room_is_refused_with_code_1(rt: HostRuntime) -> Result<(), Fail> {
-    let alloc = rt.alloc();
-    let act = making(&rt, alloc);
     for jobs in 0..3u32 {
-        let mut site = site_of(alloc, jobs as usize, &[], &[])?;
-        for attempt in 0..jobs {
-            assert_eq!(rt; site.begin(&tag(attempt), &act), BeginAnswer::Begun);
-        }
-        assert_eq!(rt; site.begin(&tag(9), &act), BeginAnswer::Refused(1));
-        assert_eq!(rt; site.jobs(), jobs as usize);
-        assert_eq!(rt; counts(&site), (0, 0, 1));
+        let came = past_the_room(&rt, rt.alloc(), jobs)?;
+        let expected = (true, BeginAnswer::Refused(1), jobs as usize, (0, 0, 1));
+        assert_eq!(rt; came, expected, "{jobs} jobs");
     }
     Ok(())
+}
+
+/// Of looks and aborts at a job the first, the second and the fourth are out of reach.
+fn look_and_abort(rt: &impl Abort, site: &mut MemSite, act: &Act) {
+    assert_eq!(rt; site.begin(&tag(1), act), BeginAnswer::Begun);
+    assert_eq!(rt; seen(site, 1), Stands::Unknown);
+    assert_eq!(rt; site.abort(&tag(1)), AbortAnswer::Failed);
+    assert_eq!(rt; standing(site, 0), Stands::Running);
+    assert_eq!(rt; seen(site, 1), Stands::Running);
+    assert_eq!(rt; seen(site, 1), Stands::Unknown);
+    assert_eq!(rt; seen(site, 1), Stands::Done);
+    assert_eq!(rt; counts(site), (3, 2, 0));
+    assert_eq!(rt; site.moment(), 3);
 }
 
 #[test]
 fn looks_and_aborts_out_of_reach_fail_and_are_none_of_the_looks(
     rt: HostRuntime,
 ) -> Result<(), Fail> {
-    let alloc = rt.alloc();
-    let act = making(&rt, alloc);
     let work = [plan(Arrival::Taken, 1, JobEnd::Done, true)];
-    let mut site = site_of(alloc, 1, &work, &[1, 2, 4])?;
-    assert_eq!(rt; site.begin(&tag(1), &act), BeginAnswer::Begun);
-    assert_eq!(rt; seen(&mut site, 1), Stands::Unknown);
-    assert_eq!(rt; site.abort(&tag(1)), AbortAnswer::Failed);
-    assert_eq!(rt; standing(&site, 0), Stands::Running);
-    assert_eq!(rt; seen(&mut site, 1), Stands::Running);
-    assert_eq!(rt; seen(&mut site, 1), Stands::Unknown);
-    assert_eq!(rt; seen(&mut site, 1), Stands::Done);
-    assert_eq!(rt; counts(&site), (3, 2, 0));
-    assert_eq!(rt; site.moment(), 3);
+    let mut site = site_of(rt.alloc(), 1, &work, &[1, 2, 4])?;
+    look_and_abort(&rt, &mut site, &making(&rt, rt.alloc()));
     Ok(())
 }
 
@@ -310,32 +344,40 @@ fn left(alloc: Global, site: &MemSite, moment: usize) -> Result<([Stands; 3], St
     Ok((jobs, seen(&mut stopped, 3)))
 }
 
+/// How the three jobs stand after a stop behind each call, and what a look at the third then says.
+const LEFT: [([Stands; 3], Stands); 7] = [
+    ([NOWHERE, NOWHERE, NOWHERE], NOWHERE),
+    ([RUNNING, NOWHERE, NOWHERE], NOWHERE),
+    ([RUNNING, RUNNING, NOWHERE], NOWHERE),
+    ([BROKEN, RUNNING, NOWHERE], NOWHERE),
+    ([BROKEN, Stands::Aborted, NOWHERE], NOWHERE),
+    ([BROKEN, Stands::Aborted, RUNNING], Stands::Done),
+    ([BROKEN, Stands::Aborted, RUNNING], Stands::Done),
+];
+
+const NOWHERE: Stands = Stands::Nowhere;
+
+const RUNNING: Stands = Stands::Running;
+
+const BROKEN: Stands = Stands::Broken(5);
+
+fn stops_leave_jobs(rt: &impl Abort, alloc: Global, site: &MemSite) -> Result<(), Fail> {
+    assert_eq!(rt; site.moment(), 6);
+    for (moment, says) in LEFT.iter().enumerate() {
+        let said = left(alloc, site, moment)?;
+        assert_eq!(rt; said, *says, "after {moment} calls");
+    }
+    Ok(())
+}
+
 #[test]
 fn a_stop_leaves_the_jobs_of_its_moment(rt: HostRuntime) -> Result<(), Fail> {
-    let alloc = rt.alloc();
-    let act = making(&rt, alloc);
     let work = [
         plan(Arrival::FailedArrived, 0, JobEnd::Broken(5), true),
         plan(Arrival::Taken, 2, JobEnd::Done, true),
         plan(Arrival::Taken, 1, JobEnd::Done, false),
     ];
-    let mut site = site_of(alloc, 3, &work, &[])?;
-    three_jobs(&mut site, &act);
-    let nowhere = Stands::Nowhere;
-    let running = Stands::Running;
-    let broken = Stands::Broken(5);
-    let table = [
-        ([nowhere, nowhere, nowhere], nowhere),
-        ([running, nowhere, nowhere], nowhere),
-        ([running, running, nowhere], nowhere),
-        ([broken, running, nowhere], nowhere),
-        ([broken, Stands::Aborted, nowhere], nowhere),
-        ([broken, Stands::Aborted, running], Stands::Done),
-        ([broken, Stands::Aborted, running], Stands::Done),
-    ];
-    assert_eq!(rt; site.moment(), 6);
-    for (moment, says) in table.iter().enumerate() {
-        assert_eq!(rt; left(alloc, &site, moment)?, *says, "after {moment} calls");
-    }
-    Ok(())
+    let mut site = site_of(rt.alloc(), 3, &work, &[])?;
+    three_jobs(&mut site, &making(&rt, rt.alloc()));
+    stops_leave_jobs(&rt, rt.alloc(), &site)
 }

@@ -11,14 +11,10 @@ fn name(rt: &impl Abort, text: &str) -> Name {
     Name::of(text.as_bytes()).expect(rt, "a name")
 }
 
-/// A descriptor of nothing but a level.
-fn empty(rt: &impl Abort, alloc: Global) -> Result<Vnfd, Fail> {
+/// A descriptor with nothing in it.
+fn bare(rt: &impl Abort, alloc: Global) -> Vnfd {
     let none = name(rt, "");
-    let level = Level {
-        name: name(rt, "only"),
-        numbers: Listed::new(alloc),
-    };
-    Ok(Vnfd {
+    Vnfd {
         descriptor_id: name(rt, "vnfd-3"),
         provider: none,
         product_name: none,
@@ -30,17 +26,55 @@ fn empty(rt: &impl Abort, alloc: Global) -> Result<Vnfd, Fail> {
         links: Listed::new(alloc),
         ports: Listed::new(alloc),
         aspects: Listed::new(alloc),
-        levels: Listed::of(vec![in alloc; level]?),
+        levels: Listed::new(alloc),
         default_level: 0,
-    })
+    }
 }
 
-fn created(rt: &impl Abort, instance: u64) -> EventKind {
-    EventKind::Created {
-        instance,
-        vnfd: name(rt, "vnfd-3"),
-        name: None,
-        text: None,
+/// A descriptor of nothing but a level.
+fn empty(rt: &impl Abort, alloc: Global) -> Result<Vnfd, AllocError> {
+    let level = Level {
+        name: name(rt, "only"),
+        numbers: Listed::new(alloc),
+    };
+    let mut vnfd = bare(rt, alloc);
+    vnfd.levels.push(level)?;
+    Ok(vnfd)
+}
+
+/// What happens first.
+#[derive(Clone, Copy, Debug)]
+enum First {
+    Onboarded,
+    Created,
+    Deleted,
+    Denied,
+    Moved,
+    CancelAsked,
+    Unsubscribed,
+}
+
+/// The event, about the first of its kind.
+fn kind_of(rt: &impl Abort, alloc: Global, first: First) -> Result<EventKind, AllocError> {
+    match first {
+        First::Onboarded => Ok(EventKind::Onboarded(empty(rt, alloc)?)),
+        First::Created => Ok(EventKind::Created {
+            instance: 1,
+            vnfd: name(rt, "vnfd-3"),
+            name: None,
+            text: None,
+        }),
+        First::Deleted => Ok(EventKind::Deleted { instance: 1 }),
+        First::Denied => Ok(EventKind::Denied { occ: 1 }),
+        First::Moved => Ok(EventKind::Moved {
+            occ: 1,
+            to: OpState::Processing,
+        }),
+        First::CancelAsked => Ok(EventKind::CancelAsked {
+            occ: 1,
+            mode: CancelMode::Graceful,
+        }),
+        First::Unsubscribed => Ok(EventKind::Unsubscribed { subscription: 1 }),
     }
 }
 
@@ -51,32 +85,26 @@ fn may_be_first(alloc: Global, kind: &EventKind) -> Result<bool, AllocError> {
     tables.may_follow(alloc, kind)
 }
 
+/// Whether this may happen first.
+fn is_allowed(rt: &impl Abort, alloc: Global, first: First) -> Result<bool, AllocError> {
+    let kind = kind_of(rt, alloc, first)?;
+    may_be_first(alloc, &kind)
+}
+
 #[test]
 fn events_are_judged_after_nothing(rt: HostRuntime) -> Result<(), Fail> {
-    let alloc = rt.alloc();
-    let kinds = vec![in alloc;
-        (EventKind::Onboarded(empty(&rt, alloc)?), true),
-        (created(&rt, 1), false),
-        (EventKind::Deleted { instance: 1 }, false),
-        (EventKind::Denied { occ: 1 }, false),
-        (
-            EventKind::Moved {
-                occ: 1,
-                to: OpState::Processing
-            },
-            false
-        ),
-        (
-            EventKind::CancelAsked {
-                occ: 1,
-                mode: CancelMode::Graceful
-            },
-            false
-        ),
-        (EventKind::Unsubscribed { subscription: 1 }, false),
-    ]?;
-    for (kind, allowed) in kinds.as_slice() {
-        assert_eq!(rt; may_be_first(alloc, kind)?, *allowed);
+    let table = [
+        (First::Onboarded, true),
+        (First::Created, false),
+        (First::Deleted, false),
+        (First::Denied, false),
+        (First::Moved, false),
+        (First::CancelAsked, false),
+        (First::Unsubscribed, false),
+    ];
+    for (first, allowed) in table {
+        let judged = is_allowed(&rt, rt.alloc(), first)?;
+        assert_eq!(rt; judged, allowed, "{first:?}");
     }
     Ok(())
 }

@@ -28,7 +28,7 @@ fn vdu(
     text: &str,
     maximum: u32,
     storage: u16,
-) -> Result<Vdu, Fail> {
+) -> Result<Vdu, AllocError> {
     Ok(Vdu {
         name: name(rt, text),
         memory: 512_000_000,
@@ -54,45 +54,77 @@ fn storage(rt: &impl Abort, text: &str) -> Storage {
     }
 }
 
-/// An edge router: two workers at its default level, one controller, two networks.
-fn router(rt: &impl Abort, alloc: Global) -> Result<Vnfd, Fail> {
-    let empty = name(rt, "");
-    let row = Row {
+/// One more worker.
+fn one_more(alloc: Global) -> Result<Row, AllocError> {
+    Ok(Row {
         vdu: 0,
         deltas: Listed::of(vec![in alloc; 1]?),
-    };
-    let aspect = Aspect {
+    })
+}
+
+fn workers(rt: &impl Abort, alloc: Global) -> Result<Aspect, AllocError> {
+    let mut rows = Listed::new(alloc);
+    rows.push(one_more(alloc)?)?;
+    Ok(Aspect {
         name: name(rt, "workers"),
         maximum: 10,
         steps: 1,
-        rows: Listed::of(vec![in alloc; row]?),
-    };
-    let level = Level {
+        rows,
+    })
+}
+
+fn normal(rt: &impl Abort, alloc: Global) -> Result<Level, AllocError> {
+    Ok(Level {
         name: name(rt, "normal"),
         numbers: Listed::of(vec![in alloc; 1]?),
-    };
-    let worker = vdu(rt, alloc, "VDU_A", 11, 0)?;
-    let controller = vdu(rt, alloc, "VDU_B", 4_294_967_295, 1)?;
-    let ports = vec![in alloc;
-        port(rt, "CP_A_data", 0, 0),
-        port(rt, "CP_A_mgmt", 0, 1),
-        port(rt, "CP_B_mgmt", 1, 1),
-    ]?;
-    Ok(Vnfd {
+    })
+}
+
+/// A descriptor with nothing in it.
+fn bare(rt: &impl Abort, alloc: Global) -> Vnfd {
+    let empty = name(rt, "");
+    Vnfd {
         descriptor_id: name(rt, "vnfd-1"),
         provider: empty,
         product_name: empty,
         software_version: empty,
         descriptor_version: empty,
         flavour_id: name(rt, "simple"),
-        vdus: Listed::of(vec![in alloc; worker, controller]?),
-        storages: Listed::of(vec![in alloc; storage(rt, "STO_A"), storage(rt, "STO_B")]?),
-        links: Listed::of(vec![in alloc; name(rt, "net_data"), name(rt, "net_mgmt")]?),
-        ports: Listed::of(ports),
-        aspects: Listed::of(vec![in alloc; aspect]?),
-        levels: Listed::of(vec![in alloc; level]?),
+        vdus: Listed::new(alloc),
+        storages: Listed::new(alloc),
+        links: Listed::new(alloc),
+        ports: Listed::new(alloc),
+        aspects: Listed::new(alloc),
+        levels: Listed::new(alloc),
         default_level: 0,
-    })
+    }
+}
+
+/// The worker and the controller, and how the workers scale.
+fn add_machines(rt: &impl Abort, alloc: Global, vnfd: &mut Vnfd) -> Result<(), AllocError> {
+    vnfd.vdus.push(vdu(rt, alloc, "VDU_A", 11, 0)?)?;
+    vnfd.vdus.push(vdu(rt, alloc, "VDU_B", 4_294_967_295, 1)?)?;
+    vnfd.aspects.push(workers(rt, alloc)?)?;
+    vnfd.levels.push(normal(rt, alloc)?)
+}
+
+/// Their disks, networks and connection points.
+fn add_parts(rt: &impl Abort, vnfd: &mut Vnfd) -> Result<(), AllocError> {
+    vnfd.storages.push(storage(rt, "STO_A"))?;
+    vnfd.storages.push(storage(rt, "STO_B"))?;
+    vnfd.links.push(name(rt, "net_data"))?;
+    vnfd.links.push(name(rt, "net_mgmt"))?;
+    vnfd.ports.push(port(rt, "CP_A_data", 0, 0))?;
+    vnfd.ports.push(port(rt, "CP_A_mgmt", 0, 1))?;
+    vnfd.ports.push(port(rt, "CP_B_mgmt", 1, 1))
+}
+
+/// An edge router: two workers at its default level, one controller, two networks.
+fn router(rt: &impl Abort, alloc: Global) -> Result<Vnfd, AllocError> {
+    let mut vnfd = bare(rt, alloc);
+    add_machines(rt, alloc, &mut vnfd)?;
+    add_parts(rt, &mut vnfd)?;
+    Ok(vnfd)
 }
 
 fn created(phase: u8, kind: DefKind, item: u16, vdu: u16, serial: u32) -> Change {

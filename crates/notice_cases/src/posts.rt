@@ -3,7 +3,7 @@
 ghost use Rattle.std.specs.Prelude.{IfSome, option_copied};
 ghost use Rattle.vnfm_base.specs.Ident.{IsIdentNumber};
 
-use crate::events::{Row, beginning, end};
+use crate::events::{BEGINNING, END, Row, Step, kind_of, notice_of};
 use lcm_events::Event;
 use notice_table::NoticeTable;
 use std::alloc::Global;
@@ -27,23 +27,23 @@ fn follow_event(
     Ok(())
 }
 
-/// Lets the table follow an event of instance 1 or 2, or of none, at this place.
+/// Lets the table follow a step about instance 1 or 2, or about none, at this place.
 fn follow(
     table: &mut NoticeTable,
     rt: &impl Abort,
     alloc: Global,
     place: u64,
-    row: Row,
+    step: Step,
 ) -> Result<(), Fail> {
     let event = Event {
         moment: Moment::of(1_785_672_000_000),
-        kind: row.kind,
+        kind: kind_of(rt, alloc, step)?,
     };
-    match &row.notice {
+    match notice_of(rt, step) {
         Some(notice) => {
             let instance = notice.instance;
             assert!(rt; instance == 1 || instance == 2);
-            follow_event(table, alloc, place, &event, Some(notice))
+            follow_event(table, alloc, place, &event, Some(&notice))
         }
         None => follow_event(table, alloc, place, &event, None),
     }
@@ -75,13 +75,12 @@ fn follow_all(
     rt: &impl Abort,
     alloc: Global,
     from: u64,
-    rows: Vec<Row>,
+    rows: &[Row],
 ) -> Result<(), Fail> {
     let mut place = from;
-    for row in rows {
-        let first = row.first;
-        follow(table, rt, alloc, place, row)?;
-        assert!(rt; shows(table, first));
+    for (step, first) in rows {
+        follow(table, rt, alloc, place, *step)?;
+        assert!(rt; shows(table, *first), "after place {place}");
         place = place.saturating_add(1);
     }
     Ok(())
@@ -92,6 +91,6 @@ fn the_first_notice_that_waits_may_be_posted(rt: HostRuntime) -> Result<(), Fail
     let alloc = rt.alloc();
     let mut table = NoticeTable::new(alloc);
     assert!(rt; shows(&table, [None, None]));
-    follow_all(&mut table, &rt, alloc, 2, beginning(&rt, alloc)?)?;
-    follow_all(&mut table, &rt, alloc, 8, end(&rt, alloc)?)
+    follow_all(&mut table, &rt, alloc, 2, &BEGINNING)?;
+    follow_all(&mut table, &rt, alloc, 8, &END)
 }

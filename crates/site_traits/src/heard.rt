@@ -15,12 +15,23 @@ pub const HEARD_MAX: usize = 1_048_576;
 /// All its room is taken by `new`, so that hearing takes no memory. A contract sees it as that answer.
 ///
 /// Source: own rule.
-#[derive(Drop)]
 pub struct Heard {
     status: u16,
     located: bool,
     location: Vec<u8>,
     body: Vec<u8>,
+}
+
+impl Drop for Heard {
+    // Written out, so that the proof of a caller calls it and doesn't take the value apart at each of its ends.
+    fn drop(self) {
+        let Heard {
+            status: _,
+            located: _,
+            location: _,
+            body: _,
+        } = self;
+    }
 }
 
 impl Model for Heard {

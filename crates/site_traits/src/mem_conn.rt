@@ -7,7 +7,6 @@ use std::alloc::{AllocError, Global};
 use vnfm_base::Bytes;
 
 /// A connection of a door in memory.
-#[derive(Drop)]
 pub struct MemConn {
     bytes: Vec<u8>,
     read: usize,
@@ -27,6 +26,27 @@ pub struct MemConn {
     ghost rising: { IsRising ends.items },
     ghost last_end: { IsLastEnd ends.items (length bytes.items) },
     ghost passed: { ArePassed ends.items piece read },
+}
+
+impl Drop for MemConn {
+    // Written out, so that the proof of a caller calls it and doesn't take the value apart at each of its ends.
+    fn drop(self) {
+        let MemConn {
+            bytes: _,
+            read: _,
+            out: _,
+            read_failed: _,
+            write_failed: _,
+            hung_up: _,
+            ends: _,
+            piece: _,
+            reads: _,
+            writes: _,
+            failing_read: _,
+            failing_write: _,
+            room: _,
+        } = self;
+    }
 }
 
 impl MemConn {

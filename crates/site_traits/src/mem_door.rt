@@ -44,7 +44,6 @@ enum Planned {
 /// It has room for 1,048,576 calls, and for 64 MiB out, an equal part for each connection; a call past them fails.
 ///
 /// Source: own rule.
-#[derive(Drop)]
 pub struct MemDoor {
     plans: Vec<Planned>,
     answers: Vec<NextAnswer>,
@@ -56,6 +55,21 @@ pub struct MemDoor {
     ghost answered: { vec_len answers ≤ calls },
     ghost answers_fit: { 1048576 ≤ vec_capacity answers },
     ghost past_fits: { vec_len past + vec_len plans ≤ vec_capacity past },
+}
+
+impl Drop for MemDoor {
+    // Written out, so that the proof of a caller calls it and doesn't take the value apart at each of its ends.
+    fn drop(self) {
+        let MemDoor {
+            plans: _,
+            answers: _,
+            conn: _,
+            past: _,
+            calls: _,
+            faults: _,
+            next_faults: _,
+        } = self;
+    }
 }
 
 impl MemDoor {

@@ -29,7 +29,6 @@ pub enum GrantPlan {
 ///
 /// It has room for 1,048,576 calls and 64 MiB of each, bodies asked and locations polled; a call past them fails and leaves the
 /// plan where it is.
-#[derive(Drop)]
 pub struct MemOrchestrator {
     plans: Vec<GrantPlan>,
     next: usize,
@@ -38,6 +37,20 @@ pub struct MemOrchestrator {
     calls: u64,
     faults: u64,
     ghost within: { next ≤ vec_len plans },
+}
+
+impl Drop for MemOrchestrator {
+    // Written out, so that the proof of a caller calls it and doesn't take the value apart at each of its ends.
+    fn drop(self) {
+        let MemOrchestrator {
+            plans: _,
+            next: _,
+            asked: _,
+            polled: _,
+            calls: _,
+            faults: _,
+        } = self;
+    }
 }
 
 impl MemOrchestrator {

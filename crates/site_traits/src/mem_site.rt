@@ -38,7 +38,6 @@ pub struct SitePlan {
 }
 
 /// The plan of a site in memory, and what was done by it.
-#[derive(Drop)]
 pub struct Book {
     alloc: Global,
     failing: Vec<u64>,
@@ -58,6 +57,30 @@ pub struct Book {
     past: Past,
 }
 
+impl Drop for Book {
+    // Written out, so that the proof of a caller calls it and doesn't take the value apart at each of its ends.
+    fn drop(self) {
+        let Book {
+            alloc: _,
+            failing: _,
+            unreachable: _,
+            work: _,
+            room: _,
+            calls: _,
+            begins: _,
+            asked: _,
+            faults: _,
+            vim_faults: _,
+            look_faults: _,
+            refusals: _,
+            writes: _,
+            cuts: _,
+            syncs: _,
+            past: _,
+        } = self;
+    }
+}
+
 /// A site in memory, which tells all. A call on the file that fails changes nothing and is not put on record.
 ///
 /// A call on the file fails where its number is on the plan, where a write doesn't lie within the room for the file, and where its record has
@@ -65,13 +88,23 @@ pub struct Book {
 /// nothing and is not put on record where its record has no room, and a begin where there is no memory for a copy of the work.
 ///
 /// Source: own rule.
-#[derive(Drop)]
 pub struct MemSite {
     first: Vec<u8>,
     file: Vec<u8>,
     book: Book,
     ghost seen: { file.items ≡ (disk first.items (map change_of book.past.log.calls)).seen },
     ghost roomy: { book.room ≤ vec_capacity file },
+}
+
+impl Drop for MemSite {
+    // Written out, so that the proof of a caller calls it and doesn't take the value apart at each of its ends.
+    fn drop(self) {
+        let MemSite {
+            first: _,
+            file: _,
+            book: _,
+        } = self;
+    }
 }
 
 impl MemSite {

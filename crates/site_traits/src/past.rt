@@ -55,7 +55,6 @@ pub enum SiteCall {
 }
 
 /// The calls on record and the jobs. All its room is taken when it is made, but for the names in the work of jobs.
-#[derive(Drop)]
 pub struct Past {
     /// The calls on record.
     pub log: Log<SiteCall>,
@@ -65,6 +64,17 @@ pub struct Past {
     pub most: usize,
     ghost early: { All (IsEarly (length log.calls)) kept.items },
     ghost roomy: { most ≤ vec_capacity kept },
+}
+
+impl Drop for Past {
+    // Written out, so that the proof of a caller calls it and doesn't take the value apart at each of its ends.
+    fn drop(self) {
+        let Past {
+            log: _,
+            kept: _,
+            most: _,
+        } = self;
+    }
 }
 
 impl Past {

@@ -50,72 +50,127 @@ fn is_aspect(
         && rows[0].deltas.as_slice() == deltas
 }
 
-#[test]
-fn the_edge_router_is_read(rt: HostRuntime) -> Result<(), Fail> {
-    let alloc = rt.alloc();
-    let document = changed(alloc, 15, "")?;
-    let Ok(vnfd) = read(alloc, document.as_str().as_bytes()) else {
+/// The descriptor of a document.
+fn descriptor(rt: &impl Abort, alloc: Global, document: &str) -> Result<Vnfd, Fail> {
+    let Ok(vnfd) = read(alloc, document.as_bytes()) else {
         return Err("a descriptor".into());
     };
     assert!(rt; vnfd_valid(&vnfd));
-    assert_eq!(rt; vnfd.descriptor_id.as_str(), "vnfd-1");
-    assert_eq!(rt; vnfd.product_name.as_str(), "Edge Router");
-    assert_eq!(rt; vnfd.flavour_id.as_str(), "simple");
-    let vdus = vnfd.vdus.as_slice();
-    assert_eq!(rt; vdus.len(), 2);
-    assert!(rt; is_vdu(&vdus[0], "VDU_A", 2_147_483_648, 2, 11, 1, &[0]));
-    assert!(rt; is_vdu(&vdus[1], "VDU_B", 512_000_000, 1, 4_294_967_295, 1, &[1]));
-    let storages = vnfd.storages.as_slice();
-    assert_eq!(rt; storages.len(), 2);
-    assert_eq!(rt; storages[0].size, 10_000_000_000);
-    assert_eq!(rt; storages[1].size, 1_000_000_000);
+    Ok(vnfd)
+}
+
+/// The edge router's descriptor, as it is read.
+fn edge_router(rt: &impl Abort, alloc: Global) -> Result<Vnfd, Fail> {
+    let document = changed(alloc, 15, "")?;
+    descriptor(rt, alloc, document.as_str())
+}
+
+fn has_names(vnfd: &Vnfd) -> bool {
+    vnfd.descriptor_id.as_str() == "vnfd-1"
+        && vnfd.product_name.as_str() == "Edge Router"
+        && vnfd.flavour_id.as_str() == "simple"
+}
+
+fn has_vdus(vnfd: &Vnfd) -> bool {
+    match vnfd.vdus.as_slice() {
+        [first, second] => {
+            is_vdu(first, "VDU_A", 2_147_483_648, 2, 11, 1, &[0])
+                && is_vdu(second, "VDU_B", 512_000_000, 1, 4_294_967_295, 1, &[1])
+        }
+        _ => false,
+    }
+}
+
+fn has_storages(vnfd: &Vnfd) -> bool {
+    match vnfd.storages.as_slice() {
+        [first, second] => first.size == 10_000_000_000 && second.size == 1_000_000_000,
+        _ => false,
+    }
+}
+
+fn has_links(vnfd: &Vnfd) -> bool {
     let links = vnfd.links.as_slice();
-    assert_eq!(rt; links.len(), 2);
-    assert_eq!(rt; links[0].as_str(), "net_data");
-    let ports = vnfd.ports.as_slice();
-    assert_eq!(rt; ports.len(), 3);
-    assert!(rt; is_port(&ports[0], "CP_A_data", 0, Some(0)));
-    assert!(rt; is_port(&ports[1], "CP_A_mgmt", 0, Some(1)));
-    assert!(rt; is_port(&ports[2], "CP_B_mgmt", 1, Some(1)));
-    let aspects = vnfd.aspects.as_slice();
-    assert_eq!(rt; aspects.len(), 1);
-    assert!(rt; is_aspect(&aspects[0], "workers", 10, 1, 0, &[1]));
-    let levels = vnfd.levels.as_slice();
-    assert_eq!(rt; levels.len(), 2);
-    assert!(rt; is_level(&levels[0], "normal", &[1]));
-    assert!(rt; is_level(&levels[1], "small", &[0]));
+    links.len() == 2 && links[0].as_str() == "net_data"
+}
+
+fn has_ports(vnfd: &Vnfd) -> bool {
+    match vnfd.ports.as_slice() {
+        [first, second, third] => {
+            is_port(first, "CP_A_data", 0, Some(0))
+                && is_port(second, "CP_A_mgmt", 0, Some(1))
+                && is_port(third, "CP_B_mgmt", 1, Some(1))
+        }
+        _ => false,
+    }
+}
+
+fn has_aspect(vnfd: &Vnfd) -> bool {
+    match vnfd.aspects.as_slice() {
+        [aspect] => is_aspect(aspect, "workers", 10, 1, 0, &[1]),
+        _ => false,
+    }
+}
+
+fn has_levels(vnfd: &Vnfd) -> bool {
+    match vnfd.levels.as_slice() {
+        [first, second] => is_level(first, "normal", &[1]) && is_level(second, "small", &[0]),
+        _ => false,
+    }
+}
+
+#[test]
+fn the_edge_router_is_read(rt: HostRuntime) -> Result<(), Fail> {
+    let vnfd = edge_router(&rt, rt.alloc())?;
+    assert!(rt; has_names(&vnfd));
+    assert!(rt; has_vdus(&vnfd));
+    assert!(rt; has_storages(&vnfd));
+    assert!(rt; has_links(&vnfd));
+    assert!(rt; has_ports(&vnfd));
+    assert!(rt; has_aspect(&vnfd));
+    assert!(rt; has_levels(&vnfd));
     assert_eq!(rt; vnfd.default_level, 0);
     Ok(())
 }
 
-#[test]
-fn absent_policies_have_defaults(rt: HostRuntime) -> Result<(), Fail> {
-    let alloc = rt.alloc();
-    let bytes =
-        r#"{"topology_template":{"node_templates":{"V":{"properties":{"descriptor_id":"d","provider":"","product_name":"","software_version":"","descriptor_version":"","flavour_id":"f"}},"U":{"type":"tosca.nodes.nfv.Vdu.Compute","capabilities":{"virtual_compute":{"properties":{"virtual_memory":{"virtual_mem_size":"1 TiB"},"virtual_cpu":{"num_virtual_cpu":65535}}}},"requirements":[{"virtual_storage":"T"},{"virtual_storage":"S"},{"virtual_storage":"T"}]},"S":{"type":"tosca.nodes.nfv.Vdu.VirtualBlockStorage"},"T":{"type":"tosca.nodes.nfv.Vdu.VirtualBlockStorage"},"P":{"type":"tosca.nodes.nfv.VduCp","requirements":[{"virtual_binding":{"node":"U"}}]}}}}"#;
-    let Ok(vnfd) = read(alloc, bytes.as_bytes()) else {
-        return Err("a descriptor".into());
-    };
-    assert!(rt; vnfd_valid(&vnfd));
-    let vdus = vnfd.vdus.as_slice();
-    assert_eq!(rt; vdus.len(), 1);
-    assert!(rt;
-        is_vdu(
-            &vdus[0],
+/// One VDU with two disks and a port, and nothing else.
+const PLAIN: &str =
+    r#"{"topology_template":{"node_templates":{"V":{"properties":{"descriptor_id":"d","provider":"","product_name":"","software_version":"","descriptor_version":"","flavour_id":"f"}},"U":{"type":"tosca.nodes.nfv.Vdu.Compute","capabilities":{"virtual_compute":{"properties":{"virtual_memory":{"virtual_mem_size":"1 TiB"},"virtual_cpu":{"num_virtual_cpu":65535}}}},"requirements":[{"virtual_storage":"T"},{"virtual_storage":"S"},{"virtual_storage":"T"}]},"S":{"type":"tosca.nodes.nfv.Vdu.VirtualBlockStorage"},"T":{"type":"tosca.nodes.nfv.Vdu.VirtualBlockStorage"},"P":{"type":"tosca.nodes.nfv.VduCp","requirements":[{"virtual_binding":{"node":"U"}}]}}}}"#;
+
+fn has_one_vdu(vnfd: &Vnfd) -> bool {
+    match vnfd.vdus.as_slice() {
+        [vdu] => is_vdu(
+            vdu,
             "U",
             1_099_511_627_776,
             65_535,
             4_294_967_295,
             1,
-            &[0, 1]
-        )
-    );
-    let ports = vnfd.ports.as_slice();
-    assert_eq!(rt; ports.len(), 1);
-    assert!(rt; is_port(&ports[0], "P", 0, None));
-    let levels = vnfd.levels.as_slice();
-    assert_eq!(rt; levels.len(), 1);
-    assert!(rt; is_level(&levels[0], "default", &[]));
+            &[0, 1],
+        ),
+        _ => false,
+    }
+}
+
+fn has_one_port(vnfd: &Vnfd) -> bool {
+    match vnfd.ports.as_slice() {
+        [port] => is_port(port, "P", 0, None),
+        _ => false,
+    }
+}
+
+fn has_default_level(vnfd: &Vnfd) -> bool {
+    match vnfd.levels.as_slice() {
+        [level] => is_level(level, "default", &[]),
+        _ => false,
+    }
+}
+
+#[test]
+fn absent_policies_have_defaults(rt: HostRuntime) -> Result<(), Fail> {
+    let vnfd = descriptor(&rt, rt.alloc(), PLAIN)?;
+    assert!(rt; has_one_vdu(&vnfd));
+    assert!(rt; has_one_port(&vnfd));
+    assert!(rt; has_default_level(&vnfd));
     assert_eq!(rt; vnfd.default_level, 0);
     Ok(())
 }

@@ -1,17 +1,21 @@
 //! Documents that are no descriptor.
 use crate::router::answered;
+use std::alloc::Global;
 use std::test::Fail;
+
+/// What is answered to so many spaces.
+fn answered_to_spaces(alloc: Global, count: usize) -> Result<String, Fail> {
+    let spaces = vec![in alloc; b' '; count]?;
+    answered(alloc, &spaces)
+}
 
 #[test]
 fn documents_that_are_no_descriptor(rt: HostRuntime) -> Result<(), Fail> {
     let alloc = rt.alloc();
-    let most = vec![in alloc; b' '; 1_048_576]?;
-    let more = vec![in alloc; b' '; 1_048_577]?;
-    assert_eq!(rt;
-        answered(alloc, more.as_slice())?.as_str(),
-        "too many bytes"
-    );
-    assert_eq!(rt; answered(alloc, most.as_slice())?.as_str(), "not JSON");
+    for (count, text) in [(1_048_577, "too many bytes"), (1_048_576, "not JSON")] {
+        let answer = answered_to_spaces(alloc, count)?;
+        assert_eq!(rt; answer.as_str(), text, "{count} spaces");
+    }
     let rows: [(&[u8], &str); 7] = [
         (b"", "not JSON"),
         (b"{", "not JSON"),
@@ -25,7 +29,8 @@ fn documents_that_are_no_descriptor(rt: HostRuntime) -> Result<(), Fail> {
         ),
     ];
     for (bytes, text) in rows {
-        assert_eq!(rt; answered(alloc, bytes)?.as_str(), text);
+        let answer = answered(alloc, bytes)?;
+        assert_eq!(rt; answer.as_str(), text);
     }
     Ok(())
 }

@@ -1,5 +1,5 @@
 //! How many there may be.
-use crate::router::{PIECES, answered, changed};
+use crate::router::{PIECES, answered_to};
 use std::alloc::Global;
 use std::process::Abort;
 use std::test::Fail;
@@ -91,14 +91,16 @@ fn repeated(
     Ok(text)
 }
 
+/// What is answered to the document of a case.
+fn answered_to_case(alloc: Global, case: &Case) -> Result<String, Fail> {
+    let piece = repeated(alloc, case.front, case.count, case.value, case.back)?;
+    answered_to(alloc, case.place, piece.as_str())
+}
+
 fn check(rt: &impl Abort, alloc: Global, cases: &[Case]) -> Result<(), Fail> {
     for case in cases {
-        let piece = repeated(alloc, case.front, case.count, case.value, case.back)?;
-        let document = changed(alloc, case.place, piece.as_str())?;
-        assert_eq!(rt;
-            answered(alloc, document.as_str().as_bytes())?.as_str(),
-            case.text
-        );
+        let answer = answered_to_case(alloc, case)?;
+        assert_eq!(rt; answer.as_str(), case.text);
     }
     Ok(())
 }

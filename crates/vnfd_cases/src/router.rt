@@ -51,17 +51,20 @@ pub fn answered(alloc: Global, bytes: &[u8]) -> Result<String, Fail> {
     }
 }
 
-/// A piece, where it stands, and what is answered.
+/// What is answered to the edge router's descriptor with this piece in place of one of its own.
+pub fn answered_to(alloc: Global, place: usize, piece: &str) -> Result<String, Fail> {
+    let document = changed(alloc, place, piece)?;
+    answered(alloc, document.as_bytes())
+}
+
+/// Where a piece stands, the piece, and what is answered.
 pub type Row = (usize, &'static str, &'static str);
 
 /// Each of these documents is answered so.
 pub fn check_rows(rt: &impl Abort, alloc: Global, rows: &[Row]) -> Result<(), Fail> {
     for (place, piece, text) in rows {
-        let document = changed(alloc, *place, piece)?;
-        assert_eq!(rt;
-            answered(alloc, document.as_str().as_bytes())?.as_str(),
-            *text
-        );
+        let answer = answered_to(alloc, *place, piece)?;
+        assert_eq!(rt; answer.as_str(), *text);
     }
     Ok(())
 }
