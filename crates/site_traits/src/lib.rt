@@ -25,6 +25,7 @@ pub use courier::{Courier, PostAnswer};
 pub use door::{Door, NextAnswer, ReadAnswer, WriteAnswer};
 pub use heard::{HEARD_MAX, Heard};
 pub use jobs::{AbortAnswer, BeginAnswer, LookAnswer, Phase};
+pub use log::{BYTES, CALLS, Entry, Log};
 pub use mem_conn::MemConn;
 pub use mem_courier::{MemCourier, PostMark, PostPlan};
 pub use mem_door::{DoorPlan, MemDoor};
