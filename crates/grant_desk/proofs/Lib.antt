@@ -3,3 +3,4 @@ mod SeenLaws
 mod GrantLemmas
 mod PlacingLaws
 mod RequestLaws
+mod GrantAllLaws

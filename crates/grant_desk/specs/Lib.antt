@@ -5,3 +5,4 @@ pub mod Answers
 pub mod Placing
 pub mod Requests
 pub mod Made
+pub mod GrantAll

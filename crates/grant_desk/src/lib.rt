@@ -4,6 +4,7 @@
 mod answers;
 mod covering;
 mod entries;
+mod grant_all;
 mod grants;
 mod identifiers;
 mod parts;
@@ -15,6 +16,7 @@ mod tallies;
 
 pub use answers::{GrantAnswer, read_answer};
 pub use covering::covers;
+pub use grant_all::GrantAll;
 pub use placing::{Placing, places_of};
 pub use requests::{GrantAsker, grant_body};
 pub use rows::{GrantRow, GrantRows};
