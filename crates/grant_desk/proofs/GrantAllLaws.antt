@@ -1,6 +1,7 @@
 -- What an orchestrator that grants whatever it is asked for reads, gives and tells.
-use Rattle.std.proofs.Common.{◌≡◌, ◌++◌, codes, subst, List, [], ◌∷◌, ℕ, Some, None, Option, refl, ap, sym, append_assoc, Bool, true, false, ◌||◌}
-use Rattle.std.specs.Prelude.{IsUtf8, option_and_then, option_map}
+use Rattle.std.proofs.Common.{◌≡◌, ◌++◌, ◌∙◌, codes, map, subst, List, [], ◌∷◌, ℕ, Some, None, Option, refl, ap, sym, append_assoc, Bool, true, false, ◌||◌}
+use Rattle.std.specs.List.{enumerate_from}
+use Rattle.std.specs.Prelude.{IsUtf8, filter, option_and_then, option_map}
 use Rattle.std.specs.Str.{is_utf8}
 use Rattle.std.proofs.lemmas.Str.{IsUtf8-from_is_utf8, is_utf8-from_IsUtf8}
 use Rattle.serde_json.specs.Data.{Data, Items, no_items, item}
@@ -8,7 +9,17 @@ use Rattle.serde_json.specs.Find.{as_array, as_object, as_str, get}
 use Rattle.serde_json.specs.Read.{read}
 use Rattle.serde_json.specs.View.{items_of}
 use Rattle.serde_json.specs.Written.{compact_text, has_float, items_have_float}
-use Rattle.grant_desk.specs.GrantAll.{grant, grant_for, grant_text, row, row_for, rows_for, rows_where}
+use Rattle.lcm_events.specs.declared.asks.Ask.{Ask}
+use Rattle.lcm_events.specs.declared.changes.Change.{Change}
+use Rattle.lcm_events.specs.declared.descriptor.Vnfd.{Vnfd}
+use Rattle.lcm_events.specs.declared.held.Holding.{Holding}
+use Rattle.lcm_model.specs.Grants.{change_id}
+use Rattle.grant_desk.specs.GrantAll.{RequestsAreGranted, grant, grant_for, grant_text, part_rows, plan_grant, row, row_for, rows_for, rows_where}
+use Rattle.grant_desk.specs.Parts.{asks}
+use Rattle.grant_desk.specs.Requests.{entries, entry, request}
+use Rattle.grant_desk.specs.declared.parts.Part.{Part}
+use Rattle.grant_desk.specs.declared.parts.Part.TheVariants as part
+use Rattle.grant_desk.specs.declared.requests.GrantAsker.{GrantAsker}
 
 -- the text for the bytes, by what they are read as
 pub text-read : (n : ℕ) (bytes : List ℕ) (d : Data) → IsUtf8 bytes → read bytes ≡ Some d → grant_text n bytes ≡ option_map compact_text (grant_for n d)
@@ -94,3 +105,24 @@ grant_plain n d g is = subst IsPlain (sym is) plain where
   plain = object_plain (as_object d) _
       (add_plain n (rows_where (get (codes "addResources") d)) (rows_where (get (codes "removeResources") d)) (rows_where (get (codes "updateResources") d))
       (where_plain (get (codes "addResources") d)) (where_plain (get (codes "removeResources") d)) (where_plain (get (codes "updateResources") d)))
+
+-- what is granted for an entry of a request is its change
+entry_row : (d : Vnfd) (h : Holding) (x : ℕ × Change) → row_for (entry d h x) ≡ Some (row (change_id x.0))
+entry_row d h x = refl
+
+-- what is granted for the entries of a request are their changes
+entry_rows : (d : Vnfd) (h : Holding) (xs : List (ℕ × Change)) → rows_for (items_of (map (entry d h) xs)) ≡ Some (map row (map (λ x. change_id x.0) xs))
+entry_rows d h [] = refl
+entry_rows d h (x ∷ xs) = ap (λ (o : Option (List Data)). option_map (λ rs. row (change_id x.0) ∷ rs) o) (entry_rows d h xs)
+
+part_granted : (d : Vnfd) (h : Holding) (p : Part) (xs : List Change) → rows_where (Some (entries d h p xs)) ≡ Some (part_rows p xs)
+unfolding entries
+part_granted d h p xs = entry_rows d h (filter (λ x. asks p x.1.verb) (enumerate_from 0 xs))
+
+plan_granted : (n : ℕ) (d : Vnfd) (h : Holding) (who : GrantAsker) (ask : Ask) (xs : List Change) → grant_for n (request d h who ask xs) ≡ Some (plan_grant n xs)
+plan_granted n d h who ask xs = rw (part_granted d h part.Add xs, part_granted d h part.Remove xs, part_granted d h part.Update xs) refl
+
+-- each request for a plan is granted whole
+pub requests_granted : RequestsAreGranted
+requests_granted n d h who ask xs body utf8 reads =
+    text-read n body (request d h who ask xs) utf8 reads ∙ ap (option_map compact_text) (plan_granted n d h who ask xs)

@@ -1,19 +1,29 @@
 -- An orchestrator in memory that grants whatever it is asked for (SOL 003 9.5.2.2, GrantRequest; 9.5.2.3, Grant; RFC 8259).
 use Rattle.std.specs.Fmt.{decimal}
-use Rattle.std.specs.Prelude.{Bool, List, [], ℕ, Option, None, Some, ◌≡◌, ◌+◌, ◌∷◌, ◌++◌, codes, drop, false, length, map, nat_le, option_and_then, option_map, take, true, if◌then◌else◌}
+use Rattle.std.specs.Prelude.{Bool, IsUtf8, List, [], ℕ, Option, None, Some, ◌≡◌, ◌+◌, ◌∷◌, ◌++◌, codes, drop, false, length, map, nat_le, option_and_then, option_map, take, true, if◌then◌else◌}
 use Rattle.std.specs.Str.{is_utf8}
 use Rattle.serde_json.specs.Data.{Data, Items, array, item, member, no_items, no_members, object, string}
 use Rattle.serde_json.specs.Find.{as_array, as_object, as_str, get}
 use Rattle.serde_json.specs.Read.{read}
 use Rattle.serde_json.specs.View.{items_of}
 use Rattle.serde_json.specs.Written.{compact_text}
+use Rattle.lcm_events.specs.declared.asks.Ask.{Ask}
+use Rattle.lcm_events.specs.declared.changes.Change.{Change}
+use Rattle.lcm_events.specs.declared.descriptor.Vnfd.{Vnfd}
+use Rattle.lcm_events.specs.declared.held.Holding.{Holding}
+use Rattle.lcm_model.specs.Grants.{ids_of}
 use Rattle.site_traits.specs.Answer.{Answer}
 use Rattle.site_traits.specs.Counts.{CallCounts, Rose}
 use Rattle.site_traits.specs.Log.{HasRoom, Recorded, empty, with_call}
 use Rattle.site_traits.specs.Peers.{OrchestratorState}
 use Rattle.site_traits.specs.declared.orchestrator.Call.{Call}
 use Rattle.site_traits.specs.declared.orchestrator.Call.TheVariants as call
+use Rattle.grant_desk.specs.Parts.{asks}
+use Rattle.grant_desk.specs.Requests.{request}
 use Rattle.grant_desk.specs.declared.grant_all.GrantAll.{GrantAll}
+use Rattle.grant_desk.specs.declared.parts.Part.{Part}
+use Rattle.grant_desk.specs.declared.parts.Part.TheVariants as part
+use Rattle.grant_desk.specs.declared.requests.GrantAsker.{GrantAsker}
 
 -- what is granted for the identifier of an entry: that it stands at the connection `vim1`, in no zone (SOL 003 9.5.3.3, GrantInfo)
 abbrev pub row : List ℕ → Data
@@ -117,3 +127,17 @@ pub record RunsAsk (body : List ℕ) (answer : Answer) (result : Call) (old new 
   pub came : result ≡ call.Came → IsServed (answer_to (length old.served.calls) body) body answer old.served new.served
   pub failed : result ≡ call.Failed → ¬ Rose old.starved new.starved → IsPassed (answer_to (length old.served.calls) body) body old.served new.served
   pub starved : result ≡ call.Came → new.starved ≡ old.starved
+
+-- what is granted for the changes of a plan that are asked for in a part, in the order of the plan (SOL 003 9.5.2.3)
+abbrev pub part_rows : Part → List Change → List Data
+part_rows p xs = map row (ids_of (asks p) xs)
+
+-- the grant behind so many of all that a plan asks for (SOL 003 9.5.2.3)
+abbrev pub plan_grant : ℕ → List Change → Data
+plan_grant n xs = grant n (part_rows part.Add xs) (part_rows part.Remove xs) (part_rows part.Update xs)
+
+-- each request for a plan can be read, and is granted whole: its changes in their order, and nothing else (SOL 003 9.5.2.3)
+abbrev pub RequestsAreGranted : Type 0
+RequestsAreGranted =
+    (n : ℕ) (d : Vnfd) (h : Holding) (who : GrantAsker) (ask : Ask) (xs : List Change) (body : List ℕ) → IsUtf8 body → read body ≡ Some (request d h who ask xs)
+    → grant_text n body ≡ Some (compact_text (plan_grant n xs))

@@ -4,7 +4,7 @@ ghost use Rattle.serde_json.specs.Data.{string};
 ghost use Rattle.serde_json.specs.Find.{as_str, get};
 ghost use Rattle.serde_json.specs.View.{items_view, view};
 ghost use Rattle.serde_json.specs.Written.{compact_text};
-ghost use Rattle.grant_desk.specs.GrantAll.{Serves, answer_to, answer_with, grant, grant_for, grant_id, grant_text, row, rows_for, rows_where};
+ghost use Rattle.grant_desk.specs.GrantAll.{Serves, answer_to, answer_with, grant, grant_for, grant_id, grant_text, row, rows_for, rows_where, RequestsAreGranted};
 
 use itoa::Buffer;
 use serde_json::{Map, Value, json, put};
@@ -263,3 +263,11 @@ impl Orchestrator for GrantAll {
         Call::Failed
     }
 }
+
+/// That an orchestrator that grants all can read each request that `grant_body` gives, and grants each change of its plan once, in the list
+/// that asks for it, in the order of the plan, and nothing else. It does nothing, and its contract is the law.
+///
+/// Source: SOL 003 9.5.2.3 (Grant).
+pub fn requests_are_granted()
+    ensures { RequestsAreGranted }
+{}

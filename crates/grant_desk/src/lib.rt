@@ -16,7 +16,7 @@ mod tallies;
 
 pub use answers::{GrantAnswer, read_answer};
 pub use covering::covers;
-pub use grant_all::GrantAll;
+pub use grant_all::{GrantAll, requests_are_granted};
 pub use placing::{Placing, places_of};
 pub use requests::{GrantAsker, grant_body};
 pub use rows::{GrantRow, GrantRows};

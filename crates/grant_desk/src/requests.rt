@@ -1,5 +1,6 @@
 //! The body of a grant request.
-ghost use Rattle.std.specs.Prelude.{◌≡◌, IfOk, string_bytes};
+ghost use Rattle.std.specs.Prelude.{◌≡◌, IfOk, IsUtf8, Some, string_bytes};
+ghost use Rattle.serde_json.specs.Read.{read};
 ghost use Rattle.serde_json.specs.View.{members_view, view};
 ghost use Rattle.held_items.specs.Items.{AreInOrder};
 ghost use Rattle.vnfm_base.specs.Ident.{IsIdentNumber};
@@ -50,7 +51,8 @@ pub fn grant_body(
     requires order { AreInOrder holding.now.items }
     requires instance { IsIdentNumber who.now.instance }
     requires occ { IsIdentNumber who.now.occ }
-    ensures { IfOk result (λ body. body ≡ request_text vnfd.now holding.now who.now ask.now changes.now) }
+    ensures text { IfOk result (λ body. body ≡ request_text vnfd.now holding.now who.now ask.now changes.now) }
+    ensures reads { IfOk result (λ body. IsUtf8 body × (read body ≡ Some (request vnfd.now holding.now who.now ask.now changes.now))) }
 {
     let value = request_value(alloc, vnfd, holding, who, ask, changes)?;
     let text = value.to_vec(alloc)?;
