@@ -6,6 +6,8 @@ mod answers;
 #[cfg(test)]
 mod covering;
 #[cfg(test)]
+mod granting;
+#[cfg(test)]
 mod requests;
 #[cfg(test)]
 mod router;

@@ -49,7 +49,7 @@ fn is_asked_of_router(
     Ok(asked?)
 }
 
-const INSTANTIATION: &str = concat!(
+pub const INSTANTIATION: &str = concat!(
     "{\"_links\":{\"vnfInstance\":{\"href\":\"/vnflcm/v1/vnf_instances/00000007-766d-8001-8000-000000000001\"},",
     "\"vnfLcmOpOcc\":{\"href\":\"/vnflcm/v1/vnf_lcm_op_occs/00000007-766d-8002-8000-000000000001\"}},",
     "\"addResources\":[",
@@ -82,7 +82,7 @@ const HEAL: &str = concat!(
     "\"vnfLcmOpOccId\":\"00000007-766d-8002-8000-000000000003\",\"vnfdId\":\"vnfd-1\"}",
 );
 
-const MIXED: &str = concat!(
+pub const MIXED: &str = concat!(
     "{\"_links\":{\"vnfInstance\":{\"href\":\"/vnflcm/v1/vnf_instances/00000007-766d-8001-8000-000000000001\"},",
     "\"vnfLcmOpOcc\":{\"href\":\"/vnflcm/v1/vnf_lcm_op_occs/00000007-766d-8002-8000-000000000002\"}},",
     "\"addResources\":[{\"id\":\"d1\",\"resourceTemplateId\":\"CP_A_mgmt\",\"type\":\"LINKPORT\",\"vduId\":\"VDU_A\"}],",
