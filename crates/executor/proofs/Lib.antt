@@ -1,3 +1,4 @@
+mod AskLemmas
 mod CommitLemmas
 mod FaultLemmas
 mod JudgeLemmas

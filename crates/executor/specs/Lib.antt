@@ -5,6 +5,7 @@ pub mod Laws
 pub mod Loading
 pub mod Managed
 pub mod Open
+pub mod Operating
 pub mod Questions
 pub mod Reading
 pub mod Room

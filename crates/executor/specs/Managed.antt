@@ -1,10 +1,11 @@
 -- What a manager stands for: its journal, and the tables of the history of the events in it.
-use Rattle.std.specs.Prelude.{◌≡◌, ℕ, Bool, true, false, List, length}
+use Rattle.std.specs.Prelude.{◌≡◌, ◌<◌, ℕ, Bool, true, false, List, length}
 use Rattle.std.specs.List.{AllByRecursion}
 use Rattle.event_codec.specs.Typed.{TypedEvent}
 use Rattle.event_codec.specs.Valid.{IsEvent}
 use Rattle.journal_core.specs.File.{records}
 use Rattle.journal_core.specs.Journal.{Ledger, Stands}
+use Rattle.journal_core.specs.declared.journal.TheConstants.{MAX_FILE}
 use Rattle.lcm_events.specs.declared.events.Event.{Event}
 use Rattle.lcm_events.specs.declared.events.EventKind.{EventKind}
 use Rattle.lcm_events.specs.declared.events.EventKind.TheVariants.{Settled}
@@ -35,6 +36,10 @@ pub record Keeps (m : Managed) (H : List Event) : Type 0 where
 -- the manager keeps some history
 abbrev pub KeepsOne : Managed → Type 0
 KeepsOne m = (H : List Event) × Keeps m H
+
+-- while it is open, its closed gate stands before the end of the file
+abbrev pub IsWithinFile : Ledger → Type 0
+IsWithinFile l = l.closed ≡ false → l.end < MAX_FILE
 
 -- what the second manager was left with of the first: each history that it kept
 abbrev pub KeepsOn : Managed → Managed → Type 0

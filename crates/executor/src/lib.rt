@@ -1,10 +1,12 @@
 //! The manager of a journal.
 #![tactic(auto)]
 
+mod asks;
 mod laws;
 mod manager;
 mod open;
 
+pub use asks::AskFault;
 pub use laws::{
     a_bad_record_is_the_only_one, a_file_has_one_history, a_legal_history_has_no_bad_record,
     works_add_up,

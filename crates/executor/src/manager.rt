@@ -12,7 +12,10 @@ ghost use Rattle.journal_core.specs.declared.journal.TheConstants.{MAX_FILE, MAX
 ghost use Rattle.lcm_events.specs.declared.events.Event.{Event};
 ghost use Rattle.vnfm_base.specs.Ident.{IsIdentNumber};
 ghost use Rattle.lcm_model.specs.Lives.{descriptor_named, descriptors, instances_made, is_live};
+ghost use Rattle.lcm_model.specs.Operations.{occurrences_made};
 ghost use Rattle.lcm_model.specs.Refusals.{delete_refusal};
+ghost use Rattle.occ_table.specs.Table.{IsTableOf};
+ghost use Rattle.executor.specs.Operating.{TellsAsk};
 ghost use Rattle.executor.specs.Questions.{is_made, made};
 ghost use Rattle.site_traits.specs.Counts.{Ask, asked, OnlyDiskFails};
 ghost use Rattle.journal_core.specs.Asking.{FailsWhere};
@@ -21,15 +24,18 @@ ghost use Rattle.executor.specs.Managed.{IsReady, Keeps, KeepsOn, MayRecord};
 ghost use Rattle.executor.specs.Reading.{IsNoSpelling, ReadsEvent};
 ghost use Rattle.executor.specs.Work.{Works, recorded};
 
+use crate::asks::{AskFault, plan_of};
 use crate::open::judge_all;
 use event_codec::{DecodeFault, RecordBuf, TooLong, decode, encode};
 use instance_table::InstanceTable;
 use journal_core::{
     AppendFault, BackFault, Journal, LoadFault, faults_are_counted, records_add_up,
 };
-use lcm_events::{Event, Vnfd};
+use lcm_events::{Changes, Event, Vnfd};
+use lcm_laws::serials_are_counted;
 use lcm_model::Refusal;
 use lcm_tables::Tables;
+use occ_table::OccTable;
 use site_traits::Site;
 use std::alloc::{AllocError, Global};
 use std::marker::Model;
@@ -47,13 +53,13 @@ pub struct Manager<S: Site> {
 }
 
 impl<S: Site> Model for Manager<S> {
-    ghost use Rattle.executor.specs.Managed.{KeepsOne, Managed};
+    ghost use Rattle.executor.specs.Managed.{IsWithinFile, KeepsOne, Managed};
 
     ghost Value = { Managed };
 
     ghost view = { λ m. record { ledger = m.journal; tables = m.tables } };
 
-    ghost invariant = { λ m. KeepsOne (record { ledger = m.journal; tables = m.tables }) };
+    ghost invariant = { λ m. KeepsOne (record { ledger = m.journal; tables = m.tables }) × IsWithinFile m.journal };
 }
 
 /// Why a journal wasn't opened.
@@ -270,6 +276,18 @@ impl<S: Site> Manager<S> {
         &self.tables.instances
     }
 
+    /// The table of occurrences of the history. Condition: the manager isn't closed.
+    ///
+    /// Source: SOL 003 5.4.12 (VNF LCM operation occurrences).
+    pub fn occurrences(&self) -> &OccTable
+        requires { self.now.ledger.closed ≡ false }
+        ensures table { (H : List Event) → Keeps self.now H → IsTableOf result.now H }
+        ensures few { (H : List Event) → Keeps self.now H → length H < MAX_FILE }
+    {
+        let _records = self.journal.count();
+        &self.tables.occurrences
+    }
+
     /// Why the deletion of a live instance is refused, where it is: it is INSTANTIATED, or one of its operations goes on, in this order.
     ///
     /// Source: SOL 003 5.4.3.3.5 (DELETE of an individual VNF instance).
@@ -290,6 +308,39 @@ impl<S: Site> Manager<S> {
         let records = self.journal.count();
         let made = self.tables.instances.made(Kind::Instance);
         after(made, records)
+    }
+
+    /// The number of the next occurrence. Condition: the manager isn't closed.
+    ///
+    /// Source: SOL 003 5.4.12 (VNF LCM operation occurrences).
+    pub fn next_occurrence(&self) -> u64
+        requires { self.now.ledger.closed ≡ false }
+        ensures number { (H : List Event) → Keeps self.now H → result ≡ occurrences_made H + 1 }
+        ensures identifier { IsIdentNumber result }
+    {
+        let records = self.journal.count();
+        let made = self.tables.occurrences.made();
+        after(made, records)
+    }
+
+    /// The changes of the plan of an operation that a live instance is asked for, which are to be recorded with it. Condition: the manager
+    /// isn't closed.
+    ///
+    /// Refusals, in this order: `Absent`, exactly where no live instance has the number; `Refused`, exactly where the ask is refused, with
+    /// the first cause; `Memory`.
+    /// Source: SOL 003 5.4.4 to 5.4.10 (the tasks of an individual VNF instance).
+    pub fn plan_asked(
+        &self,
+        alloc: Global,
+        instance: u64,
+        ask: &lcm_events::Ask,
+    ) -> Result<Changes, AskFault>
+        requires { self.now.ledger.closed ≡ false }
+        ensures { (H : List Event) → Keeps self.now H → TellsAsk H instance ask.now result }
+    {
+        records_add_up();
+        serials_are_counted();
+        plan_of(alloc, &self.tables, instance, ask)
     }
 }
 

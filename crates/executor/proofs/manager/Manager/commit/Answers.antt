@@ -1,5 +1,5 @@
 -- The event is on the disk, and the tables follow it where it is.
-use Rattle.std.proofs.Common.{◌∷◌, length, ap, Err, ◌∙◌, arith, refl, sym}
+use Rattle.std.proofs.Common.{◌∷◌, length, ap, Err, ◌∙◌, arith, refl, sym, true≢false}
 use Rattle.std.proofs.lemmas.Bool.{iff_false}
 use Rattle.executor.specs.Managed.{Managed}
 use Rattle.executor.proofs.CommitLemmas.{broken, committed, full_told, left_alone, room_told}
@@ -124,7 +124,10 @@ invariant_of-self-in_err-append g c =
     let room = c.fits.ensures.0 c.if-not-fits.false in
     let size = c.in_ok-more.ensures.length in
     let disk = disk_failed _ _ _ _ _ room (size.0 ∙ ap length (sym bytes)) c.requires.within (λ a b is. (c.in_err-append.ensures.only_full a b (ap Err is)).0) in
-    (c.self.invariant.0, keeps_closed m n c.in_err-append.ensures.manager (c.in_err-append.ensures.closed (ap Err disk)) c.reserve_for.ensures.kept c.self.invariant.0 c.self.invariant.1)
+    let shut = c.in_err-append.ensures.closed (ap Err disk) in (
+      (c.self.invariant.0.0, keeps_closed m n c.in_err-append.ensures.manager shut c.reserve_for.ensures.kept c.self.invariant.0.0 c.self.invariant.0.1),
+      λ usable. absurd (true≢false (sym shut ∙ usable)),
+    )
 
 pub invariant_of-self-2 : goal.invariant_of-self-2
 invariant_of-self-2 g c =
@@ -136,8 +139,13 @@ invariant_of-self-2 g c =
     let room = c.fits.ensures.0 c.if-not-fits.false in
     let size = c.in_ok-more.ensures.length in
     let within = c.requires.within in
-    let small = small_end c.records_add_up.ensures.longer may.0 (rw (← begins.keeps.kept.end begins.usable) (omega (arith, room, within))) in (
-      c.args.e.now ∷ may.0,
-      keeps_more c.records_add_up.ensures.adds m n c.reserve_for.new.self may.0 c.args.e.now begins.keeps begins.usable c.in_ok-append.ensures.manager c.in_ok-append.ensures.grown.0
-          (rw bytes at c.in_ok-append.ensures.grown.1) c.spell.ensures.event may.2.allowed c.reserve_for.ensures.kept c.apply.ensures.applies small,
+    let small = small_end c.records_add_up.ensures.longer may.0 (rw (← begins.keeps.kept.end begins.usable) (omega (arith, room, within))) in
+    let grown = rw bytes at c.in_ok-append.ensures.grown.1 in
+    let size = c.in_ok-more.ensures.length in (
+      (
+        c.args.e.now ∷ may.0,
+        keeps_more c.records_add_up.ensures.adds m n c.reserve_for.new.self may.0 c.args.e.now begins.keeps begins.usable c.in_ok-append.ensures.manager c.in_ok-append.ensures.grown.0
+            (rw bytes at c.in_ok-append.ensures.grown.1) c.spell.ensures.event may.2.allowed c.reserve_for.ensures.kept c.apply.ensures.applies small,
+      ),
+      λ usable. omega (arith, room, within, grown, size.0),
     )
