@@ -1,6 +1,8 @@
 mod DocumentLemmas
 mod ListLemmas
+mod MomentLemmas
 mod OccurrenceLemmas
+mod OccurrenceLists
 mod RangeLemmas
 mod ShowLaws
 pub mod TextLemmas

@@ -5,7 +5,9 @@ pub mod Instances
 pub mod Links
 pub mod Made
 pub mod MadeOccurrence
+pub mod Moments
 pub mod Occurrence
+pub mod Occurrences
 pub mod Params
 pub mod Problem
 pub mod Resources

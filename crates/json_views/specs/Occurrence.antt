@@ -1,5 +1,5 @@
 -- The view of an operation occurrence (SOL 003 5.5.2.13, VnfLcmOpOcc). Members stand in byte order of their names.
-use Rattle.std.specs.Prelude.{Bool, List, None, Option, Some, codes, decimal, false, if◌then◌else◌, is_some, option_map, true, ℕ, ◌++◌, ◌≡◌}
+use Rattle.std.specs.Prelude.{Bool, List, None, Option, Some, codes, decimal, false, if◌then◌else◌, is_some, option_map, true, ℕ, ◌++◌}
 use Rattle.serde_json.specs.Data.{Data, Members, boolean, member, no_members, object, string}
 use Rattle.serde_json.specs.Written.{compact_text}
 use Rattle.lcm_events.specs.declared.asks.Ask.{Ask}
@@ -11,11 +11,11 @@ use Rattle.occ_table.specs.declared.causes.Cause.{Cause}
 use Rattle.occ_table.specs.declared.causes.Cause.TheVariants.{Aborted, Broken, CallFailed, Cancelled, Denied, NoGrant, NotCovering}
 use Rattle.occ_table.specs.declared.rows.OccRow.{OccRow}
 use Rattle.vnfm_base.specs.Ident.{ident, ident_text}
-use Rattle.vnfm_base.specs.Moment.{IsMomentText}
 use Rattle.vnfm_base.specs.declared.identifier.Kind.TheVariants.{Occurrence}
 use Rattle.json_views.specs.Affected.{resource_changes}
 use Rattle.json_views.specs.Instance.{instance_id, instance_path}
 use Rattle.json_views.specs.Links.{link, task_link}
+use Rattle.json_views.specs.Moments.{moment_text}
 use Rattle.json_views.specs.Params.{params}
 use Rattle.json_views.specs.Problem.{problem}
 use Rattle.json_views.specs.Views.{member_where}
@@ -109,12 +109,10 @@ occurrence_value manager n row d start entered =
     (member (codes "vnfInstanceId") (string (instance_id manager row.instance))
     no_members))))))))))))))
 
--- its text
-unfoldable pub occurrence_text : ℕ → ℕ → OccRow → Vnfd → List ℕ → List ℕ → List ℕ
-occurrence_text manager n row d start entered = compact_text (occurrence_value manager n row d start entered)
+-- occurrence n, of this row, as the descriptor of its instance has it (SOL 003 5.5.2.13; RFC 3339)
+abbrev pub occurrence_shown : ℕ → ℕ → OccRow → Vnfd → Data
+occurrence_shown manager n row d = occurrence_value manager n row d (moment_text row.asked) (moment_text row.entered)
 
--- this is the text of occurrence n, with the texts of its moments (SOL 003 5.5.2.13; RFC 3339)
-abbrev pub IsOccurrenceText : ℕ → ℕ → OccRow → Vnfd → List ℕ → Type 0
-IsOccurrenceText manager n row d text =
-    (start : List ℕ) × (entered : List ℕ) × IsMomentText row.asked start × IsMomentText row.entered entered
-    × (text ≡ occurrence_text manager n row d start entered)
+-- its text
+unfoldable pub occurrence_text : ℕ → ℕ → OccRow → Vnfd → List ℕ
+occurrence_text manager n row d = compact_text (occurrence_shown manager n row d)

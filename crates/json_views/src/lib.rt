@@ -12,6 +12,7 @@ mod links;
 mod members;
 mod occurrence;
 mod occurrence_links;
+mod occurrences;
 mod params;
 mod problem;
 mod resources;
@@ -22,7 +23,11 @@ mod words;
 pub use body::{BodyFault, CreateBody, read_create};
 pub use instance::{created_view, instance_id, instance_path, instance_view};
 pub use instances::instances_view;
-pub use laws::{legal_rows_can_be_shown, the_first_failing_member_is_told};
+pub use laws::{
+    legal_occurrences_can_be_shown, legal_rows_can_be_shown, moments_have_one_text,
+    the_first_failing_member_is_told,
+};
 pub use occurrence::{occurrence_id, occurrence_path, occurrence_view};
+pub use occurrences::{MAX_LISTED, occurrences_view};
 pub use problem::problem_view;
 pub use tasks::{InstantiateBody, read_instantiate};

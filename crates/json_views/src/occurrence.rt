@@ -3,10 +3,10 @@ ghost use Rattle.std.specs.Prelude.{◌≡◌, List, codes, string_bytes, IfOk, 
 ghost use Rattle.serde_json.specs.View.{view, members_view};
 ghost use Rattle.serde_json.specs.Data.{object, string};
 ghost use Rattle.vnfm_base.specs.Ident.{IsIdentNumber};
-ghost use Rattle.vnfm_base.specs.Moment.{IsMomentText};
 ghost use Rattle.json_views.specs.Instance.{instance_id, instance_path};
 ghost use Rattle.json_views.specs.MadeOccurrence.{occurrence_members, with_moments, with_operation};
-ghost use Rattle.json_views.specs.Occurrence.{IsOccurrenceText, error_where, occurrence_id, occurrence_links, occurrence_path, occurrence_text, occurrence_value};
+ghost use Rattle.json_views.specs.Moments.{moment_text};
+ghost use Rattle.json_views.specs.Occurrence.{error_where, occurrence_id, occurrence_links, occurrence_path, occurrence_shown, occurrence_text, occurrence_value};
 ghost use Rattle.json_views.specs.Words.{cancel_word};
 
 use crate::affected::resource_changes;
@@ -53,6 +53,7 @@ pub fn occurrence_path(alloc: Global, manager: u32, n: u64) -> Result<String, Al
 ///
 /// Condition: `n` and the number of the instance are from 1 to 2^62 - 1.
 /// Source: SOL 003 5.5.2.13 (VnfLcmOpOcc).
+#[tactic(auto, unfolding(crate::specs::Occurrence::occurrence_text))]
 pub fn occurrence_view(
     alloc: Global,
     manager: u32,
@@ -62,11 +63,28 @@ pub fn occurrence_view(
 ) -> Result<Bytes, AllocError>
     requires number { IsIdentNumber n }
     requires instance { IsIdentNumber row.now.instance }
-    ensures { IfOk result (IsOccurrenceText manager n row.now vnfd.now) }
+    ensures { IfOk result (λ body. body ≡ occurrence_text manager n row.now vnfd.now) }
+{
+    let value = occurrence_shown(alloc, manager, n, row, vnfd)?;
+    let text = value.to_vec(alloc)?;
+    Ok(Bytes::of_vec(text))
+}
+
+/// The value of the view, with the texts of the row's moments.
+pub fn occurrence_shown(
+    alloc: Global,
+    manager: u32,
+    n: u64,
+    row: &OccRow,
+    vnfd: &Vnfd,
+) -> Result<Value, AllocError>
+    requires number { IsIdentNumber n }
+    requires instance { IsIdentNumber row.now.instance }
+    ensures { IfOk result (λ value. view value ≡ occurrence_shown manager n row.now vnfd.now) }
 {
     let start = moment_string(alloc, row.asked)?;
     let entered = moment_string(alloc, row.entered)?;
-    let body = written(
+    let value = occurrence_value(
         alloc,
         manager,
         n,
@@ -75,12 +93,12 @@ pub fn occurrence_view(
         start.as_str(),
         entered.as_str(),
     )?;
-    Ok(body)
+    Ok(value)
 }
 
 /// The text of a moment.
 fn moment_string(alloc: Global, moment: Moment) -> Result<String, AllocError>
-    ensures { IfOk result (λ text. IsMomentText moment (string_bytes text)) }
+    ensures { IfOk result (λ text. string_bytes text ≡ moment_text moment) }
 {
     let bytes = moment_text(moment);
     let text = text_of(alloc, bytes.as_slice())?;
@@ -97,26 +115,7 @@ fn text_of(alloc: Global, bytes: &[u8]) -> Result<String, AllocError>
     }
 }
 
-/// The view with the texts of its moments.
-#[tactic(auto, unfolding(crate::specs::Occurrence::occurrence_text))]
-fn written(
-    alloc: Global,
-    manager: u32,
-    n: u64,
-    row: &OccRow,
-    vnfd: &Vnfd,
-    start: &str,
-    entered: &str,
-) -> Result<Bytes, AllocError>
-    requires number { IsIdentNumber n }
-    requires instance { IsIdentNumber row.now.instance }
-    ensures { IfOk result (λ body. body ≡ occurrence_text manager n row.now vnfd.now start.now entered.now) }
-{
-    let value = occurrence_value(alloc, manager, n, row, vnfd, start, entered)?;
-    let text = value.to_vec(alloc)?;
-    Ok(Bytes::of_vec(text))
-}
-
+/// The value of the view, with these texts of its moments.
 fn occurrence_value(
     alloc: Global,
     manager: u32,

@@ -1,13 +1,15 @@
--- The texts of the moments are those of the view.
-use Rattle.std.proofs.Common.{List, subst, sym, ℕ}
-use Rattle.vnfm_base.specs.Moment.{IsMomentText}
+-- The view has no float, so what is written is its text.
+use Rattle.std.proofs.Common.{ap, ◌∙◌}
+use Rattle.serde_json.specs.Written.{compact_text, has_float}
+use Rattle.json_views.specs.Moments.{moment_text}
+use Rattle.json_views.specs.Occurrence.{occurrence_text}
+use Rattle.json_views.proofs.OccurrenceLemmas.{occurrence_plain}
 use Rattle.json_views.proofs.occurrence.occurrence_view.Goals as goal
 
 pub returns : goal.returns
-returns c = (
-  c.as_str.result.now,
-  c.as_str-2.result.now,
-  subst (λ (t : List ℕ). IsMomentText c.args.row.now.asked t) (sym c.as_str.ensures.value) c.in_ok-start.ensures,
-  subst (λ (t : List ℕ). IsMomentText c.args.row.now.entered t) (sym c.as_str-2.ensures.value) c.in_ok-entered.ensures,
-  c.in_ok-body.ensures,
-)
+unfolding occurrence_text
+returns c =
+    c.of_vec.ensures
+    ∙ c.in_ok-text.ensures.text
+    (ap has_float c.in_ok-value.ensures ∙ occurrence_plain c.args.manager c.args.n c.args.row.now c.args.vnfd.now (moment_text c.args.row.now.asked) (moment_text c.args.row.now.entered))
+    ∙ ap compact_text c.in_ok-value.ensures
