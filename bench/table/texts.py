@@ -89,8 +89,9 @@ def occurrence(number, o):
     if o.grant:
         name, places, spots = o.grant
         grant = f"{quoted(name)} {many(place, [] if over else places)} {[] if over else spots}"
+    location = None if over else o.location
     asked = (
-        f"{quoted('vnfd-1')} {ROLES[o.role]} {ask(o.ask)} {o.asked} {o.entered} {option(line, o.location)} {option(str, o.cause)} {grant}")
+        f"{quoted('vnfd-1')} {ROLES[o.role]} {ask(o.ask)} {o.asked} {o.entered} {option(line, location)} {option(str, o.cause)} {grant}")
     work = f"{[] if over else o.attempts} {many(pending, o.open.items())} {tally(0)} {tally(1)}"
     return head, f"{asked}\n{work}\n{changes(o)}"
 

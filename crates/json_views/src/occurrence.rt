@@ -227,7 +227,15 @@ fn links_value(alloc: Global, manager: u32, n: u64, row: &OccRow) -> Result<Valu
 {
     let path = occurrence_path(alloc, manager, n)?;
     let instance = instance_path(alloc, manager, row.instance)?;
-    let links = links_by_state(alloc, row.state, &row.ask, path.as_str(), instance.as_str())?;
+    links_of(alloc, row, path.as_str(), instance.as_str())
+}
+
+/// The links of an occurrence at this path, whose instance is at that one.
+fn links_of(alloc: Global, row: &OccRow, path: &str, instance: &str) -> Result<Value, AllocError>
+    ensures { IfOk result (λ value. view value ≡ object (occurrence_links row.now.state row.now.ask path.now instance.now)) }
+{
+    let ask = row.ask.unpack(alloc)?;
+    let links = links_by_state(alloc, row.state, &ask, path, instance)?;
     Ok(Value::Object(links))
 }
 
@@ -240,9 +248,10 @@ fn put_operation(
 ) -> Result<(), AllocError>
     ensures { OnOk result (members_view members.new.entries ≡ with_operation vnfd.now row.now (members_view members.old.entries)) }
 {
-    let operation = text_value(alloc, operation_word(&row.ask))?;
+    let ask = row.ask.unpack(alloc)?;
+    let operation = text_value(alloc, operation_word(&ask))?;
     put(members, alloc, "operation", operation)?;
-    let params = params_value(alloc, vnfd, &row.ask)?;
+    let params = params_value(alloc, vnfd, &ask)?;
     put(members, alloc, "operationParams", params)?;
     let state = text_value(alloc, state_word(row.state))?;
     put(members, alloc, "operationState", state)

@@ -96,7 +96,7 @@ fn entry(
     requires { IsOccurrenceShowable instances.now.rows n row.now }
     ensures { IfOk result (λ value. view value ≡ occurrence_row manager instances.now.rows n row.now) }
 {
-    match instances.vnfd(&row.vnfd) {
+    match instances.vnfd(&row.vnfd.name()) {
         Some(vnfd) => occurrence_shown(alloc, manager, n, row, vnfd),
         // The row of each occurrence names a descriptor that was onboarded.
         None => unreachable!(),

@@ -91,7 +91,7 @@ impl Tables {
             Some(row) => self.notice_of_instance(
                 NoticeKind::Occurrence,
                 row.instance,
-                Some(op_kind(&row.ask)),
+                Some(row.ask.kind()),
                 Some(to),
             ),
             None => None,

@@ -16,9 +16,11 @@ use Rattle.lcm_model.specs.Moves.{state}
 use Rattle.lcm_model.specs.Operations.{changes, operation}
 use Rattle.lcm_laws.proofs.HoldLaws.{changes_of}
 use Rattle.lcm_laws.proofs.Lists.{and_left, and_right, and_true, not-false, not-true}
+use Rattle.occ_table.specs.Ended.{is_over, kept_where}
 use Rattle.occ_table.specs.Rows.{cancel, occurrence, row}
 use Rattle.occ_table.specs.Steps.{MayTake, is_asking_row, is_forced_mode, is_new_try_row}
 use Rattle.occ_table.specs.declared.rows.OccRow.{OccRow}
+use Rattle.occ_table.proofs.EndedLaws.{kept_there, starting_not_over}
 use Rattle.occ_table.proofs.JudgeLaws.{found_row, none_of}
 use Rattle.occ_table.proofs.MoveLaws.{forced_row}
 
@@ -61,26 +63,31 @@ none_is : {A : Type 0} → (x : Option A) → (is_none x ≡ true) ↔ (x ≡ No
 none_is None = (λ h. refl, λ h. refl)
 none_is (Some x) = (λ h. cc, λ h. cc)
 
-its_location : (H : List Event) (n : ℕ) (r : OccRow) → occurrence H n ≡ Some r → r.location ≡ location H n
-its_location H n r e = let mine = found_row H n r e in sym (ap (λ (x : OccRow). x.location) mine.3) ∙ ap (λ (o : ℕ). location H o) mine.2
+-- the location that a row has while its occurrence starts
+its_location : (H : List Event) (n : ℕ) (r : OccRow) → state H n ≡ Starting → occurrence H n ≡ Some r → r.location ≡ location H n
+its_location H n r starts e =
+    let mine = found_row H n r e in
+    sym (ap (λ (x : OccRow). x.location) mine.3)
+    ∙ (ap (λ (o : ℕ). kept_where (is_over H o) (location H o)) mine.2 ∙ kept_there (is_over H n) (location H n) (starting_not_over H n starts))
 
-new_there : (H : List Event) (n : ℕ) (r : OccRow) (answer : GrantTry) → occurrence H n ≡ Some r → (is_new_try_row answer r ≡ true) ↔ IsNewTry H n answer
-new_there H n r (Later at) e =
-    let is : r.location ≡ location H n = its_location H n r e in
+new_there : (H : List Event) (n : ℕ) (r : OccRow) (answer : GrantTry) → state H n ≡ Starting → occurrence H n ≡ Some r
+    → (is_new_try_row answer r ≡ true) ↔ IsNewTry H n answer
+new_there H n r (Later at) starts e =
+    let is : r.location ≡ location H n = its_location H n r starts e in
     let test = none_is r.location in
     (λ h. sym is ∙ test.0 h, λ h. test.1 (is ∙ h))
-new_there H n r Trouble e = (λ h. tt, λ h. refl)
-new_there H n r NotCovering e = (λ h. tt, λ h. refl)
+new_there H n r Trouble starts e = (λ h. tt, λ h. refl)
+new_there H n r NotCovering starts e = (λ h. tt, λ h. refl)
 
 pub try_there : (H : List Event) (n : ℕ) (r : OccRow) (answer : GrantTry) (judged : Bool) → occurrence H n ≡ Some r
     → judged ≡ (is_asking_row r && is_new_try_row answer r) → (judged ≡ true) ↔ IsAsking H n × IsNewTry H n answer
 try_there H n r answer judged e is =
-    let asks = asking_there H n r e in
-    let tells = new_there H n r answer e in (
+    let asks = asking_there H n r e in (
       λ h.
           let both : (is_asking_row r && is_new_try_row answer r) ≡ true = sym is ∙ h in
-          (asks.0 (and_left (is_asking_row r) (is_new_try_row answer r) both), tells.0 (and_right (is_asking_row r) (is_new_try_row answer r) both)),
-      λ h. is ∙ and_true (is_asking_row r) (is_new_try_row answer r) (asks.1 h.0) (tells.1 h.1),
+          let asking : IsAsking H n = asks.0 (and_left (is_asking_row r) (is_new_try_row answer r) both) in
+          (asking, (new_there H n r answer asking.starting e).0 (and_right (is_asking_row r) (is_new_try_row answer r) both)),
+      λ h. is ∙ and_true (is_asking_row r) (is_new_try_row answer r) (asks.1 h.0) ((new_there H n r answer h.0.starting e).1 h.1),
     )
 
 pub try_none : (H : List Event) (n : ℕ) (answer : GrantTry) → occurrence H n ≡ None → (false ≡ true) ↔ IsAsking H n × IsNewTry H n answer

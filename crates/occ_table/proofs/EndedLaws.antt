@@ -11,13 +11,18 @@ use Rattle.lcm_model.specs.Work.{works_in}
 use Rattle.lcm_laws.proofs.SettledLaws.{works_on}
 use Rattle.occ_table.specs.declared.rows.Grant.{Grant}
 use Rattle.occ_table.specs.declared.rows.OccRow.{OccRow}
-use Rattle.occ_table.specs.Ended.{is_over, kept, kept_grant, stripped}
+use Rattle.occ_table.specs.Ended.{is_over, kept, kept_grant, kept_where, stripped}
 use Rattle.occ_table.specs.Steps.{after_move, forgotten}
 
 -- all is kept until the occurrence is over
 pub kept_all : {A : Type 0} → (over : Bool) (xs : List A) → over ≡ false → kept over xs ≡ xs
 kept_all true xs e = cc
 kept_all false xs e = refl
+
+-- what there may be is kept until the occurrence is over
+pub kept_there : {A : Type 0} → (over : Bool) (x : Option A) → over ≡ false → kept_where over x ≡ x
+kept_there true x e = cc
+kept_there false x e = refl
 
 -- what is kept of a list with an entry set
 pub kept_set : (over : Bool) (xs ys : List ℕ) (n v : ℕ) → over ≡ false → xs ≡ set ys n v → kept over xs ≡ slice_set (kept over ys) n v
@@ -37,13 +42,14 @@ stripped_kept over false None e = refl
 stripped_kept over false (Some g) e = refl
 
 -- a row that was whole, after a move
-pub moved_row : (r : OccRow) (time : ℕ) (to : OpState) (was : Bool) (xs : List ℕ) (g : Option GivenGrant) → was ≡ false
-    → record r { state = to; entered = time; cancel = None; trouble = false; attempts = kept (is_final to) xs; grant = option_map (kept_grant (is_final to)) g }
-    ≡ after_move time to (record r { attempts = kept was xs; grant = option_map (kept_grant was) g })
-moved_row r time to was xs g e =
+pub moved_row : (r : OccRow) (time : ℕ) (to : OpState) (was : Bool) (xs : List ℕ) (at : Option (List ℕ)) (g : Option GivenGrant) → was ≡ false
+    → record r { state = to; entered = time; cancel = None; trouble = false; attempts = kept (is_final to) xs; location = kept_where (is_final to) at; grant = option_map (kept_grant (is_final to)) g }
+    ≡ after_move time to (record r { attempts = kept was xs; location = kept_where was at; grant = option_map (kept_grant was) g })
+moved_row r time to was xs at g e =
     let base : OccRow = record r { state = to; entered = time; cancel = None; trouble = false } in
-    ap (λ (ys : List ℕ). record base { attempts = kept (is_final to) ys; grant = option_map (kept_grant (is_final to)) g }) (sym (kept_all was xs e))
-    ∙ ap (λ (h : Option Grant). record base { attempts = kept (is_final to) (kept was xs); grant = h }) (stripped_kept (is_final to) was g e)
+    ap (λ (ys : List ℕ). record base { attempts = kept (is_final to) ys; location = kept_where (is_final to) at; grant = option_map (kept_grant (is_final to)) g }) (sym (kept_all was xs e))
+    ∙ (ap (λ (x : Option (List ℕ)). record base { attempts = kept (is_final to) (kept was xs); location = kept_where (is_final to) x; grant = option_map (kept_grant (is_final to)) g }) (sym (kept_there was at e))
+    ∙ ap (λ (h : Option Grant). record base { attempts = kept (is_final to) (kept was xs); location = kept_where (is_final to) (kept_where was at); grant = h }) (stripped_kept (is_final to) was g e))
 
 stripped_none : (g : Option Grant) → g ≡ option_map (stripped false) g
 stripped_none None = refl
@@ -55,6 +61,6 @@ forgotten_none r true e = cc
 forgotten_none r false e = ap (λ (g : Option Grant). record r { grant = g }) (stripped_none r.grant)
 
 -- all that goes is forgotten where the occurrence is over
-pub forgotten_all : (r : OccRow) (over : Bool) → over ≡ true → record r { attempts = []; grant = option_map (stripped true) r.grant } ≡ forgotten over r
+pub forgotten_all : (r : OccRow) (over : Bool) → over ≡ true → record r { attempts = []; location = None; grant = option_map (stripped true) r.grant } ≡ forgotten over r
 forgotten_all r true e = refl
 forgotten_all r false e = cc

@@ -60,14 +60,6 @@ tally-few n p (x ∷ xs) (k ∷ ns) =
       at_most true = omega arith
       at_most false = omega arith
 
-few_taken : {A : Type 0} → (p : A → Bool) (i : ℕ) (xs : List A) → length (filter p (take i xs)) ≤ i
-few_taken p zero xs = omega arith
-few_taken p (suc i) [] = omega arith
-few_taken {A} p (suc i) (x ∷ xs) = let rest = few_taken p i xs in by (p x) (filter p (take i xs)) rest where
-  by : (b : Bool) (ys : List A) → length ys ≤ i → length (cond b (x ∷ ys) ys) ≤ suc i
-  by true ys h = omega (arith, h)
-  by false ys h = omega (arith, h)
-
 -- a value counts only within the list
 set-any : (ns : List ℕ) (p a b : ℕ) → (p < length ns → a ≡ b) → set ns p a ≡ set ns p b
 set-any [] p a b h = refl
@@ -127,7 +119,7 @@ shift-set n c v old xs ns x ex eo turned few =
       from_zero : (p : ℕ) → 0 + p ≡ p
       from_zero p = omega arith
 
-      least : (a b : ℕ) → b ≡ a → a ≤ 5000 → a + 1 ≡ min (b + 1) 18446744073709551615
+      least : (a b : ℕ) → b ≡ a → a ≤ 5000 → a + 1 ≡ min (b + 1) 65535
       least a b e h = omega (arith, e, h)
 
       not-not : (b : Bool) → not b ≡ false → b ≡ true
@@ -198,8 +190,12 @@ fresh_made p (x ∷ xs) = by_test (x.phase == p)
     (λ no. rw no (fresh_made p xs))
 
 -- all changes of a plan wait when it is asked for
-pub waiting-fresh : (xs : List Change) → tallies 0 xs (replicate (length xs) 0) ≡ in_phases xs
-waiting-fresh xs = maps_same (tally 0 (zip xs (replicate (length xs) 0))) (λ p. length (filter (λ (x : Change). x.phase == p) xs)) (range_with_len 0 9) (λ p. fresh_waiting p xs)
+pub waiting-fresh : (xs : List Change) → length xs ≤ 5000 → tallies 0 xs (replicate (length xs) 0) ≡ in_phases xs
+waiting-fresh xs few =
+    maps_same (tally 0 (zip xs (replicate (length xs) 0))) (λ p. min (length (filter (λ (x : Change). x.phase == p) xs)) 65535) (range_with_len 0 9) (λ p.
+    let is = fresh_waiting p xs in
+    let most = tally-few 0 p xs (replicate (length xs) 0) in
+    omega (arith, is, most, few))
 
 pub made-fresh : (xs : List Change) → tallies 1 xs (replicate (length xs) 0) ≡ replicate 9 0
 made-fresh xs = maps_same (tally 1 (zip xs (replicate (length xs) 0))) (λ p. 0) (range_with_len 0 9) (λ p. fresh_made p xs)
@@ -292,31 +288,35 @@ same_from_both false true f g = g refl
 same_from_both false false f g = refl
 
 -- one change more is counted in its phase
-phases-more : (xs : List Change) (i : ℕ) (d : Change) → i < length xs → i < 18446744073709551615
-    → raised (get_or xs i d).phase (in_phases (take i xs)) ≡ in_phases (take (i + 1) xs)
-phases-more xs i d less bound =
+phases-more : (xs : List Change) (i : ℕ) (d : Change) → i < length xs → raised (get_or xs i d).phase (in_phases (take i xs)) ≡ in_phases (take (i + 1) xs)
+phases-more xs i d less =
     let x : Change = get_or xs i d in
     let f : ℕ → ℕ = λ p. length (filter (λ (y : Change). y.phase == p) (take i xs)) in
     let g : ℕ → ℕ = λ p. length (filter (λ (y : Change). y.phase == p) (take (i + 1) xs)) in
+    let counts : ℕ → ℕ = λ p. min (f p) 65535 in
     let more : (p : ℕ) → g p ≡ f p + one (x.phase == p) = λ p. length-filter_more (λ (y : Change). y.phase == p) xs i d less in
-    let others : (p : ℕ) → (x.phase == p) ≡ false → g p ≡ f p =
-    (λ p other. let now = more p in let none : one (x.phase == p) ≡ 0 = ap one other in omega (arith, now, none)) in
+    let others : (p : ℕ) → (x.phase == p) ≡ false → min (g p) 65535 ≡ min (f p) 65535 =
+    (λ p other.
+    let now = more p in
+    let none : one (x.phase == p) ≡ 0 = ap one other in
+    let same : g p ≡ f p = omega (arith, now, none) in
+    ap (λ (k : ℕ). min k 65535) same) in
     let own : one (x.phase == x.phase) ≡ 1 = ap one (eq-eqb x.phase x.phase refl) in
     let now = more x.phase in
-    let few : f x.phase ≤ i = few_taken (λ (y : Change). y.phase == x.phase) i xs in
-    sym (differs f g 0 9 x.phase x.phase (f x.phase + 1) (omega arith) (omega (arith, now, own)) others
-    ∙ set-any (map f (range_with_len 0 9)) x.phase _ _ (λ small.
-    let at : slice_index_or (map f (range_with_len 0 9)) x.phase 0 ≡ f x.phase = index-range f 0 9 x.phase 0 small ∙ ap f (from_zero x.phase) in
-    least (f x.phase) i (slice_index_or (map f (range_with_len 0 9)) x.phase 0) at few bound)) where
+    let next : g x.phase ≡ f x.phase + 1 = omega (arith, now, own) in
+    sym (differs counts (λ p. min (g p) 65535) 0 9 x.phase x.phase (min (f x.phase + 1) 65535) (omega arith) (ap (λ (k : ℕ). min k 65535) next) others
+    ∙ set-any (map counts (range_with_len 0 9)) x.phase _ _ (λ small.
+    let at : slice_index_or (map counts (range_with_len 0 9)) x.phase 0 ≡ min (f x.phase) 65535 = index-range counts 0 9 x.phase 0 small ∙ ap counts (from_zero x.phase) in
+    least (f x.phase) (slice_index_or (map counts (range_with_len 0 9)) x.phase 0) at)) where
       from_zero : (p : ℕ) → 0 + p ≡ p
       from_zero p = omega arith
 
-      least : (a i b : ℕ) → b ≡ a → a ≤ i → i < 18446744073709551615 → a + 1 ≡ min (b + 1) 18446744073709551615
-      least a i b e h k = omega (arith, e, h, k)
+      least : (a b : ℕ) → b ≡ min a 65535 → min (a + 1) 65535 ≡ min (b + 1) 65535
+      least a b e = omega (arith, e)
 
 pub phases-next : (xs : List Change) (i : ℕ) (d : Change) (old new : List ℕ) → new ≡ raised (get_or xs i d).phase old → old ≡ in_phases (take i xs)
-    → i < length xs → i < 18446744073709551615 → new ≡ in_phases (take (i + 1) xs)
-phases-next xs i d old new e is less bound = e ∙ (ap (λ (ns : List ℕ). raised (get_or xs i d).phase ns) is ∙ phases-more xs i d less bound)
+    → i < length xs → new ≡ in_phases (take (i + 1) xs)
+phases-next xs i d old new e is less = e ∙ (ap (λ (ns : List ℕ). raised (get_or xs i d).phase ns) is ∙ phases-more xs i d less)
 
 -- what is asked of all changes is asked of at most nine counts
 pub through_by_counts : (goes : ℕ → Bool) (m n : ℕ) (zs : List (Change × ℕ)) → Sound m n zs

@@ -37,7 +37,7 @@ use Rattle.lcm_model.specs.Attempts.{is_unsettled}
 use Rattle.occ_table.specs.declared.pending.Pending.{Pending}
 use Rattle.lcm_events.specs.declared.states.OpState.TheVariants.{Starting}
 use Rattle.lcm_model.specs.Attempts.{attempts}
-use Rattle.lcm_model.specs.Grants.{grant}
+use Rattle.lcm_model.specs.Grants.{grant, location}
 use Rattle.lcm_model.specs.Moves.{state}
 use Rattle.lcm_model.specs.Work.{works_in}
 use Rattle.lcm_laws.proofs.HoldLaws.{moved_from}
@@ -149,12 +149,12 @@ with_tries r m n a b x y e f g =
     ap (λ (z : ℕ). record r { tries = z; ended = a; cause = x }) e
     ∙ (ap (λ (z : Bool). record r { tries = n; ended = z; cause = x }) f ∙ ap (λ (z : Option Cause). record r { tries = n; ended = b; cause = z }) g)
 
-answered : (H : List Event) (time n : ℕ) (answer : GrantTry) (a : Operation) → (n == a.occ) ≡ true → has_ended H a.occ ≡ false
+answered : (H : List Event) (time n : ℕ) (answer : GrantTry) (a : Operation) → (n == a.occ) ≡ true → has_ended H a.occ ≡ false → is_over H a.occ ≡ false
     → row (event time (GrantTried n answer) ∷ H) a ≡ after_answer answer (row H a)
 unfolding is_unsettled
-answered H time n (Later at) a same going = rw same refl
-answered H time n NotCovering a same going = rw same refl
-answered H time n Trouble a same going =
+answered H time n (Later at) a same going still = rw (same, still) refl
+answered H time n NotCovering a same going still = rw same refl
+answered H time n Trouble a same going still =
     rw same (with_tries (row H a) _ _ _ _ _ _
     (tries-next (list_any is_last (answers H a.occ)) (troubled_tries H a.occ) going)
     (ended-next (list_any is_last (answers H a.occ)) (troubled_tries H a.occ) going)
@@ -168,7 +168,8 @@ row-step width m H time (GrantTried o answer) n a e among wide legal allowed = b
     (λ same.
     let is : o ≡ a.occ = eqb-true o a.occ same in
     let going : has_ended H a.occ ≡ false = subst (λ (i : ℕ). has_ended H i ≡ false) is allowed.0.goes_on in
-    answered H time o answer a same going ∙ by_own (o == a.occ) _ _ same)
+    let still : is_over H a.occ ≡ false = starting_not_over H a.occ (subst (λ (i : ℕ). state H i ≡ Starting) is allowed.0.starting) in
+    answered H time o answer a same going still ∙ by_own (o == a.occ) _ _ same)
     (λ other. rw other refl)
 row-step width m H time (Granted o grant places spots) n a e among wide legal allowed = by_test (o == a.occ)
     (λ same.
@@ -181,7 +182,7 @@ row-step width m H time (Moved o to) n a e among wide legal allowed = by_test (o
     (λ same.
     let is : o ≡ a.occ = eqb-true o a.occ same in
     let going : is_over H a.occ ≡ false = subst (λ (i : ℕ). is_over H i ≡ false) is (moved_from H o to allowed.1) in
-    rw same (moved_row (row H a) time to (is_over H a.occ) (map (λ c. length (attempts H a.occ c)) (numbers a)) (grant H a.occ) going))
+    rw same (moved_row (row H a) time to (is_over H a.occ) (map (λ c. length (attempts H a.occ c)) (numbers a)) (location H a.occ) (grant H a.occ) going))
     (λ other. rw other refl)
 row-step width m H time (CancelAsked o mode) n a e among wide legal allowed = by_test (o == a.occ)
     (λ same. cancelled H time o mode a same ∙ by_own (o == a.occ) _ _ same)

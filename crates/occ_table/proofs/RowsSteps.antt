@@ -16,6 +16,7 @@ use Rattle.lcm_events.specs.declared.events.Operation.{Operation}
 use Rattle.lcm_model.specs.Allowed.{IsAllowedWithin, IsLegalWithin}
 use Rattle.lcm_model.specs.Operations.{occurrence_of, operation, operations}
 use Rattle.lcm_laws.proofs.AboutLaws.{about_asked, unasked_untouched}
+use Rattle.lcm_laws.proofs.BoundLaws.{few_changes}
 use Rattle.lcm_laws.proofs.Histories.{event, legal_induction}
 use Rattle.lcm_laws.proofs.Lists.{by_test}
 use Rattle.lcm_laws.proofs.NumberLaws.{IsCounted, found_exactly, operations_counted}
@@ -150,7 +151,7 @@ first width m H time a legal allowed =
     let none_made : nets H a ≡ replicate (length a.changes) 0 = nets-none H a still in
     asked_row H time a
     ∙ (with_lists (record (row H a) { asked = time; entered = time }) none_made (kept_all (is_over H a.occ) _ fresh ∙ attempts-none H a still)
-    (ap (λ (ns : List ℕ). tallies 0 a.changes ns) none_made ∙ waiting-fresh a.changes)
+    (ap (λ (ns : List ℕ). tallies 0 a.changes ns) none_made ∙ waiting-fresh a.changes (few_changes width m H a legal allowed))
     (ap (λ (ns : List ℕ). tallies 1 a.changes ns) none_made ∙ made-fresh a.changes)
     (all_alike (used H a.occ) 0 (length a.changes) None (λ c. unused width m H legal a.occ c none))
     ∙ rw (still.moves, still.answers, still.cancels, still.no_trouble, still.none_open, still.grant, calm) refl)

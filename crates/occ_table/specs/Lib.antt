@@ -3,6 +3,7 @@ pub mod Ended
 pub mod Going
 pub mod Ongoing
 pub mod Packed
+pub mod PackedAsks
 pub mod Phases
 pub mod Used
 pub mod Resources

@@ -17,13 +17,13 @@ tally n zs p = length (filter (λ z. (z.0.phase == p) && (z.1 == n)) zs)
 abbrev pub tallies : ℕ → List Change → List ℕ → List ℕ
 tallies n xs ns = map (tally n (zip xs ns)) (range_with_len 0 9)
 
--- how many of the changes are of each phase from 0 to 8 (own rule)
+-- how many of the changes are of each phase from 0 to 8, counted up to 65,535 (own rule)
 abbrev pub in_phases : List Change → List ℕ
-in_phases xs = map (λ p. length (filter (λ x. x.phase == p) xs)) (range_with_len 0 9)
+in_phases xs = map (λ p. min (length (filter (λ x. x.phase == p) xs)) 65535) (range_with_len 0 9)
 
--- the counts with one more in a phase
+-- the counts with one more in a phase, up to 65,535
 abbrev pub raised : ℕ → List ℕ → List ℕ
-raised p ns = slice_set ns p (min (slice_index_or ns p 0 + 1) 18446744073709551615)
+raised p ns = slice_set ns p (min (slice_index_or ns p 0 + 1) 65535)
 
 -- the counts with one less in a phase
 abbrev pub lowered : ℕ → List ℕ → List ℕ

@@ -19,7 +19,7 @@ use Rattle.lcm_model.specs.Operations.{operation, operations}
 use Rattle.lcm_model.specs.Since.{has_call_failed, has_trouble, is_cancelled, is_forced}
 use Rattle.lcm_model.specs.Words.{first, told, when}
 use Rattle.occ_table.specs.Descriptors.{vnfd}
-use Rattle.occ_table.specs.Ended.{is_over, kept, kept_grant}
+use Rattle.occ_table.specs.Ended.{is_over, kept, kept_grant, kept_where}
 use Rattle.occ_table.specs.Phases.{tallies}
 use Rattle.occ_table.specs.Used.{used}
 use Rattle.occ_table.specs.declared.causes.Cause.{Cause}
@@ -91,7 +91,8 @@ numbers a = range_with_len 0 (length a.changes)
 abbrev pub nets : List Event → Operation → List ℕ
 nets H a = map (net H a.occ) (numbers a)
 
--- what the history says of an operation that was asked for; once it is over, without attempts and places (SOL 003 5.5.2.13)
+-- what the history says of an operation that was asked for; once it is over, without attempts, places and the location of its grant
+-- (SOL 003 5.5.2.13)
 abbrev pub row : List Event → Operation → OccRow
 row H a = record {
   instance = a.instance;
@@ -107,7 +108,7 @@ row H a = record {
   state = state H a.occ;
   asked = asked H a.occ;
   entered = entered H a.occ;
-  location = location H a.occ;
+  location = kept_where (is_over H a.occ) (location H a.occ);
   tries = troubled_tries H a.occ;
   ended = has_ended H a.occ;
   cancel = cancel H a.occ;

@@ -7,7 +7,7 @@ use Rattle.lcm_model.specs.Words.{otherwise, when}
 use Rattle.lcm_model.specs.Work.{net_after, net_before, works_in}
 use Rattle.occ_table.specs.Descriptors.{vnfd_in}
 use Rattle.lcm_model.specs.Moves.{is_final}
-use Rattle.occ_table.specs.Ended.{kept, stripped}
+use Rattle.occ_table.specs.Ended.{kept, kept_where, stripped}
 use Rattle.occ_table.specs.Phases.{in_phases, is_clear, none_counted, tally_after}
 use Rattle.lcm_events.specs.declared.changes.Change.{Change}
 use Rattle.lcm_events.specs.declared.attempts.Way.{Way}
@@ -145,9 +145,13 @@ after_granted g r = record r { ended = true; grant = Some g }
 abbrev pub after_told : List ℕ → OccRow → OccRow
 after_told at r = record r { location = Some at }
 
--- the row after it has forgotten attempts and places, where its occurrence is over
+-- the row after it has forgotten attempts, places and the location of its grant, where its occurrence is over
 abbrev pub forgotten : Bool → OccRow → OccRow
-forgotten over r = record r { attempts = kept over r.attempts; grant = option_map (stripped over) r.grant }
+forgotten over r = record r {
+  attempts = kept over r.attempts;
+  location = kept_where over r.location;
+  grant = option_map (stripped over) r.grant;
+}
 
 -- the row after a move to this state at this time
 abbrev pub after_move : ℕ → OpState → OccRow → OccRow

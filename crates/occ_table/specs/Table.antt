@@ -24,7 +24,7 @@ use Rattle.occ_table.specs.declared.used.Used.{Used}
 
 -- what is reserved: a row, a grant and a location that are to come, and room for how many more rows, for how many more rows than there are
 -- a place among the active numbers, room for the ongoing operations and the descriptors of how many more instances, for how many more
--- resources, and how many bytes for the names of a resource that is made and of one that is used
+-- resources, and how many bytes for the names of a resource that is made, and of one that is used or of a row's descriptor
 pub record Reserved : Type 0 where
   pub row : Option OccRow
   pub grant : Option Grant
@@ -65,7 +65,7 @@ HasNames _ r = Unit {0}
 -- what an event of this moment needs is reserved
 abbrev pub HasRoomFor : ℕ → EventKind → Reserved → Type 0
 HasRoomFor time (Created instance vnfd name text) r = (0 < r.instances) × (0 < r.names)
-HasRoomFor time (Asked a) r = (r.row ≡ Some (first_row time a)) × (0 < r.spare) × (0 < r.places)
+HasRoomFor time (Asked a) r = (r.row ≡ Some (first_row time a)) × (0 < r.spare) × (0 < r.places) × (765 ≤ r.used_names)
 HasRoomFor time (Granted o name places spots) r = r.grant ≡ Some (record { name = name; places = places; spots = spots })
 HasRoomFor time (GrantTried o (Later at)) r = r.location ≡ Some at
 HasRoomFor time (Settled t outcome) r = HasNames outcome r

@@ -6,6 +6,7 @@ mod causes;
 mod cells;
 mod going;
 mod judges;
+mod names;
 mod ongoing;
 mod pending;
 mod phases;
@@ -16,8 +17,10 @@ mod table;
 mod used;
 mod vnfds;
 
+pub use asks::PackedAsk;
 pub use causes::Cause;
 pub use cells::Cells;
+pub use names::PackedName;
 pub use pending::{Pending, Pendings};
 pub use phases::PHASES;
 pub use rows::{Grant, OccRow};

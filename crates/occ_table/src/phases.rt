@@ -9,7 +9,7 @@ use lcm_events::{Change, Way};
 pub const PHASES: usize = 9;
 
 /// One more is of this phase. Nothing happens beyond the last phase.
-fn raise(counts: &mut [u64; PHASES], phase: u8)
+fn raise(counts: &mut [u16; PHASES], phase: u8)
     ensures { counts.new ≡ raised phase counts.old }
 {
     let at = phase as usize;
@@ -19,7 +19,7 @@ fn raise(counts: &mut [u64; PHASES], phase: u8)
 }
 
 /// One less is of this phase. Nothing happens beyond the last phase.
-fn lower(counts: &mut [u64; PHASES], phase: u8)
+fn lower(counts: &mut [u16; PHASES], phase: u8)
     ensures { counts.new ≡ lowered phase counts.old }
 {
     let at = phase as usize;
@@ -29,7 +29,7 @@ fn lower(counts: &mut [u64; PHASES], phase: u8)
 }
 
 /// One more or one less is of this phase, where there is one.
-pub fn shift(counts: &mut [u64; PHASES], up: bool, phase: Option<u8>)
+pub fn shift(counts: &mut [u16; PHASES], up: bool, phase: Option<u8>)
     ensures { counts.new ≡ shifted up phase counts.old }
 {
     match (up, phase) {
@@ -40,7 +40,7 @@ pub fn shift(counts: &mut [u64; PHASES], up: bool, phase: Option<u8>)
 }
 
 /// How many of the changes are of each phase.
-pub fn count_phases(changes: &[Change]) -> [u64; PHASES]
+pub fn count_phases(changes: &[Change]) -> [u16; PHASES]
     ensures { result ≡ in_phases changes.now }
 {
     let mut counts = [0; PHASES];
@@ -61,7 +61,7 @@ fn is_first(way: Way, phase: u8, other: usize) -> bool
 }
 
 /// Whether a phase doesn't go before this one, or no change is counted in it.
-fn is_clear_at(way: Way, phase: u8, other: usize, count: u64) -> bool
+fn is_clear_at(way: Way, phase: u8, other: usize, count: u16) -> bool
     ensures { result ≡ (not (goes_first way phase other) || (count == 0)) }
 {
     let first = is_first(way, phase, other);
@@ -69,7 +69,7 @@ fn is_clear_at(way: Way, phase: u8, other: usize, count: u64) -> bool
 }
 
 /// Whether no change is counted in a phase that goes before this one.
-pub fn are_clear(counts: &[u64], way: Way, phase: u8) -> bool
+pub fn are_clear(counts: &[u16], way: Way, phase: u8) -> bool
     ensures { result ≡ is_clear way phase counts.now }
 {
     for (at, count) in counts.iter().enumerate() {
@@ -81,7 +81,7 @@ pub fn are_clear(counts: &[u64], way: Way, phase: u8) -> bool
 }
 
 /// Whether no change is counted.
-pub fn are_none(counts: &[u64]) -> bool
+pub fn are_none(counts: &[u16]) -> bool
     ensures { result ≡ none_counted counts.now }
 {
     for count in counts {

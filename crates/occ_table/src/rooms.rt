@@ -1,10 +1,12 @@
-//! Room for the names of a resource and of its place, laid aside for whatever they are.
+//! Room for the names of a resource and of its place, or for that of a descriptor, laid aside for whatever they are.
 
-ghost use Rattle.std.specs.Prelude.{◌≡◌, ◌≤◌, ◌<◌, ◌↔◌, IfSome, IsSome, IsTrue, OnOk, vec_capacity};
+ghost use Rattle.std.specs.Prelude.{◌≡◌, ◌≤◌, ◌<◌, ◌↔◌, IfSome, IsSome, IsTrue, OnOk, Some, vec_capacity};
 ghost use Rattle.occ_table.specs.Packed.{room_in};
 
+use crate::names::PackedName;
 use std::alloc::{AllocError, Global};
 use std::marker::Model;
+use vnfm_base::Name;
 
 /// Bytes of three of the longest names.
 const LONGEST: usize = 765;
@@ -105,5 +107,15 @@ impl Rooms {
             return long;
         }
         take_from(&mut self.longest, wanted)
+    }
+
+    /// A name in the least room that it fits into: no memory is taken.
+    pub fn pack(&mut self, name: &Name) -> Option<PackedName>
+        ensures { 765 ≤ self.old → result ≡ Some name.now }
+    {
+        match self.take(name.len()) {
+            Some(room) => Some(PackedName::within(room, name)),
+            None => None,
+        }
     }
 }

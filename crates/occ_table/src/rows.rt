@@ -10,17 +10,17 @@ ghost use Rattle.occ_table.specs.Ended.{stripped};
 ghost use Rattle.occ_table.specs.Resources.{deed_by, place_by};
 ghost use Rattle.occ_table.specs.Steps.{after_answer, after_cancel, after_move, forgotten, after_settled, after_told, after_trouble, begun, cause_among, described, failed_by, first_row, is_trouble_among, row_after, after_begun, nets_after, noted, after_granted, is_bringing, is_later, gives_up_row, has_stopped_row, is_asking_row, is_new_try_row, MayTake, MayBeginRow, counts_for, is_next, is_turn, is_quiet_row, may_move_from};
 
-use crate::asks::{copied_ask, copied_line};
+use crate::asks::{PackedAsk, copied_line};
 use crate::causes::Cause;
 use crate::cells::Cells;
+use crate::names::PackedName;
 use crate::pending::Pendings;
 use crate::phases::{PHASES, are_clear, are_none, count_phases, shift};
 use crate::resources::Deed;
 use crate::used::{PackedUsed, Uses};
-use crate::vnfds::no_name;
 use lcm_events::{
-    Ask, CancelMode, Changes, EventKind, GrantTry, Listed, OpState, Operation, Outcome, Place,
-    Role, Tag, Way,
+    CancelMode, Changes, EventKind, GrantTry, Listed, OpState, Operation, Outcome, Place, Role,
+    Tag, Way,
 };
 use lcm_model::{Effect, ends, is_placing, place_in, verb_in_way};
 use std::alloc::{AllocError, Global};
@@ -35,7 +35,7 @@ const TRIES: u8 = 5;
 #[derive(Debug, Drop)]
 pub struct Grant {
     /// Its identifier.
-    pub name: Name,
+    pub name: PackedName,
     /// The distinct places, in the order of the first change that has them; none once the occurrence is over.
     pub places: Cells<Place>,
     /// The number of the place of each change; none once the occurrence is over.
@@ -52,6 +52,7 @@ impl Grant {
     ) -> Result<Grant, AllocError>
         ensures { IfOk result (λ g. g ≡ record { name = name; places = places.now; spots = spots.now }) }
     {
+        let name = PackedName::of(alloc, &name)?;
         let places = places.to_vec(alloc)?;
         let spots = spots.to_vec(alloc)?;
         Ok(Grant {
@@ -88,7 +89,7 @@ fn copied_grant(alloc: Global, grant: &Option<Grant>) -> Result<Option<Grant>, A
         Some(given) => {
             let copy = Grant::copied(
                 alloc,
-                given.name,
+                given.name.name(),
                 given.places.as_slice(),
                 given.spots.as_slice(),
             )?;
@@ -101,24 +102,24 @@ fn copied_grant(alloc: Global, grant: &Option<Grant>) -> Result<Option<Grant>, A
 /// What the history says of an occurrence.
 ///
 /// Source: SOL 003 5.5.2.13 (VnfLcmOpOcc).
-#[derive(Debug, Drop)]
+#[derive(Debug)]
 pub struct OccRow {
     /// The number of its instance.
     pub instance: u64,
     /// The identifier of the instance's descriptor.
-    pub vnfd: Name,
+    pub vnfd: PackedName,
     /// Who asked.
     pub role: Role,
     /// What was asked for.
-    pub ask: Ask,
+    pub ask: PackedAsk,
     /// The changes in the order of the plan.
     pub changes: Changes,
     /// The net of each change: 1 where it is made, 0 where it isn't or was undone.
     pub nets: Cells<u8>,
     /// How many changes of each phase have net 0.
-    pub waiting: [u64; PHASES],
+    pub waiting: [u16; PHASES],
     /// How many changes of each phase have net 1.
-    pub made: [u64; PHASES],
+    pub made: [u16; PHASES],
     /// How many attempts there were at each change; none is listed once the occurrence is over.
     pub attempts: Cells<u32>,
     /// What each change used last: the resource that its last attempt that was done and no undo made, removed or powered, with its place.
@@ -129,7 +130,7 @@ pub struct OccRow {
     pub asked: Moment,
     /// When it came into its state.
     pub entered: Moment,
-    /// Where its grant will be, where that was told.
+    /// Where its grant will be, where that was told; none once the occurrence is over.
     pub location: Option<Line>,
     /// How many tries of its grant exchange were in trouble.
     pub tries: u8,
@@ -145,6 +146,35 @@ pub struct OccRow {
     pub pending: Pendings,
     /// What was granted.
     pub grant: Option<Grant>,
+}
+
+impl Drop for OccRow {
+    // Written out, so that the proof of a caller calls it and doesn't take the row apart at each of its ends.
+    fn drop(self) {
+        let OccRow {
+            instance: _,
+            vnfd: _,
+            role: _,
+            ask: _,
+            changes: _,
+            nets: _,
+            waiting: _,
+            made: _,
+            attempts: _,
+            used: _,
+            state: _,
+            asked: _,
+            entered: _,
+            location: _,
+            tries: _,
+            ended: _,
+            cancel: _,
+            trouble: _,
+            cause: _,
+            pending: _,
+            grant: _,
+        } = self;
+    }
 }
 
 /// The net that a change has once it is made, or once it is undone.
@@ -182,7 +212,7 @@ impl OccRow {
     pub fn first(alloc: Global, moment: Moment, operation: &Operation) -> Result<OccRow, AllocError>
         ensures { IfOk result (λ r. r ≡ first_row moment operation.now) }
     {
-        let ask = copied_ask(alloc, &operation.ask)?;
+        let ask = PackedAsk::of(alloc, &operation.ask)?;
         let changes = operation.changes.as_slice().to_vec(alloc)?;
         let nets = vec![in alloc; 0u8; changes.len()]?;
         let attempts = vec![in alloc; 0u32; changes.len()]?;
@@ -191,7 +221,7 @@ impl OccRow {
         let pending = Pendings::new(alloc)?;
         Ok(OccRow {
             instance: operation.instance,
-            vnfd: no_name(),
+            vnfd: PackedName::none(alloc),
             role: operation.role,
             ask,
             changes: Listed::of(changes),
@@ -220,7 +250,8 @@ impl OccRow {
     pub fn copy(&self, alloc: Global) -> Result<OccRow, AllocError>
         ensures { IfOk result (λ r. r ≡ self.now) }
     {
-        let ask = copied_ask(alloc, &self.ask)?;
+        let vnfd = self.vnfd.copy(alloc)?;
+        let ask = self.ask.copy(alloc)?;
         let changes = self.changes.as_slice().to_vec(alloc)?;
         let nets = self.nets.as_slice().to_vec(alloc)?;
         let attempts = self.attempts.as_slice().to_vec(alloc)?;
@@ -230,7 +261,7 @@ impl OccRow {
         let grant = copied_grant(alloc, &self.grant)?;
         Ok(OccRow {
             instance: self.instance,
-            vnfd: self.vnfd,
+            vnfd,
             role: self.role,
             ask,
             changes: Listed::of(changes),
@@ -296,12 +327,13 @@ impl OccRow {
         };
     }
 
-    /// Forgets attempts and places, where the occurrence is over.
+    /// Forgets attempts, places and the location of the grant, where the occurrence is over.
     fn forget(&mut self, over: bool)
         ensures { self.new ≡ forgotten over self.old }
     {
         if over {
             self.attempts.clear();
+            self.location = None;
             strip_grant(&mut self.grant);
         }
     }
@@ -415,7 +447,7 @@ impl OccRow {
     }
 
     /// Its instance has this descriptor.
-    pub fn describe(&mut self, vnfd: Name)
+    pub fn describe(&mut self, vnfd: PackedName)
         ensures { self.new ≡ described vnfd self.old }
     {
         self.vnfd = vnfd;
@@ -626,9 +658,7 @@ impl OccRow {
             }
             (OpState::Processing, OpState::FailedTemp) => self.has_stopped(),
             (OpState::RollingBack, OpState::FailedTemp) => self.has_stopped(),
-            (OpState::FailedTemp, OpState::RollingBack) => {
-                !matches!(self.ask, Ask::Terminate { .. })
-            }
+            (OpState::FailedTemp, OpState::RollingBack) => { !self.ask.is_terminate() }
             (OpState::FailedTemp, OpState::Processing) => true,
             (OpState::FailedTemp, OpState::Failed) => true,
             _ => false,

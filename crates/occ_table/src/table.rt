@@ -146,6 +146,19 @@ fn row_of(rows: &[OccRow], occ: u64) -> Option<&OccRow>
     rows.get((occ - 1) as usize)
 }
 
+/// The row with the descriptor of its instance, in room that is laid aside: no memory is taken.
+fn described(row: OccRow, names: &mut Rooms, vnfd: &Name) -> OccRow
+    requires { 765 ≤ names.old }
+    ensures { result ≡ described vnfd.now row }
+{
+    let mut row = row;
+    match names.pack(vnfd) {
+        Some(vnfd) => row.describe(vnfd),
+        None => unreachable!(),
+    }
+    row
+}
+
 /// What an attempt did that was done with this name, by the row of its occurrence.
 fn deed_of(rows: &[OccRow], tag: &Tag, resource: Name) -> Option<Deed>
     ensures { result ≡ deed_of tag.now (Done resource) rows.now }
@@ -198,7 +211,9 @@ impl OccTable {
         ensures row { OnOk result (self.new.reserved.row ≡ Some (first_row moment operation.now)) }
         ensures spare { OnOk result (0 < self.new.reserved.spare) }
         ensures places { OnOk result (0 < self.new.reserved.places) }
+        ensures names { OnOk result (765 ≤ self.new.reserved.used_names) }
     {
+        self.names.reserve(alloc)?;
         self.rows.reserve(1)?;
         let rows = self.rows.len() + 1;
         reserve_places(&mut self.active, rows)?;
@@ -333,6 +348,7 @@ impl OccTable {
     fn put_row(&mut self, occ: u64, instance: u64)
         requires spare { 0 < self.old.reserved.spare }
         requires places { 0 < self.old.reserved.places }
+        requires names { 765 ≤ self.old.reserved.used_names }
         ensures rows { (r : OccRow) → self.old.reserved.row ≡ Some r → self.new.rows ≡ self.old.rows ++ described (vnfd_in instance self.old.vnfds) r ∷ [] }
         ensures active { length self.old.active ≤ length self.old.rows → self.new.active ≡ self.old.active ++ occ ∷ [] }
         ensures ongoing { self.new.ongoing ≡ with_ongoing instance (Some occ) self.old.ongoing }
@@ -340,9 +356,9 @@ impl OccTable {
         ensures resources { self.new.resources ≡ self.old.resources }
     {
         let vnfd = self.vnfds.at(instance);
-        if let Some(mut row) = self.row.take() {
-            row.describe(vnfd);
-            self.rows.push_reserved(row);
+        if let Some(row) = self.row.take() {
+            self.rows
+                .push_reserved(described(row, &mut self.names, &vnfd));
         }
         append(&mut self.active, occ);
         set_ongoing(&mut self.ongoing, instance, Some(occ));

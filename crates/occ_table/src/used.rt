@@ -6,6 +6,7 @@ ghost use Rattle.vnfm_base.specs.Text.{IsName};
 ghost use Rattle.occ_table.specs.Packed.{names_length};
 ghost use Rattle.occ_table.specs.declared.used.Used.{Used};
 
+use crate::names::{append, name_of};
 use lcm_events::Place;
 use std::alloc::{AllocError, Global};
 use std::marker::Model;
@@ -51,30 +52,6 @@ impl Model for PackedUsed {
     ghost view = { λ p. unpacked p.names.items p.resource p.vim };
 
     ghost invariant = { λ p. HoldsNames p.names.items p.resource p.vim };
-}
-
-/// The name of these bytes, which are one.
-fn name_of(bytes: &[u8]) -> Name
-    requires { IsName bytes.now }
-    ensures { result ≡ bytes.now }
-{
-    match Name::of(bytes) {
-        Some(name) => name,
-        None => unreachable!(),
-    }
-}
-
-/// Puts bytes last, for which there is room.
-fn append(names: &mut Vec<u8>, bytes: &[u8])
-    requires { vec_len names.old + length bytes.now ≤ vec_capacity names.old }
-    ensures items { names.new.items ≡ names.old.items ++ bytes.now }
-    ensures length { vec_len names.new ≡ vec_len names.old + length bytes.now }
-    ensures capacity { vec_capacity names.old ≤ vec_capacity names.new }
-{
-    match names.extend_from_slice(bytes) {
-        Ok(()) => {}
-        Err(_) => unreachable!(),
-    }
 }
 
 /// Writes the names into a text that has room for them.

@@ -16,4 +16,4 @@ returns-in-Some-clause-facts c = λ m H legal tables few allowed.
     let own = ap (λ (r : OccRow). r.instance) mine.3 in
     let live = subst (λ (i : ℕ). is_live H i ≡ true) own (living _ m H legal c.args.occ mine.0 mine.1 (moved_from H c.args.occ c.args.to allowed.1)) in
     c.notice_of_instance.ensures.facts m H legal tables few live
-    ∙ move_tells H c.args.occ c.args.to mine.0 row.instance _ mine.1 own (c.op_kind.ensures ∙ ap (λ (r : OccRow). kind_of r.ask) (sym mine.3))
+    ∙ move_tells H c.args.occ c.args.to mine.0 row.instance _ mine.1 own (c.kind.ensures ∙ ap (λ (r : OccRow). kind_of r.ask) (sym mine.3))

@@ -1,4 +1,4 @@
-use Rattle.std.proofs.Common.{◌∙◌, ap, sym, subst, refl, ◌≡◌, ◌<◌, ◌-◌, List, None, Option, Some, ℕ, true, false}
+use Rattle.std.proofs.Common.{◌∙◌, ap, sym, subst, refl, ◌≡◌, ◌<◌, ◌≤◌, ◌-◌, List, None, Option, Some, ℕ, true, false}
 use Rattle.lcm_events.specs.declared.events.EventKind.{EventKind}
 use Rattle.lcm_events.specs.declared.events.Operation.{Operation}
 use Rattle.lcm_model.specs.Operations.{occurrence_of}
@@ -31,7 +31,7 @@ returns-in-Asked-clause-applies c = λ width m H wide legal allowed table.
     let time : ℕ = c.args.e.now.moment in
     let a : Operation = c.in-Asked.operation in
     let kept : Reserved = c.args.self.now.reserved in
-    let room : (kept.row ≡ Some (first_row time a)) × (0 < kept.spare) × (0 < kept.places) = subst (λ (k : EventKind). HasRoomFor time k kept) c.in-Asked.is c.requires.room in
+    let room : (kept.row ≡ Some (first_row time a)) × (0 < kept.spare) × (0 < kept.places) × (765 ≤ kept.used_names) = subst (λ (k : EventKind). HasRoomFor time k kept) c.in-Asked.is c.requires.room in
     table_after width m H c.args.e.now _ c.args.self.now c.put_row.new.self c.in-Asked.is wide legal allowed table
     (c.put_row.ensures.rows (first_row time a) room.0) (c.put_row.ensures.active (active_fit c.args.self.now.rows c.args.self.now.active H table.rows table.active))
     c.put_row.ensures.ongoing c.put_row.ensures.vnfds (λ i x. ap (λ es. kept_of es i x) c.put_row.ensures.resources)
