@@ -1,0 +1,8 @@
+mod LiveLemmas
+mod StepLemmas
+mod RequestLemmas
+mod TakingLemmas
+mod ActLemmas
+mod OrderLemmas
+mod TurnLemmas
+mod CountLemmas

@@ -1,0 +1,6 @@
+pub mod Requests
+pub mod Deeds
+pub mod Acting
+pub mod Counting
+pub mod Turns
+pub mod Steps
