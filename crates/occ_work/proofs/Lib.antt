@@ -6,3 +6,4 @@ mod ActLemmas
 mod OrderLemmas
 mod TurnLemmas
 mod CountLemmas
+mod FitLemmas

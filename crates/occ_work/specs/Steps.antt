@@ -1,6 +1,7 @@
 -- The next action of an occurrence in STARTING, by its row.
 use Rattle.std.specs.Prelude.{Bool, List, None, Option, Some, [], false, if◌then◌else◌, is_some, true, ℕ, ◌∷◌}
 use Rattle.lcm_events.specs.declared.events.EventKind.{EventKind}
+use Rattle.lcm_events.specs.declared.events.EventKind.TheVariants.{Denied, Granted, GrantTried, Moved}
 use Rattle.lcm_events.specs.declared.states.OpState.TheVariants.{Processing, RolledBack}
 use Rattle.lcm_model.specs.Next.{Answer, granting, polling}
 use Rattle.lcm_model.specs.declared.actions.Action.{Action}
@@ -36,3 +37,11 @@ kinds_for false o answer = polling o answer
 abbrev pub listed : Option EventKind → List EventKind
 listed None = []
 listed (Some kind) = kind ∷ []
+
+-- the event is one that an act before a grant records (own rule over SOL 003 9.4.2)
+abbrev pub is_of_act : EventKind → Bool
+is_of_act (GrantTried o answer) = true
+is_of_act (Granted o grant places spots) = true
+is_of_act (Denied o) = true
+is_of_act (Moved o to) = true
+is_of_act _ = false

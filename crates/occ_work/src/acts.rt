@@ -1,6 +1,6 @@
 //! The next action of an occurrence: an event, or a call of the orchestrator and the event that its answer appends. A grant is asked for
 //! before anything is moved on, and is on the disk before the move.
-ghost use Rattle.std.specs.Prelude.{◌≡◌, List, Err, Some};
+ghost use Rattle.std.specs.Prelude.{◌≡◌, ◌≢◌, ℕ, List, Err, Some};
 ghost use Rattle.executor.specs.Managed.{IsReady};
 ghost use Rattle.lcm_events.specs.declared.events.Event.{Event};
 ghost use Rattle.lcm_model.specs.Next.{next_action};
@@ -22,9 +22,9 @@ use vnfm_base::Moment;
 /// was told for it.
 ///
 /// State: needs STARTING, and a manager that isn't closed and whose file has its history.
-/// Refusals: `Memory`; `TooLong(n)` (bytes) and `Full {end, more}` (bytes), each exactly where the event's spelling and the file's end say so;
-/// `Disk`. After `Memory` nothing was recorded, but the grant may have been asked for or polled, and is again by the next act. After `TooLong`
-/// and `Full` the same, and the answer that was heard is lost. After `Disk` the manager is closed: load the journal again.
+/// Refusals: `Memory`; `Full {end, more}` (bytes), exactly where the event's spelling and the file's end say so; `Disk`; never `TooLong`. After
+/// `Memory` nothing was recorded, but the grant may have been asked for or polled, and is again by the next act. After `Full` the same, and
+/// the answer that was heard is lost. After `Disk` the manager is closed: load the journal again.
 /// Source: SOL 003 9.4.2 (Grants), 9.4.3 (Individual grant); the order of actions is an own rule.
 pub fn act<S: Site, O: Orchestrator>(
     alloc: Global,
@@ -38,6 +38,7 @@ pub fn act<S: Site, O: Orchestrator>(
     ensures acts { (H : List Event) → IsReady S.tells manager.old H (S.state site.old) → IsStarting H occ
         → (d : Deed) × (d.occ ≡ occ) × Acts (telling S.tells O.tells) manager.old.ledger.manager now H d result manager.new
         (outside (S.state site.old) (O.state orchestrator.old) (O.counts orchestrator.old)) (outside (S.state site.new) (O.state orchestrator.new) (O.counts orchestrator.new)) }
+    ensures short { (n : ℕ) → result ≢ Err (WorkFault.TooLong n) }
     ensures disk { OnlyDiskFails (result ≡ Err WorkFault.Disk) (S.counts site.old) (S.counts site.new) }
 {
     match next_step(manager, occ) {
@@ -60,6 +61,7 @@ fn ask<S: Site, O: Orchestrator>(
     ensures acts { (H : List Event) → IsReady S.tells manager.old H (S.state site.old) → IsStarting H occ → next_action H occ ≡ Some actions.AskForGrant
         → (d : Deed) × (d.occ ≡ occ) × Acts (telling S.tells O.tells) manager.old.ledger.manager now H d result manager.new
         (outside (S.state site.old) (O.state orchestrator.old) (O.counts orchestrator.old)) (outside (S.state site.new) (O.state orchestrator.new) (O.counts orchestrator.new)) }
+    ensures short { (n : ℕ) → result ≢ Err (WorkFault.TooLong n) }
     ensures disk { OnlyDiskFails (result ≡ Err WorkFault.Disk) (S.counts site.old) (S.counts site.new) }
 {
     works_add_up::<S>();
@@ -82,6 +84,7 @@ fn poll<S: Site, O: Orchestrator>(
     ensures acts { (H : List Event) → IsReady S.tells manager.old H (S.state site.old) → IsStarting H occ → next_action H occ ≡ Some actions.Poll
         → (d : Deed) × (d.occ ≡ occ) × Acts (telling S.tells O.tells) manager.old.ledger.manager now H d result manager.new
         (outside (S.state site.old) (O.state orchestrator.old) (O.counts orchestrator.old)) (outside (S.state site.new) (O.state orchestrator.new) (O.counts orchestrator.new)) }
+    ensures short { (n : ℕ) → result ≢ Err (WorkFault.TooLong n) }
     ensures disk { OnlyDiskFails (result ≡ Err WorkFault.Disk) (S.counts site.old) (S.counts site.new) }
 {
     works_add_up::<S>();

@@ -1,5 +1,5 @@
 //! What the orchestrator's answer appends, and moves: one event, which is recorded.
-ghost use Rattle.std.specs.Prelude.{◌≡◌, ◌∷◌, [], Bool, List, IfOk, Err, Some, false, true};
+ghost use Rattle.std.specs.Prelude.{◌≡◌, ◌≢◌, ◌∷◌, ℕ, [], Bool, List, IfOk, IfSome, Err, Some, false, true};
 ghost use Rattle.executor.specs.Managed.{IsReady, MayRecord};
 ghost use Rattle.grant_desk.specs.declared.answers.GrantAnswer.TheVariants as says;
 ghost use Rattle.lcm_events.specs.declared.events.Event.{Event};
@@ -11,7 +11,7 @@ ghost use Rattle.lcm_model.specs.declared.actions.Action.TheVariants as actions;
 ghost use Rattle.site_traits.specs.Counts.{OnlyDiskFails};
 ghost use Rattle.occ_work.specs.Acting.{Acts, IsStarting, Records, outside, telling};
 ghost use Rattle.occ_work.specs.Deeds.{Deed, answer_heard, answer_with, ending};
-ghost use Rattle.occ_work.specs.Steps.{exchanging, kinds_for, listed};
+ghost use Rattle.occ_work.specs.Steps.{exchanging, is_of_act, kinds_for, listed};
 
 use crate::ends::Acted;
 use crate::steps::row_of;
@@ -19,7 +19,7 @@ use executor::{Manager, WorkFault, works_add_up};
 use grant_desk::{GrantAnswer, GrantRows, covers, places_of, read_answer};
 use journal_core::MAX_FILE;
 use lcm_events::{Change, Event, EventKind, GrantTry, OpState};
-use lcm_laws::{covering_rows_place_changes, next_actions_are_allowed};
+use lcm_laws::{covering_rows_place_changes, next_actions_are_allowed, plans_are_small};
 use site_traits::{Call, Heard, Site};
 use std::alloc::{AllocError, Global};
 use vnfm_base::{Line, Moment};
@@ -38,7 +38,8 @@ fn granted(
     changes: &[Change],
     rows: &GrantRows,
 ) -> Result<EventKind, AllocError>
-    ensures { (asking : Bool) → IfOk result (λ kind. kinds_for asking occ (answer_with changes.now (says.Granted rows.now)) ≡ kind ∷ []) }
+    ensures kinds { (asking : Bool) → IfOk result (λ kind. kinds_for asking occ (answer_with changes.now (says.Granted rows.now)) ≡ kind ∷ []) }
+    ensures acts { IfOk result (λ kind. is_of_act kind ≡ true) }
 {
     if !covers(changes, rows) {
         return Ok(tried(occ, GrantTry::NotCovering));
@@ -54,7 +55,8 @@ fn granted(
 
 /// What an answer appends that the grant comes later: its location where it was asked for, and nothing where that was polled.
 fn later(asking: bool, occ: u64, at: Option<Line>) -> Option<EventKind>
-    ensures { kinds_for asking occ (GrantLater at) ≡ listed result }
+    ensures kinds { kinds_for asking occ (GrantLater at) ≡ listed result }
+    ensures acts { IfSome result (λ kind. is_of_act kind ≡ true) }
 {
     if !asking {
         return None;
@@ -74,7 +76,8 @@ fn kind_of(
     call: Call,
     heard: &Heard,
 ) -> Result<Option<EventKind>, AllocError>
-    ensures { IfOk result (λ kind. kinds_for asking occ (answer_heard asking changes.now call heard.now) ≡ listed kind) }
+    ensures kinds { IfOk result (λ kind. kinds_for asking occ (answer_heard asking changes.now call heard.now) ≡ listed kind) }
+    ensures acts { IfOk result (λ kind. IfSome kind (λ k. is_of_act k ≡ true)) }
 {
     if call == Call::Failed {
         return Ok(Some(tried(occ, GrantTry::Trouble)));
@@ -95,11 +98,14 @@ fn record<S: Site>(
     event: &Event,
 ) -> Result<Acted, WorkFault>
     requires may { (H : List Event) × IsReady S.tells manager.old H (S.state site.old) × MayRecord manager.old.ledger.manager H event.now }
+    requires kind { is_of_act event.now.kind ≡ true }
     ensures records { (H : List Event) → IsReady S.tells manager.old H (S.state site.old) → MayRecord manager.old.ledger.manager H event.now
         → Records S.tells manager.old.ledger.manager event.now.moment (event.now.kind ∷ []) H result manager.new (S.state site.old) (S.state site.new) }
     ensures ended { IfOk result (λ done. done ≡ Acted.Recorded) }
+    ensures short { (n : ℕ) → result ≢ Err (WorkFault.TooLong n) }
     ensures disk { OnlyDiskFails (result ≡ Err WorkFault.Disk) (S.counts site.old) (S.counts site.new) }
 {
+    plans_are_small();
     match manager.commit(alloc, site, event, MAX_FILE) {
         Ok(()) => Ok(Acted::Recorded),
         Err(fault) => Err(fault),
@@ -115,7 +121,7 @@ fn event_of(moment: Moment, kind: EventKind) -> Event
 
 /// Records what an answer appends: one that was heard to an ask, or else to a poll, or none where the call failed.
 ///
-/// Refusals: `Memory`, after which nothing was recorded; `TooLong`, `Full` and `Disk` as of recording an event.
+/// Refusals: `Memory`, after which nothing was recorded; `Full` and `Disk` as of recording an event.
 pub fn take<S: Site>(
     alloc: Global,
     manager: &mut Manager<S>,
@@ -131,6 +137,7 @@ pub fn take<S: Site>(
         → Records S.tells manager.old.ledger.manager now (kinds_for asking occ (answer_heard asking (changes_of H occ) call heard.now)) H result manager.new (S.state site.old) (S.state site.new) }
     ensures ended { (H : List Event) → IsReady S.tells manager.old H (S.state site.old) → IsStarting H occ
         → IfOk result (λ done. done ≡ ending (exchanging asking) (answer_heard asking (changes_of H occ) call heard.now)) }
+    ensures short { (n : ℕ) → result ≢ Err (WorkFault.TooLong n) }
     ensures disk { OnlyDiskFails (result ≡ Err WorkFault.Disk) (S.counts site.old) (S.counts site.new) }
 {
     works_add_up::<S>();
@@ -149,7 +156,7 @@ pub fn take<S: Site>(
 
 /// Moves an occurrence on.
 ///
-/// Refusals: `Memory`, after which nothing was recorded; `TooLong`, `Full` and `Disk` as of recording an event.
+/// Refusals: `Memory`, after which nothing was recorded; `Full` and `Disk` as of recording an event.
 pub fn move_to<S: Site>(
     alloc: Global,
     manager: &mut Manager<S>,
@@ -162,6 +169,7 @@ pub fn move_to<S: Site>(
     ensures records { (H : List Event) → IsReady S.tells manager.old H (S.state site.old) → IsStarting H occ → next_action H occ ≡ Some (actions.MoveTo to)
         → Records S.tells manager.old.ledger.manager now (events.Moved occ to ∷ []) H result manager.new (S.state site.old) (S.state site.new) }
     ensures ended { IfOk result (λ done. done ≡ Acted.Recorded) }
+    ensures short { (n : ℕ) → result ≢ Err (WorkFault.TooLong n) }
     ensures disk { OnlyDiskFails (result ≡ Err WorkFault.Disk) (S.counts site.old) (S.counts site.new) }
 {
     next_actions_are_allowed();

@@ -1,5 +1,5 @@
 //! A turn: one act for each occurrence that is in STARTING when it begins, in the order of their numbers.
-ghost use Rattle.std.specs.Prelude.{◌≡◌, ◌<◌, ℕ, List, Err, IfSome, find, length, nat_lt, false};
+ghost use Rattle.std.specs.Prelude.{◌≡◌, ◌≢◌, ◌<◌, ℕ, List, Err, IfSome, find, length, nat_lt, false};
 ghost use Rattle.executor.specs.Managed.{IsReady, Keeps};
 ghost use Rattle.journal_core.specs.declared.journal.TheConstants.{MAX_FILE};
 ghost use Rattle.lcm_model.specs.Allowed.{IsLegalWithin};
@@ -38,6 +38,7 @@ pub fn turn<S: Site, O: Orchestrator>(
         × Turns (telling S.tells O.tells) manager.old.ledger.manager now H deeds end manager.new
         (outside (S.state site.old) (O.state orchestrator.old) (O.counts orchestrator.old)) (outside (S.state site.new) (O.state orchestrator.new) (O.counts orchestrator.new))
         × EndsTurn result (endings now H deeds) end }
+    ensures short { (n : ℕ) → result ≢ Err (WorkFault.TooLong n) }
     ensures disk { OnlyDiskFails (result ≡ Err WorkFault.Disk) (S.counts site.old) (S.counts site.new) }
 {
     works_add_up::<S>();

@@ -9,30 +9,31 @@ use Rattle.occ_work.proofs.taking.take.Goals as goal
 pub record-requires : goal.record-requires
 record-requires g c =
     let it = c.requires.ready in
-    let kinds = kinds_by_row it.0 _ _ _ c.args.asking c.args.call c.args.heard.now _ (c.row_of.ensures it.0 it.1.keeps it.2) c.as_slice-changes.ensures c.in_ok-appended.ensures in
+    let kinds = kinds_by_row it.0 _ _ _ c.args.asking c.args.call c.args.heard.now _ (c.row_of.ensures it.0 it.1.keeps it.2) c.as_slice-changes.ensures c.in_ok-appended.ensures.kinds in
     record {
       may = (it.0, it.1, may_take_event _ _ it.0 _ c.args.asking c.args.call c.args.heard.now _ _ c.next_actions_are_allowed.ensures c.covering_rows_place_changes.ensures it.1.keeps.kept.legal it.2 it.3 (kinds ∙ ap listed c.in-Some.is) c.event_of-event.ensures);
+      kind = rw c.event_of-event.ensures (rw c.in-Some.is at c.in_ok-appended.ensures.acts);
     }
 
 pub returns-in-Some-clause-records : goal.returns-in-Some-clause-records
 returns-in-Some-clause-records g c = λ H ready is next.
-    let kinds = kinds_by_row H _ _ _ c.args.asking c.args.call c.args.heard.now _ (c.row_of.ensures H ready.keeps is) c.as_slice-changes.ensures c.in_ok-appended.ensures ∙ ap listed c.in-Some.is in
+    let kinds = kinds_by_row H _ _ _ c.args.asking c.args.call c.args.heard.now _ (c.row_of.ensures H ready.keeps is) c.as_slice-changes.ensures c.in_ok-appended.ensures.kinds ∙ ap listed c.in-Some.is in
     let may = may_take_event _ _ H _ c.args.asking c.args.call c.args.heard.now _ _ c.next_actions_are_allowed.ensures c.covering_rows_place_changes.ensures ready.keeps.kept.legal is next kinds c.event_of-event.ensures in
     records_as _ _ _ _ H _ _ _ _ _ _ c.event_of-event.ensures kinds (c.record.ensures.records H ready may)
 
 pub returns-in-Some-clause-ended : goal.returns-in-Some-clause-ended
 returns-in-Some-clause-ended g c = λ H ready is.
-    let kinds = kinds_by_row H _ _ _ c.args.asking c.args.call c.args.heard.now _ (c.row_of.ensures H ready.keeps is) c.as_slice-changes.ensures c.in_ok-appended.ensures ∙ ap listed c.in-Some.is in
+    let kinds = kinds_by_row H _ _ _ c.args.asking c.args.call c.args.heard.now _ (c.row_of.ensures H ready.keeps is) c.as_slice-changes.ensures c.in_ok-appended.ensures.kinds ∙ ap listed c.in-Some.is in
     ended_as _ _ _ c.record.ensures.ended (ends_recorded c.args.asking c.args.occ _ _ kinds)
 
 pub returns-in-None-clause-records : goal.returns-in-None-clause-records
 returns-in-None-clause-records g c = λ H ready is next.
-    let kinds = kinds_by_row H _ _ _ c.args.asking c.args.call c.args.heard.now _ (c.row_of.ensures H ready.keeps is) c.as_slice-changes.ensures c.in_ok-appended.ensures ∙ ap listed c.in-None.is in
+    let kinds = kinds_by_row H _ _ _ c.args.asking c.args.call c.args.heard.now _ (c.row_of.ensures H ready.keeps is) c.as_slice-changes.ensures c.in_ok-appended.ensures.kinds ∙ ap listed c.in-None.is in
     records_none _ _ _ _ H _ _ (c.works_add_up.ensures.idles c.args.site.now) ready kinds
 
 pub returns-in-None-clause-ended : goal.returns-in-None-clause-ended
 returns-in-None-clause-ended g c = λ H ready is.
-    let kinds = kinds_by_row H _ _ _ c.args.asking c.args.call c.args.heard.now _ (c.row_of.ensures H ready.keeps is) c.as_slice-changes.ensures c.in_ok-appended.ensures ∙ ap listed c.in-None.is in
+    let kinds = kinds_by_row H _ _ _ c.args.asking c.args.call c.args.heard.now _ (c.row_of.ensures H ready.keeps is) c.as_slice-changes.ensures c.in_ok-appended.ensures.kinds ∙ ap listed c.in-None.is in
     ends_waiting c.args.asking c.args.occ (changes H c.args.occ) c.args.call c.args.heard.now kinds
 
 pub returns-in_err-appended-clause-records : goal.returns-in_err-appended-clause-records
