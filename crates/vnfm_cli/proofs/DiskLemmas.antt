@@ -1,18 +1,21 @@
 -- Which endings of a run tell that the disk failed.
-use Rattle.std.proofs.Common.{◌≡◌, ◌≢◌, ◌<◌, ℕ, Bool, true, false, refl, sym, subst, ap, ◌∙◌, arith, ⊎_elim, if◌then◌else◌, Result, Ok, Err}
+use Rattle.std.proofs.Common.{◌≡◌, ◌≢◌, ◌<◌, ℕ, Bool, true, false, refl, sym, subst, ap, ◌∙◌, arith, ⊎_elim, if◌then◌else◌, Some, option_map, Result, Ok, Err}
 use Rattle.std.proofs.Math.Dec.{eqb}
 use Rattle.std.proofs.lemmas.Bool.Decides.{eqb_tells}
 use Rattle.site_traits.specs.Counts.{SiteCounts, asked, OnlyDiskFails, CallCounts, Rose, called, called_in_vain, fails_as, one_more}
 use Rattle.site_traits.specs.Counts.Ask.{sync}
 use Rattle.executor.specs.declared.manager.OpenFault.{OpenFault}
 use Rattle.executor.specs.declared.manager.OpenFault.TheVariants as opening
+use Rattle.executor.specs.declared.manager.WorkFault.{WorkFault}
+use Rattle.executor.specs.declared.manager.WorkFault.TheVariants as working
 use Rattle.journal_core.specs.Asking.{FailsWhere, CreateAsks, CreatesCount}
 use Rattle.journal_core.specs.declared.create.CreateFault.{CreateFault}
 use Rattle.journal_core.specs.declared.create.CreateFault.TheVariants as creating
 use Rattle.onboarding.specs.declared.answer.OnboardFault.{OnboardFault}
 use Rattle.onboarding.specs.declared.answer.OnboardFault.TheVariants as fault
-use Rattle.vnfm_cli.specs.Course.{making_ending, unonboarded, unopened_failure}
+use Rattle.vnfm_cli.specs.Course.{halt_of, halting, making_ending, unonboarded, unopened_failure}
 use Rattle.vnfm_cli.specs.Ending.{Ending}
+use Rattle.vnfm_cli.specs.declared.ending.Failure.{Failure}
 use Rattle.vnfm_cli.specs.declared.ending.Failure.TheVariants.{SiteFault}
 
 -- the same of an answer that never comes
@@ -48,6 +51,21 @@ unonboarded_fails (fault.Refused why) ending a b f is = fails_never _ _ a b f (�
 unonboarded_fails (fault.Full end more) ending a b f is = fails_never _ _ a b f (λ wrong. cc wrong) (λ site. absurd (cc (sym is ∙ site)))
 unonboarded_fails fault.Memory ending a b f is = fails_never _ _ a b f (λ wrong. cc wrong) (λ site. absurd (cc (sym is ∙ site)))
 unonboarded_fails fault.Disk ending a b f is = fails_as _ _ a b f (λ _. is) (λ _. refl)
+
+-- a round that ended the rounds
+err_is : {T : Type 0} (x y : Failure) → ◌≡◌ {A = Result T Failure} (Err x) (Err y) → x ≡ y
+err_is x y is = cc
+
+pub round_fails : (why : Failure) (a b : SiteCounts) → OnlyDiskFails (◌≡◌ {A = Result (Unit {0}) Failure} (Err why) (Err SiteFault)) a b → OnlyDiskFails (◌≡◌ {A = Ending} (Err why) (Err SiteFault)) a b
+round_fails why a b f = fails_as _ _ a b f (λ is. ap Err (err_is why SiteFault is)) (λ is. ap Err (err_is why SiteFault is))
+
+-- a turn that didn't go through
+pub turn_fails : {T : Type 0} (fault : WorkFault) (why : Failure) (a b : SiteCounts) → option_map halting (halt_of fault) ≡ Some why
+    → OnlyDiskFails (◌≡◌ {A = Result T WorkFault} (Err fault) (Err working.Disk)) a b → OnlyDiskFails (◌≡◌ {A = Result (Unit {0}) Failure} (Err why) (Err SiteFault)) a b
+turn_fails (working.Full end more) why a b is f = fails_never _ _ a b f (λ wrong. cc wrong) (λ wrong. cc (is, wrong))
+turn_fails working.Memory why a b is f = fails_never _ _ a b f (λ wrong. cc wrong) (λ wrong. cc (is, wrong))
+turn_fails working.Disk why a b is f = fails_as _ _ a b f (λ _. cc is) (λ _. refl)
+turn_fails (working.TooLong n) why a b is f = absurd (cc is)
 
 -- where the count of disk faults rose, the status is 3
 pub rises_where : (status : ℕ) (a b : SiteCounts) → OnlyDiskFails (status ≡ 3) a b → a.disk < b.disk → status ≡ 3

@@ -8,13 +8,13 @@ use Rattle.executor.specs.declared.manager.OpenFault.TheVariants as opening
 use Rattle.journal_core.specs.File.{HasRecords}
 use Rattle.journal_core.specs.Header.{IsForeign, IsUnmade}
 use Rattle.journal_core.specs.Exclusion.{IsHeadedOrNot, IsWholeOrForeign, IsWholeOrUnmade}
-use Rattle.onboarding.specs.Onboarding.{Onboarding, answer_of, unready, unheard, cut_off, heard, done, starving, breaking, verdict_answer}
-use Rattle.onboarding.specs.Verdict.{Verdict, refused, full, accepted, verdict}
+use Rattle.onboarding.specs.Onboarding.{Onboarding, answer_of, unready, unheard, cut_off, heard, done, starving as no_memory, breaking, verdict_answer}
+use Rattle.onboarding.specs.Verdict.{Verdict, refused, full as no_room, accepted, verdict}
 use Rattle.lcm_events.specs.declared.events.Event.{Event}
 use Rattle.site_traits.specs.Counts.{Rose}
 use Rattle.site_traits.specs.Door.{DoorCounts}
 use Rattle.site_traits.specs.Site.{SiteState}
-use Rattle.vnfm_cli.specs.Course.{Course, misused, starved, making, unopened, opened, Close, finished, unreached, stopped, serving, onboarding, close_ending, ending_of, onboarding_ending, unopened_failure, IsOf, IsOfSettings, IsOfWords}
+use Rattle.vnfm_cli.specs.Course.{Course, misused, starved, making, unopened, opened, Close, finished, unreached, stopped, halted, full, starving, broken, serving, onboarding, close_ending, ending_of, onboarding_ending, unopened_failure, IsOf, IsOfSettings, IsOfWords}
 use Rattle.vnfm_cli.specs.Ending.{failure_status, status_of}
 use Rattle.vnfm_cli.specs.Runs.{AtFile, IsDoorCause, IsLegalCourse, IsNoJournal, IsOrYields, IsSoundStart, IsStartOf, MayEndWith}
 use Rattle.journal_core.specs.Create.{IsMade}
@@ -50,16 +50,19 @@ not_making P words number result are of =
     let init = (of_settings words (making number result) are.settings are.set of).0 in
     absurd (false≢true (ap loads (sym init) ∙ are.loading))
 
--- rounds end with 0, 3 or 4
-close_status : (rounds : ℕ) (close : Close) (n : ℕ) → n ≢ 0 → n ≢ 3 → n ≢ 4 → status_of (close_ending rounds close) ≡ n → ⊥
-close_status rounds finished n zero three four is = zero (sym is)
-close_status rounds unreached n zero three four is = four (sym is)
-close_status rounds (stopped came talk) n zero three four is = three (sym is)
+-- rounds end with 0, 3, 4, 6 or 9
+close_status : (rounds : ℕ) (close : Close) (n : ℕ) → (n ≡ 5) ⊎ ((n ≡ 8) ⊎ ((n ≡ 10) ⊎ (n ≡ 11))) → status_of (close_ending rounds close) ≡ n → ⊥
+close_status rounds finished n other is = omega (arith, other, is)
+close_status rounds unreached n other is = omega (arith, other, is)
+close_status rounds (stopped came talk) n other is = omega (arith, other, is)
+close_status rounds (halted visit turn end (full e more)) n other is = omega (arith, other, is)
+close_status rounds (halted visit turn end starving) n other is = omega (arith, other, is)
+close_status rounds (halted visit turn end broken) n other is = omega (arith, other, is)
 
 -- a descriptor that was judged ends with 0, 9 or 10
 verdict_status : (v : Verdict) → MayEndWith Onboard (status_of (onboarding_ending (verdict_answer v)))
 verdict_status (refused why) = inr (inr (inr refl))
-verdict_status (full end more) = inr (inr (inl refl))
+verdict_status (no_room end more) = inr (inr (inl refl))
 verdict_status (accepted vnfd) = inl refl
 
 -- onboarding ends with neither 5, 8 nor 11
@@ -69,7 +72,7 @@ onboarding_status H unheard n other is = omega (arith, other, is)
 onboarding_status H (cut_off bytes) n other is = omega (arith, other, is)
 onboarding_status H (heard bytes now done) n other is = let v = verdict_status (verdict H now bytes) in omega (arith, other, is, v)
 onboarding_status H (heard bytes now breaking) n other is = omega (arith, other, is)
-onboarding_status H (heard bytes now starving) n other is = omega (arith, other, is)
+onboarding_status H (heard bytes now no_memory) n other is = omega (arith, other, is)
 
 -- making a journal ends with 0, 3 or 11
 making_status : (number : ℕ) (result : Result (Unit {0}) CreateFault) (n : ℕ) → n ≢ 0 → n ≢ 3 → n ≢ 11 → status_of (ending_of (making number result)) ≡ n → ⊥
@@ -95,7 +98,7 @@ told_no_journal (unopened (opening.Foreign place)) a b at is = inr (place, at.be
 told_no_journal (unopened (opening.BadRecord n)) a b at is = absurd (omega (arith, is))
 told_no_journal (unopened opening.Disk) a b at is = absurd (omega (arith, is))
 told_no_journal (unopened opening.Memory) a b at is = absurd (omega (arith, is))
-told_no_journal (opened start (serving service)) a b at is = absurd (close_status _ service.close 5 (omega arith) (omega arith) (omega arith) is)
+told_no_journal (opened start (serving service)) a b at is = absurd (close_status _ service.close 5 (inl refl) is)
 told_no_journal (opened start (onboarding o)) a b at is = absurd (onboarding_status start.history o 5 (inl refl) is)
 
 -- status 8 is told of a file with a bad record
@@ -108,25 +111,26 @@ told_bad_record (unopened (opening.Foreign place)) a b at is = absurd (omega (ar
 told_bad_record (unopened (opening.BadRecord n)) a b at is = (n, at.because)
 told_bad_record (unopened opening.Disk) a b at is = absurd (omega (arith, is))
 told_bad_record (unopened opening.Memory) a b at is = absurd (omega (arith, is))
-told_bad_record (opened start (serving service)) a b at is = absurd (close_status _ service.close 8 (omega arith) (omega arith) (omega arith) is)
+told_bad_record (opened start (serving service)) a b at is = absurd (close_status _ service.close 8 (inr (inl refl)) is)
 told_bad_record (opened start (onboarding o)) a b at is = absurd (onboarding_status start.history o 8 (inr (inl refl)) is)
 
--- a course that ends with 9 or 10 is one of onboarding
-onboarding_alone : (n : ℕ) → (n ≡ 9) ⊎ (n ≡ 10) → (course : Course) (words : List (List ℕ)) → IsOfWords words course → status_of (ending_of course) ≡ n → AreWordsOf Onboard words
-onboarding_alone n nine misused words of is = absurd (omega (arith, nine, is))
-onboarding_alone n nine starved words of is = absurd (omega (arith, nine, is))
-onboarding_alone n nine (making number result) words of is = absurd (making_status number result n (omega (arith, nine)) (omega (arith, nine)) (omega (arith, nine)) is)
-onboarding_alone n nine (unopened why) words of is = absurd (opening_status why n (omega (arith, nine)) is)
-onboarding_alone n nine (opened start (serving service)) words of is = absurd (close_status _ service.close n (omega (arith, nine)) (omega (arith, nine)) (omega (arith, nine)) is)
-onboarding_alone n nine (opened start (onboarding o)) words of is = record { settings = of.settings; set = of.set; is = of.is }
-
--- status 9 is that of onboarding alone
-pub told_full : (course : Course) (words : List (List ℕ)) → IsOfWords words course → status_of (ending_of course) ≡ 9 → AreWordsOf Onboard words
-told_full course words of is = onboarding_alone 9 (inl refl) course words of is
+-- status 9 is that of onboarding and of rounds alone
+pub told_full : (course : Course) (words : List (List ℕ)) → IsOfWords words course → status_of (ending_of course) ≡ 9 → AreWordsOf Onboard words ⊎ AreWordsOf Once words
+told_full misused words of is = absurd (omega (arith, is))
+told_full starved words of is = absurd (omega (arith, is))
+told_full (making number result) words of is = absurd (making_status number result 9 (omega arith) (omega arith) (omega arith) is)
+told_full (unopened why) words of is = absurd (opening_status why 9 (omega arith) is)
+told_full (opened start (serving service)) words of is = inr (record { settings = of.settings; set = of.set; is = of.is.command })
+told_full (opened start (onboarding o)) words of is = inl (record { settings = of.settings; set = of.set; is = of.is })
 
 -- status 10 is that of onboarding alone
 pub told_refused : (course : Course) (words : List (List ℕ)) → IsOfWords words course → status_of (ending_of course) ≡ 10 → AreWordsOf Onboard words
-told_refused course words of is = onboarding_alone 10 (inr refl) course words of is
+told_refused misused words of is = absurd (omega (arith, is))
+told_refused starved words of is = absurd (omega (arith, is))
+told_refused (making number result) words of is = absurd (making_status number result 10 (omega arith) (omega arith) (omega arith) is)
+told_refused (unopened why) words of is = absurd (opening_status why 10 (omega arith) is)
+told_refused (opened start (serving service)) words of is = absurd (close_status _ service.close 10 (inr (inr (inl refl))) is)
+told_refused (opened start (onboarding o)) words of is = record { settings = of.settings; set = of.set; is = of.is }
 
 -- the words of a course that makes a journal are `init`'s, for that manager
 init_words : (words : List (List ℕ)) (number : ℕ) (result : Result (Unit {0}) CreateFault) → IsOfSettings words (making number result) → AreInit number words
@@ -141,7 +145,7 @@ told_taken (making number (Ok u)) words a b of at is = absurd (omega (arith, is)
 told_taken (making number (Err creating.Taken)) words a b of at is = (number, init_words words number (Err creating.Taken) of, at.taken refl)
 told_taken (making number (Err creating.Disk)) words a b of at is = absurd (omega (arith, is))
 told_taken (unopened why) words a b of at is = absurd (opening_status why 11 (omega arith) is)
-told_taken (opened start (serving service)) words a b of at is = absurd (close_status _ service.close 11 (omega arith) (omega arith) (omega arith) is)
+told_taken (opened start (serving service)) words a b of at is = absurd (close_status _ service.close 11 (inr (inr (inr refl))) is)
 told_taken (opened start (onboarding o)) words a b of at is = absurd (onboarding_status start.history o 11 (inr (inr refl)) is)
 
 -- the course of words of a command is one of settings of that command
@@ -200,11 +204,14 @@ complete_init (unopened why) words a b are of disk = let it = of_command Init wo
 complete_init (opened start (serving service)) words a b are of disk = let it = of_command Init words (opened start (serving service)) are of in never_served _ it.0 Init Once it.1 it.2.command (λ wrong. cc)
 complete_init (opened start (onboarding o)) words a b are of disk = let it = of_command Init words (opened start (onboarding o)) are of in never_served _ it.0 Init Onboard it.1 it.2 (λ wrong. cc)
 
--- rounds do their work, unless the disk or the door failed
-rounds_done : (rounds : ℕ) (close : Close) → (close_ending rounds close ≡ Err SiteFault → ⊥) → (close_ending rounds close ≡ Err DoorFault → ⊥) → status_of (close_ending rounds close) ≡ 0
-rounds_done rounds finished disk door = refl
+-- rounds do their work, or find the journal full or no memory, unless the disk or the door failed
+rounds_done : (rounds : ℕ) (close : Close) → (close_ending rounds close ≡ Err SiteFault → ⊥) → (close_ending rounds close ≡ Err DoorFault → ⊥) → MayEndWith Once (status_of (close_ending rounds close))
+rounds_done rounds finished disk door = inl refl
 rounds_done rounds unreached disk door = absurd (door refl)
 rounds_done rounds (stopped came talk) disk door = absurd (disk refl)
+rounds_done rounds (halted visit turn end (full e more)) disk door = inr (inr refl)
+rounds_done rounds (halted visit turn end starving) disk door = inr (inl refl)
+rounds_done rounds (halted visit turn end broken) disk door = absurd (disk refl)
 
 -- the words of two commands are words of one
 same_command : (words : List (List ℕ)) (c d : Command) → AreWordsOf c words → AreWordsOf d words → c ≡ d
@@ -292,16 +299,16 @@ module _ (whole_unmade : IsWholeOrUnmade) (whole_foreign : IsWholeOrForeign) (he
   complete_onboard (opened start (onboarding (cut_off bytes))) words a b m H are sound of at disk door = absurd (door refl)
   complete_onboard (opened start (onboarding (heard bytes now done))) words a b m H are sound of at disk door = verdict_status (verdict start.history now bytes)
   complete_onboard (opened start (onboarding (heard bytes now breaking))) words a b m H are sound of at disk door = absurd (disk refl)
-  complete_onboard (opened start (onboarding (heard bytes now starving))) words a b m H are sound of at disk door = inr (inl refl)
+  complete_onboard (opened start (onboarding (heard bytes now no_memory))) words a b m H are sound of at disk door = inr (inl refl)
 
-  -- `once` ends with 0 or 6 from a sound start, unless the disk or the door failed
+  -- `once` ends with 0, 6 or 9 from a sound start, unless the disk or the door failed
   complete_once : (course : Course) (words : List (List ℕ)) (a b : SiteState) (m : ℕ) (H : List Event) → AreWordsOf Once words → IsSoundStart m H a → IsOfWords words course
       → AtFile course a b → (ending_of course ≡ Err SiteFault → ⊥) → (ending_of course ≡ Err DoorFault → ⊥) → MayEndWith Once (status_of (ending_of course))
   complete_once misused words a b m H are sound of at disk door = commanded _ words are.settings are.set of
-  complete_once starved words a b m H are sound of at disk door = inr refl
+  complete_once starved words a b m H are sound of at disk door = inr (inl refl)
   complete_once (making number result) words a b m H are sound of at disk door = let it = of_command Once words (making number result) are of in never_served _ it.0 Once Init it.1 it.2.0 (λ wrong. cc)
-  complete_once (unopened why) words a b m H are sound of at disk door = inr (sound_unopened why m H a b sound at disk)
-  complete_once (opened start (serving service)) words a b m H are sound of at disk door = inl (rounds_done _ service.close disk door)
+  complete_once (unopened why) words a b m H are sound of at disk door = inr (inl (sound_unopened why m H a b sound at disk))
+  complete_once (opened start (serving service)) words a b m H are sound of at disk door = rounds_done _ service.close disk door
   complete_once (opened start (onboarding o)) words a b m H are sound of at disk door = let it = of_command Once words (opened start (onboarding o)) are of in never_served _ it.0 Once Onboard it.1 it.2 (λ wrong. cc)
 
   -- from a sound start a command does its work or is refused, unless a call failed or there was no memory

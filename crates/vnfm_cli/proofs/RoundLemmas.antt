@@ -1,24 +1,32 @@
 -- One round, and the rounds so far.
-use Rattle.std.proofs.Common.{◌≡◌, ◌<◌, ◌+◌, ◌⊎◌, ℕ, true, false, true≢false, List, [], ◌∷◌, length, Option, Some, None, Err, sym, subst, refl, ap, ◌∙◌, arith}
+use Rattle.std.proofs.Common.{◌≡◌, ◌<◌, ◌+◌, ◌⊎◌, ℕ, true, false, true≢false, List, [], ◌∷◌, length, Option, Some, None, option_map, Result, Ok, Err, sym, subst, refl, ap, ◌∙◌, arith}
 use Rattle.executor.specs.Managed.{Managed, IsReady}
+use Rattle.executor.specs.declared.manager.WorkFault.{WorkFault}
+use Rattle.executor.specs.declared.manager.WorkFault.TheVariants as working
 use Rattle.executor.specs.Work.{Idles, Joins, LeadsOn, Work, Works, went, stood}
 use Rattle.lcm_api.specs.Mouth.{MouthState, Begins}
-use Rattle.lcm_api.specs.Session.{Last, Ending, Talk, over, unheard, untold, starving, breaking, breaks, is_breaking, life, work_by, work_last, work_of}
-use Rattle.lcm_api.specs.Talking.{Tells, World, peers_of, world, Serves}
+use Rattle.lcm_api.specs.Session.{Last, Ending, Talk, over as no_more, unheard, untold, starving, breaking, breaks, is_breaking, life, work_by, work_last, work_of}
+use Rattle.lcm_api.specs.Talking.{Peers, Tells, World, peers_of, world, Serves}
 use Rattle.lcm_events.specs.declared.events.Event.{Event}
 use Rattle.lcm_events.specs.declared.states.Role.{Role}
+use Rattle.occ_work.specs.Acting.{Peer, outside, telling as asking}
+use Rattle.occ_work.specs.Turns.{EndsTurn, TurnEnd, Turns, through, starved, stopped as by, turn_work}
+use Rattle.occ_work.specs.declared.ends.Acted.{Acted}
+use Rattle.occ_work.specs.declared.ends.Turn.{Turn}
+use Rattle.site_traits.specs.Clock.{Gives}
+use Rattle.site_traits.specs.Counts.{CallCounts}
 use Rattle.site_traits.specs.Door.{DoorCounts, Comes, ComesNot, next_failed, opened as has_come}
+use Rattle.site_traits.specs.Peers.{OrchestratorState}
 use Rattle.site_traits.specs.declared.door.NextAnswer.{NextAnswer}
 use Rattle.site_traits.specs.declared.door.NextAnswer.TheVariants.{Nobody, Ended}
 use Rattle.site_traits.specs.Site.{SiteState}
-use Rattle.vnfm_cli.specs.Course.{Round, unasked, served, Close, finished, unreached, stopped, Service, IsCount, close_ending, close_work, once_made}
-use Rattle.vnfm_cli.specs.Rounds.{AreFor, IsOne, IsRead, Makes, MakesOne, One, round, end, OneFor, Receives, RoundsDo}
+use Rattle.vnfm_cli.specs.Course.{Visit, unasked, served, Turning, Round, Close, finished, unreached, stopped, halted, Halt, full, starving as lacking, broken, halt_of, Service, IsCount, close_ending, close_work, halting, moment_of, once_made, once_served}
+use Rattle.vnfm_cli.specs.Rounds.{AreFor, ClosesFor, FailsBy, IsDoorEnd, IsEndFor, IsMet, IsOne, IsTurned, IsVisitFor, Makes, MakesOne, Meets, Met, visited, over, MetFor, One, round, end, OneFor, AsksOrchestrator, Passes, PassesBy, Receives, RoundsDo, TurnDoes, TurnsDo, TurnStops, VisitDoes, peer}
+use Rattle.vnfm_cli.specs.declared.ending.Failure.{Failure}
 use Rattle.vnfm_cli.specs.declared.ending.Failure.TheVariants.{DoorFault, SiteFault}
-use Rattle.vnfm_cli.specs.declared.rounds.RoundEnd.{RoundEnd}
-use Rattle.vnfm_cli.specs.declared.rounds.RoundEnd.TheVariants as ends
 
 unbroken_last : (m : ℕ) (H : List Event) (last : Last) → is_breaking last ≡ false → work_last m H last ≡ went (stood (work_last m H last))
-unbroken_last m H over fine = refl
+unbroken_last m H no_more fine = refl
 unbroken_last m H (unheard cause reply) fine = refl
 unbroken_last m H (untold x) fine = refl
 unbroken_last m H (starving x) fine = refl
@@ -38,135 +46,144 @@ receives : (t : Tells) (m : ℕ) (H : List Event) (came : Role) (talk : Talk) (n
     → Serves t m H talk n (world s d ks) v → Receives t m H came talk (record { mouth = c; clock = ks }) (peers_of v)
 receives t m H came talk n s c d ks v comes counts begins serves = record { between = d; comes = comes; counts = counts; begins = begins; attends = serves.attends }
 
--- a round was made in which a connection came
-pub round_served : (t : Tells) (m : ℕ) (H : List Event) (came : Role) (talk : Talk) (n : Managed) (s : SiteState) (c d : MouthState) (ks ls : List ℕ) (v : World)
+-- a connection came, and the disk didn't fail
+pub met_served : (t : Tells) (m : ℕ) (H : List Event) (came : Role) (talk : Talk) (n : Managed) (s : SiteState) (c d : MouthState) (ks : List ℕ) (v : World)
     → (t.door → Comes came c.wire.intake.door d.wire.intake.door) → d.wire.intake.counts ≡ has_come c.wire.intake.counts → Begins d
-    → Serves t m H talk n (world s d ks) v → breaks talk.end ≡ false → (t.clock → IsRead v.clock ls)
-    → MakesOne t m H (round (served came talk)) n (world s c ks) (world v.site v.mouth ls)
-round_served t m H came talk n s c d ks ls v comes counts begins serves fine read =
+    → Serves t m H talk n (world s d ks) v → breaks talk.end ≡ false → Meets t m H (visited (served came talk)) n (world s c ks) v
+met_served t m H came talk n s c d ks v comes counts begins serves fine =
     let P : Work → Type 0 = λ w. Works t.site m H w n s v.site in
-    record {
-      works = subst P (unbroken m H talk fine) serves.works;
-      does = (peers_of v, receives t m H came talk n s c d ks v comes counts begins serves, fine, record { mouth = refl; clock = read });
-    }
+    record { works = subst P (unbroken m H talk fine) serves.works; does = (receives t m H came talk n s c d ks v comes counts begins serves, fine) }
 
 -- the disk failed in the talk
-pub round_stopped : (t : Tells) (m : ℕ) (H : List Event) (came : Role) (talk : Talk) (n : Managed) (s : SiteState) (c d : MouthState) (ks : List ℕ) (v : World)
+pub met_stopped : (t : Tells) (m : ℕ) (H : List Event) (came : Role) (talk : Talk) (n : Managed) (s : SiteState) (c d : MouthState) (ks : List ℕ) (v : World)
     → (t.door → Comes came c.wire.intake.door d.wire.intake.door) → d.wire.intake.counts ≡ has_come c.wire.intake.counts → Begins d
-    → Serves t m H talk n (world s d ks) v → breaks talk.end ≡ true → MakesOne t m H (end (stopped came talk)) n (world s c ks) v
-round_stopped t m H came talk n s c d ks v comes counts begins serves broke =
+    → Serves t m H talk n (world s d ks) v → breaks talk.end ≡ true → Meets t m H (over (stopped came talk)) n (world s c ks) v
+met_stopped t m H came talk n s c d ks v comes counts begins serves broke =
     record { works = serves.works; does = (receives t m H came talk n s c d ks v comes counts begins serves, broke) }
 
--- The rounds so far: all were made, and none failed to reach the door.
-pub record RoundsSoFar (t : Tells) (role : Role) (m n : Managed) (made : ℕ) (w v : World) : Type 0 where
-  pub each : (H : List Event) → IsReady t.site m H w.site → (rounds : List Round)
-      × Works t.site m.ledger.manager H (went (life (once_made m.ledger.manager) H rounds)) n w.site v.site
-      × RoundsDo t m.ledger.manager H rounds (peers_of w) (peers_of v) × AreFor role rounds × (made ≡ length rounds)
-  pub next : v.mouth.wire.intake.counts.next ≡ w.mouth.wire.intake.counts.next
+-- the failure is that of a turn that answered so
+abbrev pub IsFailureOf : Result Turn WorkFault → Result (Unit {0}) Failure → Type 0
+IsFailureOf (Ok turn) (Ok done) = Unit {0}
+IsFailureOf (Err cause) (Err why) = option_map halting (halt_of cause) ≡ Some why
+IsFailureOf result answer = ⊥
 
-pub none_made : (t : Tells) (role : Role) (m : Managed) (w : World) → Idles t.site w.site → RoundsSoFar t role m m 0 w w
-none_made t role m w idles = record { each = λ H ready. ([], idles m H ready, refl, tt, refl); next = refl }
+-- the cause of a fault that is this failure
+caused : (fault : WorkFault) (why : Failure) → option_map halting (halt_of fault) ≡ Some why → (halt : Halt) × (halt_of fault ≡ Some halt) × (why ≡ halting halt)
+caused (working.Full place more) why is = (full place more, refl, cc)
+caused working.Memory why is = (lacking, refl, cc)
+caused working.Disk why is = (broken, refl, cc)
+caused (working.TooLong n) why is = absurd (cc is)
 
-pub ready_so_far : (t : Tells) (role : Role) (m n : Managed) (made : ℕ) (w v : World) → RoundsSoFar t role m n made w v → LeadsOn t.site w.site v.site → (H : List Event) × IsReady t.site m H w.site
-    → (H : List Event) × IsReady t.site n H v.site
-ready_so_far t role m n made w v so_far leads ready =
-    let it = so_far.each ready.0 ready.1 in
-    let G : List Event = life (once_made m.ledger.manager) ready.0 it.0 in
-    (G, leads m.ledger.manager ready.0 (went G) n it.1 refl)
+some_is : (x y : Halt) → Some x ≡ Some y → y ≡ x
+some_is x y same = cc
 
--- which round it was that was made
-the_round : (one : One) → IsOne ends.Made one → (r : Round) × (one ≡ round r)
-the_round (round r) is = (r, refl)
-the_round (end finished) is = absurd is
-the_round (end unreached) is = absurd is
-the_round (end (stopped came talk)) is = absurd is
+-- how a turn ended, by the failure of what it answered
+pub turned : (result : Result Turn WorkFault) (answer : Result (Unit {0}) Failure) (ends : List Acted) (ended : TurnEnd) → EndsTurn result ends ended → IsFailureOf result answer → IsTurned answer ended
+turned (Ok turn) (Ok done) ends through is of = tt
+turned (Ok turn) (Ok done) ends starved is of = absurd is
+turned (Ok turn) (Ok done) ends (by d cause) is of = absurd is
+turned (Ok turn) (Err why) ends ended is of = absurd of
+turned (Err fault) (Ok done) ends ended is of = absurd of
+turned (Err fault) (Err why) ends through is of = absurd is
+turned (Err fault) (Err why) ends starved is of =
+    let h = caused fault why of in
+    let memory : halt_of working.Memory ≡ Some h.0 = subst (λ (f : WorkFault). halt_of f ≡ Some h.0) is h.1 in
+    (h.0, some_is lacking h.0 memory, h.2)
+turned (Err fault) (Err why) ends (by d cause) is of =
+    let h = caused fault why of in
+    (h.0, subst (λ (f : WorkFault). halt_of f ≡ Some h.0) is h.1, h.2)
 
--- and how they ended
-pub the_end : (answer : RoundEnd) (one : One) → IsOne answer one → (answer ≡ ends.Made → ⊥) → (c : Close) × (one ≡ end c) × IsOne answer (end c)
-the_end ends.Made one is other = absurd (other refl)
-the_end ends.Unreached (round r) is other = absurd is
-the_end ends.Unreached (end finished) is other = absurd is
-the_end ends.Unreached (end unreached) is other = (unreached, refl, tt)
-the_end ends.Unreached (end (stopped came talk)) is other = absurd is
-the_end ends.Broken (round r) is other = absurd is
-the_end ends.Broken (end finished) is other = absurd is
-the_end ends.Broken (end unreached) is other = absurd is
-the_end ends.Broken (end (stopped came talk)) is other = (stopped came talk, refl, tt)
+-- a turn behind a visit, from where that ended
+passes : (t : Tells) (m : ℕ) (H : List Event) (visit : Visit) (turn : Turning) (a : Peers) (c : MouthState) (ks ls : List ℕ)
+    → VisitDoes t m H visit a (record { mouth = c; clock = ks }) → (t.clock → Gives turn.value ks ls) → PassesBy t m H visit turn a (record { mouth = c; clock = ls })
+passes t m H visit turn a c ks ls does gives = (record { mouth = c; clock = ks }, does, record { mouth = refl; clock = gives })
 
--- one round more for this role
-for_more : (role : Role) (r : Round) (rounds : List Round) → AreFor role (r ∷ []) → AreFor role rounds → AreFor role (r ∷ rounds)
-for_more role unasked rounds one before = before
-for_more role (served came talk) rounds one before = (one.0, before)
+-- a visit and a turn that went through are a round
+pub round_made : (t : Tells) (tells : Type 0) (m : ℕ) (H : List Event) (visit : Visit) (turn : Turning) (n o : Managed) (w u : World) (b : SiteState) (ls : List ℕ) (i j : OrchestratorState) (k l : CallCounts)
+    → Meets t m H (visited visit) n w u → Joins t.site w.site u.site b
+    → Turns (asking t.site tells) n.ledger.manager (moment_of turn) (once_served m H visit) turn.acts through o (outside u.site i k) (outside b j l)
+    → (t.clock → Gives turn.value u.clock ls) → MakesOne t tells m H (round (record { visit = visit; turn = turn })) o w (world b u.mouth ls) (peer i k) (peer j l)
+round_made t tells m H visit turn n o w u b ls i j k l met joins turns gives =
+    let P : ℕ → Type 0 = λ x. Turns (asking t.site tells) x (moment_of turn) (once_served m H visit) turn.acts through o (outside u.site i k) (outside b j l) in
+    let done : Turns (asking t.site tells) m (moment_of turn) (once_served m H visit) turn.acts through o (outside u.site i k) (outside b j l) = subst P met.works.number turns in
+    let Q : Peer → Type 0 = λ x. TurnDoes tells m H (record { visit = visit; turn = turn }) (peer i k) x in
+    record {
+      works = joins m H (once_served m H visit) (turn_work (moment_of turn) (once_served m H visit) turn.acts through) n o met.works done.works;
+      does = passes t m H visit turn (peers_of w) u.mouth u.clock ls met.does gives;
+      asks = subst Q (sym done.end_does) (record { acts = done.deeds_do; each = done.order });
+    }
 
--- one round more
-pub one_round_more : (t : Tells) (role : Role) (m n o : Managed) (made : ℕ) (w u v : World) → RoundsSoFar t role m n made w u → LeadsOn t.site w.site u.site → Joins t.site w.site u.site v.site
-    → ((H : List Event) → IsReady t.site n H u.site → (one : One) × MakesOne t n.ledger.manager H one o u v × OneFor role one × IsOne ends.Made one)
-    → v.mouth.wire.intake.counts.next ≡ u.mouth.wire.intake.counts.next → RoundsSoFar t role m o (made + 1) w v
-one_round_more t role m n o made w u v so_far leads joins step next = record {
-  each = λ H ready.
-      let it = so_far.each H ready in
-      let G : List Event = life (once_made m.ledger.manager) H it.0 in
-      let did = step G (leads m.ledger.manager H (went G) n it.1 refl) in
-      let r = the_round did.0 did.3 in
-      let P : One → Type 0 = λ z. MakesOne t n.ledger.manager G z o u v in
-      let Q : ℕ → Type 0 = λ k. MakesOne t k G (round r.0) o u v in
-      let R : One → Type 0 = λ z. OneFor role z in
-      let one : MakesOne t m.ledger.manager G (round r.0) o u v = subst Q it.1.number (subst P r.1 did.1) in
-      let count = it.4 in (
-        r.0 ∷ it.0,
-        joins m.ledger.manager H G (went (once_made m.ledger.manager G r.0)) n o it.1 one.works,
-        (peers_of u, it.2, one.does),
-        for_more role r.0 it.0 (subst R r.1 did.2) it.3,
-        omega (arith, count),
-      );
-  next = next ∙ so_far.next;
-}
+-- a visit and a turn that ended in this fault end the rounds
+pub round_halted : (t : Tells) (tells : Type 0) (m : ℕ) (H : List Event) (visit : Visit) (turn : Turning) (ended : TurnEnd) (why : Halt) (n o : Managed) (w u : World) (b : SiteState) (ls : List ℕ) (i j : OrchestratorState) (k l : CallCounts)
+    → Meets t m H (visited visit) n w u → Joins t.site w.site u.site b
+    → Turns (asking t.site tells) n.ledger.manager (moment_of turn) (once_served m H visit) turn.acts ended o (outside u.site i k) (outside b j l)
+    → (t.clock → Gives turn.value u.clock ls) → FailsBy ended why → MakesOne t tells m H (end (halted visit turn ended why)) o w (world b u.mouth ls) (peer i k) (peer j l)
+round_halted t tells m H visit turn ended why n o w u b ls i j k l met joins turns gives fails =
+    let P : ℕ → Type 0 = λ x. Turns (asking t.site tells) x (moment_of turn) (once_served m H visit) turn.acts ended o (outside u.site i k) (outside b j l) in
+    let done : Turns (asking t.site tells) m (moment_of turn) (once_served m H visit) turn.acts ended o (outside u.site i k) (outside b j l) = subst P met.works.number turns in
+    record {
+      works = joins m H (once_served m H visit) (turn_work (moment_of turn) (once_served m H visit) turn.acts ended) n o met.works done.works;
+      does = passes t m H visit turn (peers_of w) u.mouth u.clock ls met.does gives;
+      asks = record { between = done.between; acts = done.deeds_do; end_does = done.end_does; each = done.order; cause = fails };
+    }
 
--- all were made
-pub all_made : (t : Tells) (role : Role) (m n : Managed) (made count : ℕ) (w v : World) → RoundsSoFar t role m n made w v → made ≡ count → (H : List Event) → IsReady t.site m H w.site
-    → (service : Service) × Makes t m.ledger.manager H service n w v × (service.role ≡ role) × IsCount count (length service.rounds) service.close × (made ≡ length service.rounds) × (service.close ≡ finished)
-all_made t role m n made count w v so_far all H ready =
-    let it = so_far.each H ready in
-    let service : Service = record { role = role; rounds = it.0; close = finished } in
-    (service, record { works = it.1; attended = record { between = peers_of v; rounds = it.2; close = refl; roles = it.3; role = tt } }, refl, sym it.4 ∙ all, it.4, refl)
-
--- the rounds ended so
-pub rounds_ended : (t : Tells) (role : Role) (m n o : Managed) (made count : ℕ) (answer : RoundEnd) (w u v : World) → RoundsSoFar t role m n made w u → LeadsOn t.site w.site u.site → Joins t.site w.site u.site v.site → made < count
-    → ((H : List Event) → IsReady t.site n H u.site → (one : One) × MakesOne t n.ledger.manager H one o u v × OneFor role one × IsOne answer one) → (answer ≡ ends.Made → ⊥)
-    → (H : List Event) → IsReady t.site m H w.site
-    → (service : Service) × Makes t m.ledger.manager H service o w v × (service.role ≡ role) × IsCount count (length service.rounds) service.close × IsOne answer (end service.close)
-rounds_ended t role m n o made count answer w u v so_far leads joins fewer step other H ready =
-    let it = so_far.each H ready in
-    let G : List Event = life (once_made m.ledger.manager) H it.0 in
-    let did = step G (leads m.ledger.manager H (went G) n it.1 refl) in
-    let c = the_end answer did.0 did.3 other in
-    let P : One → Type 0 = λ z. MakesOne t n.ledger.manager G z o u v in
-    let Q : ℕ → Type 0 = λ k. MakesOne t k G (end c.0) o u v in
-    let R : One → Type 0 = λ z. OneFor role z in
-    let one : MakesOne t m.ledger.manager G (end c.0) o u v = subst Q it.1.number (subst P c.1 did.1) in
-    let service : Service = record { role = role; rounds = it.0; close = c.0 } in
-    let count_is = it.4 in
-    let less : length it.0 < count = omega (arith, fewer, count_is) in (
-      service,
-      record {
-        works = joins m.ledger.manager H G (close_work m.ledger.manager G c.0) n o it.1 one.works;
-        attended = record { between = peers_of u; rounds = it.2; close = one.does; roles = it.3; role = subst R c.1 did.2 };
-      },
-      refl,
-      fewer_by answer c.0 (length it.0) count c.2 less,
-      c.2,
-    )
+-- what came of a round in which a visit was made, by what the turn answered
+pub round_turned : (t : Tells) (tells : Type 0) (m : ℕ) (H : List Event) (role : Role) (visit : Visit) (turn : Turning) (ended : TurnEnd) (answer : Result (Unit {0}) Failure) (n o : Managed) (w u : World) (b : SiteState) (ls : List ℕ)
+    (i j : OrchestratorState) (k l : CallCounts) → Meets t m H (visited visit) n w u → Joins t.site w.site u.site b
+    → Turns (asking t.site tells) n.ledger.manager (moment_of turn) (once_served m H visit) turn.acts ended o (outside u.site i k) (outside b j l)
+    → (t.clock → Gives turn.value u.clock ls) → IsTurned answer ended → IsVisitFor role visit
+    → (one : One) × MakesOne t tells m H one o w (world b u.mouth ls) (peer i k) (peer j l) × OneFor role one × IsOne answer one
+round_turned t tells m H role visit turn ended (Ok done) n o w u b ls i j k l met joins turns gives is for = went_by ended turns is
   where
-    fewer_by : (answer : RoundEnd) (c : Close) (n wanted : ℕ) → IsOne answer (end c) → n < wanted → IsCount wanted n c
-    fewer_by ends.Made finished n wanted is less = absurd is
-    fewer_by ends.Made unreached n wanted is less = less
-    fewer_by ends.Made (stopped came talk) n wanted is less = less
-    fewer_by ends.Unreached finished n wanted is less = absurd is
-    fewer_by ends.Unreached unreached n wanted is less = less
-    fewer_by ends.Unreached (stopped came talk) n wanted is less = less
-    fewer_by ends.Broken finished n wanted is less = absurd is
-    fewer_by ends.Broken unreached n wanted is less = less
-    fewer_by ends.Broken (stopped came talk) n wanted is less = less
+    went_by : (e : TurnEnd) → Turns (asking t.site tells) n.ledger.manager (moment_of turn) (once_served m H visit) turn.acts e o (outside u.site i k) (outside b j l) → IsTurned (Ok done) e
+        → (one : One) × MakesOne t tells m H one o w (world b u.mouth ls) (peer i k) (peer j l) × OneFor role one × IsOne (Ok done) one
+    went_by through turned is = (round (record { visit = visit; turn = turn }), round_made t tells m H visit turn n o w u b ls i j k l met joins turned gives, for, tt)
+    went_by starved turned is = absurd is
+    went_by (by d cause) turned is = absurd is
+round_turned t tells m H role visit turn ended (Err why) n o w u b ls i j k l met joins turns gives is for =
+    (end (halted visit turn ended is.0), round_halted t tells m H visit turn ended is.0 n o w u b ls i j k l met joins turns gives is.1, for, ap Err is.2)
+
+-- which visit it was that was made
+pub the_visit : (met : Met) → IsMet (Ok tt) met → (v : Visit) × (met ≡ visited v)
+the_visit (visited v) is = (v, refl)
+the_visit (over c) is = absurd is
+
+-- behind a visit the manager is ready for the turn
+pub ready_met : (t : Tells) (role : Role) (m n : Managed) (w u : World) → LeadsOn t.site w.site u.site
+    → ((H : List Event) → IsReady t.site m H w.site → (met : Met) × Meets t m.ledger.manager H met n w u × MetFor role met × IsMet (Ok tt) met)
+    → (H : List Event) × IsReady t.site m H w.site → (H : List Event) × IsReady t.site n H u.site
+ready_met t role m n w u leads meets ready =
+    let it = meets ready.0 ready.1 in
+    let v = the_visit it.0 it.3 in
+    let P : Met → Type 0 = λ x. Meets t m.ledger.manager ready.0 x n w u in
+    let met : Meets t m.ledger.manager ready.0 (visited v.0) n w u = subst P v.1 it.1 in
+    let G : List Event = once_served m.ledger.manager ready.0 v.0 in
+    (G, leads m.ledger.manager ready.0 (went G) n met.works refl)
+
+-- what came of a round in which a visit was made
+pub made_by : (t : Tells) (tells : Type 0) (role : Role) (m n o : Managed) (answer : Result (Unit {0}) Failure) (w u : World) (b : SiteState) (ls : List ℕ) (i j : OrchestratorState) (k l : CallCounts)
+    → LeadsOn t.site w.site u.site → Joins t.site w.site u.site b
+    → ((H : List Event) → IsReady t.site m H w.site → (met : Met) × Meets t m.ledger.manager H met n w u × MetFor role met × IsMet (Ok tt) met)
+    → ((H : List Event) → IsReady t.site n H u.site → (turn : Turning) × (ended : TurnEnd)
+    × Turns (asking t.site tells) n.ledger.manager (moment_of turn) H turn.acts ended o (outside u.site i k) (outside b j l) × (t.clock → Gives turn.value u.clock ls) × IsTurned answer ended)
+    → (H : List Event) → IsReady t.site m H w.site
+    → (one : One) × MakesOne t tells m.ledger.manager H one o w (world b u.mouth ls) (peer i k) (peer j l) × OneFor role one × IsOne answer one
+made_by t tells role m n o answer w u b ls i j k l leads joins meets turns H ready =
+    let it = meets H ready in
+    let v = the_visit it.0 it.3 in
+    let P : Met → Type 0 = λ x. Meets t m.ledger.manager H x n w u in
+    let Q : Met → Type 0 = λ x. MetFor role x in
+    let met : Meets t m.ledger.manager H (visited v.0) n w u = subst P v.1 it.1 in
+    let G : List Event = once_served m.ledger.manager H v.0 in
+    let turned = turns G (leads m.ledger.manager H (went G) n met.works refl) in
+    round_turned t tells m.ledger.manager H role v.0 turned.0 turned.1 answer n o w u b ls i j k l met joins turned.2 turned.3 turned.4 (subst Q v.1 it.2)
+
+-- the rounds that ended at the door
+pub door_end : (why : Failure) (c : Close) → IsDoorEnd why c → IsEndFor why c
+door_end why finished is = absurd is
+door_end why unreached is = ap Err is
+door_end why (stopped came talk) is = ap Err is
+door_end why (halted visit turn ended cause) is = absurd is
 
 -- serving a connection leaves the count of failed waits
 pub served_next : (t : Tells) (m : ℕ) (H : List Event) (talk : Talk) (n : Managed) (c : MouthState) (w v : World) → w.mouth.wire.intake.counts ≡ has_come c.wire.intake.counts
@@ -175,35 +192,137 @@ served_next t m H talk n c w v came serves =
     ap (λ (k : DoorCounts). k.next) serves.attends.counts ∙ serves.attends.holds.counts.next ∙ ap (λ (k : DoorCounts). k.next) came
 
 -- nobody came
-pub round_unasked : (t : Tells) (m : Managed) (H : List Event) (answer : NextAnswer) (s : SiteState) (c d : MouthState) (ks ls : List ℕ) → Idles t.site s → IsReady t.site m H s
+pub met_nobody : (t : Tells) (m : Managed) (H : List Event) (answer : NextAnswer) (s : SiteState) (c d : MouthState) (ks : List ℕ) → Idles t.site s → IsReady t.site m H s
     → (answer ≡ Nobody) ⊎ (answer ≡ Ended) → (t.door → ComesNot answer c.wire.intake.door d.wire.intake.door) → d.wire.intake.counts ≡ c.wire.intake.counts
-    → (t.clock → IsRead ks ls) → MakesOne t m.ledger.manager H (round unasked) m (world s c ks) (world s d ls)
-round_unasked t m H answer s c d ks ls idles ready none comes counts read = record {
+    → Meets t m.ledger.manager H (visited unasked) m (world s c ks) (world s d ks)
+met_nobody t m H answer s c d ks idles ready none comes counts = record {
   works = idles m H ready;
-  does = (
-    record { mouth = d; clock = ks },
-    record { nobody = λ told. record { answer = answer; none = none; told = comes told }; counts = counts; clock = refl },
-    record { mouth = refl; clock = read },
-  );
+  does = record { nobody = λ told. record { answer = answer; none = none; told = comes told }; counts = counts; clock = refl };
 }
 
 -- waiting failed
-pub round_unreached : (t : Tells) (m : Managed) (H : List Event) (s : SiteState) (c d : MouthState) (ks : List ℕ) → Idles t.site s → IsReady t.site m H s
+pub met_unreached : (t : Tells) (m : Managed) (H : List Event) (s : SiteState) (c d : MouthState) (ks : List ℕ) → Idles t.site s → IsReady t.site m H s
     → (t.door → d.wire.intake.door ≡ c.wire.intake.door) → d.wire.intake.counts ≡ next_failed c.wire.intake.counts
-    → MakesOne t m.ledger.manager H (end unreached) m (world s c ks) (world s d ks)
-round_unreached t m H s c d ks idles ready same counts = record { works = idles m H ready; does = (record { same = same; counts = counts }, refl) }
+    → Meets t m.ledger.manager H (over unreached) m (world s c ks) (world s d ks)
+met_unreached t m H s c d ks idles ready same counts = record { works = idles m H ready; does = (record { same = same; counts = counts }, refl) }
 
--- how a run ends where waiting failed, and where the disk did
-pub unreached_ending : (service : Service) → IsOne ends.Unreached (end service.close) → Err DoorFault ≡ close_ending (length service.rounds) service.close
-unreached_ending service is = of service.close is where
-  of : (c : Close) → IsOne ends.Unreached (end c) → Err DoorFault ≡ close_ending (length service.rounds) c
-  of finished is = absurd is
-  of unreached is = refl
-  of (stopped came talk) is = absurd is
+-- what came of the door in a round that the door ended is what ended it, and the orchestrator wasn't asked
+pub round_over : (t : Tells) (tells : Type 0) (m : ℕ) (H : List Event) (role : Role) (why : Failure) (met : Met) (n : Managed) (w v : World) (a : Peer) → Meets t m H met n w v → MetFor role met → IsMet (Err why) met
+    → (one : One) × MakesOne t tells m H one n w v a a × OneFor role one × IsOne (Err why) one
+round_over t tells m H role why (visited visit) n w v a meets for is = absurd is
+round_over t tells m H role why (over finished) n w v a meets for is = absurd is
+round_over t tells m H role why (over unreached) n w v a meets for is = (end unreached, record { works = meets.works; does = meets.does; asks = refl }, for, door_end why unreached is)
+round_over t tells m H role why (over (stopped came talk)) n w v a meets for is =
+    (end (stopped came talk), record { works = meets.works; does = meets.does; asks = refl }, for, door_end why (stopped came talk) is)
+round_over t tells m H role why (over (halted visit turn ended cause)) n w v a meets for is = absurd is
 
-pub broken_ending : (service : Service) → IsOne ends.Broken (end service.close) → Err SiteFault ≡ close_ending (length service.rounds) service.close
-broken_ending service is = of service.close is where
-  of : (c : Close) → IsOne ends.Broken (end c) → Err SiteFault ≡ close_ending (length service.rounds) c
-  of finished is = absurd is
-  of unreached is = absurd is
-  of (stopped came talk) is = refl
+-- The rounds so far: all were made, and none failed to reach the door.
+pub record RoundsSoFar (t : Tells) (tells : Type 0) (role : Role) (m n : Managed) (made : ℕ) (w v : World) (a b : Peer) : Type 0 where
+  pub each : (H : List Event) → IsReady t.site m H w.site → (rounds : List Round)
+      × Works t.site m.ledger.manager H (went (life (once_made m.ledger.manager) H rounds)) n w.site v.site
+      × RoundsDo t m.ledger.manager H rounds (peers_of w) (peers_of v) × TurnsDo tells m.ledger.manager H rounds a b × AreFor role rounds × (made ≡ length rounds)
+  pub next : v.mouth.wire.intake.counts.next ≡ w.mouth.wire.intake.counts.next
+
+pub none_made : (t : Tells) (tells : Type 0) (role : Role) (m : Managed) (w : World) (a : Peer) → Idles t.site w.site → RoundsSoFar t tells role m m 0 w w a a
+none_made t tells role m w a idles = record { each = λ H ready. ([], idles m H ready, refl, refl, tt, refl); next = refl }
+
+pub ready_so_far : (t : Tells) (tells : Type 0) (role : Role) (m n : Managed) (made : ℕ) (w v : World) (a b : Peer) → RoundsSoFar t tells role m n made w v a b → LeadsOn t.site w.site v.site
+    → (H : List Event) × IsReady t.site m H w.site → (H : List Event) × IsReady t.site n H v.site
+ready_so_far t tells role m n made w v a b so_far leads ready =
+    let it = so_far.each ready.0 ready.1 in
+    let G : List Event = life (once_made m.ledger.manager) ready.0 it.0 in
+    (G, leads m.ledger.manager ready.0 (went G) n it.1 refl)
+
+-- which round it was that was made
+the_round : (one : One) → IsOne (Ok tt) one → (r : Round) × (one ≡ round r)
+the_round (round r) is = (r, refl)
+the_round (end c) is = absurd is
+
+-- and how they ended
+the_end : (why : Failure) (one : One) → IsOne (Err why) one → (c : Close) × (one ≡ end c) × IsEndFor why c
+the_end why (round r) is = absurd is
+the_end why (end c) is = (c, refl, is)
+
+-- one round more
+pub one_round_more : (t : Tells) (tells : Type 0) (role : Role) (m n o : Managed) (made : ℕ) (w u v : World) (a b d : Peer) → RoundsSoFar t tells role m n made w u a b → LeadsOn t.site w.site u.site → Joins t.site w.site u.site v.site
+    → ((H : List Event) → IsReady t.site n H u.site → (one : One) × MakesOne t tells n.ledger.manager H one o u v b d × OneFor role one × IsOne (Ok tt) one)
+    → v.mouth.wire.intake.counts.next ≡ u.mouth.wire.intake.counts.next → RoundsSoFar t tells role m o (made + 1) w v a d
+one_round_more t tells role m n o made w u v a b d so_far leads joins step next = record {
+  each = λ H ready.
+      let it = so_far.each H ready in
+      let G : List Event = life (once_made m.ledger.manager) H it.0 in
+      let did = step G (leads m.ledger.manager H (went G) n it.1 refl) in
+      let r = the_round did.0 did.3 in
+      let P : One → Type 0 = λ z. MakesOne t tells n.ledger.manager G z o u v b d in
+      let Q : ℕ → Type 0 = λ k. MakesOne t tells k G (round r.0) o u v b d in
+      let R : One → Type 0 = λ z. OneFor role z in
+      let one : MakesOne t tells m.ledger.manager G (round r.0) o u v b d = subst Q it.1.number (subst P r.1 did.1) in
+      let count = it.5 in (
+        r.0 ∷ it.0,
+        joins m.ledger.manager H G (went (once_made m.ledger.manager G r.0)) n o it.1 one.works,
+        (peers_of u, it.2, one.does),
+        (b, it.3, one.asks),
+        (subst R r.1 did.2, it.4),
+        omega (arith, count),
+      );
+  next = next ∙ so_far.next;
+}
+
+-- all were made
+pub all_made : (t : Tells) (tells : Type 0) (role : Role) (m n : Managed) (made count : ℕ) (w v : World) (a b : Peer) → RoundsSoFar t tells role m n made w v a b → made ≡ count → (H : List Event) → IsReady t.site m H w.site
+    → (service : Service) × Makes t tells m.ledger.manager H service n w v a b × (service.role ≡ role) × IsCount count (length service.rounds) service.close × (made ≡ length service.rounds) × (service.close ≡ finished)
+all_made t tells role m n made count w v a b so_far all H ready =
+    let it = so_far.each H ready in
+    let service : Service = record { role = role; rounds = it.0; close = finished } in (
+      service,
+      record {
+        works = it.1;
+        attended = record { between = peers_of v; rounds = it.2; close = refl; roles = it.4; role = tt };
+        asks = record { between = b; turns = it.3; close = refl };
+      },
+      refl,
+      sym it.5 ∙ all,
+      it.5,
+      refl,
+    )
+
+-- the rounds ended for this failure
+pub rounds_ended : (t : Tells) (tells : Type 0) (role : Role) (m n o : Managed) (made count : ℕ) (why : Failure) (w u v : World) (a b d : Peer) → RoundsSoFar t tells role m n made w u a b → LeadsOn t.site w.site u.site
+    → Joins t.site w.site u.site v.site → made < count
+    → ((H : List Event) → IsReady t.site n H u.site → (one : One) × MakesOne t tells n.ledger.manager H one o u v b d × OneFor role one × IsOne (Err why) one)
+    → (H : List Event) → IsReady t.site m H w.site
+    → (service : Service) × Makes t tells m.ledger.manager H service o w v a d × (service.role ≡ role) × IsCount count (length service.rounds) service.close × (Err why ≡ close_ending (length service.rounds) service.close)
+rounds_ended t tells role m n o made count why w u v a b d so_far leads joins fewer step H ready =
+    let it = so_far.each H ready in
+    let G : List Event = life (once_made m.ledger.manager) H it.0 in
+    let did = step G (leads m.ledger.manager H (went G) n it.1 refl) in
+    let c = the_end why did.0 did.3 in
+    let P : One → Type 0 = λ z. MakesOne t tells n.ledger.manager G z o u v b d in
+    let Q : ℕ → Type 0 = λ k. MakesOne t tells k G (end c.0) o u v b d in
+    let R : One → Type 0 = λ z. OneFor role z in
+    let one : MakesOne t tells m.ledger.manager G (end c.0) o u v b d = subst Q it.1.number (subst P c.1 did.1) in
+    let service : Service = record { role = role; rounds = it.0; close = c.0 } in
+    let count_is = it.5 in
+    let less : length it.0 < count = omega (arith, fewer, count_is) in (
+      service,
+      record {
+        works = joins m.ledger.manager H G (close_work m.ledger.manager G c.0) n o it.1 one.works;
+        attended = record { between = peers_of u; rounds = it.2; close = one.does; roles = it.4; role = subst R c.1 did.2 };
+        asks = record { between = b; turns = it.3; close = one.asks };
+      },
+      refl,
+      fewer_by why c.0 (length it.0) count c.2 less,
+      ended_by why c.0 (length it.0) c.2,
+    )
+  where
+    fewer_by : (why : Failure) (c : Close) (n wanted : ℕ) → IsEndFor why c → n < wanted → IsCount wanted n c
+    fewer_by why finished n wanted is less = absurd is
+    fewer_by why unreached n wanted is less = less
+    fewer_by why (stopped came talk) n wanted is less = less
+    fewer_by why (halted visit turn ended cause) n wanted is less = less
+
+    ended_by : (why : Failure) (c : Close) (n : ℕ) → IsEndFor why c → Err why ≡ close_ending n c
+    ended_by why finished n is = absurd is
+    ended_by why unreached n is = is
+    ended_by why (stopped came talk) n is = is
+    ended_by why (halted visit turn ended cause) n is = is

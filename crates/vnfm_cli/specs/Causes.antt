@@ -8,10 +8,10 @@ use Rattle.vnfm_cli.specs.Ending.{IsStatus}
 use Rattle.vnfm_cli.specs.Runs.{IsNoJournal, IsOrYields}
 use Rattle.command_line.specs.Words.{settings_of}
 use Rattle.vnfm_cli.specs.Words.{AreInit, AreLoading, AreWordsOf}
-use Rattle.command_line.specs.declared.options.Command.TheVariants.{Onboard}
+use Rattle.command_line.specs.declared.options.Command.TheVariants.{Onboard, Once}
 
 -- Each status has its cause: 2 comes exactly where the words are no command; 4, 7, 9 and 10 only where waiting for a connection or a read of
--- a descriptor failed, where the line couldn't be put, and for `onboard`; and where the site tells, 5 exactly where the file that is to be
+-- a descriptor failed, where the line couldn't be put, for `onboard` or `once`, and for `onboard`; and where the site tells, 5 exactly where the file that is to be
 -- opened is no journal, 8 exactly where one of its records is bad, and 11 exactly where the file isn't unfinished for the manager of
 -- `init`, but that each of these yields to a disk fault and to want of memory.
 pub record HasCauses (tells : Type 0) (words : List (List ℕ)) (status : ℕ) (w v : World) (before now : CallCounts) : Type 0 where
@@ -23,7 +23,7 @@ pub record HasCauses (tells : Type 0) (words : List (List ℕ)) (status : ℕ) (
   pub no_journal : tells → AreLoading words → IsNoJournal w.site.image → IsOrYields 5 status
   pub record_is_bad : tells → status ≡ 8 → (n : ℕ) × IsBadRecord n w.site.image
   pub bad_record : tells → AreLoading words → (n : ℕ) → IsBadRecord n w.site.image → IsOrYields 8 status
-  pub full : status ≡ 9 → AreWordsOf Onboard words
+  pub full : status ≡ 9 → AreWordsOf Onboard words ⊎ AreWordsOf Once words
   pub refused : status ≡ 10 → AreWordsOf Onboard words
   pub taken : tells → status ≡ 11 → (m : ℕ) × AreInit m words × ¬ (IsUnfinished m w.site.image)
   pub is_taken : tells → (m : ℕ) → AreInit m words → ¬ (IsUnfinished m w.site.image) → IsOrYields 11 status

@@ -1,6 +1,8 @@
 -- How a run goes: what the words were, and what came of the command (own rule, docs/FORMATS.md).
-use Rattle.std.specs.Prelude.{◌≡◌, ◌<◌, ℕ, true, List, length, Result, Ok, Err, Some, None}
+use Rattle.std.specs.Prelude.{◌≡◌, ◌<◌, ℕ, true, List, length, min, Option, Result, Ok, Err, Some, None}
 use Rattle.executor.specs.Work.{Work, went, stood}
+use Rattle.executor.specs.declared.manager.WorkFault.{WorkFault}
+use Rattle.executor.specs.declared.manager.WorkFault.TheVariants as working
 use Rattle.executor.specs.declared.manager.OpenFault.{OpenFault}
 use Rattle.executor.specs.declared.manager.OpenFault.TheVariants as opening
 use Rattle.journal_core.specs.declared.create.CreateFault.{CreateFault}
@@ -8,6 +10,8 @@ use Rattle.journal_core.specs.declared.create.CreateFault.TheVariants as creatin
 use Rattle.lcm_api.specs.Session.{Talk, life, work_of}
 use Rattle.lcm_events.specs.declared.events.Event.{Event}
 use Rattle.lcm_events.specs.declared.states.Role.{Role}
+use Rattle.occ_work.specs.Deeds.{Deed as Act}
+use Rattle.occ_work.specs.Turns.{TurnEnd, through, once_all_done, turn_work}
 use Rattle.onboarding.specs.Onboarding.{Onboarding, answer_of, onboarding_work}
 use Rattle.onboarding.specs.declared.answer.Onboarded.{Onboarded as Said}
 use Rattle.onboarding.specs.declared.answer.OnboardFault.{OnboardFault}
@@ -23,15 +27,33 @@ use Rattle.command_line.specs.declared.options.Settings.{Settings}
 use Rattle.command_line.specs.declared.options.SettingsFault.{SettingsFault}
 use Rattle.command_line.specs.declared.options.SettingsFault.TheVariants as setting
 
--- What came of a round: no connection came, or one came, from this role as the door tells, and this talk was held on it.
-pub data Round : Type 0 where
-  unasked : Round
-  served : Role → Talk → Round
+-- What came of asking the door in a round: no connection came, or one came, from this role as the door tells, and this talk was held on it.
+pub data Visit : Type 0 where
+  unasked : Visit
+  served : Role → Talk → Visit
 
--- How the rounds ended: all were made, waiting for a connection failed, or the disk failed in a talk on a connection from this role.
+-- the turn of a round: what the clock gave for it, in milliseconds, and the acts that were made, the latest first
+pub record Turning : Type 0 where
+  pub value : ℕ
+  pub acts : List Act
+
+-- what came of a round: a visit, and then a turn that went through
+pub record Round : Type 0 where
+  pub visit : Visit
+  pub turn : Turning
+
+-- why a turn didn't go through: the closed gate stands at this place, and behind it there is no room for so many bytes of an act's event; there is
+-- no memory; or the disk failed
+pub data Halt : Type 0 where
+  full : ℕ → ℕ → Halt
+  starving broken : Halt
+
+-- How the rounds ended: all were made, waiting for a connection failed, the disk failed in a talk on a connection from this role, or behind
+-- this visit the turn with these acts ended so, for this cause.
 pub data Close : Type 0 where
   finished unreached : Close
   stopped : Role → Talk → Close
+  halted : Visit → Turning → TurnEnd → Halt → Close
 
 -- the rounds that were made for whoever asks, the latest first, and how they ended
 pub record Service : Type 0 where
@@ -57,16 +79,25 @@ pub data Course : Type 0 where
   unopened : OpenFault → Course
   opened : Opening → Deed → Course
 
--- the history once a round was made
-abbrev pub once_made : ℕ → List Event → Round → List Event
-once_made m H unasked = H
-once_made m H (served came talk) = stood (work_of m H talk)
+-- the history once a visit was served
+abbrev pub once_served : ℕ → List Event → Visit → List Event
+once_served m H unasked = H
+once_served m H (served came talk) = stood (work_of m H talk)
 
--- the work of the last talk, behind the rounds that were made
+-- the moment of a turn: that of the clock's value, which is the last of the year 9999 at most
+abbrev pub moment_of : Turning → ℕ
+moment_of turn = min turn.value 253402300799999
+
+-- the history once a round was made: its requests were answered, and then its acts were made
+abbrev pub once_made : ℕ → List Event → Round → List Event
+once_made m H r = once_all_done (moment_of r.turn) (once_served m H r.visit) r.turn.acts
+
+-- the work of the last talk or turn, behind the rounds that were made
 abbrev pub close_work : ℕ → List Event → Close → Work
 close_work m H finished = went H
 close_work m H unreached = went H
 close_work m H (stopped came talk) = work_of m H talk
+close_work m H (halted visit turn end why) = turn_work (moment_of turn) (once_served m H visit) turn.acts end
 
 -- the work of the rounds behind history H of manager m
 abbrev pub service_work : ℕ → List Event → Service → Work
@@ -103,11 +134,25 @@ unonboarded (fault.Full end more) = JournalFull end more
 unonboarded fault.Memory = NoMemory
 unonboarded fault.Disk = SiteFault
 
+-- which failure a turn is that didn't go through
+abbrev pub halting : Halt → Failure
+halting (full end more) = JournalFull end more
+halting starving = NoMemory
+halting broken = SiteFault
+
+-- the cause of a turn that ended in this fault; an event of an act always fits a record
+abbrev pub halt_of : WorkFault → Option Halt
+halt_of (working.Full end more) = Some (full end more)
+halt_of working.Memory = Some starving
+halt_of working.Disk = Some broken
+halt_of (working.TooLong n) = None
+
 -- how a run ends after so many rounds
 abbrev pub close_ending : ℕ → Close → Ending
 close_ending n finished = Ok (Done n)
 close_ending n unreached = Err DoorFault
 close_ending n (stopped came talk) = Err SiteFault
+close_ending n (halted visit turn end why) = Err (halting why)
 
 -- how a run ends after onboarding
 abbrev pub onboarding_ending : Result Said OnboardFault → Ending

@@ -1,4 +1,4 @@
--- What a run does to the journal's file, the door and the clock.
+-- What a run does to the journal's file, the door, the clock and the orchestrator.
 use Rattle.std.specs.Prelude.{◌≡◌, ◌<◌, ◌⊎◌, ℕ, List, false}
 use Rattle.executor.specs.History.{HasHistory}
 use Rattle.executor.specs.Open.{Refuses}
@@ -16,7 +16,8 @@ use Rattle.site_traits.specs.Door.{DoorCounts}
 use Rattle.site_traits.specs.Site.{Pair, SiteState, IsSettled, KeepsJobs, LeavesOnly}
 use Rattle.onboarding.specs.Doing.{BringsIn}
 use Rattle.vnfm_cli.specs.Course.{Course, misused, starved, making, unopened, opened, Deed, serving, onboarding, Opening, deed_work, IsOfWords}
-use Rattle.vnfm_cli.specs.Rounds.{Attended}
+use Rattle.occ_work.specs.Acting.{Peer}
+use Rattle.vnfm_cli.specs.Rounds.{Attended, AsksOrchestrator}
 use Rattle.command_line.specs.declared.options.Command.{Command}
 use Rattle.command_line.specs.declared.options.Command.TheVariants.{Init, Onboard, Once}
 
@@ -65,7 +66,7 @@ IsStartOf other s = (m : ℕ) × (H : List Event) × IsSoundStart m H s
 abbrev pub MayEndWith : Command → ℕ → Type 0
 MayEndWith Init status = (status ≡ 0) ⊎ ((status ≡ 6) ⊎ (status ≡ 11))
 MayEndWith Onboard status = (status ≡ 0) ⊎ ((status ≡ 6) ⊎ ((status ≡ 9) ⊎ (status ≡ 10)))
-MayEndWith Once status = (status ≡ 0) ⊎ (status ≡ 6)
+MayEndWith Once status = (status ≡ 0) ⊎ ((status ≡ 6) ⊎ (status ≡ 9))
 
 -- nothing is pending, and the file has this history
 pub record IsAtRest (m : ℕ) (H : List Event) (s : SiteState) : Type 0 where
@@ -102,6 +103,16 @@ pub record Deeds (t : Tells) (m : ℕ) (H : List Event) (deed : Deed) (n : Manag
 abbrev pub AtPeers : Tells → Course → Peers → Peers → Type 0
 AtPeers t (opened start deed) a b = AtPeersBy t start deed a b
 AtPeers t other a b = b ≡ a
+
+-- what a deed does with the orchestrator, over history H of manager m: rounds ask it, and onboarding doesn't
+abbrev pub AtOrchestratorBy : Type 0 → ℕ → List Event → Deed → Peer → Peer → Type 0
+AtOrchestratorBy tells m H (serving service) a b = AsksOrchestrator tells m H service a b
+AtOrchestratorBy tells m H (onboarding o) a b = b ≡ a
+
+-- what a run does with it
+abbrev pub AtOrchestrator : Type 0 → Course → Peer → Peer → Type 0
+AtOrchestrator tells (opened start deed) a b = AtOrchestratorBy tells start.number start.history deed a b
+AtOrchestrator tells other a b = b ≡ a
 
 -- the history is legal, and grows by the work as a legal one
 pub record IsLegalRun (m : ℕ) (H : List Event) (w : Work) : Type 0 where

@@ -1,48 +1,45 @@
-//! Rounds: in each the door is asked for a connection, which is served, and the clock is read for the work of the round.
-ghost use Rattle.std.specs.Prelude.{◌≡◌, List, length};
+//! Rounds: in each the door is asked for a connection, which is served; then the clock is read, and a turn is made.
+ghost use Rattle.std.specs.Prelude.{◌≡◌, ◌≢◌, ℕ, List, Some, length, option_map};
 ghost use Rattle.executor.specs.Managed.{IsReady};
 ghost use Rattle.lcm_api.specs.Talking.{telling, world};
 ghost use Rattle.lcm_events.specs.declared.events.Event.{Event};
+ghost use Rattle.occ_work.specs.Acting.{outside, telling as asking};
+ghost use Rattle.occ_work.specs.Turns.{TurnEnd, Turns};
+ghost use Rattle.site_traits.specs.Clock.{Gives};
 ghost use Rattle.site_traits.specs.Counts.{OnlyDiskFails, Rose};
-ghost use Rattle.vnfm_cli.specs.Course.{IsCount, Service, close_ending};
-ghost use Rattle.vnfm_cli.specs.Rounds.{IsOne, IsRead, Makes, MakesOne, One, OneFor};
+ghost use Rattle.vnfm_cli.specs.Course.{IsCount, Service, Turning, close_ending, halt_of, halting, moment_of};
+ghost use Rattle.vnfm_cli.specs.Rounds.{IsMet, IsOne, Makes, MakesOne, Meets, Met, MetFor, One, OneFor, IsTurned, peer};
 
 use crate::ending::{Ending, Failure, Report};
-use executor::{Manager, works_add_up};
+use executor::{Manager, WorkFault, works_add_up};
 use lcm_api::{Closed, Mouth, answer_session};
 use lcm_events::Role;
-use site_traits::{Clock, Door, NextAnswer, Site};
+use occ_work::turn;
+use site_traits::{Clock, Door, NextAnswer, Orchestrator, Site};
 use std::alloc::Global;
-
-/// What came of asking for one round more.
-#[derive(Clone, Copy, Debug, PartialEq, Eq)]
-pub enum RoundEnd {
-    /// The round was made.
-    Made,
-    /// Waiting for a connection failed.
-    Unreached,
-    /// The disk failed.
-    Broken,
-}
+use vnfm_base::Moment;
 
 /// Makes so many rounds, for whoever asks in this role, and says how the run ends.
 ///
-/// A round is: the door is asked for a connection once; one that came is served; then the clock is read for the work of the round, of
-/// which there is none yet. The first round in which waiting for a connection fails, or the disk, is the last.
-/// Source: SOL 003 clause 5; rounds are an own rule, docs/FORMATS.md.
-pub fn make_rounds<S: Site, D: Door, K: Clock>(
+/// A round is: the door is asked for a connection once; one that came is served; then the clock is read, and a turn is made: one act for each
+/// occurrence whose grant is asked for. The first round in which waiting for a connection fails, or the disk, or a turn finds the journal full
+/// or no memory, is the last, and the acts before that stand.
+/// Source: SOL 003 clauses 5 and 9; rounds are an own rule, docs/FORMATS.md.
+pub fn make_rounds<S: Site, D: Door, O: Orchestrator, K: Clock>(
     alloc: Global,
     manager: &mut Manager<S>,
     site: &mut S,
     mouth: &mut Mouth<D>,
+    orchestrator: &mut O,
     clock: &mut K,
     role: Role,
     count: u32,
 ) -> Ending
     requires ready { (H : List Event) × IsReady S.tells manager.old H (S.state site.old) }
     ensures makes { (H : List Event) → IsReady S.tells manager.old H (S.state site.old) → (service : Service)
-        × Makes (telling S.tells D.tells K.tells) manager.old.ledger.manager H service manager.new
+        × Makes (telling S.tells D.tells K.tells) O.tells manager.old.ledger.manager H service manager.new
         (world (S.state site.old) mouth.old (K.state clock.old)) (world (S.state site.new) mouth.new (K.state clock.new))
+        (peer (O.state orchestrator.old) (O.counts orchestrator.old)) (peer (O.state orchestrator.new) (O.counts orchestrator.new))
         × (service.role ≡ role) × IsCount count (length service.rounds) service.close × (result ≡ close_ending (length service.rounds) service.close) }
     ensures disk { OnlyDiskFails (result ≡ Err Failure.SiteFault) (S.counts site.old) (S.counts site.new) }
     ensures door { result ≡ Err Failure.DoorFault → Rose mouth.old.wire.intake.counts.next mouth.new.wire.intake.counts.next }
@@ -50,50 +47,103 @@ pub fn make_rounds<S: Site, D: Door, K: Clock>(
     works_add_up::<S>();
     let mut made = 0;
     'rounds: while made < count {
-        match make_round(alloc, manager, site, mouth, clock, role) {
-            RoundEnd::Made => made += 1,
-            RoundEnd::Unreached => return Err(Failure::DoorFault),
-            RoundEnd::Broken => return Err(Failure::SiteFault),
+        match make_round(alloc, manager, site, mouth, orchestrator, clock, role) {
+            Ok(()) => made += 1,
+            Err(why) => return Err(why),
         }
     }
     Ok(Report::Done(made))
 }
 
-/// Waits for one connection, serves it, and reads the clock for the round.
-fn make_round<S: Site, D: Door, K: Clock>(
+/// Asks for one connection, serves it, and makes the turn of the round.
+fn make_round<S: Site, D: Door, O: Orchestrator, K: Clock>(
+    alloc: Global,
+    manager: &mut Manager<S>,
+    site: &mut S,
+    mouth: &mut Mouth<D>,
+    orchestrator: &mut O,
+    clock: &mut K,
+    role: Role,
+) -> Result<(), Failure>
+    requires ready { (H : List Event) × IsReady S.tells manager.old H (S.state site.old) }
+    ensures makes { (H : List Event) → IsReady S.tells manager.old H (S.state site.old) → (one : One)
+        × MakesOne (telling S.tells D.tells K.tells) O.tells manager.old.ledger.manager H one manager.new
+        (world (S.state site.old) mouth.old (K.state clock.old)) (world (S.state site.new) mouth.new (K.state clock.new))
+        (peer (O.state orchestrator.old) (O.counts orchestrator.old)) (peer (O.state orchestrator.new) (O.counts orchestrator.new))
+        × OneFor role one × IsOne result one }
+    ensures disk { OnlyDiskFails (result ≡ Err Failure.SiteFault) (S.counts site.old) (S.counts site.new) }
+    ensures next { result ≢ Err Failure.DoorFault → mouth.new.wire.intake.counts.next ≡ mouth.old.wire.intake.counts.next }
+    ensures door { result ≡ Err Failure.DoorFault → Rose mouth.old.wire.intake.counts.next mouth.new.wire.intake.counts.next }
+{
+    works_add_up::<S>();
+    match meet(alloc, manager, site, mouth, clock, role) {
+        Ok(()) => take_turn(alloc, manager, site, orchestrator, clock),
+        Err(why) => Err(why),
+    }
+}
+
+/// Asks the door for one connection, and serves one that came.
+fn meet<S: Site, D: Door, K: Clock>(
     alloc: Global,
     manager: &mut Manager<S>,
     site: &mut S,
     mouth: &mut Mouth<D>,
     clock: &mut K,
     role: Role,
-) -> RoundEnd
+) -> Result<(), Failure>
     requires ready { (H : List Event) × IsReady S.tells manager.old H (S.state site.old) }
-    ensures makes { (H : List Event) → IsReady S.tells manager.old H (S.state site.old) → (one : One)
-        × MakesOne (telling S.tells D.tells K.tells) manager.old.ledger.manager H one manager.new
+    ensures meets { (H : List Event) → IsReady S.tells manager.old H (S.state site.old) → (met : Met)
+        × Meets (telling S.tells D.tells K.tells) manager.old.ledger.manager H met manager.new
         (world (S.state site.old) mouth.old (K.state clock.old)) (world (S.state site.new) mouth.new (K.state clock.new))
-        × OneFor role one × IsOne result one }
-    ensures disk { OnlyDiskFails (result ≡ RoundEnd.Broken) (S.counts site.old) (S.counts site.new) }
-    ensures next { result ≡ RoundEnd.Made → mouth.new.wire.intake.counts.next ≡ mouth.old.wire.intake.counts.next }
-    ensures door { result ≡ RoundEnd.Unreached → Rose mouth.old.wire.intake.counts.next mouth.new.wire.intake.counts.next }
+        × MetFor role met × IsMet result met }
+    ensures disk { OnlyDiskFails (result ≡ Err Failure.SiteFault) (S.counts site.old) (S.counts site.new) }
+    ensures next { result ≢ Err Failure.DoorFault → mouth.new.wire.intake.counts.next ≡ mouth.old.wire.intake.counts.next }
+    ensures door { result ≡ Err Failure.DoorFault → Rose mouth.old.wire.intake.counts.next mouth.new.wire.intake.counts.next }
 {
     works_add_up::<S>();
     match mouth.next() {
         NextAnswer::Came(_) => match answer_session(alloc, manager, site, mouth, clock, role) {
-            Ok(_) => pass_turn(clock),
-            Err(Closed) => RoundEnd::Broken,
+            Ok(_) => Ok(()),
+            Err(Closed) => Err(Failure::SiteFault),
         },
-        NextAnswer::Nobody => pass_turn(clock),
-        NextAnswer::Ended => pass_turn(clock),
-        NextAnswer::Failed => RoundEnd::Unreached,
+        NextAnswer::Nobody => Ok(()),
+        NextAnswer::Ended => Ok(()),
+        NextAnswer::Failed => Err(Failure::DoorFault),
     }
 }
 
-/// Reads the clock for the round, in which there is no other work yet.
-fn pass_turn<K: Clock>(clock: &mut K) -> RoundEnd
-    ensures made { result ≡ RoundEnd.Made }
-    ensures read { K.tells → IsRead (K.state clock.old) (K.state clock.new) }
+/// Reads the clock, and makes a turn at that moment.
+fn take_turn<S: Site, O: Orchestrator, K: Clock>(
+    alloc: Global,
+    manager: &mut Manager<S>,
+    site: &mut S,
+    orchestrator: &mut O,
+    clock: &mut K,
+) -> Result<(), Failure>
+    requires ready { (H : List Event) × IsReady S.tells manager.old H (S.state site.old) }
+    ensures turns { (H : List Event) → IsReady S.tells manager.old H (S.state site.old) → (turning : Turning) × (end : TurnEnd)
+        × Turns (asking S.tells O.tells) manager.old.ledger.manager (moment_of turning) H turning.acts end manager.new
+        (outside (S.state site.old) (O.state orchestrator.old) (O.counts orchestrator.old)) (outside (S.state site.new) (O.state orchestrator.new) (O.counts orchestrator.new))
+        × (K.tells → Gives turning.value (K.state clock.old) (K.state clock.new)) × IsTurned result end }
+    ensures disk { OnlyDiskFails (result ≡ Err Failure.SiteFault) (S.counts site.old) (S.counts site.new) }
+    ensures door { result ≢ Err Failure.DoorFault }
 {
-    let _ = clock.now();
-    RoundEnd::Made
+    let now = Moment::of(clock.now());
+    match turn(alloc, manager, site, orchestrator, now) {
+        Ok(_) => Ok(()),
+        Err(fault) => Err(failure_of(fault)),
+    }
+}
+
+/// The failure of a run whose turn ended in this fault.
+fn failure_of(fault: WorkFault) -> Failure
+    requires short { (n : ℕ) → fault ≢ WorkFault.TooLong n }
+    ensures { option_map halting (halt_of fault) ≡ Some result }
+{
+    match fault {
+        WorkFault::Full { end, more } => Failure::JournalFull { end, more },
+        WorkFault::Memory => Failure::NoMemory,
+        WorkFault::Disk => Failure::SiteFault,
+        WorkFault::TooLong(_) => unreachable!(),
+    }
 }

@@ -10,11 +10,12 @@ ghost use Rattle.executor.specs.Managed.{IsReady};
 ghost use Rattle.vnfm_cli.specs.Course.{Course, Deed, IsDeedOf, IsOf, deed_ending, ending_of, making_ending};
 ghost use Rattle.vnfm_cli.specs.Ending.{Ends};
 ghost use Rattle.vnfm_cli.specs.Causes.{HasCauses};
-ghost use Rattle.vnfm_cli.specs.Runs.{Deeds, Does, IsDoorCause, IsStartOf, MayEndWith, Runs};
+ghost use Rattle.vnfm_cli.specs.Rounds.{peer};
+ghost use Rattle.vnfm_cli.specs.Runs.{Deeds, Does, IsDoorCause, IsStartOf, MayEndWith, AtOrchestrator, AtOrchestratorBy, Runs};
 ghost use Rattle.command_line.specs.Words.{settings_of};
 ghost use Rattle.vnfm_cli.specs.Words.{AreWordsOf, loads};
 ghost use Rattle.command_line.specs.declared.options.Command.{Command};
-ghost use Rattle.command_line.specs.declared.options.Command.TheVariants.{Onboard};
+ghost use Rattle.command_line.specs.declared.options.Command.TheVariants.{Onboard, Once};
 
 use crate::ending::{Ending, Failure, Report, finish};
 use crate::rounds::make_rounds;
@@ -33,15 +34,17 @@ use vnfm_base::Text;
 /// - `init --journal PATH --manager N` makes the journal of manager N.
 /// - `onboard --journal PATH` opens the journal, reads the door's first connection, then the clock, and records the descriptor.
 /// - `once --journal PATH` opens the journal and makes as many rounds as `--rounds` says, or one: in each it serves one connection of the
-///   door, where one comes, whose requests are answered one by one for the role of `--role`, and reads the clock once for each request
-///   and once for the round. Rounds go on where nobody comes any more.
+///   door, where one comes, whose requests are answered one by one for the role of `--role`, reads the clock once for each request
+///   and once for the round, and makes a turn: for each occurrence in STARTING one act, in the order of their numbers, which asks the
+///   orchestrator for its grant, or moves it on by what was answered. Rounds go on where nobody comes any more.
 ///
-/// The orchestrator and the courier aren't asked yet, and `--orchestrator` and `--vim` are used by nothing.
+/// The orchestrator is asked by `once` alone, the courier isn't asked yet, and `--orchestrator` and `--vim` are used by nothing.
 /// Statuses: 0 the command did its work; 2 the words are no command; 3 exactly where a disk call failed, after which no other is
 /// made; 4 waiting for a connection
 /// failed, or a read of a descriptor; 5 the file is no journal; 6 there is no memory; 7 the line of status 0 couldn't be put; 8 a
-/// record is bad; 9 the journal has no room for the descriptor; 10 the descriptor is refused; 11 the file isn't unfinished for the
-/// manager of `init`. After 2, 4, 5, 8, 9, 10 and 11, and after 6, the file is as it was.
+/// record is bad; 9 the journal has no room for the descriptor, or for the event of an act; 10 the descriptor is refused; 11 the file isn't unfinished for the
+/// manager of `init`. After 2, 5, 8, 10 and 11 the file is as it was; after 4, 6 and 9 too, but that what `once` acknowledged, and the acts
+/// that its turns made, stand.
 /// Source: SOL 003 clause 5; words, statuses and lines are an own rule, docs/FORMATS.md.
 pub fn run<S: Site, D: Door, O: Orchestrator, C: Courier, K: Clock, W: Sink>(
     alloc: Global,
@@ -55,8 +58,10 @@ pub fn run<S: Site, D: Door, O: Orchestrator, C: Courier, K: Clock, W: Sink>(
 ) -> u8
     ensures runs { (course : Course) × Runs (telling S.tells D.tells K.tells) words.now course
         (world (S.state site.old) mouth.old (K.state clock.old)) (world (S.state site.new) mouth.new (K.state clock.new))
+        × AtOrchestrator O.tells course (peer (O.state orchestrator.old) (O.counts orchestrator.old)) (peer (O.state orchestrator.new) (O.counts orchestrator.new))
         × Ends W.tells (ending_of course) result (W.state out.old) (W.state out.new) (W.counts out.old) (W.counts out.new) }
-    ensures untouched { (orchestrator.new ≡ orchestrator.old) × (courier.new ≡ courier.old) }
+    ensures unasked { ¬ (AreWordsOf Once words.now) → orchestrator.new ≡ orchestrator.old }
+    ensures untouched { courier.new ≡ courier.old }
     ensures site { OnlyDiskFails (result ≡ 3) (S.counts site.old) (S.counts site.new) }
     ensures causes { HasCauses S.tells words.now result
         (world (S.state site.old) mouth.old (K.state clock.old)) (world (S.state site.new) mouth.new (K.state clock.new)) (W.counts out.old) (W.counts out.new) }
@@ -66,48 +71,54 @@ pub fn run<S: Site, D: Door, O: Orchestrator, C: Courier, K: Clock, W: Sink>(
 {
     files_are_one_thing();
     a_legal_history_has_no_bad_record();
-    let ending = obey(alloc, words, site, mouth, clock);
+    let ending = obey(alloc, words, site, mouth, orchestrator, clock);
     finish(ending, out)
 }
 
 /// Obeys the words, but for the line.
-fn obey<S: Site, D: Door, K: Clock>(
+fn obey<S: Site, D: Door, O: Orchestrator, K: Clock>(
     alloc: Global,
     words: &[Text],
     site: &mut S,
     mouth: &mut Mouth<D>,
+    orchestrator: &mut O,
     clock: &mut K,
 ) -> Ending
     ensures runs { (course : Course) × Runs (telling S.tells D.tells K.tells) words.now course
         (world (S.state site.old) mouth.old (K.state clock.old)) (world (S.state site.new) mouth.new (K.state clock.new))
+        × AtOrchestrator O.tells course (peer (O.state orchestrator.old) (O.counts orchestrator.old)) (peer (O.state orchestrator.new) (O.counts orchestrator.new))
         × (result ≡ ending_of course) }
+    ensures unasked { ¬ (AreWordsOf Once words.now) → orchestrator.new ≡ orchestrator.old }
     ensures usage { (result ≡ Err Failure.Usage) ↔ (settings_of words.now ≡ None) }
     ensures disk { OnlyDiskFails (result ≡ Err Failure.SiteFault) (S.counts site.old) (S.counts site.new) }
     ensures door { result ≡ Err Failure.DoorFault → Rose mouth.old.wire.intake.counts.next mouth.new.wire.intake.counts.next ⊎ (AreWordsOf Onboard words.now × Rose mouth.old.wire.intake.counts.faults mouth.new.wire.intake.counts.faults) }
 {
     works_add_up::<S>();
     let settings = settings(alloc, words)?;
-    perform(alloc, &settings, site, mouth, clock)
+    perform(alloc, &settings, site, mouth, orchestrator, clock)
 }
 
 /// Performs the command.
-fn perform<S: Site, D: Door, K: Clock>(
+fn perform<S: Site, D: Door, O: Orchestrator, K: Clock>(
     alloc: Global,
     settings: &Settings,
     site: &mut S,
     mouth: &mut Mouth<D>,
+    orchestrator: &mut O,
     clock: &mut K,
 ) -> Ending
     ensures does { (course : Course) × IsOf settings.now course × Does (telling S.tells D.tells K.tells) course
         (world (S.state site.old) mouth.old (K.state clock.old)) (world (S.state site.new) mouth.new (K.state clock.new))
+        × AtOrchestrator O.tells course (peer (O.state orchestrator.old) (O.counts orchestrator.old)) (peer (O.state orchestrator.new) (O.counts orchestrator.new))
         × (result ≡ ending_of course) }
+    ensures unasked { settings.now.command ≢ Once → orchestrator.new ≡ orchestrator.old }
     ensures disk { OnlyDiskFails (result ≡ Err Failure.SiteFault) (S.counts site.old) (S.counts site.new) }
     ensures door { result ≡ Err Failure.DoorFault → IsDoorCause settings.now.command mouth.old.wire.intake.counts mouth.new.wire.intake.counts }
 {
     match settings.command {
         Command::Init => init(settings.manager, site),
-        Command::Onboard => open(alloc, settings, site, mouth, clock),
-        Command::Once => open(alloc, settings, site, mouth, clock),
+        Command::Onboard => open(alloc, settings, site, mouth, orchestrator, clock),
+        Command::Once => open(alloc, settings, site, mouth, orchestrator, clock),
     }
 }
 
@@ -124,32 +135,44 @@ fn init<S: Site>(manager: u32, site: &mut S) -> Ending
 }
 
 /// Opens the journal, and does with it what the command says.
-fn open<S: Site, D: Door, K: Clock>(
+fn open<S: Site, D: Door, O: Orchestrator, K: Clock>(
     alloc: Global,
     settings: &Settings,
     site: &mut S,
     mouth: &mut Mouth<D>,
+    orchestrator: &mut O,
     clock: &mut K,
 ) -> Ending
     requires loading { loads settings.now.command ≡ true }
     ensures does { (course : Course) × IsOf settings.now course × Does (telling S.tells D.tells K.tells) course
         (world (S.state site.old) mouth.old (K.state clock.old)) (world (S.state site.new) mouth.new (K.state clock.new))
+        × AtOrchestrator O.tells course (peer (O.state orchestrator.old) (O.counts orchestrator.old)) (peer (O.state orchestrator.new) (O.counts orchestrator.new))
         × (result ≡ ending_of course) }
+    ensures unasked { settings.now.command ≢ Once → orchestrator.new ≡ orchestrator.old }
     ensures disk { OnlyDiskFails (result ≡ Err Failure.SiteFault) (S.counts site.old) (S.counts site.new) }
     ensures door { result ≡ Err Failure.DoorFault → IsDoorCause settings.now.command mouth.old.wire.intake.counts mouth.new.wire.intake.counts }
 {
     works_add_up::<S>();
     let mut manager = Manager::load(alloc, site)?;
-    work(alloc, settings, &mut manager, site, mouth, clock)
+    work(
+        alloc,
+        settings,
+        &mut manager,
+        site,
+        mouth,
+        orchestrator,
+        clock,
+    )
 }
 
 /// Onboards a descriptor, or makes the rounds that the words set.
-fn work<S: Site, D: Door, K: Clock>(
+fn work<S: Site, D: Door, O: Orchestrator, K: Clock>(
     alloc: Global,
     settings: &Settings,
     manager: &mut Manager<S>,
     site: &mut S,
     mouth: &mut Mouth<D>,
+    orchestrator: &mut O,
     clock: &mut K,
 ) -> Ending
     requires loading { loads settings.now.command ≡ true }
@@ -157,7 +180,9 @@ fn work<S: Site, D: Door, K: Clock>(
     ensures deeds { (H : List Event) → IsReady S.tells manager.old H (S.state site.old) → (deed : Deed) × IsDeedOf settings.now deed
         × Deeds (telling S.tells D.tells K.tells) manager.old.ledger.manager H deed manager.new
         (world (S.state site.old) mouth.old (K.state clock.old)) (world (S.state site.new) mouth.new (K.state clock.new))
+        × AtOrchestratorBy O.tells manager.old.ledger.manager H deed (peer (O.state orchestrator.old) (O.counts orchestrator.old)) (peer (O.state orchestrator.new) (O.counts orchestrator.new))
         × (result ≡ deed_ending H deed) }
+    ensures unasked { settings.now.command ≢ Once → orchestrator.new ≡ orchestrator.old }
     ensures disk { OnlyDiskFails (result ≡ Err Failure.SiteFault) (S.counts site.old) (S.counts site.new) }
     ensures door { result ≡ Err Failure.DoorFault → IsDoorCause settings.now.command mouth.old.wire.intake.counts mouth.new.wire.intake.counts }
 {
@@ -169,6 +194,7 @@ fn work<S: Site, D: Door, K: Clock>(
             manager,
             site,
             mouth,
+            orchestrator,
             clock,
             settings.role,
             settings.rounds,

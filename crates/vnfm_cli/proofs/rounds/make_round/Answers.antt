@@ -1,61 +1,20 @@
--- A connection came and was served, or none came, or waiting failed.
-use Rattle.std.proofs.Common.{inl, inr, refl}
+-- A visit and a turn are a round, or the rounds end.
+use Rattle.std.proofs.Common.{◌≡◌, Ok, subst}
 use Rattle.lcm_api.specs.Talking.{World, world}
-use Rattle.site_traits.specs.declared.door.NextAnswer.TheVariants.{Nobody, Ended}
-use Rattle.vnfm_cli.specs.Course.{served, stopped, unasked, unreached}
-use Rattle.vnfm_cli.specs.Rounds.{round, end}
-use Rattle.site_traits.specs.Counts.{fails_as}
-use Rattle.vnfm_cli.proofs.RoundLemmas.{round_served, round_stopped, round_unasked, round_unreached, served_next}
+use Rattle.vnfm_cli.specs.Course.{once_served}
+use Rattle.vnfm_cli.specs.Rounds.{peer}
+use Rattle.vnfm_cli.proofs.RoundLemmas.{made_by, ready_met, round_over}
 use Rattle.vnfm_cli.proofs.rounds.make_round.Goals as goal
+
+pub take_turn-requires : goal.take_turn-requires
+take_turn-requires g c = record { ready = ready_met _ _ _ _ _ _ (c.works_add_up.ensures.leads c.args.site.now c.meet.new.site) (λ H ready. c.in-Ok.ensures.meets H ready) c.requires.ready }
 
 pub returns-in-Ok-clause-makes : goal.returns-in-Ok-clause-makes
 returns-in-Ok-clause-makes g c = λ H ready.
-    let it = c.in-Ok.ensures.serves H ready in
-    let v : World = world (g.S.Site.state c.answer_session.new.site) c.answer_session.new.mouth (g.K.Clock.state c.answer_session.new.clock) in (
-      round (served c.in-Came.field-0 it.0),
-      round_served _ _ H c.in-Came.field-0 it.0 _ _ c.args.mouth.now c.next.new.self _ _ v c.in-Came.ensures.told c.in-Came.ensures.cause c.next.ensures.begins it.1 it.3.1 c.pass_turn.ensures.read,
-      (it.2, tt),
-      rw c.pass_turn.ensures.made tt,
-    )
-
-pub returns-in-Ok-clause-next : goal.returns-in-Ok-clause-next
-returns-in-Ok-clause-next g c = λ made.
-    let it = c.in-Ok.ensures.serves c.requires.ready.0 c.requires.ready.1 in
-    served_next _ _ c.requires.ready.0 it.0 _ c.args.mouth.now _ _ c.in-Came.ensures.cause it.1
+    made_by _ _ _ _ _ _ _ _ _ _ _ _ _ _ _ (c.works_add_up.ensures.leads c.args.site.now c.meet.new.site) (c.works_add_up.ensures.joins c.args.site.now c.meet.new.site c.take_turn.new.site)
+    (λ G now. c.in-Ok.ensures.meets G now) (λ G now. c.take_turn.ensures.turns G now) H ready
 
 pub returns-in-Err-clause-makes : goal.returns-in-Err-clause-makes
 returns-in-Err-clause-makes g c = λ H ready.
-    let it = c.in-Err.ensures.serves H ready in
-    let v : World = world (g.S.Site.state c.answer_session.new.site) c.answer_session.new.mouth (g.K.Clock.state c.answer_session.new.clock) in (
-      end (stopped c.in-Came.field-0 it.0),
-      round_stopped _ _ H c.in-Came.field-0 it.0 _ _ c.args.mouth.now c.next.new.self _ v c.in-Came.ensures.told c.in-Came.ensures.cause c.next.ensures.begins it.1 it.3,
-      it.2,
-      tt,
-    )
-
-pub returns-in-Nobody-clause-makes : goal.returns-in-Nobody-clause-makes
-returns-in-Nobody-clause-makes g c = λ H ready. (
-  round unasked,
-  round_unasked _ _ H Nobody _ c.args.mouth.now c.next.new.self _ _ (c.works_add_up.ensures.idles c.args.site.now) ready (inl refl) c.in-Nobody.ensures.told c.in-Nobody.ensures.cause c.pass_turn-in-Nobody.ensures.read,
-  tt,
-  rw c.pass_turn-in-Nobody.ensures.made tt,
-)
-
-pub returns-in-Ended-clause-makes : goal.returns-in-Ended-clause-makes
-returns-in-Ended-clause-makes g c = λ H ready. (
-  round unasked,
-  round_unasked _ _ H Ended _ c.args.mouth.now c.next.new.self _ _ (c.works_add_up.ensures.idles c.args.site.now) ready (inr refl) c.in-Ended.ensures.told c.in-Ended.ensures.cause c.pass_turn-in-Ended.ensures.read,
-  tt,
-  rw c.pass_turn-in-Ended.ensures.made tt,
-)
-
-pub returns-in-Failed-clause-makes : goal.returns-in-Failed-clause-makes
-returns-in-Failed-clause-makes g c = λ H ready. (
-  end unreached,
-  round_unreached _ _ H _ c.args.mouth.now c.next.new.self _ (c.works_add_up.ensures.idles c.args.site.now) ready c.in-Failed.ensures.told c.in-Failed.ensures.cause,
-  tt,
-  tt,
-)
-
-pub returns-in-Err-clause-disk : goal.returns-in-Err-clause-disk
-returns-in-Err-clause-disk g c = fails_as _ _ _ _ c.in-Err.ensures.counts (λ is. refl) (λ is. refl)
+    let it = c.in-Err.ensures.meets H ready in
+    round_over _ _ _ H c.args.role _ it.0 _ _ _ (peer (g.O.Orchestrator.state c.args.orchestrator.now) (g.O.Orchestrator.counts c.args.orchestrator.now)) it.1 it.2 it.3

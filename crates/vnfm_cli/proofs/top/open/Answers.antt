@@ -17,13 +17,14 @@ returns-clause-does g c =
           (c.works_add_up.ensures.follows c.args.site.now c.load.new.site c.work.new.site)
           (c.works_add_up.ensures.jobs c.args.site.now c.load.new.site c.work.new.site) c.in_ok-manager.ensures.number c.in_ok-manager.ensures.told start.1 made.2 refl,
       made.3,
+      made.4,
     )
 
 pub returns-in_err-manager-clause-does : goal.returns-in_err-manager-clause-does
 returns-in_err-manager-clause-does g c =
     let why = c.in_err-manager.field-0.0 in
     let err = err_from_is_err_and c.from_residual.result c.from_residual.ensures.1 in
-    (unopened why, c.requires.loading, does_not_open _ why _ _ _ _ (c.works_add_up.ensures.jobs c.args.site.now c.load.new.site c.load.new.site) c.in_err-manager.ensures.told c.in_err-manager.ensures.opens, err.1 ∙ ap Err err.2)
+    (unopened why, c.requires.loading, does_not_open _ why _ _ _ _ (c.works_add_up.ensures.jobs c.args.site.now c.load.new.site c.load.new.site) c.in_err-manager.ensures.told c.in_err-manager.ensures.opens, refl, err.1 ∙ ap Err err.2)
 
 pub returns-clause-disk : goal.returns-clause-disk
 returns-clause-disk g c = fails_last _ _ _ _ (synced _ _ _ (c.in_ok-manager.ensures.counts.stays (λ wrong. cc wrong)) (λ never. never)) c.work.ensures.disk

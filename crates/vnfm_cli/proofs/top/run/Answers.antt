@@ -18,14 +18,14 @@ returns-clause-causes g c =
       );
       door = λ four. c.obey-ending.ensures.door ((told_by _).door (status_told _ _ 4 (sym c.finish.ensures.status_is ∙ four) (omega arith)));
       only = rw c.finish.ensures.status_is (is_status c.finish.ensures.put _);
-      journal = λ tells five. told_no_journal runs.0 (g.S.Site.state c.args.site.now) (g.S.Site.state c.obey-ending.new.site) (runs.1.does.site tells) (status_result 5 _ _ _ _ c.finish.ensures.status_is runs.2 (omega arith) five);
-      no_journal = λ tells are none. yields_result 5 _ _ _ _ c.finish.ensures.status_is runs.2 (omega arith) (no_journal_ending c.files_are_one_thing.ensures.unmade c.files_are_one_thing.ensures.foreign c.files_are_one_thing.ensures.headed c.a_legal_history_has_no_bad_record.ensures runs.0 c.args.words.now (g.S.Site.state c.args.site.now) (g.S.Site.state c.obey-ending.new.site) are runs.1.words_are (runs.1.does.site tells) none);
-      record_is_bad = λ tells eight. told_bad_record runs.0 (g.S.Site.state c.args.site.now) (g.S.Site.state c.obey-ending.new.site) (runs.1.does.site tells) (status_result 8 _ _ _ _ c.finish.ensures.status_is runs.2 (omega arith) eight);
-      bad_record = λ tells are n bad. yields_result 8 _ _ _ _ c.finish.ensures.status_is runs.2 (omega arith) (bad_record_ending c.files_are_one_thing.ensures.unmade c.files_are_one_thing.ensures.foreign c.files_are_one_thing.ensures.headed c.a_legal_history_has_no_bad_record.ensures runs.0 c.args.words.now (g.S.Site.state c.args.site.now) (g.S.Site.state c.obey-ending.new.site) n are runs.1.words_are runs.1.does.legal (runs.1.does.site tells) bad);
-      full = λ nine. told_full runs.0 c.args.words.now runs.1.words_are (status_result 9 _ _ _ _ c.finish.ensures.status_is runs.2 (omega arith) nine);
-      refused = λ ten. told_refused runs.0 c.args.words.now runs.1.words_are (status_result 10 _ _ _ _ c.finish.ensures.status_is runs.2 (omega arith) ten);
-      taken = λ tells eleven. told_taken runs.0 c.args.words.now (g.S.Site.state c.args.site.now) (g.S.Site.state c.obey-ending.new.site) runs.1.words_are (runs.1.does.site tells) (status_result 11 _ _ _ _ c.finish.ensures.status_is runs.2 (omega arith) eleven);
-      is_taken = λ tells m are not. yields_result 11 _ _ _ _ c.finish.ensures.status_is runs.2 (omega arith) (taken_ending runs.0 c.args.words.now (g.S.Site.state c.args.site.now) (g.S.Site.state c.obey-ending.new.site) m are runs.1.words_are (runs.1.does.site tells) not);
+      journal = λ tells five. told_no_journal runs.0 (g.S.Site.state c.args.site.now) (g.S.Site.state c.obey-ending.new.site) (runs.1.does.site tells) (status_result 5 _ _ _ _ c.finish.ensures.status_is runs.3 (omega arith) five);
+      no_journal = λ tells are none. yields_result 5 _ _ _ _ c.finish.ensures.status_is runs.3 (omega arith) (no_journal_ending c.files_are_one_thing.ensures.unmade c.files_are_one_thing.ensures.foreign c.files_are_one_thing.ensures.headed c.a_legal_history_has_no_bad_record.ensures runs.0 c.args.words.now (g.S.Site.state c.args.site.now) (g.S.Site.state c.obey-ending.new.site) are runs.1.words_are (runs.1.does.site tells) none);
+      record_is_bad = λ tells eight. told_bad_record runs.0 (g.S.Site.state c.args.site.now) (g.S.Site.state c.obey-ending.new.site) (runs.1.does.site tells) (status_result 8 _ _ _ _ c.finish.ensures.status_is runs.3 (omega arith) eight);
+      bad_record = λ tells are n bad. yields_result 8 _ _ _ _ c.finish.ensures.status_is runs.3 (omega arith) (bad_record_ending c.files_are_one_thing.ensures.unmade c.files_are_one_thing.ensures.foreign c.files_are_one_thing.ensures.headed c.a_legal_history_has_no_bad_record.ensures runs.0 c.args.words.now (g.S.Site.state c.args.site.now) (g.S.Site.state c.obey-ending.new.site) n are runs.1.words_are runs.1.does.legal (runs.1.does.site tells) bad);
+      full = λ nine. told_full runs.0 c.args.words.now runs.1.words_are (status_result 9 _ _ _ _ c.finish.ensures.status_is runs.3 (omega arith) nine);
+      refused = λ ten. told_refused runs.0 c.args.words.now runs.1.words_are (status_result 10 _ _ _ _ c.finish.ensures.status_is runs.3 (omega arith) ten);
+      taken = λ tells eleven. told_taken runs.0 c.args.words.now (g.S.Site.state c.args.site.now) (g.S.Site.state c.obey-ending.new.site) runs.1.words_are (runs.1.does.site tells) (status_result 11 _ _ _ _ c.finish.ensures.status_is runs.3 (omega arith) eleven);
+      is_taken = λ tells m are not. yields_result 11 _ _ _ _ c.finish.ensures.status_is runs.3 (omega arith) (taken_ending runs.0 c.args.words.now (g.S.Site.state c.args.site.now) (g.S.Site.state c.obey-ending.new.site) m are runs.1.words_are (runs.1.does.site tells) not);
       sink = λ seven. lost_line _ _ _ c.finish.ensures.counts (seven_lost _ _ (sym c.finish.ensures.status_is ∙ seven)).0;
     }
 
@@ -33,10 +33,10 @@ pub returns-clause-complete : goal.returns-clause-complete
 returns-clause-complete g c = λ tells command are start disk door sink.
     let runs = c.obey-ending.ensures.runs in
     let P : ℕ → Type 0 = λ status. MayEndWith command status in
-    subst P (sym (put_result _ _ _ _ c.finish.ensures.status_is runs.2 (λ lost. sink (lost_line _ _ _ c.finish.ensures.counts lost))))
+    subst P (sym (put_result _ _ _ _ c.finish.ensures.status_is runs.3 (λ lost. sink (lost_line _ _ _ c.finish.ensures.counts lost))))
     (complete_ending c.files_are_one_thing.ensures.unmade c.files_are_one_thing.ensures.foreign c.files_are_one_thing.ensures.headed c.a_legal_history_has_no_bad_record.ensures command runs.0 c.args.words.now (g.S.Site.state c.args.site.now) (g.S.Site.state c.obey-ending.new.site) are start runs.1.words_are (runs.1.does.site tells)
-    (λ fault. disk (one_fault _ _ (c.obey-ending.ensures.disk.rose (runs.2 ∙ fault))))
-    (λ fault. door (door_cause command c.args.words.now _ _ are (c.obey-ending.ensures.door (runs.2 ∙ fault)))))
+    (λ fault. disk (one_fault _ _ (c.obey-ending.ensures.disk.rose (runs.3 ∙ fault))))
+    (λ fault. door (door_cause command c.args.words.now _ _ are (c.obey-ending.ensures.door (runs.3 ∙ fault)))))
 
 pub returns-clause-site : goal.returns-clause-site
 returns-clause-site g c =
