@@ -4,7 +4,8 @@
 use lcm_api::Mouth;
 use lcm_events::Role;
 use site_traits::{
-    DoorPlan, MemCourier, MemDoor, MemOrchestrator, MemSink, MemSite, SetClock, SitePlan,
+    DoorPlan, MemCourier, MemDoor, MemOrchestrator, MemSink, MemSite, Orchestrator, SetClock,
+    SitePlan,
 };
 use std::alloc::{AllocError, Global};
 use vnfm_base::{Bytes, Text};
@@ -116,11 +117,10 @@ fn pieces_of(alloc: Global, bytes: &[u8], size: usize) -> Result<Vec<Bytes>, All
     Ok(pieces)
 }
 
-/// The objects of a run, but for its site.
+/// The objects of a run, but for its site and its orchestrator.
 #[derive(Drop)]
 struct Objects {
     mouth: Mouth<MemDoor>,
-    orchestrator: MemOrchestrator,
     courier: MemCourier,
     clock: SetClock,
     sink: MemSink,
@@ -134,7 +134,6 @@ fn objects_of(
 ) -> Result<Objects, AllocError> {
     Ok(Objects {
         mouth: Mouth::new(alloc, MemDoor::new(alloc, door)?)?,
-        orchestrator: MemOrchestrator::new(alloc, Vec::new(alloc))?,
         courier: MemCourier::new(alloc, Vec::new(alloc))?,
         clock: clock_of(alloc)?,
         sink: MemSink::new(alloc, failing_put)?,
@@ -160,12 +159,25 @@ fn report(alloc: Global, status: u8, objects: &Objects) -> Result<Ran, AllocErro
     })
 }
 
-/// Runs these words over this site, this door and a sink of which this put fails.
+/// Runs these words over this site, this door, an orchestrator that is never reached and a sink of which this put fails.
 pub fn run_over(
     alloc: Global,
     words: &[Text],
     site: &mut MemSite,
     door: Vec<DoorPlan>,
+    failing_put: Option<u64>,
+) -> Result<Ran, AllocError> {
+    let mut orchestrator = MemOrchestrator::new(alloc, Vec::new(alloc))?;
+    run_asking(alloc, words, site, door, &mut orchestrator, failing_put)
+}
+
+/// Runs these words over this site, this door, this orchestrator and a sink of which this put fails.
+pub fn run_asking<O: Orchestrator>(
+    alloc: Global,
+    words: &[Text],
+    site: &mut MemSite,
+    door: Vec<DoorPlan>,
+    orchestrator: &mut O,
     failing_put: Option<u64>,
 ) -> Result<Ran, AllocError> {
     let mut objects = objects_of(alloc, door, failing_put)?;
@@ -174,7 +186,7 @@ pub fn run_over(
         words,
         site,
         &mut objects.mouth,
-        &mut objects.orchestrator,
+        orchestrator,
         &mut objects.courier,
         &mut objects.clock,
         &mut objects.sink,

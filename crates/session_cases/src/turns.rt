@@ -1,0 +1,126 @@
+//! Turns: a grant is asked for, and the occurrence is moved on by what was answered, over journals whose records are compared whole.
+use crate::routes::{ASKED, CREATED, GRANTED, PROCESSING, journal_with};
+use memory_runs::{run_asking, site_with, words_of};
+use site_traits::{GrantPlan, MemOrchestrator};
+use std::alloc::{AllocError, Global};
+use std::test::Fail;
+use vnfm_base::{Bytes, Line};
+
+/// The grant is to be had at `/g/1` later.
+const LATER: &[u8] = b"\x01\0\0\0\x18\x05\0\0\x01\x8b\xcf\xe5\x68\0\0\0\0\0\0\0\0\x01\0\0\x04/g/1";
+
+/// A try was in trouble.
+const TROUBLE: &[u8] = b"\x01\0\0\0\x12\x05\0\0\x01\x8b\xcf\xe5\x68\0\0\0\0\0\0\0\0\x01\x01";
+
+/// A grant didn't cover the request.
+const NOT_COVERING: &[u8] = b"\x01\0\0\0\x12\x05\0\0\x01\x8b\xcf\xe5\x68\0\0\0\0\0\0\0\0\x01\x02";
+
+/// The grant was denied.
+const DENIED: &[u8] = b"\x01\0\0\0\x11\x07\0\0\x01\x8b\xcf\xe5\x68\0\0\0\0\0\0\0\0\x01";
+
+/// The occurrence moved to ROLLED_BACK.
+const ROLLED_BACK: &[u8] = b"\x01\0\0\0\x12\x0b\0\0\x01\x8b\xcf\xe5\x68\0\0\0\0\0\0\0\0\x01\x06";
+
+/// An answer of the orchestrator: its status, its location, empty where there is none, and its body.
+type Answer = (u16, &'static str, &'static str);
+
+/// What the orchestrator answers in turn, how many rounds are made, and the records behind the request for the operation afterwards.
+type Turned = (&'static [Answer], &'static str, &'static [&'static [u8]]);
+
+/// A grant of nothing, which covers an operation without a change.
+const GRANT: Answer = (201, "", "{\"id\":\"g1\"}");
+
+/// A grant that names a change that wasn't asked for.
+const SURPLUS: Answer = (
+    201,
+    "",
+    "{\"addResources\":[{\"resourceDefinitionId\":\"d0\"}],\"id\":\"g1\"}",
+);
+
+const CASES: [Turned; 8] = [
+    (&[GRANT], "1", &[GRANTED]),
+    (&[GRANT], "2", &[GRANTED, PROCESSING]),
+    (&[GRANT], "5", &[GRANTED, PROCESSING]),
+    (&[SURPLUS], "2", &[NOT_COVERING, ROLLED_BACK]),
+    (&[(403, "", "")], "3", &[DENIED, ROLLED_BACK]),
+    (
+        &[
+            (202, "/g/1", ""),
+            (202, "", ""),
+            (200, "", "{\"id\":\"g1\"}"),
+        ],
+        "4",
+        &[LATER, GRANTED, PROCESSING],
+    ),
+    (
+        &[(202, "", ""), (500, "", ""), (201, "", "{")],
+        "6",
+        &[TROUBLE, TROUBLE, TROUBLE, TROUBLE, TROUBLE, ROLLED_BACK],
+    ),
+    (
+        &[(202, "/g/1", ""), (404, "", ""), GRANT],
+        "4",
+        &[LATER, TROUBLE, GRANTED, PROCESSING],
+    ),
+];
+
+/// The orchestrator's plan with these answers.
+fn plan_of(alloc: Global, answers: &[Answer]) -> Result<Vec<GrantPlan>, AllocError> {
+    let mut plans = Vec::new(alloc);
+    for (status, location, body) in answers {
+        plans.push(GrantPlan::Raw {
+            status: *status,
+            location: line_of(alloc, location),
+            body: Bytes::of(alloc, body.as_bytes())?,
+        })?;
+    }
+    Ok(plans)
+}
+
+/// The location of this text, where it isn't empty.
+fn line_of(alloc: Global, text: &str) -> Option<Line> {
+    if text.is_empty() {
+        return None;
+    }
+    Line::of(alloc, text.as_bytes()).ok()
+}
+
+/// Whether so many rounds without a connection, over an operation that was asked for, leave these records behind it.
+fn turns_to(alloc: Global, case: &Turned) -> Result<bool, AllocError> {
+    let (answers, rounds, records) = *case;
+    let mut site = site_with(
+        alloc,
+        &journal_with(alloc, &[CREATED, ASKED])?,
+        Vec::new(alloc),
+    )?;
+    let mut orchestrator = MemOrchestrator::new(alloc, plan_of(alloc, answers)?)?;
+    let words = words_of(alloc, &["once", "--journal", "j", "--rounds", rounds])?;
+    let ran = run_asking(
+        alloc,
+        &words,
+        &mut site,
+        Vec::new(alloc),
+        &mut orchestrator,
+        None,
+    )?;
+    let after = journal_behind(alloc, records)?;
+    Ok(ran.status == 0 && site.file() == after.as_slice())
+}
+
+/// The journal in which an instance was created, an operation was asked for, and these records follow.
+fn journal_behind(alloc: Global, records: &[&[u8]]) -> Result<Vec<u8>, AllocError> {
+    let mut all: Vec<&[u8]> = Vec::new(alloc);
+    all.push(CREATED)?;
+    all.push(ASKED)?;
+    all.extend_from_slice(records)?;
+    journal_with(alloc, &all)
+}
+
+#[test]
+fn turns_record_what_the_orchestrator_answers(rt: HostRuntime) -> Result<(), Fail> {
+    let alloc = rt.alloc();
+    for case in &CASES {
+        assert!(rt; turns_to(alloc, case)?, "{}", case.1);
+    }
+    Ok(())
+}
