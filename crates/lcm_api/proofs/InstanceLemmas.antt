@@ -1,27 +1,25 @@
 -- The live instance that an identifier names.
-use Rattle.std.proofs.Common.{◌≡◌, ◌≢◌, ◌≤◌, ◌==◌, ◌∙◌, arith, length, ℕ, Bool, true, false, List, [], ◌∷◌, Option, Some, None, ap, refl, sym, subst}
+use Rattle.std.proofs.Common.{◌≡◌, ◌≤◌, ◌==◌, ◌∙◌, arith, length, ℕ, Bool, true, false, List, [], ◌∷◌, Option, Some, None, ap, refl, sym, subst}
 use Rattle.std.specs.Prelude.{find, option_copied, unwrap_or, if◌then◌else◌}
 use Rattle.std.specs.List.{AllByRecursion}
 use Rattle.std.specs.Str.{bytes_eq}
-use Rattle.std.proofs.Common.{inl, inr, ◌⊎◌, IfSome, Bor}
-use Rattle.std.proofs.lemmas.Bool.Decides.{eqb_tells}
+use Rattle.std.proofs.Common.{IfSome, Bor}
 use Rattle.std.proofs.lemmas.List.Elements.{recursion_from_All}
 use Rattle.std.proofs.lemmas.Option.{none-some}
-use Rattle.std.proofs.lemmas.Slice.Eq.{bytes_eq-Decides}
-use Rattle.std.specs.Prelude.{Decides}
-use Rattle.vnfm_base.specs.Ident.{IsIdentNumber, ident, ident_text}
+use Rattle.vnfm_base.specs.Ident.{IsIdentNumber}
 use Rattle.vnfm_base.specs.declared.identifier.Kind.TheVariants.{Instance}
 use Rattle.json_views.specs.Instance.{instance_id}
 use Rattle.instance_table.specs.Rows.{Rows, instance, instance_rows, rows}
 use Rattle.instance_table.specs.Table.{vnfd_named}
 use Rattle.instance_table.specs.declared.rows.InstanceRow.{InstanceRow}
-use Rattle.json_views.specs.Instance.{instance_text, instance_value}
+use Rattle.json_views.specs.Instance.{instance_text}
 use Rattle.json_views.specs.Instances.{CanBeShown, IsShowable}
 use Rattle.executor.specs.Managed.{Managed}
 use Rattle.event_codec.specs.Spell.{spelling, u64}
 use Rattle.http_wire.specs.declared.request.Request.{Request}
 use Rattle.journal_core.specs.declared.journal.TheConstants.{MAX_RECORD}
 use Rattle.lcm_api.specs.Instances.{asked_id, delete_found, delete_instance, delete_judged, deleted, deletion, named_instance, row_text, show_found}
+use Rattle.lcm_api.proofs.IdentLemmas.{IsReading, agrees, differs, find_none, find_same}
 use Rattle.lcm_api.specs.Recording.{IsPlanned}
 use Rattle.lcm_api.specs.Replies.{shown, told}
 use Rattle.lcm_api.specs.declared.record.Planned.TheVariants.{Records}
@@ -30,16 +28,6 @@ use Rattle.lcm_model.specs.Refusals.{delete_refusal}
 use Rattle.lcm_events.specs.declared.descriptor.Vnfd.{Vnfd}
 use Rattle.lcm_events.specs.declared.events.Event.{Event}
 use Rattle.lcm_model.specs.Lives.{is_live}
-
--- tests that agree on each entry find the same one
-find_same : {A : Type 0} (p q : A → Bool) (xs : List A) → AllByRecursion (λ x. p x ≡ q x) xs → find p xs ≡ find q xs
-find_same p q [] h = refl
-find_same p q (x ∷ xs) h = rw (h.0, find_same p q xs h.1) refl
-
--- nothing is found where no entry passes
-find_none : {A : Type 0} (p : A → Bool) (xs : List A) → AllByRecursion (λ x. p x ≡ false) xs → find p xs ≡ None
-find_none p [] h = refl
-find_none p (x ∷ xs) h = rw h.0 (find_none p xs h.1)
 
 -- what stands behind a test is the entry, or what was found behind it
 found_at : {A : Type 0} (P : A → Type 0) (b : Bool) (y : A) (o : Option A) (x : A) → (if b then Some y else o) ≡ Some x → P y → (o ≡ Some x → P x) → P x
@@ -51,47 +39,26 @@ pub find_is : {A : Type 0} (P : A → Type 0) (p : A → Bool) (xs : List A) (x 
 find_is P p [] x h e = absurd (none-some x e)
 find_is P p (y ∷ ys) x h e = found_at P (p y) y (find p ys) x e h.0 (find_is P p ys x h.1)
 
-of_not : (b : Bool) → (b ≡ true → ⊥) → b ≡ false
-of_not true h = absurd (h refl)
-of_not false h = refl
-
--- the identifier is read: of numbers that identifiers carry it is that of this one, where it was found, and of no other
-pub record IsReading (m : ℕ) (id : List ℕ) (found : Option ℕ) : Type 0 where
-  pub has : IfSome found (λ n. IsIdentNumber n × (id ≡ ident_text (ident m Instance n)))
-  pub only : (n : ℕ) → IsIdentNumber n → id ≡ ident_text (ident m Instance n) → found ≡ Some n
-
--- an instance has the identifier that was read exactly where it has its number
-agrees : (m n k : ℕ) (id : List ℕ) → IsReading m id (Some n) → IsIdentNumber k → bytes_eq (instance_id m k) id ≡ (k == n)
-unfolding instance_id
-agrees m n k id reading small = of (eqb_tells k n) (bytes_eq-Decides (ident_text (ident m Instance k)) id) where
-  of : (((k == n) ≡ true) × (k ≡ n)) ⊎ (((k == n) ≡ false) × (k ≢ n)) → Decides (bytes_eq (ident_text (ident m Instance k)) id) (ident_text (ident m Instance k) ≡ id)
-      → bytes_eq (ident_text (ident m Instance k)) id ≡ (k == n)
-  of (inl (same, is)) d = d.1 (ap (λ j. ident_text (ident m Instance j)) is ∙ sym reading.has.1) ∙ sym same
-  of (inr (other, isnt)) d = of_not _ (λ e. isnt (sym (ap (λ found. unwrap_or found 0) (reading.only k small (sym (d.0 e)))))) ∙ sym other
-
--- no instance has an identifier that names none
-differs : (m k : ℕ) (id : List ℕ) → IsReading m id None → IsIdentNumber k → bytes_eq (instance_id m k) id ≡ false
-unfolding instance_id
-differs m k id reading small = of_not _ (λ e. none-some k (reading.only k small (sym ((bytes_eq-Decides (ident_text (ident m Instance k)) id).0 e))))
-
 -- each row has a number that an identifier can carry
 abbrev pub AreNumbered : List InstanceRow → Type 0
 AreNumbered = AllByRecursion (λ row. IsIdentNumber row.number)
 
 -- the row that has the identifier is that of its number
-pub named_is : (m n : ℕ) (id : List ℕ) (rs : List InstanceRow) → IsReading m id (Some n) → AreNumbered rs
+pub named_is : (m n : ℕ) (id : List ℕ) (rs : List InstanceRow) → IsReading Instance m id (Some n) → AreNumbered rs
     → find (λ row. bytes_eq (instance_id m row.number) id) rs ≡ find (λ row. row.number == n) rs
+unfolding instance_id
 named_is m n id rs reading numbered = find_same _ _ rs (all rs numbered) where
   all : (rs : List InstanceRow) → AreNumbered rs → AllByRecursion (λ row. bytes_eq (instance_id m row.number) id ≡ (row.number == n)) rs
   all [] h = tt
-  all (r ∷ rs) h = (agrees m n r.number id reading h.0, all rs h.1)
+  all (r ∷ rs) h = (agrees Instance m n r.number id reading h.0, all rs h.1)
 
 -- no row has an identifier that names none
-pub named_none : (m : ℕ) (id : List ℕ) (rs : List InstanceRow) → IsReading m id None → AreNumbered rs → find (λ row. bytes_eq (instance_id m row.number) id) rs ≡ None
+pub named_none : (m : ℕ) (id : List ℕ) (rs : List InstanceRow) → IsReading Instance m id None → AreNumbered rs → find (λ row. bytes_eq (instance_id m row.number) id) rs ≡ None
+unfolding instance_id
 named_none m id rs reading numbered = find_none _ rs (all rs numbered) where
   all : (rs : List InstanceRow) → AreNumbered rs → AllByRecursion (λ row. bytes_eq (instance_id m row.number) id ≡ false) rs
   all [] h = tt
-  all (r ∷ rs) h = (differs m r.number id reading h.0, all rs h.1)
+  all (r ∷ rs) h = (differs Instance m r.number id reading h.0, all rs h.1)
 
 numbers : (rs : Rows) (xs : List InstanceRow) → AllByRecursion (IsShowable rs) xs → AreNumbered xs
 numbers rs [] h = tt
@@ -101,12 +68,12 @@ numbered : (rs : Rows) → CanBeShown rs → AreNumbered rs.instances
 numbered rs shown = numbers rs rs.instances (recursion_from_All (IsShowable rs) rs.instances shown)
 
 -- the row of the number that was read is that of the identifier
-pub named_found : (m n : ℕ) (id : List ℕ) (H : List Event) (x : Option InstanceRow) → IsReading m id (Some n) → CanBeShown (rows H)
+pub named_found : (m n : ℕ) (id : List ℕ) (H : List Event) (x : Option InstanceRow) → IsReading Instance m id (Some n) → CanBeShown (rows H)
     → x ≡ find (λ row. row.number == n) (instance_rows H) → x ≡ named_instance m H id
 named_found m n id H x reading shown is = is ∙ sym (named_is m n id (instance_rows H) reading (numbered (rows H) shown))
 
 -- where no number was read, no live instance has the identifier
-pub named_lost : (m : ℕ) (id : List ℕ) (H : List Event) → IsReading m id None → CanBeShown (rows H) → None ≡ named_instance m H id
+pub named_lost : (m : ℕ) (id : List ℕ) (H : List Event) → IsReading Instance m id None → CanBeShown (rows H) → None ≡ named_instance m H id
 named_lost m id H reading shown = sym (named_none m id (instance_rows H) reading (numbered (rows H) shown))
 
 -- what was found among the rows can be shown

@@ -1,5 +1,8 @@
+mod AskedLemmas
+mod IdentLemmas
 mod InstanceLemmas
 mod ListenLemmas
+mod OccurrenceLemmas
 mod StepLemmas
 mod StepsLemmas
 pub mod TalkLemmas

@@ -13,7 +13,7 @@ use Rattle.lcm_api.specs.Response.{text}
 use Rattle.lcm_api.specs.Answering.{IsAcknowledged, IsOutcomeOf}
 use Rattle.lcm_api.specs.Outcome.{outcome}
 use Rattle.lcm_api.specs.Replies.{refusal, starved}
-use Rattle.lcm_api.specs.Session.{Ask, Last, Ending, Talk, asked_last, has_reply, is_breaking, once_answered, outcome_of, replies, reply_last, said, taken_by, work_last}
+use Rattle.lcm_api.specs.Session.{AreFor, Ask, Last, Ending, Talk, asked_last, has_reply, is_breaking, once_answered, outcome_of, replies, reply_last, said, taken_by, work_last}
 use Rattle.lcm_api.specs.Step.{Responds, IsAbout, IsStep, answered_one, ended_so}
 use Rattle.lcm_api.specs.declared.session.Step.{Step}
 use Rattle.lcm_api.specs.declared.session.Step.TheVariants as step
@@ -66,11 +66,11 @@ cause_lost last (Err failed) a b cause = λ is. cause.1
 pub talk_of_request : (t : talking.Tells) (m : ℕ) (H : List Event) (talk : Talk) (r : Request) (n : Managed) (s : SiteState) (c u : MouthState) (ks : List ℕ) (v : World)
     → Counts t.door c.wire u.wire r → OnlyTakesIn t.door c.wire.intake u.wire.intake → Responds t m H talk n (world s u ks) v → IsAbout r talk → Talks t m H talk n (world s c ks) v
 talk_of_request t m H talk r n s c u ks v counts reads does about =
-    let x : Ask = record { request = r; value = about.value } in
     let Q : List Ask → Type 0 = λ asks. AreRequests asks (remains_of c.wire) (remains_of v.mouth.wire) in
     record {
       works = does.works;
       holds = record {
+        roles = subst (AreFor talk.role) (sym about.is) (refl, tt);
         requests = λ told.
             let replied = does.replies told in
             let same = remains_kept [] (said (replies m H talk.asks) ++ replied.final) u v.mouth does.kept replied.door in
@@ -115,6 +115,7 @@ talk_of_end t m H role end answer s c u v ks idles ready takes reads none asked 
     record {
       works = subst P (sym work) (idles m H ready);
       holds = record {
+        roles = subst (λ (asks : List Ask). AreFor role (asks ++ [])) (sym asked) tt;
         requests = λ told.
             let said_so = says told in
             let same = remains_kept [] said_so.0 u v kept said_so.2 in
@@ -147,18 +148,18 @@ talk_of_end t m H role end answer s c u v ks idles ready takes reads none asked 
     }
 
 -- a reply that acknowledges what the manager's history ends with may be told
-pub acknowledged : (tells : Type 0) (m : ℕ) (H : List Event) (r : Request) (now : ℕ) (n : Managed) (a b : SiteState) (hand : Option Request) (reply : Reply) → Stays b
-    → Works tells m H (went ((outcome m H now r).after ++ H)) n a b → hand ≡ Some r → reply ≡ (outcome m H now r).reply → IsAcknowledged tells n b hand reply
-acknowledged tells m H r now n a b hand reply stays works in_hand is =
-    let P : ℕ → Type 0 = λ k. IsOutcomeOf k ((outcome m H now r).after ++ H) r reply in
+pub acknowledged : (tells : Type 0) (m : ℕ) (H : List Event) (role : Role) (r : Request) (now : ℕ) (n : Managed) (a b : SiteState) (hand : Option Request) (reply : Reply) → Stays b
+    → Works tells m H (went ((outcome m H now role r).after ++ H)) n a b → hand ≡ Some r → reply ≡ (outcome m H now role r).reply → IsAcknowledged tells n b hand role reply
+acknowledged tells m H role r now n a b hand reply stays works in_hand is =
+    let P : ℕ → Type 0 = λ k. IsOutcomeOf k ((outcome m H now role r).after ++ H) role r reply in
     record {
-      history = (outcome m H now r).after ++ H;
+      history = (outcome m H now role r).after ++ H;
       request = r;
       usable = works.closed;
       keeps = works.keeps;
       in_hand = in_hand;
       is = subst P (sym works.number) (record { before = H; now = now; reply_is = is; history_is = refl });
-      everywhere = λ told. (stays n ((outcome m H now r).after ++ H) ((works.site told).stands refl)).left;
+      everywhere = λ told. (stays n ((outcome m H now role r).after ++ H) ((works.site told).stands refl)).left;
     }
 
 -- the request in hand is one
@@ -203,8 +204,8 @@ responds_last t m H role x last result n reply w v asked works is ends gives tol
     }
 
 -- a talk about a request, under another name of it
-pub about : (q r : Request) (value : ℕ) (talk : Talk) → q ≡ r → taken_by talk ≡ record { request = q; value = value } ∷ [] → IsAbout r talk
-about q r value talk same is = record { value = value; is = is ∙ ap (λ (z : Request). record { request = z; value = value } ∷ []) same }
+pub about : (q r : Request) (value : ℕ) (talk : Talk) → q ≡ r → taken_by talk ≡ record { role = talk.role; request = q; value = value } ∷ [] → IsAbout r talk
+about q r value talk same is = record { value = value; is = is ∙ ap (λ (z : Request). record { role = talk.role; request = z; value = value } ∷ []) same }
 
 -- the answer of a telling at the end, as one of a step
 pub told_step : (role : Role) (last : Last) (result : Result (Unit {0}) DoorFailed) (answer : Step) → has_reply last ≡ true → is_breaking last ≡ false

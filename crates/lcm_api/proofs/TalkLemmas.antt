@@ -6,7 +6,7 @@ use Rattle.http_wire.specs.declared.TheConstants.{CONNECTION_REQUESTS}
 use Rattle.http_wire.specs.Intake.{OnlyReads}
 use Rattle.http_wire.specs.Wire.{WireState}
 use Rattle.lcm_api.specs.Response.{text}
-use Rattle.lcm_api.specs.Session.{Ask, Last, Ending, Talk, over, unheard, untold, starving, breaking, life, once_answered, outcome_of, replies, said, asked_by, work_by}
+use Rattle.lcm_api.specs.Session.{AreFor, Ask, Last, Ending, Talk, over, unheard, untold, starving, breaking, life, once_answered, outcome_of, replies, said, asked_by, work_by}
 use Rattle.lcm_api.specs.Step.{answered_one, ended_so}
 use Rattle.lcm_api.specs.Talking as talking
 use Rattle.lcm_api.specs.Talking.{World, Remains, IsNext, AreRequests, GaveAll, Converses, SaysLast, Speaks, AsksLast, EndsFor, Ends, IsLost, Talks}
@@ -15,7 +15,6 @@ use Rattle.lcm_api.specs.declared.door.DoorFailed.{DoorFailed}
 use Rattle.lcm_api.specs.declared.reply.Reply.{Reply}
 use Rattle.lcm_events.specs.declared.events.Event.{Event}
 use Rattle.lcm_events.specs.declared.states.Role.{Role}
-use Rattle.site_traits.specs.Counts.{SiteCounts, OnlyDiskFails, one_more}
 use Rattle.site_traits.specs.Door.{DoorState, DoorCounts, NoNextFault}
 
 pub life_more : {X : Type 0} (next : List Event → X → List Event) (H : List Event) (ys xs : List X) → life next H (ys ++ xs) ≡ life next (life next H xs) ys
@@ -40,6 +39,10 @@ requests_more xs (y ∷ ys) a b c first second = (second.0, requests_more xs ys 
 gave_more : (xs ys : List Ask) (a b c : List ℕ) → GaveAll xs a b → GaveAll ys b c → GaveAll (ys ++ xs) a c
 gave_more xs [] a b c first second = let P : List ℕ → Type 0 = λ r. GaveAll xs a r in subst P (sym second) first
 gave_more xs (y ∷ ys) a b c first second = (second.0, gave_more xs ys a b second.0 first second.1, second.2)
+
+for_more : (role : Role) (xs ys : List Ask) → AreFor role xs → AreFor role ys → AreFor role (ys ++ xs)
+for_more role xs [] first second = first
+for_more role xs (y ∷ ys) first second = (second.0, for_more role xs ys first second.1)
 
 -- what came in and went out, one after the other
 pub converses_then : (r s p q : List ℕ) (a b c : DoorState) → Converses r p a b → Converses s q b c → Converses (r ++ s) (p ++ q) a c
@@ -158,6 +161,7 @@ talks_on t m H role xs ys end n o w u v joins first second =
     record {
       works = subst P (sym (life_more (once_answered m) H ys xs)) (joins m H G (work_by m (life (once_answered m) G ys) end) n o first.works second.works);
       holds = record {
+        roles = subst (AreFor role) taken (for_more role xs (asked_by end ++ ys) first.holds.roles second.holds.roles);
         requests = λ told. subst Q taken (requests_more xs (asked_by end ++ ys) (talking.remains_of w.mouth.wire) (talking.remains_of u.mouth.wire) (talking.remains_of v.mouth.wire) (first.holds.requests told) (second.holds.requests told));
         speaks = λ told. speaks_on m H role xs ys end w.mouth.wire.intake.door u.mouth.wire.intake.door v.mouth.wire.intake.door (first.holds.speaks told) (second.holds.speaks told);
         clock = λ told. subst R taken (gave_more xs (asked_by end ++ ys) w.clock u.clock v.clock (first.holds.clock told) (second.holds.clock told));
@@ -183,6 +187,7 @@ none_so_far t role m w idles up = record {
     record {
       works = idles m H ready;
       holds = record {
+        roles = tt;
         requests = λ told. refl;
         speaks = λ told. record { read = []; final = []; final_is = refl; door = converses_none w.mouth.wire.intake.door };
         clock = λ told. refl;

@@ -5,6 +5,7 @@ use Rattle.executor.specs.Managed.{Managed, Keeps}
 use Rattle.executor.specs.Work.{Work, went, broke}
 use Rattle.http_wire.specs.declared.request.Request.{Request}
 use Rattle.lcm_events.specs.declared.events.Event.{Event}
+use Rattle.lcm_events.specs.declared.states.Role.{Role}
 use Rattle.site_traits.specs.Site.{Pair, SiteState}
 use Rattle.lcm_api.specs.Outcome.{outcome}
 use Rattle.lcm_api.specs.Replies.{Outcome}
@@ -18,20 +19,20 @@ answered o H (Ok reply) = went (o.after ++ H)
 answered o H (Err fault.Disk) = broke H (o.after ++ H)
 answered o H (Err fault.Memory) = went H
 
--- the reply is the outcome of the request, and the history ends with what it acknowledges
-pub record IsOutcomeOf (m : ℕ) (H : List Event) (r : Request) (reply : Reply) : Type 0 where
+-- the reply is the outcome of the request of this role, and the history ends with what it acknowledges
+pub record IsOutcomeOf (m : ℕ) (H : List Event) (role : Role) (r : Request) (reply : Reply) : Type 0 where
   pub before : List Event
   pub now : ℕ
-  pub reply_is : reply ≡ (outcome m before now r).reply
-  pub history_is : H ≡ (outcome m before now r).after ++ before
+  pub reply_is : reply ≡ (outcome m before now role r).reply
+  pub history_is : H ≡ (outcome m before now role r).after ++ before
 
--- A reply may be told: the manager is open, the reply is the outcome of the request in hand, the history that the manager keeps ends with
+-- A reply may be told: the manager is open, the reply is the outcome of the request in hand for its role, the history that the manager keeps ends with
 -- what it acknowledges, and whatever a stop leaves now has that history.
-pub record IsAcknowledged (tells : Type 0) (m : Managed) (s : SiteState) (hand : Option Request) (reply : Reply) : Type 0 where
+pub record IsAcknowledged (tells : Type 0) (m : Managed) (s : SiteState) (hand : Option Request) (role : Role) (reply : Reply) : Type 0 where
   pub history : List Event
   pub request : Request
   pub usable : m.ledger.closed ≡ false
   pub keeps : Keeps m history
   pub in_hand : hand ≡ Some request
-  pub is : IsOutcomeOf m.ledger.manager history request reply
+  pub is : IsOutcomeOf m.ledger.manager history role request reply
   pub everywhere : tells → (p : Pair) → s.since s.moment p → HasHistory m.ledger.manager history p.image

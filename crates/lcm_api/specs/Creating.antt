@@ -1,5 +1,5 @@
 -- What a request to create an instance comes to (SOL 003 5.4.2.3.1). The order of the refusals is an own rule.
-use Rattle.std.specs.Prelude.{ℕ, ◌+◌, List, [], ◌∷◌, ◌++◌, length, codes, nat_le, if◌then◌else◌, Bool, false, Option, Some, None, Result, Ok, Err}
+use Rattle.std.specs.Prelude.{ℕ, ◌+◌, List, ◌∷◌, length, codes, nat_le, if◌then◌else◌, Bool, false, Option, Some, None, Result, Ok, Err}
 use Rattle.executor.specs.Room.{is_full}
 use Rattle.lcm_events.specs.declared.events.Event.{Event}
 use Rattle.lcm_events.specs.declared.events.EventKind.TheVariants.{Created}
@@ -9,10 +9,10 @@ use Rattle.json_views.specs.Body.{create_of}
 use Rattle.json_views.specs.Instance.{instance_path, created_text}
 use Rattle.json_views.specs.declared.body.CreateBody.{CreateBody}
 use Rattle.json_views.specs.declared.body.BodyFault.{BodyFault}
-use Rattle.json_views.specs.declared.body.BodyFault.TheVariants.{Malformed, Lacks, Wrong, Memory}
 use Rattle.http_wire.specs.declared.request.Request.{Request}
+use Rattle.lcm_api.specs.Bodies.{unread}
 use Rattle.lcm_api.specs.Media.{is_json}
-use Rattle.lcm_api.specs.Replies.{Outcome, refused, room_outcome, starved, told}
+use Rattle.lcm_api.specs.Replies.{Outcome, refused, room_outcome, told}
 use Rattle.lcm_api.specs.declared.create.TheConstants.{MAX_INSTANCES}
 use Rattle.lcm_api.specs.declared.record.TheConstants.{MAX_REQUESTED}
 use Rattle.lcm_api.specs.declared.reply.Reply.{Reply}
@@ -39,10 +39,7 @@ create_outcome m H now body last = described_outcome m H now body last (descript
 -- a create request with this body, as it is read
 abbrev pub body_outcome : ℕ → List Event → ℕ → Result CreateBody BodyFault → Bool → Outcome
 body_outcome m H now (Ok body) last = create_outcome m H now body last
-body_outcome m H now (Err Malformed) last = refused 400 (codes "malformed JSON") last
-body_outcome m H now (Err (Lacks name)) last = refused 400 (codes "missing " ++ name) last
-body_outcome m H now (Err (Wrong name)) last = refused 400 (codes "bad " ++ name) last
-body_outcome m H now (Err Memory) last = told starved
+body_outcome m H now (Err fault) last = told (unread fault last)
 
 -- what a request to create an instance comes to: its body is to be JSON
 abbrev pub create_instance : ℕ → List Event → ℕ → Request → Outcome

@@ -1,11 +1,14 @@
 pub mod Answering
+pub mod Bodies
 pub mod Creating
 pub mod Hearing
 pub mod Instances
+pub mod Instantiating
 pub mod Judging
 pub mod Laws
 pub mod Media
 pub mod Mouth
+pub mod Occurrences
 pub mod Outcome
 pub mod Recording
 pub mod Refusals

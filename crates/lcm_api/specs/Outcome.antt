@@ -2,30 +2,37 @@
 use Rattle.std.specs.Prelude.{ℕ, List, codes}
 use Rattle.http_wire.specs.declared.request.Request.{Request}
 use Rattle.lcm_events.specs.declared.events.Event.{Event}
+use Rattle.lcm_events.specs.declared.states.Role.{Role}
 use Rattle.lcm_api.specs.Creating.{create_instance}
 use Rattle.lcm_api.specs.Instances.{delete_instance, instance_task, list_instances, show_instance}
+use Rattle.lcm_api.specs.Instantiating.{instantiate}
+use Rattle.lcm_api.specs.Occurrences.{list_occurrences, occurrence_task, show_occurrence}
 use Rattle.lcm_api.specs.Replies.{Outcome, refused, told}
 use Rattle.lcm_api.specs.Routes.{not_allowed, routing}
 use Rattle.lcm_api.specs.declared.route.Route.{Route}
-use Rattle.lcm_api.specs.declared.route.Route.TheVariants.{ListInstances, CreateInstance, ShowInstance, DeleteInstance, InstanceTask}
+use Rattle.lcm_api.specs.declared.route.Route.TheVariants.{ListInstances, CreateInstance, ShowInstance, DeleteInstance, Instantiate, InstanceTask, ListOccurrences, ShowOccurrence, OccurrenceTask}
 use Rattle.lcm_api.specs.declared.route.Routing.{Routing}
 use Rattle.lcm_api.specs.declared.route.Routing.TheVariants.{Nowhere, NotAllowed, Served}
 
 -- what a request on this route comes to
-abbrev pub served : Route → ℕ → List Event → ℕ → Request → Outcome
-served ListInstances m H now r = list_instances m H r
-served CreateInstance m H now r = create_instance m H now r
-served ShowInstance m H now r = show_instance m H r
-served DeleteInstance m H now r = delete_instance m H now r
-served InstanceTask m H now r = instance_task m H r
+abbrev pub served : Route → ℕ → List Event → ℕ → Role → Request → Outcome
+served ListInstances m H now role r = list_instances m H r
+served CreateInstance m H now role r = create_instance m H now r
+served ShowInstance m H now role r = show_instance m H r
+served DeleteInstance m H now role r = delete_instance m H now r
+served Instantiate m H now role r = instantiate m H now role r
+served InstanceTask m H now role r = instance_task m H r
+served ListOccurrences m H now role r = list_occurrences m H r
+served ShowOccurrence m H now role r = show_occurrence m H r
+served OccurrenceTask m H now role r = occurrence_task m H r
 
 -- what a request that goes there comes to
-abbrev pub routed : Routing → ℕ → List Event → ℕ → Request → Outcome
-routed Nowhere m H now r = refused 404 (codes "no such resource") r.last
-routed (NotAllowed x) m H now r = told (not_allowed x r.last)
-routed (Served route) m H now r = served route m H now r
+abbrev pub routed : Routing → ℕ → List Event → ℕ → Role → Request → Outcome
+routed Nowhere m H now role r = refused 404 (codes "no such resource") r.last
+routed (NotAllowed x) m H now role r = told (not_allowed x r.last)
+routed (Served route) m H now role r = served route m H now role r
 
--- What a request comes to, after history H of manager m, taken at this moment. The connection ends with the reply where it ends
+-- What a request of this role comes to, after history H of manager m, taken at this moment. The connection ends with the reply where it ends
 -- with the request (RFC 9112 9.6).
-abbrev pub outcome : ℕ → List Event → ℕ → Request → Outcome
-outcome m H now r = routed (routing r) m H now r
+abbrev pub outcome : ℕ → List Event → ℕ → Role → Request → Outcome
+outcome m H now role r = routed (routing r) m H now role r

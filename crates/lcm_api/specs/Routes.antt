@@ -1,13 +1,14 @@
 -- Where a request goes: what it asks of which resource, by its target and its method (SOL 003 5.3; RFC 9110 9.1, 10.2.1).
-use Rattle.std.specs.Prelude.{ℕ, List, [], ◌∷◌, ◌++◌, codes, map, find, Bool, true, Option, Some, None, option_map}
+use Rattle.std.specs.Prelude.{ℕ, List, [], ◌∷◌, ◌++◌, codes, map, find, Bool, true, Option, Some, None}
 use Rattle.std.specs.Option.{option_map_or}
 use Rattle.std.specs.Str.{bytes_eq}
 use Rattle.http_wire.specs.declared.request.Request.{Request}
 use Rattle.json_views.specs.Problem.{problem_text}
+use Rattle.lcm_events.specs.declared.asks.OpKind.TheVariants as kinds
 use Rattle.lcm_routes.specs.Paths.{resource_of}
 use Rattle.lcm_routes.specs.Targets.{path_of}
 use Rattle.lcm_routes.specs.declared.resources.Resource.{Resource}
-use Rattle.lcm_routes.specs.declared.resources.Resource.TheVariants.{Instances, Instance, InstanceTask}
+use Rattle.lcm_routes.specs.declared.resources.Resource.TheVariants.{Instances, Instance, InstanceTask, Occurrences, Occurrence, OccurrenceTask}
 use Rattle.lcm_api.specs.declared.reply.Reply.{Reply}
 use Rattle.lcm_api.specs.declared.route.Route.{Route}
 use Rattle.lcm_api.specs.declared.route.Route.TheVariants as routes
@@ -22,11 +23,15 @@ pub record Method : Type 0 where
 abbrev pub by : List ℕ → Route → Method
 by name route = record { name = name; route = route }
 
--- the methods of each resource that is served, in byte order (SOL 003 5.4.2.3, 5.4.3.3, 5.4.4.3 to 5.4.10.3)
+-- the methods of each resource that is served, in byte order (SOL 003 5.4.2.3 to 5.4.17.3)
 abbrev pub methods : Resource → List Method
 methods Instances = by (codes "GET") routes.ListInstances ∷ by (codes "POST") routes.CreateInstance ∷ []
 methods Instance = by (codes "DELETE") routes.DeleteInstance ∷ by (codes "GET") routes.ShowInstance ∷ []
+methods (InstanceTask kinds.Instantiate) = by (codes "POST") routes.Instantiate ∷ []
 methods (InstanceTask kind) = by (codes "POST") routes.InstanceTask ∷ []
+methods Occurrences = by (codes "GET") routes.ListOccurrences ∷ []
+methods Occurrence = by (codes "GET") routes.ShowOccurrence ∷ []
+methods (OccurrenceTask task) = by (codes "POST") routes.OccurrenceTask ∷ []
 methods _ = []
 
 -- where a request with this method to a resource with these methods goes: a resource without a method isn't served yet

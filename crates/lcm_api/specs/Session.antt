@@ -1,6 +1,7 @@
 -- A session: the requests of one connection, answered one after the other, each over the history that those before it left
 -- (RFC 9112 9.3, Persistence; 9.6, Tear-down; the order is an own rule).
 use Rattle.std.specs.Prelude.{◌≡◌, ℕ, ◌+◌, Bool, true, false, List, [], ◌∷◌, ◌++◌, length, min, Option, Some, None, is_some, ◌&&◌, if◌then◌else◌, Result, Ok, Err}
+use Rattle.std.specs.List.{AllByRecursion}
 use Rattle.std.specs.Result.{is_ok}
 use Rattle.executor.specs.Work.{Work, went, broke}
 use Rattle.http_wire.specs.declared.request.Request.{Request}
@@ -14,8 +15,9 @@ use Rattle.lcm_api.specs.declared.session.Closed.{Closed}
 use Rattle.lcm_events.specs.declared.events.Event.{Event}
 use Rattle.lcm_events.specs.declared.states.Role.{Role}
 
--- a request that was taken, and what the clock gave for it, in milliseconds
+-- a request that was taken, for whom, and what the clock gave for it, in milliseconds
 pub record Ask : Type 0 where
+  pub role : Role
   pub request : Request
   pub value : ℕ
 
@@ -45,9 +47,9 @@ abbrev pub life : {X : Type 0} → (List Event → X → List Event) → List Ev
 life next H [] = H
 life next H (x ∷ before) = next (life next H before) x
 
--- what a request comes to behind history H of manager m, at the moment of the clock's value, which is the last of the year 9999 at most
+-- what a request comes to behind history H of manager m, for its role and at the moment of the clock's value, which is the last of the year 9999 at most
 abbrev pub outcome_of : ℕ → List Event → Ask → Outcome
-outcome_of m H x = outcome m H (min x.value 253402300799999) x.request
+outcome_of m H x = outcome m H (min x.value 253402300799999) x.role x.request
 
 -- the history once a request was answered
 abbrev pub once_answered : ℕ → List Event → Ask → List Event
@@ -74,6 +76,10 @@ asked_last (breaking x) = x ∷ []
 abbrev pub asked_by : Option Ending → List Ask
 asked_by None = []
 asked_by (Some end) = asked_last end.last
+
+-- each request was taken for this role
+abbrev pub AreFor : Role → List Ask → Type 0
+AreFor role asks = AllByRecursion (λ x. x.role ≡ role) asks
 
 -- the requests that were taken, the latest first
 abbrev pub taken_by : Talk → List Ask

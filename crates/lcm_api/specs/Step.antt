@@ -52,10 +52,10 @@ pub record Responds (t : talking.Tells) (m : ℕ) (H : List Event) (talk : Talk)
   pub kept : OnlyAtDoor w.mouth v.mouth
   pub counts : NoNextFault w.mouth.wire.intake.counts v.mouth.wire.intake.counts
 
--- the talk is about this request
+-- the talk is about this request, which was taken for its role
 pub record IsAbout (r : Request) (talk : Talk) : Type 0 where
   pub value : ℕ
-  pub is : taken_by talk ≡ record { request = r; value = value } ∷ []
+  pub is : taken_by talk ≡ record { role = talk.role; request = r; value = value } ∷ []
 
 -- behind a step in which a request was answered one more was taken, and no more than a connection may have
 pub record GoesOn (answer : Step) (old new : MouthState) : Type 0 where

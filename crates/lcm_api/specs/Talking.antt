@@ -15,7 +15,7 @@ use Rattle.http_wire.specs.declared.request.WireFault.TheVariants as fault
 use Rattle.lcm_api.specs.Mouth.{MouthState, Takes}
 use Rattle.lcm_api.specs.Replies.{malformed, too_large, starved}
 use Rattle.lcm_api.specs.Response.{text}
-use Rattle.lcm_api.specs.Session.{Ask, Last, Ending, Talk, over, unheard, untold, life, once_answered, replies, said, taken_by, reply_last, work_of}
+use Rattle.lcm_api.specs.Session.{AreFor, Ask, Last, Ending, Talk, over, unheard, untold, life, once_answered, replies, said, taken_by, reply_last, work_of}
 use Rattle.lcm_api.specs.declared.door.DoorFailed.{DoorFailed}
 use Rattle.lcm_api.specs.declared.reply.Reply.{Reply}
 use Rattle.lcm_events.specs.declared.events.Event.{Event}
@@ -154,6 +154,7 @@ IsLost (Some end) a b = is_ok end.told ≡ false → Rose a.faults b.faults
 
 -- What a session does to the connection and the clock, or as much of it as was done so far, over history H of manager m.
 pub record Holds (t : Tells) (m : ℕ) (H : List Event) (talk : Talk) (a b : Peers) : Type 0 where
+  pub roles : AreFor talk.role (taken_by talk)
   pub requests : t.door → AreRequests (taken_by talk) (remains_of a.mouth.wire) (remains_of b.mouth.wire)
   pub speaks : t.door → Speaks m H talk a.mouth.wire.intake.door b.mouth.wire.intake.door
   pub clock : t.clock → GaveAll (taken_by talk) a.clock b.clock

@@ -8,11 +8,13 @@ ghost use Rattle.lcm_events.specs.declared.events.Event.{Event};
 ghost use Rattle.site_traits.specs.Counts.{OnlyDiskFails};
 
 use crate::create::create;
-use crate::instances::{delete, list, show, task};
+use crate::instantiate::instantiate;
 use crate::reply::{Reply, refusal};
 use crate::route::{Route, Routing, not_allowed, route_of};
+use crate::{instances, occurrences};
 use executor::{Manager, works_add_up};
 use http_wire::Request;
+use lcm_events::Role;
 use lcm_routes::Routes;
 use site_traits::Site;
 use std::alloc::{AllocError, Global};
@@ -30,7 +32,7 @@ pub enum ApiFault {
     Memory,
 }
 
-/// Answers a request taken at this moment.
+/// Answers a request of this role, taken at this moment.
 ///
 /// Refusals of the request are replies. Refusals of the call: `Memory`, after which nothing has changed; `Disk`, after which
 /// the manager is closed.
@@ -40,24 +42,33 @@ pub fn answer<S: Site>(
     manager: &mut Manager<S>,
     site: &mut S,
     routes: &Routes,
+    role: Role,
     request: &Request,
     now: Moment,
 ) -> Result<Reply, ApiFault>
     requires ready { (H : List Event) × IsReady S.tells manager.old H (S.state site.old) }
-    ensures reply { (H : List Event) → Keeps manager.old H → IfOk result (λ given. given ≡ (outcome manager.old.ledger.manager H now request.now).reply) }
+    ensures reply { (H : List Event) → Keeps manager.old H → IfOk result (λ given. given ≡ (outcome manager.old.ledger.manager H now role request.now).reply) }
     ensures works { (H : List Event) → IsReady S.tells manager.old H (S.state site.old) → Works S.tells manager.old.ledger.manager H
-        (answered (outcome manager.old.ledger.manager H now request.now) H result) manager.new (S.state site.old) (S.state site.new) }
+        (answered (outcome manager.old.ledger.manager H now role request.now) H result) manager.new (S.state site.old) (S.state site.new) }
     ensures counts { OnlyDiskFails (result ≡ Err ApiFault.Disk) (S.counts site.old) (S.counts site.new) }
 {
     works_add_up::<S>();
     match route_of(routes, request) {
         Routing::Nowhere => Ok(refusal(alloc, 404, "no such resource", request.last)?),
         Routing::NotAllowed(resource) => Ok(not_allowed(alloc, resource, request.last)?),
-        Routing::Served(Route::ListInstances) => Ok(list(alloc, manager, request)?),
+        Routing::Served(Route::ListInstances) => Ok(instances::list(alloc, manager, request)?),
         Routing::Served(Route::CreateInstance) => create(alloc, manager, site, request, now),
-        Routing::Served(Route::ShowInstance) => Ok(show(alloc, manager, request)?),
-        Routing::Served(Route::DeleteInstance) => delete(alloc, manager, site, request, now),
-        Routing::Served(Route::InstanceTask) => Ok(task(alloc, manager, request)?),
+        Routing::Served(Route::ShowInstance) => Ok(instances::show(alloc, manager, request)?),
+        Routing::Served(Route::DeleteInstance) => {
+            instances::delete(alloc, manager, site, request, now)
+        }
+        Routing::Served(Route::Instantiate) => {
+            instantiate(alloc, manager, site, role, request, now)
+        }
+        Routing::Served(Route::InstanceTask) => Ok(instances::task(alloc, manager, request)?),
+        Routing::Served(Route::ListOccurrences) => Ok(occurrences::list(alloc, manager, request)?),
+        Routing::Served(Route::ShowOccurrence) => Ok(occurrences::show(alloc, manager, request)?),
+        Routing::Served(Route::OccurrenceTask) => Ok(occurrences::task(alloc, manager, request)?),
     }
 }
 

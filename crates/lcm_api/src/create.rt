@@ -1,5 +1,5 @@
 //! Creating an instance: POST on the instances.
-ghost use Rattle.std.specs.Prelude.{◌≡◌, ◌++◌, List, IfOk, false};
+ghost use Rattle.std.specs.Prelude.{◌≡◌, List, IfOk, false};
 ghost use Rattle.lcm_events.specs.declared.events.Event.{Event};
 ghost use Rattle.lcm_events.specs.declared.events.EventKind.TheVariants.{Created};
 ghost use Rattle.site_traits.specs.Counts.{OnlyDiskFails};
@@ -7,22 +7,22 @@ ghost use Rattle.executor.specs.Managed.{IsReady, Keeps};
 ghost use Rattle.executor.specs.Work.{Works};
 ghost use Rattle.lcm_api.specs.Answering.{answered};
 ghost use Rattle.lcm_api.specs.Creating.{create_instance, create_outcome, created};
-ghost use Rattle.lcm_api.specs.Judging.{IsRefusedBody, IsVerdict};
+ghost use Rattle.lcm_api.specs.Judging.{IsVerdict};
 ghost use Rattle.lcm_api.specs.Recording.{IsPlanned};
-ghost use Rattle.lcm_api.specs.Replies.{refusal};
 ghost use Rattle.vnfm_base.specs.Ident.{IsIdentNumber};
 
 use crate::answer::ApiFault;
+use crate::bodies::refused_body;
 use crate::media::is_json;
 use crate::record::{Planned, carry_out};
 use crate::reply::{Reply, refusal};
 use executor::{Manager, works_add_up};
 use http_wire::Request;
-use json_views::{BodyFault, CreateBody, created_view, instance_path, read_create};
+use json_views::{CreateBody, created_view, instance_path, read_create};
 use lcm_events::{Event, EventKind, Vnfd};
 use site_traits::Site;
 use std::alloc::{AllocError, Global};
-use vnfm_base::{Kind, Line, Moment, Name};
+use vnfm_base::{Kind, Line, Moment};
 
 /// Instances that may be live at one time.
 pub const MAX_INSTANCES: u64 = 1_000;
@@ -73,27 +73,6 @@ fn judge(alloc: Global, request: &Request) -> Result<Verdict, AllocError>
         Ok(body) => Ok(Verdict::Create(body)),
         Err(fault) => Ok(Verdict::Refused(refused_body(alloc, &fault, request.last)?)),
     }
-}
-
-/// The refusal of a body that wasn't read.
-fn refused_body(alloc: Global, fault: &BodyFault, last: bool) -> Result<Reply, AllocError>
-    ensures { IfOk result (IsRefusedBody fault.now last) }
-{
-    match fault {
-        BodyFault::Malformed => refusal(alloc, 400, "malformed JSON", last),
-        BodyFault::Lacks(name) => refusal_of(alloc, "missing ", name, last),
-        BodyFault::Wrong(name) => refusal_of(alloc, "bad ", name, last),
-        BodyFault::Memory => Err(AllocError),
-    }
-}
-
-/// The refusal of a body for one member.
-fn refusal_of(alloc: Global, what: &str, member: &Name, last: bool) -> Result<Reply, AllocError>
-    ensures { IfOk result (λ reply. reply ≡ refusal 400 (what.now ++ member.now) last) }
-{
-    let mut detail = String::from_str(alloc, what)?;
-    detail.push_str(member.as_str())?;
-    refusal(alloc, 400, detail.as_str(), last)
 }
 
 /// Creates an instance of this body.

@@ -123,14 +123,14 @@ fn plan_deletion<S: Site>(
 }
 
 /// The identifier in the path of a request.
-fn asked_id(request: &Request) -> &str
+pub fn asked_id(request: &Request) -> &str
     ensures { result.now ≡ asked_id request.now }
 {
     identifier_in(path_of(request.target.as_str()))
 }
 
 /// The row of the live instance that has this identifier; none exactly where no live instance has it.
-fn named_instance<'a, S: Site>(manager: &'a Manager<S>, id: &str) -> Option<&'a InstanceRow>
+pub fn named_instance<'a, S: Site>(manager: &'a Manager<S>, id: &str) -> Option<&'a InstanceRow>
     requires usable { manager.now.ledger.closed ≡ false }
     ensures named { (H : List Event) → Keeps manager.now H → option_copied result ≡ named_instance manager.now.ledger.manager H id.now }
     ensures live { (H : List Event) → Keeps manager.now H → IfSome result (λ row. is_live H row.now.number ≡ true) }
@@ -161,7 +161,7 @@ fn show_row<S: Site>(
 }
 
 /// The refusal where no live instance has the identifier.
-fn no_instance(alloc: Global, last: bool) -> Result<Reply, AllocError>
+pub fn no_instance(alloc: Global, last: bool) -> Result<Reply, AllocError>
     ensures { IfOk result (λ reply. no_instance last ≡ told reply) }
 {
     refusal(alloc, 404, "no such instance", last)

@@ -2,13 +2,16 @@
 #![tactic(auto)]
 
 mod answer;
+mod bodies;
 mod create;
 mod door;
 mod instances;
+mod instantiate;
 mod laws;
 mod listen;
 mod media;
 mod mouth;
+mod occurrences;
 mod outgoing;
 mod record;
 mod reply;

@@ -138,7 +138,7 @@ impl<D: Door> Mouth<D> {
     /// Tells a reply to the connection, with one write for every reply of at most 65,536 bytes.
     ///
     /// Condition: the connection is up. Condition of a reply below 400: the manager is open, the reply is the outcome of the request
-    /// in hand, and its events end the manager's history, which every stop leaves.
+    /// in hand for its role, and its events end the manager's history, which every stop leaves.
     /// Refusal: `DoorFailed` where a write failed: the door's count of faults rose, and a front of the bytes went out.
     /// Source: RFC 9112 4, 5, 6.2, 9.6.
     pub fn tell<S: Site>(
@@ -148,7 +148,7 @@ impl<D: Door> Mouth<D> {
         reply: &Reply,
     ) -> Result<(), DoorFailed>
         requires up { self.old.wire.intake.counts.up ≡ true }
-        requires acknowledged { reply.now.status < 400 → IsAcknowledged S.tells manager.now (S.state site.now) self.old.hand reply.now }
+        requires acknowledged { reply.now.status < 400 → IsAcknowledged S.tells manager.now (S.state site.now) self.old.hand self.old.role reply.now }
         ensures told { D.tells → Tells (text reply.now) result self.old.wire.intake.door self.new.wire.intake.door }
         ensures cause { TellCause result self.old.wire.intake.counts self.new.wire.intake.counts }
         ensures kept { OnlyAtDoor self.old self.new }
@@ -159,6 +159,13 @@ impl<D: Door> Mouth<D> {
     /// The paths that a request may name.
     pub fn routes(&self) -> &Routes {
         &self.routes
+    }
+
+    /// Whom the request in hand was heard for.
+    pub fn role(&self) -> Role
+        ensures { result ≡ self.now.role }
+    {
+        self.role
     }
 
     /// The request in hand. Condition: one is in hand.

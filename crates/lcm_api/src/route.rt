@@ -6,13 +6,14 @@ ghost use Rattle.vnfm_base.specs.Text.{is_label};
 use crate::reply::Reply;
 use http_wire::Request;
 use json_views::problem_view;
+use lcm_events::OpKind;
 use lcm_routes::{Resource, Routes, path_of};
 use std::alloc::{AllocError, Global};
 use vnfm_base::Name;
 
 /// What a request asks for.
 ///
-/// Source: SOL 003 5.4.2.3, 5.4.3.3, 5.4.4.3 to 5.4.10.3.
+/// Source: SOL 003 5.4.2.3 to 5.4.17.3.
 #[derive(Clone, Copy, Debug, PartialEq, Eq)]
 pub enum Route {
     /// It lists the instances.
@@ -23,8 +24,16 @@ pub enum Route {
     ShowInstance,
     /// It deletes an instance.
     DeleteInstance,
-    /// It asks for a task of an instance.
+    /// It instantiates an instance.
+    Instantiate,
+    /// It asks for another task of an instance.
     InstanceTask,
+    /// It lists the occurrences.
+    ListOccurrences,
+    /// It shows an occurrence.
+    ShowOccurrence,
+    /// It asks for a task of an occurrence.
+    OccurrenceTask,
 }
 
 /// Where a request goes.
@@ -66,15 +75,27 @@ fn routing_to(resource: Resource, method: &str) -> Routing
             "GET" => Routing::Served(Route::ShowInstance),
             _ => Routing::NotAllowed(resource),
         },
+        Resource::InstanceTask(OpKind::Instantiate) => match method {
+            "POST" => Routing::Served(Route::Instantiate),
+            _ => Routing::NotAllowed(resource),
+        },
         Resource::InstanceTask(_) => match method {
             "POST" => Routing::Served(Route::InstanceTask),
             _ => Routing::NotAllowed(resource),
         },
-        Resource::Occurrences
-        | Resource::Occurrence
-        | Resource::OccurrenceTask(_)
-        | Resource::Subscriptions
-        | Resource::Subscription => Routing::Nowhere,
+        Resource::Occurrences => match method {
+            "GET" => Routing::Served(Route::ListOccurrences),
+            _ => Routing::NotAllowed(resource),
+        },
+        Resource::Occurrence => match method {
+            "GET" => Routing::Served(Route::ShowOccurrence),
+            _ => Routing::NotAllowed(resource),
+        },
+        Resource::OccurrenceTask(_) => match method {
+            "POST" => Routing::Served(Route::OccurrenceTask),
+            _ => Routing::NotAllowed(resource),
+        },
+        Resource::Subscriptions | Resource::Subscription => Routing::Nowhere,
     }
 }
 
@@ -96,12 +117,9 @@ fn allow_text(resource: Resource) -> &'static str
     match resource {
         Resource::Instances => "GET, POST",
         Resource::Instance => "DELETE, GET",
-        Resource::InstanceTask(_) => "POST",
-        Resource::Occurrences
-        | Resource::Occurrence
-        | Resource::OccurrenceTask(_)
-        | Resource::Subscriptions
-        | Resource::Subscription => "",
+        Resource::InstanceTask(_) | Resource::OccurrenceTask(_) => "POST",
+        Resource::Occurrences | Resource::Occurrence => "GET",
+        Resource::Subscriptions | Resource::Subscription => "",
     }
 }
 

@@ -150,7 +150,15 @@ fn respond<S: Site, D: Door, K: Clock>(
 {
     works_add_up::<S>();
     let now = Moment::of(clock.now());
-    match answer(alloc, manager, site, mouth.routes(), mouth.request(), now) {
+    match answer(
+        alloc,
+        manager,
+        site,
+        mouth.routes(),
+        mouth.role(),
+        mouth.request(),
+        now,
+    ) {
         Ok(reply) => match mouth.tell(manager, site, &reply) {
             Ok(()) => Step::Told,
             Err(DoorFailed) => Step::Over,

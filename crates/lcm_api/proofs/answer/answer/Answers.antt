@@ -10,5 +10,11 @@ use Rattle.lcm_api.proofs.answer.answer.Goals as goal
 pub returns-in-Served-CreateInstance-clause-works : goal.returns-in-Served-CreateInstance-clause-works
 returns-in-Served-CreateInstance-clause-works g c = λ H ready.
     subst (λ (o : Outcome). Works g.S.Site.tells c.args.manager.now.ledger.manager H (answered o H c.create.result) c.create.new.manager (g.S.Site.state c.args.site.now) (g.S.Site.state c.create.new.site))
-    (ap (λ to. routed to c.args.manager.now.ledger.manager H c.args.now c.args.request.now) (sym (ap Served c.in-Served-CreateInstance.field-0-is) ∙ (sym c.in-Served-CreateInstance.is ∙ c.route_of.ensures)))
+    (ap (λ to. routed to c.args.manager.now.ledger.manager H c.args.now c.args.role c.args.request.now) (sym (ap Served c.in-Served-CreateInstance.field-0-is) ∙ (sym c.in-Served-CreateInstance.is ∙ c.route_of.ensures)))
     (c.create.ensures.works H ready)
+
+pub returns-in-Served-Instantiate-clause-works : goal.returns-in-Served-Instantiate-clause-works
+returns-in-Served-Instantiate-clause-works g c = λ H ready.
+    subst (λ (o : Outcome). Works g.S.Site.tells c.args.manager.now.ledger.manager H (answered o H c.instantiate.result) c.instantiate.new.manager (g.S.Site.state c.args.site.now) (g.S.Site.state c.instantiate.new.site))
+    (ap (λ to. routed to c.args.manager.now.ledger.manager H c.args.now c.args.role c.args.request.now) (sym (ap Served c.in-Served-Instantiate.field-0-is) ∙ (sym c.in-Served-Instantiate.is ∙ c.route_of.ensures)))
+    (c.instantiate.ensures.works H ready)

@@ -1,5 +1,4 @@
 -- Nothing refuses the deletion of the instance that was found.
-use Rattle.std.proofs.Common.{ap, sym, ◌∙◌}
 use Rattle.lcm_api.proofs.InstanceLemmas.{deletes}
 use Rattle.lcm_api.proofs.instances.plan_deletion.Goals as goal
 

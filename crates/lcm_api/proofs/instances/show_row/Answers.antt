@@ -1,7 +1,6 @@
 -- The descriptor that the row names is there.
-use Rattle.std.proofs.Common.{ap, sym, subst, refl, ◌∙◌, true≢false, Some, None}
-use Rattle.std.specs.Prelude.{is_some, option_copied}
-use Rattle.instance_table.specs.Table.{vnfd_named}
+use Rattle.std.proofs.Common.{ap, sym, ◌∙◌, true≢false}
+use Rattle.std.specs.Prelude.{is_some}
 use Rattle.lcm_api.proofs.InstanceLemmas.{shows_row}
 use Rattle.lcm_api.proofs.instances.show_row.Goals as goal
 

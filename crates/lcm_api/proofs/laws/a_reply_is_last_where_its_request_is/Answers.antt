@@ -1,7 +1,7 @@
 -- Each reply takes over whether the request is the last.
 use Rattle.std.proofs.Common.{◌≡◌, ◌+◌, ◌++◌, ℕ, List, [], ◌∷◌, length, Bool, true, false, Option, Some, None, Result, Ok, Err, refl}
 use Rattle.std.specs.Prelude.{nat_le, codes, if◌then◌else◌}
-use Rattle.json_views.specs.Body.{and_then, create_of, create_read, document, line_in, name_in, needed, needed_value, needed_member, optional, optional_member, optional_value, some_name_in, member_of}
+use Rattle.json_views.specs.Body.{and_then, instantiate_in, instantiate_of, object_read, create_of, create_read, document, line_in, name_in, needed, needed_value, needed_member, optional, optional_member, optional_value, some_name_in, member_of}
 use Rattle.json_views.specs.declared.body.BodyFault.{BodyFault}
 use Rattle.json_views.specs.declared.body.BodyFault.TheVariants.{Malformed, Lacks, Wrong, Memory}
 use Rattle.json_views.specs.declared.body.CreateBody.{CreateBody}
@@ -15,6 +15,17 @@ use Rattle.lcm_routes.specs.Targets.{asks_filter}
 use Rattle.http_wire.specs.declared.request.Request.{Request}
 use Rattle.instance_table.specs.Rows.{rows}
 use Rattle.json_views.specs.Instances.{instances_text}
+use Rattle.json_views.specs.Occurrences.{occurrences_text}
+use Rattle.json_views.specs.declared.tasks.InstantiateBody.{InstantiateBody}
+use Rattle.occ_table.specs.Rows as occurrences
+use Rattle.occ_table.specs.Rows.{row}
+use Rattle.lcm_events.specs.declared.asks.Ask.{Ask}
+use Rattle.lcm_events.specs.declared.events.Operation.{Operation}
+use Rattle.lcm_events.specs.declared.states.Role.{Role}
+use Rattle.lcm_model.specs.Lives.{descriptor}
+use Rattle.lcm_model.specs.Refusals.{ask_refusal, situation}
+use Rattle.lcm_api.specs.Instantiating.{accepted, ask_described, ask_found, ask_judged, asking, instantiate, instantiate_read, instantiation, operation_asked}
+use Rattle.lcm_api.specs.Occurrences.{list_occurrences, named_operation, occurrence_row_text, show_asked, task_asked}
 use Rattle.lcm_api.specs.Creating.{body_outcome, create_instance, described_outcome, created, creation}
 use Rattle.lcm_api.specs.Instances.{asked_id, delete_found, delete_judged, deleted, deletion, list_instances, named_instance, row_text, show_found, task_found}
 use Rattle.lcm_api.specs.Media.{is_json}
@@ -24,7 +35,7 @@ use Rattle.lcm_api.specs.Replies.{Outcome, refusal, refused, room_outcome, shown
 use Rattle.lcm_api.specs.Routes.{not_allowed, routing}
 use Rattle.lcm_routes.specs.declared.resources.Resource.{Resource}
 use Rattle.lcm_api.specs.declared.route.Route.{Route}
-use Rattle.lcm_api.specs.declared.route.Route.TheVariants.{ListInstances, CreateInstance, ShowInstance, DeleteInstance, InstanceTask}
+use Rattle.lcm_api.specs.declared.route.Route.TheVariants.{ListInstances, CreateInstance, ShowInstance, DeleteInstance, Instantiate, InstanceTask, ListOccurrences, ShowOccurrence, OccurrenceTask}
 use Rattle.lcm_api.specs.declared.route.Routing.TheVariants.{Nowhere, NotAllowed, Served}
 use Rattle.executor.specs.Room.{is_full}
 use Rattle.lcm_api.specs.declared.create.TheConstants.{MAX_INSTANCES}
@@ -71,6 +82,21 @@ create_of_bytes bytes =
             | None ↦ tt
             | Some found ↦ choice_of_bytes (codes "vnfInstanceDescription") _
           ]) (λ text. tt)))
+    ]
+
+instantiate_of_bytes : (bytes : List ℕ) → IsOfBytes (instantiate_of bytes)
+instantiate_of_bytes bytes =
+    elim (document bytes) as (λ o. IsOfBytes (object_read instantiate_in o)) [
+      | None ↦ tt
+      | Some d ↦
+          both_of_bytes (needed some_name_in (codes "flavourId") d) _ (elim (member_of (codes "flavourId") d) as (λ o. IsOfBytes (needed_member some_name_in (codes "flavourId") o)) [
+            | None ↦ tt
+            | Some found ↦ value_of_bytes (codes "flavourId") _
+          ]) (λ flavour.
+          both_of_bytes (optional name_in (codes "instantiationLevelId") d) _ (elim (member_of (codes "instantiationLevelId") d) as (λ o. IsOfBytes (optional_member name_in (codes "instantiationLevelId") o)) [
+            | None ↦ tt
+            | Some found ↦ choice_of_bytes (codes "instantiationLevelId") _
+          ]) (λ level. tt))
     ]
 
 -- the connection ends with the reply where this says so
@@ -152,17 +178,71 @@ delete_ends : (H : List Event) (now : ℕ) (last : Bool) (found : Option Instanc
 delete_ends H now last None = refusal_ends 404 (codes "no such instance") last
 delete_ends H now last (Some row) = judged_ends H now row.number last (delete_refusal H row.number)
 
-served_ends : (route : Route) (m : ℕ) (H : List Event) (now : ℕ) (r : Request) → EndsAs r.last (served route m H now r)
-served_ends ListInstances m H now r = list_ends m H r
-served_ends CreateInstance m H now r = create_ends m H now r
-served_ends ShowInstance m H now r = show_ends m H r.last (named_instance m H (asked_id r))
-served_ends DeleteInstance m H now r = delete_ends H now r.last (named_instance m H (asked_id r))
-served_ends InstanceTask m H now r = task_ends r.last (named_instance m H (asked_id r))
+accepted_ends : (m occ : ℕ) (last : Bool) (after : List Event) → EndsAs last (record { reply = accepted m occ last; after = after })
+unfolding accepted
+accepted_ends m occ last after = refl
+
+ask_judged_ends : (m : ℕ) (H : List Event) (now : ℕ) (a : Operation) (last : Bool) (why : Option Refusal) → EndsAs last (ask_judged m H now a last why)
+ask_judged_ends m H now a last (Some why) = refusal_ends (refusal_status why) (refusal_text why) last
+ask_judged_ends m H now a last None =
+    elim (is_full MAX_REQUESTED (asking now a ∷ H)) as (λ full. EndsAs last (room_outcome full (accepted m a.occ last) (asking now a) last)) [
+      | true ↦ refusal_ends 507 (codes "journal full") last
+      | false ↦ accepted_ends m a.occ last (asking now a ∷ [])
+    ]
+
+ask_described_ends : (m : ℕ) (H : List Event) (now : ℕ) (role : Role) (i : ℕ) (ask : Ask) (last : Bool) (found : Option Vnfd) → EndsAs last (ask_described m H now role i ask last found)
+ask_described_ends m H now role i ask last None = refusal_ends 404 (codes "no such instance") last
+ask_described_ends m H now role i ask last (Some d) = ask_judged_ends m H now (operation_asked H i role ask d) last (ask_refusal d (situation d H i) ask)
+
+ask_ends : (m : ℕ) (H : List Event) (now : ℕ) (role : Role) (ask : Ask) (last : Bool) (found : Option InstanceRow) → EndsAs last (ask_found m H now role ask last found)
+ask_ends m H now role ask last None = refusal_ends 404 (codes "no such instance") last
+ask_ends m H now role ask last (Some row) = ask_described_ends m H now role row.number ask last (descriptor H row.number)
+
+instantiate_body_ends : (m : ℕ) (H : List Event) (now : ℕ) (role : Role) (body : Result InstantiateBody BodyFault) (r : Request) → IsOfBytes body
+    → EndsAs r.last (instantiate_read m H now role body r)
+instantiate_body_ends m H now role (Ok body) r is = ask_ends m H now role (instantiation body) r.last (named_instance m H (asked_id r))
+instantiate_body_ends m H now role (Err Malformed) r is = refusal_ends 400 (codes "malformed JSON") r.last
+instantiate_body_ends m H now role (Err (Lacks name)) r is = refusal_ends 400 (codes "missing " ++ name) r.last
+instantiate_body_ends m H now role (Err (Wrong name)) r is = refusal_ends 400 (codes "bad " ++ name) r.last
+instantiate_body_ends m H now role (Err Memory) r is = absurd is
+
+instantiate_ends : (m : ℕ) (H : List Event) (now : ℕ) (role : Role) (r : Request) → EndsAs r.last (instantiate m H now role r)
+instantiate_ends m H now role r =
+    elim (is_json r.media) as (λ json. EndsAs r.last (if json then instantiate_read m H now role (instantiate_of r.body) r else refused 415 (codes "body must be application/json") r.last)) [
+      | true ↦ instantiate_body_ends m H now role (instantiate_of r.body) r (instantiate_of_bytes r.body)
+      | false ↦ refusal_ends 415 (codes "body must be application/json") r.last
+    ]
+
+list_occurrences_ends : (m : ℕ) (H : List Event) (r : Request) → EndsAs r.last (list_occurrences m H r)
+list_occurrences_ends m H r =
+    elim (asks_filter r.target) as (λ filtered. EndsAs r.last (if filtered then refused 400 (codes "filter is not served") r.last else told (shown (occurrences_text m (rows H) (occurrences.rows H)) r.last))) [
+      | true ↦ refusal_ends 400 (codes "filter is not served") r.last
+      | false ↦ shown_ends (occurrences_text m (rows H) (occurrences.rows H)) r.last
+    ]
+
+show_asked_ends : (m : ℕ) (H : List Event) (last : Bool) (found : Option Operation) → EndsAs last (show_asked m H last found)
+show_asked_ends m H last None = refusal_ends 404 (codes "no such occurrence") last
+show_asked_ends m H last (Some a) = shown_ends (occurrence_row_text m (rows H) a.occ (row H a)) last
+
+task_asked_ends : (last : Bool) (found : Option Operation) → EndsAs last (task_asked last found)
+task_asked_ends last None = refusal_ends 404 (codes "no such occurrence") last
+task_asked_ends last (Some a) = refusal_ends 404 (codes "task is not supported") last
+
+served_ends : (route : Route) (m : ℕ) (H : List Event) (now : ℕ) (role : Role) (r : Request) → EndsAs r.last (served route m H now role r)
+served_ends ListInstances m H now role r = list_ends m H r
+served_ends CreateInstance m H now role r = create_ends m H now r
+served_ends ShowInstance m H now role r = show_ends m H r.last (named_instance m H (asked_id r))
+served_ends DeleteInstance m H now role r = delete_ends H now r.last (named_instance m H (asked_id r))
+served_ends Instantiate m H now role r = instantiate_ends m H now role r
+served_ends InstanceTask m H now role r = task_ends r.last (named_instance m H (asked_id r))
+served_ends ListOccurrences m H now role r = list_occurrences_ends m H r
+served_ends ShowOccurrence m H now role r = show_asked_ends m H r.last (named_operation m H (asked_id r))
+served_ends OccurrenceTask m H now role r = task_asked_ends r.last (named_operation m H (asked_id r))
 
 pub returns : goal.returns
-returns c m H now r =
-    elim (routing r) as (λ to. EndsAs r.last (routed to m H now r)) [
+returns c m H now role r =
+    elim (routing r) as (λ to. EndsAs r.last (routed to m H now role r)) [
       | Nowhere ↦ refusal_ends 404 (codes "no such resource") r.last
       | NotAllowed x ↦ not_allowed_ends x r.last
-      | Served route ↦ served_ends route m H now r
+      | Served route ↦ served_ends route m H now role r
     ]

@@ -1,0 +1,101 @@
+-- The event of an ask that nothing refuses may be recorded, and what an ask comes to.
+use Rattle.std.proofs.Common.{◌≡◌, ◌≤◌, ◌+◌, ◌∙◌, ℕ, Bool, List, [], ◌∷◌, length, Option, Some, None, ap, refl, sym, subst, arith, inl, inr}
+use Rattle.std.specs.List.{AllByRecursion}
+use Rattle.event_codec.specs.Typed.{TypedAsk, TypedChange}
+use Rattle.event_codec.specs.Valid.{IsAsk, IsChange}
+use Rattle.executor.specs.Managed.{Managed}
+use Rattle.executor.specs.Operating.{IsJudged}
+use Rattle.lcm_events.specs.declared.asks.Aim.TheVariants.{Aspects, Level}
+use Rattle.lcm_events.specs.declared.asks.Ask.{Ask}
+use Rattle.lcm_events.specs.declared.asks.Ask.TheVariants.{Heal, Instantiate, Operate, Scale, ScaleToLevel, Terminate}
+use Rattle.lcm_events.specs.declared.changes.Change.{Change}
+use Rattle.lcm_events.specs.declared.changes.DefKind.{DefKind}
+use Rattle.lcm_events.specs.declared.changes.DefKind.TheVariants.{Compute, Link, Port, Storage}
+use Rattle.lcm_events.specs.declared.changes.Verb.{Verb}
+use Rattle.lcm_events.specs.declared.changes.Verb.TheVariants.{Create, Remove, Start, Stop}
+use Rattle.lcm_events.specs.declared.descriptor.Vnfd.{Vnfd}
+use Rattle.lcm_events.specs.declared.events.Event.{Event}
+use Rattle.lcm_events.specs.declared.events.EventKind.TheVariants.{Asked}
+use Rattle.lcm_events.specs.declared.events.Operation.{Operation}
+use Rattle.lcm_events.specs.declared.states.Role.{Role}
+use Rattle.lcm_laws.specs.Planning.{PlansAreExact, PlansAreSmall}
+use Rattle.lcm_laws.specs.Records.{AskedEventsFitRecords, NamesFew}
+use Rattle.lcm_model.specs.Allowed.{IsAllowed, IsLegal, IsPlanOf, MayAsk}
+use Rattle.lcm_model.specs.Lives.{descriptor}
+use Rattle.lcm_model.specs.Operations.{occurrences_made}
+use Rattle.lcm_model.specs.Plans.{Case, phase, plan}
+use Rattle.lcm_model.specs.Refusals.{case_in, situation}
+use Rattle.lcm_model.specs.Work.{window}
+use Rattle.lcm_model.specs.Words.{IsIn}
+use Rattle.lcm_model.specs.declared.refusals.Refusal.{Refusal}
+use Rattle.lcm_api.specs.Instantiating.{accepted, ask_described, ask_judged, asking, operation_asked}
+use Rattle.lcm_api.specs.Recording.{IsPlanned}
+use Rattle.lcm_api.specs.Refusals.{refused_for}
+use Rattle.lcm_api.specs.Replies.{told}
+use Rattle.lcm_api.specs.declared.record.Planned.TheVariants.{Records, Told}
+use Rattle.lcm_api.specs.declared.reply.Reply.{Reply}
+
+low_phase : (verb : Verb) (kind : DefKind) → phase verb kind ≤ 8
+low_phase Create Link = omega arith
+low_phase Create Storage = omega arith
+low_phase Create Compute = omega arith
+low_phase Create Port = omega arith
+low_phase Remove Link = omega arith
+low_phase Remove Storage = omega arith
+low_phase Remove Compute = omega arith
+low_phase Remove Port = omega arith
+low_phase Start kind = omega arith
+low_phase Stop kind = omega arith
+
+-- the changes of a plan keep the format's rules, where their numbers are within their types
+changes_keep : PlansAreExact → (p : Case) (xs : List Change) → ((x : Change) → IsIn x xs → IsIn x (plan p)) → AllByRecursion TypedChange xs → AllByRecursion IsChange xs
+changes_keep exact p [] among typed = tt
+changes_keep exact p (x ∷ xs) among typed =
+    let is = ((exact p x).0 (among x (inl refl))).0 in
+    let low : x.phase ≤ 8 = subst (λ (n : ℕ). n ≤ 8) (sym is) (low_phase x.verb x.def.kind) in
+    ((low, typed.0.1, typed.0.2, typed.0.3), changes_keep exact p xs (λ y g. among y (inr g)) typed.1)
+
+-- an ask that keeps the format's rules has its texts and its numbers within their types
+typed_ask : (ask : Ask) → IsAsk ask → TypedAsk ask
+typed_ask (Instantiate flavour level) is = is
+typed_ask (Scale way aspect steps) is = is
+typed_ask (ScaleToLevel (Level name)) is = is
+typed_ask (ScaleToLevel (Aspects named)) is = is.1
+typed_ask (Heal cause named) is = (is.0, is.1.1)
+typed_ask (Operate started stop) is = is
+typed_ask (Terminate mode timeout) is = is
+
+-- the operation that is asked for may be
+may_ask : (H : List Event) (i : ℕ) (role : Role) (ask : Ask) (d : Vnfd) → IsJudged H i ask d None → MayAsk H (operation_asked H i role ask d)
+may_ask H i role ask d judged = record {
+  number = refl;
+  live = judged.live;
+  planned = subst (λ (o : Option Vnfd). IsPlanOf H (operation_asked H i role ask d) o) (sym judged.described) (judged.judged, refl);
+}
+
+-- an ask that nothing refuses may be recorded, and its event fits a record
+pub asks : AskedEventsFitRecords → PlansAreExact → PlansAreSmall → (m : Managed) (H : List Event) (now i : ℕ) (role : Role) (ask : Ask) (d : Vnfd) (last : Bool) (reply : Reply) (event : Event)
+    → IsLegal m.ledger.manager H → IsJudged H i ask d None → (TypedAsk ask → IsAsk ask) → NamesFew ask → event ≡ asking now (operation_asked H i role ask d)
+    → reply ≡ accepted m.ledger.manager (occurrences_made H + 1) last → IsPlanned (ask_described m.ledger.manager H now role i ask last (descriptor H i)) m H last (Records event reply)
+asks fit exact small m H now i role ask d last reply event legal judged rules few event_is reply_is =
+    let a : Operation = operation_asked H i role ask d in
+    let may : MayAsk H a = may_ask H i role ask d judged in
+    let allowed : IsAllowed m.ledger.manager H (Asked a) = may in
+    let short : length a.changes ≤ 5000 = small window m.ledger.manager (asking now a ∷ H) (allowed, legal) a (inl refl) in
+    rw (event_is, reply_is) (
+      ap (ask_described m.ledger.manager H now role i ask last) judged.described ∙ ap (ask_judged m.ledger.manager H now a last) judged.judged,
+      record {
+        may = record {
+          rules = λ typed. (typed.0, (typed.1.0, typed.1.1, rules typed.1.2, (omega (arith, short), changes_keep exact (case_in d (situation d H i) ask) a.changes (λ x g. g) typed.1.3)));
+          allowed = allowed;
+          unsettled = refl;
+        };
+        fits = λ is. fit window m.ledger.manager H now a legal allowed (typed_ask ask is.1.2) few;
+      },
+    )
+
+-- an ask that is refused adds nothing
+pub refuses : (m : Managed) (H : List Event) (now i : ℕ) (role : Role) (ask : Ask) (d : Vnfd) (last : Bool) (why : Refusal) (reply : Reply)
+    → IsJudged H i ask d (Some why) → refused_for why last ≡ told reply → IsPlanned (ask_described m.ledger.manager H now role i ask last (descriptor H i)) m H last (Told reply)
+refuses m H now i role ask d last why reply judged is =
+    ap (ask_described m.ledger.manager H now role i ask last) judged.described ∙ (ap (ask_judged m.ledger.manager H now (operation_asked H i role ask d) last) judged.judged ∙ is)

@@ -1,0 +1,202 @@
+//! Asking an instance for an operation: the task `instantiate`.
+ghost use Rattle.std.specs.Prelude.{◌≡◌, List, IfOk, false, true};
+ghost use Rattle.lcm_events.specs.declared.events.Event.{Event};
+ghost use Rattle.lcm_events.specs.declared.events.Operation.{Operation};
+ghost use Rattle.site_traits.specs.Counts.{OnlyDiskFails};
+ghost use Rattle.event_codec.specs.Typed.{TypedAsk};
+ghost use Rattle.event_codec.specs.Valid.{IsAsk};
+ghost use Rattle.executor.specs.Managed.{IsReady, Keeps};
+ghost use Rattle.executor.specs.Work.{Works};
+ghost use Rattle.lcm_api.specs.Answering.{answered};
+ghost use Rattle.lcm_api.specs.Instantiating.{IsAskVerdict, accepted, ask_described, ask_named, asking, instantiate, instantiation};
+ghost use Rattle.lcm_api.specs.Recording.{IsPlanned};
+ghost use Rattle.lcm_laws.specs.Records.{NamesFew};
+ghost use Rattle.lcm_model.specs.Lives.{descriptor, is_live};
+ghost use Rattle.vnfm_base.specs.Ident.{IsIdentNumber};
+
+use crate::answer::ApiFault;
+use crate::bodies::refused_body;
+use crate::instances::{asked_id, named_instance, no_instance};
+use crate::media::is_json;
+use crate::record::{Planned, carry_out};
+use crate::reply::{Reply, refusal, refusal_for};
+use executor::{AskFault, Manager, works_add_up};
+use http_wire::Request;
+use json_views::{InstantiateBody, occurrence_path, read_instantiate};
+use lcm_events::{Ask, Event, EventKind, Operation, Role};
+use lcm_laws::{asked_events_fit_records, plans_are_exact, plans_are_small};
+use site_traits::Site;
+use std::alloc::{AllocError, Global};
+use vnfm_base::{Bytes, Line, Moment};
+
+/// Answers a request of this role to instantiate an instance: the operation is recorded with its plan, and its occurrence is STARTING.
+///
+/// Refusals of the request are replies, in this order: 415 for its media type, 400 for its body, 404 for the instance, 422 for a flavour or
+/// an instantiation level that the descriptor hasn't, 409 where it is INSTANTIATED or an operation goes on, 422 for more machines than a
+/// VDU may have, 507 for too many resources or a full journal. Refusals of the call: `Memory`, after which nothing has changed; `Disk`, after
+/// which the manager is closed.
+/// Source: SOL 003 5.4.4.3.1.
+pub fn instantiate<S: Site>(
+    alloc: Global,
+    manager: &mut Manager<S>,
+    site: &mut S,
+    role: Role,
+    request: &Request,
+    now: Moment,
+) -> Result<Reply, ApiFault>
+    requires ready { (H : List Event) × IsReady S.tells manager.old H (S.state site.old) }
+    ensures reply { (H : List Event) → Keeps manager.old H → IfOk result (λ given. given ≡ (instantiate manager.old.ledger.manager H now role request.now).reply) }
+    ensures works { (H : List Event) → IsReady S.tells manager.old H (S.state site.old) → Works S.tells manager.old.ledger.manager H
+        (answered (instantiate manager.old.ledger.manager H now role request.now) H result) manager.new (S.state site.old) (S.state site.new) }
+    ensures counts { OnlyDiskFails (result ≡ Err ApiFault.Disk) (S.counts site.old) (S.counts site.new) }
+{
+    works_add_up::<S>();
+    match judge(alloc, request)? {
+        AskVerdict::Refused(reply) => Ok(reply),
+        AskVerdict::Asks(body) => instantiate_as(alloc, manager, site, role, request, &body, now),
+    }
+}
+
+/// What a request to instantiate an instance asks for, as far as it says by itself.
+#[derive(Drop)]
+enum AskVerdict {
+    /// It is refused with this reply.
+    Refused(Reply),
+    /// It asks for an instantiation of this body.
+    Asks(InstantiateBody),
+}
+
+/// Judges a request to instantiate an instance by its media type and its body.
+fn judge(alloc: Global, request: &Request) -> Result<AskVerdict, AllocError>
+    ensures { IfOk result (IsAskVerdict request.now) }
+{
+    if !is_json(&request.media) {
+        let refused = refusal(alloc, 415, "body must be application/json", request.last)?;
+        return Ok(AskVerdict::Refused(refused));
+    }
+    match read_instantiate(alloc, request.body.as_slice()) {
+        Ok(body) => Ok(AskVerdict::Asks(body)),
+        Err(fault) => Ok(AskVerdict::Refused(refused_body(alloc, &fault, request.last)?)),
+    }
+}
+
+/// Instantiates the instance that the request names, as this body says.
+fn instantiate_as<S: Site>(
+    alloc: Global,
+    manager: &mut Manager<S>,
+    site: &mut S,
+    role: Role,
+    request: &Request,
+    body: &InstantiateBody,
+    now: Moment,
+) -> Result<Reply, ApiFault>
+    requires ready { (H : List Event) × IsReady S.tells manager.old H (S.state site.old) }
+    ensures reply { (H : List Event) → Keeps manager.old H → IfOk result (λ given. given ≡ (ask_named manager.old.ledger.manager H now role (instantiation body.now) request.now).reply) }
+    ensures works { (H : List Event) → IsReady S.tells manager.old H (S.state site.old) → Works S.tells manager.old.ledger.manager H
+        (answered (ask_named manager.old.ledger.manager H now role (instantiation body.now) request.now) H result) manager.new (S.state site.old) (S.state site.new) }
+    ensures counts { OnlyDiskFails (result ≡ Err ApiFault.Disk) (S.counts site.old) (S.counts site.new) }
+{
+    works_add_up::<S>();
+    let planned = prepare(alloc, manager, role, request, instantiation(body), now)?;
+    carry_out(alloc, manager, site, planned, request.last)
+}
+
+/// What the body of an instantiate request asks for.
+fn instantiation(body: &InstantiateBody) -> Ask
+    ensures ask { result ≡ instantiation body.now }
+    ensures rules { TypedAsk result → IsAsk result }
+    ensures few { NamesFew result }
+{
+    Ask::Instantiate {
+        flavour: body.flavour,
+        level: body.level,
+    }
+}
+
+/// What asking the instance that a request names comes to, before it is known whether there is room for the event.
+fn prepare<S: Site>(
+    alloc: Global,
+    manager: &Manager<S>,
+    role: Role,
+    request: &Request,
+    ask: Ask,
+    now: Moment,
+) -> Result<Planned, AllocError>
+    requires usable { manager.now.ledger.closed ≡ false }
+    requires rules { TypedAsk ask → IsAsk ask }
+    requires few { NamesFew ask }
+    ensures planned { (H : List Event) → Keeps manager.now H → IfOk result (IsPlanned (ask_named manager.now.ledger.manager H now role ask request.now) manager.now H request.now.last) }
+{
+    let Some(row) = named_instance(manager, asked_id(request)) else {
+        return Ok(Planned::Told(no_instance(alloc, request.last)?));
+    };
+    prepare_of(alloc, manager, role, row.number, ask, now, request.last)
+}
+
+/// What asking the live instance of this number comes to, before it is known whether there is room for the event.
+fn prepare_of<S: Site>(
+    alloc: Global,
+    manager: &Manager<S>,
+    role: Role,
+    instance: u64,
+    ask: Ask,
+    now: Moment,
+    last: bool,
+) -> Result<Planned, AllocError>
+    requires usable { manager.now.ledger.closed ≡ false }
+    requires rules { TypedAsk ask → IsAsk ask }
+    requires few { NamesFew ask }
+    ensures planned { (H : List Event) → Keeps manager.now H → is_live H instance ≡ true
+        → IfOk result (IsPlanned (ask_described manager.now.ledger.manager H now role instance ask last (descriptor H instance)) manager.now H last) }
+{
+    asked_events_fit_records();
+    plans_are_exact();
+    plans_are_small();
+    match manager.plan_asked(alloc, instance, &ask) {
+        Ok(changes) => {
+            let occ = manager.next_occurrence();
+            let reply = accepted(alloc, manager.number(), occ, last)?;
+            let operation = Operation {
+                occ,
+                instance,
+                role,
+                ask,
+                changes,
+            };
+            Ok(Planned::Records(asking(now, operation), reply))
+        }
+        Err(AskFault::Refused(why)) => Ok(Planned::Told(refusal_for(alloc, why, last)?)),
+        Err(AskFault::Absent) => Ok(Planned::Told(no_instance(alloc, last)?)),
+        Err(AskFault::Memory) => Err(AllocError),
+    }
+}
+
+/// The event that an operation was asked for.
+fn asking(moment: Moment, operation: Operation) -> Event
+    ensures { result ≡ asking moment operation }
+{
+    Event {
+        moment,
+        kind: EventKind::Asked(operation),
+    }
+}
+
+/// The answer to an ask: where its occurrence is found.
+#[tactic(auto, unfolding(crate::specs::Instantiating::accepted))]
+fn accepted(alloc: Global, manager: u32, occ: u64, last: bool) -> Result<Reply, AllocError>
+    requires { IsIdentNumber occ }
+    ensures { IfOk result (λ reply. reply ≡ accepted manager occ last) }
+{
+    let path = occurrence_path(alloc, manager, occ)?;
+    let Some(location) = Line::of_string(path) else {
+        return Err(AllocError);
+    };
+    Ok(Reply {
+        status: 202,
+        location: Some(location),
+        allow: None,
+        problem: false,
+        body: Bytes::empty(alloc),
+        last,
+    })
+}
