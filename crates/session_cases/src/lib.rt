@@ -10,8 +10,12 @@ mod faults;
 #[cfg(test)]
 mod framings;
 #[cfg(test)]
+mod occurrences;
+#[cfg(test)]
 mod requests;
 #[cfg(test)]
 mod routes;
 #[cfg(test)]
 mod sessions;
+#[cfg(test)]
+mod turns;

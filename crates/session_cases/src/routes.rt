@@ -1,4 +1,4 @@
-//! The routes of instances: what each path and method is told, and what the journal has afterwards.
+//! The routes of instances and of occurrences: what each path and method is told, and what the journal has afterwards.
 use crate::expected::joined;
 use memory_runs::{CREATE, JOURNAL, once, site_with};
 use std::alloc::{AllocError, Global};
@@ -6,18 +6,21 @@ use std::test::Fail;
 
 /// A creation of `edge-1`, an INSTANTIATE of an instance without a machine, its grant, and its moves to PROCESSING and COMPLETED, each as
 /// a record behind its open gate.
-const CREATED: &[u8] =
+pub const CREATED: &[u8] =
     b"\x01\0\0\0\x21\x02\0\0\x01\x8b\xcf\xe5\x68\0\0\0\0\0\0\0\0\x01\x06vnfd-1\x01\x06edge-1\0";
 
-const ASKED: &[u8] =
+pub const ASKED: &[u8] =
     b"\x01\0\0\0\x25\x04\0\0\x01\x8b\xcf\xe5\x68\0\0\0\0\0\0\0\0\x01\0\0\0\0\0\0\0\x01\0\x01\x06simple\0\0\0";
 
-const GRANTED: &[u8] =
+/// A try of the grant exchange was in trouble.
+pub const TROUBLE: &[u8] = b"\x01\0\0\0\x12\x05\0\0\x01\x8b\xcf\xe5\x68\0\0\0\0\0\0\0\0\x01\x01";
+
+pub const GRANTED: &[u8] =
     b"\x01\0\0\0\x17\x06\0\0\x01\x8b\xcf\xe5\x68\0\0\0\0\0\0\0\0\x01\x02g1\0\0\0";
 
-const PROCESSING: &[u8] = b"\x01\0\0\0\x12\x0b\0\0\x01\x8b\xcf\xe5\x68\0\0\0\0\0\0\0\0\x01\x01";
+pub const PROCESSING: &[u8] = b"\x01\0\0\0\x12\x0b\0\0\x01\x8b\xcf\xe5\x68\0\0\0\0\0\0\0\0\x01\x01";
 
-const COMPLETED: &[u8] = b"\x01\0\0\0\x12\x0b\0\0\x01\x8b\xcf\xe5\x68\0\0\0\0\0\0\0\0\x01\x02";
+pub const COMPLETED: &[u8] = b"\x01\0\0\0\x12\x0b\0\0\x01\x8b\xcf\xe5\x68\0\0\0\0\0\0\0\0\x01\x02";
 
 /// The view of instance 1 while it is NOT_INSTANTIATED.
 const IDLE: &str =
@@ -31,7 +34,7 @@ const STARTED: &str =
 type Case = (&'static str, &'static str, &'static str);
 
 /// The journal with the descriptor and these records behind it.
-fn journal_with(alloc: Global, records: &[&[u8]]) -> Result<Vec<u8>, AllocError> {
+pub fn journal_with(alloc: Global, records: &[&[u8]]) -> Result<Vec<u8>, AllocError> {
     let mut file = Vec::from_slice(alloc, &JOURNAL[..110])?;
     for record in records {
         file.extend_from_slice(record)?;
@@ -41,7 +44,7 @@ fn journal_with(alloc: Global, records: &[&[u8]]) -> Result<Vec<u8>, AllocError>
 }
 
 /// The answer with this status line and this body, which says what is wrong or shows what was asked for.
-fn answer_of(alloc: Global, line: &str, kind: &str, body: &str) -> Result<Vec<u8>, AllocError> {
+pub fn answer_of(alloc: Global, line: &str, kind: &str, body: &str) -> Result<Vec<u8>, AllocError> {
     let text = format!(in alloc;
         "HTTP/1.1 {line}\r\nContent-Type: application/{kind}\r\nContent-Length: {}\r\n\r\n{body}",
         body.len()
@@ -50,14 +53,14 @@ fn answer_of(alloc: Global, line: &str, kind: &str, body: &str) -> Result<Vec<u8
 }
 
 /// The refusal with this status line and this detail.
-fn refusal_of(alloc: Global, line: &str, detail: &str) -> Result<Vec<u8>, AllocError> {
+pub fn refusal_of(alloc: Global, line: &str, detail: &str) -> Result<Vec<u8>, AllocError> {
     let status = line.split_once(' ').map_or(line, |(status, _)| status);
     let body = format!(in alloc; "{{\"detail\":\"{detail}\",\"status\":{status}}}")?;
     answer_of(alloc, line, "problem+json", &body)
 }
 
 /// Whether a connection with these bytes over this file is told this, and the file is that afterwards.
-fn tells(
+pub fn tells(
     alloc: Global,
     file: &[u8],
     bytes: &[u8],
@@ -70,7 +73,7 @@ fn tells(
 }
 
 /// Whether the request with this line, without a body, is refused so over this file, which stays.
-fn is_refused(
+pub fn is_refused(
     alloc: Global,
     file: &[u8],
     request: &str,
@@ -83,7 +86,7 @@ fn is_refused(
 }
 
 /// Whether the request with this line, without a body, is shown this over this file, which stays.
-fn is_shown(alloc: Global, file: &[u8], request: &str, body: &str) -> Result<bool, AllocError> {
+pub fn is_shown(alloc: Global, file: &[u8], request: &str, body: &str) -> Result<bool, AllocError> {
     let bytes = format!(in alloc; "{request} HTTP/1.1\r\nHost: h\r\n\r\n")?;
     let told = answer_of(alloc, "200 OK", "json", body)?;
     tells(alloc, file, bytes.as_bytes(), &told, file)
@@ -93,7 +96,7 @@ fn is_shown(alloc: Global, file: &[u8], request: &str, body: &str) -> Result<boo
 fn each_refusal_of_a_path_or_a_method_is_told(rt: HostRuntime) -> Result<(), Fail> {
     let alloc = rt.alloc();
     let file = journal_with(alloc, &[CREATED])?;
-    let cases: [Case; 31] = [
+    let cases: [Case; 39] = [
         ("GET /", "404 Not Found", "no such resource"),
         ("GET *", "404 Not Found", "no such resource"),
         ("GET /vnflcm/v1", "404 Not Found", "no such resource"),
@@ -128,9 +131,49 @@ fn each_refusal_of_a_path_or_a_method_is_told(rt: HostRuntime) -> Result<(), Fai
             "no such resource",
         ),
         (
-            "GET /vnflcm/v1/vnf_lcm_op_occs",
+            "PUT /vnflcm/v1/vnf_lcm_op_occs",
+            "405 Method Not Allowed\r\nAllow: GET",
+            "method not allowed",
+        ),
+        (
+            "DELETE /vnflcm/v1/vnf_lcm_op_occs/x",
+            "405 Method Not Allowed\r\nAllow: GET",
+            "method not allowed",
+        ),
+        (
+            "GET /vnflcm/v1/vnf_lcm_op_occs/x/retry",
+            "405 Method Not Allowed\r\nAllow: POST",
+            "method not allowed",
+        ),
+        (
+            "GET /vnflcm/v1/vnf_instances/x/instantiate",
+            "405 Method Not Allowed\r\nAllow: POST",
+            "method not allowed",
+        ),
+        (
+            "GET /vnflcm/v1/vnf_lcm_op_occs?filter=",
+            "400 Bad Request",
+            "filter is not served",
+        ),
+        (
+            "GET /vnflcm/v1/vnf_lcm_op_occs/x",
             "404 Not Found",
-            "no such resource",
+            "no such occurrence",
+        ),
+        (
+            "GET /vnflcm/v1/vnf_lcm_op_occs/00000007-766d-8002-8000-000000000001",
+            "404 Not Found",
+            "no such occurrence",
+        ),
+        (
+            "GET /vnflcm/v1/vnf_lcm_op_occs/00000007-766d-8001-8000-000000000001",
+            "404 Not Found",
+            "no such occurrence",
+        ),
+        (
+            "POST /vnflcm/v1/vnf_lcm_op_occs/00000007-766d-8002-8000-000000000001/cancel",
+            "404 Not Found",
+            "no such occurrence",
         ),
         (
             "DELETE /vnflcm/v1/subscriptions/x",
@@ -279,7 +322,7 @@ fn an_instance_that_is_instantiated_is_shown_whole(rt: HostRuntime) -> Result<()
 #[test]
 fn an_instance_is_not_deleted_while_it_is_in_use(rt: HostRuntime) -> Result<(), Fail> {
     let alloc = rt.alloc();
-    let busy = journal_with(alloc, &[CREATED, ASKED])?;
+    let busy = journal_with(alloc, &[CREATED, ASKED, GRANTED, PROCESSING])?;
     let used = journal_with(alloc, &[CREATED, ASKED, GRANTED, PROCESSING, COMPLETED])?;
     let delete = "DELETE /vnflcm/v1/vnf_instances/00000007-766d-8001-8000-000000000001";
     assert!(rt;

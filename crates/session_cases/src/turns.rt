@@ -1,16 +1,15 @@
 //! Turns: a grant is asked for, and the occurrence is moved on by what was answered, over journals whose records are compared whole.
-use crate::routes::{ASKED, CREATED, GRANTED, PROCESSING, journal_with};
-use memory_runs::{run_asking, site_with, words_of};
-use site_traits::{GrantPlan, MemOrchestrator};
+use crate::occurrences::{SIMPLE, router_site};
+use crate::routes::{ASKED, CREATED, GRANTED, PROCESSING, TROUBLE, answer_of, journal_with};
+use grant_desk::GrantAll;
+use memory_runs::{Ran, door_of, once, run_asking, site_with, words_of};
+use site_traits::{GrantPlan, MemOrchestrator, MemSite};
 use std::alloc::{AllocError, Global};
 use std::test::Fail;
 use vnfm_base::{Bytes, Line};
 
 /// The grant is to be had at `/g/1` later.
 const LATER: &[u8] = b"\x01\0\0\0\x18\x05\0\0\x01\x8b\xcf\xe5\x68\0\0\0\0\0\0\0\0\x01\0\0\x04/g/1";
-
-/// A try was in trouble.
-const TROUBLE: &[u8] = b"\x01\0\0\0\x12\x05\0\0\x01\x8b\xcf\xe5\x68\0\0\0\0\0\0\0\0\x01\x01";
 
 /// A grant didn't cover the request.
 const NOT_COVERING: &[u8] = b"\x01\0\0\0\x12\x05\0\0\x01\x8b\xcf\xe5\x68\0\0\0\0\0\0\0\0\x01\x02";
@@ -122,5 +121,39 @@ fn turns_record_what_the_orchestrator_answers(rt: HostRuntime) -> Result<(), Fai
     for case in &CASES {
         assert!(rt; turns_to(alloc, case)?, "{}", case.1);
     }
+    Ok(())
+}
+
+/// The view of occurrence 1, which is PROCESSING.
+const PROCESSED: &str =
+    "{\"_links\":{\"cancel\":{\"href\":\"/vnflcm/v1/vnf_lcm_op_occs/00000007-766d-8002-8000-000000000001/cancel\"},\"self\":{\"href\":\"/vnflcm/v1/vnf_lcm_op_occs/00000007-766d-8002-8000-000000000001\"},\"vnfInstance\":{\"href\":\"/vnflcm/v1/vnf_instances/00000007-766d-8001-8000-000000000001\"}},\"grantId\":\"g1\",\"id\":\"00000007-766d-8002-8000-000000000001\",\"isAutomaticInvocation\":false,\"isCancelPending\":false,\"operation\":\"INSTANTIATE\",\"operationParams\":{\"flavourId\":\"simple\"},\"operationState\":\"PROCESSING\",\"resourceChanges\":{\"affectedVirtualLinks\":[],\"affectedVirtualStorages\":[],\"affectedVnfcs\":[]},\"startTime\":\"2023-11-14T22:13:20.000Z\",\"stateEnteredTime\":\"2023-11-14T22:13:20.000Z\",\"vnfInstanceId\":\"00000007-766d-8001-8000-000000000001\"}";
+
+/// The request that shows occurrence 1.
+const SHOW: &[u8] =
+    b"GET /vnflcm/v1/vnf_lcm_op_occs/00000007-766d-8002-8000-000000000001 HTTP/1.1\r\n\r\n";
+
+/// Two rounds over this site, whose first connection instantiates instance 1, with an orchestrator that grants all.
+fn instantiate_granted(alloc: Global, site: &mut MemSite) -> Result<Ran, AllocError> {
+    let words = words_of(alloc, &["once", "--journal", "j", "--rounds", "2"])?;
+    let mut orchestrator = GrantAll::new(alloc)?;
+    run_asking(
+        alloc,
+        &words,
+        site,
+        door_of(alloc, SIMPLE)?,
+        &mut orchestrator,
+        None,
+    )
+}
+
+#[test]
+fn a_granted_instantiation_of_the_edge_router_is_processed(rt: HostRuntime) -> Result<(), Fail> {
+    let alloc = rt.alloc();
+    let mut site = router_site(alloc, "11", "", "")?;
+    let ran = instantiate_granted(alloc, &mut site)?;
+    assert_eq!(rt; ran.status, 0);
+    let shown = once(alloc, &mut site, SHOW)?;
+    let told = answer_of(alloc, "200 OK", "json", PROCESSED)?;
+    assert!(rt; shown.told.as_slice() == told.as_slice());
     Ok(())
 }
