@@ -1,6 +1,6 @@
 -- Which fault an answer is.
-use Rattle.std.proofs.Common.{◌≡◌, ◌≤◌, ◌<◌, ◌+◌, ℕ, Result, Ok, Err, ap, arith, refl}
-use Rattle.std.specs.Result.{IsErrAnd}
+use Rattle.std.proofs.Common.{◌≡◌, ◌<◌, ◌+◌, ℕ, Result, Ok, Err, ap, arith, refl}
+use Rattle.std.specs.Result.{IsErrAnd, OnErr}
 use Rattle.executor.specs.Faults.{opened_fault}
 use Rattle.executor.specs.declared.manager.OpenFault.{OpenFault}
 use Rattle.executor.specs.declared.manager.OpenFault.TheVariants as opening
@@ -19,11 +19,15 @@ pub err_is : {T E : Type 0} (r : Result T E) (w : E) → IsErrAnd r (λ v. v ≡
 err_is (Ok done) w is = absurd is
 err_is (Err v) w is = ap Err is
 
--- an append that fails behind a test for room in the file fails for the disk
-pub disk_failed : (why : AppendFault) (limit end more long : ℕ) → HasRoom end more limit → more ≡ long → limit ≤ MAX_FILE
-    → ((a b : ℕ) → why ≡ appending.Full a b → MAX_FILE < end + 6 + long) → why ≡ appending.Disk
-disk_failed (appending.Full a b) limit end more long room size within over = let past = over a b refl in absurd (omega (arith, past, room, size, within))
-disk_failed appending.Disk limit end more long room size within over = refl
+-- what holds of an answer that is a fault leads to what it leads to
+pub on_err : {T E : Type 0} (r : Result T E) (P Q : Type 0) → (P → Q) → OnErr r P → OnErr r Q
+on_err (Ok done) P Q leads on = tt
+on_err (Err why) P Q leads on = leads on
+
+-- an append for which the file has room fails for the disk
+pub disk_failed : (why : AppendFault) (end more : ℕ) → HasRoom end more MAX_FILE → ((a b : ℕ) → why ≡ appending.Full a b → MAX_FILE < end + 6 + more) → why ≡ appending.Disk
+disk_failed (appending.Full a b) end more room over = let past = over a b refl in absurd (omega (arith, past, room))
+disk_failed appending.Disk end more room over = refl
 
 -- reading the next record fails for the disk exactly where opening does
 pub next_failed : {T : Type 0} (r : Result T OpenFault) (q : Result Found LoadFault) (why : LoadFault) (a b : SiteCounts) → r ≡ Err (opened_fault why) → q ≡ Err why

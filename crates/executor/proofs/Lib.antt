@@ -1,9 +1,10 @@
 mod AskLemmas
-mod CommitLemmas
+pub mod CommitLemmas
 mod FaultLemmas
 mod JudgeLemmas
 pub mod LawLemmas
 pub mod ManagerLemmas
+pub mod RoomLemmas
 mod SerialLemmas
 mod SpellingLemmas
 pub mod WorkLemmas

@@ -1,5 +1,5 @@
 -- What a manager stands for: its journal, and the tables of the history of the events in it.
-use Rattle.std.specs.Prelude.{◌≡◌, ◌<◌, ℕ, Bool, true, false, List, length}
+use Rattle.std.specs.Prelude.{◌≡◌, ◌<◌, ℕ, Bool, true, false, List, None, length, not}
 use Rattle.std.specs.List.{AllByRecursion}
 use Rattle.event_codec.specs.Typed.{TypedEvent}
 use Rattle.event_codec.specs.Valid.{IsEvent}
@@ -8,8 +8,9 @@ use Rattle.journal_core.specs.Journal.{Ledger, Stands}
 use Rattle.journal_core.specs.declared.journal.TheConstants.{MAX_FILE}
 use Rattle.lcm_events.specs.declared.events.Event.{Event}
 use Rattle.lcm_events.specs.declared.events.EventKind.{EventKind}
-use Rattle.lcm_events.specs.declared.events.EventKind.TheVariants.{Settled}
+use Rattle.lcm_events.specs.declared.events.EventKind.TheVariants.{CallFailed, Intent, Settled}
 use Rattle.lcm_model.specs.Allowed.{IsAllowed, IsLegal}
+use Rattle.lcm_model.specs.Attempts.{is_done}
 use Rattle.lcm_tables.specs.Tables.{AreTablesOf}
 use Rattle.lcm_tables.specs.declared.tables.Tables.{Tables}
 use Rattle.site_traits.specs.Site.{SiteState}
@@ -20,6 +21,10 @@ use Rattle.executor.specs.Room.{journal_end}
 pub record Managed : Type 0 where
   pub ledger : Ledger
   pub tables : Tables
+
+-- the manager with this ledger and these tables
+abbrev pub managed : Ledger → Tables → Managed
+managed ledger tables = record { ledger = ledger; tables = tables }
 
 -- the history is legal, and the ledger, unless it is closed, counts its events and their bytes
 pub record IsKept (ledger : Ledger) (history : List Event) : Type 0 where
@@ -61,6 +66,22 @@ pub record IsReady (tells : Type 0) (m : Managed) (H : List Event) (s : SiteStat
 abbrev pub is_settled : EventKind → Bool
 is_settled (Settled tag outcome) = true
 is_settled _ = false
+
+-- the event may be put behind this history of manager m: it keeps the format's rules and is allowed there
+pub record MayPut (m : ℕ) (H : List Event) (e : Event) : Type 0 where
+  pub rules : TypedEvent e → IsEvent e
+  pub allowed : IsAllowed m H e.kind
+
+-- no notice is laid aside, so that what takes no memory and makes no notice may be put without a reservation
+abbrev pub HasNoNotice : Managed → Type 0
+HasNoNotice m = m.tables.notice ≡ None
+
+-- the tables follow the event without memory, and it makes no notice: an attempt begins, a call failed, or an attempt ends that wasn't done
+abbrev pub needs_no_memory : EventKind → Bool
+needs_no_memory (Intent tag) = true
+needs_no_memory (CallFailed tag) = true
+needs_no_memory (Settled tag outcome) = not (is_done outcome)
+needs_no_memory _ = false
 
 -- the event may be recorded behind this history of manager m: it keeps the format's rules, is allowed there, and is no Settled
 pub record MayRecord (m : ℕ) (H : List Event) (e : Event) : Type 0 where

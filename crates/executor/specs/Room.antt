@@ -2,7 +2,8 @@
 use Rattle.std.specs.Prelude.{◌≡◌, ◌≤◌, ◌<◌, ℕ, List, ◌∷◌, length, nat_le, Bool, true, false, Result, Err}
 use Rattle.event_codec.specs.Spell.{spelling}
 use Rattle.journal_core.specs.File.{size}
-use Rattle.journal_core.specs.declared.journal.TheConstants.{MAX_RECORD}
+use Rattle.journal_core.specs.Room.{HasRoom}
+use Rattle.journal_core.specs.declared.journal.TheConstants.{MAX_FILE, MAX_RECORD}
 use Rattle.lcm_events.specs.declared.events.Event.{Event}
 use Rattle.executor.specs.History.{spellings}
 use Rattle.executor.specs.declared.manager.WorkFault.{WorkFault}
@@ -38,3 +39,10 @@ abbrev pub TellsRoom : ℕ → List Event → Event → Result (Unit {0}) WorkFa
 TellsRoom limit H e (Err (fault.TooLong n)) = IsTooLong e n
 TellsRoom limit H e (Err (fault.Full end more)) = IsFullWith limit H e end more
 TellsRoom limit H e other = HasRoomFor limit H e
+
+-- the bytes are the event's spelling, a record holds them, and there is room in the file for it behind this gate
+pub record IsRecordOf (bytes : List ℕ) (e : Event) (end : ℕ) : Type 0 where
+  pub is : bytes ≡ spelling e
+  pub some : 1 ≤ length bytes
+  pub fits : length bytes ≤ MAX_RECORD
+  pub room : HasRoom end (length bytes) MAX_FILE

@@ -1,10 +1,11 @@
 //! What holds of every journal's file, as contracts of calls that do nothing.
 ghost use Rattle.executor.specs.Laws.{HasNoBadRecord, HasOneBadRecord, HasOneHistory};
 ghost use Rattle.site_traits.specs.Site.{KeepsJobs};
-ghost use Rattle.executor.specs.Work.{Follows, Idles, Joins, LeadsOn, LeavesJobs, Stays};
+ghost use Rattle.executor.specs.Work.{Follows, Idles, Joins, LeadsOn, LeavesJobs, Stays, WorksAreWithJobs, WorksWithJobsJoin, WorksWithJobsLeadOn};
 
 use event_codec::no_spelling_begins_another;
 use journal_core::files_are_one_thing;
+use lcm_jobs::jobs_may_end;
 use site_traits::Site;
 
 /// A file has one history, and is one manager's.
@@ -38,8 +39,8 @@ pub fn a_bad_record_is_the_only_one()
 }
 
 /// How works add up: those in a row are one, and whatever came of the last of them came of them all; nothing is a work; behind one in
-/// which the disk didn't fail the manager is ready for more; what it stands for is in the file, whatever a stop leaves; work follows the
-/// opening of a journal; and the jobs are left alone by an opening, by work behind it, and where nothing is done.
+/// which the disk didn't fail the manager is ready for more; what it stands for is in the file, whatever a stop leaves; and the jobs are
+/// left alone by an opening, by work behind it, and where nothing is done.
 ///
 /// Source: own rule.
 pub fn works_add_up<S: Site>()
@@ -47,7 +48,20 @@ pub fn works_add_up<S: Site>()
     ensures idles { (s : S) → Idles S.tells (S.state s) }
     ensures leads { (a b : S) → LeadsOn S.tells (S.state a) (S.state b) }
     ensures stays { (s : S) → Stays (S.state s) }
-    ensures follows { (a b c : S) → Follows S.tells (S.state a) (S.state b) (S.state c) }
     ensures jobs { (a b c : S) → LeavesJobs S.tells (S.state a) (S.state b) (S.state c) }
     ensures idle_jobs { (s : S) → KeepsJobs (S.state s) (S.state s) }
 {}
+
+/// How works add up in which jobs may have been begun, looked at or aborted: those in a row are one, and whatever came of the last of
+/// them came of them all; work that leaves the jobs alone is such work; behind one in which the disk didn't fail the manager is ready for
+/// more; and it follows the opening of a journal. From sound jobs on, each pair that a stop leaves has sound ones.
+///
+/// Source: own rule.
+pub fn works_with_jobs_add_up<S: Site>()
+    ensures joins { (a b c : S) → WorksWithJobsJoin S.tells (S.state a) (S.state b) (S.state c) }
+    ensures works { (a b : S) → WorksAreWithJobs S.tells (S.state a) (S.state b) }
+    ensures leads { (a b : S) → WorksWithJobsLeadOn S.tells (S.state a) (S.state b) }
+    ensures follows { (a b c : S) → Follows S.tells (S.state a) (S.state b) (S.state c) }
+{
+    jobs_may_end();
+}

@@ -1,36 +1,36 @@
 //! The manager: its journal, and the tables of the events in it. What is acknowledged is on the disk before the tables follow it.
-ghost use Rattle.std.specs.Prelude.{◌≡◌, ◌≢◌, ◌≤◌, ◌<◌, ◌+◌, ℕ, List, length, option_copied, IfErr, IfOk, OnOk, OnErr, false, true};
+ghost use Rattle.std.specs.Prelude.{◌≡◌, ◌≢◌, ◌≤◌, ◌<◌, ◌+◌, ℕ, List, length, option_copied, IfOk, OnOk, OnErr, false, true};
 ghost use Rattle.event_codec.specs.Spell.{spelling};
 ghost use Rattle.event_codec.specs.Valid.{IsEvent};
-ghost use Rattle.event_codec.specs.Typed.{TypedEvent};
 ghost use Rattle.journal_core.specs.Load.{SyncsAndReads};
 ghost use Rattle.executor.specs.Open.{Opens};
 ghost use Rattle.executor.specs.Room.{TellsRoom};
 ghost use Rattle.instance_table.specs.Rows.{StandsFor, live};
 ghost use Rattle.instance_table.specs.Table.{is_counted};
-ghost use Rattle.journal_core.specs.declared.journal.TheConstants.{MAX_FILE, MAX_RECORD};
+ghost use Rattle.journal_core.specs.declared.journal.TheConstants.{MAX_FILE};
 ghost use Rattle.lcm_events.specs.declared.events.Event.{Event};
 ghost use Rattle.vnfm_base.specs.Ident.{IsIdentNumber};
 ghost use Rattle.lcm_model.specs.Lives.{descriptor_named, descriptors, instances_made, is_live};
 ghost use Rattle.lcm_model.specs.Operations.{occurrences_made};
 ghost use Rattle.lcm_model.specs.Refusals.{delete_refusal};
 ghost use Rattle.occ_table.specs.Table.{IsTableOf};
+ghost use Rattle.lcm_tables.specs.Tables.{HasRoom};
 ghost use Rattle.executor.specs.Operating.{TellsAsk};
 ghost use Rattle.executor.specs.Questions.{is_made, made};
 ghost use Rattle.site_traits.specs.Counts.{Ask, asked, OnlyDiskFails};
 ghost use Rattle.journal_core.specs.Asking.{FailsWhere};
 ghost use Rattle.executor.specs.Asking.{CommitAsks};
-ghost use Rattle.executor.specs.Managed.{IsReady, Keeps, KeepsOn, MayRecord};
+ghost use Rattle.executor.specs.Managed.{HasNoNotice, IsReady, Keeps, KeepsOn, MayPut, MayRecord};
 ghost use Rattle.executor.specs.Reading.{IsNoSpelling, ReadsEvent};
-ghost use Rattle.executor.specs.Work.{Works, recorded};
+ghost use Rattle.executor.specs.Work.{Works, WorksAtFile, recorded};
+ghost use Rattle.site_traits.specs.Site.{KeepsJobs};
 
 use crate::asks::{AskFault, plan_of};
 use crate::open::judge_all;
-use event_codec::{DecodeFault, RecordBuf, TooLong, decode, encode};
+use crate::recording::{append_and_follow, spell_within};
+use event_codec::{DecodeFault, RecordBuf, TooLong, decode};
 use instance_table::InstanceTable;
-use journal_core::{
-    AppendFault, BackFault, Journal, LoadFault, faults_are_counted, records_add_up,
-};
+use journal_core::{AppendFault, BackFault, Journal, LoadFault, records_add_up};
 use lcm_events::{Changes, Event, Vnfd};
 use lcm_laws::serials_are_counted;
 use lcm_model::Refusal;
@@ -171,19 +171,63 @@ impl<S: Site> Manager<S> {
         ensures asks { CommitAsks result (S.counts site.old) (S.counts site.new) }
         ensures counts { OnlyDiskFails (result ≡ Err WorkFault.Disk) (S.counts site.old) (S.counts site.new) }
     {
-        faults_are_counted();
-        records_add_up();
-        let more = spell(&mut self.record, e)?;
-        if !self.journal.fits(more as usize, limit) {
-            return Err(WorkFault::Full {
-                end: self.journal.end(),
-                more,
-            });
-        }
+        spell_within(&self.journal, &mut self.record, e, limit)?;
         self.tables.reserve_for(alloc, e)?;
-        self.journal.append(site, self.record.as_slice())?;
-        self.tables.apply(e);
-        Ok(())
+        append_and_follow(
+            &mut self.journal,
+            &mut self.tables,
+            site,
+            self.record.as_slice(),
+            e,
+        )
+    }
+
+    /// Reserves the memory that the tables need to follow an event, so that `put` takes none. The history and the journal stay, also after
+    /// want of memory.
+    ///
+    /// Source: own rule.
+    pub fn reserve_for(&mut self, alloc: Global, e: &Event) -> Result<(), AllocError>
+        ensures ledger { self.new.ledger ≡ self.old.ledger }
+        ensures keeps { KeepsOn self.old self.new }
+        ensures room { OnOk result (HasRoom e.now self.new.tables) }
+    {
+        self.tables.reserve_for(alloc, e)
+    }
+
+    /// Records an event, for which the tables have room, in a journal that is to end at byte `limit` of the file or before it, with its closed
+    /// gate: the event is on the disk before the tables follow it. It is spelled once, and no memory is taken.
+    ///
+    /// Conditions: the manager isn't closed, and its file has its history; the event keeps the format's rules and is allowed after that
+    /// history; what the tables need for it is reserved; the limit is at most the file's. Whether jobs stay sound is the caller's to show, by
+    /// what it knows of the attempt whose end it puts.
+    /// Refusals, in this order: `TooLong(n)` (bytes), `Full {end, more}` (bytes), each exactly where the spelling and the limit say so. After
+    /// these the manager and the site are as before. `Disk`, after which the manager is closed, with the history that it had: load it again.
+    /// Never `Memory`.
+    /// Source: own format, docs/JOURNAL.md and docs/EVENTS.md.
+    pub fn put(&mut self, site: &mut S, e: &Event, limit: u64) -> Result<(), WorkFault>
+        requires may { (H : List Event) × IsReady S.tells self.old H (S.state site.old) × MayPut self.old.ledger.manager H e.now }
+        requires reserved { HasRoom e.now self.old.tables }
+        requires within { limit ≤ MAX_FILE }
+        ensures event { IsEvent e.now }
+        ensures works { (H : List Event) → IsReady S.tells self.old H (S.state site.old) → MayPut self.old.ledger.manager H e.now
+            → WorksAtFile S.tells self.old.ledger.manager H (recorded H e.now result) self.new (S.state site.old) (S.state site.new) }
+        ensures jobs { S.tells → KeepsJobs (S.state site.old) (S.state site.new) }
+        ensures refused { result ≢ Err WorkFault.Disk → OnErr result ((self.new ≡ self.old) × (site.new ≡ site.old)) }
+        ensures keeps { OnErr result (KeepsOn self.old self.new) }
+        ensures room { (H : List Event) → Keeps self.old H → TellsRoom limit H e.now result }
+        ensures memory { result ≢ Err WorkFault.Memory }
+        ensures quiet { HasNoNotice self.old → HasNoNotice self.new }
+        ensures asks { CommitAsks result (S.counts site.old) (S.counts site.new) }
+        ensures counts { OnlyDiskFails (result ≡ Err WorkFault.Disk) (S.counts site.old) (S.counts site.new) }
+    {
+        spell_within(&self.journal, &mut self.record, e, limit)?;
+        append_and_follow(
+            &mut self.journal,
+            &mut self.tables,
+            site,
+            self.record.as_slice(),
+            e,
+        )
     }
 
     /// Event n of the history, from 1, in the order in which the events happened: it is read back from the site's file.
@@ -352,19 +396,6 @@ fn after(made: u64, records: u64) -> u64
     ensures identifier { IsIdentNumber result }
 {
     made + 1
-}
-
-/// Puts the event's spelling into the buffer, and gives the number of its bytes.
-fn spell(buffer: &mut RecordBuf, e: &Event) -> Result<u32, WorkFault>
-    requires rules { TypedEvent e.now → IsEvent e.now }
-    ensures event { IsEvent e.now }
-    ensures spelled { OnOk result (buffer.new.kept ≡ spelling e.now) }
-    ensures some { 1 ≤ length (spelling e.now) }
-    ensures length { IfOk result (λ n. (n ≡ length (spelling e.now)) × (n ≤ MAX_RECORD)) }
-    ensures too_long { IfErr result (λ why. (why ≡ WorkFault.TooLong (length (spelling e.now))) × (MAX_RECORD < length (spelling e.now))) }
-{
-    encode(e, buffer)?;
-    Ok(buffer.as_slice().len() as u32)
 }
 
 /// The event of which the bytes of record n are the spelling.

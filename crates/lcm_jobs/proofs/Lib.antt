@@ -1,8 +1,8 @@
-mod Endings
+pub mod Endings
 mod IdleLemmas
-mod KeepLemmas
+pub mod KeepLemmas
 mod OnLemmas
-mod Parts
+pub mod Parts
 mod SoundLemmas
 mod TurnLemmas
 mod WayLemmas

@@ -1,6 +1,6 @@
 //! All tables of a history, which follow it event by event.
 
-ghost use Rattle.std.specs.Prelude.{[], OnOk};
+ghost use Rattle.std.specs.Prelude.{[], ◌≡◌, OnOk};
 ghost use Rattle.lcm_tables.specs.Tables.{Applies, AreTablesOf, HasRoom, StandForSame};
 
 use instance_table::InstanceTable;
@@ -72,6 +72,7 @@ impl Tables {
     pub fn apply(&mut self, e: &Event)
         requires room { HasRoom e.now self.old }
         ensures applies { Applies e.now self.old self.new }
+        ensures laid { self.new.notice ≡ self.old.notice }
     {
         let place = self.instances.events().saturating_add(1);
         self.notices.apply(e, place, self.notice.as_ref());

@@ -1,5 +1,5 @@
 use Rattle.site_traits.specs.Moments.{keeps_refl}
-use Rattle.executor.proofs.WorkLemmas.{everywhere, idle, joined, opened_jobs, opened_then, ready_again}
+use Rattle.executor.proofs.WorkLemmas.{everywhere, idle, joined, opened_jobs, ready_again, file_of}
 use Rattle.executor.proofs.laws.works_add_up.Goals as goal
 
 pub returns-clause-joins : goal.returns-clause-joins
@@ -9,13 +9,10 @@ pub returns-clause-idles : goal.returns-clause-idles
 returns-clause-idles g c = λ s m H ready. idle _ m H _ ready
 
 pub returns-clause-leads : goal.returns-clause-leads
-returns-clause-leads g c = λ a b m H w n works fine. ready_again _ m H w n _ _ works fine
+returns-clause-leads g c = λ a b m H w n works fine. ready_again _ m H w n _ _ (file_of _ m H w n _ _ works) fine
 
 pub returns-clause-stays : goal.returns-clause-stays
 returns-clause-stays g c = λ s m H stands. everywhere m H _ stands
-
-pub returns-clause-follows : goal.returns-clause-follows
-returns-clause-follows g c = λ a b d told reads m H w n works start. opened_then _ m H w n _ _ _ told reads works start
 
 pub returns-clause-jobs : goal.returns-clause-jobs
 returns-clause-jobs g c = λ a b d told reads. opened_jobs _ _ _ _ told reads
