@@ -7,14 +7,17 @@ use Rattle.std.specs.Option.{option_map_or}
 use Rattle.vnfm_base.specs.Text.{IsLine, IsName}
 use Rattle.lcm_events.specs.declared.events.Event.{Event}
 use Rattle.lcm_events.specs.declared.events.EventKind.{EventKind}
-use Rattle.lcm_events.specs.declared.events.EventKind.TheVariants.{Denied, Granted, GrantTried, Moved}
+use Rattle.lcm_events.specs.declared.events.EventKind.TheVariants.{CallFailed, Denied, Granted, GrantTried, Intent, Moved, Settled}
 use Rattle.lcm_events.specs.declared.events.GrantTry.{GrantTry}
 use Rattle.lcm_events.specs.declared.events.GrantTry.TheVariants.{Later, NotCovering, Trouble}
 use Rattle.lcm_events.specs.declared.places.Place.{Place}
 use Rattle.event_codec.specs.Spell as spell
-use Rattle.event_codec.specs.Spell.{spelling, u16, u64}
+use Rattle.event_codec.specs.Spell.{spelling, u16, u32, u64}
 use Rattle.event_codec.specs.Numbers as number
-use Rattle.event_codec.specs.Valid.{IsEvent, IsGrantTry, IsPlace}
+use Rattle.event_codec.specs.Valid.{IsEvent, IsGrantTry, IsOutcome, IsPlace}
+use Rattle.lcm_events.specs.declared.attempts.Outcome.{Outcome}
+use Rattle.lcm_events.specs.declared.attempts.Outcome.TheVariants as outcomes
+use Rattle.lcm_events.specs.declared.attempts.Tag.{Tag}
 use Rattle.lcm_events.specs.declared.events.Operation.{Operation}
 use Rattle.lcm_events.specs.declared.states.OpState.{OpState}
 use Rattle.lcm_laws.specs.Planning.{PlansAreSmall}
@@ -26,11 +29,16 @@ use Rattle.executor.specs.Room.{TellsRoom}
 use Rattle.executor.specs.declared.manager.WorkFault.{WorkFault}
 use Rattle.executor.specs.declared.manager.WorkFault.TheVariants as fault
 use Rattle.journal_core.specs.declared.journal.TheConstants.{MAX_FILE}
+use Rattle.occ_work.specs.Attempting.{is_of_attempt}
 use Rattle.occ_work.specs.Steps.{is_of_act}
 
 length-u16 : (n : ℕ) → length (spell.u16 n) ≡ 2
 unfolding u16
 length-u16 n = refl
+
+length-u32 : (n : ℕ) → length (spell.u32 n) ≡ 4
+unfolding u32
+length-u32 n = refl
 
 length-u64 : (n : ℕ) → length (spell.u64 n) ≡ 8
 unfolding u64
@@ -136,12 +144,47 @@ acts_fit small m H time (Denied o) legal allowed event is = denied_fits time o
 acts_fit small m H time (Moved o to) legal allowed event is = moved_fits time o to
 acts_fit small m H time _ legal allowed event is = absurd (cc is)
 
+most_tag : (t : Tag) → length (spell.tag t) ≡ 15
+most_tag t =
+    let last : List ℕ = spell.u8 (number.way t.way) in
+    omega (
+      arith,
+      length-append (spell.u64 t.occ) (spell.u16 t.change ++ (spell.u32 t.attempt ++ last)),
+      length-append (spell.u16 t.change) (spell.u32 t.attempt ++ last),
+      length-append (spell.u32 t.attempt) last,
+      length-u64 t.occ,
+      length-u16 t.change,
+      length-u32 t.attempt,
+    )
+
+most_outcome : (how : Outcome) → IsOutcome how → length (spell.outcome how) ≤ 257
+most_outcome (outcomes.Done resource) is = let a = most_name resource is in omega (arith, a)
+most_outcome (outcomes.Broken code) is = omega (arith, length-u32 code)
+most_outcome outcomes.Aborted is = omega arith
+most_outcome outcomes.NotBegun is = omega arith
+
+-- what is recorded of an attempt fits a record
+pub attempts_fit : (time : ℕ) (kind : EventKind) → IsEvent (record { moment = time; kind = kind }) → is_of_attempt kind ≡ true
+    → length (spelling (record { moment = time; kind = kind })) ≤ 65536
+unfolding spelling
+attempts_fit time (Intent t) event is = omega (arith, length-append (spell.u64 time) (spell.tag t), length-u64 time, most_tag t)
+attempts_fit time (CallFailed t) event is = omega (arith, length-append (spell.u64 time) (spell.tag t), length-u64 time, most_tag t)
+attempts_fit time (Settled t how) event is =
+    let a = most_outcome how event.1.1 in
+    omega (arith, length-append (spell.u64 time) (spell.tag t ++ spell.outcome how), length-append (spell.tag t) (spell.outcome how), length-u64 time, most_tag t, a)
+attempts_fit time _ event is = absurd (cc is)
+
 -- an event that fits isn't too long
 pub not_too_long : (H : List Event) (e : Event) (why : WorkFault) (n : ℕ) → length (spelling e) ≤ 65536 → TellsRoom MAX_FILE H e (Err why) → why ≡ fault.TooLong n → ⊥
 not_too_long H e why n fits tells is =
     let told : TellsRoom MAX_FILE H e (Err (fault.TooLong n)) = subst (λ (f : WorkFault). TellsRoom MAX_FILE H e (Err f)) is tells in
     let long = told.long in
     omega (arith, long, fits)
+
+-- the same of an answer
+pub never_long : (H : List Event) (e : Event) (result : Result (Unit {0}) WorkFault) (n : ℕ) → length (spelling e) ≤ 65536 → TellsRoom MAX_FILE H e result
+    → result ≡ Err (fault.TooLong n) → ⊥
+never_long H e result n fits tells is = not_too_long H e (fault.TooLong n) n fits (subst (λ (r : Result (Unit {0}) WorkFault). TellsRoom MAX_FILE H e r) is tells) refl
 
 -- the same of the fault of an answer
 pub fault_of : {T : Type 0} (x y : WorkFault) → ◌≡◌ {A = Result T WorkFault} (Err x) (Err y) → x ≡ y

@@ -1,6 +1,12 @@
 mod LiveLemmas
+mod ForwardLemmas
 mod StepLemmas
 mod RequestLemmas
+mod WorkLemmas
+mod TagLemmas
+mod JobLemmas
+mod BeginLemmas
+mod AttemptLemmas
 mod TakingLemmas
 mod ActLemmas
 mod OrderLemmas

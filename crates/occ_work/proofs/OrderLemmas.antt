@@ -1,22 +1,20 @@
--- The occurrences in STARTING, in the order of their numbers, and what an act leaves of them.
+-- The occurrences that go forward, in the order of their numbers, and what an act leaves of them.
 use Rattle.std.proofs.Common.{◌≡◌, ◌≤◌, ◌<◌, ◌==◌, ◌∙◌, ℕ, List, [], ◌∷◌, Bool, true, false, cond, None, Some, is_some, ◌&&◌, refl, ap, sym, subst, length, map, filter, find, reverse, arith, eqb-true, nat_lt, lt-ltb, ltb-true, ltb-false, le-ltb}
-use Rattle.lcm_events.specs.Same.{same_state}
-use Rattle.lcm_events.proofs.SameLaws.{same_state-true}
 use Rattle.lcm_events.specs.declared.attempts.Tag.{Tag}
 use Rattle.lcm_events.specs.declared.events.Event.{Event}
 use Rattle.lcm_events.specs.declared.events.EventKind.{EventKind}
 use Rattle.lcm_events.specs.declared.events.EventKind.TheVariants.{CallFailed, Denied, GrantTried, Granted, Intent, Moved, Settled}
 use Rattle.lcm_events.specs.declared.events.Operation.{Operation}
 use Rattle.lcm_events.specs.declared.states.OpState.{OpState}
-use Rattle.lcm_events.specs.declared.states.OpState.TheVariants.{Starting}
 use Rattle.lcm_laws.specs.Acting.{with_events}
-use Rattle.lcm_laws.proofs.Lists.{and_left, and_right, by_test}
+use Rattle.lcm_laws.proofs.Lists.{by_test}
 use Rattle.lcm_laws.proofs.NumberLaws.{IsCounted, operations_counted}
 use Rattle.lcm_laws.proofs.OngoingLaws.{state-moved}
 use Rattle.lcm_model.specs.Allowed.{IsLegal}
 use Rattle.lcm_model.specs.Moves.{is_active, state}
 use Rattle.lcm_model.specs.Next.{Answer, BeginFailed, BeginRefused, BeginTaken, GrantCame, GrantDenied, GrantLater, GrantMissesSome, GrantTrouble, LookedAborted, LookedAbsent, LookedBroken, LookedDone, appended, beginning, granting, looking, polling}
 use Rattle.lcm_model.specs.Operations.{operation, operations}
+use Rattle.lcm_model.specs.Since.{is_cancelled}
 use Rattle.lcm_model.specs.Work.{window}
 use Rattle.lcm_model.specs.declared.actions.Action.{Action}
 use Rattle.lcm_model.specs.declared.actions.Action.TheVariants.{AbortAndLook, AskForGrant, Begin, Look, MoveTo, Poll}
@@ -25,8 +23,8 @@ use Rattle.occ_table.proofs.GoingLaws.{active-rises}
 use Rattle.occ_table.proofs.PendingSteps.{filter_reverse}
 use Rattle.std.proofs.lemmas.List.{length-map, length-reverse}
 use Rattle.occ_work.proofs.RequestLemmas.{few_operations}
-use Rattle.occ_work.specs.Acting.{IsStarting}
-use Rattle.occ_work.specs.Turns.{above, is_starting, starting}
+use Rattle.occ_work.specs.Forward.{IsForward, forwarding, goes_forward, is_forward}
+use Rattle.occ_work.specs.Turns.{above}
 
 -- all numbers are above this one
 abbrev Above : ℕ → List ℕ → Type 0
@@ -160,8 +158,8 @@ none-among p n (m ∷ ms) e = by_test (nat_lt n m)
       some_none : (x : ℕ) → Some x ≡ None → ⊥
       some_none x e = cc
 
-pub starting-rises : (m : ℕ) (H : List Event) → IsLegal m H → Rises (starting H)
-starting-rises m H legal = rises-filter (is_starting H) (active H) (active-rises window m H legal)
+pub forwarding-rises : (m : ℕ) (H : List Event) → IsLegal m H → Rises (forwarding H)
+forwarding-rises m H legal = rises-filter (is_forward H) (active H) (active-rises window m H legal)
 
 -- the numbers above one of operations that pass two tests
 abbrev tested : ℕ → (ℕ → Bool) → (Operation → Bool) → List Operation → List ℕ
@@ -194,24 +192,26 @@ same_tested n s t w v (a ∷ xs) starts works =
     ∙ sym (high_kept n t v a xs high)))))
     (λ low. low_dropped n s w a xs low ∙ (rest ∙ sym (low_dropped n t v a xs low)))
 
-above_starting : (n : ℕ) (H : List Event) → above n (starting H) ≡ reverse (tested n (is_starting H) (is_worked_on H) (operations H))
-above_starting n H =
-    ap (above n) (filter_reverse (is_starting H) (map (λ (a : Operation). a.occ) (filter (is_worked_on H) (operations H))))
-    ∙ filter_reverse (λ k. nat_lt n k) (filter (is_starting H) (map (λ (a : Operation). a.occ) (filter (is_worked_on H) (operations H))))
+above_forwarding : (n : ℕ) (H : List Event) → above n (forwarding H) ≡ reverse (tested n (is_forward H) (is_worked_on H) (operations H))
+above_forwarding n H =
+    ap (above n) (filter_reverse (is_forward H) (map (λ (a : Operation). a.occ) (filter (is_worked_on H) (operations H))))
+    ∙ filter_reverse (λ k. nat_lt n k) (filter (is_forward H) (map (λ (a : Operation). a.occ) (filter (is_worked_on H) (operations H))))
 
--- histories of the same operations, whose states agree above a number, have the same occurrences in STARTING above it
-same_above : (n : ℕ) (G H : List Event) → operations G ≡ operations H → ((k : ℕ) → nat_lt n k ≡ true → state G k ≡ state H k) → above n (starting G) ≡ above n (starting H)
-same_above n G H asked states =
-    above_starting n G
-    ∙ (ap (λ (xs : List Operation). reverse (tested n (is_starting G) (is_worked_on G) xs)) asked
+-- histories of the same operations, whose states and cancels agree above a number, have the same occurrences that go forward above it
+same_above : (n : ℕ) (G H : List Event) → operations G ≡ operations H → ((k : ℕ) → nat_lt n k ≡ true → state G k ≡ state H k)
+    → ((k : ℕ) → nat_lt n k ≡ true → is_cancelled G k ≡ is_cancelled H k) → above n (forwarding G) ≡ above n (forwarding H)
+same_above n G H asked states cancels =
+    above_forwarding n G
+    ∙ (ap (λ (xs : List Operation). reverse (tested n (is_forward G) (is_worked_on G) xs)) asked
     ∙ (ap reverse
-    (same_tested n (is_starting G) (is_starting H) (is_worked_on G) (is_worked_on H) (operations H)
+    (same_tested n (is_forward G) (is_forward H) (is_worked_on G) (is_worked_on H) (operations H)
     (λ k high.
     let there : Bool = is_some (operation G k) in
-    ap (λ (s : OpState). there && same_state s Starting) (states k high)
-    ∙ ap (λ (xs : List Operation). is_some (find (λ a. a.occ == k) xs) && same_state (state H k) Starting) asked)
+    ap (λ (s : OpState). there && goes_forward s (is_cancelled G k)) (states k high)
+    ∙ (ap (λ (c : Bool). there && goes_forward (state H k) c) (cancels k high)
+    ∙ ap (λ (xs : List Operation). is_some (find (λ a. a.occ == k) xs) && goes_forward (state H k) (is_cancelled H k)) asked))
     (λ a high. ap is_active (states a.occ high)))
-    ∙ sym (above_starting n H)))
+    ∙ sym (above_forwarding n H)))
 
 -- the event asks for no operation, and moves none but this
 abbrev Spares : ℕ → EventKind → Type 0
@@ -224,7 +224,11 @@ Spares n (Settled t outcome) = Unit {0}
 Spares n (Moved o to) = o ≡ n
 Spares n _ = ⊥
 
-spared : (n now : ℕ) (kind : EventKind) (H : List Event) → Spares n kind → above n (starting (record { moment = now; kind = kind } ∷ H)) ≡ above n (starting H)
+-- a move of another leaves the cancels in force
+cancelled-moved : (H : List Event) (time o occ : ℕ) (to : OpState) → (occ == o) ≡ false → is_cancelled (record { moment = time; kind = Moved occ to } ∷ H) o ≡ is_cancelled H o
+cancelled-moved H time o occ to other = rw other refl
+
+spared : (n now : ℕ) (kind : EventKind) (H : List Event) → Spares n kind → above n (forwarding (record { moment = now; kind = kind } ∷ H)) ≡ above n (forwarding H)
 spared n now (Granted o grant places spots) H is = refl
 spared n now (GrantTried o answer) H is = refl
 spared n now (Denied o) H is = refl
@@ -233,19 +237,20 @@ spared n now (CallFailed t) H is = refl
 spared n now (Settled t outcome) H is = refl
 spared n now (Moved o to) H is =
     same_above n (record { moment = now; kind = Moved o to } ∷ H) H refl
-    (λ k high.
-    let up = ltb-true n k high in
-    let other : (o == k) ≡ false = rw is (less-other n k up) in
-    state-moved H now k o to false other) where
+    (λ k high. state-moved H now k o to false (other k high))
+    (λ k high. cancelled-moved H now k o to (other k high)) where
       less-other : (n k : ℕ) → n < k → (n == k) ≡ false
       less-other n k less = by_test (n == k) (λ same. let is = eqb-true n k same in absurd (omega (arith, less, is))) (λ other. other)
+
+      other : (k : ℕ) → nat_lt n k ≡ true → (o == k) ≡ false
+      other k high = let up = ltb-true n k high in rw is (less-other n k up)
 spared n now _ H is = absurd is
 
 abbrev AllSpare : ℕ → List EventKind → Type 0
 AllSpare n [] = Unit {0}
 AllSpare n (kind ∷ kinds) = Spares n kind × AllSpare n kinds
 
-all_spared : (n now : ℕ) (kinds : List EventKind) (H : List Event) → AllSpare n kinds → above n (starting (with_events now kinds H)) ≡ above n (starting H)
+all_spared : (n now : ℕ) (kinds : List EventKind) (H : List Event) → AllSpare n kinds → above n (forwarding (with_events now kinds H)) ≡ above n (forwarding H)
 all_spared n now [] H all = refl
 all_spared n now (kind ∷ kinds) H all = spared n now kind (with_events now kinds H) all.0 ∙ all_spared n now kinds H all.1
 
@@ -289,7 +294,7 @@ appended_spares o (Begin t) answer = beginning_spares o t answer
 
 -- an act for an occurrence leaves those with greater numbers
 pub others_stay : (now : ℕ) (H : List Event) (o : ℕ) (action : Action) (answer : Answer)
-    → above o (starting (with_events now (appended o action answer) H)) ≡ above o (starting H)
+    → above o (forwarding (with_events now (appended o action answer) H)) ≡ above o (forwarding H)
 others_stay now H o action answer = all_spared o now (appended o action answer) H (appended_spares o action answer)
 
 positive : (s : ℕ → Bool) (w : Operation → Bool) (xs : List Operation) → IsCounted (λ a. a.occ) xs
@@ -304,11 +309,11 @@ positive s w (a ∷ xs) counted =
     (λ rests. rw rests rest)
 
 -- every number of an occurrence is above 0
-pub all_above_zero : (m : ℕ) (H : List Event) → IsLegal m H → above 0 (starting H) ≡ starting H
+pub all_above_zero : (m : ℕ) (H : List Event) → IsLegal m H → above 0 (forwarding H) ≡ forwarding H
 all_above_zero m H legal =
-    above_starting 0 H
-    ∙ (ap reverse (positive (is_starting H) (is_worked_on H) (operations H) (operations_counted window m H legal))
-    ∙ sym (filter_reverse (is_starting H) (map (λ (a : Operation). a.occ) (filter (is_worked_on H) (operations H)))))
+    above_forwarding 0 H
+    ∙ (ap reverse (positive (is_forward H) (is_worked_on H) (operations H) (operations_counted window m H legal))
+    ∙ sym (filter_reverse (is_forward H) (map (λ (a : Operation). a.occ) (filter (is_worked_on H) (operations H)))))
 
 filter_few : {A : Type 0} → (p : A → Bool) (xs : List A) → length (filter p xs) ≤ length xs
 filter_few p [] = omega arith
@@ -317,10 +322,10 @@ filter_few p (x ∷ xs) =
     by_test (p x) (λ holds. rw holds (omega (arith, rest))) (λ fails. rw fails (omega (arith, rest)))
 
 -- there are no more of them than events
-pub few_starting : (H : List Event) → length (starting H) ≤ length H
-few_starting H =
+pub few_forwarding : (H : List Event) → length (forwarding H) ≤ length H
+few_forwarding H =
     let numbers : List ℕ = map (λ (a : Operation). a.occ) (filter (is_worked_on H) (operations H)) in
-    let one = filter_few (is_starting H) (active H) in
+    let one = filter_few (is_forward H) (active H) in
     let two : length (active H) ≡ length numbers = length-reverse numbers in
     let three : length numbers ≡ length (filter (is_worked_on H) (operations H)) = length-map (filter (is_worked_on H) (operations H)) (λ (a : Operation). a.occ) in
     let four = filter_few (is_worked_on H) (operations H) in
@@ -337,11 +342,6 @@ passes-found q p k (m ∷ ms) e = by_test (p m)
       some_same : {x y : ℕ} → Some x ≡ Some y → x ≡ y
       some_same e = cc
 
--- what is found among those in STARTING is in STARTING
-pub found_starting : (H : List Event) (n o : ℕ) → find (λ k. nat_lt n k) (starting H) ≡ Some o → IsStarting H o
-found_starting H n o e =
-    let is : (is_some (operation H o) && same_state (state H o) Starting) ≡ true = passes-found (λ k. nat_lt n k) (is_starting H) o (active H) e in
-    record {
-      asked = and_left (is_some (operation H o)) (same_state (state H o) Starting) is;
-      starting = same_state-true (state H o) Starting (and_right (is_some (operation H o)) (same_state (state H o) Starting) is);
-    }
+-- what is found among those that go forward goes forward
+pub found_forward : (H : List Event) (n o : ℕ) → find (λ k. nat_lt n k) (forwarding H) ≡ Some o → IsForward H o
+found_forward H n o e = passes-found (λ k. nat_lt n k) (is_forward H) o (active H) e

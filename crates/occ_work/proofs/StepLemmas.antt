@@ -1,31 +1,44 @@
--- The next action of an occurrence in STARTING, by its row.
-use Rattle.std.proofs.Common.{◌≡◌, ◌||◌, ◌&&◌, ◌∙◌, ℕ, List, [], ◌∷◌, Bool, true, false, not, Option, None, Some, is_some, refl, ap, sym, option_map}
+-- The next action of an occurrence that goes forward, by its row.
+use Rattle.std.proofs.Common.{◌≡◌, ◌<◌, ◌≤◌, ◌+◌, ◌||◌, ◌&&◌, ◌==◌, ◌++◌, ◌∙◌, ℕ, zero, suc, List, [], ◌∷◌, Bool, true, false, not, Option, None, Some, is_some, refl, ap, sym, subst, arith, length, map, filter, reverse, slice_get, option_map, eqb-true}
+use Rattle.std.specs.List.{list_any, range_with_len}
 use Rattle.std.specs.Option.{option_map_or}
-use Rattle.std.specs.Prelude.{if◌then◌else◌}
-use Rattle.lcm_events.specs.Same.{same_state}
+use Rattle.std.specs.Prelude.{IfSome, if◌then◌else◌, option_and_then, unwrap_or}
+use mathlib.Core.List.{reverse-cons}
+use Rattle.lcm_events.specs.declared.attempts.Tag.{Tag}
+use Rattle.lcm_events.specs.declared.attempts.Way.TheVariants.{Forward}
+use Rattle.lcm_events.specs.declared.changes.Change.{Change}
 use Rattle.lcm_events.specs.declared.states.OpState.{OpState}
 use Rattle.lcm_events.specs.declared.events.Event.{Event}
+use Rattle.lcm_events.specs.declared.events.EventKind.{EventKind}
+use Rattle.lcm_events.specs.declared.events.EventKind.TheVariants.{Intent}
 use Rattle.lcm_events.specs.declared.events.Operation.{Operation}
-use Rattle.lcm_events.specs.declared.states.OpState.TheVariants.{Processing, RolledBack, Starting}
+use Rattle.lcm_events.specs.declared.states.OpState.TheVariants.{Completed, Failed, FailedTemp, Processing, RolledBack, RollingBack, Starting}
+use Rattle.lcm_laws.specs.Planning.{PlansAreSmall}
+use Rattle.lcm_laws.proofs.GrantLaws.{granted_grant}
+use Rattle.lcm_laws.proofs.HoldLaws.{changes_of}
+use Rattle.lcm_laws.proofs.Lists.{by_test, first-none, not-true}
+use Rattle.lcm_model.specs.Allowed.{IsLegalWithin}
+use Rattle.lcm_model.specs.Attempts.{attempts, is_of, net, open_of}
 use Rattle.lcm_model.specs.Grants.{grant, has_ended, is_granted, location}
 use Rattle.lcm_model.specs.Moves.{is_final, state}
-use Rattle.lcm_model.specs.Next.{next_action, next_while_asking}
-use Rattle.lcm_model.specs.Operations.{changes, operation}
-use Rattle.lcm_model.specs.Since.{is_forced}
-use Rattle.lcm_model.specs.Words.{first_some, when}
-use Rattle.lcm_model.specs.Work.{gives_up}
+use Rattle.lcm_model.specs.Next.{begin_of, first_open, is_at_net, look_at, next_action, next_in, next_while_asking, with_net}
+use Rattle.lcm_model.specs.Operations.{changes, operation, operations}
+use Rattle.lcm_model.specs.Since.{cancels, has_call_failed, has_trouble, is_cancelled, is_forceful, is_forced}
+use Rattle.lcm_model.specs.Words.{first, first_some, last, when}
+use Rattle.lcm_model.specs.Work.{gives_up, window}
 use Rattle.lcm_model.specs.declared.actions.Action.{Action}
-use Rattle.lcm_model.specs.declared.actions.Action.TheVariants.{AskForGrant, MoveTo, Poll}
-use Rattle.lcm_laws.proofs.GrantLaws.{granted_grant}
-use Rattle.occ_table.specs.Ended.{is_over, kept_grant, kept_where}
-use Rattle.occ_table.specs.Rows.{cancel, occurrence, row}
+use Rattle.lcm_model.specs.declared.actions.Action.TheVariants.{AskForGrant, Begin, Look, MoveTo, Poll}
+use Rattle.occ_table.specs.Ended.{is_over, kept, kept_grant, kept_where}
+use Rattle.occ_table.specs.Rows.{cancel, numbers, occurrence, pending_of, pendings, row}
 use Rattle.occ_table.specs.Steps.{gives_up_row}
+use Rattle.occ_table.specs.declared.pending.Pending.{Pending}
 use Rattle.occ_table.specs.declared.rows.OccRow.{OccRow}
-use Rattle.occ_table.proofs.JudgeLaws.{found_row}
+use Rattle.occ_table.proofs.JudgeLaws.{found_in, found_row}
 use Rattle.occ_table.proofs.MoveLaws.{cancelled_row, forced_row}
-use Rattle.occ_work.specs.Acting.{IsStarting}
-use Rattle.occ_work.specs.Steps.{next_by_row}
-use Rattle.occ_work.specs.Turns.{is_starting}
+use Rattle.occ_table.proofs.PhaseLaws.{get-range}
+use Rattle.occ_work.specs.Forward.{IsForward, goes_forward}
+use Rattle.occ_work.specs.Steps.{FitsTags, asking_by_row, beginning_by_row, first_waiting, is_waiting, making_by_row, next_by_row, next_in_state, next_tag}
+use Rattle.occ_work.proofs.ForwardLemmas.{forward_on, has_row, forward_state}
 
 some_map : {A B : Type 0} → (f : A → B) (x : Option A) → is_some (option_map f x) ≡ is_some x
 some_map f None = refl
@@ -50,68 +63,288 @@ tabled false true told = refl
 tabled false false true = refl
 tabled false false false = refl
 
--- the location is kept while the grant is asked for
-kept_location : (H : List Event) (a : Operation) → state H a.occ ≡ Starting → (row H a).location ≡ location H a.occ
-kept_location H a starting = ap (λ (s : OpState). kept_where (is_final s) (location H a.occ)) starting
+-- the location is kept until the occurrence is over
+kept_location : (H : List Event) (a : Operation) → is_over H a.occ ≡ false → (row H a).location ≡ location H a.occ
+kept_location H a on = ap (λ (over : Bool). kept_where over (location H a.occ)) on
 
-asking_row : (H : List Event) (a : Operation) → state H a.occ ≡ Starting → next_while_asking H a.occ ≡ Some (next_by_row (row H a))
+asking_row : (H : List Event) (a : Operation) → state H a.occ ≡ Starting → next_while_asking H a.occ ≡ Some (asking_by_row (row H a))
 asking_row H a starting =
     let told : Bool = is_some (location H a.occ) in
     tabled (gives_up H a.occ) (is_granted H a.occ) told
     ∙ (ap (λ (up : Bool). Some (by_tests up (is_granted H a.occ) told)) (sym (gives_up_same H a))
     ∙ (ap (λ (granted : Bool). Some (by_tests (gives_up_row (row H a)) granted told)) (sym (granted_row H a))
-    ∙ ap (λ (at : Option (List ℕ)). Some (by_tests (gives_up_row (row H a)) (is_some (row H a).grant) (is_some at))) (sym (kept_location H a starting))))
+    ∙ ap (λ (at : Option (List ℕ)). Some (by_tests (gives_up_row (row H a)) (is_some (row H a).grant) (is_some at))) (sym (kept_location H a (ap is_final starting)))))
 
-next_asking : (H : List Event) (o : ℕ) (a : Operation) → operation H o ≡ Some a → state H o ≡ Starting → next_action H o ≡ next_while_asking H o
-next_asking H o a found starting = rw (found, starting) refl
+first_end : {A : Type 0} → (xs : List A) (y : A) → first (xs ++ y ∷ []) ≡ Some (unwrap_or (first xs) y)
+first_end [] y = refl
+first_end (x ∷ xs) y = refl
 
--- the next action of an occurrence in STARTING is that of its row
-pub next_of_row : (H : List Event) (o : ℕ) (r : OccRow) → IsStarting H o → occurrence H o ≡ Some r → next_action H o ≡ Some (next_by_row r)
+mapped_or : {A B : Type 0} → (f : A → B) (x : Option A) (y : A) → Some (unwrap_or (option_map f x) (f y)) ≡ option_map f (Some (unwrap_or x y))
+mapped_or f None y = refl
+mapped_or f (Some x) y = refl
+
+first_mapped : {A B : Type 0} → (f : A → B) (xs : List A) → first (reverse (map f xs)) ≡ option_map f (last xs)
+first_mapped f [] = refl
+first_mapped f (x ∷ xs) =
+    ap first (reverse-cons (f x) (map f xs))
+    ∙ (first_end (reverse (map f xs)) (f x)
+    ∙ (ap (λ y. Some (unwrap_or y (f x))) (first_mapped f xs) ∙ mapped_or f (last xs) x))
+
+-- the open attempt that began first is the first of the row
+first_pending : (H : List Event) (o : ℕ) → first (pendings H o) ≡ option_map (pending_of H) (first_open H o)
+first_pending H o = first_mapped (pending_of H) (open_of H o)
+
+-- no cancel in force is no FORCEFUL one
+never_forced : (H : List Event) (o : ℕ) → is_cancelled H o ≡ false → is_forced H o ≡ false
+never_forced H o calm = ap (list_any is_forceful) (first-none (cancels H o) calm)
+
+same_from : (p q : ℕ → Bool) (k n : ℕ) → ((c : ℕ) → k ≤ c → c < k + n → p c ≡ q c) → filter p (range_with_len k n) ≡ filter q (range_with_len k n)
+same_from p q k zero f = refl
+same_from p q k (suc n) f =
+    let here : p k ≡ q k = f k (omega arith) (omega arith) in
+    let rest : filter p (range_with_len (k + 1) n) ≡ filter q (range_with_len (k + 1) n) = same_from p q (k + 1) n (λ c low high. f c (omega (arith, low)) (omega (arith, high))) in
+    by_test (q k)
+    (λ holds. let too : p k ≡ true = here ∙ holds in rw (too, holds) (ap (λ (ns : List ℕ). k ∷ ns) rest))
+    (λ fails. let too : p k ≡ false = here ∙ fails in rw (too, fails) rest)
+
+-- the first of some numbers that passes a test is one of them
+first_within : (p : ℕ → Bool) (k n c : ℕ) → first (filter p (range_with_len k n)) ≡ Some c → c < k + n
+first_within p k zero c e = cc
+first_within p k (suc n) c e = by_test (p k)
+    (λ holds. let is : k ≡ c = some_same (sym (rw holds refl) ∙ e) in omega (arith, is))
+    (λ fails. let rest = first_within p (k + 1) n c (sym (rw fails refl) ∙ e) in omega (arith, rest)) where
+      some_same : {x y : ℕ} → Some x ≡ Some y → x ≡ y
+      some_same e = cc
+
+-- a change waits in the row where its net is 0
+waits : (H : List Event) (a : Operation) (c : ℕ) → c < length a.changes → is_waiting (row H a) c ≡ is_at_net H a.occ 0 c
+unfolding is_at_net
+waits H a c within =
+    let zeroth : 0 + c ≡ c = omega arith in
+    ap (λ (x : Option ℕ). option_map_or (λ n. n == 0) x false) (get-range (net H a.occ) 0 (length a.changes) c within ∙ ap (λ (m : ℕ). Some (net H a.occ m)) zeroth)
+
+-- the change that is made next is the first of the row that waits
+first_waits : (H : List Event) (a : Operation) → operation H a.occ ≡ Some a → first_waiting (row H a) ≡ first (with_net H a.occ 0)
+first_waits H a found =
+    ap first (same_from (is_waiting (row H a)) (is_at_net H a.occ 0) 0 (length a.changes) (λ c low high. waits H a c (omega (arith, high))))
+    ∙ ap (λ (xs : List Change). first (filter (is_at_net H a.occ 0) (range_with_len 0 (length xs)))) (sym (changes_of H a.occ a found))
+
+-- how many attempts there were at a change
+abbrev tried : List Event → ℕ → ℕ → ℕ
+tried H o c = length (attempts H o c)
+
+-- as many attempts were made as the row says, until the occurrence is over
+tries_row : (H : List Event) (a : Operation) (c : ℕ) → is_over H a.occ ≡ false → c < length a.changes → unwrap_or (slice_get (row H a).attempts c) 0 ≡ tried H a.occ c
+tries_row H a c on within =
+    let zeroth : 0 + c ≡ c = omega arith in
+    ap (λ (over : Bool). unwrap_or (slice_get (kept over (map (tried H a.occ) (numbers a))) c) 0) on
+    ∙ ap (λ (x : Option ℕ). unwrap_or x 0) (get-range (tried H a.occ) 0 (length a.changes) c within ∙ ap (λ (m : ℕ). Some (tried H a.occ m)) zeroth)
+
+begin_row : (H : List Event) (a : Operation) (c : ℕ) → is_over H a.occ ≡ false → c < length a.changes → begin_of H a.occ Forward c ≡ Begin (next_tag a.occ (row H a) c)
+begin_row H a c on within = ap (λ (n : ℕ). Begin (record { occ = a.occ; change = c; attempt = n + 1; way = Forward })) (sym (tries_row H a c on within))
+
+-- the begin of the next change, or that all are made
+begins_row : (H : List Event) (a : Operation) (x : Option ℕ) → is_over H a.occ ≡ false → first_waiting (row H a) ≡ x
+    → first_some (option_map (begin_of H a.occ Forward) x ∷ Some (MoveTo Completed) ∷ []) ≡ Some (option_map_or (λ c. Begin (next_tag a.occ (row H a) c)) x (MoveTo Completed))
+begins_row H a None on is = refl
+begins_row H a (Some c) on is =
+    let within = first_within (is_waiting (row H a)) 0 (length a.changes) c is in ap Some (begin_row H a c on (omega (arith, within)))
+
+-- the action by an open attempt, trouble, and what is done where there is neither
+at_work : (p : Option Tag) (failed : Tag → Bool) (trouble : Bool) (lines : List (Option Action)) (last_line : Action) → first_some lines ≡ Some last_line
+    → first_some (option_map (look_at false) p ∷ when trouble (MoveTo FailedTemp) ∷ lines)
+    ≡ Some (option_map_or (λ (q : Pending). Look q.tag) (option_map (λ (t : Tag). record { tag = t; failed = failed t }) p) (if trouble then MoveTo FailedTemp else last_line))
+at_work (Some t) failed trouble lines last_line e = refl
+at_work None failed true lines last_line e = refl
+at_work None failed false lines last_line e = e
+
+or_false : (b : Bool) → (b || false) ≡ b
+or_false true = refl
+or_false false = refl
+
+making_row : (H : List Event) (a : Operation) → operation H a.occ ≡ Some a → state H a.occ ≡ Processing → is_cancelled H a.occ ≡ false
+    → next_in Processing H a.occ ≡ Some (making_by_row a.occ (row H a))
+making_row H a found at calm =
+    let o : ℕ = a.occ in
+    let lines : Option ℕ → List (Option Action) = λ x. option_map (begin_of H o Forward) x ∷ Some (MoveTo Completed) ∷ [] in
+    ap (λ (f : Bool). first_some (option_map (look_at f) (first_open H o) ∷ when (has_trouble H o || is_cancelled H o) (MoveTo FailedTemp) ∷ lines (first (with_net H o 0)))) (never_forced H o calm)
+    ∙ (ap (λ (c : Bool). first_some (option_map (look_at false) (first_open H o) ∷ when (has_trouble H o || c) (MoveTo FailedTemp) ∷ lines (first (with_net H o 0)))) calm
+    ∙ (ap (λ (c : Bool). first_some (option_map (look_at false) (first_open H o) ∷ when c (MoveTo FailedTemp) ∷ lines (first (with_net H o 0)))) (or_false (has_trouble H o))
+    ∙ (ap (λ (x : Option ℕ). first_some (option_map (look_at false) (first_open H o) ∷ when (has_trouble H o) (MoveTo FailedTemp) ∷ lines x)) (sym (first_waits H a found))
+    ∙ (at_work (first_open H o) (has_call_failed H) (has_trouble H o) (lines (first_waiting (row H a))) _ (begins_row H a (first_waiting (row H a)) (ap is_final at) refl)
+    ∙ ap (λ (x : Option Pending). Some (option_map_or (λ (q : Pending). Look q.tag) x (beginning_by_row o (row H a)))) (sym (first_pending H o))))))
+
+by_state : (H : List Event) (a : Operation) (s : OpState) → operation H a.occ ≡ Some a → state H a.occ ≡ s → goes_forward s (is_cancelled H a.occ) ≡ true
+    → next_in s H a.occ ≡ Some (next_in_state s a.occ (row H a))
+by_state H a Starting found at on = asking_row H a at
+by_state H a Processing found at on = making_row H a found at (not-true (is_cancelled H a.occ) on)
+by_state H a FailedTemp found at on = cc
+by_state H a RollingBack found at on = cc
+by_state H a Completed found at on = cc
+by_state H a Failed found at on = cc
+by_state H a RolledBack found at on = cc
+
+-- the next action of an occurrence that goes forward is that of its row
+pub next_of_row : (H : List Event) (o : ℕ) (r : OccRow) → IsForward H o → occurrence H o ≡ Some r → next_action H o ≡ Some (next_by_row o r)
 next_of_row H o r is found =
     let mine = found_row H o r found in
-    next_asking H o mine.0 mine.1 is.starting
-    ∙ (ap (next_while_asking H) (sym mine.2)
-    ∙ (asking_row H mine.0 (ap (state H) mine.2 ∙ is.starting)
-    ∙ ap (λ (x : OccRow). Some (next_by_row x)) mine.3))
+    let a : Operation = mine.0 in
+    let here : operation H a.occ ≡ Some a = ap (operation H) mine.2 ∙ mine.1 in
+    let on : goes_forward (state H a.occ) (is_cancelled H a.occ) ≡ true = subst (λ (n : ℕ). goes_forward (state H n) (is_cancelled H n) ≡ true) (sym mine.2) (forward_state H o is) in
+    let own : next_action H a.occ ≡ next_in (state H a.occ) H a.occ = ap (option_and_then (λ (b : Operation). next_in (state H a.occ) H a.occ)) here in
+    ap (next_action H) (sym mine.2)
+    ∙ (own
+    ∙ (by_state H a (state H a.occ) here refl on
+    ∙ (ap (λ (n : ℕ). Some (next_by_row n (row H a))) mine.2 ∙ ap (λ (x : OccRow). Some (next_by_row o x)) mine.3)))
 
--- an occurrence that was asked for has a row
-pub has_row : (H : List Event) (o : ℕ) → IsStarting H o → occurrence H o ≡ None → ⊥
-has_row H o is none = lost (row H) (operation H o) is.asked none where
-  lost : {A B : Type 0} → (f : A → B) (x : Option A) → is_some x ≡ true → option_map f x ≡ None → ⊥
-  lost f None some none = cc
-  lost f (Some a) some none = cc
+tried_step : (time : ℕ) (k : EventKind) (H : List Event) (o c : ℕ) → tried H o c ≤ length H → tried (record { moment = time; kind = k } ∷ H) o c ≤ length H + 1
+tried_step time (Intent t) H o c h = by_test (is_of o c t) (λ own. rw own (omega (arith, h))) (λ other. rw other (omega (arith, h)))
+tried_step time _ H o c h = omega (arith, h)
+
+-- no more attempts were made at a change than there are events
+few_tried : (H : List Event) (o c : ℕ) → tried H o c ≤ length H
+few_tried [] o c = omega arith
+few_tried (e ∷ H) o c = let step : tried (e ∷ H) o c ≤ length H + 1 = tried_step e.moment e.kind H o c (few_tried H o c) in omega (arith, step)
+
+of_kept : (over : Bool) (xs : List ℕ) (c n : ℕ) → slice_get (kept over xs) c ≡ Some n → slice_get xs c ≡ Some n
+of_kept true xs c n e = cc
+of_kept false xs c n e = e
+
+of_mapped : (f : ℕ → ℕ) (ns : List ℕ) (c n : ℕ) → slice_get (map f ns) c ≡ Some n → (m : ℕ) × (f m ≡ n)
+of_mapped f [] c n e = cc
+of_mapped f (m ∷ ns) zero n e = (m, cc)
+of_mapped f (m ∷ ns) (suc c) n e = of_mapped f ns c n e
+
+-- the numbers of a row of a history of few events fit a tag
+pub row_fits : PlansAreSmall → (m : ℕ) (H : List Event) (o : ℕ) (r : OccRow) → IsLegalWithin window m H → length H < 268435456 → occurrence H o ≡ Some r → FitsTags r
+row_fits small m H o r legal few found =
+    let mine = found_row H o r found in
+    let a : Operation = mine.0 in
+    let plan = small window m H legal a (found_in (λ x. x.occ) (operations H) o a mine.1) in
+    subst FitsTags mine.3 (record {
+      changes = omega (arith, plan);
+      attempts = λ c n at.
+          let from = of_mapped (tried H a.occ) (numbers a) c n (of_kept (is_over H a.occ) (map (tried H a.occ) (numbers a)) c n at) in
+          let most = few_tried H a.occ from.0 in
+          let is = from.1 in
+          omega (arith, most, is, few);
+    })
+
+-- where none of some numbers passes a test, none is first
+none_passes : (p : ℕ → Bool) (k n : ℕ) → ((c : ℕ) → c < k + n → p c ≡ false) → first (filter p (range_with_len k n)) ≡ None
+none_passes p k zero fails = refl
+none_passes p k (suc n) fails = rw (fails k (omega arith)) (none_passes p (k + 1) n (λ c less. fails c (omega (arith, less))))
+
+-- one that passes, above none that does, is first
+least_passes : (p : ℕ → Bool) (k n c : ℕ) → k ≤ c → c < k + n → p c ≡ true → ((j : ℕ) → j < c → p j ≡ false) → first (filter p (range_with_len k n)) ≡ Some c
+least_passes p k zero c low high passes under = absurd (omega (arith, low, high))
+least_passes p k (suc n) c low high passes under = by_test (k == c)
+    (λ same. let is : k ≡ c = eqb-true k c same in let holds : p k ≡ true = ap p is ∙ passes in rw holds (ap Some is))
+    (λ other. let less : k < c = below k c low other in rw (under k less) (least_passes p (k + 1) n c (omega (arith, less)) (omega (arith, high)) passes under)) where
+      below : (k c : ℕ) → k ≤ c → (k == c) ≡ false → k < c
+      below k c low other = grind (arith, low, other)
+
+-- a net, where there is one, is 0
+abbrev is_zero : Option ℕ → Bool
+is_zero x = option_map_or (λ n. n == 0) x false
+
+not_zero : (x : Option ℕ) → ¬ (x ≡ Some 0) → is_zero x ≡ false
+not_zero None apart = refl
+not_zero (Some n) apart = by_test (n == 0) (λ same. absurd (apart (ap Some (eqb-true n 0 same)))) (λ other. other)
+
+first_zero : (n : ℕ) (ns : List ℕ) (x : Option ℕ) → IfSome x (λ c. c < n) → IfSome x (λ c. slice_get ns c ≡ Some 0) → IfSome x (λ c. (j : ℕ) → j < c → ¬ (slice_get ns j ≡ Some 0))
+    → (x ≡ None → (c : ℕ) → c < n → ¬ (slice_get ns c ≡ Some 0)) → first (filter (λ c. is_zero (slice_get ns c)) (range_with_len 0 n)) ≡ x
+first_zero n ns None known zeroth least none = none_passes (λ c. is_zero (slice_get ns c)) 0 n (λ c less. not_zero (slice_get ns c) (none refl c (omega (arith, less))))
+first_zero n ns (Some c) known zeroth least none =
+    least_passes (λ c. is_zero (slice_get ns c)) 0 n c (omega arith) (omega (arith, known)) (ap is_zero zeroth) (λ j less. not_zero (slice_get ns j) (least j less))
+
+-- what is found among the changes of a row and their nets is the first that waits
+pub found_waiting : (r : OccRow) (xs : List Change) (ns : List ℕ) (x : Option ℕ) → xs ≡ r.changes → ns ≡ r.nets
+    → IfSome x (λ c. c < length xs) → IfSome x (λ c. slice_get ns c ≡ Some 0) → IfSome x (λ c. (j : ℕ) → j < c → ¬ (slice_get ns j ≡ Some 0))
+    → (x ≡ None → (c : ℕ) → c < length xs → ¬ (slice_get ns c ≡ Some 0)) → first_waiting r ≡ x
+found_waiting r xs ns x plan made known zeroth least none =
+    ap (λ (ms : List ℕ). first (filter (λ c. is_zero (slice_get ms c)) (range_with_len 0 (length r.changes)))) (sym made)
+    ∙ (ap (λ (ys : List Change). first (filter (λ c. is_zero (slice_get ns c)) (range_with_len 0 (length ys)))) (sym plan) ∙ first_zero (length xs) ns x known zeroth least none)
+
+-- the begin of the change that is found, or that all are made
+pub begins_found : (o : ℕ) (r : OccRow) (x : Option ℕ) → r.trouble ≡ false → first_waiting r ≡ x
+    → beginning_by_row o r ≡ option_map_or (λ c. Begin (next_tag o r c)) x (MoveTo Completed)
+begins_found o r x calm found = rw (calm, found) refl
 
 -- the location is that of the row
-pub location_of_row : (H : List Event) (o : ℕ) (r : OccRow) → IsStarting H o → occurrence H o ≡ Some r → location H o ≡ r.location
+pub location_of_row : (H : List Event) (o : ℕ) (r : OccRow) → IsForward H o → occurrence H o ≡ Some r → location H o ≡ r.location
 location_of_row H o r is found =
     let mine = found_row H o r found in
-    ap (location H) (sym mine.2) ∙ (sym (kept_location H mine.0 (ap (state H) mine.2 ∙ is.starting)) ∙ ap (λ (x : OccRow). x.location) mine.3)
+    ap (location H) (sym mine.2)
+    ∙ (sym (kept_location H mine.0 (ap (λ (n : ℕ). is_final (state H n)) mine.2 ∙ forward_on H o is)) ∙ ap (λ (x : OccRow). x.location) mine.3)
 
 -- a location is known where the next action is to poll it
-pub polls_known : (r : OccRow) → next_by_row r ≡ Poll → r.location ≡ None → ⊥
-polls_known r polls none = by (gives_up_row r) (is_some r.grant) (rw none at polls) where
-  by : (up granted : Bool) → (if up then MoveTo RolledBack else (if granted then MoveTo Processing else AskForGrant)) ≡ Poll → ⊥
-  by true granted e = cc
-  by false true e = cc
-  by false false e = cc
+polls_known : (o : ℕ) (r : OccRow) → next_by_row o r ≡ Poll → r.location ≡ None → ⊥
+polls_known o r polls none = in_state r.state polls where
+  asking : (up granted : Bool) → (if up then MoveTo RolledBack else (if granted then MoveTo Processing else AskForGrant)) ≡ Poll → ⊥
+  asking true granted e = cc
+  asking false true e = cc
+  asking false false e = cc
 
--- and so where it is the next action of an occurrence in STARTING
-pub polled_row : (H : List Event) (o : ℕ) (r : OccRow) → IsStarting H o → occurrence H o ≡ Some r → next_action H o ≡ Some Poll → r.location ≡ None → ⊥
+  beginning : (trouble : Bool) (x : Option ℕ) → (if trouble then MoveTo FailedTemp else option_map_or (λ c. Begin (next_tag o r c)) x (MoveTo Completed)) ≡ Poll → ⊥
+  beginning true x e = cc
+  beginning false None e = cc
+  beginning false (Some c) e = cc
+
+  making : (x : Option Pending) → option_map_or (λ (p : Pending). Look p.tag) x (beginning_by_row o r) ≡ Poll → ⊥
+  making None e = beginning r.trouble (first_waiting r) e
+  making (Some p) e = cc
+
+  in_state : (s : OpState) → next_in_state s o r ≡ Poll → ⊥
+  in_state Starting e = asking (gives_up_row r) (is_some r.grant) (rw none at e)
+  in_state _ e = making (first r.pending) e
+
+-- an attempt that begins is of the occurrence
+begins_of : (o : ℕ) (r : OccRow) (t : Tag) → next_by_row o r ≡ Begin t → t.occ ≡ o
+begins_of o r t begins = in_state r.state begins where
+  asking : (up granted told : Bool) → (if up then MoveTo RolledBack else (if granted then MoveTo Processing else (if told then Poll else AskForGrant))) ≡ Begin t → t.occ ≡ o
+  asking true granted told e = cc
+  asking false true told e = cc
+  asking false false true e = cc
+  asking false false false e = cc
+
+  beginning : (trouble : Bool) (x : Option ℕ) → (if trouble then MoveTo FailedTemp else option_map_or (λ c. Begin (next_tag o r c)) x (MoveTo Completed)) ≡ Begin t → t.occ ≡ o
+  beginning true x e = cc
+  beginning false None e = cc
+  beginning false (Some c) e = let same : next_tag o r c ≡ t = cc in sym (ap (λ (x : Tag). x.occ) same)
+
+  making : (x : Option Pending) → option_map_or (λ (p : Pending). Look p.tag) x (beginning_by_row o r) ≡ Begin t → t.occ ≡ o
+  making None e = beginning r.trouble (first_waiting r) e
+  making (Some p) e = cc
+
+  in_state : (s : OpState) → next_in_state s o r ≡ Begin t → t.occ ≡ o
+  in_state Starting e = asking (gives_up_row r) (is_some r.grant) (is_some r.location) e
+  in_state _ e = making (first r.pending) e
+
+pub begins_own : (H : List Event) (o : ℕ) (t : Tag) → IsForward H o → next_action H o ≡ Some (Begin t) → t.occ ≡ o
+begins_own H o t is next = of (occurrence H o) refl where
+  of : (x : Option OccRow) → occurrence H o ≡ x → t.occ ≡ o
+  of None found = absurd (has_row H o is found)
+  of (Some r) found =
+      let both : Some (next_by_row o r) ≡ Some (Begin t) = sym (next_of_row H o r is found) ∙ next in
+      let same : next_by_row o r ≡ Begin t = cc in
+      begins_of o r t same
+
+-- so that it is the next action of its own occurrence, which goes forward
+pub begins_there : (H : List Event) (o : ℕ) (t : Tag) → IsForward H o → next_action H o ≡ Some (Begin t) → IsForward H t.occ × (next_action H t.occ ≡ Some (Begin t))
+begins_there H o t is next =
+    let own = sym (begins_own H o t is next) in
+    (subst (λ (n : ℕ). IsForward H n) own is, subst (λ (n : ℕ). next_action H n ≡ Some (Begin t)) own next)
+
+-- and so where it is the next action of an occurrence that goes forward
+pub polled_row : (H : List Event) (o : ℕ) (r : OccRow) → IsForward H o → occurrence H o ≡ Some r → next_action H o ≡ Some Poll → r.location ≡ None → ⊥
 polled_row H o r is found polls none =
-    let both : Some (next_by_row r) ≡ Some Poll = sym (next_of_row H o r is found) ∙ polls in
-    let same : next_by_row r ≡ Poll = cc in
-    polls_known r same none
+    let both : Some (next_by_row o r) ≡ Some Poll = sym (next_of_row H o r is found) ∙ polls in
+    let same : next_by_row o r ≡ Poll = cc in
+    polls_known o r same none
 
 -- the changes are those of the row
 pub changes_of_row : (H : List Event) (o : ℕ) (r : OccRow) → occurrence H o ≡ Some r → changes H o ≡ r.changes
 changes_of_row H o r found =
     let mine = found_row H o r found in
     ap (λ (x : Option Operation). option_map_or (λ a. a.changes) x []) mine.1 ∙ ap (λ (x : OccRow). x.changes) mine.3
-
--- whether it was asked for and is in STARTING is told by the state of the row
-pub starting_row : (H : List Event) (o : ℕ) (r : OccRow) → occurrence H o ≡ Some r → is_starting H o ≡ same_state r.state Starting
-starting_row H o r found =
-    let mine = found_row H o r found in
-    let there : is_some (operation H o) ≡ true = ap is_some mine.1 in
-    let own : state H o ≡ r.state = ap (state H) (sym mine.2) ∙ ap (λ (x : OccRow). x.state) mine.3 in
-    rw there (ap (λ (s : OpState). same_state s Starting) own)

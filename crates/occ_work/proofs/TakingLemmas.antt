@@ -9,7 +9,9 @@ use Rattle.vnfm_base.specs.Text.{is_short_text}
 use Rattle.event_codec.specs.Typed.{TypedEvent}
 use Rattle.event_codec.specs.Valid.{IsEvent, IsMoved}
 use Rattle.executor.specs.Managed.{IsReady, Managed, MayRecord, is_settled}
-use Rattle.executor.specs.Work.{Idles}
+use Rattle.executor.specs.Room.{TellsRoom}
+use Rattle.executor.specs.Work.{Idles, Work, WorksAtFile, WorksWithJobs, recorded, went}
+use Rattle.journal_core.specs.declared.journal.TheConstants.{MAX_FILE}
 use Rattle.executor.specs.declared.manager.WorkFault.{WorkFault}
 use Rattle.executor.specs.declared.manager.WorkFault.TheVariants as fault
 use Rattle.lcm_events.specs.declared.changes.Change.{Change}
@@ -43,7 +45,12 @@ use Rattle.occ_table.proofs.JudgeLaws.{found_in}
 use Rattle.site_traits.specs.Answer.{Answer as Heard}
 use Rattle.site_traits.specs.declared.orchestrator.Call.{Call}
 use Rattle.site_traits.specs.declared.orchestrator.Call.TheVariants as call
-use Rattle.occ_work.specs.Acting.{IsStarting, Records}
+use Rattle.occ_work.specs.Acting.{Records}
+use Rattle.occ_work.specs.Acting.{TellsRoomFor, recording}
+use Rattle.occ_work.specs.Forward.{IsForward}
+use Rattle.occ_work.proofs.AttemptLemmas.{AreFew}
+use Rattle.occ_work.proofs.ForwardLemmas.{forward_asked}
+use Rattle.executor.proofs.WorkLemmas.{with_jobs}
 use Rattle.occ_work.specs.declared.ends.Acted.{Acted}
 use Rattle.occ_work.specs.declared.ends.Acted.TheVariants.{Recorded, Waiting}
 use Rattle.occ_work.proofs.StepLemmas.{changes_of_row}
@@ -193,12 +200,12 @@ appended_for false o answer = refl
 
 -- what an answer appends may be recorded
 pub may_take : (m now : ℕ) (H : List Event) (o : ℕ) (asking : Bool) (ended : Call) (heard : Heard) (kind : EventKind) → NextActionsAreAllowed → CoveringRowsPlaceChanges
-    → IsLegal m H → IsStarting H o → next_action H o ≡ Some (exchanging asking)
+    → IsLegal m H → IsForward H o → next_action H o ≡ Some (exchanging asking)
     → kinds_for asking o (answer_heard asking (changes H o) ended heard) ≡ kind ∷ [] → MayRecord m H (record { moment = now; kind = kind })
 may_take m now H o asking ended heard kind allows placed legal is next one =
     let answer : Answer = answer_heard asking (changes H o) ended heard in
     let good = is_answer H o asking ended heard placed in
-    let onward = allows window m H (omega arith) legal o now (exchanging asking) answer is.asked next good in
+    let onward = allows window m H (omega arith) legal o now (exchanging asking) answer (forward_asked H o is) next good in
     let kinds : appended o (exchanging asking) answer ≡ kind ∷ [] = appended_for asking o answer ∙ one in
     let both : IsLegal m (with_events now (kind ∷ []) H) = subst (λ (ks : List EventKind). IsLegal m (with_events now ks H)) kinds onward in
     let of : IsOfExchange kind = subst AreOfExchange one (kinds_of_exchange asking o answer) in
@@ -223,21 +230,21 @@ is_moved H o from RollingBack h = refl
 is_moved H o from RolledBack h = refl
 is_moved H o from Failed h = refl
 
--- a move out of STARTING may be recorded
-pub may_move_on : (m now : ℕ) (H : List Event) (o : ℕ) (to : OpState) → NextActionsAreAllowed → IsLegal m H → IsStarting H o → next_action H o ≡ Some (MoveTo to)
+-- a move may be recorded
+pub may_move_on : (m now : ℕ) (H : List Event) (o : ℕ) (to : OpState) → NextActionsAreAllowed → IsLegal m H → IsForward H o → next_action H o ≡ Some (MoveTo to)
     → MayRecord m H (record { moment = now; kind = Moved o to })
 may_move_on m now H o to allows legal is next =
-    let onward = allows window m H (omega arith) legal o now (MoveTo to) GrantTrouble is.asked next tt in
+    let onward = allows window m H (omega arith) legal o now (MoveTo to) GrantTrouble (forward_asked H o is) next tt in
     record { rules = λ typed. (typed.0, (typed.1, is_moved H o (state H o) to onward.0.1)); allowed = onward.0; unsettled = refl }
 
 -- and so may the event of it
 pub may_take_event : (m now : ℕ) (H : List Event) (o : ℕ) (asking : Bool) (ended : Call) (heard : Heard) (kind : EventKind) (e : Event) → NextActionsAreAllowed → CoveringRowsPlaceChanges
-    → IsLegal m H → IsStarting H o → next_action H o ≡ Some (exchanging asking)
+    → IsLegal m H → IsForward H o → next_action H o ≡ Some (exchanging asking)
     → kinds_for asking o (answer_heard asking (changes H o) ended heard) ≡ kind ∷ [] → e ≡ record { moment = now; kind = kind } → MayRecord m H e
 may_take_event m now H o asking ended heard kind e allows placed legal is next one same =
     subst (λ (x : Event). MayRecord m H x) (sym same) (may_take m now H o asking ended heard kind allows placed legal is next one)
 
-pub may_move_event : (m now : ℕ) (H : List Event) (o : ℕ) (to : OpState) (e : Event) → NextActionsAreAllowed → IsLegal m H → IsStarting H o → next_action H o ≡ Some (MoveTo to)
+pub may_move_event : (m now : ℕ) (H : List Event) (o : ℕ) (to : OpState) (e : Event) → NextActionsAreAllowed → IsLegal m H → IsForward H o → next_action H o ≡ Some (MoveTo to)
     → e ≡ record { moment = now; kind = Moved o to } → MayRecord m H e
 may_move_event m now H o to e allows legal is next same =
     subst (λ (x : Event). MayRecord m H x) (sym same) (may_move_on m now H o to allows legal is next)
@@ -258,12 +265,58 @@ records_as tells m now kinds H result n a b e kind same one records =
 pub records_none : (tells : Type 0) (m : Managed) (now : ℕ) (kinds : List EventKind) (H : List Event) (done : Acted) (s : SiteState) → Idles tells s → IsReady tells m H s → kinds ≡ []
     → Records tells m.ledger.manager now kinds H (Ok done) m s s
 records_none tells m now kinds H done s idles ready none =
-    subst (λ (ks : List EventKind). Records tells m.ledger.manager now ks H (Ok done) m s s) (sym none) (record { works = idles m H ready; room = tt })
+    subst (λ (ks : List EventKind). Records tells m.ledger.manager now ks H (Ok done) m s s) (sym none) (record { works = with_jobs tells m.ledger.manager H (went H) m s s (idles m H ready); room = tt })
 
 -- there was no memory for it
-pub records_starved : (tells : Type 0) (m : Managed) (now : ℕ) (kinds : List EventKind) (H : List Event) (s : SiteState) → Idles tells s → IsReady tells m H s
+pub records_starved : (tells : Type 0) (m : Managed) (now : ℕ) (kinds : List EventKind) (H : List Event) (s : SiteState) → AreFew kinds → Idles tells s → IsReady tells m H s
     → Records tells m.ledger.manager now kinds H (Err fault.Memory) m s s
-records_starved tells m now kinds H s idles ready = record { works = idles m H ready; room = tt }
+records_starved tells m now [] H s few idles ready = record { works = with_jobs tells m.ledger.manager H (went H) m s s (idles m H ready); room = tt }
+records_starved tells m now (k ∷ []) H s few idles ready = record { works = with_jobs tells m.ledger.manager H (went H) m s s (idles m H ready); room = tt }
+records_starved tells m now (k ∷ l ∷ more) H s few idles ready = absurd few
+
+few_granting : (o : ℕ) (answer : Answer) → AreFew (granting o answer)
+few_granting o (GrantCame grant places spots) = tt
+few_granting o GrantMissesSome = tt
+few_granting o GrantDenied = tt
+few_granting o GrantTrouble = tt
+few_granting o (GrantLater (Some at)) = tt
+few_granting o (GrantLater None) = tt
+few_granting o _ = tt
+
+few_polling : (o : ℕ) (answer : Answer) → AreFew (polling o answer)
+few_polling o (GrantCame grant places spots) = tt
+few_polling o GrantMissesSome = tt
+few_polling o GrantDenied = tt
+few_polling o GrantTrouble = tt
+few_polling o (GrantLater at) = tt
+few_polling o _ = tt
+
+-- an answer appends one event or none
+pub few_kinds : (asking : Bool) (o : ℕ) (answer : Answer) → AreFew (kinds_for asking o answer)
+few_kinds true o answer = few_granting o answer
+few_kinds false o answer = few_polling o answer
+
+-- recording one event is the work of its kind
+one_recorded : (H : List Event) (e : Event) (why : WorkFault) → recorded H e (Err why) ≡ recording e.moment (e.kind ∷ []) H (Err why)
+one_recorded H e (fault.TooLong n) = refl
+one_recorded H e (fault.Full end more) = refl
+one_recorded H e fault.Memory = refl
+one_recorded H e fault.Disk = refl
+
+pub recorded_works : (tells : Type 0) (m : ℕ) (H : List Event) (e : Event) (why : WorkFault) (n : Managed) (a b : SiteState) → WorksWithJobs tells m H (recorded H e (Err why)) n a b
+    → WorksWithJobs tells m H (recording e.moment (e.kind ∷ []) H (Err why)) n a b
+recorded_works tells m H e why n a b works = subst (λ (w : Work). WorksWithJobs tells m H w n a b) (one_recorded H e why) works
+
+pub recorded_at_file : (tells : Type 0) (m : ℕ) (H : List Event) (e : Event) (why : WorkFault) (n : Managed) (a b : SiteState) → WorksAtFile tells m H (recorded H e (Err why)) n a b
+    → WorksAtFile tells m H (recording e.moment (e.kind ∷ []) H (Err why)) n a b
+recorded_at_file tells m H e why n a b works = subst (λ (w : Work). WorksAtFile tells m H w n a b) (one_recorded H e why) works
+
+-- and what is told of its room is told of that of its kind
+pub one_room : (H : List Event) (e : Event) (why : WorkFault) → TellsRoom MAX_FILE H e (Err why) → TellsRoomFor e.moment (e.kind ∷ []) H (Err why)
+one_room H e (fault.TooLong n) room = room
+one_room H e (fault.Full end more) room = room
+one_room H e fault.Memory room = tt
+one_room H e fault.Disk room = room
 
 ends_poll : (o : ℕ) (answer : Answer) (kind : EventKind) → polling o answer ≡ kind ∷ [] → ending Poll answer ≡ Recorded
 ends_poll o (GrantLater at) kind e = cc

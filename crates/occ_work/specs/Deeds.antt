@@ -1,33 +1,45 @@
--- What is done for an occurrence at one time: its next action, what is exchanged with the orchestrator, and what that appends (own rule
--- over SOL 003 9.4.2, Grants, and 9.4.3, Individual grant).
+-- What is done for an occurrence at one time: its next action, what is exchanged with the orchestrator or the infrastructure, and what that
+-- appends (own rule over SOL 003 5.6.2, 9.4.2, Grants, and 9.4.3, Individual grant).
 use Rattle.std.specs.Prelude.{Bool, List, Some, false, if◌then◌else◌, true, ℕ, ◌≡◌, ◌⊎◌, Result, Err}
+use Rattle.change_planner.specs.Tags.{act_of}
 use Rattle.executor.specs.declared.manager.WorkFault.{WorkFault}
 use Rattle.executor.specs.declared.manager.WorkFault.TheVariants as fault
 use Rattle.grant_desk.specs.Answers.{answer_of}
 use Rattle.grant_desk.specs.declared.answers.GrantAnswer.{GrantAnswer}
 use Rattle.grant_desk.specs.declared.answers.GrantAnswer.TheVariants as says
+use Rattle.lcm_events.specs.declared.acts.Act.{Act}
+use Rattle.lcm_events.specs.declared.attempts.Tag.{Tag}
 use Rattle.lcm_events.specs.declared.changes.Change.{Change}
 use Rattle.lcm_events.specs.declared.events.Event.{Event}
 use Rattle.lcm_events.specs.declared.events.EventKind.{EventKind}
 use Rattle.lcm_laws.specs.Acting.{with_events}
 use Rattle.lcm_model.specs.Grants.{covers, granted_places, granted_spots, location}
-use Rattle.lcm_model.specs.Next.{Answer, GrantCame, GrantDenied, GrantLater, GrantMissesSome, GrantTrouble, LookFailed, LookedRunning, appended, next_action}
+use Rattle.lcm_model.specs.Next.{Answer, BeginFailed, BeginRefused, BeginTaken, GrantCame, GrantDenied, GrantLater, GrantMissesSome, GrantTrouble, LookFailed, LookedAbsent, LookedAborted, LookedBroken, LookedDone, LookedRunning, appended, next_action}
 use Rattle.lcm_model.specs.Operations.{changes}
 use Rattle.lcm_model.specs.declared.actions.Action.{Action}
-use Rattle.lcm_model.specs.declared.actions.Action.TheVariants.{AbortAndLook, AskForGrant, Look, MoveTo, Poll}
+use Rattle.lcm_model.specs.declared.actions.Action.TheVariants.{AbortAndLook, AskForGrant, Begin, Look, MoveTo, Poll}
 use Rattle.site_traits.specs.Answer.{Answer as Heard}
+use Rattle.site_traits.specs.declared.jobs.AbortAnswer.{AbortAnswer}
+use Rattle.site_traits.specs.declared.jobs.BeginAnswer.{BeginAnswer}
+use Rattle.site_traits.specs.declared.jobs.BeginAnswer.TheVariants as begin
+use Rattle.site_traits.specs.declared.jobs.LookAnswer.{LookAnswer}
+use Rattle.site_traits.specs.declared.jobs.LookAnswer.TheVariants as look
 use Rattle.site_traits.specs.declared.orchestrator.Call.{Call}
 use Rattle.site_traits.specs.declared.orchestrator.Call.TheVariants as call
 use Rattle.occ_work.specs.Requests.{grant_request}
 use Rattle.occ_work.specs.declared.ends.Acted.{Acted}
 use Rattle.occ_work.specs.declared.ends.Acted.TheVariants.{Recorded, Unreached, Waiting}
 
--- what was exchanged with the orchestrator: nothing; or a grant request with this body, or a poll of this location, and how the call ended
--- and what was heard
+-- What was exchanged: nothing; with the orchestrator, a grant request with this body, or a poll of this location, how the call ended and what
+-- was heard; with the infrastructure, the begin of an attempt's job with this work, a look at an attempt's job, or an abort of it and then a
+-- look, and what was answered.
 pub data Exchange : Type 0 where
   nothing : Exchange
   asked : List ℕ → Call → Heard → Exchange
   polled : List ℕ → Call → Heard → Exchange
+  began : Tag → Act → BeginAnswer → Exchange
+  looked : Tag → LookAnswer → Exchange
+  aborted : Tag → AbortAnswer → LookAnswer → Exchange
 
 -- what was done for an occurrence: its action, and what was exchanged for it
 pub record Deed : Type 0 where
@@ -50,18 +62,41 @@ abbrev pub answer_heard : Bool → List Change → Call → Heard → Answer
 answer_heard asking xs call.Came heard = answer_with xs (answer_of asking heard)
 answer_heard asking xs call.Failed heard = GrantTrouble
 
--- what was answered in an exchange, for these changes; where there was none nobody asks for it
+-- what an answer to a begin comes to (own rule)
+abbrev pub answer_begun : BeginAnswer → Answer
+answer_begun begin.Begun = BeginTaken
+answer_begun (begin.Refused code) = BeginRefused code
+answer_begun begin.Failed = BeginFailed
+
+-- what an answer to a look comes to (own rule)
+abbrev pub answer_looked : LookAnswer → Answer
+answer_looked look.Absent = LookedAbsent
+answer_looked look.Running = LookedRunning
+answer_looked (look.Done name) = LookedDone name
+answer_looked (look.Broken code) = LookedBroken code
+answer_looked look.Aborted = LookedAborted
+answer_looked look.Failed = LookFailed
+
+-- What was answered in an exchange, for these changes. Where there was none, all that there is to record is that an attempt is to begin, which is
+-- recorded before the infrastructure is asked.
 abbrev pub answer_in : List Change → Exchange → Answer
-answer_in xs nothing = GrantTrouble
+answer_in xs nothing = BeginTaken
 answer_in xs (asked body ended heard) = answer_heard true xs ended heard
 answer_in xs (polled at ended heard) = answer_heard false xs ended heard
+answer_in xs (began t work answer) = answer_begun answer
+answer_in xs (looked t answer) = answer_looked answer
+answer_in xs (aborted t ended answer) = answer_looked answer
 
--- the exchange is that of the action of occurrence o, over history H of manager m: an ask has the body of its grant request, and a poll the
--- location that was told (SOL 003 9.4.2, 9.4.3)
+-- The exchange is that of the action of occurrence o, over history H of manager m: an ask has the body of its grant request, a poll the
+-- location that was told, a begin its attempt with the work that the history gives it, and a look and an abort the attempt
+-- (SOL 003 9.4.2, 9.4.3; own rule).
 abbrev pub IsExchangeOf : ℕ → List Event → ℕ → Action → Exchange → Type 0
 IsExchangeOf m H o AskForGrant (asked body ended heard) = grant_request m H o ≡ Some body
 IsExchangeOf m H o Poll (polled at ended heard) = location H o ≡ Some at
 IsExchangeOf m H o (MoveTo to) nothing = Unit {0}
+IsExchangeOf m H o (Begin t) (began tag work answer) = (tag ≡ t) × (act_of H t ≡ Some work)
+IsExchangeOf m H o (Look t) (looked tag answer) = tag ≡ t
+IsExchangeOf m H o (AbortAndLook t) (aborted tag ended answer) = tag ≡ t
 IsExchangeOf m H o _ _ = ⊥
 
 -- what was answered to a deed over history H
@@ -91,7 +126,23 @@ pub record IsDeed (m : ℕ) (H : List Event) (d : Deed) : Type 0 where
   pub next : next_action H d.occ ≡ Some d.action
   pub exchange : IsExchangeOf m H d.occ d.action d.exchange
 
--- The deed was tried: it is one, unless there was no memory for what it exchanges, and then nothing was exchanged.
+-- why nothing was exchanged for an action: a begin wasn't asked for, since its intent isn't safe; or there was no memory
+abbrev pub IsUnexchanged : Action → Exchange → Result Acted WorkFault → Type 0
+IsUnexchanged (Begin t) nothing (Err why) = Unit {0}
+IsUnexchanged action nothing (Err fault.Memory) = Unit {0}
+IsUnexchanged action x result = ⊥
+
+-- How an act may end behind its exchange: a begin that was taken has nothing left to record, and no memory is taken behind a call of the
+-- infrastructure.
+abbrev pub MayEnd : Exchange → Result Acted WorkFault → Type 0
+MayEnd (began t work begin.Begun) (Err why) = ⊥
+MayEnd (began t work answer) (Err fault.Memory) = ⊥
+MayEnd (looked t answer) (Err fault.Memory) = ⊥
+MayEnd (aborted t ended answer) (Err fault.Memory) = ⊥
+MayEnd x result = Unit {0}
+
+-- the deed was tried: it is one, unless what is exchanged for it couldn't be
 pub record IsTried (m : ℕ) (H : List Event) (d : Deed) (result : Result Acted WorkFault) : Type 0 where
   pub next : next_action H d.occ ≡ Some d.action
-  pub exchange : IsExchangeOf m H d.occ d.action d.exchange ⊎ (result ≡ Err fault.Memory) × (d.exchange ≡ nothing)
+  pub exchange : IsExchangeOf m H d.occ d.action d.exchange ⊎ IsUnexchanged d.action d.exchange result
+  pub ended : MayEnd d.exchange result

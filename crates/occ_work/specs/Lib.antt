@@ -1,6 +1,9 @@
 pub mod Requests
+pub mod Forward
 pub mod Deeds
+pub mod Around
 pub mod Acting
+pub mod Attempting
 pub mod Counting
 pub mod Turns
 pub mod Steps

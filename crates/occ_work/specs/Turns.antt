@@ -1,29 +1,17 @@
--- What a turn does: one act for each occurrence that is in STARTING when it begins, in the order of their numbers (own rule over SOL 003
+-- What a turn does: one act for each occurrence that goes forward when it begins, in the order of their numbers (own rule over SOL 003
 -- 5.6.2).
-use Rattle.std.specs.Prelude.{Bool, List, [], filter, is_some, map, nat_lt, reverse, ℕ, ◌&&◌, ◌++◌, ◌∷◌, ◌≡◌, Result, Ok, Err}
+use Rattle.std.specs.Prelude.{List, [], filter, map, nat_lt, reverse, ℕ, ◌++◌, ◌∷◌, ◌≡◌, Result, Ok, Err}
 use Rattle.executor.specs.Managed.{Managed}
-use Rattle.executor.specs.Work.{Work, Works, went}
+use Rattle.executor.specs.Work.{Work, WorksWithJobs, went}
 use Rattle.executor.specs.declared.manager.WorkFault.{WorkFault}
-use Rattle.executor.specs.declared.manager.WorkFault.TheVariants as fault
-use Rattle.lcm_events.specs.Same.{same_state}
 use Rattle.lcm_events.specs.declared.events.Event.{Event}
-use Rattle.lcm_events.specs.declared.states.OpState.TheVariants.{Starting}
-use Rattle.lcm_model.specs.Moves.{state}
-use Rattle.lcm_model.specs.Operations.{operation}
-use Rattle.occ_table.specs.Going.{active}
-use Rattle.occ_work.specs.Acting.{Exchanged, Outside, Peer, Tells, TellsRoomFor, recording}
+use Rattle.occ_work.specs.Acting.{TellsRoomFor, recording}
+use Rattle.occ_work.specs.Around.{Around, Exchanged, Outside, Tells, around}
 use Rattle.occ_work.specs.Counting.{CountsEndings}
 use Rattle.occ_work.specs.Deeds.{Deed, IsDeed, IsTried, answered, ending, kinds_of, once_done}
+use Rattle.occ_work.specs.Forward.{forwarding}
 use Rattle.occ_work.specs.declared.ends.Acted.{Acted}
 use Rattle.occ_work.specs.declared.ends.Turn.{Turn}
-
--- the occurrence of this number was asked for and is in STARTING (SOL 003 5.6.2)
-abbrev pub is_starting : List Event → ℕ → Bool
-is_starting H o = is_some (operation H o) && same_state (state H o) Starting
-
--- the numbers of the active occurrences that are in STARTING, the least first (SOL 003 5.6.2)
-abbrev pub starting : List Event → List ℕ
-starting H = filter (is_starting H) (active H)
 
 -- the numbers above one
 abbrev pub above : ℕ → List ℕ → List ℕ
@@ -34,43 +22,40 @@ abbrev pub once_all_done : ℕ → List Event → List Deed → List Event
 once_all_done now H [] = H
 once_all_done now H (d ∷ before) = once_done now (once_all_done now H before) d
 
--- the deeds were done with the orchestrator, the latest first, each over the history that those before it left, and from where they ended
-abbrev pub DeedsDo : Type 0 → ℕ → ℕ → List Event → List Deed → Peer → Peer → Type 0
-DeedsDo tells m now H [] a b = b ≡ a
-DeedsDo tells m now H (d ∷ before) a c =
-    (b : Peer) × DeedsDo tells m now H before a b × IsDeed m (once_all_done now H before) d × Exchanged tells d.exchange b c
+-- the deeds were done with the orchestrator and the infrastructure, the latest first, each over the history that those before it left, and
+-- from where they ended
+abbrev pub DeedsDo : Tells → ℕ → ℕ → List Event → List Deed → Around → Around → Type 0
+DeedsDo t m now H [] a b = b ≡ a
+DeedsDo t m now H (d ∷ before) a c =
+    (b : Around) × DeedsDo t m now H before a b × IsDeed m (once_all_done now H before) d × Exchanged t d.exchange b c
 
 -- how the acts of these deeds ended, the latest first
 abbrev pub endings : ℕ → List Event → List Deed → List Acted
 endings now H [] = []
 endings now H (d ∷ before) = ending d.action (answered (once_all_done now H before) d) ∷ endings now H before
 
--- How a turn ended: it went through; there was no memory, and nothing more was done; or the act of this deed ended in this fault.
+-- How a turn ended: it went through; or the act of this deed ended in this fault.
 pub data TurnEnd : Type 0 where
-  through starved : TurnEnd
+  through : TurnEnd
   stopped : Deed → WorkFault → TurnEnd
 
 -- the work of the end of a turn behind history H
 abbrev pub end_work : ℕ → List Event → TurnEnd → Work
 end_work now H through = went H
-end_work now H starved = went H
 end_work now H (stopped d why) = recording now (kinds_of H d) H (Err why)
 
 -- the work of a turn behind history H
 abbrev pub turn_work : ℕ → List Event → List Deed → TurnEnd → Work
 turn_work now H deeds end = end_work now (once_all_done now H deeds) end
 
--- what the end of a turn does to the orchestrator, and tells of the room in the journal
-abbrev pub EndDoes : Type 0 → ℕ → ℕ → List Event → TurnEnd → Peer → Peer → Type 0
-EndDoes tells m now H through a b = b ≡ a
-EndDoes tells m now H starved a b = b ≡ a
-EndDoes tells m now H (stopped d why) a b =
-    IsTried m H d (Err why) × Exchanged tells d.exchange a b × TellsRoomFor now (kinds_of H d) H (Err why)
+-- what the end of a turn does with the orchestrator and the infrastructure, and tells of the room in the journal
+abbrev pub EndDoes : Tells → ℕ → ℕ → List Event → TurnEnd → Around → Around → Type 0
+EndDoes t m now H through a b = b ≡ a
+EndDoes t m now H (stopped d why) a b = IsTried m H d (Err why) × Exchanged t d.exchange a b × TellsRoomFor now (kinds_of H d) H (Err why)
 
 -- these are the numbers of occurrences for which acts were made, the least first
 abbrev pub numbers_tried : List Deed → TurnEnd → List ℕ
 numbers_tried deeds through = reverse (map (λ d. d.occ) deeds)
-numbers_tried deeds starved = reverse (map (λ d. d.occ) deeds)
 numbers_tried deeds (stopped last why) = reverse (map (λ d. d.occ) (last ∷ deeds))
 
 -- acts were made for these, in order: all of them where the turn went through, and else a front
@@ -81,15 +66,14 @@ IsFor numbers deeds end = (rest : List ℕ) × (numbers_tried deeds end ++ rest 
 -- the end is that of the answer
 abbrev pub EndsTurn : Result Turn WorkFault → List Acted → TurnEnd → Type 0
 EndsTurn (Ok turn) ends through = CountsEndings turn ends
-EndsTurn (Err why) ends starved = why ≡ fault.Memory
 EndsTurn (Err why) ends (stopped d cause) = why ≡ cause
 EndsTurn _ ends _ = ⊥
 
 -- These deeds were done at this moment, the latest first, behind history H of manager m, which is now n, and the turn ended so: for the
--- occurrences that are in STARTING in H, in order, each behind what those before it left.
+-- occurrences that go forward in H, in order, each behind what those before it left.
 pub record Turns (t : Tells) (m now : ℕ) (H : List Event) (deeds : List Deed) (end : TurnEnd) (n : Managed) (w v : Outside) : Type 0 where
-  pub works : Works t.site m H (turn_work now H deeds end) n w.site v.site
-  pub between : Peer
-  pub deeds_do : DeedsDo t.orchestrator m now H deeds w.orchestrator between
-  pub end_does : EndDoes t.orchestrator m now (once_all_done now H deeds) end between v.orchestrator
-  pub order : IsFor (starting H) deeds end
+  pub works : WorksWithJobs t.site m H (turn_work now H deeds end) n w.site v.site
+  pub between : Around
+  pub deeds_do : DeedsDo t m now H deeds (around w) between
+  pub end_does : EndDoes t m now (once_all_done now H deeds) end between (around v)
+  pub order : IsFor (forwarding H) deeds end

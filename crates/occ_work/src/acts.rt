@@ -1,31 +1,36 @@
-//! The next action of an occurrence: an event, or a call of the orchestrator and the event that its answer appends. A grant is asked for
-//! before anything is moved on, and is on the disk before the move.
+//! The next action of an occurrence: an event, or a call of the orchestrator or the infrastructure and the events that its answer appends. A
+//! grant is asked for before anything is moved on, and is on the disk before the move.
 ghost use Rattle.std.specs.Prelude.{◌≡◌, ◌≢◌, ℕ, List, Err, Some};
 ghost use Rattle.executor.specs.Managed.{IsReady};
 ghost use Rattle.lcm_events.specs.declared.events.Event.{Event};
 ghost use Rattle.lcm_model.specs.Next.{next_action};
 ghost use Rattle.lcm_model.specs.declared.actions.Action.TheVariants as actions;
-ghost use Rattle.site_traits.specs.Counts.{OnlyDiskFails};
-ghost use Rattle.occ_work.specs.Acting.{Acts, IsStarting, outside, telling};
+ghost use Rattle.occ_work.specs.Acting.{Acts};
+ghost use Rattle.occ_work.specs.Around.{DiskFails, outside, telling};
 ghost use Rattle.occ_work.specs.Deeds.{Deed};
+ghost use Rattle.occ_work.specs.Forward.{IsForward};
 
+use crate::attempts::{begin, look};
 use crate::ends::Acted;
 use crate::requests::request;
 use crate::steps::{Step, location_of, next_step};
 use crate::taking::{move_to, take};
-use executor::{Manager, WorkFault, works_add_up};
+use executor::{Manager, WorkFault, works_add_up, works_with_jobs_add_up};
 use site_traits::{Heard, Orchestrator, Site};
 use std::alloc::Global;
 use vnfm_base::Moment;
 
-/// Does the next action of an occurrence, and no other call: the occurrence is moved on, its grant is asked for, or the location is polled that
-/// was told for it.
+/// Does the next action of an occurrence, and no other call: the occurrence is moved on, its grant is asked for, the location is polled that was
+/// told for it, an attempt at a change is begun, or the job of one is looked at.
 ///
-/// State: needs STARTING, and a manager that isn't closed and whose file has its history.
-/// Refusals: `Memory`; `Full {end, more}` (bytes), exactly where the event's spelling and the file's end say so; `Disk`; never `TooLong`. After
-/// `Memory` nothing was recorded, but the grant may have been asked for or polled, and is again by the next act. After `Full` the same, and
-/// the answer that was heard is lost. After `Disk` the manager is closed: load the journal again.
-/// Source: SOL 003 9.4.2 (Grants), 9.4.3 (Individual grant); the order of actions is an own rule.
+/// State: needs STARTING, or PROCESSING with no cancel in force, and a manager that isn't closed and whose file has its history.
+/// Refusals: `Memory`; `Full {end, more}` (bytes), exactly where the spelling of the event that is recorded next and the file's end say so;
+/// `Disk`; never `TooLong`. After `Memory` nothing was recorded, and the infrastructure wasn't called, but the grant may have been asked for or
+/// polled, and is again by the next act. After `Full` an intent that was recorded stands, and so does the call behind it; an answer that was
+/// heard and not recorded is lost. After `Disk` the manager is closed: load the journal again.
+/// At each moment a stop leaves a history that begins with that at the start, and where the jobs were sound with it, sound ones.
+/// Source: SOL 003 5.6.2 (States and state transitions of a VNF LCM operation occurrence), 9.4.2 (Grants), 9.4.3 (Individual grant); the order
+/// of actions is an own rule.
 pub fn act<S: Site, O: Orchestrator>(
     alloc: Global,
     manager: &mut Manager<S>,
@@ -34,17 +39,19 @@ pub fn act<S: Site, O: Orchestrator>(
     orchestrator: &mut O,
     now: Moment,
 ) -> Result<Acted, WorkFault>
-    requires ready { (H : List Event) × IsReady S.tells manager.old H (S.state site.old) × IsStarting H occ }
-    ensures acts { (H : List Event) → IsReady S.tells manager.old H (S.state site.old) → IsStarting H occ
+    requires ready { (H : List Event) × IsReady S.tells manager.old H (S.state site.old) × IsForward H occ }
+    ensures acts { (H : List Event) → IsReady S.tells manager.old H (S.state site.old) → IsForward H occ
         → (d : Deed) × (d.occ ≡ occ) × Acts (telling S.tells O.tells) manager.old.ledger.manager now H d result manager.new
-        (outside (S.state site.old) (O.state orchestrator.old) (O.counts orchestrator.old)) (outside (S.state site.new) (O.state orchestrator.new) (O.counts orchestrator.new)) }
+        (outside (S.state site.old) (S.counts site.old) (O.state orchestrator.old) (O.counts orchestrator.old)) (outside (S.state site.new) (S.counts site.new) (O.state orchestrator.new) (O.counts orchestrator.new)) }
     ensures short { (n : ℕ) → result ≢ Err (WorkFault.TooLong n) }
-    ensures disk { OnlyDiskFails (result ≡ Err WorkFault.Disk) (S.counts site.old) (S.counts site.new) }
+    ensures disk { DiskFails (result ≡ Err WorkFault.Disk) (S.counts site.old) (S.counts site.new) }
 {
     match next_step(manager, occ) {
         Step::Move(to) => move_to(alloc, manager, site, occ, to, now),
         Step::Poll => poll(alloc, manager, occ, site, orchestrator, now),
         Step::Ask => ask(alloc, manager, occ, site, orchestrator, now),
+        Step::Begin(tag) => begin(alloc, manager, site, &tag, now),
+        Step::Look(tag) => look(alloc, manager, site, occ, &tag, now),
     }
 }
 
@@ -57,14 +64,15 @@ fn ask<S: Site, O: Orchestrator>(
     orchestrator: &mut O,
     now: Moment,
 ) -> Result<Acted, WorkFault>
-    requires ready { (H : List Event) × IsReady S.tells manager.old H (S.state site.old) × IsStarting H occ × (next_action H occ ≡ Some actions.AskForGrant) }
-    ensures acts { (H : List Event) → IsReady S.tells manager.old H (S.state site.old) → IsStarting H occ → next_action H occ ≡ Some actions.AskForGrant
+    requires ready { (H : List Event) × IsReady S.tells manager.old H (S.state site.old) × IsForward H occ × (next_action H occ ≡ Some actions.AskForGrant) }
+    ensures acts { (H : List Event) → IsReady S.tells manager.old H (S.state site.old) → IsForward H occ → next_action H occ ≡ Some actions.AskForGrant
         → (d : Deed) × (d.occ ≡ occ) × Acts (telling S.tells O.tells) manager.old.ledger.manager now H d result manager.new
-        (outside (S.state site.old) (O.state orchestrator.old) (O.counts orchestrator.old)) (outside (S.state site.new) (O.state orchestrator.new) (O.counts orchestrator.new)) }
+        (outside (S.state site.old) (S.counts site.old) (O.state orchestrator.old) (O.counts orchestrator.old)) (outside (S.state site.new) (S.counts site.new) (O.state orchestrator.new) (O.counts orchestrator.new)) }
     ensures short { (n : ℕ) → result ≢ Err (WorkFault.TooLong n) }
-    ensures disk { OnlyDiskFails (result ≡ Err WorkFault.Disk) (S.counts site.old) (S.counts site.new) }
+    ensures disk { DiskFails (result ≡ Err WorkFault.Disk) (S.counts site.old) (S.counts site.new) }
 {
     works_add_up::<S>();
+    works_with_jobs_add_up::<S>();
     let body = request(alloc, manager, occ)?;
     let mut heard = Heard::new(alloc)?;
     let call = orchestrator.ask(body.as_slice(), &mut heard);
@@ -80,14 +88,15 @@ fn poll<S: Site, O: Orchestrator>(
     orchestrator: &mut O,
     now: Moment,
 ) -> Result<Acted, WorkFault>
-    requires ready { (H : List Event) × IsReady S.tells manager.old H (S.state site.old) × IsStarting H occ × (next_action H occ ≡ Some actions.Poll) }
-    ensures acts { (H : List Event) → IsReady S.tells manager.old H (S.state site.old) → IsStarting H occ → next_action H occ ≡ Some actions.Poll
+    requires ready { (H : List Event) × IsReady S.tells manager.old H (S.state site.old) × IsForward H occ × (next_action H occ ≡ Some actions.Poll) }
+    ensures acts { (H : List Event) → IsReady S.tells manager.old H (S.state site.old) → IsForward H occ → next_action H occ ≡ Some actions.Poll
         → (d : Deed) × (d.occ ≡ occ) × Acts (telling S.tells O.tells) manager.old.ledger.manager now H d result manager.new
-        (outside (S.state site.old) (O.state orchestrator.old) (O.counts orchestrator.old)) (outside (S.state site.new) (O.state orchestrator.new) (O.counts orchestrator.new)) }
+        (outside (S.state site.old) (S.counts site.old) (O.state orchestrator.old) (O.counts orchestrator.old)) (outside (S.state site.new) (S.counts site.new) (O.state orchestrator.new) (O.counts orchestrator.new)) }
     ensures short { (n : ℕ) → result ≢ Err (WorkFault.TooLong n) }
-    ensures disk { OnlyDiskFails (result ≡ Err WorkFault.Disk) (S.counts site.old) (S.counts site.new) }
+    ensures disk { DiskFails (result ≡ Err WorkFault.Disk) (S.counts site.old) (S.counts site.new) }
 {
     works_add_up::<S>();
+    works_with_jobs_add_up::<S>();
     let mut heard = Heard::new(alloc)?;
     let call = orchestrator.poll(location_of(manager, occ), &mut heard);
     take(alloc, manager, site, occ, false, call, &heard, now)

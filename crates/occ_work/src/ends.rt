@@ -9,9 +9,9 @@ ghost use Rattle.occ_work.specs.Counting.{CountsEndings};
 pub enum Acted {
     /// What it did is in the journal.
     Recorded,
-    /// The outside answered that it isn't done yet, and nothing was recorded: the grant comes later still.
+    /// The outside answered that it isn't done yet, and nothing was recorded: the grant comes later still, or the job goes on.
     Waiting,
-    /// The outside gave no answer that says anything, and nothing was recorded. Before a grant was given no act ends so.
+    /// A look failed, so that nothing is known of the job, and nothing was recorded. It is looked at again by the next act.
     Unreached,
 }
 

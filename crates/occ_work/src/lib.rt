@@ -1,12 +1,15 @@
-//! The work on occurrences: the next action of each, done once a turn, up to the grant of its operation.
+//! The work on occurrences: the next action of each, done once a turn, forward to the end of its operation.
 #![tactic(auto)]
 
 mod acts;
+mod attempts;
 mod ends;
+mod instances;
 mod requests;
 mod steps;
 mod taking;
 mod turns;
+mod work;
 
 pub use acts::act;
 pub use ends::{Acted, Turn};

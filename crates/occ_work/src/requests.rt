@@ -2,9 +2,10 @@
 ghost use Rattle.std.specs.Prelude.{◌≡◌, List, IfOk, Some, false};
 ghost use Rattle.executor.specs.Managed.{Keeps};
 ghost use Rattle.lcm_events.specs.declared.events.Event.{Event};
-ghost use Rattle.occ_work.specs.Acting.{IsStarting};
+ghost use Rattle.occ_work.specs.Forward.{IsForward};
 ghost use Rattle.occ_work.specs.Requests.{grant_request};
 
+use crate::instances::{instance_of, vnfd_of};
 use crate::steps::row_of;
 use executor::Manager;
 use grant_desk::{GrantAsker, grant_body};
@@ -14,23 +15,19 @@ use site_traits::Site;
 use std::alloc::{AllocError, Global};
 use vnfm_base::Bytes;
 
-/// The body of the grant request of an occurrence in STARTING.
+/// The body of the grant request of an occurrence that goes forward.
 ///
 /// Source: SOL 003 9.4.2 (Grants).
 pub fn request<S: Site>(alloc: Global, manager: &Manager<S>, occ: u64) -> Result<Bytes, AllocError>
     requires usable { manager.now.ledger.closed ≡ false }
-    requires starting { (H : List Event) × Keeps manager.now H × IsStarting H occ }
-    ensures { (H : List Event) → Keeps manager.now H → IsStarting H occ → IfOk result (λ body. grant_request manager.now.ledger.manager H occ ≡ Some body) }
+    requires forward { (H : List Event) × Keeps manager.now H × IsForward H occ }
+    ensures { (H : List Event) → Keeps manager.now H → IsForward H occ → IfOk result (λ body. grant_request manager.now.ledger.manager H occ ≡ Some body) }
 {
     items_are_in_order();
     rows_have_holdings();
     let row = row_of(manager, occ);
-    let Some(instance) = manager.instances().instance(row.instance) else {
-        unreachable!()
-    };
-    let Some(vnfd) = manager.vnfd(&instance.vnfd) else {
-        unreachable!()
-    };
+    let instance = instance_of(manager, row);
+    let vnfd = vnfd_of(manager, instance);
     let ask = row.ask.unpack(alloc)?;
     let who = GrantAsker {
         manager: manager.number(),

@@ -9,13 +9,16 @@ ghost use Rattle.lcm_model.specs.Next.{GrantLater, next_action};
 ghost use Rattle.lcm_model.specs.Operations.{changes as changes_of};
 ghost use Rattle.lcm_model.specs.declared.actions.Action.TheVariants as actions;
 ghost use Rattle.site_traits.specs.Counts.{OnlyDiskFails};
-ghost use Rattle.occ_work.specs.Acting.{Acts, IsStarting, Records, outside, telling};
-ghost use Rattle.occ_work.specs.Deeds.{Deed, answer_heard, answer_with, ending};
+ghost use Rattle.site_traits.specs.Site.{KeepsJobs};
+ghost use Rattle.occ_work.specs.Acting.{Records};
+ghost use Rattle.occ_work.specs.Deeds.{answer_heard, answer_with, ending};
+ghost use Rattle.occ_work.specs.Forward.{IsForward};
 ghost use Rattle.occ_work.specs.Steps.{exchanging, is_of_act, kinds_for, listed};
 
+use crate::attempts::event_of;
 use crate::ends::Acted;
 use crate::steps::row_of;
-use executor::{Manager, WorkFault, works_add_up};
+use executor::{Manager, WorkFault, works_add_up, works_with_jobs_add_up};
 use grant_desk::{GrantAnswer, GrantRows, covers, places_of, read_answer};
 use journal_core::MAX_FILE;
 use lcm_events::{Change, Event, EventKind, GrantTry, OpState};
@@ -102,21 +105,16 @@ fn record<S: Site>(
     ensures records { (H : List Event) → IsReady S.tells manager.old H (S.state site.old) → MayRecord manager.old.ledger.manager H event.now
         → Records S.tells manager.old.ledger.manager event.now.moment (event.now.kind ∷ []) H result manager.new (S.state site.old) (S.state site.new) }
     ensures ended { IfOk result (λ done. done ≡ Acted.Recorded) }
+    ensures jobs { S.tells → KeepsJobs (S.state site.old) (S.state site.new) }
     ensures short { (n : ℕ) → result ≢ Err (WorkFault.TooLong n) }
     ensures disk { OnlyDiskFails (result ≡ Err WorkFault.Disk) (S.counts site.old) (S.counts site.new) }
 {
+    works_with_jobs_add_up::<S>();
     plans_are_small();
     match manager.commit(alloc, site, event, MAX_FILE) {
         Ok(()) => Ok(Acted::Recorded),
         Err(fault) => Err(fault),
     }
-}
-
-/// An event of this kind, at this moment.
-fn event_of(moment: Moment, kind: EventKind) -> Event
-    ensures { result ≡ record { moment = moment; kind = kind } }
-{
-    Event { moment, kind }
 }
 
 /// Records what an answer appends: one that was heard to an ask, or else to a poll, or none where the call failed.
@@ -132,15 +130,17 @@ pub fn take<S: Site>(
     heard: &Heard,
     now: Moment,
 ) -> Result<Acted, WorkFault>
-    requires ready { (H : List Event) × IsReady S.tells manager.old H (S.state site.old) × IsStarting H occ × (next_action H occ ≡ Some (exchanging asking)) }
-    ensures records { (H : List Event) → IsReady S.tells manager.old H (S.state site.old) → IsStarting H occ → next_action H occ ≡ Some (exchanging asking)
+    requires ready { (H : List Event) × IsReady S.tells manager.old H (S.state site.old) × IsForward H occ × (next_action H occ ≡ Some (exchanging asking)) }
+    ensures records { (H : List Event) → IsReady S.tells manager.old H (S.state site.old) → IsForward H occ → next_action H occ ≡ Some (exchanging asking)
         → Records S.tells manager.old.ledger.manager now (kinds_for asking occ (answer_heard asking (changes_of H occ) call heard.now)) H result manager.new (S.state site.old) (S.state site.new) }
-    ensures ended { (H : List Event) → IsReady S.tells manager.old H (S.state site.old) → IsStarting H occ
+    ensures ended { (H : List Event) → IsReady S.tells manager.old H (S.state site.old) → IsForward H occ
         → IfOk result (λ done. done ≡ ending (exchanging asking) (answer_heard asking (changes_of H occ) call heard.now)) }
+    ensures jobs { S.tells → KeepsJobs (S.state site.old) (S.state site.new) }
     ensures short { (n : ℕ) → result ≢ Err (WorkFault.TooLong n) }
     ensures disk { OnlyDiskFails (result ≡ Err WorkFault.Disk) (S.counts site.old) (S.counts site.new) }
 {
     works_add_up::<S>();
+    works_with_jobs_add_up::<S>();
     next_actions_are_allowed();
     covering_rows_place_changes();
     let changes = row_of(manager, occ).changes.as_slice();
@@ -165,10 +165,11 @@ pub fn move_to<S: Site>(
     to: OpState,
     now: Moment,
 ) -> Result<Acted, WorkFault>
-    requires ready { (H : List Event) × IsReady S.tells manager.old H (S.state site.old) × IsStarting H occ × (next_action H occ ≡ Some (actions.MoveTo to)) }
-    ensures records { (H : List Event) → IsReady S.tells manager.old H (S.state site.old) → IsStarting H occ → next_action H occ ≡ Some (actions.MoveTo to)
+    requires ready { (H : List Event) × IsReady S.tells manager.old H (S.state site.old) × IsForward H occ × (next_action H occ ≡ Some (actions.MoveTo to)) }
+    ensures records { (H : List Event) → IsReady S.tells manager.old H (S.state site.old) → IsForward H occ → next_action H occ ≡ Some (actions.MoveTo to)
         → Records S.tells manager.old.ledger.manager now (events.Moved occ to ∷ []) H result manager.new (S.state site.old) (S.state site.new) }
     ensures ended { IfOk result (λ done. done ≡ Acted.Recorded) }
+    ensures jobs { S.tells → KeepsJobs (S.state site.old) (S.state site.new) }
     ensures short { (n : ℕ) → result ≢ Err (WorkFault.TooLong n) }
     ensures disk { OnlyDiskFails (result ≡ Err WorkFault.Disk) (S.counts site.old) (S.counts site.new) }
 {

@@ -1,0 +1,56 @@
+-- What an act does that makes an attempt: it begins it, or looks at its job (own rule).
+use Rattle.std.specs.Prelude.{Bool, List, [], false, true, ℕ, ◌∷◌, ◌≡◌, Result, IfOk}
+use Rattle.executor.specs.Managed.{Managed}
+use Rattle.executor.specs.Work.{WorksAtFile}
+use Rattle.executor.specs.declared.manager.WorkFault.{WorkFault}
+use Rattle.lcm_events.specs.declared.attempts.Outcome.TheVariants as outcome
+use Rattle.lcm_events.specs.declared.attempts.Tag.{Tag}
+use Rattle.lcm_events.specs.declared.events.Event.{Event}
+use Rattle.lcm_events.specs.declared.events.EventKind.{EventKind}
+use Rattle.lcm_events.specs.declared.events.EventKind.TheVariants.{CallFailed, Intent, Settled}
+use Rattle.site_traits.specs.Counts.{SiteCounts}
+use Rattle.site_traits.specs.Site.{SiteState}
+use Rattle.site_traits.specs.declared.jobs.BeginAnswer.{BeginAnswer}
+use Rattle.site_traits.specs.declared.jobs.BeginAnswer.TheVariants as begin
+use Rattle.occ_work.specs.Acting.{Records, TellsRoomFor, recording}
+use Rattle.occ_work.specs.Around.{Handles, Infrastructure}
+use Rattle.occ_work.specs.Deeds.{Deed, Exchange, IsTried, answered, asked, ending, kinds_of, polled}
+use Rattle.occ_work.specs.declared.ends.Acted.{Acted}
+
+-- the infrastructure as a site shows it
+abbrev pub infrastructure : SiteState → SiteCounts → Infrastructure
+infrastructure s counts = record { jobs = s.jobs; answers = s.answers; counts = counts }
+
+-- nothing is exchanged with an orchestrator
+abbrev pub IsWithoutPeer : Exchange → Type 0
+IsWithoutPeer (asked body ended heard) = ⊥
+IsWithoutPeer (polled at ended heard) = ⊥
+IsWithoutPeer x = Unit {0}
+
+-- The deed was tried at this moment behind history H of manager m, which is now n, with the infrastructure alone: its exchange was made and no
+-- other, what that appends was recorded, and the answer says so.
+pub record Attempts (tells : Type 0) (m now : ℕ) (H : List Event) (d : Deed) (result : Result Acted WorkFault) (n : Managed) (a b : SiteState) (c k : SiteCounts) : Type 0 where
+  pub tried : IsTried m H d result
+  pub alone : IsWithoutPeer d.exchange
+  pub handled : Handles tells d.exchange (infrastructure a c) (infrastructure b k)
+  pub records : Records tells m now (kinds_of H d) H result n a b
+  pub ended : IfOk result (λ done. done ≡ ending d.action (answered H d))
+
+-- the kinds of the events that follow an attempt's intent, by what the begin of its job was answered (own rule)
+abbrev pub following : Tag → BeginAnswer → List EventKind
+following t begin.Begun = []
+following t (begin.Refused code) = Settled t (outcome.Broken code) ∷ []
+following t begin.Failed = CallFailed t ∷ []
+
+-- the event is about an attempt (own rule)
+abbrev pub is_of_attempt : EventKind → Bool
+is_of_attempt (Intent t) = true
+is_of_attempt (CallFailed t) = true
+is_of_attempt (Settled t outcome) = true
+is_of_attempt _ = false
+
+-- Events of these kinds, one or none, at this moment were to be put behind history H of manager m, which is now n, without memory, and that
+-- ended so.
+pub record Puts (tells : Type 0) (m now : ℕ) (kinds : List EventKind) (H : List Event) (result : Result Acted WorkFault) (n : Managed) (a b : SiteState) : Type 0 where
+  pub at_file : WorksAtFile tells m H (recording now kinds H result) n a b
+  pub room : TellsRoomFor now kinds H result
