@@ -35,7 +35,7 @@ set_once words s t set other = some_is s t (sym set ∙ other) where
   some_is s t same = cc
 
 -- words that set something aren't misused
-commanded : (P : Type 0) (words : List (List ℕ)) (s : Settings) → settings_of words ≡ Some s → settings_of words ≡ None → P
+pub commanded : (P : Type 0) (words : List (List ℕ)) (s : Settings) → settings_of words ≡ Some s → settings_of words ≡ None → P
 commanded P words s some none = cc
 
 -- the course of words that set something is one of that
@@ -154,14 +154,14 @@ of_command : (command : Command) (words : List (List ℕ)) (course : Course) →
 of_command command words course are of = (are.settings, are.is, of_settings words course are.settings are.set of)
 
 -- the course of `init`'s words is one of `init`, for their manager
-of_init : (m : ℕ) (words : List (List ℕ)) (course : Course) → AreInit m words → IsOfSettings words course → (s : Settings) × (s.command ≡ Init) × (s.manager ≡ m) × IsOf s course
+pub of_init : (m : ℕ) (words : List (List ℕ)) (course : Course) → AreInit m words → IsOfSettings words course → (s : Settings) × (s.command ≡ Init) × (s.manager ≡ m) × IsOf s course
 of_init m words course are of = (are.settings, are.is, are.number, of_settings words course are.settings are.set of)
 
 -- settings of a command aren't those of another course
-never_unopened : (P : Type 0) (s : Settings) (why : OpenFault) → s.command ≡ Init → IsOf s (unopened why) → P
+pub never_unopened : (P : Type 0) (s : Settings) (why : OpenFault) → s.command ≡ Init → IsOf s (unopened why) → P
 never_unopened P s why init is = absurd (false≢true (ap loads (sym init) ∙ is))
 
-never_served : (P : Type 0) (s : Settings) (command : Command) (c : Command) → s.command ≡ command → s.command ≡ c → (command ≡ c → ⊥) → P
+pub never_served : (P : Type 0) (s : Settings) (command : Command) (c : Command) → s.command ≡ command → s.command ≡ c → (command ≡ c → ⊥) → P
 never_served P s command c one other different = absurd (different (sym one ∙ other))
 
 -- a file that isn't unfinished for the manager is told so

@@ -11,7 +11,7 @@ use Rattle.lcm_api.specs.Session.{Talk, life, work_of}
 use Rattle.lcm_events.specs.declared.events.Event.{Event}
 use Rattle.lcm_events.specs.declared.states.Role.{Role}
 use Rattle.occ_work.specs.Deeds.{Deed as Act}
-use Rattle.occ_work.specs.Turns.{TurnEnd, through, once_all_done, turn_work}
+use Rattle.occ_work.specs.Turns.{TurnEnd, once_all_done, turn_work}
 use Rattle.onboarding.specs.Onboarding.{Onboarding, answer_of, onboarding_work}
 use Rattle.onboarding.specs.declared.answer.Onboarded.{Onboarded as Said}
 use Rattle.onboarding.specs.declared.answer.OnboardFault.{OnboardFault}

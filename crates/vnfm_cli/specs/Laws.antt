@@ -1,5 +1,6 @@
 -- What holds of every run, by what it does and how it ends.
 use Rattle.std.specs.Prelude.{◌≡◌, ◌<◌, ◌⊎◌, ℕ, List, [], ◌++◌, Option, Some, None}
+use Rattle.executor.specs.Work.{Extends}
 use Rattle.journal_core.specs.Create.{IsMade}
 use Rattle.lcm_api.specs.Mouth.{MouthState}
 use Rattle.lcm_api.specs.Response.{text}
@@ -8,17 +9,19 @@ use Rattle.lcm_api.specs.Talking.{Tells, Peers, world}
 use Rattle.lcm_api.specs.declared.reply.Reply.{Reply}
 use Rattle.lcm_events.specs.declared.events.Event.{Event}
 use Rattle.lcm_events.specs.declared.states.Role.{Role}
-use Rattle.site_traits.specs.Counts.{CallCounts, OnlyDiskFails, Rose, SiteCounts, one_more}
-use Rattle.site_traits.specs.Site.{SiteState}
+use Rattle.occ_work.specs.Around.{DiskFails}
+use Rattle.site_traits.specs.Counts.{CallCounts, Rose, SiteCounts, one_more}
+use Rattle.site_traits.specs.Site.{Pair, SiteState}
 use Rattle.vnfm_cli.specs.Course.{Course, ending_of}
 use Rattle.vnfm_cli.specs.Ending.{Ending, Ends}
+use Rattle.vnfm_cli.specs.Headline.{IsLeftWith, IsSoundBeginning, IsSoundPair}
 use Rattle.vnfm_cli.specs.Rounds.{Receives}
 use Rattle.vnfm_cli.specs.Runs.{Runs}
 use Rattle.vnfm_cli.specs.Words.{AreInit}
 
 -- where the count of disk faults is greater behind a run, its status is 3
 abbrev pub DiskFaultsAreTold : Type 0
-DiskFaultsAreTold = (status : ℕ) (a b : SiteCounts) → OnlyDiskFails (status ≡ 3) a b → a.disk < b.disk → status ≡ 3
+DiskFaultsAreTold = (status : ℕ) (a b : SiteCounts) → DiskFails (status ≡ 3) a b → a.disk < b.disk → status ≡ 3
 
 -- a run puts one line
 abbrev pub OneLineIsPut : Type 0 → Type 0
@@ -48,3 +51,13 @@ pub record HasWholeAnswer (m : ℕ) (H : List Event) (talk : Talk) (b : Peers) :
 abbrev pub AnswersAreWhole : Tells → Type 0
 AnswersAreWhole t = (m : ℕ) (H : List Event) (came : Role) (talk : Talk) (a b : Peers) → Receives t m H came talk a b → t.door
     → ¬ (Rose a.mouth.wire.intake.counts.faults b.mouth.wire.intake.counts.faults) → HasWholeAnswer m H talk b
+
+-- Whatever a stop leaves of a run that began soundly with history H, the next run begins soundly, with a history from H on. So what holds of
+-- one run from a sound beginning holds of any number of them (own rule).
+abbrev pub LivesGoOn : {S : Type 0} → (S → SiteState) → Type 0
+LivesGoOn {S} state = (m : ℕ) (H : List Event) (p : Pair) (s : S) → IsSoundPair m H p → IsLeftWith p (state s)
+    → (K : List Event) × Extends H K × IsSoundBeginning m K (state s)
+
+-- a site whose journal was just made, without a job, is a sound beginning, with no event (own rule)
+abbrev pub MadeJournalsBeginSoundly : {S : Type 0} → (S → SiteState) → Type 0
+MadeJournalsBeginSoundly {S} state = (m : ℕ) (s : S) → m < 4294967296 → IsMade m (state s) → (state s).jobs ≡ [] → IsSoundBeginning m [] (state s)

@@ -1,26 +1,33 @@
--- What rounds do at the door and to the clock, with the orchestrator, and with the journal.
+-- What rounds do at the door and to the clock, with the orchestrator and the infrastructure, and with the journal.
 use Rattle.std.specs.Prelude.{◌≡◌, ℕ, true, false, List, [], ◌∷◌, Result, Ok, Err, Some}
 use Rattle.executor.specs.Managed.{Managed}
-use Rattle.executor.specs.Work.{Work, Works, went}
+use Rattle.executor.specs.Work.{Work, Works, WorksWithJobs, went}
 use Rattle.lcm_api.specs.Mouth.{MouthState, Begins}
 use Rattle.lcm_api.specs.Session.{Talk, breaks, life}
 use Rattle.lcm_api.specs.Talking.{Tells, Peers, World, peers_of, Attends}
 use Rattle.lcm_api.specs.Waiting.{IsNobody, IsUnreached}
 use Rattle.lcm_events.specs.declared.events.Event.{Event}
 use Rattle.lcm_events.specs.declared.states.Role.{Role}
-use Rattle.occ_work.specs.Acting.{Peer}
-use Rattle.occ_work.specs.Turns.{DeedsDo, EndDoes, IsFor, TurnEnd, through, starved, stopped as by, once_all_done, starting}
+use Rattle.occ_work.specs.Around.{Around, Tells as Asking, Unasked, around, outside, telling as asking}
+use Rattle.occ_work.specs.Forward.{forwarding}
+use Rattle.occ_work.specs.Turns.{DeedsDo, EndDoes, IsFor, TurnEnd, through, stopped as by, once_all_done}
 use Rattle.site_traits.specs.Clock.{Gives}
-use Rattle.site_traits.specs.Counts.{CallCounts}
+use Rattle.site_traits.specs.Counts.{CallCounts, SiteCounts}
 use Rattle.site_traits.specs.Peers.{OrchestratorState}
 use Rattle.site_traits.specs.Door.{Comes, opened as has_come}
-use Rattle.vnfm_cli.specs.Course.{Halt, starving, halt_of, halting, Visit, unasked, served, Turning, Round, Close, finished, unreached, stopped, halted, Service, close_ending, close_work, moment_of, once_made, once_served, service_work}
+use Rattle.site_traits.specs.Site.{SiteState}
+use Rattle.vnfm_cli.specs.Course.{Halt, halt_of, halting, Visit, unasked, served, Turning, Round, Close, finished, unreached, stopped, halted, Service, close_ending, close_work, moment_of, once_made, once_served, service_work}
 use Rattle.vnfm_cli.specs.declared.ending.Failure.{Failure}
 use Rattle.vnfm_cli.specs.declared.ending.Failure.TheVariants.{DoorFault, SiteFault}
 
--- what an orchestrator shows: what it tells, and its counts
-abbrev pub peer : OrchestratorState → CallCounts → Peer
-peer state counts = record { state = state; counts = counts }
+-- what is beside a journal: the orchestrator, and the infrastructure of the journal's site
+abbrev pub beside : SiteState → SiteCounts → OrchestratorState → CallCounts → Around
+beside site counts state calls = around (outside site counts state calls)
+
+-- nobody was asked: the orchestrator is as it was, and running jobs may have ended by themselves
+pub record AsksNobody (t : Asking) (a b : Around) : Type 0 where
+  pub orchestrator : b.orchestrator ≡ a.orchestrator
+  pub unasked : Unasked t a b
 
 -- the clock was read for the turn and gave this value, and else nothing was done at the door or to the clock
 pub record Passes (t : Tells) (value : ℕ) (a b : Peers) : Type 0 where
@@ -66,21 +73,23 @@ CloseDoes t m H unreached a b = IsUnreached t.door a.mouth b.mouth × (b.clock �
 CloseDoes t m H (stopped came talk) a b = Receives t m H came talk a b × (breaks talk.end ≡ true)
 CloseDoes t m H (halted visit turn end why) a b = PassesBy t m H visit turn a b
 
--- what the turn of a round does with the orchestrator, over the history that its visit left: an act for each occurrence that is STARTING then,
--- in the order of their numbers, each over the history that those before it left
-pub record TurnDoes (tells : Type 0) (m : ℕ) (H : List Event) (r : Round) (a b : Peer) : Type 0 where
-  pub acts : DeedsDo tells m (moment_of r.turn) (once_served m H r.visit) r.turn.acts a b
-  pub each : IsFor (starting (once_served m H r.visit)) r.turn.acts through
+-- What a round does with the orchestrator and the infrastructure, over history H: its visit asks nobody; then, over the history that the visit
+-- left, its turn makes an act for each occurrence that goes forward there, in the order of their numbers, each over the history that those
+-- before it left.
+pub record TurnDoes (t : Asking) (m : ℕ) (H : List Event) (r : Round) (a b : Around) : Type 0 where
+  pub between : Around
+  pub visit : AsksNobody t a between
+  pub acts : DeedsDo t m (moment_of r.turn) (once_served m H r.visit) r.turn.acts between b
+  pub each : IsFor (forwarding (once_served m H r.visit)) r.turn.acts through
 
--- what the turns of these rounds do with it
-abbrev pub TurnsDo : Type 0 → ℕ → List Event → List Round → Peer → Peer → Type 0
-TurnsDo tells m H [] a b = b ≡ a
-TurnsDo tells m H (r ∷ before) a c = (b : Peer) × TurnsDo tells m H before a b × TurnDoes tells m (life (once_made m) H before) r b c
+-- what these rounds do with them
+abbrev pub TurnsDo : Asking → ℕ → List Event → List Round → Around → Around → Type 0
+TurnsDo t m H [] a b = b ≡ a
+TurnsDo t m H (r ∷ before) a c = (b : Around) × TurnsDo t m H before a b × TurnDoes t m (life (once_made m) H before) r b c
 
 -- the turn's end is one for this cause
 abbrev pub FailsBy : TurnEnd → Halt → Type 0
 FailsBy through why = ⊥
-FailsBy starved why = why ≡ starving
 FailsBy (by d cause) why = halt_of cause ≡ Some why
 
 -- how a turn ended, by what it answers: it went through, or for this failure
@@ -89,24 +98,29 @@ IsTurned (Ok done) through = Unit {0}
 IsTurned (Err why) end = (cause : Halt) × FailsBy end cause × (why ≡ halting cause)
 IsTurned answer other = ⊥
 
--- what a turn does with it that ends for this cause: the acts before it, and what its end does
-pub record TurnStops (tells : Type 0) (m : ℕ) (H : List Event) (turn : Turning) (end : TurnEnd) (why : Halt) (a b : Peer) : Type 0 where
-  pub between : Peer
-  pub acts : DeedsDo tells m (moment_of turn) H turn.acts a between
-  pub end_does : EndDoes tells m (moment_of turn) (once_all_done (moment_of turn) H turn.acts) end between b
-  pub each : IsFor (starting H) turn.acts end
+-- What a round does with them whose turn ends for this cause: its visit asks nobody; then come the acts before the last, over the history that
+-- the visit left, and what the end does.
+pub record TurnStops (t : Asking) (m : ℕ) (H : List Event) (turn : Turning) (end : TurnEnd) (why : Halt) (a b : Around) : Type 0 where
+  pub met : Around
+  pub visit : AsksNobody t a met
+  pub between : Around
+  pub acts : DeedsDo t m (moment_of turn) H turn.acts met between
+  pub end_does : EndDoes t m (moment_of turn) (once_all_done (moment_of turn) H turn.acts) end between b
+  pub each : IsFor (forwarding H) turn.acts end
   pub cause : FailsBy end why
 
--- what the end of the rounds does with it
-abbrev pub CloseAsks : Type 0 → ℕ → List Event → Close → Peer → Peer → Type 0
-CloseAsks tells m H (halted visit turn end why) a b = TurnStops tells m (once_served m H visit) turn end why a b
-CloseAsks tells m H other a b = b ≡ a
+-- what the end of the rounds does with them: a talk in which the disk failed asks nobody
+abbrev pub CloseAsks : Asking → ℕ → List Event → Close → Around → Around → Type 0
+CloseAsks t m H finished a b = b ≡ a
+CloseAsks t m H unreached a b = b ≡ a
+CloseAsks t m H (stopped came talk) a b = AsksNobody t a b
+CloseAsks t m H (halted visit turn end why) a b = TurnStops t m (once_served m H visit) turn end why a b
 
--- what the rounds do with the orchestrator
-pub record AsksOrchestrator (tells : Type 0) (m : ℕ) (H : List Event) (service : Service) (a b : Peer) : Type 0 where
-  pub between : Peer
-  pub turns : TurnsDo tells m H service.rounds a between
-  pub close : CloseAsks tells m (life (once_made m) H service.rounds) service.close between b
+-- what rounds do with the orchestrator and the infrastructure
+pub record AsksOutside (t : Asking) (m : ℕ) (H : List Event) (service : Service) (a b : Around) : Type 0 where
+  pub between : Around
+  pub turns : TurnsDo t m H service.rounds a between
+  pub close : CloseAsks t m (life (once_made m) H service.rounds) service.close between b
 
 -- the talk of this visit, where there was one, was held for this role
 abbrev pub IsVisitFor : Role → Visit → Type 0
@@ -131,11 +145,11 @@ pub record Attended (t : Tells) (m : ℕ) (H : List Event) (service : Service) (
   pub roles : AreFor service.role service.rounds
   pub role : ClosesFor service.role service.close
 
--- what they do to the journal and with the orchestrator too; the manager is now n
-pub record Makes (t : Tells) (asked : Type 0) (m : ℕ) (H : List Event) (service : Service) (n : Managed) (w v : World) (a b : Peer) : Type 0 where
-  pub works : Works t.site m H (service_work m H service) n w.site v.site
+-- what they do to the journal, and with the orchestrator and the infrastructure, too; the manager is now n
+pub record Makes (t : Tells) (asked : Type 0) (m : ℕ) (H : List Event) (service : Service) (n : Managed) (w v : World) (a b : Around) : Type 0 where
+  pub works : WorksWithJobs t.site m H (service_work m H service) n w.site v.site
   pub attended : Attended t m H service (peers_of w) (peers_of v)
-  pub asks : AsksOrchestrator asked m H service a b
+  pub asks : AsksOutside (asking t.site asked) m H service a b
 
 -- what came of asking the door: a visit in which the disk didn't fail, or the rounds ended so
 pub data Met : Type 0 where
@@ -187,9 +201,9 @@ abbrev pub OneDoes : Tells → ℕ → List Event → One → Peers → Peers �
 OneDoes t m H (round r) a b = RoundDoes t m H r a b
 OneDoes t m H (end c) a b = CloseDoes t m H c a b
 
-abbrev pub OneAsks : Type 0 → ℕ → List Event → One → Peer → Peer → Type 0
-OneAsks tells m H (round r) a b = TurnDoes tells m H r a b
-OneAsks tells m H (end c) a b = CloseAsks tells m H c a b
+abbrev pub OneAsks : Asking → ℕ → List Event → One → Around → Around → Type 0
+OneAsks t m H (round r) a b = TurnDoes t m H r a b
+OneAsks t m H (end c) a b = CloseAsks t m H c a b
 
 -- its talk was held for this role
 abbrev pub OneFor : Role → One → Type 0
@@ -208,7 +222,7 @@ IsOne (Err why) (end c) = IsEndFor why c
 IsOne answer other = ⊥
 
 -- what it does
-pub record MakesOne (t : Tells) (asked : Type 0) (m : ℕ) (H : List Event) (one : One) (n : Managed) (w v : World) (a b : Peer) : Type 0 where
-  pub works : Works t.site m H (one_work m H one) n w.site v.site
+pub record MakesOne (t : Tells) (asked : Type 0) (m : ℕ) (H : List Event) (one : One) (n : Managed) (w v : World) (a b : Around) : Type 0 where
+  pub works : WorksWithJobs t.site m H (one_work m H one) n w.site v.site
   pub does : OneDoes t m H one (peers_of w) (peers_of v)
-  pub asks : OneAsks asked m H one a b
+  pub asks : OneAsks (asking t.site asked) m H one a b

@@ -1,7 +1,12 @@
 //! What holds of every run, as contracts of calls that do nothing.
 ghost use Rattle.lcm_api.specs.Talking.{telling};
-ghost use Rattle.vnfm_cli.specs.Laws.{AnswersAreWhole, DiskFaultsAreTold, InitMakes, OneLineIsPut};
+ghost use Rattle.vnfm_cli.specs.Headline.{SoundJobsMakeSoundPairs};
+ghost use Rattle.vnfm_cli.specs.Laws.{AnswersAreWhole, DiskFaultsAreTold, InitMakes, LivesGoOn, MadeJournalsBeginSoundly, OneLineIsPut};
 
+use lcm_jobs::{
+    changes_stand_at_most_once, completed_stands_once, idle_instances_have_no_job_standing,
+    jobs_are_granted_work, jobs_may_end, rolled_back_stands_not,
+};
 use site_traits::{Clock, Door, Sink, Site};
 
 /// Where the count of disk faults is greater behind a run than before it, the run ended with 3.
@@ -30,4 +35,35 @@ pub fn init_makes_the_journal<S: Site, D: Door, K: Clock, W: Sink>()
 /// Source: RFC 9112 9.3.
 pub fn answers_are_whole<S: Site, D: Door, K: Clock>()
     ensures { AnswersAreWhole (telling S.tells D.tells K.tells) }
+{}
+
+/// A file with a history, and jobs that are sound with it, are a sound pair: each change stands at most once, as its occurrence says, and each
+/// job is granted work.
+///
+/// Source: SOL 003 5.6.2, 9.4.2 (Grants) and 5.5.2.2 (Type: VnfInstance, instantiationState).
+pub fn sound_jobs_make_sound_pairs()
+    ensures { SoundJobsMakeSoundPairs }
+{
+    changes_stand_at_most_once();
+    completed_stands_once();
+    rolled_back_stands_not();
+    jobs_are_granted_work();
+    idle_instances_have_no_job_standing();
+}
+
+/// A life goes on from whatever a stop left of the one before it, with all that it had, so that the headline of `run` holds of any number of
+/// lives.
+///
+/// Source: own rule.
+pub fn lives_go_on<S: Site>()
+    ensures { LivesGoOn S.state }
+{
+    jobs_may_end();
+}
+
+/// A site on which a journal was just made, and no job, is a sound beginning.
+///
+/// Source: own rule.
+pub fn made_journals_begin_soundly<S: Site>()
+    ensures { MadeJournalsBeginSoundly S.state }
 {}

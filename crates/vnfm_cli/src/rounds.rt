@@ -3,15 +3,15 @@ ghost use Rattle.std.specs.Prelude.{◌≡◌, ◌≢◌, ℕ, List, Some, lengt
 ghost use Rattle.executor.specs.Managed.{IsReady};
 ghost use Rattle.lcm_api.specs.Talking.{telling, world};
 ghost use Rattle.lcm_events.specs.declared.events.Event.{Event};
-ghost use Rattle.occ_work.specs.Acting.{outside, telling as asking};
+ghost use Rattle.occ_work.specs.Around.{DiskFails, outside, telling as asking};
 ghost use Rattle.occ_work.specs.Turns.{TurnEnd, Turns};
 ghost use Rattle.site_traits.specs.Clock.{Gives};
 ghost use Rattle.site_traits.specs.Counts.{OnlyDiskFails, Rose};
 ghost use Rattle.vnfm_cli.specs.Course.{IsCount, Service, Turning, close_ending, halt_of, halting, moment_of};
-ghost use Rattle.vnfm_cli.specs.Rounds.{IsMet, IsOne, Makes, MakesOne, Meets, Met, MetFor, One, OneFor, IsTurned, peer};
+ghost use Rattle.vnfm_cli.specs.Rounds.{IsMet, IsOne, Makes, MakesOne, Meets, Met, MetFor, One, OneFor, IsTurned, beside};
 
 use crate::ending::{Ending, Failure, Report};
-use executor::{Manager, WorkFault, works_add_up};
+use executor::{Manager, WorkFault, works_add_up, works_with_jobs_add_up};
 use lcm_api::{Closed, Mouth, answer_session};
 use lcm_events::Role;
 use occ_work::turn;
@@ -22,8 +22,8 @@ use vnfm_base::Moment;
 /// Makes so many rounds, for whoever asks in this role, and says how the run ends.
 ///
 /// A round is: the door is asked for a connection once; one that came is served; then the clock is read, and a turn is made: one act for each
-/// occurrence whose grant is asked for. The first round in which waiting for a connection fails, or the disk, or a turn finds the journal full
-/// or no memory, is the last, and the acts before that stand.
+/// occurrence whose grant is asked for or whose changes are made. The first round in which waiting for a connection fails, or the disk, or a
+/// turn finds the journal full or no memory, is the last, and the acts before that stand.
 /// Source: SOL 003 clauses 5 and 9; rounds are an own rule, docs/FORMATS.md.
 pub fn make_rounds<S: Site, D: Door, O: Orchestrator, K: Clock>(
     alloc: Global,
@@ -39,12 +39,13 @@ pub fn make_rounds<S: Site, D: Door, O: Orchestrator, K: Clock>(
     ensures makes { (H : List Event) → IsReady S.tells manager.old H (S.state site.old) → (service : Service)
         × Makes (telling S.tells D.tells K.tells) O.tells manager.old.ledger.manager H service manager.new
         (world (S.state site.old) mouth.old (K.state clock.old)) (world (S.state site.new) mouth.new (K.state clock.new))
-        (peer (O.state orchestrator.old) (O.counts orchestrator.old)) (peer (O.state orchestrator.new) (O.counts orchestrator.new))
+        (beside (S.state site.old) (S.counts site.old) (O.state orchestrator.old) (O.counts orchestrator.old)) (beside (S.state site.new) (S.counts site.new) (O.state orchestrator.new) (O.counts orchestrator.new))
         × (service.role ≡ role) × IsCount count (length service.rounds) service.close × (result ≡ close_ending (length service.rounds) service.close) }
-    ensures disk { OnlyDiskFails (result ≡ Err Failure.SiteFault) (S.counts site.old) (S.counts site.new) }
+    ensures disk { DiskFails (result ≡ Err Failure.SiteFault) (S.counts site.old) (S.counts site.new) }
     ensures door { result ≡ Err Failure.DoorFault → Rose mouth.old.wire.intake.counts.next mouth.new.wire.intake.counts.next }
 {
     works_add_up::<S>();
+    works_with_jobs_add_up::<S>();
     let mut made = 0;
     'rounds: while made < count {
         match make_round(alloc, manager, site, mouth, orchestrator, clock, role) {
@@ -69,13 +70,14 @@ fn make_round<S: Site, D: Door, O: Orchestrator, K: Clock>(
     ensures makes { (H : List Event) → IsReady S.tells manager.old H (S.state site.old) → (one : One)
         × MakesOne (telling S.tells D.tells K.tells) O.tells manager.old.ledger.manager H one manager.new
         (world (S.state site.old) mouth.old (K.state clock.old)) (world (S.state site.new) mouth.new (K.state clock.new))
-        (peer (O.state orchestrator.old) (O.counts orchestrator.old)) (peer (O.state orchestrator.new) (O.counts orchestrator.new))
+        (beside (S.state site.old) (S.counts site.old) (O.state orchestrator.old) (O.counts orchestrator.old)) (beside (S.state site.new) (S.counts site.new) (O.state orchestrator.new) (O.counts orchestrator.new))
         × OneFor role one × IsOne result one }
-    ensures disk { OnlyDiskFails (result ≡ Err Failure.SiteFault) (S.counts site.old) (S.counts site.new) }
+    ensures disk { DiskFails (result ≡ Err Failure.SiteFault) (S.counts site.old) (S.counts site.new) }
     ensures next { result ≢ Err Failure.DoorFault → mouth.new.wire.intake.counts.next ≡ mouth.old.wire.intake.counts.next }
     ensures door { result ≡ Err Failure.DoorFault → Rose mouth.old.wire.intake.counts.next mouth.new.wire.intake.counts.next }
 {
     works_add_up::<S>();
+    works_with_jobs_add_up::<S>();
     match meet(alloc, manager, site, mouth, clock, role) {
         Ok(()) => take_turn(alloc, manager, site, orchestrator, clock),
         Err(why) => Err(why),
@@ -99,6 +101,7 @@ fn meet<S: Site, D: Door, K: Clock>(
     ensures disk { OnlyDiskFails (result ≡ Err Failure.SiteFault) (S.counts site.old) (S.counts site.new) }
     ensures next { result ≢ Err Failure.DoorFault → mouth.new.wire.intake.counts.next ≡ mouth.old.wire.intake.counts.next }
     ensures door { result ≡ Err Failure.DoorFault → Rose mouth.old.wire.intake.counts.next mouth.new.wire.intake.counts.next }
+    ensures untouched { result ≡ Err Failure.DoorFault → site.new ≡ site.old }
 {
     works_add_up::<S>();
     match mouth.next() {
@@ -123,9 +126,9 @@ fn take_turn<S: Site, O: Orchestrator, K: Clock>(
     requires ready { (H : List Event) × IsReady S.tells manager.old H (S.state site.old) }
     ensures turns { (H : List Event) → IsReady S.tells manager.old H (S.state site.old) → (turning : Turning) × (end : TurnEnd)
         × Turns (asking S.tells O.tells) manager.old.ledger.manager (moment_of turning) H turning.acts end manager.new
-        (outside (S.state site.old) (O.state orchestrator.old) (O.counts orchestrator.old)) (outside (S.state site.new) (O.state orchestrator.new) (O.counts orchestrator.new))
+        (outside (S.state site.old) (S.counts site.old) (O.state orchestrator.old) (O.counts orchestrator.old)) (outside (S.state site.new) (S.counts site.new) (O.state orchestrator.new) (O.counts orchestrator.new))
         × (K.tells → Gives turning.value (K.state clock.old) (K.state clock.new)) × IsTurned result end }
-    ensures disk { OnlyDiskFails (result ≡ Err Failure.SiteFault) (S.counts site.old) (S.counts site.new) }
+    ensures disk { DiskFails (result ≡ Err Failure.SiteFault) (S.counts site.old) (S.counts site.new) }
     ensures door { result ≢ Err Failure.DoorFault }
 {
     let now = Moment::of(clock.now());

@@ -3,26 +3,33 @@ ghost use Rattle.std.specs.Prelude.{◌≡◌, ◌≢◌, ◌⊎◌, ◌↔◌, 
 ghost use Rattle.journal_core.specs.Create.{Creates};
 ghost use Rattle.journal_core.specs.declared.create.CreateFault.{CreateFault};
 ghost use Rattle.lcm_events.specs.declared.events.Event.{Event};
+ghost use Rattle.occ_work.specs.Around.{CountJobsAlike, DiskFails, telling as asking};
 ghost use Rattle.site_traits.specs.Counts.{OnlyDiskFails, Rose};
-ghost use Rattle.site_traits.specs.Site.{KeepsJobs};
+ghost use Rattle.site_traits.specs.Site.{KeepsJobs, LeavesOnly};
 ghost use Rattle.lcm_api.specs.Talking.{telling, world};
 ghost use Rattle.executor.specs.Managed.{IsReady};
 ghost use Rattle.vnfm_cli.specs.Course.{Course, Deed, IsDeedOf, IsOf, deed_ending, ending_of, making_ending};
 ghost use Rattle.vnfm_cli.specs.Ending.{Ends};
 ghost use Rattle.vnfm_cli.specs.Causes.{HasCauses};
-ghost use Rattle.vnfm_cli.specs.Rounds.{peer};
-ghost use Rattle.vnfm_cli.specs.Runs.{Deeds, Does, IsDoorCause, IsStartOf, MayEndWith, AtOrchestrator, AtOrchestratorBy, Runs};
+ghost use Rattle.vnfm_cli.specs.Headline.{IsFresh, IsFreshPair, IsSoundBeginning, IsSoundPair};
+ghost use Rattle.vnfm_cli.specs.Rounds.{beside};
+ghost use Rattle.vnfm_cli.specs.Runs.{Deeds, Does, IsDoorCause, IsStartOf, MayEndWith, AtOutside, AtOutsideBy, Runs};
 ghost use Rattle.command_line.specs.Words.{settings_of};
-ghost use Rattle.vnfm_cli.specs.Words.{AreWordsOf, loads};
+ghost use Rattle.vnfm_cli.specs.Words.{AreInit, AreWordsOf, loads};
 ghost use Rattle.command_line.specs.declared.options.Command.{Command};
 ghost use Rattle.command_line.specs.declared.options.Command.TheVariants.{Onboard, Once};
 
 use crate::ending::{Ending, Failure, Report, finish};
+use crate::laws::sound_jobs_make_sound_pairs;
 use crate::rounds::make_rounds;
 use command_line::{Command, Settings, settings};
-use executor::{Manager, a_legal_history_has_no_bad_record, works_add_up};
+use executor::{
+    Manager, a_file_has_one_history, a_legal_history_has_no_bad_record, works_add_up,
+    works_with_jobs_add_up,
+};
 use journal_core::{Journal, faults_are_counted, files_are_one_thing};
 use lcm_api::Mouth;
+use lcm_jobs::jobs_may_end;
 use onboarding::onboard;
 use site_traits::{Clock, Courier, Door, Orchestrator, Sink, Site};
 use std::alloc::Global;
@@ -35,16 +42,21 @@ use vnfm_base::Text;
 /// - `onboard --journal PATH` opens the journal, reads the door's first connection, then the clock, and records the descriptor.
 /// - `once --journal PATH` opens the journal and makes as many rounds as `--rounds` says, or one: in each it serves one connection of the
 ///   door, where one comes, whose requests are answered one by one for the role of `--role`, reads the clock once for each request
-///   and once for the round, and makes a turn: for each occurrence in STARTING one act, in the order of their numbers, which asks the
-///   orchestrator for its grant, or moves it on by what was answered. Rounds go on where nobody comes any more.
+///   and once for the round, and makes a turn: one act, in the order of their numbers, for each occurrence in STARTING, and for each in
+///   PROCESSING with no cancel in force. An act asks the orchestrator for a grant, begins the job of an attempt behind its intent, looks at a
+///   job, or moves the occurrence on by what was answered. Rounds go on where nobody comes any more.
 ///
-/// The orchestrator is asked by `once` alone, the courier isn't asked yet, and `--orchestrator` and `--vim` are used by nothing.
-/// Statuses: 0 the command did its work; 2 the words are no command; 3 exactly where a disk call failed, after which no other is
-/// made; 4 waiting for a connection
-/// failed, or a read of a descriptor; 5 the file is no journal; 6 there is no memory; 7 the line of status 0 couldn't be put; 8 a
-/// record is bad; 9 the journal has no room for the descriptor, or for the event of an act; 10 the descriptor is refused; 11 the file isn't unfinished for the
-/// manager of `init`. After 2, 5, 8, 10 and 11 the file is as it was; after 4, 6 and 9 too, but that what `once` acknowledged, and the acts
-/// that its turns made, stand.
+/// From a sound beginning a stop leaves, whenever it comes, a journal with all that it had and jobs that are sound with it: each change stands
+/// at most once, and none ungranted.
+///
+/// The orchestrator and the infrastructure are asked by `once` alone, the courier isn't asked yet, and `--orchestrator` and `--vim` are used
+/// by nothing.
+/// Statuses: 0 the command did its work; 2 the words are no command; 3 exactly where a disk call failed, in an act too, after which no other
+/// is made; 4 waiting for a connection failed, or a read of a descriptor; 5 the file is no journal; 6 there is no memory; 7 the line of
+/// status 0 couldn't be put; 8 a record is bad; 9 the journal has no room for the descriptor, or for an event of an act; 10 the descriptor is
+/// refused; 11 the file isn't unfinished for the manager of `init`. After 2, 5, 8, 10 and 11 the file is as it was; after 4, 6 and 9 too, but
+/// that what `once` acknowledged, and what its acts recorded, stand. A call of the orchestrator or the infrastructure that failed gives no
+/// status: a later turn goes on from it.
 /// Source: SOL 003 clause 5; words, statuses and lines are an own rule, docs/FORMATS.md.
 pub fn run<S: Site, D: Door, O: Orchestrator, C: Courier, K: Clock, W: Sink>(
     alloc: Global,
@@ -58,11 +70,16 @@ pub fn run<S: Site, D: Door, O: Orchestrator, C: Courier, K: Clock, W: Sink>(
 ) -> u8
     ensures runs { (course : Course) × Runs (telling S.tells D.tells K.tells) words.now course
         (world (S.state site.old) mouth.old (K.state clock.old)) (world (S.state site.new) mouth.new (K.state clock.new))
-        × AtOrchestrator O.tells course (peer (O.state orchestrator.old) (O.counts orchestrator.old)) (peer (O.state orchestrator.new) (O.counts orchestrator.new))
+        × AtOutside (asking S.tells O.tells) course (beside (S.state site.old) (S.counts site.old) (O.state orchestrator.old) (O.counts orchestrator.old)) (beside (S.state site.new) (S.counts site.new) (O.state orchestrator.new) (O.counts orchestrator.new))
         × Ends W.tells (ending_of course) result (W.state out.old) (W.state out.new) (W.counts out.old) (W.counts out.new) }
     ensures unasked { ¬ (AreWordsOf Once words.now) → orchestrator.new ≡ orchestrator.old }
     ensures untouched { courier.new ≡ courier.old }
-    ensures site { OnlyDiskFails (result ≡ 3) (S.counts site.old) (S.counts site.new) }
+    ensures headline { S.tells → (m : ℕ) (H : List Event) → IsSoundBeginning m H (S.state site.old)
+        → LeavesOnly (IsSoundPair m H) (S.state site.old) (S.state site.new) }
+    ensures beginning { S.tells → (m : ℕ) → AreInit m words.now → IsFresh m (S.state site.old)
+        → LeavesOnly (IsFreshPair m) (S.state site.old) (S.state site.new) }
+    ensures site { DiskFails (result ≡ 3) (S.counts site.old) (S.counts site.new) }
+    ensures untouched_jobs { ¬ (AreWordsOf Once words.now) → CountJobsAlike (S.counts site.old) (S.counts site.new) }
     ensures causes { HasCauses S.tells words.now result
         (world (S.state site.old) mouth.old (K.state clock.old)) (world (S.state site.new) mouth.new (K.state clock.new)) (W.counts out.old) (W.counts out.new) }
     ensures complete { S.tells → (command : Command) → AreWordsOf command words.now → IsStartOf command (S.state site.old)
@@ -71,6 +88,9 @@ pub fn run<S: Site, D: Door, O: Orchestrator, C: Courier, K: Clock, W: Sink>(
 {
     files_are_one_thing();
     a_legal_history_has_no_bad_record();
+    a_file_has_one_history();
+    jobs_may_end();
+    sound_jobs_make_sound_pairs();
     let ending = obey(alloc, words, site, mouth, orchestrator, clock);
     finish(ending, out)
 }
@@ -86,11 +106,12 @@ fn obey<S: Site, D: Door, O: Orchestrator, K: Clock>(
 ) -> Ending
     ensures runs { (course : Course) × Runs (telling S.tells D.tells K.tells) words.now course
         (world (S.state site.old) mouth.old (K.state clock.old)) (world (S.state site.new) mouth.new (K.state clock.new))
-        × AtOrchestrator O.tells course (peer (O.state orchestrator.old) (O.counts orchestrator.old)) (peer (O.state orchestrator.new) (O.counts orchestrator.new))
+        × AtOutside (asking S.tells O.tells) course (beside (S.state site.old) (S.counts site.old) (O.state orchestrator.old) (O.counts orchestrator.old)) (beside (S.state site.new) (S.counts site.new) (O.state orchestrator.new) (O.counts orchestrator.new))
         × (result ≡ ending_of course) }
     ensures unasked { ¬ (AreWordsOf Once words.now) → orchestrator.new ≡ orchestrator.old }
     ensures usage { (result ≡ Err Failure.Usage) ↔ (settings_of words.now ≡ None) }
-    ensures disk { OnlyDiskFails (result ≡ Err Failure.SiteFault) (S.counts site.old) (S.counts site.new) }
+    ensures disk { DiskFails (result ≡ Err Failure.SiteFault) (S.counts site.old) (S.counts site.new) }
+    ensures untouched_jobs { ¬ (AreWordsOf Once words.now) → CountJobsAlike (S.counts site.old) (S.counts site.new) }
     ensures door { result ≡ Err Failure.DoorFault → Rose mouth.old.wire.intake.counts.next mouth.new.wire.intake.counts.next ⊎ (AreWordsOf Onboard words.now × Rose mouth.old.wire.intake.counts.faults mouth.new.wire.intake.counts.faults) }
 {
     works_add_up::<S>();
@@ -109,10 +130,11 @@ fn perform<S: Site, D: Door, O: Orchestrator, K: Clock>(
 ) -> Ending
     ensures does { (course : Course) × IsOf settings.now course × Does (telling S.tells D.tells K.tells) course
         (world (S.state site.old) mouth.old (K.state clock.old)) (world (S.state site.new) mouth.new (K.state clock.new))
-        × AtOrchestrator O.tells course (peer (O.state orchestrator.old) (O.counts orchestrator.old)) (peer (O.state orchestrator.new) (O.counts orchestrator.new))
+        × AtOutside (asking S.tells O.tells) course (beside (S.state site.old) (S.counts site.old) (O.state orchestrator.old) (O.counts orchestrator.old)) (beside (S.state site.new) (S.counts site.new) (O.state orchestrator.new) (O.counts orchestrator.new))
         × (result ≡ ending_of course) }
     ensures unasked { settings.now.command ≢ Once → orchestrator.new ≡ orchestrator.old }
-    ensures disk { OnlyDiskFails (result ≡ Err Failure.SiteFault) (S.counts site.old) (S.counts site.new) }
+    ensures disk { DiskFails (result ≡ Err Failure.SiteFault) (S.counts site.old) (S.counts site.new) }
+    ensures untouched_jobs { settings.now.command ≢ Once → CountJobsAlike (S.counts site.old) (S.counts site.new) }
     ensures door { result ≡ Err Failure.DoorFault → IsDoorCause settings.now.command mouth.old.wire.intake.counts mouth.new.wire.intake.counts }
 {
     match settings.command {
@@ -146,13 +168,15 @@ fn open<S: Site, D: Door, O: Orchestrator, K: Clock>(
     requires loading { loads settings.now.command ≡ true }
     ensures does { (course : Course) × IsOf settings.now course × Does (telling S.tells D.tells K.tells) course
         (world (S.state site.old) mouth.old (K.state clock.old)) (world (S.state site.new) mouth.new (K.state clock.new))
-        × AtOrchestrator O.tells course (peer (O.state orchestrator.old) (O.counts orchestrator.old)) (peer (O.state orchestrator.new) (O.counts orchestrator.new))
+        × AtOutside (asking S.tells O.tells) course (beside (S.state site.old) (S.counts site.old) (O.state orchestrator.old) (O.counts orchestrator.old)) (beside (S.state site.new) (S.counts site.new) (O.state orchestrator.new) (O.counts orchestrator.new))
         × (result ≡ ending_of course) }
     ensures unasked { settings.now.command ≢ Once → orchestrator.new ≡ orchestrator.old }
-    ensures disk { OnlyDiskFails (result ≡ Err Failure.SiteFault) (S.counts site.old) (S.counts site.new) }
+    ensures disk { DiskFails (result ≡ Err Failure.SiteFault) (S.counts site.old) (S.counts site.new) }
+    ensures untouched_jobs { settings.now.command ≢ Once → CountJobsAlike (S.counts site.old) (S.counts site.new) }
     ensures door { result ≡ Err Failure.DoorFault → IsDoorCause settings.now.command mouth.old.wire.intake.counts mouth.new.wire.intake.counts }
 {
     works_add_up::<S>();
+    works_with_jobs_add_up::<S>();
     let mut manager = Manager::load(alloc, site)?;
     work(
         alloc,
@@ -180,10 +204,11 @@ fn work<S: Site, D: Door, O: Orchestrator, K: Clock>(
     ensures deeds { (H : List Event) → IsReady S.tells manager.old H (S.state site.old) → (deed : Deed) × IsDeedOf settings.now deed
         × Deeds (telling S.tells D.tells K.tells) manager.old.ledger.manager H deed manager.new
         (world (S.state site.old) mouth.old (K.state clock.old)) (world (S.state site.new) mouth.new (K.state clock.new))
-        × AtOrchestratorBy O.tells manager.old.ledger.manager H deed (peer (O.state orchestrator.old) (O.counts orchestrator.old)) (peer (O.state orchestrator.new) (O.counts orchestrator.new))
+        × AtOutsideBy (asking S.tells O.tells) manager.old.ledger.manager H deed (beside (S.state site.old) (S.counts site.old) (O.state orchestrator.old) (O.counts orchestrator.old)) (beside (S.state site.new) (S.counts site.new) (O.state orchestrator.new) (O.counts orchestrator.new))
         × (result ≡ deed_ending H deed) }
     ensures unasked { settings.now.command ≢ Once → orchestrator.new ≡ orchestrator.old }
-    ensures disk { OnlyDiskFails (result ≡ Err Failure.SiteFault) (S.counts site.old) (S.counts site.new) }
+    ensures disk { DiskFails (result ≡ Err Failure.SiteFault) (S.counts site.old) (S.counts site.new) }
+    ensures untouched_jobs { settings.now.command ≢ Once → CountJobsAlike (S.counts site.old) (S.counts site.new) }
     ensures door { result ≡ Err Failure.DoorFault → IsDoorCause settings.now.command mouth.old.wire.intake.counts mouth.new.wire.intake.counts }
 {
     match settings.command {

@@ -1,5 +1,5 @@
 -- From what a part of the program did to what the program did.
-use Rattle.std.proofs.Common.{◌≡◌, ℕ, List, Option, None, Ok, Err, sym, subst}
+use Rattle.std.proofs.Common.{◌≡◌, ◌⊎◌, ℕ, List, Option, None, Ok, Err, inl, inr, sym, subst}
 use Rattle.host_calls.specs.Files.{FilesState, Hold}
 use Rattle.lcm_api.specs.Mouth.{MouthState}
 use Rattle.outside_edges.specs.Site.{IsHeld}
@@ -8,10 +8,12 @@ use Rattle.program_words.specs.Pages.{page_of}
 use Rattle.program_words.specs.declared.page.Page.{Page}
 use Rattle.site_traits.specs.Site.{SiteState}
 use Rattle.command_line.specs.Words.{Settles, settings_of}
+use Rattle.command_line.specs.declared.options.Command.{Command}
+use Rattle.command_line.specs.declared.options.Command.TheVariants.{Init, Onboard, Once}
 use Rattle.command_line.specs.declared.options.Settings.{Settings}
 use Rattle.command_line.specs.declared.options.SettingsFault.{SettingsFault}
 use Rattle.command_line.specs.declared.options.SettingsFault.TheVariants.{Usage}
-use Rattle.vnfm_program.specs.Program.{Goes, Meaning, Obeys, ObeysOrStarves, Opens, Performs, Starts, Objects, folder_of, is_told_on_error, outside_of, tells_of}
+use Rattle.vnfm_program.specs.Program.{Goes, Meaning, Obeys, ObeysOrStarves, Opens, Performs, Starts, Objects, Outside, SpeaksOnError, SpeaksOnOutput, Tells, answers, folder_of, is_told_on_error, outside_of, tells_of}
 
 -- a file that is the one at this path is the one that the settings name
 pub held_as : {F : Type 0} (state : F → SiteState) (hold : F → Hold) (settings : Settings) (path : List ℕ) (folder : FolderSync) (file : Option F) (old new : FilesState)
@@ -23,6 +25,16 @@ held_as state hold settings path folder file old new same_path same_folder held 
 -- where the words are no command they set nothing
 pub unset : (fault : SettingsFault) (set : Option Settings) → fault ≡ Usage → Settles (Err fault) set → set ≡ None
 unset fault set is settles = subst (λ (f : SettingsFault). Settles (Err f) set) is settles
+
+-- a run with its line to standard error is what `once` performs, and one with it to standard output what the other two do
+pub performed_on_error : (t : Tells) (command : Command) (words : List (List ℕ)) (status : ℕ) (a b : Outside)
+    → command ≡ Once → SpeaksOnError t.world t.errors words status a b → Performs t (answers command) words status a b
+performed_on_error t command words status a b is speaks = subst (λ (c : Command). Performs t (answers c) words status a b) (sym is) speaks
+
+pub performed_on_output : (t : Tells) (command : Command) (words : List (List ℕ)) (status : ℕ) (a b : Outside)
+    → (command ≡ Init) ⊎ (command ≡ Onboard) → SpeaksOnOutput t words status a b → Performs t (answers command) words status a b
+performed_on_output t command words status a b (inl is) speaks = subst (λ (c : Command). Performs t (answers c) words status a b) (sym is) speaks
+performed_on_output t command words status a b (inr is) speaks = subst (λ (c : Command). Performs t (answers c) words status a b) (sym is) speaks
 
 module _ {N H F K L E : Type 0} where
   -- a run over what was opened for these settings obeys the words that set them

@@ -13,15 +13,18 @@ use Rattle.program_words.specs.Pages.{page_of}
 use Rattle.program_words.specs.Reasons.{reason_of}
 use Rattle.program_words.specs.declared.page.Page.{Page}
 use Rattle.program_words.specs.declared.reason.Reason.{Reason}
-use Rattle.site_traits.specs.Counts.{OnlyDiskFails, Rose, SiteCounts}
-use Rattle.site_traits.specs.Site.{SiteState}
+use Rattle.lcm_events.specs.declared.events.Event.{Event}
+use Rattle.occ_work.specs.Around.{CountJobsAlike, DiskFails}
+use Rattle.site_traits.specs.Counts.{Rose, SiteCounts}
+use Rattle.site_traits.specs.Site.{LeavesOnly, SiteState}
 use Rattle.standard_streams.specs.Numbers.{AreStreamsTaken, Numbers}
 use Rattle.vnfm_cli.specs.Causes.{HasCauses}
 use Rattle.vnfm_cli.specs.Course.{Course, ending_of}
 use Rattle.vnfm_cli.specs.Ending.{Ends}
+use Rattle.vnfm_cli.specs.Headline.{IsFresh, IsFreshPair, IsSoundBeginning, IsSoundPair}
 use Rattle.vnfm_cli.specs.Runs.{IsDoorCause, IsStartOf, MayEndWith, Runs}
 use Rattle.command_line.specs.Words.{settings_of}
-use Rattle.vnfm_cli.specs.Words.{AreWordsOf}
+use Rattle.vnfm_cli.specs.Words.{AreInit, AreWordsOf}
 use Rattle.command_line.specs.declared.options.Command.{Command}
 use Rattle.command_line.specs.declared.options.Command.TheVariants.{Init, Onboard, Once}
 use Rattle.command_line.specs.declared.options.Settings.{Settings}
@@ -58,12 +61,16 @@ on_output o = record { world = o.world; counts = o.counts; out = o.lines }
 abbrev pub on_error : Outside → Ground
 on_error o = record { world = o.world; counts = o.counts; out = o.errors }
 
--- One run of these words went over the ground, and put its line to its output.
+-- One run of these words went over the ground, and put its line to its output. Where the site tells, a stop leaves, whenever it comes, what
+-- the headline says: of a sound beginning sound pairs, and of a fresh site of `init` fresh ones.
 pub record RunsOver (t : WorldTells) (out_tells : Type 0) (words : List (List ℕ)) (status : ℕ) (a b : Ground) : Type 0 where
   pub course : Course
   pub runs : Runs t words course a.world b.world
   pub ends : Ends out_tells (ending_of course) status a.out.bytes b.out.bytes a.out.counts b.out.counts
-  pub disk : OnlyDiskFails (status ≡ 3) a.counts b.counts
+  pub headline : t.site → (m : ℕ) (H : List Event) → IsSoundBeginning m H a.world.site → LeavesOnly (IsSoundPair m H) a.world.site b.world.site
+  pub beginning : t.site → (m : ℕ) → AreInit m words → IsFresh m a.world.site → LeavesOnly (IsFreshPair m) a.world.site b.world.site
+  pub disk : DiskFails (status ≡ 3) a.counts b.counts
+  pub untouched_jobs : ¬ (AreWordsOf Once words) → CountJobsAlike a.counts b.counts
   pub complete : t.site → (command : Command) → AreWordsOf command words → IsStartOf command a.world.site → ¬ (Rose a.counts.disk b.counts.disk)
       → ¬ (IsDoorCause command a.world.mouth.wire.intake.counts b.world.mouth.wire.intake.counts) → ¬ (Rose a.out.counts.faults b.out.counts.faults)
       → MayEndWith command status

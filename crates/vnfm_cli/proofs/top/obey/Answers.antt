@@ -9,3 +9,6 @@ returns-clause-runs g c =
 
 pub returns-clause-unasked : goal.returns-clause-unasked
 returns-clause-unasked g c = λ other. c.perform.ensures.unasked (λ is. other (record { settings = c.in_ok-settings.settings; set = c.in_ok-settings.ensures; is = is }))
+
+pub returns-clause-untouched_jobs : goal.returns-clause-untouched_jobs
+returns-clause-untouched_jobs g c = λ other. c.perform.ensures.untouched_jobs (λ is. other (record { settings = c.in_ok-settings.settings; set = c.in_ok-settings.ensures; is = is }))

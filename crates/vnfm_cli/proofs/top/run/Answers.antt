@@ -2,10 +2,10 @@
 use Rattle.std.proofs.Common.{◌∙◌, ℕ, ap, subst, sym, arith}
 use Rattle.vnfm_cli.specs.Ending.{status_of}
 use Rattle.vnfm_cli.specs.Runs.{MayEndWith}
-use Rattle.site_traits.specs.Counts.{fails_as}
-use Rattle.vnfm_cli.proofs.DiskLemmas.{lost_line, one_fault}
+use Rattle.vnfm_cli.proofs.DiskLemmas.{disk_as, lost_line, one_fault}
 use Rattle.vnfm_cli.proofs.EndingLemmas.{is_status, put_result, seven_lost, status_result, status_told, told_by, told_same, yields_result}
 use Rattle.vnfm_cli.proofs.ExactLemmas.{bad_record_ending, complete_ending, door_cause, no_journal_ending, taken_ending, told_bad_record, told_full, told_no_journal, told_refused, told_taken}
+use Rattle.vnfm_cli.proofs.HeadlineLemmas.{leaves_fresh, leaves_sound}
 use Rattle.vnfm_cli.proofs.top.run.Goals as goal
 
 pub returns-clause-causes : goal.returns-clause-causes
@@ -40,6 +40,17 @@ returns-clause-complete g c = λ tells command are start disk door sink.
 
 pub returns-clause-site : goal.returns-clause-site
 returns-clause-site g c =
-    fails_as _ _ _ _ c.obey-ending.ensures.disk
+    disk_as _ _ _ _ c.obey-ending.ensures.disk
     (λ is. c.finish.ensures.status_is ∙ told_same _ _ 3 (ap status_of is) (omega arith))
     (λ is. (told_by _).site (status_told _ _ 3 (sym c.finish.ensures.status_is ∙ is) (omega arith)))
+
+pub returns-clause-headline : goal.returns-clause-headline
+returns-clause-headline g c = λ tells m H start.
+    let runs = c.obey-ending.ensures.runs in
+    leaves_sound c.files_are_one_thing.ensures.unmade c.a_file_has_one_history.ensures c.jobs_may_end.ensures c.sound_jobs_make_sound_pairs.ensures runs.0
+    (g.S.Site.state c.args.site.now) (g.S.Site.state c.obey-ending.new.site) (runs.1.does.site tells) runs.1.does.legal m H start
+
+pub returns-clause-beginning : goal.returns-clause-beginning
+returns-clause-beginning g c = λ tells m are fresh.
+    let runs = c.obey-ending.ensures.runs in
+    leaves_fresh runs.0 c.args.words.now (g.S.Site.state c.args.site.now) (g.S.Site.state c.obey-ending.new.site) runs.1.words_are (runs.1.does.site tells) (runs.1.does.jobs tells) m are fresh
