@@ -1,7 +1,8 @@
 #!/bin/sh
 # Each allocation of a run failing in turn: the run ends with 6 and `no memory`, or the request is told 503, in both of which
-# the journal is as it was; or whoever asked does without, and the run ends as if nothing had failed. Needs a C compiler, for
-# a library that stands between the program and the allocator.
+# the journal is as it was, but for the acts of a turn before the one that found none; or whoever asked does without, and the
+# run ends as if nothing had failed. Needs a C compiler, for a library that stands between the program and the allocator;
+# and rt, for a test.
 . "$(dirname "$0")/common.sh"
 
 cat >"$room/fail.c" <<'END'
@@ -53,21 +54,21 @@ run_failing() { # NUMBER JOURNAL INPUT COMMAND [OPTION VALUE]
         "$(bytes_of "$room/journal") bytes"
 }
 
-# Fails each allocation of a command in turn, until it has no more.
-fail_each() { # WHAT DONE STARVED UNAVAILABLE JOURNAL INPUT COMMAND [OPTION VALUE]
+# Fails each allocation of a command in turn, until it has no more: each time the run is as if none had failed, or is one of
+# those that found no memory, a line each.
+fail_each() { # WHAT DONE STARVED JOURNAL INPUT COMMAND [OPTION VALUE]
     what=$1
     done=$2
     starved=$3
-    unavailable=$4
-    shift 4
+    shift 3
     count=1
     spared=0
     while seen=$(run_failing "$count" "$@"); [ -e "$room/failed" ] && [ "$count" -lt 10000 ]; do
-        case $seen in
-            "$starved" | "$unavailable") ;;
-            "$done") spared=$((spared + 1)) ;;
-            *) expect "$what, allocation $count" "$seen" "$starved, or $unavailable" ;;
-        esac
+        if [ "$seen" = "$done" ]; then
+            spared=$((spared + 1))
+        elif ! echo "$starved" | grep -Fxq -e "$seen"; then
+            expect "$what, allocation $count" "$seen" "$starved"
+        fi
         count=$((count + 1))
     done
     expect "$what, behind the last allocation" "$seen" "$done"
@@ -77,11 +78,48 @@ fail_each() { # WHAT DONE STARVED UNAVAILABLE JOURNAL INPUT COMMAND [OPTION VALU
 
 : >"$room/empty"
 "$here/vnfm" init --journal "$room/made" --manager 7 >/dev/null || exit 1
-fail_each init "status 0, journal made for manager 7, 33 bytes" "status 6, no memory, 0 bytes" "" \
+fail_each init "status 0, journal made for manager 7, 33 bytes" "status 6, no memory, 0 bytes" \
     "$room/empty" /dev/null init --manager 7
-fail_each onboard "status 0, onboarded vnfd-1: 2 vdus, 1 aspects, 2 levels, 294 bytes" "status 6, no memory, 33 bytes" "" \
+fail_each onboard "status 0, onboarded vnfd-1: 2 vdus, 1 aspects, 2 levels, 294 bytes" "status 6, no memory, 33 bytes" \
     "$room/made" "$here/examples/vnfd.json" onboard
-fail_each once "status 0, HTTP/1.1 201 Created,done after 1 rounds, 332 bytes" "status 6, no memory, 294 bytes" \
-    "status 0, HTTP/1.1 503 Service Unavailable,done after 1 rounds, 294 bytes" "$start" "$request" once
+fail_each once "status 0, HTTP/1.1 201 Created,done after 1 rounds, 332 bytes" "status 6, no memory, 294 bytes
+status 0, HTTP/1.1 503 Service Unavailable,done after 1 rounds, 294 bytes" "$start" "$request" once
+
+# Turns of two acts, each of which records 23 bytes: tries that reach no orchestrator, and behind the fifth the moves to
+# ROLLED_BACK. A turn is made behind each request, so the first instance is one try ahead. The input is a connection without
+# a request, which is told 503 where there is no memory to read it; the turn behind it is made.
+cp "$start" "$room/asked"
+once() { # [OPTION VALUE]
+    "$here/vnfm" once --journal "$room/asked" "$@" >/dev/null 2>&1
+}
+once <"$request"
+once <"$request"
+for number in 1 2; do sed "s/000000000001/00000000000$number/" "$here/examples/instantiate.http" | once; done
+turn() { # WHAT
+    begun=$(bytes_of "$room/asked")
+    fail_each "$1" "status 0, done after 1 rounds, $((begun + 46)) bytes" "status 6, no memory, $begun bytes
+status 6, no memory, $((begun + 23)) bytes
+status 0, HTTP/1.1 503 Service Unavailable,done after 1 rounds, $((begun + 46)) bytes" "$room/asked" /dev/null once
+}
+turn "a turn of two tries"
+once --rounds 3 </dev/null
+turn "a turn of a move and a try"
+
+# A turn of two grants, which no program reaches yet: a test gives them from memory, and passes wherever an allocation fails.
+# The toolchain proves and builds it.
+test=faults::the_acts_before_a_want_of_memory_stand
+(cd "$here/crates/work_cases" && exec rt test) >"$room/out" 2>&1 </dev/null || { cat "$room/out" >&2; exit 1; }
+count=1
+while rm -f "$room/failed"
+    FAIL_AT=$count FAIL_TOLD=$room/failed LD_PRELOAD=$room/fail.so "$here/crates/work_cases/out/work_cases_tests" "$test" \
+        >"$room/out" 2>&1
+    status=$?
+    [ -e "$room/failed" ] && [ "$count" -lt 10000 ]; do
+    [ "$status" = 0 ] || expect "a turn of two grants, allocation $count, status" "$status" 0
+    count=$((count + 1))
+done
+expect "a turn of two grants, behind the last allocation, status" "$status" 0
+echo "a turn of two grants, allocations that failed in turn: $((count - 1))"
+[ "$count" -gt 1 ] || differs=1
 
 exit "$differs"

@@ -194,26 +194,50 @@ fn an_instance_in_use_is_not_instantiated(rt: HostRuntime) -> Result<(), Fail> {
 /// The media type of JSON.
 const JSON: &str = "application/json";
 
-/// The edge router's descriptor, up to the maximum of its first VDU, up to the end of its instantiation levels, up to the end of the
-/// numbers of its first VDU at them, and the rest.
-const ROUTER: [&str; 4] = [
+/// The edge router's descriptor, up to the maximum of its first VDU, up to the greatest level of its aspect, up to the end of its
+/// instantiation levels, up to the end of the numbers of its first VDU at them, and the rest.
+const DOCUMENT: [&str; 5] = [
     r#"{"tosca_definitions_version":"tosca_simple_yaml_1_2","topology_template":{"node_templates":{"VNF":{"type":"example.Vnf","properties":{"descriptor_id":"vnfd-1","provider":"Example","product_name":"Edge Router","software_version":"1.0","descriptor_version":"1.0","flavour_id":"simple"}},"VDU_A":{"type":"tosca.nodes.nfv.Vdu.Compute","properties":{"vdu_profile":{"max_number_of_instances":"#,
-    r#"}},"capabilities":{"virtual_compute":{"properties":{"virtual_memory":{"virtual_mem_size":"2 GiB"},"virtual_cpu":{"num_virtual_cpu":2}}}},"requirements":[{"virtual_storage":"STO_A"}]},"VDU_B":{"type":"tosca.nodes.nfv.Vdu.Compute","capabilities":{"virtual_compute":{"properties":{"virtual_memory":{"virtual_mem_size":"512 MB"},"virtual_cpu":{"num_virtual_cpu":1}}}},"requirements":[{"virtual_storage":{"node":"STO_B"}}]},"STO_A":{"type":"tosca.nodes.nfv.Vdu.VirtualBlockStorage","properties":{"virtual_block_storage_data":{"size_of_storage":"10 GB"}}},"STO_B":{"type":"tosca.nodes.nfv.Vdu.VirtualBlockStorage","properties":{"virtual_block_storage_data":{"size_of_storage":"1 GB"}}},"net_data":{"type":"tosca.nodes.nfv.VnfVirtualLink"},"net_mgmt":{"type":"tosca.nodes.nfv.VnfVirtualLink"},"CP_A_data":{"type":"tosca.nodes.nfv.VduCp","requirements":[{"virtual_binding":"VDU_A"},{"virtual_link":"net_data"}]},"CP_A_mgmt":{"type":"tosca.nodes.nfv.VduCp","requirements":[{"virtual_binding":"VDU_A"},{"virtual_link":"net_mgmt"}]},"CP_B_mgmt":{"type":"tosca.nodes.nfv.VduCp","requirements":[{"virtual_binding":"VDU_B"},{"virtual_link":"net_mgmt"}]}},"policies":[{"aspects":{"type":"tosca.policies.nfv.ScalingAspects","properties":{"aspects":{"workers":{"max_scale_level":10,"step_deltas":["delta_1"]}}}}},{"a_initial":{"type":"tosca.policies.nfv.VduInitialDelta","properties":{"initial_delta":{"number_of_instances":1}},"targets":["VDU_A"]}},{"a_deltas":{"type":"tosca.policies.nfv.VduScalingAspectDeltas","properties":{"aspect":"workers","deltas":{"delta_1":{"number_of_instances":1}}},"targets":["VDU_A"]}},{"levels":{"type":"tosca.policies.nfv.InstantiationLevels","properties":{"levels":{"small":{"scale_info":{"workers":{"scale_level":0}}},"normal":{"scale_info":{"workers":{"scale_level":1}}}"#,
+    r#"}},"capabilities":{"virtual_compute":{"properties":{"virtual_memory":{"virtual_mem_size":"2 GiB"},"virtual_cpu":{"num_virtual_cpu":2}}}},"requirements":[{"virtual_storage":"STO_A"}]},"VDU_B":{"type":"tosca.nodes.nfv.Vdu.Compute","capabilities":{"virtual_compute":{"properties":{"virtual_memory":{"virtual_mem_size":"512 MB"},"virtual_cpu":{"num_virtual_cpu":1}}}},"requirements":[{"virtual_storage":{"node":"STO_B"}}]},"STO_A":{"type":"tosca.nodes.nfv.Vdu.VirtualBlockStorage","properties":{"virtual_block_storage_data":{"size_of_storage":"10 GB"}}},"STO_B":{"type":"tosca.nodes.nfv.Vdu.VirtualBlockStorage","properties":{"virtual_block_storage_data":{"size_of_storage":"1 GB"}}},"net_data":{"type":"tosca.nodes.nfv.VnfVirtualLink"},"net_mgmt":{"type":"tosca.nodes.nfv.VnfVirtualLink"},"CP_A_data":{"type":"tosca.nodes.nfv.VduCp","requirements":[{"virtual_binding":"VDU_A"},{"virtual_link":"net_data"}]},"CP_A_mgmt":{"type":"tosca.nodes.nfv.VduCp","requirements":[{"virtual_binding":"VDU_A"},{"virtual_link":"net_mgmt"}]},"CP_B_mgmt":{"type":"tosca.nodes.nfv.VduCp","requirements":[{"virtual_binding":"VDU_B"},{"virtual_link":"net_mgmt"}]}},"policies":[{"aspects":{"type":"tosca.policies.nfv.ScalingAspects","properties":{"aspects":{"workers":{"max_scale_level":"#,
+    r#","step_deltas":["delta_1"]}}}}},{"a_initial":{"type":"tosca.policies.nfv.VduInitialDelta","properties":{"initial_delta":{"number_of_instances":1}},"targets":["VDU_A"]}},{"a_deltas":{"type":"tosca.policies.nfv.VduScalingAspectDeltas","properties":{"aspect":"workers","deltas":{"delta_1":{"number_of_instances":1}}},"targets":["VDU_A"]}},{"levels":{"type":"tosca.policies.nfv.InstantiationLevels","properties":{"levels":{"small":{"scale_info":{"workers":{"scale_level":0}}},"normal":{"scale_info":{"workers":{"scale_level":1}}}"#,
     r#"},"default_level":"normal"}}},{"a_levels":{"type":"tosca.policies.nfv.VduInstantiationLevels","properties":{"levels":{"small":{"number_of_instances":1},"normal":{"number_of_instances":2}"#,
     r#"}},"targets":["VDU_A"]}}]}}"#,
 ];
 
-/// The site of a manager that onboarded the edge router, with this maximum of its first VDU, this level more and this number of machines
-/// at it, and created an instance of it.
-pub fn router_site(
-    alloc: Global,
-    maximum: &str,
-    level: &str,
-    number: &str,
-) -> Result<MemSite, AllocError> {
+/// What edge routers differ in.
+#[derive(Clone, Copy)]
+pub struct Router {
+    /// The maximum of the first VDU.
+    pub maximum: &'static str,
+    /// The greatest level of the aspect.
+    pub greatest: &'static str,
+    /// A level more.
+    pub level: &'static str,
+    /// The number of machines of the first VDU at it.
+    pub number: &'static str,
+}
+
+/// An edge router of at most eleven machines.
+pub const ELEVEN: Router = Router {
+    maximum: "11",
+    greatest: "10",
+    level: "",
+    number: "",
+};
+
+/// The site of a manager that onboarded an edge router, and created an instance of it.
+pub fn router_site(alloc: Global, router: &Router) -> Result<MemSite, AllocError> {
     let mut site = site_with(alloc, &MADE, Vec::new(alloc))?;
-    let parts: [&str; 7] = [
-        ROUTER[0], maximum, ROUTER[1], level, ROUTER[2], number, ROUTER[3],
+    let parts: [&str; 9] = [
+        DOCUMENT[0],
+        router.maximum,
+        DOCUMENT[1],
+        router.greatest,
+        DOCUMENT[2],
+        router.level,
+        DOCUMENT[3],
+        router.number,
+        DOCUMENT[4],
     ];
     let mut document = String::new(alloc);
     for part in parts {
@@ -234,13 +258,13 @@ fn instantiate(alloc: Global, site: &mut MemSite, body: &str) -> Result<Ran, All
 }
 
 /// The record of an instantiation of the edge router at its default level: 2 links, 3 storages, 3 machines and 5 ports are made.
-const ROUTER_ASKED: &[u8] =
+pub const ROUTER_ASKED: &[u8] =
     b"\x01\0\0\0\xb4\x04\0\0\x01\x8b\xcf\xe5\x68\0\0\0\0\0\0\0\0\x01\0\0\0\0\0\0\0\x01\0\x01\x06simple\0\0\x0d\0\0\0\0\0\xff\xff\0\0\0\0\0\0\0\0\x01\xff\xff\0\0\0\0\x01\0\x01\0\0\0\0\0\0\0\x01\x01\0\x01\0\0\0\0\0\0\0\x02\x01\0\x01\0\x01\0\x01\0\0\0\x01\x02\0\x02\0\0\0\0\0\0\0\x01\x02\0\x02\0\0\0\0\0\0\0\x02\x02\0\x02\0\0\0\x01\0\0\0\x01\x03\0\x03\0\0\0\0\0\0\0\x01\x03\0\x03\0\x01\0\0\0\0\0\x01\x03\0\x03\0\0\0\0\0\0\0\x02\x03\0\x03\0\x01\0\0\0\0\0\x02\x03\0\x03\0\x02\0\x01\0\0\0\x01";
 
 #[test]
 fn the_plan_of_an_instantiation_is_recorded(rt: HostRuntime) -> Result<(), Fail> {
     let alloc = rt.alloc();
-    let mut site = router_site(alloc, "11", "", "")?;
+    let mut site = router_site(alloc, &ELEVEN)?;
     let ran = instantiate(alloc, &mut site, "{\"flavourId\":\"simple\"}")?;
     assert!(rt; ran.told.as_slice() == ACCEPTED);
     let end = joined(alloc, &[ROUTER_ASKED, TROUBLE, b"\0"])?;
@@ -251,7 +275,11 @@ fn the_plan_of_an_instantiation_is_recorded(rt: HostRuntime) -> Result<(), Fail>
 #[test]
 fn more_machines_than_a_vdu_may_have_are_refused(rt: HostRuntime) -> Result<(), Fail> {
     let alloc = rt.alloc();
-    let mut site = router_site(alloc, "1", "", "")?;
+    let one = Router {
+        maximum: "1",
+        ..ELEVEN
+    };
+    let mut site = router_site(alloc, &one)?;
     let ran = instantiate(alloc, &mut site, "{\"flavourId\":\"simple\"}")?;
     let told = refusal_of(
         alloc,
@@ -268,23 +296,57 @@ const ASKED_BYTES: usize = 48;
 /// The bytes of a change.
 const CHANGE_BYTES: usize = 11;
 
+/// Whether an edge router is instantiated at its level `large` with so many changes.
+fn is_planned(alloc: Global, router: &Router, changes: usize) -> Result<bool, AllocError> {
+    let mut site = router_site(alloc, router)?;
+    let before = site.file().len();
+    let ran = instantiate(alloc, &mut site, LARGE)?;
+    let grown = ASKED_BYTES
+        .saturating_add(CHANGE_BYTES.saturating_mul(changes))
+        .saturating_add(TROUBLE.len());
+    Ok(ran.told.as_slice() == ACCEPTED && site.file().len() == before.saturating_add(grown))
+}
+
+/// The body that asks for the level `large`.
+const LARGE: &str = "{\"flavourId\":\"simple\",\"instantiationLevelId\":\"large\"}";
+
 #[test]
 fn the_level_that_is_asked_for_is_planned(rt: HostRuntime) -> Result<(), Fail> {
     let alloc = rt.alloc();
-    let mut site = router_site(
-        alloc,
-        "11",
-        r#","large":{"scale_info":{"workers":{"scale_level":10}}}"#,
-        r#","large":{"number_of_instances":11}"#,
-    )?;
+    let router = Router {
+        level: r#","large":{"scale_info":{"workers":{"scale_level":10}}}"#,
+        number: r#","large":{"number_of_instances":11}"#,
+        ..ELEVEN
+    };
+    assert!(rt; is_planned(alloc, &router, 49)?);
+    Ok(())
+}
+
+/// An edge router of 623 machines of its first VDU at the level `large`, each with a storage and two ports, and of one machine of its second with
+/// a storage and a port, on two links: 2,497 resources.
+const FULL: Router = Router {
+    maximum: "1000",
+    greatest: "1000",
+    level: r#","large":{"scale_info":{"workers":{"scale_level":622}}}"#,
+    number: r#","large":{"number_of_instances":623}"#,
+};
+
+/// The same with one machine more: 2,501 resources.
+const OVERFULL: Router = Router {
+    level: r#","large":{"scale_info":{"workers":{"scale_level":623}}}"#,
+    number: r#","large":{"number_of_instances":624}"#,
+    ..FULL
+};
+
+#[test]
+fn an_instance_has_at_most_2500_resources(rt: HostRuntime) -> Result<(), Fail> {
+    let alloc = rt.alloc();
+    assert!(rt; is_planned(alloc, &FULL, 2_497)?);
+    let mut site = router_site(alloc, &OVERFULL)?;
     let before = site.file().len();
-    let body = "{\"flavourId\":\"simple\",\"instantiationLevelId\":\"large\"}";
-    let ran = instantiate(alloc, &mut site, body)?;
-    assert!(rt; ran.told.as_slice() == ACCEPTED);
-    let grown = before
-        .saturating_add(ASKED_BYTES)
-        .saturating_add(CHANGE_BYTES * 49)
-        .saturating_add(TROUBLE.len());
-    assert_eq!(rt; site.file().len(), grown);
+    let ran = instantiate(alloc, &mut site, LARGE)?;
+    let told = refusal_of(alloc, "507 Insufficient Storage", "too many resources")?;
+    assert!(rt; ran.told.as_slice() == told.as_slice());
+    assert_eq!(rt; site.file().len(), before);
     Ok(())
 }

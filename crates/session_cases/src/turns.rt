@@ -1,5 +1,6 @@
 //! Turns: a grant is asked for, and the occurrence is moved on by what was answered, over journals whose records are compared whole.
-use crate::occurrences::{SIMPLE, router_site};
+use crate::expected::joined;
+use crate::occurrences::{ELEVEN, ROUTER_ASKED, SIMPLE, router_site};
 use crate::routes::{ASKED, CREATED, GRANTED, PROCESSING, TROUBLE, answer_of, journal_with};
 use grant_desk::GrantAll;
 use memory_runs::{Ran, door_of, once, run_asking, site_with, words_of};
@@ -84,24 +85,35 @@ fn line_of(alloc: Global, text: &str) -> Option<Line> {
     Line::of(alloc, text.as_bytes()).ok()
 }
 
-/// Whether so many rounds without a connection, over an operation that was asked for, leave these records behind it.
-fn turns_to(alloc: Global, case: &Turned) -> Result<bool, AllocError> {
-    let (answers, rounds, records) = *case;
-    let mut site = site_with(
-        alloc,
-        &journal_with(alloc, &[CREATED, ASKED])?,
-        Vec::new(alloc),
-    )?;
+/// A site with the journal in which an operation was asked for, of which these disk calls, from 1, fail.
+fn asked_site(alloc: Global, failing: Vec<u64>) -> Result<MemSite, AllocError> {
+    site_with(alloc, &journal_with(alloc, &[CREATED, ASKED])?, failing)
+}
+
+/// So many rounds without a connection over this site, with an orchestrator that gives these answers.
+fn make_turns(
+    alloc: Global,
+    site: &mut MemSite,
+    answers: &[Answer],
+    rounds: &str,
+) -> Result<Ran, AllocError> {
     let mut orchestrator = MemOrchestrator::new(alloc, plan_of(alloc, answers)?)?;
     let words = words_of(alloc, &["once", "--journal", "j", "--rounds", rounds])?;
-    let ran = run_asking(
+    run_asking(
         alloc,
         &words,
-        &mut site,
+        site,
         Vec::new(alloc),
         &mut orchestrator,
         None,
-    )?;
+    )
+}
+
+/// Whether so many rounds without a connection, over an operation that was asked for, leave these records behind it.
+fn turns_to(alloc: Global, case: &Turned) -> Result<bool, AllocError> {
+    let (answers, rounds, records) = *case;
+    let mut site = asked_site(alloc, Vec::new(alloc))?;
+    let ran = make_turns(alloc, &mut site, answers, rounds)?;
     let after = journal_behind(alloc, records)?;
     Ok(ran.status == 0 && site.file() == after.as_slice())
 }
@@ -124,6 +136,84 @@ fn turns_record_what_the_orchestrator_answers(rt: HostRuntime) -> Result<(), Fai
     Ok(())
 }
 
+/// The front of the view of occurrence 1, which is ROLLED_BACK, up to the detail of its error; and its rest, behind that error's status.
+const ROLLED: [&str; 2] = [
+    "{\"_links\":{\"self\":{\"href\":\"/vnflcm/v1/vnf_lcm_op_occs/00000007-766d-8002-8000-000000000001\"},\"vnfInstance\":{\"href\":\"/vnflcm/v1/vnf_instances/00000007-766d-8001-8000-000000000001\"}},\"error\":{\"detail\":\"",
+    "},\"id\":\"00000007-766d-8002-8000-000000000001\",\"isAutomaticInvocation\":false,\"isCancelPending\":false,\"operation\":\"INSTANTIATE\",\"operationParams\":{\"flavourId\":\"simple\"},\"operationState\":\"ROLLED_BACK\",\"resourceChanges\":{\"affectedVirtualLinks\":[],\"affectedVirtualStorages\":[],\"affectedVnfcs\":[]},\"startTime\":\"2023-11-14T22:13:20.000Z\",\"stateEnteredTime\":\"2023-11-14T22:13:20.000Z\",\"vnfInstanceId\":\"00000007-766d-8001-8000-000000000001\"}",
+];
+
+/// Whether the occurrence is shown ROLLED_BACK with this error behind so many rounds with these answers.
+fn is_rolled_back(
+    alloc: Global,
+    answers: &[Answer],
+    rounds: &str,
+    detail: &str,
+    status: u16,
+) -> Result<bool, AllocError> {
+    let mut site = asked_site(alloc, Vec::new(alloc))?;
+    let _ = make_turns(alloc, &mut site, answers, rounds)?;
+    let shown = once(alloc, &mut site, SHOW)?;
+    let view = format!(in alloc; "{}{detail}\",\"status\":{status}{}", ROLLED[0], ROLLED[1])?;
+    let told = answer_of(alloc, "200 OK", "json", &view)?;
+    Ok(shown.told.as_slice() == told.as_slice())
+}
+
+#[test]
+fn an_occurrence_without_a_grant_says_why(rt: HostRuntime) -> Result<(), Fail> {
+    let alloc = rt.alloc();
+    let cases: [(&[Answer], &str, &str, u16); 4] = [
+        (&[(403, "", "")], "2", "grant denied", 403),
+        (&[SURPLUS], "2", "grant does not cover the request", 500),
+        (&[(500, "", ""); 5], "6", "no grant after five tries", 500),
+        (&[], "6", "no grant after five tries", 500),
+    ];
+    for (answers, rounds, detail, status) in cases {
+        assert!(rt;
+            is_rolled_back(alloc, answers, rounds, detail, status)?,
+            "{detail}"
+        );
+    }
+    Ok(())
+}
+
+/// The disk calls of one act: a write and a sync of the record, and a write and a sync of its gate.
+const CALLS: usize = 4;
+
+/// The records of two turns with an orchestrator that grants.
+const TWO_TURNS: [&[u8]; 2] = [GRANTED, PROCESSING];
+
+/// The disk calls of an opening: those of two rounds that aren't of their acts.
+fn calls_to_open(alloc: Global) -> Result<usize, AllocError> {
+    let mut site = asked_site(alloc, Vec::new(alloc))?;
+    let _ = make_turns(alloc, &mut site, &[GRANT], "2")?;
+    Ok(site.moment().saturating_sub(2 * CALLS))
+}
+
+/// Whether two rounds in which this disk call of their acts fails, from 0, end with a site fault, and the acts stand whose gates were written.
+fn ends_with_a_site_fault(alloc: Global, opened: usize, call: usize) -> Result<bool, AllocError> {
+    let mut failing = Vec::new(alloc);
+    failing.push((opened.saturating_add(call) as u64).saturating_add(1))?;
+    let mut site = asked_site(alloc, failing)?;
+    let ran = make_turns(alloc, &mut site, &[GRANT], "2")?;
+    let stand = call.saturating_add(1) / CALLS;
+    let after = journal_behind(alloc, &TWO_TURNS[..stand.min(2)])?;
+    Ok(
+        ran.status == 3
+            && ran.printed.as_slice() == b"site fault\n".as_slice()
+            && site.file().starts_with(&after),
+    )
+}
+
+#[test]
+fn a_disk_call_that_fails_in_a_turn_ends_the_run(rt: HostRuntime) -> Result<(), Fail> {
+    let alloc = rt.alloc();
+    let opened = calls_to_open(alloc)?;
+    for call in 0..2 * CALLS {
+        assert!(rt; ends_with_a_site_fault(alloc, opened, call)?, "call {call}");
+    }
+    Ok(())
+}
+
 /// The view of occurrence 1, which is PROCESSING.
 const PROCESSED: &str =
     "{\"_links\":{\"cancel\":{\"href\":\"/vnflcm/v1/vnf_lcm_op_occs/00000007-766d-8002-8000-000000000001/cancel\"},\"self\":{\"href\":\"/vnflcm/v1/vnf_lcm_op_occs/00000007-766d-8002-8000-000000000001\"},\"vnfInstance\":{\"href\":\"/vnflcm/v1/vnf_instances/00000007-766d-8001-8000-000000000001\"}},\"grantId\":\"g1\",\"id\":\"00000007-766d-8002-8000-000000000001\",\"isAutomaticInvocation\":false,\"isCancelPending\":false,\"operation\":\"INSTANTIATE\",\"operationParams\":{\"flavourId\":\"simple\"},\"operationState\":\"PROCESSING\",\"resourceChanges\":{\"affectedVirtualLinks\":[],\"affectedVirtualStorages\":[],\"affectedVnfcs\":[]},\"startTime\":\"2023-11-14T22:13:20.000Z\",\"stateEnteredTime\":\"2023-11-14T22:13:20.000Z\",\"vnfInstanceId\":\"00000007-766d-8001-8000-000000000001\"}";
@@ -131,6 +221,10 @@ const PROCESSED: &str =
 /// The request that shows occurrence 1.
 const SHOW: &[u8] =
     b"GET /vnflcm/v1/vnf_lcm_op_occs/00000007-766d-8002-8000-000000000001 HTTP/1.1\r\n\r\n";
+
+/// The grant of the edge router's instantiation: its thirteen changes are all made at the connection `vim1`.
+const ROUTER_GRANTED: &[u8] =
+    b"\x01\0\0\0\x2a\x06\0\0\x01\x8b\xcf\xe5\x68\0\0\0\0\0\0\0\0\x01\x02g1\x01\x04vim1\0\0\x0d\0\0\0\0\0\0\0\0\0\0\0\0\0";
 
 /// Two rounds over this site, whose first connection instantiates instance 1, with an orchestrator that grants all.
 fn instantiate_granted(alloc: Global, site: &mut MemSite) -> Result<Ran, AllocError> {
@@ -149,9 +243,11 @@ fn instantiate_granted(alloc: Global, site: &mut MemSite) -> Result<Ran, AllocEr
 #[test]
 fn a_granted_instantiation_of_the_edge_router_is_processed(rt: HostRuntime) -> Result<(), Fail> {
     let alloc = rt.alloc();
-    let mut site = router_site(alloc, "11", "", "")?;
+    let mut site = router_site(alloc, &ELEVEN)?;
     let ran = instantiate_granted(alloc, &mut site)?;
     assert_eq!(rt; ran.status, 0);
+    let end = joined(alloc, &[ROUTER_ASKED, ROUTER_GRANTED, PROCESSING, b"\0"])?;
+    assert!(rt; site.file().ends_with(&end));
     let shown = once(alloc, &mut site, SHOW)?;
     let told = answer_of(alloc, "200 OK", "json", PROCESSED)?;
     assert!(rt; shown.told.as_slice() == told.as_slice());

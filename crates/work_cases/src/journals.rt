@@ -1,4 +1,4 @@
-//! A journal in which an instance of a descriptor with nothing but links was asked to be instantiated.
+//! A journal in which instances of a descriptor with nothing but links were asked to be instantiated, and what turns record behind it.
 
 use site_traits::{MemSite, SitePlan};
 use std::alloc::{AllocError, Global};
@@ -16,17 +16,6 @@ const FRONT: [u8; 21] = [
 
 /// Its rest: no ports, no aspects, and the level `l`, which is the default.
 const BACK: [u8; 10] = [0, 0, 0, 0, 0, 1, 1, 108, 0, 0];
-
-/// Created at moment 6: instance 1 of it.
-const CREATED: [u8; 21] = [
-    2, 0, 0, 0, 0, 0, 0, 0, 6, 0, 0, 0, 0, 0, 0, 0, 1, 1, 100, 0, 0,
-];
-
-/// Asked at moment 7: occurrence 1 of instance 1, by the orchestrator, to be instantiated in the flavour `s` at the default level, up to its
-/// changes.
-const ASKED: [u8; 30] = [
-    4, 0, 0, 0, 0, 0, 0, 0, 7, 0, 0, 0, 0, 0, 0, 0, 1, 0, 0, 0, 0, 0, 0, 0, 1, 0, 1, 1, 115, 0,
-];
 
 /// Puts a record with this content behind an open gate.
 fn put(file: &mut Vec<u8>, content: &[u8]) -> Result<(), AllocError> {
@@ -47,9 +36,25 @@ fn onboarded(alloc: Global, links: u8) -> Result<Vec<u8>, AllocError> {
     Ok(content)
 }
 
-/// The content of the event that asks for the instantiation: each link is created.
-fn asked(alloc: Global, links: u8) -> Result<Vec<u8>, AllocError> {
-    let mut content = ASKED.to_vec(alloc)?;
+/// The front of an event's content: its kind, its moment, and the number of the instance or of the occurrence.
+fn front(kind: u8, moment: u8, number: u8) -> [u8; 17] {
+    [
+        kind, 0, 0, 0, 0, 0, 0, 0, moment, 0, 0, 0, 0, 0, 0, 0, number,
+    ]
+}
+
+/// The content of the event that creates, at moment 6, the instance of this number of that descriptor.
+fn created(alloc: Global, number: u8) -> Result<Vec<u8>, AllocError> {
+    let mut content = front(2, 6, number).to_vec(alloc)?;
+    content.extend_from_slice(&[1, 100, 0, 0])?;
+    Ok(content)
+}
+
+/// The content of the event that asks, at moment 7, for the occurrence of this number of the instance of that number, by the orchestrator, to be
+/// instantiated in the flavour `s` at the default level: each link is created.
+fn asked(alloc: Global, links: u8, number: u8) -> Result<Vec<u8>, AllocError> {
+    let mut content = front(4, 7, number).to_vec(alloc)?;
+    content.extend_from_slice(&[0, 0, 0, 0, 0, 0, 0, number, 0, 1, 1, 115, 0])?;
     content.extend_from_slice(&[0, links])?;
     for link in 0..links {
         content.extend_from_slice(&[0, 0, 0, 0, link, 255, 255, 0, 0, 0, 0])?;
@@ -57,23 +62,66 @@ fn asked(alloc: Global, links: u8) -> Result<Vec<u8>, AllocError> {
     Ok(content)
 }
 
-/// The file.
-fn file_of(alloc: Global, links: u8) -> Result<Vec<u8>, AllocError> {
+/// An event of a turn at moment 8, and the number of its occurrence.
+#[derive(Clone, Copy, Debug, PartialEq, Eq)]
+pub enum Recorded {
+    /// The grant `g1` of two changes, both at the connection `v0`.
+    Granted(u8),
+    /// A try that was in trouble.
+    Trouble(u8),
+    /// A grant that comes later, at the location that is told.
+    Later(u8),
+    /// The move to PROCESSING.
+    Processing(u8),
+}
+
+/// The content of that event.
+fn content_of(alloc: Global, event: Recorded) -> Result<Vec<u8>, AllocError> {
+    let (kind, number, rest): (u8, u8, &[u8]) = match event {
+        Recorded::Granted(occ) => (6, occ, &[2, 103, 49, 1, 2, 118, 48, 0, 0, 2, 0, 0]),
+        Recorded::Trouble(occ) => (5, occ, &[1]),
+        Recorded::Later(occ) => (5, occ, b"\0\0\x13/grant/v1/grants/g1"),
+        Recorded::Processing(occ) => (11, occ, &[1]),
+    };
+    let mut content = front(kind, 8, number).to_vec(alloc)?;
+    content.extend_from_slice(rest)?;
+    Ok(content)
+}
+
+/// The file, in which so many instances were created and asked to be instantiated, and these events followed.
+pub fn file_of(
+    alloc: Global,
+    links: u8,
+    instances: u8,
+    events: &[Recorded],
+) -> Result<Vec<u8>, AllocError> {
     let mut file = HEADER.to_vec(alloc)?;
     put(&mut file, onboarded(alloc, links)?.as_slice())?;
-    put(&mut file, &CREATED)?;
-    put(&mut file, asked(alloc, links)?.as_slice())?;
+    for before in 0..instances {
+        let number = before.saturating_add(1);
+        put(&mut file, created(alloc, number)?.as_slice())?;
+        put(&mut file, asked(alloc, links, number)?.as_slice())?;
+    }
+    for event in events {
+        put(&mut file, content_of(alloc, *event)?.as_slice())?;
+    }
     file.push(0)?;
     Ok(file)
 }
 
-/// A site with this journal, of which these disk calls, from 1, fail.
-pub fn site_of(alloc: Global, links: u8, failing: Vec<u64>) -> Result<MemSite, AllocError> {
+/// A site with the journal of so many instances, of which these disk calls, from 1, fail.
+pub fn site_of(
+    alloc: Global,
+    links: u8,
+    instances: u8,
+    failing: Vec<u64>,
+) -> Result<MemSite, AllocError> {
     let plan = SitePlan {
         bytes: 20_000,
         jobs: 0,
         failing,
         work: Vec::new(alloc),
     };
-    MemSite::with_file(alloc, plan, file_of(alloc, links)?.as_slice())
+    let file = file_of(alloc, links, instances, &[])?;
+    MemSite::with_file(alloc, plan, file.as_slice())
 }

@@ -2,7 +2,6 @@
 
 use site_traits::{GrantPlan, MemOrchestrator};
 use std::alloc::{AllocError, Global};
-use std::test::Fail;
 use vnfm_base::{Bytes, Line};
 
 /// What an orchestrator answers.
@@ -35,12 +34,14 @@ fn grant(alloc: Global, changes: u8, places: u8) -> Result<Bytes, AllocError> {
     Bytes::of(alloc, text.as_bytes())
 }
 
-/// The location that is told.
-fn location(alloc: Global, there: bool) -> Result<Option<Line>, Fail> {
-    if there {
-        Ok(Some(Line::of(alloc, b"/grant/v1/grants/g1")?))
-    } else {
-        Ok(None)
+/// The location that is told, where one is.
+fn location(alloc: Global, there: bool) -> Result<Option<Line>, AllocError> {
+    if !there {
+        return Ok(None);
+    }
+    match Line::of(alloc, b"/grant/v1/grants/g1") {
+        Ok(line) => Ok(Some(line)),
+        Err(_) => Err(AllocError),
     }
 }
 
@@ -54,7 +55,7 @@ fn raw(status: u16, location: Option<Line>, body: Bytes) -> GrantPlan {
 }
 
 /// The plan of an answer.
-fn plan(alloc: Global, says: Says) -> Result<GrantPlan, Fail> {
+fn plan(alloc: Global, says: Says) -> Result<GrantPlan, AllocError> {
     match says {
         Says::Grant(changes, places) => Ok(raw(201, None, grant(alloc, changes, places)?)),
         Says::Later(there) => Ok(raw(202, location(alloc, there)?, Bytes::empty(alloc))),
@@ -64,10 +65,10 @@ fn plan(alloc: Global, says: Says) -> Result<GrantPlan, Fail> {
 }
 
 /// An orchestrator that gives these answers in turn.
-pub fn orchestrator_of(alloc: Global, answers: &[Says]) -> Result<MemOrchestrator, Fail> {
+pub fn orchestrator_of(alloc: Global, answers: &[Says]) -> Result<MemOrchestrator, AllocError> {
     let mut plans = Vec::new(alloc);
     for says in answers {
         plans.push(plan(alloc, *says)?)?;
     }
-    Ok(MemOrchestrator::new(alloc, plans)?)
+    MemOrchestrator::new(alloc, plans)
 }

@@ -12,11 +12,13 @@ use vnfm_base::Moment;
 
 /// How a turn behind a load ended.
 #[derive(Clone, Copy, Debug, PartialEq, Eq)]
-enum Ended {
+pub enum Ended {
     /// It went through, with these counts of recorded and waiting acts.
     Through(u32, u32),
     /// A disk call failed in it.
     Broken,
+    /// There was no memory in it.
+    Starved,
     /// Another fault ended it.
     Stopped,
     /// The journal wasn't opened.
@@ -29,12 +31,13 @@ fn end_of(answer: &Result<Turn, WorkFault>) -> Ended {
         Ok(turn) if turn.unreached == 0 => Ended::Through(turn.acted, turn.waiting),
         Ok(_) => Ended::Stopped,
         Err(WorkFault::Disk) => Ended::Broken,
+        Err(WorkFault::Memory) => Ended::Starved,
         Err(_) => Ended::Stopped,
     }
 }
 
 /// Opens the journal and makes a turn.
-fn one_turn(alloc: Global, site: &mut MemSite, orchestrator: &mut MemOrchestrator) -> Ended {
+pub fn one_turn(alloc: Global, site: &mut MemSite, orchestrator: &mut MemOrchestrator) -> Ended {
     let Ok(mut manager) = Manager::load(alloc, site) else {
         return Ended::Unopened;
     };
@@ -68,7 +71,7 @@ fn turns(
 type Seen = (Ended, Option<OpState>, usize, usize);
 
 /// So many turns over a journal with so many links, with an orchestrator that gives these answers.
-fn seen(alloc: Global, links: u8, answers: &[Says], count: u8) -> Result<Seen, Fail> {
+fn seen(alloc: Global, links: u8, answers: &[Says], count: u8) -> Result<Seen, AllocError> {
     let mut orchestrator = orchestrator_of(alloc, answers)?;
     let (last, now) = over(alloc, links, &mut orchestrator, count)?;
     Ok((last, now, orchestrator.asked(), orchestrator.polled()))
@@ -81,7 +84,7 @@ fn over(
     orchestrator: &mut MemOrchestrator,
     count: u8,
 ) -> Result<(Ended, Option<OpState>), AllocError> {
-    let mut site = site_of(alloc, links, Vec::new(alloc))?;
+    let mut site = site_of(alloc, links, 1, Vec::new(alloc))?;
     let last = turns(alloc, &mut site, orchestrator, count);
     Ok((last, state(alloc, &mut site)))
 }
@@ -195,10 +198,10 @@ fn turns_lead_to_processing_or_to_rolled_back(rt: HostRuntime) -> Result<(), Fai
 }
 
 /// A turn in which the disk call of this number fails, and another over what it left: how each ended, and the state then.
-fn with_a_fault(alloc: Global, k: u64) -> Result<(Ended, Ended, Option<OpState>), Fail> {
+fn with_a_fault(alloc: Global, k: u64) -> Result<(Ended, Ended, Option<OpState>), AllocError> {
     let mut orchestrator = orchestrator_of(alloc, &[Says::Grant(2, 1), Says::Grant(2, 1)])?;
     let failing = vec![in alloc; k]?;
-    let mut site = site_of(alloc, 2, failing)?;
+    let mut site = site_of(alloc, 2, 1, failing)?;
     let first = one_turn(alloc, &mut site, &mut orchestrator);
     let second = one_turn(alloc, &mut site, &mut orchestrator);
     let now = match state(alloc, &mut site) {

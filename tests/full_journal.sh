@@ -1,0 +1,71 @@
+#!/bin/sh
+# A journal that is all but full: a turn records what fits to the last byte of the file, and ends with 9 at the first act that
+# doesn't; a request is told 507, and a descriptor ends with 9 too. Needs python3, and 300 MB in the folder of temporary files.
+. "$(dirname "$0")/common.sh"
+
+limit=268435456
+journal=$room/journal
+
+# Two instances that were asked to be instantiated. A turn is made behind each request, so the first was tried twice.
+cp "$start" "$journal"
+for input in create create; do "$here/vnfm" once --journal "$journal" <"$here/examples/$input.http" >/dev/null 2>&1; done
+for number in 1 2; do
+    sed "s/000000000001/00000000000$number/" "$here/examples/instantiate.http" |
+        "$here/vnfm" once --journal "$journal" >"$room/out" 2>/dev/null
+    expect "instance $number" "$(head -n 1 "$room/out" | tr -d '\r')" "HTTP/1.1 202 Accepted"
+done
+
+# Fills the journal up to a byte, which is that of its closed gate: instances with descriptions are created and deleted.
+cat >"$room/fill.py" <<'END_OF_FILL'
+import struct, sys
+
+journal, end = sys.argv[1], int(sys.argv[2])
+MOMENT = (1_700_000_000_000).to_bytes(8)
+LEAST, MOST = 55, 2_103
+
+def record(content):
+    return b"\1" + struct.pack(">I", len(content)) + content
+
+def pair(number, size):
+    """The records that create an instance and delete it, of so many bytes."""
+    name = struct.pack(">Q", number)
+    line = struct.pack(">H", size - LEAST) + b"d" * (size - LEAST)
+    return record(b"\2" + MOMENT + name + b"\6vnfd-1\0\1" + line) + record(b"\3" + MOMENT + name)
+
+with open(journal, "r+b") as file:
+    file.seek(-1, 2)
+    count, rest = divmod(end - file.tell(), MOST)
+    # The last two share what is left, so that neither is too small.
+    last = MOST if rest >= LEAST else MOST - LEAST
+    sizes = [MOST] * (count - 1) + [last, MOST + rest - last]
+    for number, size in enumerate(sizes, 3):
+        file.write(pair(number, size))
+    assert file.tell() == end
+    file.write(b"\0")
+END_OF_FILL
+
+# What a run says and leaves: its status, the first line of its output, the line of its end, and the length of the journal.
+run() { # INPUT COMMAND [OPTION VALUE]
+    input=$1
+    shift
+    command=$1
+    shift
+    "$here/vnfm" "$command" --journal "$journal" "$@" <"$input" >"$room/out" 2>"$room/err"
+    echo "status $?, $(cat "$room/err" "$room/out" | tr -d '\r' | grep -a -E '^(HTTP|done|journal full)' | sort | tr '\n' ',')" \
+        "$(bytes_of "$journal") bytes"
+}
+
+# Another descriptor, whose record has 256 bytes.
+sed 's/vnfd-1/vnfd-2/' "$here/examples/vnfd.json" >"$room/other.json"
+
+# A try has 18 bytes, and a record 6 more, its closed gate counted: the first of two fits, and nothing behind it.
+python3 "$room/fill.py" "$journal" "$((limit - 24))" || exit 1
+expect "a turn of two acts" "$(run /dev/null once)" "status 9, journal full: $((limit - 1)) + 18 bytes, $limit bytes"
+expect "a turn behind it" "$(run /dev/null once)" "status 9, journal full: $((limit - 1)) + 18 bytes, $limit bytes"
+expect "a request, and a turn" "$(run "$request" once)" \
+    "status 9, HTTP/1.1 507 Insufficient Storage,journal full: $((limit - 1)) + 18 bytes, $limit bytes"
+expect "a request, its detail" "$(tail -n 1 "$room/out")" '{"detail":"journal full","status":507}'
+expect "no round" "$(run /dev/null once --rounds 0)" "status 0, done after 0 rounds, $limit bytes"
+expect "a descriptor" "$(run "$room/other.json" onboard)" "status 9, journal full: $((limit - 1)) + 256 bytes, $limit bytes"
+
+exit "$differs"
