@@ -1,0 +1,161 @@
+//! The records of one instantiation of the edge router, spelled by hand, and where a file's records end.
+
+use lcm_events::{CancelMode, OpState};
+use std::alloc::{AllocError, Global};
+
+/// A record of occurrence 1: change, attempt and what else it says.
+#[derive(Clone, Copy, Debug, PartialEq, Eq)]
+pub enum Step {
+    /// The operation was asked for.
+    Asked,
+    /// It was granted, all at `vim1`.
+    Granted,
+    /// It moved to this state.
+    Moved(OpState),
+    /// This attempt at this change is about to begin.
+    Intent(u16, u32),
+    /// The call that was to begin it failed.
+    CallFailed(u16, u32),
+    /// It was done, by the job at this place of the list.
+    Done(u16, u32, u16),
+    /// It was broken with this code.
+    Broken(u16, u32, u32),
+    /// The infrastructure never got it.
+    NotBegun(u16, u32),
+    /// A cancel was asked for.
+    Cancelled(CancelMode),
+}
+
+/// The moment of each record: the clock's 1,700,000,000,000.
+const MOMENT: [u8; 8] = [0, 0, 1, 139, 207, 229, 104, 0];
+
+/// The number of occurrence 1.
+const OCCURRENCE: [u8; 8] = [0, 0, 0, 0, 0, 0, 0, 1];
+
+/// What is asked behind the number of the occurrence: instance 1, by the orchestrator, in the flavour `simple` at the default level; 2 links,
+/// 3 storages, 3 machines and 5 ports are made.
+const PLAN: &[u8] =
+    b"\0\0\0\0\0\0\0\x01\0\x01\x06simple\0\0\x0d\0\0\0\0\0\xff\xff\0\0\0\0\0\0\0\0\x01\xff\xff\0\0\0\0\x01\0\x01\0\0\0\0\0\0\0\x01\x01\0\x01\0\0\0\0\0\0\0\x02\x01\0\x01\0\x01\0\x01\0\0\0\x01\x02\0\x02\0\0\0\0\0\0\0\x01\x02\0\x02\0\0\0\0\0\0\0\x02\x02\0\x02\0\0\0\x01\0\0\0\x01\x03\0\x03\0\0\0\0\0\0\0\x01\x03\0\x03\0\x01\0\0\0\0\0\x01\x03\0\x03\0\0\0\0\0\0\0\x02\x03\0\x03\0\x01\0\0\0\0\0\x02\x03\0\x03\0\x02\0\x01\0\0\0\x01";
+
+/// What is granted behind the number of the occurrence: the grant `g1`, with one place for all thirteen changes.
+const GRANT: &[u8] = b"\x02g1\x01\x04vim1\0\0\x0d\0\0\0\0\0\0\0\0\0\0\0\0\0";
+
+/// The number of a state in a record.
+fn number_of(state: OpState) -> u8 {
+    match state {
+        OpState::Starting => 0,
+        OpState::Processing => 1,
+        OpState::Completed => 2,
+        OpState::FailedTemp => 3,
+        OpState::Failed => 4,
+        OpState::RollingBack => 5,
+        OpState::RolledBack => 6,
+    }
+}
+
+/// The number of a mode of cancel in a record.
+fn number_of_mode(mode: CancelMode) -> u8 {
+    match mode {
+        CancelMode::Graceful => 0,
+        CancelMode::Forceful => 1,
+    }
+}
+
+/// What stands behind the number of the occurrence for this attempt forward at this change, with this behind it.
+fn attempt(alloc: Global, change: u16, attempt: u32, behind: &[u8]) -> Result<Vec<u8>, AllocError> {
+    let mut fields = Vec::new(alloc);
+    fields.extend_from_slice(&change.to_be_bytes())?;
+    fields.extend_from_slice(&attempt.to_be_bytes())?;
+    fields.push(0)?;
+    fields.extend_from_slice(behind)?;
+    Ok(fields)
+}
+
+/// How a done attempt ended, by the job at this place.
+fn done(alloc: Global, job: u16) -> Result<Vec<u8>, AllocError> {
+    let name = format!(in alloc; "r{job}")?;
+    let mut end = Vec::new(alloc);
+    end.push(0)?;
+    end.push(u8::try_from(name.len()).unwrap_or(0))?;
+    end.extend_from_slice(name.as_bytes())?;
+    Ok(end)
+}
+
+/// How a broken attempt ended.
+fn broken(alloc: Global, code: u32) -> Result<Vec<u8>, AllocError> {
+    let mut end = Vec::new(alloc);
+    end.push(1)?;
+    end.extend_from_slice(&code.to_be_bytes())?;
+    Ok(end)
+}
+
+/// The number of a record's kind, and what stands behind its moment and the number of the occurrence.
+fn fields_of(alloc: Global, step: Step) -> Result<(u8, Vec<u8>), AllocError> {
+    Ok(match step {
+        Step::Asked => (4, PLAN.to_vec(alloc)?),
+        Step::Granted => (6, GRANT.to_vec(alloc)?),
+        Step::Moved(to) => (11, vec![in alloc; number_of(to)]?),
+        Step::Intent(change, number) => (8, attempt(alloc, change, number, &[])?),
+        Step::CallFailed(change, number) => (9, attempt(alloc, change, number, &[])?),
+        Step::Done(change, number, job) => {
+            (10, attempt(alloc, change, number, &done(alloc, job)?)?)
+        }
+        Step::Broken(change, number, code) => {
+            (10, attempt(alloc, change, number, &broken(alloc, code)?)?)
+        }
+        Step::NotBegun(change, number) => (10, attempt(alloc, change, number, &[3])?),
+        Step::Cancelled(mode) => (12, vec![in alloc; number_of_mode(mode)]?),
+    })
+}
+
+/// Puts the record of this step, with its open gate.
+fn put(alloc: Global, file: &mut Vec<u8>, step: Step) -> Result<(), AllocError> {
+    let (kind, fields) = fields_of(alloc, step)?;
+    let length = u32::try_from(fields.len()).unwrap_or(0).saturating_add(17);
+    file.push(1)?;
+    file.extend_from_slice(&length.to_be_bytes())?;
+    file.push(kind)?;
+    file.extend_from_slice(&MOMENT)?;
+    file.extend_from_slice(&OCCURRENCE)?;
+    file.extend_from_slice(&fields)
+}
+
+/// The records of this file, from its header up to its first closed gate, and these steps behind them.
+pub fn front_with(alloc: Global, file: &[u8], steps: &[Step]) -> Result<Vec<u8>, AllocError> {
+    let mut whole = front_of(file).to_vec(alloc)?;
+    for step in steps {
+        put(alloc, &mut whole, *step)?;
+    }
+    Ok(whole)
+}
+
+/// The journal with the records of this file and these steps behind them.
+pub fn journal_with(alloc: Global, file: &[u8], steps: &[Step]) -> Result<Vec<u8>, AllocError> {
+    let mut whole = front_with(alloc, file, steps)?;
+    whole.push(0)?;
+    Ok(whole)
+}
+
+/// The bytes of the record at this place, with its gate and its length, where it is open.
+fn record_at(file: &[u8], at: usize) -> Option<usize> {
+    let behind = file.get(at..)?;
+    match behind {
+        [1, a, b, c, d, ..] => {
+            let length = usize::try_from(u32::from_be_bytes([*a, *b, *c, *d])).ok()?;
+            Some(length.saturating_add(5))
+        }
+        _ => None,
+    }
+}
+
+/// The file up to its first closed gate.
+pub fn front_of(file: &[u8]) -> &[u8] {
+    let mut end = 32;
+    for _ in 0..file.len() {
+        match record_at(file, end) {
+            Some(bytes) => end = end.saturating_add(bytes),
+            None => return file.get(..end).unwrap_or(file),
+        }
+    }
+    file
+}
