@@ -2,8 +2,8 @@
 //! behind the session, in which no orchestrator is reached.
 use crate::expected::joined;
 use crate::routes::{
-    ASKED, COMPLETED, CREATED, GRANTED, PROCESSING, TROUBLE, answer_of, is_refused, is_shown,
-    journal_with, refusal_of, tells,
+    ASKED, CANCELLED, COMPLETED, CREATED, GRANTED, PROCESSING, TROUBLE, answer_of, is_refused,
+    is_shown, journal_with, refusal_of, tells,
 };
 use memory_runs::{CREATE, MADE, Ran, onboard, once, site_with};
 use site_traits::MemSite;
@@ -56,7 +56,7 @@ const TASKS: [&str; 4] = ["retry", "rollback", "fail", "cancel"];
 #[test]
 fn each_task_of_an_occurrence_is_refused(rt: HostRuntime) -> Result<(), Fail> {
     let alloc = rt.alloc();
-    let file = journal_with(alloc, &[CREATED, ASKED, GRANTED, PROCESSING])?;
+    let file = journal_with(alloc, &[CREATED, ASKED, GRANTED, PROCESSING, CANCELLED])?;
     for task in TASKS {
         let request = format!(in alloc;
             "POST /vnflcm/v1/vnf_lcm_op_occs/00000007-766d-8002-8000-000000000001/{task}"
@@ -162,7 +162,7 @@ fn an_instantiation_is_refused_for_the_first_cause(rt: HostRuntime) -> Result<()
 #[test]
 fn an_instance_in_use_is_not_instantiated(rt: HostRuntime) -> Result<(), Fail> {
     let alloc = rt.alloc();
-    let busy = journal_with(alloc, &[CREATED, ASKED, GRANTED, PROCESSING])?;
+    let busy = journal_with(alloc, &[CREATED, ASKED, GRANTED, PROCESSING, CANCELLED])?;
     let used = journal_with(alloc, &[CREATED, ASKED, GRANTED, PROCESSING, COMPLETED])?;
     let simple = "{\"flavourId\":\"simple\"}";
     let other = "{\"flavourId\":\"x\"}";

@@ -20,6 +20,9 @@ pub const GRANTED: &[u8] =
 
 pub const PROCESSING: &[u8] = b"\x01\0\0\0\x12\x0b\0\0\x01\x8b\xcf\xe5\x68\0\0\0\0\0\0\0\0\x01\x01";
 
+/// A graceful cancel of the operation, which no turn goes on with.
+pub const CANCELLED: &[u8] = b"\x01\0\0\0\x12\x0c\0\0\x01\x8b\xcf\xe5\x68\0\0\0\0\0\0\0\0\x01\0";
+
 pub const COMPLETED: &[u8] = b"\x01\0\0\0\x12\x0b\0\0\x01\x8b\xcf\xe5\x68\0\0\0\0\0\0\0\0\x01\x02";
 
 /// The view of instance 1 while it is NOT_INSTANTIATED.
@@ -322,7 +325,7 @@ fn an_instance_that_is_instantiated_is_shown_whole(rt: HostRuntime) -> Result<()
 #[test]
 fn an_instance_is_not_deleted_while_it_is_in_use(rt: HostRuntime) -> Result<(), Fail> {
     let alloc = rt.alloc();
-    let busy = journal_with(alloc, &[CREATED, ASKED, GRANTED, PROCESSING])?;
+    let busy = journal_with(alloc, &[CREATED, ASKED, GRANTED, PROCESSING, CANCELLED])?;
     let used = journal_with(alloc, &[CREATED, ASKED, GRANTED, PROCESSING, COMPLETED])?;
     let delete = "DELETE /vnflcm/v1/vnf_instances/00000007-766d-8001-8000-000000000001";
     assert!(rt;

@@ -1,7 +1,9 @@
 //! Turns: a grant is asked for, and the occurrence is moved on by what was answered, over journals whose records are compared whole.
 use crate::expected::joined;
 use crate::occurrences::{ELEVEN, ROUTER_ASKED, SIMPLE, router_site};
-use crate::routes::{ASKED, CREATED, GRANTED, PROCESSING, TROUBLE, answer_of, journal_with};
+use crate::routes::{
+    ASKED, COMPLETED, CREATED, GRANTED, PROCESSING, TROUBLE, answer_of, journal_with,
+};
 use grant_desk::GrantAll;
 use memory_runs::{Ran, door_of, once, run_asking, site_with, words_of};
 use site_traits::{GrantPlan, MemOrchestrator, MemSite};
@@ -40,7 +42,7 @@ const SURPLUS: Answer = (
 const CASES: [Turned; 8] = [
     (&[GRANT], "1", &[GRANTED]),
     (&[GRANT], "2", &[GRANTED, PROCESSING]),
-    (&[GRANT], "5", &[GRANTED, PROCESSING]),
+    (&[GRANT], "5", &[GRANTED, PROCESSING, COMPLETED]),
     (&[SURPLUS], "2", &[NOT_COVERING, ROLLED_BACK]),
     (&[(403, "", "")], "3", &[DENIED, ROLLED_BACK]),
     (

@@ -124,7 +124,7 @@ fn turns_lead_to_processing_or_to_rolled_back(rt: HostRuntime) -> Result<(), Fai
             2,
             &[Says::Grant(2, 1)],
             3,
-            (Ended::Through(0, 0), processing, 1, 0),
+            (Ended::Through(1, 0), processing, 1, 0),
         ),
         (
             2,
