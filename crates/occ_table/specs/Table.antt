@@ -101,6 +101,10 @@ Follows after x ns = (width m : ℕ) (H : List Event) → IsLegalWithin width m 
 abbrev pub Looks : ℕ → Option OccRow → List OccRow → Type 0
 Looks n x rs = (width m : ℕ) (H : List Event) → IsLegalWithin width m H → StandsFor rs H → x ≡ occurrence H n
 
+-- what is found is the resource of this definition of the instance, with its place, in each history whose table this is
+abbrev pub Knows : ℕ → Def → Option Used → Occurrences → Type 0
+Knows i x found t = (H : List Event) → IsTableOf t H → found ≡ known H i x
+
 -- this is how many operations each history asks for that the rows stand for
 abbrev pub Counts : ℕ → List OccRow → Type 0
 Counts n rs = (H : List Event) → StandsFor rs H → n ≡ occurrences_made H

@@ -13,7 +13,7 @@ ghost use Rattle.occ_table.specs.Ongoing.{instance_in, ongoing_in, ongoing_moved
 ghost use Rattle.occ_table.specs.Steps.{described, first_row, noted, row_after, rows_about, update, after_granted, after_told, is_bringing, is_later};
 ghost use Rattle.occ_table.specs.Resources.{deed_of, kept_of, known_after, used_after};
 ghost use Rattle.occ_table.specs.Rows.{StandsFor};
-ghost use Rattle.occ_table.specs.Table.{Applies, Counts, Follows, GoesOn, HasNames, HasRoom, HasRoomFor, IsTableOf, Looks, Occurrences, Reserved, needs_room};
+ghost use Rattle.occ_table.specs.Table.{Applies, Counts, Follows, GoesOn, HasNames, HasRoom, HasRoomFor, IsTableOf, Knows, Looks, Occurrences, Reserved, needs_room};
 
 use crate::going::{append, first_above, move_active, reserve_places};
 use crate::ongoing::{instance_of, move_ongoing, ongoing_at, set_ongoing};
@@ -22,7 +22,7 @@ use crate::rooms::Rooms;
 use crate::rows::{Grant, OccRow};
 use crate::used::{PackedUsed, Used};
 use crate::vnfds::Vnfds;
-use lcm_events::{Event, EventKind, GrantTry, Listed, OpState, Operation, Outcome, Place, Tag};
+use lcm_events::{Def, Event, EventKind, GrantTry, Listed, OpState, Operation, Outcome, Place, Tag};
 use std::alloc::{AllocError, Global};
 use std::marker::Model;
 use vnfm_base::{Line, Moment, Name};
@@ -585,6 +585,15 @@ impl OccTable {
         ensures { result ≡ ongoing_in instance self.now.ongoing }
     {
         ongoing_at(self.ongoing.as_slice(), instance)
+    }
+
+    /// The resource that a definition of an instance has, or had before it was removed, with its place; none where it was never made.
+    ///
+    /// Source: SOL 003 5.5.3 (the resource infos of an instance).
+    pub fn resource(&self, instance: u64, def: &Def) -> Option<Used>
+        ensures knows { Knows instance def.now result self.now }
+    {
+        self.resources.of(instance, def)
     }
 
     /// How many operations were asked for.
