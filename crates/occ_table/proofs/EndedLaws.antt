@@ -1,5 +1,5 @@
 -- What is kept of a row until its occurrence is over.
-use Rattle.std.proofs.Common.{◌≡◌, ◌∙◌, ℕ, List, [], Bool, true, false, Option, None, Some, refl, ap, sym, set}
+use Rattle.std.proofs.Common.{◌≡◌, ◌∙◌, ℕ, List, [], Bool, true, false, cond, Option, None, Some, refl, ap, sym, set}
 use Rattle.std.specs.Prelude.{option_map, slice_set}
 use Rattle.lcm_events.specs.declared.attempts.Tag.{Tag}
 use Rattle.lcm_events.specs.declared.events.Event.{Event}
@@ -12,7 +12,7 @@ use Rattle.lcm_laws.proofs.SettledLaws.{works_on}
 use Rattle.occ_table.specs.declared.rows.Grant.{Grant}
 use Rattle.occ_table.specs.declared.rows.OccRow.{OccRow}
 use Rattle.occ_table.specs.Ended.{is_over, kept, kept_grant, kept_where, stripped}
-use Rattle.occ_table.specs.Steps.{after_move, forgotten}
+use Rattle.occ_table.specs.Steps.{after_begun, after_move, begun, forgotten}
 
 -- all is kept until the occurrence is over
 pub kept_all : {A : Type 0} → (over : Bool) (xs : List A) → over ≡ false → kept over xs ≡ xs
@@ -41,15 +41,39 @@ stripped_kept over true g e = cc
 stripped_kept over false None e = refl
 stripped_kept over false (Some g) e = refl
 
+-- what follows a row whose occurrence isn't over
+still : (over : Bool) (r s : OccRow) → over ≡ false → s ≡ cond over r s
+still true r s e = cc
+still false r s e = refl
+
+-- an attempt begins in a row whose occurrence isn't over
+pub begun_row : (r : OccRow) (t : Tag) → is_final r.state ≡ false
+    → record r { pending = begun t r.pending; attempts = slice_set r.attempts t.change t.attempt } ≡ after_begun t r
+begun_row r t e = still (is_final r.state) r _ e
+
+-- no attempt begins in a row whose occurrence is over
+pub begun_over : (r : OccRow) (t : Tag) → is_final r.state ≡ true → r ≡ after_begun t r
+begun_over r t e = rw e refl
+
+-- a row whose occurrence is over doesn't move
+pub moved_over : (r : OccRow) (time : ℕ) (to : OpState) → is_final r.state ≡ true → r ≡ after_move time to r
+moved_over r time to e = rw e refl
+
+-- a row moves whose occurrence isn't over
+pub moved_on : (r : OccRow) (time : ℕ) (to : OpState) → is_final r.state ≡ false
+    → forgotten (is_final to) (record r { state = to; entered = time; cancel = None; trouble = false }) ≡ after_move time to r
+moved_on r time to e = still (is_final r.state) r _ e
+
 -- a row that was whole, after a move
-pub moved_row : (r : OccRow) (time : ℕ) (to : OpState) (was : Bool) (xs : List ℕ) (at : Option (List ℕ)) (g : Option GivenGrant) → was ≡ false
+pub moved_row : (r : OccRow) (time : ℕ) (to : OpState) (was : Bool) (xs : List ℕ) (at : Option (List ℕ)) (g : Option GivenGrant) → was ≡ false → is_final r.state ≡ false
     → record r { state = to; entered = time; cancel = None; trouble = false; attempts = kept (is_final to) xs; location = kept_where (is_final to) at; grant = option_map (kept_grant (is_final to)) g }
     ≡ after_move time to (record r { attempts = kept was xs; location = kept_where was at; grant = option_map (kept_grant was) g })
-moved_row r time to was xs at g e =
+moved_row r time to was xs at g e on =
     let base : OccRow = record r { state = to; entered = time; cancel = None; trouble = false } in
     ap (λ (ys : List ℕ). record base { attempts = kept (is_final to) ys; location = kept_where (is_final to) at; grant = option_map (kept_grant (is_final to)) g }) (sym (kept_all was xs e))
     ∙ (ap (λ (x : Option (List ℕ)). record base { attempts = kept (is_final to) (kept was xs); location = kept_where (is_final to) x; grant = option_map (kept_grant (is_final to)) g }) (sym (kept_there was at e))
-    ∙ ap (λ (h : Option Grant). record base { attempts = kept (is_final to) (kept was xs); location = kept_where (is_final to) (kept_where was at); grant = h }) (stripped_kept (is_final to) was g e))
+    ∙ ap (λ (h : Option Grant). record base { attempts = kept (is_final to) (kept was xs); location = kept_where (is_final to) (kept_where was at); grant = h }) (stripped_kept (is_final to) was g e)
+    ∙ still (is_final r.state) (record r { attempts = kept was xs; location = kept_where was at; grant = option_map (kept_grant was) g }) _ on)
 
 stripped_none : (g : Option Grant) → g ≡ option_map (stripped false) g
 stripped_none None = refl

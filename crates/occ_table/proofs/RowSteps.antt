@@ -43,7 +43,7 @@ use Rattle.lcm_model.specs.Work.{works_in}
 use Rattle.lcm_laws.proofs.HoldLaws.{moved_from}
 use Rattle.occ_table.specs.Ended.{is_over, kept}
 use Rattle.occ_table.specs.Rows.{numbers}
-use Rattle.occ_table.proofs.EndedLaws.{kept_set, moved_row, starting_not_over, works_not_over}
+use Rattle.occ_table.proofs.EndedLaws.{begun_row, kept_set, moved_row, starting_not_over, works_not_over}
 use Rattle.occ_table.proofs.PendingSteps.{known_failed, pendings-begun, pendings-begun_other, pendings-ended, pendings-ended_other, pendings-failed, pendings-failed_other, trouble-settled, trouble-settled_other}
 use Rattle.occ_table.proofs.UsedSteps.{first_cons, used_told, uses-ended, uses-ended_other}
 use Rattle.occ_table.specs.declared.rows.OccRow.{OccRow}
@@ -182,7 +182,7 @@ row-step width m H time (Moved o to) n a e among wide legal allowed = by_test (o
     (λ same.
     let is : o ≡ a.occ = eqb-true o a.occ same in
     let going : is_over H a.occ ≡ false = subst (λ (i : ℕ). is_over H i ≡ false) is (moved_from H o to allowed.1) in
-    rw same (moved_row (row H a) time to (is_over H a.occ) (map (λ c. length (attempts H a.occ c)) (numbers a)) (location H a.occ) (grant H a.occ) going))
+    rw same (moved_row (row H a) time to (is_over H a.occ) (map (λ c. length (attempts H a.occ c)) (numbers a)) (location H a.occ) (grant H a.occ) going going))
     (λ other. rw other refl)
 row-step width m H time (CancelAsked o mode) n a e among wide legal allowed = by_test (o == a.occ)
     (λ same. cancelled H time o mode a same ∙ by_own (o == a.occ) _ _ same)
@@ -193,7 +193,7 @@ row-step width m H time (Intent t) n a e among wide legal allowed = by_test (t.o
     let going : is_over H a.occ ≡ false = works_not_over H a.occ t (subst (λ (i : ℕ). state H i ≡ works_in t.way) is allowed.works) in
     with_begun (row H a) _ _ _ _ (pendings-begun width m H time t a.occ same wide legal allowed)
     (kept_set (is_over H a.occ) (map (λ c. length (attempts (event time (Intent t) ∷ H) a.occ c)) (numbers a)) (map (λ c. length (attempts H a.occ c)) (numbers a)) t.change t.attempt going
-    (attempts-begun width m H time t a same allowed)) ∙ by_own (t.occ == a.occ) _ _ same)
+    (attempts-begun width m H time t a same allowed)) ∙ (begun_row (row H a) t going ∙ by_own (t.occ == a.occ) _ _ same))
     (λ other. with_begun (row H a) _ _ _ _ (pendings-begun_other width m H time t a.occ other legal allowed)
     (ap (λ (ns : List ℕ). kept (is_over H a.occ) ns) (attempts-begun_other H time t a other)) ∙ by_other (t.occ == a.occ) _ _ other)
 row-step width m H time (CallFailed t) n a e among wide legal allowed = by_test (t.occ == a.occ)

@@ -14,7 +14,7 @@ use Rattle.lcm_events.specs.declared.attempts.Way.{Way}
 use Rattle.lcm_events.specs.declared.attempts.Way.TheVariants.{Forward, Undo}
 use Rattle.std.specs.Option.{option_map_or}
 use Rattle.std.specs.List.{list_any}
-use Rattle.std.specs.Prelude.{List, None, Option, Some, [], false, min, nat_le, true, ℕ, ◌||◌, ◌+◌, ◌-◌, ◌++◌, ◌∷◌, zero, suc, Bool, filter, map, if◌then◌else◌, length, nat_lt, not, ◌&&◌, replicate, slice_get, slice_set, is_none, is_some, option_map, ◌==◌, ◌≡◌, ◌<◌}
+use Rattle.std.specs.Prelude.{List, None, Option, Some, [], false, min, nat_le, true, ℕ, ◌≤◌, ◌||◌, ◌+◌, ◌-◌, ◌++◌, ◌∷◌, zero, suc, Bool, filter, map, if◌then◌else◌, length, nat_lt, not, ◌&&◌, replicate, slice_get, slice_set, is_none, is_some, option_map, ◌==◌, ◌≡◌, ◌<◌}
 use Rattle.lcm_events.specs.declared.events.EventKind.{EventKind}
 use Rattle.lcm_events.specs.declared.events.EventKind.TheVariants.{Asked, CallFailed, CancelAsked, Denied, GrantTried, Granted, Intent, Moved, Settled}
 use Rattle.lcm_events.specs.declared.events.GrantTry.{GrantTry}
@@ -117,9 +117,9 @@ cause_among t (Broken code) ps = Some (causes.Broken t.change code)
 cause_among t Aborted ps = Some (causes.Aborted t.change)
 cause_among t NotBegun ps = when (has_failed_among t ps) (causes.CallFailed t.change)
 
--- the row after an attempt has begun
+-- the row after an attempt has begun, which never happens where its occurrence is over
 abbrev pub after_begun : Tag → OccRow → OccRow
-after_begun t r = record r { pending = begun t r.pending; attempts = slice_set r.attempts t.change t.attempt }
+after_begun t r = if is_final r.state then r else record r { pending = begun t r.pending; attempts = slice_set r.attempts t.change t.attempt }
 
 -- the nets after an attempt has ended so
 abbrev pub nets_after : Tag → Outcome → List ℕ → List ℕ
@@ -153,9 +153,14 @@ forgotten over r = record r {
   grant = option_map (stripped over) r.grant;
 }
 
--- the row after a move to this state at this time
+-- the row after a move to this state at this time, which never happens where its occurrence is over
 abbrev pub after_move : ℕ → OpState → OccRow → OccRow
-after_move time to r = forgotten (is_final to) (record r { state = to; entered = time; cancel = None; trouble = false })
+after_move time to r =
+    if is_final r.state then r else forgotten (is_final to) (record r { state = to; entered = time; cancel = None; trouble = false })
+
+-- beside a row whose occurrence isn't over there is room for four open attempts where none is open
+abbrev pub HasRoomBeside : OccRow → ℕ → Type 0
+HasRoomBeside r room = is_final r.state ≡ false → length r.pending ≡ 0 → 4 ≤ room
 
 -- the answer tells where the grant will be
 abbrev pub is_later : GrantTry → Bool

@@ -13,6 +13,7 @@ mod phases;
 mod resources;
 mod rooms;
 mod rows;
+mod slots;
 mod table;
 mod used;
 mod vnfds;

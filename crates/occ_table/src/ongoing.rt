@@ -4,19 +4,19 @@ ghost use Rattle.std.specs.Prelude.{◌≡◌, ◌++◌, ◌∷◌, [], None, ve
 ghost use Rattle.occ_table.specs.Ongoing.{instance_in, ongoing_in, ongoing_moved, with_ongoing};
 
 use crate::cells::set_in;
-use crate::rows::OccRow;
+use crate::slots::Slot;
 use lcm_events::OpState;
 use lcm_model::ends;
 
 /// The instance of the occurrence of this number, where there is one.
-pub fn instance_of(rows: &[OccRow], occ: u64) -> Option<u64>
+pub fn instance_of(rows: &[Slot], occ: u64) -> Option<u64>
     ensures { result ≡ instance_in occ rows.now }
 {
     if occ == 0 {
         return None;
     }
-    let row = rows.get((occ - 1) as usize)?;
-    Some(row.instance)
+    let slot = rows.get((occ - 1) as usize)?;
+    Some(slot.row().instance)
 }
 
 /// The ongoing operation of the instance of this number, where it has one.

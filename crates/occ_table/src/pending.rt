@@ -1,6 +1,6 @@
-//! The open attempts of an occurrence, with room for as many as may be open at once.
+//! The open attempts of an occurrence, and the room for as many as may be open at once.
 
-ghost use Rattle.std.specs.Prelude.{◌≡◌, ◌<◌, ◌&&◌, [], filter, length, map, not, vec_capacity, vec_len, IfOk};
+ghost use Rattle.std.specs.Prelude.{◌≡◌, ◌≤◌, ◌<◌, ◌&&◌, [], filter, length, map, not, vec_capacity, vec_len, IfOk};
 ghost use Rattle.std.specs.List.{list_any};
 ghost use Rattle.lcm_events.specs.Same.{same_tag};
 ghost use Rattle.occ_table.specs.Steps.{begun, ended, failed_by, has_failed_among, has_open_among, has_open_at, none_open};
@@ -8,6 +8,7 @@ ghost use Rattle.occ_table.specs.Steps.{begun, ended, failed_by, has_failed_amon
 use lcm_events::Tag;
 use std::alloc::{AllocError, Global};
 use std::marker::Model;
+use std::mem;
 
 /// Open attempts for which a row has room: the widest window.
 const ROOM: usize = 4;
@@ -37,21 +38,55 @@ impl Pending {
     }
 }
 
-/// Open attempts in the order in which they began. There is always room for 4.
+/// Room for the open attempts of an occurrence, which lies beside them while none is open.
+///
+/// A contract sees for how many attempts there is room.
+#[derive(Debug, Drop)]
+pub struct Room {
+    entries: Vec<Pending>,
+}
+
+impl Model for Room {
+    ghost use Rattle.std.specs.Prelude.{ℕ, vec_capacity};
+
+    ghost Value = { ℕ };
+
+    ghost view = { λ r. vec_capacity r.entries };
+}
+
+impl Room {
+    /// Room for 4 open attempts.
+    pub(crate) fn new(alloc: Global) -> Result<Self, AllocError>
+        ensures { IfOk result (λ room. 4 ≤ room) }
+    {
+        let entries = Vec::with_capacity(alloc, ROOM)?;
+        Ok(Room { entries })
+    }
+
+    /// Gives the memory back.
+    pub(crate) fn give_back(&mut self)
+        ensures { self.new ≡ 0 }
+    {
+        self.entries.clear();
+        self.entries.shrink_to_fit();
+    }
+}
+
+/// Open attempts in the order in which they began. Where one is open, there is room for 4; where none is, no memory is held.
 #[derive(Debug, Drop)]
 pub struct Pendings {
     entries: Vec<Pending>,
 }
 
 impl Model for Pendings {
-    ghost use Rattle.std.specs.Prelude.{List, ◌≤◌, vec_capacity};
+    ghost use Rattle.std.specs.Prelude.{List, ◌≡◌, ◌≤◌, ◌<◌, length, vec_capacity};
     ghost use Rattle.occ_table.specs.declared.pending.Pending.{Pending};
 
     ghost Value = { List Pending };
 
     ghost view = { λ p. p.entries.items };
 
-    ghost invariant = { λ p. 4 ≤ vec_capacity p.entries };
+    ghost invariant = { λ p. (0 < length p.entries.items → 4 ≤ vec_capacity p.entries) × (length p.entries.items ≡ 0 → vec_capacity p.entries ≡ 0) };
 }
 
 /// Marks the attempt whose call failed.
@@ -107,19 +142,44 @@ fn end_in(entries: &mut Vec<Pending>, tag: &Tag)
     entries.retain(|pending| !(pending.tag == *tag));
 }
 
+/// An attempt begins, where there is room for 4. Nothing happens where four are open.
+fn begin_in(entries: &mut Vec<Pending>, tag: Tag)
+    requires { 4 ≤ vec_capacity entries.old }
+    ensures items { entries.new.items ≡ begun tag entries.old.items }
+    ensures capacity { vec_capacity entries.new ≡ vec_capacity entries.old }
+{
+    if entries.len() < ROOM {
+        entries.push_reserved(Pending { tag, failed: false });
+    }
+}
+
+/// Swaps the memory of open attempts, none of which is open any more, with the room beside.
+fn swap_room(entries: &mut Vec<Pending>, room: &mut Vec<Pending>)
+    ensures none { entries.new.items ≡ [] }
+    ensures room { vec_capacity entries.new ≡ vec_capacity room.old }
+    ensures left { vec_capacity room.new ≡ vec_capacity entries.old }
+{
+    mem::swap(entries, room);
+    entries.clear();
+}
+
 impl Pendings {
-    /// No open attempt, and room for 4.
-    pub fn new(alloc: Global) -> Result<Self, AllocError>
-        ensures { IfOk result (λ p. p ≡ []) }
+    /// No open attempt, which takes no memory.
+    pub fn none(alloc: Global) -> Self
+        ensures { result ≡ [] }
     {
-        let entries = Vec::with_capacity(alloc, ROOM)?;
-        Ok(Pendings { entries })
+        Pendings {
+            entries: Vec::new(alloc),
+        }
     }
 
-    /// Equal open attempts, with room for 4 more.
+    /// Equal open attempts, with room for 4 more where one is open.
     pub fn copy(&self, alloc: Global) -> Result<Self, AllocError>
         ensures { IfOk result (λ p. p ≡ self.now) }
     {
+        if self.entries.is_empty() {
+            return Ok(Pendings::none(alloc));
+        }
         let mut entries = self.entries.as_slice().to_vec(alloc)?;
         entries.reserve(ROOM)?;
         Ok(Pendings { entries })
@@ -132,13 +192,15 @@ impl Pendings {
         self.entries.as_slice()
     }
 
-    /// An attempt begins. Nothing happens where four are open.
-    pub fn begin(&mut self, tag: Tag)
+    /// An attempt begins, the first in the room beside. Nothing happens where four are open.
+    pub(crate) fn begin(&mut self, tag: Tag, room: &mut Room)
+        requires { length self.old ≡ 0 → 4 ≤ room.old }
         ensures { self.new ≡ begun tag self.old }
     {
-        if self.entries.len() < ROOM {
-            self.entries.push_reserved(Pending { tag, failed: false });
+        if self.entries.is_empty() {
+            swap_room(&mut self.entries, &mut room.entries);
         }
+        begin_in(&mut self.entries, tag);
     }
 
     /// The call that was to begin an attempt has failed.
@@ -148,11 +210,19 @@ impl Pendings {
         fail_in(self.entries.as_mut_slice(), tag);
     }
 
-    /// An attempt ended.
-    pub fn end(&mut self, tag: &Tag)
-        ensures { self.new ≡ ended tag.now self.old }
+    /// An attempt ended. The last leaves its room beside.
+    pub(crate) fn end(&mut self, tag: &Tag, room: &mut Room)
+        ensures pending { self.new ≡ ended tag.now self.old }
+        ensures room { (length self.old ≡ 0 → 4 ≤ room.old) → length self.new ≡ 0 → 4 ≤ room.new }
     {
+        if self.entries.is_empty() {
+            return;
+        }
         end_in(&mut self.entries, tag);
+        if self.entries.is_empty() {
+            swap_room(&mut self.entries, &mut room.entries);
+            self.entries.shrink_to_fit();
+        }
     }
 
     /// Whether no attempt is open.

@@ -2,19 +2,20 @@
 
 ghost use Rattle.std.specs.Option.{option_map_or};
 ghost use Rattle.occ_table.specs.Phases.{is_clear, phase_at, shifted, tally_after};
+ghost use Rattle.lcm_model.specs.Moves.{is_final};
 ghost use Rattle.lcm_model.specs.Work.{net_after, net_before, works_in};
 ghost use Rattle.std.specs.Prelude.{◌≡◌, ◌&&◌, ◌↔◌, IfOk, IsTrue, None, Some, false, map, true, ◌==◌, ◌+◌, min, option_map, slice_get, slice_set};
 ghost use Rattle.lcm_model.specs.Words.{otherwise, when};
 ghost use Rattle.occ_table.specs.declared.causes.Cause.TheVariants as causes;
 ghost use Rattle.occ_table.specs.Ended.{stripped};
 ghost use Rattle.occ_table.specs.Resources.{deed_by, place_by};
-ghost use Rattle.occ_table.specs.Steps.{after_answer, after_cancel, after_move, forgotten, after_settled, after_told, after_trouble, begun, cause_among, described, failed_by, first_row, is_trouble_among, row_after, after_begun, nets_after, noted, after_granted, is_bringing, is_later, gives_up_row, has_stopped_row, is_asking_row, is_new_try_row, MayTake, MayBeginRow, counts_for, is_next, is_turn, is_quiet_row, may_move_from};
+ghost use Rattle.occ_table.specs.Steps.{HasRoomBeside, after_answer, after_cancel, after_move, forgotten, after_settled, after_told, after_trouble, begun, cause_among, described, failed_by, first_row, is_trouble_among, row_after, after_begun, nets_after, noted, after_granted, is_bringing, is_later, gives_up_row, has_stopped_row, is_asking_row, is_new_try_row, MayTake, MayBeginRow, counts_for, is_next, is_turn, is_quiet_row, may_move_from};
 
 use crate::asks::{PackedAsk, copied_line};
 use crate::causes::Cause;
 use crate::cells::Cells;
 use crate::names::PackedName;
-use crate::pending::Pendings;
+use crate::pending::{Pendings, Room};
 use crate::phases::{PHASES, are_clear, are_none, count_phases, shift};
 use crate::resources::Deed;
 use crate::used::{PackedUsed, Uses};
@@ -218,7 +219,6 @@ impl OccRow {
         let attempts = vec![in alloc; 0u32; changes.len()]?;
         let used = Uses::none(alloc, changes.len())?;
         let waiting = count_phases(changes.as_slice());
-        let pending = Pendings::new(alloc)?;
         Ok(OccRow {
             instance: operation.instance,
             vnfd: PackedName::none(alloc),
@@ -239,7 +239,7 @@ impl OccRow {
             cancel: None,
             trouble: false,
             cause: None,
-            pending,
+            pending: Pendings::none(alloc),
             grant: None,
         })
     }
@@ -338,10 +338,13 @@ impl OccRow {
         }
     }
 
-    /// The occurrence moved to a state at this moment. In a final one its row forgets what no view shows.
+    /// The occurrence moved to a state at this moment. In a final one its row forgets what no view shows, and nothing happens from then on.
     fn move_to(&mut self, moment: Moment, to: OpState)
         ensures { self.new ≡ after_move moment to self.old }
     {
+        if ends(self.state) {
+            return;
+        }
         self.state = to;
         self.entered = moment;
         self.cancel = None;
@@ -420,22 +423,28 @@ impl OccRow {
     }
 
     /// An attempt ended.
-    fn settle(&mut self, tag: &Tag, outcome: &Outcome)
-        ensures { self.new ≡ after_settled tag.now outcome.now self.old }
+    fn settle(&mut self, tag: &Tag, outcome: &Outcome, room: &mut Room)
+        ensures row { self.new ≡ after_settled tag.now outcome.now self.old }
+        ensures room { HasRoomBeside self.old room.old → HasRoomBeside self.new room.new }
     {
         let trouble = self.is_trouble(tag, outcome);
         let cause = self.cause_of(tag, outcome);
         self.trouble = trouble || self.trouble;
         self.give_cause(cause);
-        self.pending.end(tag);
+        self.pending.end(tag, room);
         self.record_outcome(tag, outcome);
     }
 
-    /// An attempt begins.
-    fn begin(&mut self, tag: Tag)
-        ensures { self.new ≡ after_begun tag self.old }
+    /// An attempt begins. Nothing happens where the occurrence is over.
+    fn begin(&mut self, tag: Tag, room: &mut Room)
+        requires { HasRoomBeside self.old room.old }
+        ensures row { self.new ≡ after_begun tag self.old }
+        ensures room { HasRoomBeside self.new room.new }
     {
-        self.pending.begin(tag);
+        if ends(self.state) {
+            return;
+        }
+        self.pending.begin(tag, room);
         self.attempts.set(tag.change as usize, tag.attempt);
     }
 
@@ -468,20 +477,26 @@ impl OccRow {
         self.location = Some(location);
     }
 
-    /// An event of this moment about the occurrence came, for which nothing is laid aside.
-    pub fn follow(&mut self, moment: Moment, kind: &EventKind)
-        requires { is_bringing kind.now ≡ false }
-        ensures { self.new ≡ row_after moment None kind.now self.old }
+    /// An event of this moment about the occurrence came, for which nothing is laid aside but the room for its open attempts.
+    pub(crate) fn follow(&mut self, moment: Moment, kind: &EventKind, room: &mut Room)
+        requires nothing_brought { is_bringing kind.now ≡ false }
+        requires room { HasRoomBeside self.old room.old }
+        ensures row { self.new ≡ row_after moment None kind.now self.old }
+        ensures room { HasRoomBeside self.new room.new }
+        ensures given_back { is_final self.new.state ≡ true → room.new ≡ 0 }
     {
         match kind {
             EventKind::GrantTried { answer, .. } => self.record_answer(answer),
             EventKind::Denied { .. } => self.end_exchange(Cause::Denied),
-            EventKind::Intent(tag) => self.begin(*tag),
+            EventKind::Intent(tag) => self.begin(*tag, room),
             EventKind::CallFailed(tag) => self.fail_call(tag),
-            EventKind::Settled { tag, outcome } => self.settle(tag, outcome),
+            EventKind::Settled { tag, outcome } => self.settle(tag, outcome, room),
             EventKind::Moved { to, .. } => self.move_to(moment, *to),
             EventKind::CancelAsked { mode, .. } => self.record_cancel(*mode),
             _ => {}
+        }
+        if ends(self.state) {
+            room.give_back();
         }
     }
 

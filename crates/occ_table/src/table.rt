@@ -20,9 +20,12 @@ use crate::ongoing::{instance_of, move_ongoing, ongoing_at, set_ongoing};
 use crate::resources::{Deed, Resources};
 use crate::rooms::Rooms;
 use crate::rows::{Grant, OccRow};
+use crate::slots::Slot;
 use crate::used::{PackedUsed, Used};
 use crate::vnfds::Vnfds;
-use lcm_events::{Def, Event, EventKind, GrantTry, Listed, OpState, Operation, Outcome, Place, Tag};
+use lcm_events::{
+    Def, Event, EventKind, GrantTry, Listed, OpState, Operation, Outcome, Place, Tag,
+};
 use std::alloc::{AllocError, Global};
 use std::marker::Model;
 use vnfm_base::{Line, Moment, Name};
@@ -34,12 +37,12 @@ use vnfm_base::{Line, Moment, Name};
 /// Each row has a place among the active numbers, so that a move needs no memory.
 #[derive(Debug)]
 pub struct OccTable {
-    rows: Vec<OccRow>,
+    rows: Vec<Slot>,
     active: Vec<u64>,
     ongoing: Vec<Option<u64>>,
     vnfds: Vnfds,
     resources: Resources,
-    row: Option<OccRow>,
+    row: Option<Slot>,
     grant: Option<Grant>,
     location: Option<Line>,
     names: Rooms,
@@ -91,7 +94,7 @@ fn occurrence_in(kind: &EventKind) -> Option<u64>
 }
 
 /// Lets the row at this place follow an event of this moment. Nothing happens beyond the end.
-fn follow_at(rows: &mut Vec<OccRow>, at: usize, moment: Moment, kind: &EventKind)
+fn follow_at(rows: &mut Vec<Slot>, at: usize, moment: Moment, kind: &EventKind)
     requires { is_bringing kind.now ≡ false }
     ensures items { rows.new.items ≡ update (row_after moment None kind.now) at rows.old.items }
     ensures length { vec_len rows.new ≡ vec_len rows.old }
@@ -104,7 +107,7 @@ fn follow_at(rows: &mut Vec<OccRow>, at: usize, moment: Moment, kind: &EventKind
 }
 
 /// Gives the row at this place its grant. Nothing happens beyond the end.
-fn grant_at(rows: &mut Vec<OccRow>, at: usize, grant: Grant)
+fn grant_at(rows: &mut Vec<Slot>, at: usize, grant: Grant)
     ensures items { rows.new.items ≡ update (after_granted grant) at rows.old.items }
     ensures length { vec_len rows.new ≡ vec_len rows.old }
 {
@@ -115,7 +118,7 @@ fn grant_at(rows: &mut Vec<OccRow>, at: usize, grant: Grant)
 }
 
 /// Tells the row at this place where its grant will be. Nothing happens beyond the end.
-fn tell_at(rows: &mut Vec<OccRow>, at: usize, location: Line)
+fn tell_at(rows: &mut Vec<Slot>, at: usize, location: Line)
     ensures items { rows.new.items ≡ update (after_told location) at rows.old.items }
     ensures length { vec_len rows.new ≡ vec_len rows.old }
 {
@@ -126,7 +129,7 @@ fn tell_at(rows: &mut Vec<OccRow>, at: usize, location: Line)
 }
 
 /// Notes in the row at this place what its change of this number used. Nothing happens beyond the end.
-fn note_at(rows: &mut Vec<OccRow>, at: usize, change: u16, used: PackedUsed)
+fn note_at(rows: &mut Vec<Slot>, at: usize, change: u16, used: PackedUsed)
     ensures items { rows.new.items ≡ update (noted change (Some used)) at rows.old.items }
     ensures length { vec_len rows.new ≡ vec_len rows.old }
 {
@@ -137,17 +140,20 @@ fn note_at(rows: &mut Vec<OccRow>, at: usize, change: u16, used: PackedUsed)
 }
 
 /// The row of the occurrence of this number, where there is one.
-fn row_of(rows: &[OccRow], occ: u64) -> Option<&OccRow>
+fn row_of(rows: &[Slot], occ: u64) -> Option<&OccRow>
     ensures { option_copied result ≡ numbered occ rows.now }
 {
     if occ == 0 {
         return None;
     }
-    rows.get((occ - 1) as usize)
+    match rows.get((occ - 1) as usize) {
+        Some(slot) => Some(slot.row()),
+        None => None,
+    }
 }
 
 /// The row with the descriptor of its instance, in room that is laid aside: no memory is taken.
-fn described(row: OccRow, names: &mut Rooms, vnfd: &Name) -> OccRow
+fn described(row: Slot, names: &mut Rooms, vnfd: &Name) -> Slot
     requires { 765 ≤ names.old }
     ensures { result ≡ described vnfd.now row }
 {
@@ -160,7 +166,7 @@ fn described(row: OccRow, names: &mut Rooms, vnfd: &Name) -> OccRow
 }
 
 /// What an attempt did that was done with this name, by the row of its occurrence.
-fn deed_of(rows: &[OccRow], tag: &Tag, resource: Name) -> Option<Deed>
+fn deed_of(rows: &[Slot], tag: &Tag, resource: Name) -> Option<Deed>
     ensures { result ≡ deed_of tag.now (Done resource) rows.now }
 {
     match row_of(rows, tag.occ) {
@@ -217,7 +223,7 @@ impl OccTable {
         self.rows.reserve(1)?;
         let rows = self.rows.len() + 1;
         reserve_places(&mut self.active, rows)?;
-        let row = OccRow::first(alloc, moment, operation)?;
+        let row = Slot::first(alloc, moment, operation)?;
         self.row = Some(row);
         Ok(())
     }
@@ -540,7 +546,10 @@ impl OccTable {
     fn row_at(&self, at: u64) -> Option<&OccRow>
         ensures { option_copied result ≡ slice_get self.now.rows at }
     {
-        self.rows.get(at as usize)
+        match self.rows.get(at as usize) {
+            Some(slot) => Some(slot.row()),
+            None => None,
+        }
     }
 
     /// The row of the occurrence of this number; none exactly where there is no occurrence of that number at all.
