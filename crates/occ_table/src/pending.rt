@@ -42,11 +42,11 @@ impl Pending {
 ///
 /// A contract sees for how many attempts there is room.
 #[derive(Debug, Drop)]
-pub struct Room {
+pub struct AttemptRoom {
     entries: Vec<Pending>,
 }
 
-impl Model for Room {
+impl Model for AttemptRoom {
     ghost use Rattle.std.specs.Prelude.{ℕ, vec_capacity};
 
     ghost Value = { ℕ };
@@ -54,13 +54,13 @@ impl Model for Room {
     ghost view = { λ r. vec_capacity r.entries };
 }
 
-impl Room {
+impl AttemptRoom {
     /// Room for 4 open attempts.
     pub(crate) fn new(alloc: Global) -> Result<Self, AllocError>
         ensures { IfOk result (λ room. 4 ≤ room) }
     {
         let entries = Vec::with_capacity(alloc, ROOM)?;
-        Ok(Room { entries })
+        Ok(AttemptRoom { entries })
     }
 
     /// Gives the memory back.
@@ -193,7 +193,7 @@ impl Pendings {
     }
 
     /// An attempt begins, the first in the room beside. Nothing happens where four are open.
-    pub(crate) fn begin(&mut self, tag: Tag, room: &mut Room)
+    pub(crate) fn begin(&mut self, tag: Tag, room: &mut AttemptRoom)
         requires { length self.old ≡ 0 → 4 ≤ room.old }
         ensures { self.new ≡ begun tag self.old }
     {
@@ -211,7 +211,7 @@ impl Pendings {
     }
 
     /// An attempt ended. The last leaves its room beside.
-    pub(crate) fn end(&mut self, tag: &Tag, room: &mut Room)
+    pub(crate) fn end(&mut self, tag: &Tag, room: &mut AttemptRoom)
         ensures pending { self.new ≡ ended tag.now self.old }
         ensures room { (length self.old ≡ 0 → 4 ≤ room.old) → length self.new ≡ 0 → 4 ≤ room.new }
     {

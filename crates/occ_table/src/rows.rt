@@ -15,7 +15,7 @@ use crate::asks::{PackedAsk, copied_line};
 use crate::causes::Cause;
 use crate::cells::Cells;
 use crate::names::PackedName;
-use crate::pending::{Pendings, Room};
+use crate::pending::{AttemptRoom, Pendings};
 use crate::phases::{PHASES, are_clear, are_none, count_phases, shift};
 use crate::resources::Deed;
 use crate::used::{PackedUsed, Uses};
@@ -423,7 +423,7 @@ impl OccRow {
     }
 
     /// An attempt ended.
-    fn settle(&mut self, tag: &Tag, outcome: &Outcome, room: &mut Room)
+    fn settle(&mut self, tag: &Tag, outcome: &Outcome, room: &mut AttemptRoom)
         ensures row { self.new ≡ after_settled tag.now outcome.now self.old }
         ensures room { HasRoomBeside self.old room.old → HasRoomBeside self.new room.new }
     {
@@ -436,7 +436,7 @@ impl OccRow {
     }
 
     /// An attempt begins. Nothing happens where the occurrence is over.
-    fn begin(&mut self, tag: Tag, room: &mut Room)
+    fn begin(&mut self, tag: Tag, room: &mut AttemptRoom)
         requires { HasRoomBeside self.old room.old }
         ensures row { self.new ≡ after_begun tag self.old }
         ensures room { HasRoomBeside self.new room.new }
@@ -478,7 +478,7 @@ impl OccRow {
     }
 
     /// An event of this moment about the occurrence came, for which nothing is laid aside but the room for its open attempts.
-    pub(crate) fn follow(&mut self, moment: Moment, kind: &EventKind, room: &mut Room)
+    pub(crate) fn follow(&mut self, moment: Moment, kind: &EventKind, room: &mut AttemptRoom)
         requires nothing_brought { is_bringing kind.now ≡ false }
         requires room { HasRoomBeside self.old room.old }
         ensures row { self.new ≡ row_after moment None kind.now self.old }

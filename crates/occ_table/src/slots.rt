@@ -4,7 +4,7 @@ ghost use Rattle.std.specs.Prelude.{◌≡◌, false, IfOk, None, Some};
 ghost use Rattle.occ_table.specs.Steps.{after_granted, after_told, described, first_row, is_bringing, noted, row_after};
 
 use crate::names::PackedName;
-use crate::pending::Room;
+use crate::pending::AttemptRoom;
 use crate::rows::{Grant, OccRow};
 use crate::used::PackedUsed;
 use lcm_events::{EventKind, Operation};
@@ -18,7 +18,7 @@ use vnfm_base::{Line, Moment};
 #[derive(Debug, Drop)]
 pub struct Slot {
     row: OccRow,
-    room: Room,
+    room: AttemptRoom,
 }
 
 impl Model for Slot {
@@ -40,7 +40,7 @@ impl Slot {
         ensures { IfOk result (λ s. s ≡ first_row moment operation.now) }
     {
         let row = OccRow::first(alloc, moment, operation)?;
-        let room = Room::new(alloc)?;
+        let room = AttemptRoom::new(alloc)?;
         Ok(Slot { row, room })
     }
 

@@ -34,7 +34,8 @@ use vnfm_base::{Line, Moment, Name};
 ///
 /// A contract sees its rows, which occurrences are active, which operation of each instance goes on, which resource each definition has that
 /// was ever made, and what is reserved for an event.
-/// Each row has a place among the active numbers, so that a move needs no memory.
+/// Each row has a place among the active numbers, so that a move needs no memory, and until its occurrence is over room for four open attempts,
+/// so that an attempt needs none to begin.
 #[derive(Debug)]
 pub struct OccTable {
     rows: Vec<Slot>,
