@@ -339,7 +339,9 @@ impl OccRow {
     }
 
     /// The occurrence moved to a state at this moment. In a final one its row forgets what no view shows, and nothing happens from then on.
-    fn move_to(&mut self, moment: Moment, to: OpState)
+    ///
+    /// Source: SOL 003 5.6.2 (States and state transitions of a VNF LCM operation occurrence).
+    pub fn move_to(&mut self, moment: Moment, to: OpState)
         ensures { self.new ≡ after_move moment to self.old }
     {
         if ends(self.state) {
