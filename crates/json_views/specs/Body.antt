@@ -1,7 +1,9 @@
 -- What a request body says. A body is a JSON object; a member that is null is as if absent, and members that aren't asked
 -- for are passed over (SOL 003 5.5.2; RFC 8259).
-use Rattle.std.specs.Prelude.{◌≡◌, ℕ, List, length, nat_le, codes, if◌then◌else◌, Option, Some, None, option_and_then, Result, Ok, Err, is_some}
-use Rattle.std.specs.Str.{is_utf8}
+use Rattle.std.specs.Prelude.{◌≡◌, ℕ, List, [], ◌∷◌, find, length, nat_le, codes, if◌then◌else◌, Option, Some, None, option_and_then, Result, Ok, Err, is_some}
+use Rattle.std.specs.Str.{bytes_eq, is_utf8}
+use Rattle.lcm_events.specs.declared.states.CancelMode.{CancelMode}
+use Rattle.lcm_events.specs.declared.states.CancelMode.TheVariants.{Forceful, Graceful}
 use Rattle.serde_json.specs.Data.{Data}
 use Rattle.serde_json.specs.Find.{get, as_str, as_object, as_null}
 use Rattle.serde_json.specs.Read.{read}
@@ -10,6 +12,7 @@ use Rattle.json_views.specs.declared.body.BodyFault.{BodyFault}
 use Rattle.json_views.specs.declared.body.BodyFault.TheVariants.{Malformed, Lacks, Wrong, Memory}
 use Rattle.json_views.specs.declared.body.CreateBody.{CreateBody}
 use Rattle.json_views.specs.declared.tasks.InstantiateBody.{InstantiateBody}
+use Rattle.json_views.specs.Words.{cancel_word}
 
 -- the value is there, where an object is asked for (RFC 8259 4)
 abbrev pub only_object : Data → Option Data
@@ -39,6 +42,10 @@ some_name_text text = if nat_le 1 (length text) then name_text text else None
 abbrev pub line_text : List ℕ → Option (List ℕ)
 line_text text = if is_short_text 2048 text then Some text else None
 
+-- the way to cancel that the text is the word of (SOL 003 5.5.4, CancelModeType)
+abbrev pub cancel_mode_text : List ℕ → Option CancelMode
+cancel_mode_text text = find (λ mode. bytes_eq text (cancel_word mode)) (Graceful ∷ Forceful ∷ [])
+
 -- the forms of a value: what it says, where it has the form (own rule)
 abbrev pub name_in : Data → Option (List ℕ)
 name_in d = option_and_then name_text (as_str d)
@@ -48,6 +55,9 @@ some_name_in d = option_and_then some_name_text (as_str d)
 
 abbrev pub line_in : Data → Option (List ℕ)
 line_in d = option_and_then line_text (as_str d)
+
+abbrev pub cancel_mode_in : Data → Option CancelMode
+cancel_mode_in d = option_and_then cancel_mode_text (as_str d)
 
 -- a member that is needed: what its value says by its form; missing, or of another form (own rule)
 abbrev pub needed_value : {A : Type 0} → List ℕ → Option A → Result A BodyFault
@@ -108,6 +118,13 @@ instantiate_in d =
 
 abbrev pub instantiate_of : List ℕ → Result InstantiateBody BodyFault
 instantiate_of bytes = object_read instantiate_in (document bytes)
+
+-- a cancel request's body: its one member, where it isn't missing or wrong (SOL 003 5.5.2.14 CancelMode)
+abbrev pub cancel_in : Data → Result CancelMode BodyFault
+cancel_in d = needed cancel_mode_in (codes "cancelMode") d
+
+abbrev pub cancel_of : List ℕ → Result CancelMode BodyFault
+cancel_of bytes = object_read cancel_in (document bytes)
 
 -- the answer is what is expected, unless there was no memory for it
 abbrev pub Gives : {A : Type 0} → Result A BodyFault → Result A BodyFault → Type 0

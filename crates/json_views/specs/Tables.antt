@@ -3,7 +3,7 @@
 use Rattle.std.specs.Prelude.{◌≡◌, Bool, true, false, List, [], ◌∷◌, ℕ, codes, if◌then◌else◌, is_some, map, Option, Some, None, Result, Ok, Err}
 use Rattle.serde_json.specs.Data.{Data}
 use Rattle.lcm_model.specs.Words.{first_some}
-use Rattle.json_views.specs.Body.{line_in, member_of, name_in, some_name_in}
+use Rattle.json_views.specs.Body.{cancel_mode_in, line_in, member_of, name_in, some_name_in}
 use Rattle.json_views.specs.declared.body.BodyFault.{BodyFault}
 use Rattle.json_views.specs.declared.body.BodyFault.TheVariants.{Lacks, Wrong}
 
@@ -51,6 +51,10 @@ instantiate_table =
     needed_row some_name_in (codes "flavourId")
     ∷ optional_row name_in (codes "instantiationLevelId")
     ∷ []
+
+-- the table of a cancel request's body (SOL 003 5.5.2.14, CancelMode)
+abbrev pub cancel_table : List Row
+cancel_table = needed_row cancel_mode_in (codes "cancelMode") ∷ []
 
 -- an object is refused as a body for the first member of its table that is missing or wrong, and for nothing else
 abbrev pub RefusesFirstFault : {A : Type 0} → (Data → Result A BodyFault) → List Row → Type 0

@@ -2,9 +2,10 @@
 ghost use Rattle.std.specs.Prelude.{◌≡◌, IfErr, IfOk, IsOk, IsSome, false, option_map, true};
 ghost use Rattle.serde_json.specs.View.{view};
 ghost use Rattle.vnfm_base.specs.Text.{is_label};
-ghost use Rattle.json_views.specs.Body.{Gives, line_in, line_text, member_of, name_in, name_text, needed, needed_value, optional, some_name_in, some_name_text};
+ghost use Rattle.json_views.specs.Body.{Gives, cancel_mode_in, cancel_mode_text, line_in, line_text, member_of, name_in, name_text, needed, needed_value, optional, some_name_in, some_name_text};
 
 use crate::body::BodyFault;
+use lcm_events::CancelMode;
 use serde_json::Value;
 use std::alloc::{AllocError, Global};
 use vnfm_base::{Line, LineFault, Name};
@@ -152,6 +153,19 @@ impl Form<Line> for AnyLine {
     }
 }
 
+/// A way to cancel, by its word.
+pub struct AnyCancelMode {}
+
+impl Form<CancelMode> for AnyCancelMode {
+    ghost says = { λ f d. cancel_mode_in d };
+
+    ghost asks_memory = { λ f. false };
+
+    fn read(&self, _alloc: Global, value: &Value) -> Result<Option<CancelMode>, AllocError> {
+        Ok(value.as_str().and_then(|text| cancel_mode_from(text)))
+    }
+}
+
 fn name_from(bytes: &[u8]) -> Option<Name>
     ensures { result ≡ name_text bytes.now }
 {
@@ -176,5 +190,15 @@ fn line_from(alloc: Global, bytes: &[u8]) -> Result<Option<Line>, AllocError>
         Ok(line) => Ok(Some(line)),
         Err(LineFault::NotLine) => Ok(None),
         Err(LineFault::Memory) => Err(AllocError),
+    }
+}
+
+fn cancel_mode_from(text: &str) -> Option<CancelMode>
+    ensures { result ≡ cancel_mode_text text.now }
+{
+    match text {
+        "GRACEFUL" => Some(CancelMode::Graceful),
+        "FORCEFUL" => Some(CancelMode::Forceful),
+        _ => None,
     }
 }

@@ -30,4 +30,5 @@ pub use laws::{
 pub use occurrence::{occurrence_id, occurrence_path, occurrence_view};
 pub use occurrences::{MAX_LISTED, occurrences_view};
 pub use problem::problem_view;
-pub use tasks::{InstantiateBody, read_instantiate};
+pub use tasks::{InstantiateBody, read_cancel, read_instantiate};
+pub use words::state_word;

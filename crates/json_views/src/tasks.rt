@@ -1,10 +1,11 @@
-//! The bodies of the tasks of an instance.
+//! The bodies of the tasks of an instance, and of those of an occurrence.
 ghost use Rattle.std.specs.Prelude.{◌≡◌, IsOk};
 ghost use Rattle.serde_json.specs.View.{view};
-ghost use Rattle.json_views.specs.Body.{Gives, instantiate_in, instantiate_of};
+ghost use Rattle.json_views.specs.Body.{Gives, cancel_in, cancel_of, instantiate_in, instantiate_of};
 
 use crate::body::{BodyFault, object};
-use crate::forms::{AnyName, SomeName, needed, optional};
+use crate::forms::{AnyCancelMode, AnyName, SomeName, needed, optional};
+use lcm_events::CancelMode;
 use serde_json::Value;
 use std::alloc::Global;
 use vnfm_base::Name;
@@ -39,4 +40,23 @@ fn instantiate_body(alloc: Global, value: &Value) -> Result<InstantiateBody, Bod
     let flavour = needed(alloc, value, "flavourId", &SomeName {})?;
     let level = optional(alloc, value, "instantiationLevelId", &AnyName {})?;
     Ok(InstantiateBody { flavour, level })
+}
+
+/// Reads the body of a cancel request.
+///
+/// Refusals: `Malformed` exactly where the bytes are no JSON object; `Lacks` and `Wrong` for `cancelMode`, which is GRACEFUL or FORCEFUL;
+/// `Memory`, where there was none to read the bytes as JSON.
+/// Source: SOL 003 5.5.2.14 (CancelMode), 5.4.17 (Cancel operation task).
+pub fn read_cancel(alloc: Global, bytes: &[u8]) -> Result<CancelMode, BodyFault>
+    ensures { Gives result (cancel_of bytes.now) }
+{
+    let value = object(alloc, bytes)?;
+    cancel_body(alloc, &value)
+}
+
+fn cancel_body(alloc: Global, value: &Value) -> Result<CancelMode, BodyFault>
+    ensures gives { Gives result (cancel_in (view value.now)) }
+    ensures memory { result ≡ Err BodyFault.Memory → IsOk (cancel_in (view value.now)) }
+{
+    needed(alloc, value, "cancelMode", &AnyCancelMode {})
 }
