@@ -6,4 +6,5 @@ mod OccurrenceLemmas
 mod StepLemmas
 mod StepsLemmas
 pub mod TalkLemmas
+mod TaskLemmas
 pub mod TellLemmas

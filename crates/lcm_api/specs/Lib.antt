@@ -18,5 +18,6 @@ pub mod Routes
 pub mod Session
 pub mod Step
 pub mod Talking
+pub mod Tasks
 pub mod Telling
 pub mod Waiting

@@ -1,5 +1,5 @@
--- What a request to list or show occurrences or for a task of one comes to (SOL 003 5.4.12.3.2, 5.4.13.3.2, 5.4.14 to 5.4.17).
--- The order of the refusals and their texts are an own rule.
+-- What a request to list or show occurrences comes to (SOL 003 5.4.12.3.2, 5.4.13.3.2). The order of the refusals and their texts are an
+-- own rule.
 use Rattle.std.specs.Prelude.{ℕ, List, codes, if◌then◌else◌, Bool, Option, Some, None, find}
 use Rattle.std.specs.Str.{bytes_eq}
 use Rattle.http_wire.specs.declared.request.Request.{Request}
@@ -46,11 +46,3 @@ show_asked m H last (Some a) = show_row m H last a.occ (row H a)
 
 abbrev pub show_occurrence : ℕ → List Event → Request → Outcome
 show_occurrence m H r = show_asked m H r.last (named_operation m H (asked_id r))
-
--- a task of an occurrence, none of which is served yet: its body isn't read (own rule)
-abbrev pub task_asked : Bool → Option Operation → Outcome
-task_asked last None = no_occurrence last
-task_asked last (Some a) = refused 404 (codes "task is not supported") last
-
-abbrev pub occurrence_task : ℕ → List Event → Request → Outcome
-occurrence_task m H r = task_asked r.last (named_operation m H (asked_id r))

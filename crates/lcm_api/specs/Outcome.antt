@@ -6,9 +6,10 @@ use Rattle.lcm_events.specs.declared.states.Role.{Role}
 use Rattle.lcm_api.specs.Creating.{create_instance}
 use Rattle.lcm_api.specs.Instances.{delete_instance, instance_task, list_instances, show_instance}
 use Rattle.lcm_api.specs.Instantiating.{instantiate}
-use Rattle.lcm_api.specs.Occurrences.{list_occurrences, occurrence_task, show_occurrence}
+use Rattle.lcm_api.specs.Occurrences.{list_occurrences, show_occurrence}
 use Rattle.lcm_api.specs.Replies.{Outcome, refused, told}
 use Rattle.lcm_api.specs.Routes.{not_allowed, routing}
+use Rattle.lcm_api.specs.Tasks.{occurrence_task}
 use Rattle.lcm_api.specs.declared.route.Route.{Route}
 use Rattle.lcm_api.specs.declared.route.Route.TheVariants.{ListInstances, CreateInstance, ShowInstance, DeleteInstance, Instantiate, InstanceTask, ListOccurrences, ShowOccurrence, OccurrenceTask}
 use Rattle.lcm_api.specs.declared.route.Routing.{Routing}
@@ -24,7 +25,7 @@ served Instantiate m H now role r = instantiate m H now role r
 served InstanceTask m H now role r = instance_task m H r
 served ListOccurrences m H now role r = list_occurrences m H r
 served ShowOccurrence m H now role r = show_occurrence m H r
-served OccurrenceTask m H now role r = occurrence_task m H r
+served (OccurrenceTask task) m H now role r = occurrence_task m H now task r
 
 -- what a request that goes there comes to
 abbrev pub routed : Routing → ℕ → List Event → ℕ → Role → Request → Outcome

@@ -31,7 +31,7 @@ methods (InstanceTask kinds.Instantiate) = by (codes "POST") routes.Instantiate 
 methods (InstanceTask kind) = by (codes "POST") routes.InstanceTask ∷ []
 methods Occurrences = by (codes "GET") routes.ListOccurrences ∷ []
 methods Occurrence = by (codes "GET") routes.ShowOccurrence ∷ []
-methods (OccurrenceTask task) = by (codes "POST") routes.OccurrenceTask ∷ []
+methods (OccurrenceTask task) = by (codes "POST") (routes.OccurrenceTask task) ∷ []
 methods _ = []
 
 -- where a request with this method to a resource with these methods goes: a resource without a method isn't served yet

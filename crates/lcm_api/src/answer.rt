@@ -11,7 +11,7 @@ use crate::create::create;
 use crate::instantiate::instantiate;
 use crate::reply::{Reply, refusal};
 use crate::route::{Route, Routing, not_allowed, route_of};
-use crate::{instances, occurrences};
+use crate::{instances, occurrences, tasks};
 use executor::{Manager, works_add_up};
 use http_wire::Request;
 use lcm_events::Role;
@@ -68,7 +68,9 @@ pub fn answer<S: Site>(
         Routing::Served(Route::InstanceTask) => Ok(instances::task(alloc, manager, request)?),
         Routing::Served(Route::ListOccurrences) => Ok(occurrences::list(alloc, manager, request)?),
         Routing::Served(Route::ShowOccurrence) => Ok(occurrences::show(alloc, manager, request)?),
-        Routing::Served(Route::OccurrenceTask) => Ok(occurrences::task(alloc, manager, request)?),
+        Routing::Served(Route::OccurrenceTask(task)) => {
+            tasks::task(alloc, manager, site, task, request, now)
+        }
     }
 }
 

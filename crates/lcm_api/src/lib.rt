@@ -17,6 +17,7 @@ mod record;
 mod reply;
 mod route;
 mod session;
+mod tasks;
 mod tell;
 
 pub use answer::ApiFault;

@@ -1,10 +1,10 @@
-//! Listing and showing occurrences, and tasks of an occurrence, which aren't served yet.
+//! Listing and showing occurrences.
 ghost use Rattle.std.specs.Prelude.{◌≡◌, List, IfOk, false, option_and_then};
 ghost use Rattle.lcm_events.specs.declared.events.Event.{Event};
 ghost use Rattle.executor.specs.Managed.{Keeps};
 ghost use Rattle.instance_table.specs.Rows.{rows};
 ghost use Rattle.json_views.specs.Occurrences.{IsOccurrenceShowable};
-ghost use Rattle.lcm_api.specs.Occurrences.{list_occurrences, named_operation, no_occurrence, occurrence_task, show_asked, show_occurrence, show_row, task_asked};
+ghost use Rattle.lcm_api.specs.Occurrences.{list_occurrences, named_operation, no_occurrence, show_asked, show_occurrence, show_row};
 ghost use Rattle.lcm_api.specs.Replies.{told};
 ghost use Rattle.lcm_model.specs.Operations.{operation};
 
@@ -62,25 +62,8 @@ pub fn show<S: Site>(
     }
 }
 
-/// Refuses a task of an occurrence, none of which is served yet. Its body isn't read.
-///
-/// Source: SOL 003 5.4.14 to 5.4.17; the refusal is an own rule.
-pub fn task<S: Site>(
-    alloc: Global,
-    manager: &Manager<S>,
-    request: &Request,
-) -> Result<Reply, AllocError>
-    requires usable { manager.now.ledger.closed ≡ false }
-    ensures { (H : List Event) → Keeps manager.now H → IfOk result (λ reply. occurrence_task manager.now.ledger.manager H request.now ≡ told reply) }
-{
-    match named_number(manager, asked_id(request)) {
-        Some(n) => refuse_task(alloc, manager, n, request.last),
-        None => no_occurrence(alloc, request.last),
-    }
-}
-
 /// The number of the occurrence that has this identifier, where there is one of that number; none where the identifier is no occurrence's.
-fn named_number<S: Site>(manager: &Manager<S>, id: &str) -> Option<u64>
+pub fn named_number<S: Site>(manager: &Manager<S>, id: &str) -> Option<u64>
     requires usable { manager.now.ledger.closed ≡ false }
     ensures { (H : List Event) → Keeps manager.now H → named_operation manager.now.ledger.manager H id.now ≡ option_and_then (operation H) result }
 {
@@ -108,7 +91,7 @@ fn show_number<S: Site>(
 }
 
 /// Shows the occurrence of this number, of this row.
-fn show_row<S: Site>(
+pub fn show_row<S: Site>(
     alloc: Global,
     manager: &Manager<S>,
     n: u64,
@@ -126,24 +109,8 @@ fn show_row<S: Site>(
     Ok(shown(body, last))
 }
 
-/// Refuses a task of the occurrence of this number, where there is one.
-fn refuse_task<S: Site>(
-    alloc: Global,
-    manager: &Manager<S>,
-    n: u64,
-    last: bool,
-) -> Result<Reply, AllocError>
-    requires usable { manager.now.ledger.closed ≡ false }
-    ensures { (H : List Event) → Keeps manager.now H → IfOk result (λ reply. task_asked last (operation H n) ≡ told reply) }
-{
-    match manager.occurrences().occurrence(n) {
-        Some(_) => refusal(alloc, 404, "task is not supported", last),
-        None => no_occurrence(alloc, last),
-    }
-}
-
 /// The refusal where no occurrence has the identifier.
-fn no_occurrence(alloc: Global, last: bool) -> Result<Reply, AllocError>
+pub fn no_occurrence(alloc: Global, last: bool) -> Result<Reply, AllocError>
     ensures { IfOk result (λ reply. no_occurrence last ≡ told reply) }
 {
     refusal(alloc, 404, "no such occurrence", last)

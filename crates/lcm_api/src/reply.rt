@@ -1,5 +1,5 @@
 //! A reply, and those that no route has for its own.
-ghost use Rattle.std.specs.Prelude.{◌≡◌, IfOk};
+ghost use Rattle.std.specs.Prelude.{◌≡◌, ◌++◌, IfOk};
 ghost use Rattle.lcm_api.specs.Refusals.{refusal_status, refusal_text};
 ghost use Rattle.lcm_api.specs.Replies.{bare, malformed, refusal, shown, too_large};
 
@@ -41,6 +41,21 @@ pub fn refusal(alloc: Global, status: u16, detail: &str, last: bool) -> Result<R
         body,
         last,
     })
+}
+
+/// A refusal with this status, whose detail says this of this word, and whether the connection ends with it.
+pub fn refusal_about(
+    alloc: Global,
+    status: u16,
+    what: &str,
+    word: &str,
+    last: bool,
+) -> Result<Reply, AllocError>
+    ensures { IfOk result (λ reply. reply ≡ refusal status (what.now ++ word.now) last) }
+{
+    let mut detail = String::from_str(alloc, what)?;
+    detail.push_str(word)?;
+    refusal(alloc, status, detail.as_str(), last)
 }
 
 /// The refusal for what the model refuses, and whether the connection ends with it.

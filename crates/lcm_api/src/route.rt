@@ -6,7 +6,7 @@ ghost use Rattle.vnfm_base.specs.Text.{is_label};
 use crate::reply::Reply;
 use http_wire::Request;
 use json_views::problem_view;
-use lcm_events::OpKind;
+use lcm_events::{OpKind, Task};
 use lcm_routes::{Resource, Routes, path_of};
 use std::alloc::{AllocError, Global};
 use vnfm_base::Name;
@@ -32,8 +32,8 @@ pub enum Route {
     ListOccurrences,
     /// It shows an occurrence.
     ShowOccurrence,
-    /// It asks for a task of an occurrence.
-    OccurrenceTask,
+    /// It asks for this task of an occurrence.
+    OccurrenceTask(Task),
 }
 
 /// Where a request goes.
@@ -91,8 +91,8 @@ fn routing_to(resource: Resource, method: &str) -> Routing
             "GET" => Routing::Served(Route::ShowOccurrence),
             _ => Routing::NotAllowed(resource),
         },
-        Resource::OccurrenceTask(_) => match method {
-            "POST" => Routing::Served(Route::OccurrenceTask),
+        Resource::OccurrenceTask(task) => match method {
+            "POST" => Routing::Served(Route::OccurrenceTask(task)),
             _ => Routing::NotAllowed(resource),
         },
         Resource::Subscriptions | Resource::Subscription => Routing::Nowhere,

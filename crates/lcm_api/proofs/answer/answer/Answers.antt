@@ -18,3 +18,9 @@ returns-in-Served-Instantiate-clause-works g c = λ H ready.
     subst (λ (o : Outcome). Works g.S.Site.tells c.args.manager.now.ledger.manager H (answered o H c.instantiate.result) c.instantiate.new.manager (g.S.Site.state c.args.site.now) (g.S.Site.state c.instantiate.new.site))
     (ap (λ to. routed to c.args.manager.now.ledger.manager H c.args.now c.args.role c.args.request.now) (sym (ap Served c.in-Served-Instantiate.field-0-is) ∙ (sym c.in-Served-Instantiate.is ∙ c.route_of.ensures)))
     (c.instantiate.ensures.works H ready)
+
+pub returns-in-Served-OccurrenceTask-clause-works : goal.returns-in-Served-OccurrenceTask-clause-works
+returns-in-Served-OccurrenceTask-clause-works g c = λ H ready.
+    subst (λ (o : Outcome). Works g.S.Site.tells c.args.manager.now.ledger.manager H (answered o H c.task-in-Served-OccurrenceTask.result) c.task-in-Served-OccurrenceTask.new.manager (g.S.Site.state c.args.site.now) (g.S.Site.state c.task-in-Served-OccurrenceTask.new.site))
+    (ap (λ to. routed to c.args.manager.now.ledger.manager H c.args.now c.args.role c.args.request.now) (sym (ap Served c.in-Served-OccurrenceTask.field-0-is) ∙ (sym c.in-Served-OccurrenceTask.is ∙ c.route_of.ensures)))
+    (c.task-in-Served-OccurrenceTask.ensures.works H ready)

@@ -1,7 +1,7 @@
 -- Each reply takes over whether the request is the last.
 use Rattle.std.proofs.Common.{◌≡◌, ◌+◌, ◌++◌, ℕ, List, [], ◌∷◌, length, Bool, true, false, Option, Some, None, Result, Ok, Err, refl}
 use Rattle.std.specs.Prelude.{nat_le, codes, if◌then◌else◌}
-use Rattle.json_views.specs.Body.{and_then, instantiate_in, instantiate_of, object_read, create_of, create_read, document, line_in, name_in, needed, needed_value, needed_member, optional, optional_member, optional_value, some_name_in, member_of}
+use Rattle.json_views.specs.Body.{and_then, cancel_in, cancel_mode_in, cancel_of, instantiate_in, instantiate_of, object_read, create_of, create_read, document, line_in, name_in, needed, needed_value, needed_member, optional, optional_member, optional_value, some_name_in, member_of}
 use Rattle.json_views.specs.declared.body.BodyFault.{BodyFault}
 use Rattle.json_views.specs.declared.body.BodyFault.TheVariants.{Malformed, Lacks, Wrong, Memory}
 use Rattle.json_views.specs.declared.body.CreateBody.{CreateBody}
@@ -23,9 +23,9 @@ use Rattle.lcm_events.specs.declared.asks.Ask.{Ask}
 use Rattle.lcm_events.specs.declared.events.Operation.{Operation}
 use Rattle.lcm_events.specs.declared.states.Role.{Role}
 use Rattle.lcm_model.specs.Lives.{descriptor}
-use Rattle.lcm_model.specs.Refusals.{ask_refusal, situation}
+use Rattle.lcm_model.specs.Refusals.{ask_refusal, situation, task_refusal}
 use Rattle.lcm_api.specs.Instantiating.{accepted, ask_described, ask_found, ask_judged, asking, instantiate, instantiate_read, instantiation, operation_asked}
-use Rattle.lcm_api.specs.Occurrences.{list_occurrences, named_operation, occurrence_row_text, show_asked, task_asked}
+use Rattle.lcm_api.specs.Occurrences.{list_occurrences, named_operation, occurrence_row_text, show_asked}
 use Rattle.lcm_api.specs.Creating.{body_outcome, create_instance, described_outcome, created, creation}
 use Rattle.lcm_api.specs.Instances.{asked_id, delete_found, delete_judged, deleted, deletion, list_instances, named_instance, row_text, show_found, task_found}
 use Rattle.lcm_api.specs.Media.{is_json}
@@ -33,6 +33,17 @@ use Rattle.lcm_api.specs.Outcome.{routed, served}
 use Rattle.lcm_api.specs.Refusals.{refusal_status, refusal_text}
 use Rattle.lcm_api.specs.Replies.{Outcome, refusal, refused, room_outcome, shown, told}
 use Rattle.lcm_api.specs.Routes.{not_allowed, routing}
+use Rattle.lcm_api.specs.Tasks.{cancel, cancel_read, occurrence_task, task_asked, task_event, task_judged, task_named, task_of, task_refused, task_reply, taken}
+use Rattle.lcm_api.specs.declared.tasks.AskedTask.{AskedTask}
+use Rattle.lcm_api.specs.declared.tasks.AskedTask.TheVariants.{Cancel, Fail, Retry, Rollback}
+use Rattle.lcm_events.specs.declared.states.CancelMode.{CancelMode}
+use Rattle.lcm_events.specs.declared.states.Task.{Task}
+use Rattle.lcm_events.specs.declared.states.Task.TheVariants as tasks
+use Rattle.lcm_model.specs.Moves.{state}
+use Rattle.lcm_model.specs.Operations.{kind_of}
+use Rattle.lcm_model.specs.declared.refusals.TaskRefusal.{TaskRefusal}
+use Rattle.lcm_model.specs.declared.refusals.TaskRefusal.TheVariants.{NotSupported, WrongState}
+use Rattle.json_views.specs.Words.{state_word}
 use Rattle.lcm_routes.specs.declared.resources.Resource.{Resource}
 use Rattle.lcm_api.specs.declared.route.Route.{Route}
 use Rattle.lcm_api.specs.declared.route.Route.TheVariants.{ListInstances, CreateInstance, ShowInstance, DeleteInstance, Instantiate, InstanceTask, ListOccurrences, ShowOccurrence, OccurrenceTask}
@@ -57,7 +68,7 @@ both_of_bytes (Err (Lacks name)) next is behind = tt
 both_of_bytes (Err (Wrong name)) next is behind = tt
 both_of_bytes (Err Memory) next is behind = absurd is
 
-value_of_bytes : (name : List ℕ) (o : Option (List ℕ)) → IsOfBytes (needed_value name o)
+value_of_bytes : {A : Type 0} (name : List ℕ) (o : Option A) → IsOfBytes (needed_value name o)
 value_of_bytes name None = tt
 value_of_bytes name (Some text) = tt
 
@@ -97,6 +108,17 @@ instantiate_of_bytes bytes =
             | None ↦ tt
             | Some found ↦ choice_of_bytes (codes "instantiationLevelId") _
           ]) (λ level. tt))
+    ]
+
+cancel_of_bytes : (bytes : List ℕ) → IsOfBytes (cancel_of bytes)
+cancel_of_bytes bytes =
+    elim (document bytes) as (λ o. IsOfBytes (object_read cancel_in o)) [
+      | None ↦ tt
+      | Some d ↦
+          elim (member_of (codes "cancelMode") d) as (λ o. IsOfBytes (needed_member cancel_mode_in (codes "cancelMode") o)) [
+            | None ↦ tt
+            | Some found ↦ value_of_bytes (codes "cancelMode") _
+          ]
     ]
 
 -- the connection ends with the reply where this says so
@@ -224,9 +246,55 @@ show_asked_ends : (m : ℕ) (H : List Event) (last : Bool) (found : Option Opera
 show_asked_ends m H last None = refusal_ends 404 (codes "no such occurrence") last
 show_asked_ends m H last (Some a) = shown_ends (occurrence_row_text m (rows H) a.occ (row H a)) last
 
-task_asked_ends : (last : Bool) (found : Option Operation) → EndsAs last (task_asked last found)
-task_asked_ends last None = refusal_ends 404 (codes "no such occurrence") last
-task_asked_ends last (Some a) = refusal_ends 404 (codes "task is not supported") last
+taken_ends : (last : Bool) (after : List Event) → EndsAs last (record { reply = taken last; after = after })
+unfolding taken
+taken_ends last after = refl
+
+task_reply_ends : (m : ℕ) (H : List Event) (asked : AskedTask) (a : Operation) (last : Bool) (after : List Event) → EndsAs last (record { reply = task_reply m H asked a last; after = after })
+task_reply_ends m H Retry a last after = taken_ends last after
+task_reply_ends m H Rollback a last after = taken_ends last after
+task_reply_ends m H Fail a last after = shown_ends (occurrence_row_text m (rows H) a.occ (row H a)) last
+task_reply_ends m H (Cancel mode) a last after = taken_ends last after
+
+task_refused_ends : (why : TaskRefusal) (last : Bool) → EndsAs last (task_refused why last)
+task_refused_ends NotSupported last = refusal_ends 404 (codes "task is not supported") last
+task_refused_ends (WrongState state) last = refusal_ends 409 (codes "operation is " ++ state_word state) last
+
+task_judged_ends : (m : ℕ) (H : List Event) (now : ℕ) (asked : AskedTask) (a : Operation) (last : Bool) (why : Option TaskRefusal) → EndsAs last (task_judged m H now asked a last why)
+task_judged_ends m H now asked a last (Some why) = task_refused_ends why last
+task_judged_ends m H now asked a last None =
+    let event : Event = task_event now a.occ asked in
+    elim (is_full MAX_REQUESTED (event ∷ H)) as (λ full. EndsAs last (room_outcome full (task_reply m (event ∷ H) asked a last) event last)) [
+      | true ↦ refusal_ends 507 (codes "journal full") last
+      | false ↦ task_reply_ends m (event ∷ H) asked a last (event ∷ [])
+    ]
+
+task_asked_ends : (m : ℕ) (H : List Event) (now : ℕ) (asked : AskedTask) (last : Bool) (found : Option Operation) → EndsAs last (task_asked m H now asked last found)
+task_asked_ends m H now asked last None = refusal_ends 404 (codes "no such occurrence") last
+task_asked_ends m H now asked last (Some a) = task_judged_ends m H now asked a last (task_refusal (kind_of a.ask) (state H a.occ) (task_of asked))
+
+task_named_ends : (m : ℕ) (H : List Event) (now : ℕ) (asked : AskedTask) (r : Request) → EndsAs r.last (task_named m H now asked r)
+task_named_ends m H now asked r = task_asked_ends m H now asked r.last (named_operation m H (asked_id r))
+
+cancel_body_ends : (m : ℕ) (H : List Event) (now : ℕ) (body : Result CancelMode BodyFault) (r : Request) → IsOfBytes body → EndsAs r.last (cancel_read m H now body r)
+cancel_body_ends m H now (Ok mode) r is = task_named_ends m H now (Cancel mode) r
+cancel_body_ends m H now (Err Malformed) r is = refusal_ends 400 (codes "malformed JSON") r.last
+cancel_body_ends m H now (Err (Lacks name)) r is = refusal_ends 400 (codes "missing " ++ name) r.last
+cancel_body_ends m H now (Err (Wrong name)) r is = refusal_ends 400 (codes "bad " ++ name) r.last
+cancel_body_ends m H now (Err Memory) r is = absurd is
+
+cancel_ends : (m : ℕ) (H : List Event) (now : ℕ) (r : Request) → EndsAs r.last (cancel m H now r)
+cancel_ends m H now r =
+    elim (is_json r.media) as (λ json. EndsAs r.last (if json then cancel_read m H now (cancel_of r.body) r else refused 415 (codes "body must be application/json") r.last)) [
+      | true ↦ cancel_body_ends m H now (cancel_of r.body) r (cancel_of_bytes r.body)
+      | false ↦ refusal_ends 415 (codes "body must be application/json") r.last
+    ]
+
+occurrence_task_ends : (m : ℕ) (H : List Event) (now : ℕ) (task : Task) (r : Request) → EndsAs r.last (occurrence_task m H now task r)
+occurrence_task_ends m H now tasks.Retry r = task_named_ends m H now Retry r
+occurrence_task_ends m H now tasks.Rollback r = task_named_ends m H now Rollback r
+occurrence_task_ends m H now tasks.Fail r = task_named_ends m H now Fail r
+occurrence_task_ends m H now tasks.Cancel r = cancel_ends m H now r
 
 served_ends : (route : Route) (m : ℕ) (H : List Event) (now : ℕ) (role : Role) (r : Request) → EndsAs r.last (served route m H now role r)
 served_ends ListInstances m H now role r = list_ends m H r
@@ -237,7 +305,7 @@ served_ends Instantiate m H now role r = instantiate_ends m H now role r
 served_ends InstanceTask m H now role r = task_ends r.last (named_instance m H (asked_id r))
 served_ends ListOccurrences m H now role r = list_occurrences_ends m H r
 served_ends ShowOccurrence m H now role r = show_asked_ends m H r.last (named_operation m H (asked_id r))
-served_ends OccurrenceTask m H now role r = task_asked_ends r.last (named_operation m H (asked_id r))
+served_ends (OccurrenceTask task) m H now role r = occurrence_task_ends m H now task r
 
 pub returns : goal.returns
 returns c m H now role r =
