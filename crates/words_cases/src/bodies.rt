@@ -1,6 +1,7 @@
 //! Bodies as they are taken or refused.
 
-use json_views::{BodyFault, read_create, read_instantiate};
+use json_views::{BodyFault, read_cancel, read_create, read_instantiate};
+use lcm_events::CancelMode;
 use std::alloc::{AllocError, Global};
 use std::test::Fail;
 use vnfm_base::Name;
@@ -120,6 +121,39 @@ fn the_first_member_of_an_instantiate_request_that_fails_is_told(
     let alloc = rt.alloc();
     for (bytes, expected) in rows {
         let told = told_instantiate(alloc, bytes.as_bytes())?;
+        assert_eq!(rt; told.as_str(), expected);
+    }
+    Ok(())
+}
+
+/// What the body of a cancel request comes to, as a text.
+fn told_cancel(alloc: Global, bytes: &[u8]) -> Result<String, AllocError> {
+    match read_cancel(alloc, bytes) {
+        Ok(CancelMode::Graceful) => String::from_str(alloc, "graceful"),
+        Ok(CancelMode::Forceful) => String::from_str(alloc, "forceful"),
+        Err(fault) => refusal(alloc, fault),
+    }
+}
+
+#[test]
+fn the_mode_of_a_cancel_request_is_told(rt: HostRuntime) -> Result<(), Fail> {
+    let rows: [(&str, &str); 9] = [
+        ("{\"cancelMode\":\"GRACEFUL\"}", "graceful"),
+        ("{\"x\":7,\"cancelMode\":\"FORCEFUL\"}", "forceful"),
+        (
+            "{\"cancelMode\":\"GRACEFUL\",\"cancelMode\":\"FORCEFUL\"}",
+            "forceful",
+        ),
+        ("\"GRACEFUL\"", "malformed"),
+        ("", "malformed"),
+        ("{\"mode\":\"GRACEFUL\"}", "missing cancelMode"),
+        ("{\"cancelMode\":null}", "missing cancelMode"),
+        ("{\"cancelMode\":\"Graceful\"}", "bad cancelMode"),
+        ("{\"cancelMode\":[\"GRACEFUL\"]}", "bad cancelMode"),
+    ];
+    let alloc = rt.alloc();
+    for (bytes, expected) in rows {
+        let told = told_cancel(alloc, bytes.as_bytes())?;
         assert_eq!(rt; told.as_str(), expected);
     }
     Ok(())
