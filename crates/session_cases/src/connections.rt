@@ -3,19 +3,29 @@ use crate::expected::{MALFORMED, created};
 use executor::Manager;
 use lcm_api::{Mouth, answer_session};
 use lcm_events::Role;
-use memory_runs::{CREATE, JOURNAL, clock_of, failing_door, site_with};
-use site_traits::{MemDoor, NextAnswer};
+use memory_runs::{CREATE, JOURNAL, failing_door, site_with};
+use site_traits::{MemDoor, NextAnswer, SetClock};
 use std::alloc::{AllocError, Global};
 use std::test::Fail;
 use vnfm_base::Bytes;
 
-/// What came of a connection.
+/// What came of a connection: what it was told, the file afterwards, and how many replies were told.
 #[derive(Drop)]
-struct Served {
+pub struct Served {
     out: Bytes,
-    file: usize,
+    file: Bytes,
     replies: Option<u32>,
 }
+
+impl Served {
+    /// Whether that was told, as one reply, and the file is this one.
+    pub fn has(&self, told: &[u8], file: &[u8]) -> bool {
+        self.replies == Some(1) && self.out.as_slice() == told && self.file.as_slice() == file
+    }
+}
+
+/// The moment at which each request is taken that isn't taken at another.
+pub const NOW: u64 = 1_700_000_000_000;
 
 /// A mouth at the door to which a connection with these bytes will come, of which the second write fails.
 fn mouth_at(alloc: Global, bytes: &[u8]) -> Result<Mouth<MemDoor>, AllocError> {
@@ -25,11 +35,21 @@ fn mouth_at(alloc: Global, bytes: &[u8]) -> Result<Mouth<MemDoor>, AllocError> {
     )
 }
 
-/// What that journal's manager tells the connection with these bytes, and the length of its file afterwards.
-fn serve(alloc: Global, bytes: &[u8]) -> Result<Option<Served>, AllocError> {
-    let mut site = site_with(alloc, &JOURNAL, Vec::new(alloc))?;
+/// A clock that gives this.
+fn clock_at(alloc: Global, now: u64) -> Result<SetClock, AllocError> {
+    SetClock::new(alloc, vec![in alloc; now]?)
+}
+
+/// What the manager of this journal tells the connection with these bytes at this moment, and its file afterwards. No turn is made.
+pub fn serve(
+    alloc: Global,
+    journal: &[u8],
+    bytes: &[u8],
+    now: u64,
+) -> Result<Option<Served>, AllocError> {
+    let mut site = site_with(alloc, journal, Vec::new(alloc))?;
     let mut mouth = mouth_at(alloc, bytes)?;
-    let mut clock = clock_of(alloc)?;
+    let mut clock = clock_at(alloc, now)?;
     let mut manager = match Manager::load(alloc, &mut site) {
         Ok(manager) => manager,
         Err(_) => return Ok(None),
@@ -48,16 +68,20 @@ fn serve(alloc: Global, bytes: &[u8]) -> Result<Option<Served>, AllocError> {
     let out = Bytes::of(alloc, mouth.door().conn().out())?;
     Ok(Some(Served {
         out,
-        file: site.file().len(),
+        file: Bytes::of(alloc, site.file())?,
         replies: result.ok(),
     }))
 }
 
 /// Whether the connection with these bytes is told that, as one reply, and the file then has this length.
 fn tells(alloc: Global, bytes: &[u8], told: &[u8], file: usize) -> Result<bool, AllocError> {
-    match serve(alloc, bytes)? {
+    match serve(alloc, &JOURNAL, bytes, NOW)? {
         Some(served) => {
-            Ok(served.replies == Some(1) && served.file == file && served.out.as_slice() == told)
+            Ok(
+                served.replies == Some(1)
+                    && served.file.len() == file
+                    && served.out.as_slice() == told,
+            )
         }
         None => Ok(false),
     }

@@ -18,4 +18,6 @@ mod routes;
 #[cfg(test)]
 mod sessions;
 #[cfg(test)]
+mod tasks;
+#[cfg(test)]
 mod turns;

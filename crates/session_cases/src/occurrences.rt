@@ -2,8 +2,8 @@
 //! behind the session, in which no orchestrator is reached.
 use crate::expected::joined;
 use crate::routes::{
-    ASKED, CANCELLED, COMPLETED, CREATED, GRANTED, PROCESSING, TROUBLE, answer_of, is_refused,
-    is_shown, journal_with, refusal_of, tells,
+    ASKED, CANCELLED, COMPLETED, CREATED, GRANTED, PROCESSING, TROUBLE, answer_of, is_shown,
+    journal_with, refusal_of, tells,
 };
 use memory_runs::{CREATE, MADE, Ran, onboard, once, site_with};
 use site_traits::MemSite;
@@ -36,7 +36,7 @@ fn an_instance_is_instantiated_and_its_occurrence_is_starting(rt: HostRuntime) -
     let one = answer_of(alloc, "200 OK", "json", STARTING)?;
     let all = answer_of(alloc, "200 OK", "json", &list)?;
     let busy = refusal_of(alloc, "409 Conflict", "an operation is ongoing")?;
-    let task = refusal_of(alloc, "404 Not Found", "task is not supported")?;
+    let task = refusal_of(alloc, "409 Conflict", "operation is STARTING")?;
     let told = joined(alloc, &[ACCEPTED, &one, &all, &busy, &busy, &task])?;
     assert!(rt; tells(alloc, &file, SESSION, &told, &after)?);
     Ok(())
@@ -47,31 +47,6 @@ fn no_occurrence_is_listed_where_none_was_asked_for(rt: HostRuntime) -> Result<(
     let alloc = rt.alloc();
     let file = journal_with(alloc, &[CREATED])?;
     assert!(rt; is_shown(alloc, &file, "GET /vnflcm/v1/vnf_lcm_op_occs", "[]")?);
-    Ok(())
-}
-
-/// The tasks of an occurrence, none of which is served.
-const TASKS: [&str; 4] = ["retry", "rollback", "fail", "cancel"];
-
-#[test]
-fn each_task_of_an_occurrence_is_refused(rt: HostRuntime) -> Result<(), Fail> {
-    let alloc = rt.alloc();
-    let file = journal_with(alloc, &[CREATED, ASKED, GRANTED, PROCESSING, CANCELLED])?;
-    for task in TASKS {
-        let request = format!(in alloc;
-            "POST /vnflcm/v1/vnf_lcm_op_occs/00000007-766d-8002-8000-000000000001/{task}"
-        )?;
-        assert!(rt;
-            is_refused(
-                alloc,
-                &file,
-                &request,
-                "404 Not Found",
-                "task is not supported"
-            )?,
-            "{task}"
-        );
-    }
     Ok(())
 }
 

@@ -174,7 +174,7 @@ fn each_refusal_of_a_path_or_a_method_is_told(rt: HostRuntime) -> Result<(), Fai
             "no such occurrence",
         ),
         (
-            "POST /vnflcm/v1/vnf_lcm_op_occs/00000007-766d-8002-8000-000000000001/cancel",
+            "POST /vnflcm/v1/vnf_lcm_op_occs/00000007-766d-8002-8000-000000000001/retry",
             "404 Not Found",
             "no such occurrence",
         ),

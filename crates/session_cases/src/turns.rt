@@ -21,7 +21,8 @@ const NOT_COVERING: &[u8] = b"\x01\0\0\0\x12\x05\0\0\x01\x8b\xcf\xe5\x68\0\0\0\0
 const DENIED: &[u8] = b"\x01\0\0\0\x11\x07\0\0\x01\x8b\xcf\xe5\x68\0\0\0\0\0\0\0\0\x01";
 
 /// The occurrence moved to ROLLED_BACK.
-const ROLLED_BACK: &[u8] = b"\x01\0\0\0\x12\x0b\0\0\x01\x8b\xcf\xe5\x68\0\0\0\0\0\0\0\0\x01\x06";
+pub const ROLLED_BACK: &[u8] =
+    b"\x01\0\0\0\x12\x0b\0\0\x01\x8b\xcf\xe5\x68\0\0\0\0\0\0\0\0\x01\x06";
 
 /// An answer of the orchestrator: its status, its location, empty where there is none, and its body.
 type Answer = (u16, &'static str, &'static str);
@@ -221,11 +222,11 @@ const PROCESSED: &str =
     "{\"_links\":{\"cancel\":{\"href\":\"/vnflcm/v1/vnf_lcm_op_occs/00000007-766d-8002-8000-000000000001/cancel\"},\"self\":{\"href\":\"/vnflcm/v1/vnf_lcm_op_occs/00000007-766d-8002-8000-000000000001\"},\"vnfInstance\":{\"href\":\"/vnflcm/v1/vnf_instances/00000007-766d-8001-8000-000000000001\"}},\"grantId\":\"g1\",\"id\":\"00000007-766d-8002-8000-000000000001\",\"isAutomaticInvocation\":false,\"isCancelPending\":false,\"operation\":\"INSTANTIATE\",\"operationParams\":{\"flavourId\":\"simple\"},\"operationState\":\"PROCESSING\",\"resourceChanges\":{\"affectedVirtualLinks\":[],\"affectedVirtualStorages\":[],\"affectedVnfcs\":[]},\"startTime\":\"2023-11-14T22:13:20.000Z\",\"stateEnteredTime\":\"2023-11-14T22:13:20.000Z\",\"vnfInstanceId\":\"00000007-766d-8001-8000-000000000001\"}";
 
 /// The request that shows occurrence 1.
-const SHOW: &[u8] =
+pub const SHOW: &[u8] =
     b"GET /vnflcm/v1/vnf_lcm_op_occs/00000007-766d-8002-8000-000000000001 HTTP/1.1\r\n\r\n";
 
 /// The grant of the edge router's instantiation: its thirteen changes are all made at the connection `vim1`.
-const ROUTER_GRANTED: &[u8] =
+pub const ROUTER_GRANTED: &[u8] =
     b"\x01\0\0\0\x2a\x06\0\0\x01\x8b\xcf\xe5\x68\0\0\0\0\0\0\0\0\x01\x02g1\x01\x04vim1\0\0\x0d\0\0\0\0\0\0\0\0\0\0\0\0\0";
 
 /// Two rounds over this site, whose first connection instantiates instance 1, with an orchestrator that grants all.
