@@ -1,12 +1,12 @@
 -- An attempt that was begun or looked at, by what was recorded and called in turn.
-use Rattle.std.proofs.Common.{◌≡◌, ◌≢◌, ◌∙◌, ℕ, List, [], ◌∷◌, false, true, Option, None, Some, ap, sym, subst, refl, inl, inr, Result, Ok, Err, IfOk, IsOk, OnOk, ⊎_elim, arith}
+use Rattle.std.proofs.Common.{◌≡◌, ◌≢◌, ◌∙◌, ℕ, List, [], ◌∷◌, Bool, false, true, Option, None, Some, ap, sym, subst, refl, inl, inr, Result, Ok, Err, IfOk, IsOk, OnOk, ⊎_elim, arith}
 use Rattle.change_planner.specs.Tags.{act_of}
 use Rattle.executor.specs.Managed.{IsReady, KeepsOn, Managed}
 use Rattle.journal_core.specs.Journal.{Ledger, Stands}
 use Rattle.lcm_laws.specs.Acting.{IsAnswer, NextActionsAreAllowed}
 use Rattle.lcm_model.specs.Attempts.{is_open}
-use Rattle.occ_work.specs.Forward.{IsForward}
-use Rattle.occ_work.proofs.ForwardLemmas.{forward_asked}
+use Rattle.occ_work.specs.Active.{IsActive}
+use Rattle.occ_work.proofs.ActiveLemmas.{active_asked}
 use Rattle.executor.specs.Work.{Extends, StaysSound, Work, Works, WorksAtFile, WorksWithJobs, aimed, recorded, stood, went}
 use Rattle.executor.specs.declared.manager.WorkFault.{WorkFault}
 use Rattle.executor.specs.declared.manager.WorkFault.TheVariants as fault
@@ -23,28 +23,29 @@ use Rattle.lcm_jobs.specs.Sound.{FitsJobs, IsNoneOrBroken, IsSound}
 use Rattle.lcm_jobs.proofs.KeepLemmas.{fresh_job, sound_more}
 use Rattle.lcm_laws.specs.Acting.{with_events}
 use Rattle.lcm_model.specs.Allowed.{IsAllowed, IsLegal}
-use Rattle.lcm_model.specs.Next.{BeginTaken, appended, beginning, looking, next_action}
+use Rattle.lcm_model.specs.Next.{BeginTaken, appended, beginning, look_at, looking, next_action}
 use Rattle.lcm_model.specs.Work.{window}
 use Rattle.lcm_model.specs.declared.actions.Action.{Action}
-use Rattle.lcm_model.specs.declared.actions.Action.TheVariants.{Begin, Look}
+use Rattle.lcm_model.specs.declared.actions.Action.TheVariants.{AbortAndLook, Begin, Look}
 use Rattle.site_traits.specs.Advancing.{advances-refl, advances-then}
-use Rattle.site_traits.specs.Counts.{OnlyDiskFails, SiteCounts, begin_counts, look_counts, one_more}
-use Rattle.site_traits.specs.Jobs.{Advances, BeginsAs, Job, LooksAs, MayArrive, begin_answered, phase_of}
+use Rattle.site_traits.specs.Counts.{OnlyDiskFails, SiteCounts, abort_counts, begin_counts, look_counts, one_more}
+use Rattle.site_traits.specs.Jobs.{Advances, BeginsAs, Job, LooksAs, MayArrive, begin_answered, look_answered, phase_of}
 use Rattle.site_traits.specs.declared.jobs.Phase.{Phase}
-use Rattle.site_traits.specs.Moments.{kept_jobs}
-use Rattle.site_traits.specs.Site.{Begins, KeepsJobs, Looks, SiteState}
+use Rattle.site_traits.specs.Moments.{kept_jobs, passes-then}
+use Rattle.site_traits.specs.Site.{Aborts, Begins, JobStep, KeepsJobs, Looks, OnJobs, SiteState}
+use Rattle.site_traits.specs.declared.jobs.AbortAnswer.{AbortAnswer}
 use Rattle.site_traits.specs.declared.jobs.BeginAnswer.{BeginAnswer}
 use Rattle.site_traits.specs.declared.jobs.BeginAnswer.TheVariants as begin
 use Rattle.site_traits.specs.declared.jobs.LookAnswer.{LookAnswer}
 use Rattle.site_traits.specs.declared.jobs.LookAnswer.TheVariants as look
-use Rattle.occ_work.specs.Acting.{TellsRoomFor, recording}
+use Rattle.occ_work.specs.Acting.{Records, TellsRoomFor, recording}
 use Rattle.occ_work.specs.Around.{CountJobsAlike}
 use Rattle.occ_work.specs.Attempting.{Attempts, Puts, following}
-use Rattle.occ_work.specs.Deeds.{Deed, IsUnexchanged, MayEnd, answer_begun, answer_looked, began, ending, looked, nothing}
+use Rattle.occ_work.specs.Deeds.{Deed, IsUnexchanged, MayEnd, aborted, answer_begun, answer_looked, began, ending, looked, nothing}
 use Rattle.occ_work.specs.declared.ends.Acted.{Acted}
 use Rattle.occ_work.specs.declared.ends.Acted.TheVariants.{Recorded}
 use Rattle.occ_work.proofs.BeginLemmas.{begun_sound, jobs_alone, jobs_on, looked_sound}
-use Rattle.occ_work.proofs.JobLemmas.{begins_on, looks_on, refused_broken}
+use Rattle.occ_work.proofs.JobLemmas.{begins_on, looks_before, looks_on, refused_broken}
 
 -- none or one
 abbrev pub AreFew : List EventKind → Type 0
@@ -280,6 +281,7 @@ unbegun_attempt tells m now H t why n a b failed i j next works room only = (
 abbrev pub IsStarving : Action → Type 0
 IsStarving (Begin t) = Unit {0}
 IsStarving (Look t) = Unit {0}
+IsStarving (AbortAndLook t) = Unit {0}
 IsStarving _ = ⊥
 
 -- an attempt for which there was no memory: nothing was done
@@ -300,16 +302,19 @@ starved_attempt tells m now H o action n s i next starves works = (
   unexchanged : (x : Action) → IsStarving x → IsUnexchanged x nothing (Err fault.Memory)
   unexchanged (Begin t) is = tt
   unexchanged (Look t) is = tt
+  unexchanged (AbortAndLook t) is = tt
   unexchanged _ is = absurd is
 
   starved_records : (x : Action) → IsStarving x → WorksWithJobs tells m.ledger.manager H (recording now (appended o x BeginTaken) H (Err fault.Memory)) n s s
   starved_records (Begin t) is = with_jobs tells m.ledger.manager H (went H) n s s works
   starved_records (Look t) is = with_jobs tells m.ledger.manager H (went H) n s s works
+  starved_records (AbortAndLook t) is = with_jobs tells m.ledger.manager H (went H) n s s works
   starved_records _ is = absurd is
 
   starved_room : (x : Action) → IsStarving x → TellsRoomFor now (appended o x BeginTaken) H (Err fault.Memory)
   starved_room (Begin t) is = tt
   starved_room (Look t) is = tt
+  starved_room (AbortAndLook t) is = tt
   starved_room _ is = absurd is
 
 -- what a look told fits the jobs
@@ -337,42 +342,113 @@ looked_ends t answer (Err (fault.Full end more)) memory = tt
 looked_ends t answer (Err fault.Memory) memory = memory refl
 looked_ends t answer (Err fault.Disk) memory = tt
 
+-- and so may one behind an abort
+aborted_ends : (t : Tag) (how : AbortAnswer) (answer : LookAnswer) (result : Result Acted WorkFault) → (result ≡ Err fault.Memory → ⊥) → MayEnd (aborted t how answer) result
+aborted_ends t how answer (Ok done) memory = tt
+aborted_ends t how answer (Err (fault.TooLong n)) memory = tt
+aborted_ends t how answer (Err (fault.Full end more)) memory = tt
+aborted_ends t how answer (Err fault.Memory) memory = memory refl
+aborted_ends t how answer (Err fault.Disk) memory = tt
+
+-- what is recorded of a job that was looked at, where running jobs may have ended before
+looked_records : (tells : Type 0) (m now : ℕ) (H : List Event) (t : Tag) (answer : LookAnswer) (result : Result Acted WorkFault) (n p : Managed) (a b d : SiteState)
+    → IsLegal m (with_events now (looking t (answer_looked answer)) H) → n.ledger.manager ≡ m → IsReady tells n H a → (tells → OnJobs Advances a b)
+    → (tells → LooksAs t answer a.jobs b.jobs) → Puts tells m now (looking t (answer_looked answer)) H result p b d → (tells → KeepsJobs b d)
+    → Records tells m now (looking t (answer_looked answer)) H result p a d
+looked_records tells m now H t answer result n p a b d legal number ready calls looks puts alone =
+    let w : Work = recording now (looking t (answer_looked answer)) H result in
+    let mid : WorksAtFile tells m H (went H) n a b =
+    subst (λ (x : ℕ). WorksAtFile tells x H (went H) n a b) number (jobs_alone tells Advances n H a b ready calls) in
+    record {
+      works = record {
+        at_file = joined_at_file tells m H H w n p a b d mid puts.at_file;
+        sound = λ told sound.
+            let first : StaysSound m H (went H) a b =
+            subst (λ (x : ℕ). IsSound x H a.jobs → StaysSound x H (went H) a b) number (looked_sound tells n H a b told ready (calls told)) sound in
+            stays_joined m H H w a b d (extends_refl H) (extends_trans H (stood w) (aimed w) puts.at_file.grows.to_stood puts.at_file.grows.to_aimed) first
+            (λ behind. puts_sound tells m now (looking t (answer_looked answer)) H result p b d told puts.at_file (alone told) (few_looked t answer) legal behind
+            (fits_looked t answer a.jobs b.jobs (looks told)));
+      };
+      room = puts.room;
+    }
+
+-- and what is told of the jobs
+looked_jobs : (tells : Type 0) (t : Tag) (answer : LookAnswer) (a b d : SiteState) → (tells → OnJobs Advances a b) → (tells → LooksAs t answer a.jobs b.jobs) → (tells → KeepsJobs b d)
+    → tells → Advances a.jobs d.jobs × LooksAs t answer a.jobs d.jobs
+looked_jobs tells t answer a b d calls looks alone told = (
+  advances-then a.jobs b.jobs d.jobs (jobs_on Advances a b (calls told)) (kept_jobs b d (alone told)),
+  looks_on t answer a.jobs b.jobs d.jobs (looks told) (kept_jobs b d (alone told)),
+)
+
 -- an attempt whose job was looked at
 pub looked_attempt : (tells : Type 0) (m now : ℕ) (H : List Event) (o : ℕ) (t : Tag) (answer : LookAnswer) (result : Result Acted WorkFault) (n p : Managed) (a b d : SiteState)
     (two : Type 0) (i j k : SiteCounts) → next_action H o ≡ Some (Look t) → IsLegal m (with_events now (looking t (answer_looked answer)) H) → n.ledger.manager ≡ m
     → IsReady tells n H a → (tells → Looks t answer a b) → Puts tells m now (looking t (answer_looked answer)) H result p b d → (tells → KeepsJobs b d)
     → (result ≡ Err fault.Memory → ⊥) → IfOk result (λ done. done ≡ ending (Look t) (answer_looked answer)) → j ≡ look_counts answer i → OnlyDiskFails two j k
     → (x : Deed) × (x.occ ≡ o) × Attempts tells m now H x result p a d i k
-looked_attempt tells m now H o t answer result n p a b d two i j k next legal number ready looks puts alone memory ends called behind =
-    let w : Work = recording now (looking t (answer_looked answer)) H result in
-    let mid : WorksAtFile tells m H (went H) n a b =
-    subst (λ (x : ℕ). WorksAtFile tells x H (went H) n a b) number (jobs_alone tells Advances n H a b ready (λ told. (looks told).on_jobs)) in (
-      record { occ = o; action = Look t; exchange = looked t answer },
+looked_attempt tells m now H o t answer result n p a b d two i j k next legal number ready looks puts alone memory ends called behind = (
+  record { occ = o; action = Look t; exchange = looked t answer },
+  refl,
+  record {
+    tried = record { next = next; exchange = inl refl; ended = looked_ends t answer result memory };
+    alone = tt;
+    handled = record {
+      jobs = looked_jobs tells t answer a b d (λ told. (looks told).on_jobs) (λ told. (looks told).looks) alone;
+      answers = λ told. (alone told).answers ∙ (looks told).answers;
+      counts = subst (λ (x : SiteCounts). CountJobsAlike x k) called (alike_disk two j k behind);
+    };
+    records = looked_records tells m now H t answer result n p a b d legal number ready (λ told. (looks told).on_jobs) (λ told. (looks told).looks) puts alone;
+    ended = ends;
+  },
+)
+
+-- an abort and then a look are one run over the jobs
+pub aborted_on : (t : Tag) (how : AbortAnswer) (answer : LookAnswer) (a b c : SiteState) → Aborts t how a b → Looks t answer b c → OnJobs Advances a c
+aborted_on t how answer a b c aborts looks = record {
+  passes = passes-then (JobStep Advances) (JobStep Advances) (JobStep Advances) a b c aborts.on_jobs.passes looks.on_jobs.passes
+      (λ p. record { image = refl; jobs = advances-refl p.jobs }) (λ p. record { image = refl; jobs = advances-refl p.jobs })
+      (λ p q r one two. record { image = two.image ∙ one.image; jobs = advances-then p.jobs q.jobs r.jobs one.jobs two.jobs });
+  same = looks.on_jobs.same ∙ aborts.on_jobs.same;
+}
+
+aborted_looks : (t : Tag) (how : AbortAnswer) (answer : LookAnswer) (a b c : SiteState) → Aborts t how a b → Looks t answer b c → LooksAs t answer a.jobs c.jobs
+aborted_looks t how answer a b c aborts looks = looks_before t answer a.jobs b.jobs c.jobs (jobs_on Advances a b aborts.on_jobs) looks.looks
+
+same_ending : (t : Tag) (answer : LookAnswer) → ending (Look t) (answer_looked answer) ≡ ending (AbortAndLook t) (answer_looked answer)
+same_ending t look.Absent = refl
+same_ending t look.Running = refl
+same_ending t (look.Done name) = refl
+same_ending t (look.Broken code) = refl
+same_ending t look.Aborted = refl
+same_ending t look.Failed = refl
+
+ends_alike : (result : Result Acted WorkFault) (one two : Acted) → one ≡ two → IfOk result (λ done. done ≡ one) → IfOk result (λ done. done ≡ two)
+ends_alike (Ok done) one two same ends = ends ∙ same
+ends_alike (Err why) one two same ends = tt
+
+-- an attempt whose job was aborted and then looked at
+pub aborted_attempt : (tells : Type 0) (m now : ℕ) (H : List Event) (o : ℕ) (t : Tag) (how : AbortAnswer) (answer : LookAnswer) (result : Result Acted WorkFault) (n p : Managed)
+    (a b c d : SiteState) (two : Type 0) (h i j k : SiteCounts) → next_action H o ≡ Some (AbortAndLook t) → IsLegal m (with_events now (looking t (answer_looked answer)) H)
+    → n.ledger.manager ≡ m → IsReady tells n H a → (tells → Aborts t how a b) → (tells → Looks t answer b c)
+    → Puts tells m now (looking t (answer_looked answer)) H result p c d → (tells → KeepsJobs c d) → (result ≡ Err fault.Memory → ⊥)
+    → IfOk result (λ done. done ≡ ending (Look t) (answer_looked answer)) → i ≡ abort_counts how h → j ≡ look_counts answer i → OnlyDiskFails two j k
+    → (x : Deed) × (x.occ ≡ o) × Attempts tells m now H x result p a d h k
+aborted_attempt tells m now H o t how answer result n p a b c d two h i j k next legal number ready aborts looks puts alone memory ends called then behind =
+    let calls : tells → OnJobs Advances a c = λ told. aborted_on t how answer a b c (aborts told) (looks told) in
+    let seen : tells → LooksAs t answer a.jobs c.jobs = λ told. aborted_looks t how answer a b c (aborts told) (looks told) in
+    let both : j ≡ look_counts answer (abort_counts how h) = then ∙ ap (look_counts answer) called in (
+      record { occ = o; action = AbortAndLook t; exchange = aborted t how answer },
       refl,
       record {
-        tried = record { next = next; exchange = inl refl; ended = looked_ends t answer result memory };
+        tried = record { next = next; exchange = inl refl; ended = aborted_ends t how answer result memory };
         alone = tt;
         handled = record {
-          jobs = λ told. (
-            advances-then a.jobs b.jobs d.jobs (jobs_on Advances a b (looks told).on_jobs) (kept_jobs b d (alone told)),
-            looks_on t answer a.jobs b.jobs d.jobs (looks told).looks (kept_jobs b d (alone told)),
-          );
-          answers = λ told. (alone told).answers ∙ (looks told).answers;
-          counts = subst (λ (x : SiteCounts). CountJobsAlike x k) called (alike_disk two j k behind);
+          jobs = looked_jobs tells t answer a c d calls seen alone;
+          answers = λ told. (alone told).answers ∙ ((looks told).answers ∙ ap (look_answered t answer) (aborts told).answers);
+          counts = subst (λ (x : SiteCounts). CountJobsAlike x k) both (alike_disk two j k behind);
         };
-        records = record {
-          works = record {
-            at_file = joined_at_file tells m H H w n p a b d mid puts.at_file;
-            sound = λ told sound.
-                let first : StaysSound m H (went H) a b =
-                subst (λ (x : ℕ). IsSound x H a.jobs → StaysSound x H (went H) a b) number (looked_sound tells n H a b told ready (looks told).on_jobs) sound in
-                stays_joined m H H w a b d (extends_refl H) (extends_trans H (stood w) (aimed w) puts.at_file.grows.to_stood puts.at_file.grows.to_aimed) first
-                (λ behind. puts_sound tells m now (looking t (answer_looked answer)) H result p b d told puts.at_file (alone told) (few_looked t answer) legal behind
-                (fits_looked t answer a.jobs b.jobs (looks told).looks));
-          };
-          room = puts.room;
-        };
-        ended = ends;
+        records = looked_records tells m now H t answer result n p a c d legal number ready calls seen puts alone;
+        ended = ends_alike result (ending (Look t) (answer_looked answer)) (ending (AbortAndLook t) (answer_looked answer)) (same_ending t answer) ends;
       },
     )
 
@@ -393,8 +469,8 @@ kept_idle tells m n H a ready same keeps =
     subst (λ (l : Ledger). Works tells l.manager H (went H) n a a) same (idle tells n H a (ready_kept tells m n H a ready same keeps))
 
 -- an attempt that is the next action may begin
-pub begin_allowed : NextActionsAreAllowed → (m : ℕ) (H : List Event) (t : Tag) → IsLegal m H → IsForward H t.occ → next_action H t.occ ≡ Some (Begin t) → IsAllowed m H (Intent t)
-begin_allowed allows m H t legal is next = (allows window m H (omega arith) legal t.occ 0 (Begin t) BeginTaken (forward_asked H t.occ is) next tt).0
+pub begin_allowed : NextActionsAreAllowed → (m : ℕ) (H : List Event) (t : Tag) → IsLegal m H → IsActive H t.occ → next_action H t.occ ≡ Some (Begin t) → IsAllowed m H (Intent t)
+begin_allowed allows m H t legal is next = (allows window m H (omega arith) legal t.occ 0 (Begin t) BeginTaken (active_asked H t.occ is) next tt).0
 
 is_answer_begun : (H : List Event) (o : ℕ) (answer : BeginAnswer) → IsAnswer H o (answer_begun answer)
 is_answer_begun H o begin.Begun = tt
@@ -402,10 +478,10 @@ is_answer_begun H o (begin.Refused code) = tt
 is_answer_begun H o begin.Failed = tt
 
 -- and what it appends for each answer is allowed
-pub begin_legal : NextActionsAreAllowed → (m now : ℕ) (H : List Event) (t : Tag) (answer : BeginAnswer) → IsLegal m H → IsForward H t.occ → next_action H t.occ ≡ Some (Begin t)
+pub begin_legal : NextActionsAreAllowed → (m now : ℕ) (H : List Event) (t : Tag) (answer : BeginAnswer) → IsLegal m H → IsActive H t.occ → next_action H t.occ ≡ Some (Begin t)
     → IsLegal m (with_events now (beginning t (answer_begun answer)) H)
 begin_legal allows m now H t answer legal is next =
-    allows window m H (omega arith) legal t.occ now (Begin t) (answer_begun answer) (forward_asked H t.occ is) next (is_answer_begun H t.occ answer)
+    allows window m H (omega arith) legal t.occ now (Begin t) (answer_begun answer) (active_asked H t.occ is) next (is_answer_begun H t.occ answer)
 
 is_answer_looked : (H : List Event) (o : ℕ) (answer : LookAnswer) → IsAnswer H o (answer_looked answer)
 is_answer_looked H o look.Absent = tt
@@ -415,15 +491,18 @@ is_answer_looked H o (look.Broken code) = tt
 is_answer_looked H o look.Aborted = tt
 is_answer_looked H o look.Failed = tt
 
--- so it is for a look
-pub look_legal : NextActionsAreAllowed → (m now : ℕ) (H : List Event) (o : ℕ) (t : Tag) (answer : LookAnswer) → IsLegal m H → IsForward H o → next_action H o ≡ Some (Look t)
-    → IsLegal m (with_events now (looking t (answer_looked answer)) H)
-look_legal allows m now H o t answer legal is next =
-    allows window m H (omega arith) legal o now (Look t) (answer_looked answer) (forward_asked H o is) next (is_answer_looked H o answer)
+-- so it is for a look, behind an abort too
+pub look_legal : NextActionsAreAllowed → (forced : Bool) (m now : ℕ) (H : List Event) (o : ℕ) (t : Tag) (answer : LookAnswer) → IsLegal m H → IsActive H o
+    → next_action H o ≡ Some (look_at forced t) → IsLegal m (with_events now (looking t (answer_looked answer)) H)
+look_legal allows true m now H o t answer legal is next =
+    allows window m H (omega arith) legal o now (AbortAndLook t) (answer_looked answer) (active_asked H o is) next (is_answer_looked H o answer)
+look_legal allows false m now H o t answer legal is next =
+    allows window m H (omega arith) legal o now (Look t) (answer_looked answer) (active_asked H o is) next (is_answer_looked H o answer)
 
 -- and the attempt that is looked at is open
-pub look_open : NextActionsAreAllowed → (m : ℕ) (H : List Event) (o : ℕ) (t : Tag) → IsLegal m H → IsForward H o → next_action H o ≡ Some (Look t) → is_open H t ≡ true
-look_open allows m H o t legal is next = (look_legal allows m 0 H o t look.Absent legal is next).0
+pub look_open : NextActionsAreAllowed → (forced : Bool) (m : ℕ) (H : List Event) (o : ℕ) (t : Tag) → IsLegal m H → IsActive H o → next_action H o ≡ Some (look_at forced t)
+    → is_open H t ≡ true
+look_open allows forced m H o t legal is next = (look_legal allows forced m 0 H o t look.Absent legal is next).0
 
 -- what holds anyhow holds where it went well
 pub ok_anyhow : {T E : Type 0} → (result : Result T E) (P : Type 0) → P → OnOk result P

@@ -70,6 +70,23 @@ looks_on t (look.Broken code) xs ys zs told behind = stays_so t ys zs (Some (Bro
 looks_on t look.Aborted xs ys zs told behind = stays_so t ys zs (Some Aborted) told (λ is. cc) behind
 looks_on t look.Failed xs ys zs told behind = tt
 
+-- a job that runs ran before
+ran_before : (p q : Option Phase) → PhaseOn p q → q ≡ Some Running → p ≡ Some Running
+ran_before None q on is = let clash : Some Running ≡ None = sym is ∙ on in cc
+ran_before (Some Running) q on is = refl
+ran_before (Some (Done name)) q on is = let clash : Some Running ≡ Some (Done name) = sym is ∙ (on.1 ∙ ap Some on.2) in cc
+ran_before (Some (Broken code)) q on is = let clash : Some Running ≡ Some (Broken code) = sym is ∙ (on.1 ∙ ap Some on.2) in cc
+ran_before (Some Aborted) q on is = let clash : Some Running ≡ Some Aborted = sym is ∙ (on.1 ∙ ap Some on.2) in cc
+
+-- what a look tells it tells of the jobs before, of which running ones may have ended in between
+pub looks_before : (t : Tag) (answer : LookAnswer) (ws xs ys : List Job) → Advances ws xs → LooksAs t answer xs ys → LooksAs t answer ws ys
+looks_before t look.Absent ws xs ys before told = told
+looks_before t look.Running ws xs ys before told = ran_before (phase_of t ws) (phase_of t xs) (phase_on t ws xs before) told
+looks_before t (look.Done name) ws xs ys before told = told
+looks_before t (look.Broken code) ws xs ys before told = told
+looks_before t look.Aborted ws xs ys before told = told
+looks_before t look.Failed ws xs ys before told = tt
+
 -- behind a refusal of an attempt that had no job there is none, or a broken one
 pub refused_broken : (t : Tag) (work : Act) (code : ℕ) (ws xs ys : List Job) → phase_of t ws ≡ None → Advances ws xs → BeginsAs t work (begin.Refused code) xs ys
     → IsNoneOrBroken (phase_of t ys)

@@ -1,5 +1,5 @@
 mod LiveLemmas
-mod ForwardLemmas
+mod ActiveLemmas
 mod StepLemmas
 mod RequestLemmas
 mod WorkLemmas

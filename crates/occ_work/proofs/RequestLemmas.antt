@@ -27,16 +27,16 @@ use Rattle.occ_table.specs.Rows.{occurrence}
 use Rattle.occ_table.specs.declared.rows.OccRow.{OccRow}
 use Rattle.occ_table.proofs.JudgeLaws.{found_row}
 use Rattle.vnfm_base.specs.Ident.{IsIdentNumber}
-use Rattle.occ_work.specs.Forward.{IsForward}
+use Rattle.occ_work.specs.Active.{IsActive}
 use Rattle.occ_work.specs.Requests.{grant_request, request_over}
-use Rattle.occ_work.proofs.ForwardLemmas.{forward_asked, forward_on}
+use Rattle.occ_work.proofs.ActiveLemmas.{active_asked, active_on}
 use Rattle.occ_work.proofs.LiveLemmas.{living}
 
--- the instance of an occurrence that goes forward is live
-pub its_instance_lives : (m : ℕ) (H : List Event) (o : ℕ) (r : OccRow) → IsLegalWithin window m H → IsForward H o → occurrence H o ≡ Some r → is_live H r.instance ≡ true
+-- the instance of an active occurrence is live
+pub its_instance_lives : (m : ℕ) (H : List Event) (o : ℕ) (r : OccRow) → IsLegalWithin window m H → IsActive H o → occurrence H o ≡ Some r → is_live H r.instance ≡ true
 its_instance_lives m H o r legal is found =
     let mine = found_row H o r found in
-    let live : is_live H mine.0.instance ≡ true = living window m H legal o mine.0 mine.1 (forward_on H o is) in
+    let live : is_live H mine.0.instance ≡ true = living window m H legal o mine.0 mine.1 (active_on H o is) in
     subst (λ (x : OccRow). is_live H x.instance ≡ true) mine.3 live
 
 -- a live instance has a row
@@ -119,9 +119,9 @@ few_operations [] = omega arith
 few_operations (e ∷ H) = let step : occurrences_made (e ∷ H) ≤ length H + 1 = operations_step e.moment e.kind H (few_operations H) in omega (arith, step)
 
 -- and that of an occurrence
-pub occurrence_number : (m : ℕ) (H : List Event) (o : ℕ) → IsLegalWithin window m H → length H < 268435456 → IsForward H o → IsIdentNumber o
+pub occurrence_number : (m : ℕ) (H : List Event) (o : ℕ) → IsLegalWithin window m H → length H < 268435456 → IsActive H o → IsIdentNumber o
 occurrence_number m H o legal few is =
-    let within = found_within (λ a. a.occ) (operations H) o (operations_counted window m H legal) (forward_asked H o is) in
+    let within = found_within (λ a. a.occ) (operations H) o (operations_counted window m H legal) (active_asked H o is) in
     let made = few_operations H in
     (within.0, omega (arith, within.1, made, few))
 

@@ -1,11 +1,12 @@
--- The next action of an occurrence that goes forward, by its row.
-use Rattle.std.proofs.Common.{◌≡◌, ◌<◌, ◌≤◌, ◌+◌, ◌||◌, ◌&&◌, ◌==◌, ◌++◌, ◌∙◌, ℕ, zero, suc, List, [], ◌∷◌, Bool, true, false, not, Option, None, Some, is_some, refl, ap, sym, subst, arith, length, map, filter, reverse, slice_get, option_map, eqb-true}
-use Rattle.std.specs.List.{list_any, range_with_len}
+-- The next action of an active occurrence, by its row.
+use Rattle.std.proofs.Common.{◌≡◌, ◌<◌, ◌≤◌, ◌+◌, ◌||◌, ◌&&◌, ◌==◌, ◌++◌, ◌∙◌, ℕ, zero, suc, List, [], ◌∷◌, Bool, true, false, not, Option, None, Some, is_some, refl, ap, sym, subst, arith, length, map, filter, reverse, slice_get, option_map, eqb-true, eq-eqb}
+use Rattle.std.specs.List.{range_with_len}
 use Rattle.std.specs.Option.{option_map_or}
 use Rattle.std.specs.Prelude.{IfSome, if◌then◌else◌, option_and_then, unwrap_or}
 use mathlib.Core.List.{reverse-cons}
 use Rattle.lcm_events.specs.declared.attempts.Tag.{Tag}
-use Rattle.lcm_events.specs.declared.attempts.Way.TheVariants.{Forward}
+use Rattle.lcm_events.specs.declared.attempts.Way.{Way}
+use Rattle.lcm_events.specs.declared.attempts.Way.TheVariants.{Forward, Undo}
 use Rattle.lcm_events.specs.declared.changes.Change.{Change}
 use Rattle.lcm_events.specs.declared.states.OpState.{OpState}
 use Rattle.lcm_events.specs.declared.events.Event.{Event}
@@ -16,29 +17,30 @@ use Rattle.lcm_events.specs.declared.states.OpState.TheVariants.{Completed, Fail
 use Rattle.lcm_laws.specs.Planning.{PlansAreSmall}
 use Rattle.lcm_laws.proofs.GrantLaws.{granted_grant}
 use Rattle.lcm_laws.proofs.HoldLaws.{changes_of}
-use Rattle.lcm_laws.proofs.Lists.{by_test, first-none, not-true}
+use Rattle.lcm_laws.proofs.Lists.{by_test}
 use Rattle.lcm_model.specs.Allowed.{IsLegalWithin}
 use Rattle.lcm_model.specs.Attempts.{attempts, is_of, net, open_of}
 use Rattle.lcm_model.specs.Grants.{grant, has_ended, is_granted, location}
-use Rattle.lcm_model.specs.Moves.{is_final, state}
-use Rattle.lcm_model.specs.Next.{begin_of, first_open, is_at_net, look_at, next_action, next_in, next_while_asking, with_net}
+use Rattle.lcm_model.specs.Moves.{is_active, is_final, state}
+use Rattle.lcm_model.specs.Next.{begin_of, first_open, is_at_net, look_at, next_action, next_at_work, next_in, next_while_asking, with_net}
 use Rattle.lcm_model.specs.Operations.{changes, operation, operations}
-use Rattle.lcm_model.specs.Since.{cancels, has_call_failed, has_trouble, is_cancelled, is_forceful, is_forced}
+use Rattle.lcm_model.specs.Since.{has_call_failed, has_trouble, is_cancelled, is_forced}
 use Rattle.lcm_model.specs.Words.{first, first_some, last, when}
 use Rattle.lcm_model.specs.Work.{gives_up, window}
 use Rattle.lcm_model.specs.declared.actions.Action.{Action}
-use Rattle.lcm_model.specs.declared.actions.Action.TheVariants.{AskForGrant, Begin, Look, MoveTo, Poll}
+use Rattle.lcm_model.specs.declared.actions.Action.TheVariants.{AskForGrant, Begin, MoveTo, Poll}
 use Rattle.occ_table.specs.Ended.{is_over, kept, kept_grant, kept_where}
 use Rattle.occ_table.specs.Rows.{cancel, numbers, occurrence, pending_of, pendings, row}
-use Rattle.occ_table.specs.Steps.{gives_up_row}
+use Rattle.occ_table.specs.Steps.{gives_up_row, is_forced_mode}
 use Rattle.occ_table.specs.declared.pending.Pending.{Pending}
 use Rattle.occ_table.specs.declared.rows.OccRow.{OccRow}
 use Rattle.occ_table.proofs.JudgeLaws.{found_in, found_row}
 use Rattle.occ_table.proofs.MoveLaws.{cancelled_row, forced_row}
 use Rattle.occ_table.proofs.PhaseLaws.{get-range}
-use Rattle.occ_work.specs.Forward.{IsForward, goes_forward}
-use Rattle.occ_work.specs.Steps.{FitsTags, asking_by_row, beginning_by_row, first_waiting, is_waiting, making_by_row, next_by_row, next_in_state, next_tag}
-use Rattle.occ_work.proofs.ForwardLemmas.{forward_on, has_row, forward_state}
+use Rattle.occ_work.specs.Active.{IsActive}
+use Rattle.occ_work.specs.Steps.{FitsTags, asking_by_row, beginning_by_row, end_of, is_at_row, next_at, next_by_row, next_in_state, next_tag, with_net_in, working_by_row}
+use Rattle.rollback_plan.proofs.NetLaws.{last-is}
+use Rattle.occ_work.proofs.ActiveLemmas.{active_on, active_state, has_row}
 
 some_map : {A B : Type 0} → (f : A → B) (x : Option A) → is_some (option_map f x) ≡ is_some x
 some_map f None = refl
@@ -94,10 +96,6 @@ first_mapped f (x ∷ xs) =
 first_pending : (H : List Event) (o : ℕ) → first (pendings H o) ≡ option_map (pending_of H) (first_open H o)
 first_pending H o = first_mapped (pending_of H) (open_of H o)
 
--- no cancel in force is no FORCEFUL one
-never_forced : (H : List Event) (o : ℕ) → is_cancelled H o ≡ false → is_forced H o ≡ false
-never_forced H o calm = ap (list_any is_forceful) (first-none (cancels H o) calm)
-
 same_from : (p q : ℕ → Bool) (k n : ℕ) → ((c : ℕ) → k ≤ c → c < k + n → p c ≡ q c) → filter p (range_with_len k n) ≡ filter q (range_with_len k n)
 same_from p q k zero f = refl
 same_from p q k (suc n) f =
@@ -116,18 +114,46 @@ first_within p k (suc n) c e = by_test (p k)
       some_same : {x y : ℕ} → Some x ≡ Some y → x ≡ y
       some_same e = cc
 
--- a change waits in the row where its net is 0
-waits : (H : List Event) (a : Operation) (c : ℕ) → c < length a.changes → is_waiting (row H a) c ≡ is_at_net H a.occ 0 c
-unfolding is_at_net
-waits H a c within =
-    let zeroth : 0 + c ≡ c = omega arith in
-    ap (λ (x : Option ℕ). option_map_or (λ n. n == 0) x false) (get-range (net H a.occ) 0 (length a.changes) c within ∙ ap (λ (m : ℕ). Some (net H a.occ m)) zeroth)
+-- and so is the last
+last_of : (m k c : ℕ) (x : Option ℕ) → ((d : ℕ) → x ≡ Some d → d < m) → k < m → Some (unwrap_or x k) ≡ Some c → c < m
+last_of m k c None within here e = let is : k ≡ c = cc in omega (arith, is, here)
+last_of m k c (Some d) within here e = let is : d ≡ c = cc in let less = within d refl in omega (arith, is, less)
 
--- the change that is made next is the first of the row that waits
-first_waits : (H : List Event) (a : Operation) → operation H a.occ ≡ Some a → first_waiting (row H a) ≡ first (with_net H a.occ 0)
-first_waits H a found =
-    ap first (same_from (is_waiting (row H a)) (is_at_net H a.occ 0) 0 (length a.changes) (λ c low high. waits H a c (omega (arith, high))))
-    ∙ ap (λ (xs : List Change). first (filter (is_at_net H a.occ 0) (range_with_len 0 (length xs)))) (sym (changes_of H a.occ a found))
+last_within : (p : ℕ → Bool) (k n c : ℕ) → last (filter p (range_with_len k n)) ≡ Some c → c < k + n
+last_within p k zero c e = cc
+last_within p k (suc n) c e = by_test (p k)
+    (λ holds.
+    last_of (k + suc n) k c (last (filter p (range_with_len (k + 1) n))) (λ d is. let rest = last_within p (k + 1) n d is in omega (arith, rest)) (omega arith)
+    (sym (rw holds refl) ∙ e))
+    (λ fails. let rest = last_within p (k + 1) n c (sym (rw fails refl) ∙ e) in omega (arith, rest))
+
+-- the change that is attempted next is one of the row
+next_within : (way : Way) (r : OccRow) (c : ℕ) → next_at way r ≡ Some c → c < length r.changes
+next_within Forward r c e = let within = first_within (is_at_row 0 r) 0 (length r.changes) c e in omega (arith, within)
+next_within Undo r c e = let within = last_within (is_at_row 1 r) 0 (length r.changes) c e in omega (arith, within)
+
+-- a change has a net in the row where it has it
+has_net_row : (H : List Event) (a : Operation) (n c : ℕ) → c < length a.changes → is_at_row n (row H a) c ≡ is_at_net H a.occ n c
+unfolding is_at_net
+has_net_row H a n c within =
+    let zeroth : 0 + c ≡ c = omega arith in
+    ap (λ (x : Option ℕ). option_map_or (λ m. m == n) x false) (get-range (net H a.occ) 0 (length a.changes) c within ∙ ap (λ (m : ℕ). Some (net H a.occ m)) zeroth)
+
+-- the changes with a net are those of the row
+with_net_row : (H : List Event) (a : Operation) (n : ℕ) → operation H a.occ ≡ Some a → with_net_in n (row H a) ≡ with_net H a.occ n
+with_net_row H a n found =
+    same_from (is_at_row n (row H a)) (is_at_net H a.occ n) 0 (length a.changes) (λ c low high. has_net_row H a n c (omega (arith, high)))
+    ∙ ap (λ (xs : List Change). filter (is_at_net H a.occ n) (range_with_len 0 (length xs))) (sym (changes_of H a.occ a found))
+
+-- the change that comes next in this way
+abbrev next_of : Way → List Event → ℕ → Option ℕ
+next_of Forward H o = first (with_net H o 0)
+next_of Undo H o = last (with_net H o 1)
+
+-- is that of the row
+next_row : (H : List Event) (a : Operation) (way : Way) → operation H a.occ ≡ Some a → next_at way (row H a) ≡ next_of way H a.occ
+next_row H a Forward found = ap first (with_net_row H a 0 found)
+next_row H a Undo found = ap last (with_net_row H a 1 found)
 
 -- how many attempts there were at a change
 abbrev tried : List Event → ℕ → ℕ → ℕ
@@ -140,57 +166,54 @@ tries_row H a c on within =
     ap (λ (over : Bool). unwrap_or (slice_get (kept over (map (tried H a.occ) (numbers a))) c) 0) on
     ∙ ap (λ (x : Option ℕ). unwrap_or x 0) (get-range (tried H a.occ) 0 (length a.changes) c within ∙ ap (λ (m : ℕ). Some (tried H a.occ m)) zeroth)
 
-begin_row : (H : List Event) (a : Operation) (c : ℕ) → is_over H a.occ ≡ false → c < length a.changes → begin_of H a.occ Forward c ≡ Begin (next_tag a.occ (row H a) c)
-begin_row H a c on within = ap (λ (n : ℕ). Begin (record { occ = a.occ; change = c; attempt = n + 1; way = Forward })) (sym (tries_row H a c on within))
+begin_row : (H : List Event) (a : Operation) (way : Way) (c : ℕ) → is_over H a.occ ≡ false → c < length a.changes
+    → begin_of H a.occ way c ≡ Begin (next_tag a.occ way (row H a) c)
+begin_row H a way c on within = ap (λ (n : ℕ). Begin (record { occ = a.occ; change = c; attempt = n + 1; way = way })) (sym (tries_row H a c on within))
 
--- the begin of the next change, or that all are made
-begins_row : (H : List Event) (a : Operation) (x : Option ℕ) → is_over H a.occ ≡ false → first_waiting (row H a) ≡ x
-    → first_some (option_map (begin_of H a.occ Forward) x ∷ Some (MoveTo Completed) ∷ []) ≡ Some (option_map_or (λ c. Begin (next_tag a.occ (row H a) c)) x (MoveTo Completed))
-begins_row H a None on is = refl
-begins_row H a (Some c) on is =
-    let within = first_within (is_waiting (row H a)) 0 (length a.changes) c is in ap Some (begin_row H a c on (omega (arith, within)))
+-- the begin of the next change, or that none is left
+begins_row : (H : List Event) (a : Operation) (way : Way) (x : Option ℕ) → is_over H a.occ ≡ false → next_at way (row H a) ≡ x
+    → first_some (option_map (begin_of H a.occ way) x ∷ Some (MoveTo (end_of way)) ∷ [])
+    ≡ Some (option_map_or (λ c. Begin (next_tag a.occ way (row H a) c)) x (MoveTo (end_of way)))
+begins_row H a way None on is = refl
+begins_row H a way (Some c) on is = ap Some (begin_row H a way c on (next_within way (row H a) c is))
 
--- the action by an open attempt, trouble, and what is done where there is neither
-at_work : (p : Option Tag) (failed : Tag → Bool) (trouble : Bool) (lines : List (Option Action)) (last_line : Action) → first_some lines ≡ Some last_line
-    → first_some (option_map (look_at false) p ∷ when trouble (MoveTo FailedTemp) ∷ lines)
-    ≡ Some (option_map_or (λ (q : Pending). Look q.tag) (option_map (λ (t : Tag). record { tag = t; failed = failed t }) p) (if trouble then MoveTo FailedTemp else last_line))
-at_work (Some t) failed trouble lines last_line e = refl
-at_work None failed true lines last_line e = refl
-at_work None failed false lines last_line e = e
+-- the action by an open attempt, what stops the work, and what is done where there is neither
+at_work : (p : Option Tag) (forced : Bool) (failed : Tag → Bool) (stops : Bool) (lines : List (Option Action)) (last_line : Action) → first_some lines ≡ Some last_line
+    → first_some (option_map (look_at forced) p ∷ when stops (MoveTo FailedTemp) ∷ lines)
+    ≡ Some (option_map_or (λ (q : Pending). look_at forced q.tag) (option_map (λ (t : Tag). record { tag = t; failed = failed t }) p) (if stops then MoveTo FailedTemp else last_line))
+at_work (Some t) forced failed stops lines last_line e = refl
+at_work None forced failed true lines last_line e = refl
+at_work None forced failed false lines last_line e = e
 
-or_false : (b : Bool) → (b || false) ≡ b
-or_false true = refl
-or_false false = refl
-
-making_row : (H : List Event) (a : Operation) → operation H a.occ ≡ Some a → state H a.occ ≡ Processing → is_cancelled H a.occ ≡ false
-    → next_in Processing H a.occ ≡ Some (making_by_row a.occ (row H a))
-making_row H a found at calm =
+working_row : (H : List Event) (a : Operation) (way : Way) → operation H a.occ ≡ Some a → is_over H a.occ ≡ false
+    → next_at_work H a.occ (option_map (begin_of H a.occ way) (next_of way H a.occ) ∷ Some (MoveTo (end_of way)) ∷ []) ≡ Some (working_by_row a.occ way (row H a))
+working_row H a way found on =
     let o : ℕ = a.occ in
-    let lines : Option ℕ → List (Option Action) = λ x. option_map (begin_of H o Forward) x ∷ Some (MoveTo Completed) ∷ [] in
-    ap (λ (f : Bool). first_some (option_map (look_at f) (first_open H o) ∷ when (has_trouble H o || is_cancelled H o) (MoveTo FailedTemp) ∷ lines (first (with_net H o 0)))) (never_forced H o calm)
-    ∙ (ap (λ (c : Bool). first_some (option_map (look_at false) (first_open H o) ∷ when (has_trouble H o || c) (MoveTo FailedTemp) ∷ lines (first (with_net H o 0)))) calm
-    ∙ (ap (λ (c : Bool). first_some (option_map (look_at false) (first_open H o) ∷ when c (MoveTo FailedTemp) ∷ lines (first (with_net H o 0)))) (or_false (has_trouble H o))
-    ∙ (ap (λ (x : Option ℕ). first_some (option_map (look_at false) (first_open H o) ∷ when (has_trouble H o) (MoveTo FailedTemp) ∷ lines x)) (sym (first_waits H a found))
-    ∙ (at_work (first_open H o) (has_call_failed H) (has_trouble H o) (lines (first_waiting (row H a))) _ (begins_row H a (first_waiting (row H a)) (ap is_final at) refl)
-    ∙ ap (λ (x : Option Pending). Some (option_map_or (λ (q : Pending). Look q.tag) x (beginning_by_row o (row H a)))) (sym (first_pending H o))))))
+    let forced : Bool = is_forced_mode (cancel H o) in
+    let lines : Option ℕ → List (Option Action) = λ x. option_map (begin_of H o way) x ∷ Some (MoveTo (end_of way)) ∷ [] in
+    ap (λ (f : Bool). first_some (option_map (look_at f) (first_open H o) ∷ when (has_trouble H o || is_cancelled H o) (MoveTo FailedTemp) ∷ lines (next_of way H o))) (sym (forced_row H o))
+    ∙ (ap (λ (c : Bool). first_some (option_map (look_at forced) (first_open H o) ∷ when (has_trouble H o || c) (MoveTo FailedTemp) ∷ lines (next_of way H o))) (sym (cancelled_row H o))
+    ∙ (ap (λ (x : Option ℕ). first_some (option_map (look_at forced) (first_open H o) ∷ when (has_trouble H o || is_some (cancel H o)) (MoveTo FailedTemp) ∷ lines x)) (sym (next_row H a way found))
+    ∙ (at_work (first_open H o) forced (has_call_failed H) (has_trouble H o || is_some (cancel H o)) (lines (next_at way (row H a))) _ (begins_row H a way (next_at way (row H a)) on refl)
+    ∙ ap (λ (x : Option Pending). Some (option_map_or (λ (q : Pending). look_at forced q.tag) x (beginning_by_row o way (row H a)))) (sym (first_pending H o)))))
 
-by_state : (H : List Event) (a : Operation) (s : OpState) → operation H a.occ ≡ Some a → state H a.occ ≡ s → goes_forward s (is_cancelled H a.occ) ≡ true
+by_state : (H : List Event) (a : Operation) (s : OpState) → operation H a.occ ≡ Some a → state H a.occ ≡ s → is_active s ≡ true
     → next_in s H a.occ ≡ Some (next_in_state s a.occ (row H a))
 by_state H a Starting found at on = asking_row H a at
-by_state H a Processing found at on = making_row H a found at (not-true (is_cancelled H a.occ) on)
+by_state H a Processing found at on = working_row H a Forward found (ap is_final at)
+by_state H a RollingBack found at on = working_row H a Undo found (ap is_final at)
 by_state H a FailedTemp found at on = cc
-by_state H a RollingBack found at on = cc
 by_state H a Completed found at on = cc
 by_state H a Failed found at on = cc
 by_state H a RolledBack found at on = cc
 
--- the next action of an occurrence that goes forward is that of its row
-pub next_of_row : (H : List Event) (o : ℕ) (r : OccRow) → IsForward H o → occurrence H o ≡ Some r → next_action H o ≡ Some (next_by_row o r)
+-- the next action of an active occurrence is that of its row
+pub next_of_row : (H : List Event) (o : ℕ) (r : OccRow) → IsActive H o → occurrence H o ≡ Some r → next_action H o ≡ Some (next_by_row o r)
 next_of_row H o r is found =
     let mine = found_row H o r found in
     let a : Operation = mine.0 in
     let here : operation H a.occ ≡ Some a = ap (operation H) mine.2 ∙ mine.1 in
-    let on : goes_forward (state H a.occ) (is_cancelled H a.occ) ≡ true = subst (λ (n : ℕ). goes_forward (state H n) (is_cancelled H n) ≡ true) (sym mine.2) (forward_state H o is) in
+    let on : is_active (state H a.occ) ≡ true = subst (λ (n : ℕ). is_active (state H n) ≡ true) (sym mine.2) (active_state H o is) in
     let own : next_action H a.occ ≡ next_in (state H a.occ) H a.occ = ap (option_and_then (λ (b : Operation). next_in (state H a.occ) H a.occ)) here in
     ap (next_action H) (sym mine.2)
     ∙ (own
@@ -244,39 +267,65 @@ least_passes p k (suc n) c low high passes under = by_test (k == c)
       below : (k c : ℕ) → k ≤ c → (k == c) ≡ false → k < c
       below k c low other = grind (arith, low, other)
 
--- a net, where there is one, is 0
-abbrev is_zero : Option ℕ → Bool
-is_zero x = option_map_or (λ n. n == 0) x false
+-- a net, where there is one, is this
+abbrev is_net : ℕ → Option ℕ → Bool
+is_net n x = option_map_or (λ m. m == n) x false
 
-not_zero : (x : Option ℕ) → ¬ (x ≡ Some 0) → is_zero x ≡ false
-not_zero None apart = refl
-not_zero (Some n) apart = by_test (n == 0) (λ same. absurd (apart (ap Some (eqb-true n 0 same)))) (λ other. other)
+is_some_net : (n : ℕ) (x : Option ℕ) → x ≡ Some n → is_net n x ≡ true
+is_some_net n x is = ap (is_net n) is ∙ eq-eqb n n refl
+
+not_net : (n : ℕ) (x : Option ℕ) → ¬ (x ≡ Some n) → is_net n x ≡ false
+not_net n None apart = refl
+not_net n (Some m) apart = by_test (m == n) (λ same. absurd (apart (ap Some (eqb-true m n same)))) (λ other. other)
 
 first_zero : (n : ℕ) (ns : List ℕ) (x : Option ℕ) → IfSome x (λ c. c < n) → IfSome x (λ c. slice_get ns c ≡ Some 0) → IfSome x (λ c. (j : ℕ) → j < c → ¬ (slice_get ns j ≡ Some 0))
-    → (x ≡ None → (c : ℕ) → c < n → ¬ (slice_get ns c ≡ Some 0)) → first (filter (λ c. is_zero (slice_get ns c)) (range_with_len 0 n)) ≡ x
-first_zero n ns None known zeroth least none = none_passes (λ c. is_zero (slice_get ns c)) 0 n (λ c less. not_zero (slice_get ns c) (none refl c (omega (arith, less))))
+    → (x ≡ None → (c : ℕ) → c < n → ¬ (slice_get ns c ≡ Some 0)) → first (filter (λ c. is_net 0 (slice_get ns c)) (range_with_len 0 n)) ≡ x
+first_zero n ns None known zeroth least none = none_passes (λ c. is_net 0 (slice_get ns c)) 0 n (λ c less. not_net 0 (slice_get ns c) (none refl c (omega (arith, less))))
 first_zero n ns (Some c) known zeroth least none =
-    least_passes (λ c. is_zero (slice_get ns c)) 0 n c (omega arith) (omega (arith, known)) (ap is_zero zeroth) (λ j less. not_zero (slice_get ns j) (least j less))
+    least_passes (λ c. is_net 0 (slice_get ns c)) 0 n c (omega arith) (omega (arith, known)) (is_some_net 0 (slice_get ns c) zeroth) (λ j less. not_net 0 (slice_get ns j) (least j less))
 
--- what is found among the changes of a row and their nets is the first that waits
-pub found_waiting : (r : OccRow) (xs : List Change) (ns : List ℕ) (x : Option ℕ) → xs ≡ r.changes → ns ≡ r.nets
+last_one : (n : ℕ) (ns : List ℕ) (x : Option ℕ) → IfSome x (λ c. c < n) → IfSome x (λ c. slice_get ns c ≡ Some 1)
+    → IfSome x (λ c. (j : ℕ) → c < j → j < n → ¬ (slice_get ns j ≡ Some 1)) → (x ≡ None → (c : ℕ) → c < n → ¬ (slice_get ns c ≡ Some 1))
+    → last (filter (λ c. is_net 1 (slice_get ns c)) (range_with_len 0 n)) ≡ x
+last_one n ns None known made greatest none =
+    sym (last-is (λ c. is_net 1 (slice_get ns c)) n None tt tt tt (λ e c less. not_net 1 (slice_get ns c) (none refl c less)))
+last_one n ns (Some c) known made greatest none =
+    sym (last-is (λ c. is_net 1 (slice_get ns c)) n (Some c) known (is_some_net 1 (slice_get ns c) made) (λ j up less. not_net 1 (slice_get ns j) (greatest j up less)) (λ e j less. absurd cc))
+
+-- the test of nets among the changes of a row
+of_row : (r : OccRow) (xs : List Change) (ns : List ℕ) (n : ℕ) → xs ≡ r.changes → ns ≡ r.nets
+    → with_net_in n r ≡ filter (λ c. is_net n (slice_get ns c)) (range_with_len 0 (length xs))
+of_row r xs ns n plan made =
+    ap (λ (ms : List ℕ). filter (λ c. is_net n (slice_get ms c)) (range_with_len 0 (length r.changes))) (sym made)
+    ∙ ap (λ (ys : List Change). filter (λ c. is_net n (slice_get ns c)) (range_with_len 0 (length ys))) (sym plan)
+
+-- what is found among the changes of a row and their nets is the first that isn't made
+pub found_first : (r : OccRow) (xs : List Change) (ns : List ℕ) (x : Option ℕ) → xs ≡ r.changes → ns ≡ r.nets
     → IfSome x (λ c. c < length xs) → IfSome x (λ c. slice_get ns c ≡ Some 0) → IfSome x (λ c. (j : ℕ) → j < c → ¬ (slice_get ns j ≡ Some 0))
-    → (x ≡ None → (c : ℕ) → c < length xs → ¬ (slice_get ns c ≡ Some 0)) → first_waiting r ≡ x
-found_waiting r xs ns x plan made known zeroth least none =
-    ap (λ (ms : List ℕ). first (filter (λ c. is_zero (slice_get ms c)) (range_with_len 0 (length r.changes)))) (sym made)
-    ∙ (ap (λ (ys : List Change). first (filter (λ c. is_zero (slice_get ns c)) (range_with_len 0 (length ys)))) (sym plan) ∙ first_zero (length xs) ns x known zeroth least none)
+    → (x ≡ None → (c : ℕ) → c < length xs → ¬ (slice_get ns c ≡ Some 0)) → next_at Forward r ≡ x
+found_first r xs ns x plan made known zeroth least none = ap first (of_row r xs ns 0 plan made) ∙ first_zero (length xs) ns x known zeroth least none
 
--- the begin of the change that is found, or that all are made
-pub begins_found : (o : ℕ) (r : OccRow) (x : Option ℕ) → r.trouble ≡ false → first_waiting r ≡ x
-    → beginning_by_row o r ≡ option_map_or (λ c. Begin (next_tag o r c)) x (MoveTo Completed)
-begins_found o r x calm found = rw (calm, found) refl
+-- or the last that is made
+pub found_last : (r : OccRow) (xs : List Change) (ns : List ℕ) (x : Option ℕ) → xs ≡ r.changes → ns ≡ r.nets
+    → IfSome x (λ c. c < length xs) → IfSome x (λ c. slice_get ns c ≡ Some 1) → IfSome x (λ c. (j : ℕ) → c < j → j < length xs → ¬ (slice_get ns j ≡ Some 1))
+    → (x ≡ None → (c : ℕ) → c < length xs → ¬ (slice_get ns c ≡ Some 1)) → next_at Undo r ≡ x
+found_last r xs ns x plan made known ones greatest none = ap last (of_row r xs ns 1 plan made) ∙ last_one (length xs) ns x known ones greatest none
+
+-- the next change is one of the row
+pub next_known : (way : Way) (r : OccRow) (x : Option ℕ) (c : ℕ) → x ≡ next_at way r → x ≡ Some c → c < length r.changes
+next_known way r x c is found = next_within way r c (sym is ∙ found)
+
+-- the begin of the change that is found, or that none is left
+pub begins_found : (o : ℕ) (way : Way) (r : OccRow) (x : Option ℕ) → (r.trouble || is_some r.cancel) ≡ false → next_at way r ≡ x
+    → beginning_by_row o way r ≡ option_map_or (λ c. Begin (next_tag o way r c)) x (MoveTo (end_of way))
+begins_found o way r x calm found = rw (calm, found) refl
 
 -- the location is that of the row
-pub location_of_row : (H : List Event) (o : ℕ) (r : OccRow) → IsForward H o → occurrence H o ≡ Some r → location H o ≡ r.location
+pub location_of_row : (H : List Event) (o : ℕ) (r : OccRow) → IsActive H o → occurrence H o ≡ Some r → location H o ≡ r.location
 location_of_row H o r is found =
     let mine = found_row H o r found in
     ap (location H) (sym mine.2)
-    ∙ (sym (kept_location H mine.0 (ap (λ (n : ℕ). is_final (state H n)) mine.2 ∙ forward_on H o is)) ∙ ap (λ (x : OccRow). x.location) mine.3)
+    ∙ (sym (kept_location H mine.0 (ap (λ (n : ℕ). is_final (state H n)) mine.2 ∙ active_on H o is)) ∙ ap (λ (x : OccRow). x.location) mine.3)
 
 -- a location is known where the next action is to poll it
 polls_known : (o : ℕ) (r : OccRow) → next_by_row o r ≡ Poll → r.location ≡ None → ⊥
@@ -286,18 +335,23 @@ polls_known o r polls none = in_state r.state polls where
   asking false true e = cc
   asking false false e = cc
 
-  beginning : (trouble : Bool) (x : Option ℕ) → (if trouble then MoveTo FailedTemp else option_map_or (λ c. Begin (next_tag o r c)) x (MoveTo Completed)) ≡ Poll → ⊥
-  beginning true x e = cc
-  beginning false None e = cc
-  beginning false (Some c) e = cc
+  beginning : (way : Way) (stops : Bool) (x : Option ℕ) → (if stops then MoveTo FailedTemp else option_map_or (λ c. Begin (next_tag o way r c)) x (MoveTo (end_of way))) ≡ Poll → ⊥
+  beginning way true x e = cc
+  beginning way false None e = cc
+  beginning way false (Some c) e = cc
 
-  making : (x : Option Pending) → option_map_or (λ (p : Pending). Look p.tag) x (beginning_by_row o r) ≡ Poll → ⊥
-  making None e = beginning r.trouble (first_waiting r) e
-  making (Some p) e = cc
+  looking : (forced : Bool) (t : Tag) → look_at forced t ≡ Poll → ⊥
+  looking true t e = cc
+  looking false t e = cc
+
+  working : (way : Way) (x : Option Pending) → option_map_or (λ (p : Pending). look_at (is_forced_mode r.cancel) p.tag) x (beginning_by_row o way r) ≡ Poll → ⊥
+  working way None e = beginning way (r.trouble || is_some r.cancel) (next_at way r) e
+  working way (Some p) e = looking (is_forced_mode r.cancel) p.tag e
 
   in_state : (s : OpState) → next_in_state s o r ≡ Poll → ⊥
   in_state Starting e = asking (gives_up_row r) (is_some r.grant) (rw none at e)
-  in_state _ e = making (first r.pending) e
+  in_state RollingBack e = working Undo (first r.pending) e
+  in_state _ e = working Forward (first r.pending) e
 
 -- an attempt that begins is of the occurrence
 begins_of : (o : ℕ) (r : OccRow) (t : Tag) → next_by_row o r ≡ Begin t → t.occ ≡ o
@@ -308,20 +362,26 @@ begins_of o r t begins = in_state r.state begins where
   asking false false true e = cc
   asking false false false e = cc
 
-  beginning : (trouble : Bool) (x : Option ℕ) → (if trouble then MoveTo FailedTemp else option_map_or (λ c. Begin (next_tag o r c)) x (MoveTo Completed)) ≡ Begin t → t.occ ≡ o
-  beginning true x e = cc
-  beginning false None e = cc
-  beginning false (Some c) e = let same : next_tag o r c ≡ t = cc in sym (ap (λ (x : Tag). x.occ) same)
+  beginning : (way : Way) (stops : Bool) (x : Option ℕ) → (if stops then MoveTo FailedTemp else option_map_or (λ c. Begin (next_tag o way r c)) x (MoveTo (end_of way))) ≡ Begin t
+      → t.occ ≡ o
+  beginning way true x e = cc
+  beginning way false None e = cc
+  beginning way false (Some c) e = let same : next_tag o way r c ≡ t = cc in sym (ap (λ (x : Tag). x.occ) same)
 
-  making : (x : Option Pending) → option_map_or (λ (p : Pending). Look p.tag) x (beginning_by_row o r) ≡ Begin t → t.occ ≡ o
-  making None e = beginning r.trouble (first_waiting r) e
-  making (Some p) e = cc
+  looking : (forced : Bool) (u : Tag) → look_at forced u ≡ Begin t → t.occ ≡ o
+  looking true u e = cc
+  looking false u e = cc
+
+  working : (way : Way) (x : Option Pending) → option_map_or (λ (p : Pending). look_at (is_forced_mode r.cancel) p.tag) x (beginning_by_row o way r) ≡ Begin t → t.occ ≡ o
+  working way None e = beginning way (r.trouble || is_some r.cancel) (next_at way r) e
+  working way (Some p) e = looking (is_forced_mode r.cancel) p.tag e
 
   in_state : (s : OpState) → next_in_state s o r ≡ Begin t → t.occ ≡ o
   in_state Starting e = asking (gives_up_row r) (is_some r.grant) (is_some r.location) e
-  in_state _ e = making (first r.pending) e
+  in_state RollingBack e = working Undo (first r.pending) e
+  in_state _ e = working Forward (first r.pending) e
 
-pub begins_own : (H : List Event) (o : ℕ) (t : Tag) → IsForward H o → next_action H o ≡ Some (Begin t) → t.occ ≡ o
+pub begins_own : (H : List Event) (o : ℕ) (t : Tag) → IsActive H o → next_action H o ≡ Some (Begin t) → t.occ ≡ o
 begins_own H o t is next = of (occurrence H o) refl where
   of : (x : Option OccRow) → occurrence H o ≡ x → t.occ ≡ o
   of None found = absurd (has_row H o is found)
@@ -330,14 +390,14 @@ begins_own H o t is next = of (occurrence H o) refl where
       let same : next_by_row o r ≡ Begin t = cc in
       begins_of o r t same
 
--- so that it is the next action of its own occurrence, which goes forward
-pub begins_there : (H : List Event) (o : ℕ) (t : Tag) → IsForward H o → next_action H o ≡ Some (Begin t) → IsForward H t.occ × (next_action H t.occ ≡ Some (Begin t))
+-- so that it is the next action of its own occurrence, which is active
+pub begins_there : (H : List Event) (o : ℕ) (t : Tag) → IsActive H o → next_action H o ≡ Some (Begin t) → IsActive H t.occ × (next_action H t.occ ≡ Some (Begin t))
 begins_there H o t is next =
     let own = sym (begins_own H o t is next) in
-    (subst (λ (n : ℕ). IsForward H n) own is, subst (λ (n : ℕ). next_action H n ≡ Some (Begin t)) own next)
+    (subst (λ (n : ℕ). IsActive H n) own is, subst (λ (n : ℕ). next_action H n ≡ Some (Begin t)) own next)
 
--- and so where it is the next action of an occurrence that goes forward
-pub polled_row : (H : List Event) (o : ℕ) (r : OccRow) → IsForward H o → occurrence H o ≡ Some r → next_action H o ≡ Some Poll → r.location ≡ None → ⊥
+-- and so where it is the next action of an active occurrence
+pub polled_row : (H : List Event) (o : ℕ) (r : OccRow) → IsActive H o → occurrence H o ≡ Some r → next_action H o ≡ Some Poll → r.location ≡ None → ⊥
 polled_row H o r is found polls none =
     let both : Some (next_by_row o r) ≡ Some Poll = sym (next_of_row H o r is found) ∙ polls in
     let same : next_by_row o r ≡ Poll = cc in

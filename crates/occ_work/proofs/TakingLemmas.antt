@@ -47,9 +47,9 @@ use Rattle.site_traits.specs.declared.orchestrator.Call.{Call}
 use Rattle.site_traits.specs.declared.orchestrator.Call.TheVariants as call
 use Rattle.occ_work.specs.Acting.{Records}
 use Rattle.occ_work.specs.Acting.{TellsRoomFor, recording}
-use Rattle.occ_work.specs.Forward.{IsForward}
+use Rattle.occ_work.specs.Active.{IsActive}
 use Rattle.occ_work.proofs.AttemptLemmas.{AreFew}
-use Rattle.occ_work.proofs.ForwardLemmas.{forward_asked}
+use Rattle.occ_work.proofs.ActiveLemmas.{active_asked}
 use Rattle.executor.proofs.WorkLemmas.{with_jobs}
 use Rattle.occ_work.specs.declared.ends.Acted.{Acted}
 use Rattle.occ_work.specs.declared.ends.Acted.TheVariants.{Recorded, Waiting}
@@ -200,12 +200,12 @@ appended_for false o answer = refl
 
 -- what an answer appends may be recorded
 pub may_take : (m now : ℕ) (H : List Event) (o : ℕ) (asking : Bool) (ended : Call) (heard : Heard) (kind : EventKind) → NextActionsAreAllowed → CoveringRowsPlaceChanges
-    → IsLegal m H → IsForward H o → next_action H o ≡ Some (exchanging asking)
+    → IsLegal m H → IsActive H o → next_action H o ≡ Some (exchanging asking)
     → kinds_for asking o (answer_heard asking (changes H o) ended heard) ≡ kind ∷ [] → MayRecord m H (record { moment = now; kind = kind })
 may_take m now H o asking ended heard kind allows placed legal is next one =
     let answer : Answer = answer_heard asking (changes H o) ended heard in
     let good = is_answer H o asking ended heard placed in
-    let onward = allows window m H (omega arith) legal o now (exchanging asking) answer (forward_asked H o is) next good in
+    let onward = allows window m H (omega arith) legal o now (exchanging asking) answer (active_asked H o is) next good in
     let kinds : appended o (exchanging asking) answer ≡ kind ∷ [] = appended_for asking o answer ∙ one in
     let both : IsLegal m (with_events now (kind ∷ []) H) = subst (λ (ks : List EventKind). IsLegal m (with_events now ks H)) kinds onward in
     let of : IsOfExchange kind = subst AreOfExchange one (kinds_of_exchange asking o answer) in
@@ -231,20 +231,20 @@ is_moved H o from RolledBack h = refl
 is_moved H o from Failed h = refl
 
 -- a move may be recorded
-pub may_move_on : (m now : ℕ) (H : List Event) (o : ℕ) (to : OpState) → NextActionsAreAllowed → IsLegal m H → IsForward H o → next_action H o ≡ Some (MoveTo to)
+pub may_move_on : (m now : ℕ) (H : List Event) (o : ℕ) (to : OpState) → NextActionsAreAllowed → IsLegal m H → IsActive H o → next_action H o ≡ Some (MoveTo to)
     → MayRecord m H (record { moment = now; kind = Moved o to })
 may_move_on m now H o to allows legal is next =
-    let onward = allows window m H (omega arith) legal o now (MoveTo to) GrantTrouble (forward_asked H o is) next tt in
+    let onward = allows window m H (omega arith) legal o now (MoveTo to) GrantTrouble (active_asked H o is) next tt in
     record { rules = λ typed. (typed.0, (typed.1, is_moved H o (state H o) to onward.0.1)); allowed = onward.0; unsettled = refl }
 
 -- and so may the event of it
 pub may_take_event : (m now : ℕ) (H : List Event) (o : ℕ) (asking : Bool) (ended : Call) (heard : Heard) (kind : EventKind) (e : Event) → NextActionsAreAllowed → CoveringRowsPlaceChanges
-    → IsLegal m H → IsForward H o → next_action H o ≡ Some (exchanging asking)
+    → IsLegal m H → IsActive H o → next_action H o ≡ Some (exchanging asking)
     → kinds_for asking o (answer_heard asking (changes H o) ended heard) ≡ kind ∷ [] → e ≡ record { moment = now; kind = kind } → MayRecord m H e
 may_take_event m now H o asking ended heard kind e allows placed legal is next one same =
     subst (λ (x : Event). MayRecord m H x) (sym same) (may_take m now H o asking ended heard kind allows placed legal is next one)
 
-pub may_move_event : (m now : ℕ) (H : List Event) (o : ℕ) (to : OpState) (e : Event) → NextActionsAreAllowed → IsLegal m H → IsForward H o → next_action H o ≡ Some (MoveTo to)
+pub may_move_event : (m now : ℕ) (H : List Event) (o : ℕ) (to : OpState) (e : Event) → NextActionsAreAllowed → IsLegal m H → IsActive H o → next_action H o ≡ Some (MoveTo to)
     → e ≡ record { moment = now; kind = Moved o to } → MayRecord m H e
 may_move_event m now H o to e allows legal is next same =
     subst (λ (x : Event). MayRecord m H x) (sym same) (may_move_on m now H o to allows legal is next)

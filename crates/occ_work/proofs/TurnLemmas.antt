@@ -10,7 +10,8 @@ use Rattle.lcm_events.specs.declared.events.Event.{Event}
 use Rattle.lcm_model.specs.Allowed.{IsLegal}
 use Rattle.occ_work.specs.Acting.{Acts, recording}
 use Rattle.occ_work.specs.Around.{Outside, Tells, around}
-use Rattle.occ_work.specs.Forward.{forwarding}
+use Rattle.occ_table.specs.Going.{active}
+use Rattle.occ_table.proofs.GoingLaws.{active-rises}
 use Rattle.occ_work.specs.Deeds.{Deed, Exchange, IsDeed, aborted, asked, began, looked, nothing, polled, IsExchangeOf, IsTried, IsUnexchanged, answered, ending, kinds_of, once_done}
 use Rattle.lcm_model.specs.declared.actions.Action.{Action}
 use Rattle.lcm_model.specs.declared.actions.Action.TheVariants.{AbortAndLook, AskForGrant, Begin, Look, MoveTo, Poll}
@@ -18,17 +19,18 @@ use Rattle.occ_work.specs.Counting.{CountsEndings}
 use Rattle.occ_work.specs.Turns.{DeedsDo, EndsTurn, TurnEnd, Turns, above, endings, once_all_done, stopped, through}
 use Rattle.occ_work.specs.declared.ends.Acted.{Acted}
 use Rattle.occ_work.specs.declared.ends.Turn.{Turn}
-use Rattle.occ_work.proofs.OrderLemmas.{all_above_zero, few_forwarding, first-above, forwarding-rises, none-above, others_stay}
+use Rattle.lcm_model.specs.Work.{window}
+use Rattle.occ_work.proofs.OrderLemmas.{all_above_zero, few_active, first-above, none-above, others_stay}
 
 abbrev pub numbers_of : List Deed → List ℕ
 numbers_of deeds = reverse (map (λ d. d.occ) deeds)
 
--- The acts so far: these deeds were done, for all occurrences that went forward up to this number, and none ended in a fault.
+-- The acts so far: these deeds were done, for all occurrences that were active up to this number, and none ended in a fault.
 pub record SoFar (t : Tells) (m n : Managed) (now after : ℕ) (turn : Turn) (H : List Event) (w v : Outside) : Type 0 where
   pub deeds : List Deed
   pub works : WorksWithJobs t.site m.ledger.manager H (went (once_all_done now H deeds)) n w.site v.site
   pub deeds_do : DeedsDo t m.ledger.manager now H deeds (around w) (around v)
-  pub order : numbers_of deeds ++ above after (forwarding (once_all_done now H deeds)) ≡ forwarding H
+  pub order : numbers_of deeds ++ above after (active (once_all_done now H deeds)) ≡ active H
   pub counts : CountsEndings turn (endings now H deeds)
 
 abbrev pub TurnSoFar : Tells → Managed → Managed → ℕ → ℕ → Turn → Outside → Outside → Type 0
@@ -90,17 +92,17 @@ numbers_on d deeds o rest all own before =
 
 -- the occurrence whose turn it is stands behind those before
 its_turn : (m now after : ℕ) (H : List Event) (deeds : List Deed) (o : ℕ) → IsLegal m (once_all_done now H deeds)
-    → find (λ k. nat_lt after k) (forwarding (once_all_done now H deeds)) ≡ Some o → numbers_of deeds ++ above after (forwarding (once_all_done now H deeds)) ≡ forwarding H
-    → numbers_of deeds ++ o ∷ above o (forwarding (once_all_done now H deeds)) ≡ forwarding H
+    → find (λ k. nat_lt after k) (active (once_all_done now H deeds)) ≡ Some o → numbers_of deeds ++ above after (active (once_all_done now H deeds)) ≡ active H
+    → numbers_of deeds ++ o ∷ above o (active (once_all_done now H deeds)) ≡ active H
 its_turn m now after H deeds o legal next order =
     let G : List Event = once_all_done now H deeds in
-    ap (λ (ns : List ℕ). numbers_of deeds ++ ns) (sym (first-above after (forwarding G) o (forwarding-rises m G legal) next)) ∙ order
+    ap (λ (ns : List ℕ). numbers_of deeds ++ ns) (sym (first-above after (active G) o (active-rises window m G legal) next)) ∙ order
 
 -- there are few acts
-few_deeds : (now : ℕ) (H : List Event) (deeds : List Deed) (rest : List ℕ) → numbers_of deeds ++ rest ≡ forwarding H → length (endings now H deeds) ≤ length H
+few_deeds : (now : ℕ) (H : List Event) (deeds : List Deed) (rest : List ℕ) → numbers_of deeds ++ rest ≡ active H → length (endings now H deeds) ≤ length H
 few_deeds now H deeds rest order =
-    let one = few_forwarding H in
-    let two : length (numbers_of deeds ++ rest) ≡ length (forwarding H) = ap length order in
+    let one = few_active H in
+    let two : length (numbers_of deeds ++ rest) ≡ length (active H) = ap length order in
     let three : length (numbers_of deeds ++ rest) ≡ length (numbers_of deeds) + length rest = length-append (numbers_of deeds) rest in
     let four : length (numbers_of deeds) ≡ length (map (λ (d : Deed). d.occ) deeds) = length-reverse (map (λ (d : Deed). d.occ) deeds) in
     let five : length (map (λ (d : Deed). d.occ) deeds) ≡ length deeds = length-map deeds (λ (d : Deed). d.occ) in
@@ -116,7 +118,7 @@ grown_long H G more is =
 -- one act more
 pub one_act_more : (t : Tells) (m n p : Managed) (now after o : ℕ) (turn counted : Turn) (done : Acted) (w u v : Outside) → TurnSoFar t m n now after turn w u
     → WorksWithJobsLeadOn t.site w.site u.site → WorksWithJobsJoin t.site w.site u.site v.site
-    → ((G : List Event) → IsReady t.site n G u.site → (find (λ k. nat_lt after k) (forwarding G) ≡ Some o) × (length G < 268435456))
+    → ((G : List Event) → IsReady t.site n G u.site → (find (λ k. nat_lt after k) (active G) ≡ Some o) × (length G < 268435456))
     → ((G : List Event) → IsReady t.site n G u.site → (d : Deed) × (d.occ ≡ o) × Acts t n.ledger.manager now G d (Ok done) p u v)
     → ((ends : List Acted) → length ends < 4294967295 → CountsEndings turn ends → CountsEndings counted (done ∷ ends))
     → TurnSoFar t m p now o counted w v
@@ -130,7 +132,7 @@ one_act_more t m n p now after o turn counted done w u v so_far leads joins next
     let number : n.ledger.manager ≡ m.ledger.manager = it.works.at_file.number in
     let acts : Acts t m.ledger.manager now G d (Ok done) p u v = subst (λ (k : ℕ). Acts t k now G d (Ok done) p u v) number did.2 in
     let order = its_turn m.ledger.manager now after H it.deeds o (subst (λ (k : ℕ). IsLegal k G) number upon.keeps.kept.legal) which.0 it.order in
-    let few = few_deeds now H it.deeds (o ∷ above o (forwarding G)) order in
+    let few = few_deeds now H it.deeds (o ∷ above o (active G)) order in
     let long = grown_long H G it.works.at_file.grows.to_stood.more it.works.at_file.grows.to_stood.is in
     let small = which.1 in
     let end_is : done ≡ ending d.action (answered G d) = acts.ended in
@@ -140,20 +142,20 @@ one_act_more t m n p now after o turn counted done w u v so_far leads joins next
       deeds_do = (around u, it.deeds_do, was_done m.ledger.manager G d done acts.tried, acts.exchanged);
       order =
           ap (λ (ns : List ℕ). numbers_of (d ∷ it.deeds) ++ ns)
-          (subst (λ (k : ℕ). above k (forwarding (once_done now G d)) ≡ above k (forwarding G)) did.1 (others_stay now G d.occ d.action (answered G d)))
-          ∙ numbers_on d it.deeds o (above o (forwarding G)) (forwarding H) did.1 order;
+          (subst (λ (k : ℕ). above k (active (once_done now G d)) ≡ above k (active G)) did.1 (others_stay now G d.occ d.action (answered G d)))
+          ∙ numbers_on d it.deeds o (above o (active G)) (active H) did.1 order;
       counts = subst (λ (e : Acted). CountsEndings counted (e ∷ endings now H it.deeds)) end_is (counts (endings now H it.deeds) (omega (arith, few, long, small)) it.counts);
     }
 
 -- all acts were made
 pub went_through : (t : Tells) (m n : Managed) (now after : ℕ) (turn : Turn) (w v : Outside) → TurnSoFar t m n now after turn w v → WorksWithJobsLeadOn t.site w.site v.site
-    → ((G : List Event) → IsReady t.site n G v.site → find (λ k. nat_lt after k) (forwarding G) ≡ None)
+    → ((G : List Event) → IsReady t.site n G v.site → find (λ k. nat_lt after k) (active G) ≡ None)
     → (H : List Event) → IsReady t.site m H w.site
     → (deeds : List Deed) × (end : TurnEnd) × Turns t m.ledger.manager now H deeds end n w v × EndsTurn (Ok turn) (endings now H deeds) end
 went_through t m n now after turn w v so_far leads none H ready =
     let it = so_far H ready in
     let G : List Event = once_all_done now H it.deeds in
-    let over = none-above after (forwarding G) (none G (leads m.ledger.manager H (went G) n it.works refl)) in (
+    let over = none-above after (active G) (none G (leads m.ledger.manager H (went G) n it.works refl)) in (
       it.deeds,
       through,
       record {
@@ -172,7 +174,7 @@ went_through t m n now after turn w v so_far leads none H ready =
 -- an act ended in a fault
 pub was_stopped : (t : Tells) (m n p : Managed) (now after o : ℕ) (turn : Turn) (why : WorkFault) (w u v : Outside) → TurnSoFar t m n now after turn w u
     → WorksWithJobsLeadOn t.site w.site u.site → WorksWithJobsJoin t.site w.site u.site v.site
-    → ((G : List Event) → IsReady t.site n G u.site → find (λ k. nat_lt after k) (forwarding G) ≡ Some o)
+    → ((G : List Event) → IsReady t.site n G u.site → find (λ k. nat_lt after k) (active G) ≡ Some o)
     → ((G : List Event) → IsReady t.site n G u.site → (d : Deed) × (d.occ ≡ o) × Acts t n.ledger.manager now G d (Err why) p u v)
     → (H : List Event) → IsReady t.site m H w.site
     → (deeds : List Deed) × (end : TurnEnd) × Turns t m.ledger.manager now H deeds end p w v × EndsTurn (Err why) (endings now H deeds) end
@@ -192,7 +194,7 @@ was_stopped t m n p now after o turn why w u v so_far leads joins next act H rea
         between = around u;
         deeds_do = it.deeds_do;
         end_does = (acts.tried, acts.exchanged, acts.records.room);
-        order = (above o (forwarding G), numbers_on d it.deeds o (above o (forwarding G)) (forwarding H) did.1 order);
+        order = (above o (active G), numbers_on d it.deeds o (above o (active G)) (active H) did.1 order);
       },
       refl,
     )

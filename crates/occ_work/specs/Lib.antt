@@ -1,5 +1,5 @@
 pub mod Requests
-pub mod Forward
+pub mod Active
 pub mod Deeds
 pub mod Around
 pub mod Acting

@@ -1,20 +1,20 @@
--- The next action of an occurrence that goes forward, by its row.
+-- The next action of an active occurrence, by its row.
 use Rattle.std.specs.List.{range_with_len}
 use Rattle.std.specs.Option.{option_map_or}
-use Rattle.std.specs.Prelude.{Bool, List, None, Option, Some, [], false, filter, if◌then◌else◌, is_some, length, slice_get, true, unwrap_or, ℕ, ◌+◌, ◌==◌, ◌∷◌, ◌≡◌, ◌<◌, ◌≤◌}
+use Rattle.std.specs.Prelude.{Bool, List, None, Option, Some, [], false, filter, if◌then◌else◌, is_some, length, slice_get, true, unwrap_or, ℕ, ◌+◌, ◌==◌, ◌||◌, ◌∷◌, ◌≡◌, ◌<◌, ◌≤◌}
 use Rattle.lcm_events.specs.declared.attempts.Tag.{Tag}
-use Rattle.lcm_events.specs.declared.attempts.Way.TheVariants.{Forward}
+use Rattle.lcm_events.specs.declared.attempts.Way.{Way}
+use Rattle.lcm_events.specs.declared.attempts.Way.TheVariants.{Forward, Undo}
 use Rattle.lcm_events.specs.declared.events.EventKind.{EventKind}
 use Rattle.lcm_events.specs.declared.events.EventKind.TheVariants.{Denied, Granted, GrantTried, Moved}
 use Rattle.lcm_events.specs.declared.states.OpState.{OpState}
-use Rattle.lcm_events.specs.declared.states.OpState.TheVariants.{Completed, FailedTemp, Processing, RolledBack, Starting}
-use Rattle.lcm_model.specs.Next.{Answer, granting, polling}
-use Rattle.lcm_model.specs.Words.{first}
+use Rattle.lcm_events.specs.declared.states.OpState.TheVariants.{Completed, FailedTemp, Processing, RolledBack, RollingBack, Starting}
+use Rattle.lcm_model.specs.Next.{Answer, granting, look_at, polling}
+use Rattle.lcm_model.specs.Words.{first, last}
 use Rattle.lcm_model.specs.declared.actions.Action.{Action}
-use Rattle.lcm_model.specs.declared.actions.Action.TheVariants.{AskForGrant, Begin, Look, MoveTo, Poll}
-use Rattle.occ_table.specs.Steps.{gives_up_row}
+use Rattle.lcm_model.specs.declared.actions.Action.TheVariants.{AbortAndLook, AskForGrant, Begin, Look, MoveTo, Poll}
+use Rattle.occ_table.specs.Steps.{gives_up_row, is_forced_mode}
 use Rattle.occ_table.specs.declared.rows.OccRow.{OccRow}
-use Rattle.occ_work.specs.Forward.{goes_forward}
 use Rattle.occ_work.specs.declared.steps.Step.{Step}
 use Rattle.occ_work.specs.declared.steps.Step.TheVariants as step
 
@@ -25,22 +25,34 @@ action_of step.Poll = Poll
 action_of step.Ask = AskForGrant
 action_of (step.Begin tag) = Begin tag
 action_of (step.Look tag) = Look tag
+action_of (step.AbortAndLook tag) = AbortAndLook tag
 
--- the occurrence of the row goes forward (SOL 003 5.6.2)
-abbrev pub is_forward_row : OccRow → Bool
-is_forward_row r = goes_forward r.state (is_some r.cancel)
+-- a change of the row has this net (own rule)
+abbrev pub is_at_row : ℕ → OccRow → ℕ → Bool
+is_at_row n r c = option_map_or (λ m. m == n) (slice_get r.nets c) false
 
--- a change of the row has net 0 (own rule)
-abbrev pub is_waiting : OccRow → ℕ → Bool
-is_waiting r c = option_map_or (λ n. n == 0) (slice_get r.nets c) false
+-- the numbers of the changes of the row with this net, rising (own rule)
+abbrev pub with_net_in : ℕ → OccRow → List ℕ
+with_net_in n r = filter (is_at_row n r) (range_with_len 0 (length r.changes))
 
--- the number of the first change of the row with net 0 (own rule)
-abbrev pub first_waiting : OccRow → Option ℕ
-first_waiting r = first (filter (is_waiting r) (range_with_len 0 (length r.changes)))
+-- the number of the change of the row that is attempted next in this way: the first with net 0 is made, the last with net 1 undone (own rule)
+abbrev pub next_at : Way → OccRow → Option ℕ
+next_at Forward r = first (with_net_in 0 r)
+next_at Undo r = last (with_net_in 1 r)
 
--- the tag of the next attempt forward at a change of occurrence o: its number is one more than how many attempts the row counts (own rule)
-abbrev pub next_tag : ℕ → OccRow → ℕ → Tag
-next_tag o r c = record { occ = o; change = c; attempt = unwrap_or (slice_get r.attempts c) 0 + 1; way = Forward }
+-- the state that is left for, once no change is left for an attempt in this way (SOL 003 5.6.2)
+abbrev pub end_of : Way → OpState
+end_of Forward = Completed
+end_of Undo = RolledBack
+
+-- the way of the attempts that are made in this state (SOL 003 5.6.2)
+abbrev pub way_in : OpState → Way
+way_in RollingBack = Undo
+way_in _ = Forward
+
+-- the tag of the next attempt in this way at a change of occurrence o: its number is one more than how many attempts the row counts (own rule)
+abbrev pub next_tag : ℕ → Way → OccRow → ℕ → Tag
+next_tag o way r c = record { occ = o; change = c; attempt = unwrap_or (slice_get r.attempts c) 0 + 1; way = way }
 
 -- the number of each change fits a tag, and so does one more than how many attempts the row counts at it (own format)
 pub record FitsTags (r : OccRow) : Type 0 where
@@ -53,24 +65,25 @@ asking_by_row r =
     if gives_up_row r then MoveTo RolledBack
     else (if is_some r.grant then MoveTo Processing else (if is_some r.location then Poll else AskForGrant))
 
--- the next action while no attempt is open, by the row: after trouble the work stops; else the first change with net 0 is attempted, and
--- where there is none all are made (own rule)
-abbrev pub beginning_by_row : ℕ → OccRow → Action
-beginning_by_row o r =
-    if r.trouble then MoveTo FailedTemp else option_map_or (λ c. Begin (next_tag o r c)) (first_waiting r) (MoveTo Completed)
+-- the next action in this way while no attempt is open, by the row: after trouble or a cancel the work stops; else the next change is
+-- attempted, and where there is none all are through (own rule)
+abbrev pub beginning_by_row : ℕ → Way → OccRow → Action
+beginning_by_row o way r =
+    if r.trouble || is_some r.cancel then MoveTo FailedTemp
+    else option_map_or (λ c. Begin (next_tag o way r c)) (next_at way r) (MoveTo (end_of way))
 
--- the next action while the changes are made, by the row: an open attempt is looked at, the one that began first; else as where none is
--- open (own rule)
-abbrev pub making_by_row : ℕ → OccRow → Action
-making_by_row o r = option_map_or (λ p. Look p.tag) (first r.pending) (beginning_by_row o r)
+-- the next action in this way while changes are made or undone, by the row: the open attempt that began first is looked at, after a FORCEFUL
+-- cancel once it was aborted; else as where none is open (own rule)
+abbrev pub working_by_row : ℕ → Way → OccRow → Action
+working_by_row o way r = option_map_or (λ p. look_at (is_forced_mode r.cancel) p.tag) (first r.pending) (beginning_by_row o way r)
 
--- the next action of an occurrence of this number and row in this state: in STARTING its grant is asked for, and else its changes are made
--- (SOL 003 5.6.2)
+-- the next action of an occurrence of this number and row in this state: in STARTING its grant is asked for, and else its changes are made or
+-- undone (SOL 003 5.6.2)
 abbrev pub next_in_state : OpState → ℕ → OccRow → Action
 next_in_state Starting o r = asking_by_row r
-next_in_state _ o r = making_by_row o r
+next_in_state state o r = working_by_row o (way_in state) r
 
--- the next action of an occurrence of this number and row that goes forward (SOL 003 5.6.2)
+-- the next action of an active occurrence of this number and row (SOL 003 5.6.2)
 abbrev pub next_by_row : ℕ → OccRow → Action
 next_by_row o r = next_in_state r.state o r
 

@@ -1,15 +1,14 @@
--- What a turn does: one act for each occurrence that goes forward when it begins, in the order of their numbers (own rule over SOL 003
--- 5.6.2).
+-- What a turn does: one act for each occurrence that is active when it begins, in the order of their numbers (own rule over SOL 003 5.6.2).
 use Rattle.std.specs.Prelude.{List, [], filter, map, nat_lt, reverse, ℕ, ◌++◌, ◌∷◌, ◌≡◌, Result, Ok, Err}
 use Rattle.executor.specs.Managed.{Managed}
 use Rattle.executor.specs.Work.{Work, WorksWithJobs, went}
 use Rattle.executor.specs.declared.manager.WorkFault.{WorkFault}
 use Rattle.lcm_events.specs.declared.events.Event.{Event}
+use Rattle.occ_table.specs.Going.{active}
 use Rattle.occ_work.specs.Acting.{TellsRoomFor, recording}
 use Rattle.occ_work.specs.Around.{Around, Exchanged, Outside, Tells, around}
 use Rattle.occ_work.specs.Counting.{CountsEndings}
 use Rattle.occ_work.specs.Deeds.{Deed, IsDeed, IsTried, answered, ending, kinds_of, once_done}
-use Rattle.occ_work.specs.Forward.{forwarding}
 use Rattle.occ_work.specs.declared.ends.Acted.{Acted}
 use Rattle.occ_work.specs.declared.ends.Turn.{Turn}
 
@@ -70,10 +69,10 @@ EndsTurn (Err why) ends (stopped d cause) = why ≡ cause
 EndsTurn _ ends _ = ⊥
 
 -- These deeds were done at this moment, the latest first, behind history H of manager m, which is now n, and the turn ended so: for the
--- occurrences that go forward in H, in order, each behind what those before it left.
+-- occurrences that are active in H, in order, each behind what those before it left.
 pub record Turns (t : Tells) (m now : ℕ) (H : List Event) (deeds : List Deed) (end : TurnEnd) (n : Managed) (w v : Outside) : Type 0 where
   pub works : WorksWithJobs t.site m H (turn_work now H deeds end) n w.site v.site
   pub between : Around
   pub deeds_do : DeedsDo t m now H deeds (around w) between
   pub end_does : EndDoes t m now (once_all_done now H deeds) end between (around v)
-  pub order : IsFor (forwarding H) deeds end
+  pub order : IsFor (active H) deeds end

@@ -8,9 +8,9 @@ ghost use Rattle.lcm_model.specs.declared.actions.Action.TheVariants as actions;
 ghost use Rattle.occ_work.specs.Acting.{Acts};
 ghost use Rattle.occ_work.specs.Around.{DiskFails, outside, telling};
 ghost use Rattle.occ_work.specs.Deeds.{Deed};
-ghost use Rattle.occ_work.specs.Forward.{IsForward};
+ghost use Rattle.occ_work.specs.Active.{IsActive};
 
-use crate::attempts::{begin, look};
+use crate::attempts::{abort_and_look, begin, look};
 use crate::ends::Acted;
 use crate::requests::request;
 use crate::steps::{Step, location_of, next_step};
@@ -21,16 +21,17 @@ use std::alloc::Global;
 use vnfm_base::Moment;
 
 /// Does the next action of an occurrence, and no other call: the occurrence is moved on, its grant is asked for, the location is polled that was
-/// told for it, an attempt at a change is begun, or the job of one is looked at.
+/// told for it, an attempt at a change is begun, which makes or undoes it, or the job of one is looked at, after a FORCEFUL cancel once it was
+/// aborted.
 ///
-/// State: needs STARTING, or PROCESSING with no cancel in force, and a manager that isn't closed and whose file has its history.
+/// State: needs STARTING, PROCESSING or ROLLING_BACK, and a manager that isn't closed and whose file has its history.
 /// Refusals: `Memory`; `Full {end, more}` (bytes), exactly where the spelling of the event that is recorded next and the file's end say so;
 /// `Disk`; never `TooLong`. After `Memory` nothing was recorded, and the infrastructure wasn't called, but the grant may have been asked for or
 /// polled, and is again by the next act. After `Full` an intent that was recorded stands, and so does the call behind it; an answer that was
 /// heard and not recorded is lost. After `Disk` the manager is closed: load the journal again.
 /// At each moment a stop leaves a history that begins with that at the start, and where the jobs were sound with it, sound ones.
-/// Source: SOL 003 5.6.2 (States and state transitions of a VNF LCM operation occurrence), 9.4.2 (Grants), 9.4.3 (Individual grant); the order
-/// of actions is an own rule.
+/// Source: SOL 003 5.6.2 (States and state transitions of a VNF LCM operation occurrence), 5.4.17 (Cancel operation task), 9.4.2 (Grants),
+/// 9.4.3 (Individual grant); the order of actions is an own rule.
 pub fn act<S: Site, O: Orchestrator>(
     alloc: Global,
     manager: &mut Manager<S>,
@@ -39,8 +40,8 @@ pub fn act<S: Site, O: Orchestrator>(
     orchestrator: &mut O,
     now: Moment,
 ) -> Result<Acted, WorkFault>
-    requires ready { (H : List Event) × IsReady S.tells manager.old H (S.state site.old) × IsForward H occ }
-    ensures acts { (H : List Event) → IsReady S.tells manager.old H (S.state site.old) → IsForward H occ
+    requires ready { (H : List Event) × IsReady S.tells manager.old H (S.state site.old) × IsActive H occ }
+    ensures acts { (H : List Event) → IsReady S.tells manager.old H (S.state site.old) → IsActive H occ
         → (d : Deed) × (d.occ ≡ occ) × Acts (telling S.tells O.tells) manager.old.ledger.manager now H d result manager.new
         (outside (S.state site.old) (S.counts site.old) (O.state orchestrator.old) (O.counts orchestrator.old)) (outside (S.state site.new) (S.counts site.new) (O.state orchestrator.new) (O.counts orchestrator.new)) }
     ensures short { (n : ℕ) → result ≢ Err (WorkFault.TooLong n) }
@@ -52,6 +53,7 @@ pub fn act<S: Site, O: Orchestrator>(
         Step::Ask => ask(alloc, manager, occ, site, orchestrator, now),
         Step::Begin(tag) => begin(alloc, manager, site, &tag, now),
         Step::Look(tag) => look(alloc, manager, site, occ, &tag, now),
+        Step::AbortAndLook(tag) => abort_and_look(alloc, manager, site, occ, &tag, now),
     }
 }
 
@@ -64,8 +66,8 @@ fn ask<S: Site, O: Orchestrator>(
     orchestrator: &mut O,
     now: Moment,
 ) -> Result<Acted, WorkFault>
-    requires ready { (H : List Event) × IsReady S.tells manager.old H (S.state site.old) × IsForward H occ × (next_action H occ ≡ Some actions.AskForGrant) }
-    ensures acts { (H : List Event) → IsReady S.tells manager.old H (S.state site.old) → IsForward H occ → next_action H occ ≡ Some actions.AskForGrant
+    requires ready { (H : List Event) × IsReady S.tells manager.old H (S.state site.old) × IsActive H occ × (next_action H occ ≡ Some actions.AskForGrant) }
+    ensures acts { (H : List Event) → IsReady S.tells manager.old H (S.state site.old) → IsActive H occ → next_action H occ ≡ Some actions.AskForGrant
         → (d : Deed) × (d.occ ≡ occ) × Acts (telling S.tells O.tells) manager.old.ledger.manager now H d result manager.new
         (outside (S.state site.old) (S.counts site.old) (O.state orchestrator.old) (O.counts orchestrator.old)) (outside (S.state site.new) (S.counts site.new) (O.state orchestrator.new) (O.counts orchestrator.new)) }
     ensures short { (n : ℕ) → result ≢ Err (WorkFault.TooLong n) }
@@ -88,8 +90,8 @@ fn poll<S: Site, O: Orchestrator>(
     orchestrator: &mut O,
     now: Moment,
 ) -> Result<Acted, WorkFault>
-    requires ready { (H : List Event) × IsReady S.tells manager.old H (S.state site.old) × IsForward H occ × (next_action H occ ≡ Some actions.Poll) }
-    ensures acts { (H : List Event) → IsReady S.tells manager.old H (S.state site.old) → IsForward H occ → next_action H occ ≡ Some actions.Poll
+    requires ready { (H : List Event) × IsReady S.tells manager.old H (S.state site.old) × IsActive H occ × (next_action H occ ≡ Some actions.Poll) }
+    ensures acts { (H : List Event) → IsReady S.tells manager.old H (S.state site.old) → IsActive H occ → next_action H occ ≡ Some actions.Poll
         → (d : Deed) × (d.occ ≡ occ) × Acts (telling S.tells O.tells) manager.old.ledger.manager now H d result manager.new
         (outside (S.state site.old) (S.counts site.old) (O.state orchestrator.old) (O.counts orchestrator.old)) (outside (S.state site.new) (S.counts site.new) (O.state orchestrator.new) (O.counts orchestrator.new)) }
     ensures short { (n : ℕ) → result ≢ Err (WorkFault.TooLong n) }

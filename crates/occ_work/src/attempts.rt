@@ -17,7 +17,7 @@ ghost use Rattle.site_traits.specs.Site.{KeepsJobs};
 ghost use Rattle.occ_work.specs.Around.{DiskFails};
 ghost use Rattle.occ_work.specs.Attempting.{Attempts, Puts, following, is_of_attempt};
 ghost use Rattle.occ_work.specs.Deeds.{Deed, answer_looked, ending};
-ghost use Rattle.occ_work.specs.Forward.{IsForward};
+ghost use Rattle.occ_work.specs.Active.{IsActive};
 
 use crate::ends::Acted;
 use crate::work::work_of;
@@ -48,8 +48,8 @@ pub fn begin<S: Site>(
     tag: &Tag,
     now: Moment,
 ) -> Result<Acted, WorkFault>
-    requires ready { (H : List Event) × IsReady S.tells manager.old H (S.state site.old) × IsForward H tag.now.occ × (next_action H tag.now.occ ≡ Some (actions.Begin tag.now)) }
-    ensures attempts { (H : List Event) → IsReady S.tells manager.old H (S.state site.old) → IsForward H tag.now.occ → next_action H tag.now.occ ≡ Some (actions.Begin tag.now)
+    requires ready { (H : List Event) × IsReady S.tells manager.old H (S.state site.old) × IsActive H tag.now.occ × (next_action H tag.now.occ ≡ Some (actions.Begin tag.now)) }
+    ensures attempts { (H : List Event) → IsReady S.tells manager.old H (S.state site.old) → IsActive H tag.now.occ → next_action H tag.now.occ ≡ Some (actions.Begin tag.now)
         → (d : Deed) × (d.occ ≡ tag.now.occ) × Attempts S.tells manager.old.ledger.manager now H d result manager.new
         (S.state site.old) (S.state site.new) (S.counts site.old) (S.counts site.new) }
     ensures short { (n : ℕ) → result ≢ Err (WorkFault.TooLong n) }
@@ -167,8 +167,8 @@ pub fn look<S: Site>(
     tag: &Tag,
     now: Moment,
 ) -> Result<Acted, WorkFault>
-    requires ready { (H : List Event) × IsReady S.tells manager.old H (S.state site.old) × IsForward H occ × (next_action H occ ≡ Some (actions.Look tag.now)) }
-    ensures attempts { (H : List Event) → IsReady S.tells manager.old H (S.state site.old) → IsForward H occ → next_action H occ ≡ Some (actions.Look tag.now)
+    requires ready { (H : List Event) × IsReady S.tells manager.old H (S.state site.old) × IsActive H occ × (next_action H occ ≡ Some (actions.Look tag.now)) }
+    ensures attempts { (H : List Event) → IsReady S.tells manager.old H (S.state site.old) → IsActive H occ → next_action H occ ≡ Some (actions.Look tag.now)
         → (d : Deed) × (d.occ ≡ occ) × Attempts S.tells manager.old.ledger.manager now H d result manager.new
         (S.state site.old) (S.state site.new) (S.counts site.old) (S.counts site.new) }
     ensures short { (n : ℕ) → result ≢ Err (WorkFault.TooLong n) }
@@ -180,6 +180,34 @@ pub fn look<S: Site>(
     manager.reserve_for(alloc, &done)?;
     let answer = site.look(tag);
     settle(manager, site, tag, answer, now)
+}
+
+/// Aborts the job of an open attempt and looks at it, which is the next action of its occurrence, and records where it has ended. All memory is
+/// taken before. An abort that failed or came too late is no end: the look says how the job stands.
+///
+/// Refusals: `Memory`, after which nothing was recorded or asked; `Full` and `Disk` as of recording an event: the abort and the look were made.
+pub fn abort_and_look<S: Site>(
+    alloc: Global,
+    manager: &mut Manager<S>,
+    site: &mut S,
+    occ: u64,
+    tag: &Tag,
+    now: Moment,
+) -> Result<Acted, WorkFault>
+    requires ready { (H : List Event) × IsReady S.tells manager.old H (S.state site.old) × IsActive H occ × (next_action H occ ≡ Some (actions.AbortAndLook tag.now)) }
+    ensures attempts { (H : List Event) → IsReady S.tells manager.old H (S.state site.old) → IsActive H occ → next_action H occ ≡ Some (actions.AbortAndLook tag.now)
+        → (d : Deed) × (d.occ ≡ occ) × Attempts S.tells manager.old.ledger.manager now H d result manager.new
+        (S.state site.old) (S.state site.new) (S.counts site.old) (S.counts site.new) }
+    ensures short { (n : ℕ) → result ≢ Err (WorkFault.TooLong n) }
+    ensures disk { DiskFails (result ≡ Err WorkFault.Disk) (S.counts site.old) (S.counts site.new) }
+{
+    works_add_up::<S>();
+    next_actions_are_allowed();
+    let ending = event_of(now, ended(*tag, Outcome::Done(no_name())));
+    manager.reserve_for(alloc, &ending)?;
+    let _ended = site.abort(tag);
+    let told = site.look(tag);
+    settle(manager, site, tag, told, now)
 }
 
 /// Records what a look at an attempt's job told, where the job has ended or there is none. No memory is taken.

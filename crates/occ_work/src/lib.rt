@@ -1,4 +1,4 @@
-//! The work on occurrences: the next action of each, done once a turn, forward to the end of its operation.
+//! The work on occurrences: the next action of each, done once a turn, until its changes are made, or undone.
 #![tactic(auto)]
 
 mod acts;

@@ -2,7 +2,7 @@
 ghost use Rattle.std.specs.Prelude.{◌≡◌, List, IfOk, Some, false};
 ghost use Rattle.executor.specs.Managed.{Keeps};
 ghost use Rattle.lcm_events.specs.declared.events.Event.{Event};
-ghost use Rattle.occ_work.specs.Forward.{IsForward};
+ghost use Rattle.occ_work.specs.Active.{IsActive};
 ghost use Rattle.occ_work.specs.Requests.{grant_request};
 
 use crate::instances::{instance_of, vnfd_of};
@@ -15,13 +15,13 @@ use site_traits::Site;
 use std::alloc::{AllocError, Global};
 use vnfm_base::Bytes;
 
-/// The body of the grant request of an occurrence that goes forward.
+/// The body of the grant request of an active occurrence.
 ///
 /// Source: SOL 003 9.4.2 (Grants).
 pub fn request<S: Site>(alloc: Global, manager: &Manager<S>, occ: u64) -> Result<Bytes, AllocError>
     requires usable { manager.now.ledger.closed ≡ false }
-    requires forward { (H : List Event) × Keeps manager.now H × IsForward H occ }
-    ensures { (H : List Event) → Keeps manager.now H → IsForward H occ → IfOk result (λ body. grant_request manager.now.ledger.manager H occ ≡ Some body) }
+    requires active { (H : List Event) × Keeps manager.now H × IsActive H occ }
+    ensures { (H : List Event) → Keeps manager.now H → IsActive H occ → IfOk result (λ body. grant_request manager.now.ledger.manager H occ ≡ Some body) }
 {
     items_are_in_order();
     rows_have_holdings();

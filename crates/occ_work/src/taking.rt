@@ -12,7 +12,7 @@ ghost use Rattle.site_traits.specs.Counts.{OnlyDiskFails};
 ghost use Rattle.site_traits.specs.Site.{KeepsJobs};
 ghost use Rattle.occ_work.specs.Acting.{Records};
 ghost use Rattle.occ_work.specs.Deeds.{answer_heard, answer_with, ending};
-ghost use Rattle.occ_work.specs.Forward.{IsForward};
+ghost use Rattle.occ_work.specs.Active.{IsActive};
 ghost use Rattle.occ_work.specs.Steps.{exchanging, is_of_act, kinds_for, listed};
 
 use crate::attempts::event_of;
@@ -130,10 +130,10 @@ pub fn take<S: Site>(
     heard: &Heard,
     now: Moment,
 ) -> Result<Acted, WorkFault>
-    requires ready { (H : List Event) × IsReady S.tells manager.old H (S.state site.old) × IsForward H occ × (next_action H occ ≡ Some (exchanging asking)) }
-    ensures records { (H : List Event) → IsReady S.tells manager.old H (S.state site.old) → IsForward H occ → next_action H occ ≡ Some (exchanging asking)
+    requires ready { (H : List Event) × IsReady S.tells manager.old H (S.state site.old) × IsActive H occ × (next_action H occ ≡ Some (exchanging asking)) }
+    ensures records { (H : List Event) → IsReady S.tells manager.old H (S.state site.old) → IsActive H occ → next_action H occ ≡ Some (exchanging asking)
         → Records S.tells manager.old.ledger.manager now (kinds_for asking occ (answer_heard asking (changes_of H occ) call heard.now)) H result manager.new (S.state site.old) (S.state site.new) }
-    ensures ended { (H : List Event) → IsReady S.tells manager.old H (S.state site.old) → IsForward H occ
+    ensures ended { (H : List Event) → IsReady S.tells manager.old H (S.state site.old) → IsActive H occ
         → IfOk result (λ done. done ≡ ending (exchanging asking) (answer_heard asking (changes_of H occ) call heard.now)) }
     ensures jobs { S.tells → KeepsJobs (S.state site.old) (S.state site.new) }
     ensures short { (n : ℕ) → result ≢ Err (WorkFault.TooLong n) }
@@ -165,8 +165,8 @@ pub fn move_to<S: Site>(
     to: OpState,
     now: Moment,
 ) -> Result<Acted, WorkFault>
-    requires ready { (H : List Event) × IsReady S.tells manager.old H (S.state site.old) × IsForward H occ × (next_action H occ ≡ Some (actions.MoveTo to)) }
-    ensures records { (H : List Event) → IsReady S.tells manager.old H (S.state site.old) → IsForward H occ → next_action H occ ≡ Some (actions.MoveTo to)
+    requires ready { (H : List Event) × IsReady S.tells manager.old H (S.state site.old) × IsActive H occ × (next_action H occ ≡ Some (actions.MoveTo to)) }
+    ensures records { (H : List Event) → IsReady S.tells manager.old H (S.state site.old) → IsActive H occ → next_action H occ ≡ Some (actions.MoveTo to)
         → Records S.tells manager.old.ledger.manager now (events.Moved occ to ∷ []) H result manager.new (S.state site.old) (S.state site.new) }
     ensures ended { IfOk result (λ done. done ≡ Acted.Recorded) }
     ensures jobs { S.tells → KeepsJobs (S.state site.old) (S.state site.new) }

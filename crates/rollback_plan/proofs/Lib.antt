@@ -1,1 +1,1 @@
-mod NetLaws
+pub mod NetLaws

@@ -27,7 +27,7 @@ greatest-passes p i (suc n) k h l e above = by_test (i == k)
     by_test (p i) (λ holds. rw holds (rw rest refl)) (λ fails. rw fails rest))
 
 -- a number that passes, below none that does, is the last of those that pass, and there is none where none passes
-last-is : (p : ℕ → Bool) (n : ℕ) (r : Option ℕ) → IfSome r (λ k. k < n) → IfSome r (λ k. p k ≡ true) → IfSome r (λ k. (j : ℕ) → k < j → j < n → p j ≡ false)
+pub last-is : (p : ℕ → Bool) (n : ℕ) (r : Option ℕ) → IfSome r (λ k. k < n) → IfSome r (λ k. p k ≡ true) → IfSome r (λ k. (j : ℕ) → k < j → j < n → p j ≡ false)
     → (r ≡ None → (k : ℕ) → k < n → p k ≡ false) → r ≡ last (filter p (range_with_len 0 n))
 last-is p n None known passes greatest none = sym (none-passes p 0 n (λ j h l. none refl j (omega (arith, l))))
 last-is p n (Some k) known passes greatest none = sym (greatest-passes p 0 n k (omega arith) (omega (arith, known)) passes (λ j h l. greatest j h (omega (arith, l))))

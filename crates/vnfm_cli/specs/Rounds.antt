@@ -9,7 +9,7 @@ use Rattle.lcm_api.specs.Waiting.{IsNobody, IsUnreached}
 use Rattle.lcm_events.specs.declared.events.Event.{Event}
 use Rattle.lcm_events.specs.declared.states.Role.{Role}
 use Rattle.occ_work.specs.Around.{Around, Tells as Asking, Unasked, around, outside, telling as asking}
-use Rattle.occ_work.specs.Forward.{forwarding}
+use Rattle.occ_table.specs.Going.{active}
 use Rattle.occ_work.specs.Turns.{DeedsDo, EndDoes, IsFor, TurnEnd, through, stopped as by, once_all_done}
 use Rattle.site_traits.specs.Clock.{Gives}
 use Rattle.site_traits.specs.Counts.{CallCounts, SiteCounts}
@@ -74,13 +74,13 @@ CloseDoes t m H (stopped came talk) a b = Receives t m H came talk a b × (break
 CloseDoes t m H (halted visit turn end why) a b = PassesBy t m H visit turn a b
 
 -- What a round does with the orchestrator and the infrastructure, over history H: its visit asks nobody; then, over the history that the visit
--- left, its turn makes an act for each occurrence that goes forward there, in the order of their numbers, each over the history that those
+-- left, its turn makes an act for each occurrence that is active there, in the order of their numbers, each over the history that those
 -- before it left.
 pub record TurnDoes (t : Asking) (m : ℕ) (H : List Event) (r : Round) (a b : Around) : Type 0 where
   pub between : Around
   pub visit : AsksNobody t a between
   pub acts : DeedsDo t m (moment_of r.turn) (once_served m H r.visit) r.turn.acts between b
-  pub each : IsFor (forwarding (once_served m H r.visit)) r.turn.acts through
+  pub each : IsFor (active (once_served m H r.visit)) r.turn.acts through
 
 -- what these rounds do with them
 abbrev pub TurnsDo : Asking → ℕ → List Event → List Round → Around → Around → Type 0
@@ -106,7 +106,7 @@ pub record TurnStops (t : Asking) (m : ℕ) (H : List Event) (turn : Turning) (e
   pub between : Around
   pub acts : DeedsDo t m (moment_of turn) H turn.acts met between
   pub end_does : EndDoes t m (moment_of turn) (once_all_done (moment_of turn) H turn.acts) end between b
-  pub each : IsFor (forwarding H) turn.acts end
+  pub each : IsFor (active H) turn.acts end
   pub cause : FailsBy end why
 
 -- what the end of the rounds does with them: a talk in which the disk failed asks nobody

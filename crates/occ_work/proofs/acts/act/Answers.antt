@@ -58,3 +58,8 @@ pub returns-in-Look-clause-acts : goal.returns-in-Look-clause-acts
 returns-in-Look-clause-acts g c = λ H ready is.
     let next = c.next_step.ensures H ready.keeps is ∙ ap (λ (s : Step). Some (action_of s)) c.in-Look.is in
     attempting_act _ _ _ H _ _ _ _ _ _ _ _ _ (c.look.ensures.attempts H ready is next)
+
+pub returns-in-AbortAndLook-clause-acts : goal.returns-in-AbortAndLook-clause-acts
+returns-in-AbortAndLook-clause-acts g c = λ H ready is.
+    let next = c.next_step.ensures H ready.keeps is ∙ ap (λ (s : Step). Some (action_of s)) c.in-AbortAndLook.is in
+    attempting_act _ _ _ H _ _ _ _ _ _ _ _ _ (c.abort_and_look.ensures.attempts H ready is next)

@@ -1,5 +1,5 @@
 -- The job is looked at, and what was told is recorded.
-use Rattle.std.proofs.Common.{◌∙◌, Err, ap}
+use Rattle.std.proofs.Common.{◌∙◌, Err, ap, false}
 use Rattle.std.proofs.lemmas.Result.{err_from_is_err_and}
 use Rattle.journal_core.specs.Journal.{Ledger}
 use Rattle.site_traits.specs.Jobs.{Advances}
@@ -19,7 +19,7 @@ settle-requires-clause-may g c =
     let kept = ready_kept _ _ _ it.0 _ it.1 c.in_ok-reserve_for.ensures.ledger c.in_ok-reserve_for.ensures.keeps in (
       it.0,
       ready_on _ Advances _ it.0 _ _ kept (λ told. (c.look-answer.ensures.told told).on_jobs),
-      look_open c.next_actions_are_allowed.ensures c.args.manager.now.ledger.manager it.0 _ _ it.1.keeps.kept.legal it.2 it.3,
+      look_open c.next_actions_are_allowed.ensures false c.args.manager.now.ledger.manager it.0 _ _ it.1.keeps.kept.legal it.2 it.3,
     )
 
 pub returns-clause-attempts : goal.returns-clause-attempts
@@ -28,7 +28,7 @@ returns-clause-attempts g c = λ H ready is next.
     let same = c.in_ok-reserve_for.ensures.ledger in
     let kept = ready_kept _ _ _ H _ ready same c.in_ok-reserve_for.ensures.keeps in
     let behind = ready_on _ Advances _ H _ _ kept (λ told. (c.look-answer.ensures.told told).on_jobs) in
-    let going = look_open c.next_actions_are_allowed.ensures c.args.manager.now.ledger.manager H _ _ legal is next in
-    looked_attempt _ _ _ H _ _ c.look-answer.result _ _ _ _ _ _ _ _ _ _ next (look_legal c.next_actions_are_allowed.ensures _ c.args.now H _ _ c.look-answer.result legal is next)
+    let going = look_open c.next_actions_are_allowed.ensures false c.args.manager.now.ledger.manager H _ _ legal is next in
+    looked_attempt _ _ _ H _ _ c.look-answer.result _ _ _ _ _ _ _ _ _ _ next (look_legal c.next_actions_are_allowed.ensures false _ c.args.now H _ _ c.look-answer.result legal is next)
     (ap (λ (l : Ledger). l.manager) same) kept c.look-answer.ensures.told (rw same at (c.settle.ensures.puts H behind going)) c.settle.ensures.jobs
     c.settle.ensures.memory c.settle.ensures.ended c.look-answer.ensures.cause c.settle.ensures.disk

@@ -6,7 +6,7 @@ use Rattle.occ_work.proofs.instances.instance_of.Goals as goal
 
 pub unreachable-requires : goal.unreachable-requires
 unreachable-requires g c =
-    let it = c.requires.forward in
+    let it = c.requires.active in
     let H = it.0 in
     let legal = it.2.kept.legal in
     row_there H _ (its_instance_lives _ H _ _ legal it.3 it.4) (sym (rw c.in-None.is at (c.instance.ensures.finds window _ H legal (c.instances.ensures.rows H it.2))))

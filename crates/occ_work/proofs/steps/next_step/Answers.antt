@@ -5,7 +5,7 @@ use Rattle.occ_work.proofs.steps.next_step.Goals as goal
 
 pub step_by-requires : goal.step_by-requires
 step_by-requires g c =
-    let it = c.requires.forward in
+    let it = c.requires.active in
     row_fits c.plans_are_small.ensures _ it.0 _ _ it.1.kept.legal (c.row_of.ensures.few it.0 it.1) (c.row_of.ensures.row it.0 it.1 it.2)
 
 pub returns : goal.returns
