@@ -1,5 +1,6 @@
 //! Files in memory, and a folder of one, of whose calls one fails.
 ghost use Rattle.std.specs.Prelude.{◌≡◌, ◌≢◌, IfOk, IfSome, false};
+ghost use Rattle.site_traits.specs.Counts.{one_more};
 ghost use Rattle.site_traits.specs.MemSite.{state_of};
 
 use host_calls::{HostFile, HostFiles};
@@ -34,6 +35,7 @@ pub struct MemFile {
     wrong: Wrong,
     locked: bool,
     from_disk: bool,
+    calls: u64,
 }
 
 impl HostFile for MemFile {
@@ -45,11 +47,15 @@ impl HostFile for MemFile {
 
     ghost hold = { λ f. record { locked = f.locked; from_disk = f.from_disk } };
 
+    ghost calls = { λ f. f.calls };
+
     fn is_regular(&mut self) -> io::Result<bool> {
+        count_call(&mut self.calls);
         Ok(self.wrong != Wrong::Kind)
     }
 
     fn length(&mut self) -> io::Result<u64> {
+        count_call(&mut self.calls);
         match self.site.length() {
             Ok(length) => Ok(length),
             Err(DiskFailed) => Err(io::Error::from(ErrorKind::Other)),
@@ -57,6 +63,7 @@ impl HostFile for MemFile {
     }
 
     fn read_exact_at(&mut self, into: &mut [u8], at: u64) -> io::Result<()> {
+        count_call(&mut self.calls);
         match self.site.read_at(at, into) {
             Ok(()) => Ok(()),
             Err(DiskFailed) => Err(io::Error::from(ErrorKind::UnexpectedEof)),
@@ -64,6 +71,7 @@ impl HostFile for MemFile {
     }
 
     fn write_all_at(&mut self, bytes: &[u8], at: u64) -> io::Result<()> {
+        count_call(&mut self.calls);
         match self.site.write_at(at, bytes) {
             Ok(()) => Ok(()),
             Err(DiskFailed) => Err(io::Error::from(ErrorKind::StorageFull)),
@@ -71,6 +79,7 @@ impl HostFile for MemFile {
     }
 
     fn set_len(&mut self, to: u64) -> io::Result<()> {
+        count_call(&mut self.calls);
         match self.site.cut(to) {
             Ok(()) => Ok(()),
             Err(DiskFailed) => Err(io::Error::from(ErrorKind::Other)),
@@ -78,6 +87,7 @@ impl HostFile for MemFile {
     }
 
     fn sync_data(&mut self) -> io::Result<()> {
+        count_call(&mut self.calls);
         match self.site.sync() {
             Ok(()) => Ok(()),
             Err(DiskFailed) => Err(io::Error::from(ErrorKind::Other)),
@@ -85,6 +95,7 @@ impl HostFile for MemFile {
     }
 
     fn try_lock(&mut self) -> io::Result<()> {
+        count_call(&mut self.calls);
         if let Wrong::Lock(kind) = self.wrong {
             return Err(io::Error::from(kind));
         }
@@ -93,12 +104,20 @@ impl HostFile for MemFile {
     }
 
     fn forget_pages(&mut self) -> io::Result<()> {
+        count_call(&mut self.calls);
         if let Wrong::Pages(kind) = self.wrong {
             return Err(io::Error::from(kind));
         }
         self.from_disk = true;
         Ok(())
     }
+}
+
+/// One call more. A count stays at its greatest value.
+fn count_call(calls: &mut u64)
+    ensures { calls.new ≡ one_more calls.old }
+{
+    *calls = calls.saturating_add(1);
 }
 
 /// An open file with this content, of whose disk calls those with these numbers, from 1, fail.
@@ -122,6 +141,7 @@ fn mem_file(
         wrong,
         locked: false,
         from_disk: false,
+        calls: 0,
     })
 }
 

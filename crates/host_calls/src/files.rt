@@ -1,5 +1,6 @@
 //! Files, and where they are found.
-ghost use Rattle.std.specs.Prelude.{◌≡◌, ◌≤◌, ◌+◌, IfOk, OnOk, length, take, drop};
+ghost use Rattle.std.specs.Prelude.{◌≡◌, ◌≤◌, ◌+◌, ℕ, IfOk, OnOk, length, take, drop};
+ghost use Rattle.site_traits.specs.Counts.{one_more};
 ghost use Rattle.site_traits.specs.Site.{SiteState, Reads, Writes, Cuts, Syncs};
 ghost use Rattle.host_calls.specs.Files.{FilesState, Hold, Locks, Forgets, Finds, Makes, SyncsFolder};
 
@@ -27,48 +28,59 @@ pub trait HostFile {
     /// How it is held.
     ghost hold: { Self → Hold };
 
+    /// How many calls were made on it. Each of those below makes one more, whether it fails or not.
+    ghost calls: { Self → ℕ };
+
     /// Whether it is a regular file.
     fn is_regular(&mut self) -> io::Result<bool>
         ensures hold { tells → hold self.new ≡ hold self.old }
-        ensures told { tells → Reads (state self.old) (state self.new) };
+        ensures told { tells → Reads (state self.old) (state self.new) }
+        ensures one { tells → calls self.new ≡ one_more (calls self.old) };
 
     /// Its length in bytes.
     fn length(&mut self) -> io::Result<u64>
         ensures length { tells → IfOk result (λ n. n ≡ length (state self.old).image) }
-        ensures told { tells → Reads (state self.old) (state self.new) };
+        ensures told { tells → Reads (state self.old) (state self.new) }
+        ensures one { tells → calls self.new ≡ one_more (calls self.old) };
 
     /// Fills `into` with the bytes from `at` on.
     fn read_exact_at(&mut self, into: &mut [u8], at: u64) -> io::Result<()>
         requires { tells → at + length into.old ≤ length (state self.old).image }
         ensures bytes { tells → OnOk result (into.new ≡ take (length into.old) (drop at (state self.old).image)) }
-        ensures told { tells → Reads (state self.old) (state self.new) };
+        ensures told { tells → Reads (state self.old) (state self.new) }
+        ensures one { tells → calls self.new ≡ one_more (calls self.old) };
 
     /// Writes these bytes from `at` on.
     fn write_all_at(&mut self, bytes: &[u8], at: u64) -> io::Result<()>
         requires { tells → at ≤ length (state self.old).image }
-        ensures told { tells → Writes at bytes.now result (state self.old) (state self.new) };
+        ensures told { tells → Writes at bytes.now result (state self.old) (state self.new) }
+        ensures one { tells → calls self.new ≡ one_more (calls self.old) };
 
     /// Cuts it to this length.
     fn set_len(&mut self, to: u64) -> io::Result<()>
         requires { tells → to ≤ length (state self.old).image }
-        ensures told { tells → Cuts to result (state self.old) (state self.new) };
+        ensures told { tells → Cuts to result (state self.old) (state self.new) }
+        ensures one { tells → calls self.new ≡ one_more (calls self.old) };
 
     /// Brings what was written to the disk.
     fn sync_data(&mut self) -> io::Result<()>
-        ensures told { tells → Syncs result (state self.old) (state self.new) };
+        ensures told { tells → Syncs result (state self.old) (state self.new) }
+        ensures one { tells → calls self.new ≡ one_more (calls self.old) };
 
     /// Locks it against every other opening of it.
     ///
     /// Refusals: `WouldBlock`, where another has the lock; other faults of the call.
     fn try_lock(&mut self) -> io::Result<()>
         ensures hold { tells → Locks result (hold self.old) (hold self.new) }
-        ensures told { tells → Reads (state self.old) (state self.new) };
+        ensures told { tells → Reads (state self.old) (state self.new) }
+        ensures one { tells → calls self.new ≡ one_more (calls self.old) };
 
     /// Drops the kernel's copies of its pages. After a sync that failed they may hold what never reached the disk and be taken for
     /// clean, so that no later sync would write or report them.
     fn forget_pages(&mut self) -> io::Result<()>
         ensures hold { tells → Forgets result (hold self.old) (hold self.new) }
-        ensures told { tells → Reads (state self.old) (state self.new) };
+        ensures told { tells → Reads (state self.old) (state self.new) }
+        ensures one { tells → calls self.new ≡ one_more (calls self.old) };
 }
 
 /// Where files are found. Whoever opens one shows that the standard streams are held, so that it gets none of their numbers.
@@ -110,6 +122,8 @@ impl HostFile for File {
     ghost state = { λ _. untold };
 
     ghost hold = { λ _. free };
+
+    ghost calls = { λ _. 0 };
 
     fn is_regular(&mut self) -> io::Result<bool> {
         Ok(self.metadata()?.is_file())

@@ -1,6 +1,6 @@
 -- The journal's real file.
-use Rattle.std.specs.Prelude.{◌≡◌, ◌⊎◌, ℕ, List, [], true, Option, Some, None, IfSome, unwrap_or}
-use Rattle.site_traits.specs.Counts.{SiteCounts}
+use Rattle.std.specs.Prelude.{◌≡◌, ◌⊎◌, ℕ, List, [], true, Option, Some, None, IfSome, IsSomeAnd, unwrap_or}
+use Rattle.site_traits.specs.Counts.{SiteCounts, one_more}
 use Rattle.site_traits.specs.Site.{SiteState, untold}
 use Rattle.host_calls.specs.Files.{FilesState, Hold, free, whole}
 use Rattle.outside_edges.specs.declared.real_site.FolderSync.{FolderSync}
@@ -15,6 +15,11 @@ counted_as faults vim look writes cuts syncs =
 abbrev pub state_in : {F : Type 0} → (F → SiteState) → Option F → SiteState
 state_in state None = untold
 state_in state (Some file) = state file
+
+-- one call was made on the file, which stays, or there was none and is none
+abbrev pub OneCall : {F : Type 0} → (F → ℕ) → Option F → Option F → Type 0
+OneCall calls None new = new ≡ None
+OneCall calls (Some file) new = IsSomeAnd new (λ f. calls f ≡ one_more (calls file))
 
 -- the file's name is on the disk where its folder is to be synced each time, and where it was made
 abbrev pub IsNamed : List ℕ → FolderSync → FilesState → FilesState → Type 0

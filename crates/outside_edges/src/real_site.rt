@@ -3,7 +3,7 @@ ghost use Rattle.std.specs.Prelude.{◌≡◌, ◌≤◌, ◌+◌, IfOk, OnOk, I
 ghost use Rattle.site_traits.specs.Counts.{Ask, asked, DiskCause, one_more};
 ghost use Rattle.site_traits.specs.Site.{Reads, Writes, Cuts, Syncs};
 ghost use Rattle.outside_edges.specs.Faults.{CountsOne};
-ghost use Rattle.outside_edges.specs.Site.{counted_as, state_in, IsFound, IsHad, IsHeld};
+ghost use Rattle.outside_edges.specs.Site.{counted_as, state_in, IsFound, IsHad, IsHeld, OneCall};
 
 use crate::counted::{count_call, count_fault};
 use host_calls::{HostFile, HostFiles};
@@ -227,6 +227,7 @@ fn fail<T>(faults: &mut u64) -> Result<T, DiskFailed>
 fn length_of<F: HostFile>(file: &mut Option<F>, faults: &mut u64) -> Result<u64, DiskFailed>
     ensures lost { file.old ≡ None → IsErr result }
     ensures counted { CountsOne result faults.old faults.new }
+    ensures one { F.tells → OneCall F.calls file.old file.new }
     ensures length { F.tells → IfOk result (λ n. n ≡ length (state_in F.state file.old).image) }
     ensures told { F.tells → Reads (state_in F.state file.old) (state_in F.state file.new) }
 {
@@ -248,6 +249,7 @@ fn read_from<F: HostFile>(
     requires { F.tells → at + length into.old ≤ length (state_in F.state file.old).image }
     ensures lost { file.old ≡ None → IsErr result }
     ensures counted { CountsOne result faults.old faults.new }
+    ensures one { F.tells → OneCall F.calls file.old file.new }
     ensures bytes { F.tells → OnOk result (into.new ≡ take (length into.old) (drop at (state_in F.state file.old).image)) }
     ensures told { F.tells → Reads (state_in F.state file.old) (state_in F.state file.new) }
 {
@@ -269,6 +271,7 @@ fn write_to<F: HostFile>(
     requires { F.tells → at ≤ length (state_in F.state file.old).image }
     ensures lost { file.old ≡ None → IsErr result }
     ensures counted { CountsOne result faults.old faults.new }
+    ensures one { F.tells → OneCall F.calls file.old file.new }
     ensures told { F.tells → Writes at bytes.now result (state_in F.state file.old) (state_in F.state file.new) }
 {
     match file {
@@ -284,6 +287,7 @@ fn cut_to<F: HostFile>(file: &mut Option<F>, to: u64, faults: &mut u64) -> Resul
     requires { F.tells → to ≤ length (state_in F.state file.old).image }
     ensures lost { file.old ≡ None → IsErr result }
     ensures counted { CountsOne result faults.old faults.new }
+    ensures one { F.tells → OneCall F.calls file.old file.new }
     ensures told { F.tells → Cuts to result (state_in F.state file.old) (state_in F.state file.new) }
 {
     match file {
@@ -298,6 +302,7 @@ fn cut_to<F: HostFile>(file: &mut Option<F>, to: u64, faults: &mut u64) -> Resul
 fn sync_of<F: HostFile>(file: &mut Option<F>, faults: &mut u64) -> Result<(), DiskFailed>
     ensures lost { file.old ≡ None → IsErr result }
     ensures counted { CountsOne result faults.old faults.new }
+    ensures one { F.tells → OneCall F.calls file.old file.new }
     ensures told { F.tells → Syncs result (state_in F.state file.old) (state_in F.state file.new) }
 {
     match file {

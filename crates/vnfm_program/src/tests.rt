@@ -50,6 +50,8 @@ impl HostFile for MemFile {
 
     ghost hold = { λ _. free };
 
+    ghost calls = { λ _. 0 };
+
     fn is_regular(&mut self) -> io::Result<bool> {
         Ok(true)
     }
