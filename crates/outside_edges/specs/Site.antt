@@ -5,11 +5,12 @@ use Rattle.site_traits.specs.Site.{SiteState, untold}
 use Rattle.host_calls.specs.Files.{FilesState, Hold, free, whole}
 use Rattle.outside_edges.specs.declared.real_site.FolderSync.{FolderSync}
 use Rattle.outside_edges.specs.declared.real_site.FolderSync.TheVariants.{Always, WhereMade}
+use Rattle.outside_edges.specs.declared.real_site.RealSite.{RealSite}
 
 -- how often its disk calls, its calls on jobs and the looks among these failed, and what was asked of its file; it refuses no begin
-abbrev pub counted_as : ℕ → ℕ → ℕ → ℕ → ℕ → ℕ → SiteCounts
-counted_as faults vim look writes cuts syncs =
-    record { disk = faults; vim = vim; look = look; refusals = 0; writes = writes; cuts = cuts; syncs = syncs }
+abbrev pub counts_of : {F : Type 0} → RealSite F → SiteCounts
+counts_of site =
+    record { disk = site.faults; vim = site.vim_faults; look = site.look_faults; refusals = 0; writes = site.writes; cuts = site.cuts; syncs = site.syncs }
 
 -- what the site tells: what its file does, or nothing where it has none
 abbrev pub state_in : {F : Type 0} → (F → SiteState) → Option F → SiteState

@@ -3,7 +3,7 @@ ghost use Rattle.std.specs.Prelude.{◌≡◌, ◌≤◌, ◌+◌, IfOk, OnOk, I
 ghost use Rattle.site_traits.specs.Counts.{Ask, asked, DiskCause, one_more};
 ghost use Rattle.site_traits.specs.Site.{Reads, Writes, Cuts, Syncs};
 ghost use Rattle.outside_edges.specs.Faults.{CountsOne};
-ghost use Rattle.outside_edges.specs.Site.{counted_as, state_in, IsFound, IsHad, IsHeld, OneCall};
+ghost use Rattle.outside_edges.specs.Site.{counts_of, state_in, IsFound, IsHad, IsHeld, OneCall};
 
 use crate::counted::{count_call, count_fault};
 use host_calls::{HostFile, HostFiles};
@@ -86,7 +86,7 @@ impl<F: HostFile + Drop> RealSite<F> {
         folder: FolderSync,
     ) -> Result<(), AllocError>
         ensures had { H.tells → F.tells → OnOk result (IsHeld F.state F.hold path.now folder self.new.file (H.state host.old) (H.state host.new)) }
-        ensures counts { counted_as self.new.faults self.new.vim_faults self.new.look_faults self.new.writes self.new.cuts self.new.syncs ≡ counted_as self.old.faults self.old.vim_faults self.old.look_faults self.old.writes self.old.cuts self.old.syncs }
+        ensures counts { counts_of self.new ≡ counts_of self.old }
     {
         match found(host, streams, path, folder) {
             Ok(file) => {
@@ -167,33 +167,63 @@ fn why_of(fault: io::Error) -> WhyLost {
 }
 
 impl<F: HostFile> Site for RealSite<F> {
-    ghost use Rattle.outside_edges.specs.Site.{counted_as, state_in};
+    ghost use Rattle.outside_edges.specs.Site.{counts_of, state_in};
 
     ghost tells = { F.tells };
 
     ghost state = { λ site. state_in F.state site.file };
 
-    ghost counts = { λ site. counted_as site.faults site.vim_faults site.look_faults site.writes site.cuts site.syncs };
+    ghost counts = { counts_of };
 
-    fn length(&mut self) -> Result<u64, DiskFailed> {
+    fn length(&mut self) -> Result<u64, DiskFailed>
+        ensures lost { self.old.file ≡ None → IsErr result }
+        ensures one { F.tells → OneCall F.calls self.old.file self.new.file }
+        ensures length { F.tells → IfOk result (λ n. n ≡ length (state_in F.state self.old.file).image) }
+        ensures told { F.tells → Reads (state_in F.state self.old.file) (state_in F.state self.new.file) }
+        ensures cause { DiskCause (counts_of self.old) (counts_of self.new) result }
+    {
         length_of(&mut self.file, &mut self.faults)
     }
 
-    fn read_at(&mut self, at: u64, into: &mut [u8]) -> Result<(), DiskFailed> {
+    fn read_at(&mut self, at: u64, into: &mut [u8]) -> Result<(), DiskFailed>
+        requires { F.tells → at + length into.old ≤ length (state_in F.state self.old.file).image }
+        ensures lost { self.old.file ≡ None → IsErr result }
+        ensures one { F.tells → OneCall F.calls self.old.file self.new.file }
+        ensures bytes { F.tells → OnOk result (into.new ≡ take (length into.old) (drop at (state_in F.state self.old.file).image)) }
+        ensures told { F.tells → Reads (state_in F.state self.old.file) (state_in F.state self.new.file) }
+        ensures cause { DiskCause (counts_of self.old) (counts_of self.new) result }
+    {
         read_from(&mut self.file, at, into, &mut self.faults)
     }
 
-    fn write_at(&mut self, at: u64, bytes: &[u8]) -> Result<(), DiskFailed> {
+    fn write_at(&mut self, at: u64, bytes: &[u8]) -> Result<(), DiskFailed>
+        requires { F.tells → at ≤ length (state_in F.state self.old.file).image }
+        ensures lost { self.old.file ≡ None → IsErr result }
+        ensures one { F.tells → OneCall F.calls self.old.file self.new.file }
+        ensures told { F.tells → Writes at bytes.now result (state_in F.state self.old.file) (state_in F.state self.new.file) }
+        ensures cause { DiskCause (asked Ask.write (counts_of self.old)) (counts_of self.new) result }
+    {
         count_call(&mut self.writes);
         write_to(&mut self.file, at, bytes, &mut self.faults)
     }
 
-    fn cut(&mut self, to: u64) -> Result<(), DiskFailed> {
+    fn cut(&mut self, to: u64) -> Result<(), DiskFailed>
+        requires { F.tells → to ≤ length (state_in F.state self.old.file).image }
+        ensures lost { self.old.file ≡ None → IsErr result }
+        ensures one { F.tells → OneCall F.calls self.old.file self.new.file }
+        ensures told { F.tells → Cuts to result (state_in F.state self.old.file) (state_in F.state self.new.file) }
+        ensures cause { DiskCause (asked Ask.cut (counts_of self.old)) (counts_of self.new) result }
+    {
         count_call(&mut self.cuts);
         cut_to(&mut self.file, to, &mut self.faults)
     }
 
-    fn sync(&mut self) -> Result<(), DiskFailed> {
+    fn sync(&mut self) -> Result<(), DiskFailed>
+        ensures lost { self.old.file ≡ None → IsErr result }
+        ensures one { F.tells → OneCall F.calls self.old.file self.new.file }
+        ensures told { F.tells → Syncs result (state_in F.state self.old.file) (state_in F.state self.new.file) }
+        ensures cause { DiskCause (asked Ask.sync (counts_of self.old)) (counts_of self.new) result }
+    {
         count_call(&mut self.syncs);
         sync_of(&mut self.file, &mut self.faults)
     }

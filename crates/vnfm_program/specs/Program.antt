@@ -4,7 +4,7 @@ use Rattle.std.specs.declared.alloc.AllocError.{AllocError}
 use Rattle.host_calls.specs.Files.{FilesState, Hold}
 use Rattle.lcm_api.specs.Mouth.{MouthState}
 use Rattle.lcm_api.specs.Talking.{Tells as WorldTells, World, telling, world}
-use Rattle.outside_edges.specs.Site.{IsHeld, counted_as, state_in}
+use Rattle.outside_edges.specs.Site.{IsHeld, counts_of, state_in}
 use Rattle.outside_edges.specs.declared.real_site.FolderSync.{FolderSync}
 use Rattle.outside_edges.specs.declared.real_site.FolderSync.TheVariants.{Always, WhereMade}
 use Rattle.outside_edges.specs.declared.real_site.RealSite.{RealSite}
@@ -135,10 +135,6 @@ pub record Meaning (N H F K L E : Type 0) : Type 1 where
   pub given : K → List ℕ
   pub lines : L → Output
   pub errors : E → Output
-
--- how often the calls of a site failed, and what was asked of it
-abbrev pub counts_of : {F : Type 0} → RealSite F → SiteCounts
-counts_of site = counted_as site.faults site.vim_faults site.look_faults site.writes site.cuts site.syncs
 
 -- the folder of a file that `init` makes is synced each time, so that the name of a journal that it answered for is on the disk
 abbrev pub folder_of : Command → FolderSync

@@ -2,12 +2,12 @@
 ghost use Rattle.std.specs.Prelude.{◌≡◌, ◌⊎◌, IfErr, IfSome, None, Some};
 ghost use Rattle.std.specs.IoError.{error_kind};
 ghost use Rattle.lcm_api.specs.Talking.{telling, world};
-ghost use Rattle.outside_edges.specs.Site.{state_in};
+ghost use Rattle.outside_edges.specs.Site.{counts_of, state_in};
 ghost use Rattle.program_words.specs.Pages.{page_of};
 ghost use Rattle.program_words.specs.Reasons.{reason_of};
 ghost use Rattle.command_line.specs.Words.{settings_of};
 ghost use Rattle.vnfm_program.specs.Output.{Output, output_of};
-ghost use Rattle.vnfm_program.specs.Program.{ObeysOrStarves, Performs, RunsOver, SpeaksOnError, SpeaksOnOutput, Starts, answers, counts_of, folder_of, is_undelivered};
+ghost use Rattle.vnfm_program.specs.Program.{ObeysOrStarves, Performs, RunsOver, SpeaksOnError, SpeaksOnOutput, Starts, answers, folder_of, is_undelivered};
 ghost use Rattle.vnfm_program.specs.Words.{words_in};
 
 use crate::output::{explain, print, starve};
