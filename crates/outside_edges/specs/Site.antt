@@ -1,11 +1,15 @@
 -- The journal's real file.
-use Rattle.std.specs.Prelude.{◌≡◌, ◌⊎◌, ℕ, List, [], true, Option, Some, None, IfSome, IsSomeAnd, unwrap_or}
+use Rattle.std.specs.Prelude.{◌≡◌, ◌≢◌, ◌⊎◌, ℕ, List, [], true, Option, Some, None, IfSome, IsSomeAnd, unwrap_or}
+use Rattle.std.specs.declared.io.ErrorKind.{ErrorKind}
+use Rattle.std.specs.declared.io.ErrorKind.TheVariants as kind
 use Rattle.site_traits.specs.Counts.{SiteCounts, one_more}
 use Rattle.site_traits.specs.Site.{SiteState, untold}
 use Rattle.host_calls.specs.Files.{FilesState, Hold, free, whole}
 use Rattle.outside_edges.specs.declared.real_site.FolderSync.{FolderSync}
 use Rattle.outside_edges.specs.declared.real_site.FolderSync.TheVariants.{Always, WhereMade}
 use Rattle.outside_edges.specs.declared.real_site.RealSite.{RealSite}
+use Rattle.outside_edges.specs.declared.real_site.WhyLost.{WhyLost}
+use Rattle.outside_edges.specs.declared.real_site.WhyLost.TheVariants as why
 
 -- how often its disk calls, its calls on jobs and the looks among these failed, and what was asked of its file; it refuses no begin
 abbrev pub counts_of : {F : Type 0} → RealSite F → SiteCounts
@@ -47,3 +51,19 @@ pub record IsHad {F : Type 0} (state : F → SiteState) (hold : F → Hold) (pat
 -- where a file was opened, it is the one that is to be had
 abbrev pub IsHeld : {F : Type 0} → (F → SiteState) → (F → Hold) → List ℕ → FolderSync → Option F → FilesState → FilesState → Type 0
 IsHeld state hold path folder file old new = IfSome file (λ f. IsHad state hold path folder f old new)
+
+-- why a file couldn't be had, by the kind of the fault of the call that failed
+abbrev pub why_by : ErrorKind → WhyLost
+why_by kind.WouldBlock = why.Locked
+why_by kind.NotFound = why.NoFolder
+why_by kind.NotADirectory = why.NoFolder
+why_by kind.PermissionDenied = why.NotPermitted
+why_by kind.ReadOnlyFilesystem = why.NotPermitted
+why_by kind.IsADirectory = why.NotAFile
+why_by kind.OutOfMemory = why.Memory
+why_by _ = why.Other
+
+-- a file that is there has no word why it was lost, and one that isn't has one, which isn't want of memory
+abbrev pub IsExplained : {F : Type 0} → Option F → Option WhyLost → Type 0
+IsExplained (Some file) lost = lost ≡ None
+IsExplained None lost = IsSomeAnd lost (λ cause. cause ≢ why.Memory)

@@ -1,9 +1,10 @@
 //! The journal's real file, under its exclusive lock.
-ghost use Rattle.std.specs.Prelude.{◌≡◌, ◌≤◌, ◌+◌, IfOk, OnOk, IsErr, None, length, take, drop};
+ghost use Rattle.std.specs.Prelude.{◌≡◌, ◌≤◌, ◌+◌, IfOk, OnErr, OnOk, IsErr, None, length, take, drop};
+ghost use Rattle.std.specs.IoError.{error_kind};
 ghost use Rattle.site_traits.specs.Counts.{Ask, asked, DiskCause, one_more};
 ghost use Rattle.site_traits.specs.Site.{Reads, Writes, Cuts, Syncs};
 ghost use Rattle.outside_edges.specs.Faults.{CountsOne};
-ghost use Rattle.outside_edges.specs.Site.{counts_of, state_in, IsFound, IsHad, IsHeld, OneCall};
+ghost use Rattle.outside_edges.specs.Site.{counts_of, state_in, IsFound, IsHad, IsExplained, IsHeld, OneCall, why_by};
 
 use crate::counted::{count_call, count_fault};
 use host_calls::{HostFile, HostFiles};
@@ -86,6 +87,8 @@ impl<F: HostFile + Drop> RealSite<F> {
         folder: FolderSync,
     ) -> Result<(), AllocError>
         ensures had { H.tells → F.tells → OnOk result (IsHeld F.state F.hold path.now folder self.new.file (H.state host.old) (H.state host.new)) }
+        ensures why { OnOk result (IsExplained self.new.file self.new.why) }
+        ensures refused { OnErr result (self.new ≡ self.old) }
         ensures counts { counts_of self.new ≡ counts_of self.old }
     {
         match found(host, streams, path, folder) {
@@ -155,7 +158,9 @@ fn at_path<H: HostFiles, T: Drop>(
 }
 
 /// Why a file couldn't be had, by the fault of the call that failed.
-fn why_of(fault: io::Error) -> WhyLost {
+fn why_of(fault: io::Error) -> WhyLost
+    ensures { result ≡ why_by (error_kind fault) }
+{
     match fault.kind() {
         ErrorKind::WouldBlock => WhyLost::Locked,
         ErrorKind::NotFound | ErrorKind::NotADirectory => WhyLost::NoFolder,

@@ -4,7 +4,7 @@ use Rattle.std.specs.declared.alloc.AllocError.{AllocError}
 use Rattle.host_calls.specs.Files.{FilesState, Hold}
 use Rattle.lcm_api.specs.Mouth.{MouthState}
 use Rattle.lcm_api.specs.Talking.{Tells as WorldTells, World, telling, world}
-use Rattle.outside_edges.specs.Site.{IsHeld, counts_of, state_in}
+use Rattle.outside_edges.specs.Site.{IsExplained, IsHeld, counts_of, state_in}
 use Rattle.outside_edges.specs.declared.real_site.FolderSync.{FolderSync}
 use Rattle.outside_edges.specs.declared.real_site.FolderSync.TheVariants.{Always, WhereMade}
 use Rattle.outside_edges.specs.declared.real_site.RealSite.{RealSite}
@@ -169,19 +169,19 @@ module _ {N H F K L E : Type 0} where
     pub set : settings_of words ≡ Some settings
     pub streams : g.device_tells → AreStreamsTaken (g.numbers b.device)
     pub starves : Starves g.errors_tells status (g.errors a.errors) (g.errors b.errors)
-    pub counts : counts_of b.site ≡ counts_of a.site
-    pub kept : b ≡ record a { device = b.device; files = b.files; site = b.site; errors = b.errors }
+    pub kept : b ≡ record a { device = b.device; files = b.files; errors = b.errors }
 
   -- a page was printed to standard output, and nothing else was done
   pub record IsPrinted (g : Meaning N H F K L E) (page : Page) (status : ℕ) (a b : Objects N H F K L E) : Type 0 where
     pub prints : Prints g.lines_tells page status (g.lines a.lines) (g.lines b.lines)
     pub kept : b ≡ record a { lines = b.lines }
 
-  -- The file at the path of the settings was opened, where it could be had, while the numbers of the standard streams are taken. Nothing
-  -- else was done.
+  -- The file at the path of the settings was opened, or it is told why it couldn't be had, while the numbers of the standard streams are
+  -- taken. Nothing else was done.
   pub record OpensFile (g : Meaning N H F K L E) (settings : Settings) (a b : Objects N H F K L E) : Type 0 where
     pub streams : g.device_tells → AreStreamsTaken (g.numbers b.device)
     pub file : g.files_tells → g.file_tells → IsHeld g.state g.hold settings.journal (folder_of settings.command) b.site.file (g.places a.files) (g.places b.files)
+    pub why : IsExplained b.site.file b.site.why
     pub counts : counts_of b.site ≡ counts_of a.site
     pub kept : b ≡ record a { device = b.device; files = b.files; site = b.site }
 

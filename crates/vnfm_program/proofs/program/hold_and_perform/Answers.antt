@@ -11,6 +11,7 @@ returns-in-Ok-open g c =
     (inl (record {
       streams = λ tells. (c.in-Ok.ensures tells).held;
       file = λ tells file_tells. held_as _ _ c.args.settings.now _ _ _ _ _ c.as_str.ensures.value c.folder_of.ensures (c.in-Ok-open.ensures.had tells file_tells);
+      why = c.in-Ok-open.ensures.why;
       counts = c.open.ensures.counts;
       kept = refl;
     }))
