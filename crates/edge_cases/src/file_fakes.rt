@@ -33,6 +33,7 @@ pub enum Wrong {
 pub struct MemFile {
     site: MemSite,
     wrong: Wrong,
+    regular: bool,
     locked: bool,
     from_disk: bool,
     calls: u64,
@@ -45,13 +46,13 @@ impl HostFile for MemFile {
 
     ghost state = { λ f. state_of f.site };
 
-    ghost hold = { λ f. record { locked = f.locked; from_disk = f.from_disk } };
+    ghost hold = { λ f. record { regular = f.regular; locked = f.locked; from_disk = f.from_disk } };
 
     ghost calls = { λ f. f.calls };
 
     fn is_regular(&mut self) -> io::Result<bool> {
         count_call(&mut self.calls);
-        Ok(self.wrong != Wrong::Kind)
+        Ok(self.regular)
     }
 
     fn length(&mut self) -> io::Result<u64> {
@@ -139,6 +140,7 @@ fn mem_file(
     Ok(MemFile {
         site: MemSite::with_file(alloc, plan, content)?,
         wrong,
+        regular: wrong != Wrong::Kind,
         locked: false,
         from_disk: false,
         calls: 0,

@@ -5,18 +5,24 @@ use Rattle.std.specs.declared.io.ErrorKind.{ErrorKind}
 use Rattle.std.specs.declared.io.Error.{Error}
 use Rattle.site_traits.specs.Site.{SiteState}
 
--- how an open file is held: whether it is locked against every other opening, and whether what it reads is what the disk has
+-- how an open file is held: whether it is a regular file, whether it is locked against every other opening, and whether what it reads is
+-- what the disk has
 pub record Hold : Type 0 where
+  pub regular : Bool
   pub locked : Bool
   pub from_disk : Bool
 
--- a file that was just opened
-abbrev pub free : Hold
-free = record { locked = false; from_disk = false }
+-- a file that was just opened, regular or not
+abbrev pub free : Bool → Hold
+free regular = record { regular = regular; locked = false; from_disk = false }
 
--- a file that is locked and reads what the disk has
+-- a regular file that is locked and reads what the disk has
 abbrev pub whole : Hold
-whole = record { locked = true; from_disk = true }
+whole = record { regular = true; locked = true; from_disk = true }
+
+-- it is held as one that was just opened
+abbrev pub IsFree : Hold → Type 0
+IsFree hold = hold ≡ free hold.regular
 
 -- where the call succeeds the file is locked
 pub record Locks {T E : Type 0} (result : Result T E) (old new : Hold) : Type 0 where
@@ -39,14 +45,14 @@ nothing = record { image = λ _. None; named = λ _. false }
 
 -- The file at the path was opened as it is, or none was; that none is there is said only where it is so (std, `OpenOptions::open`).
 pub record Finds {F : Type 0} (state : F → SiteState) (hold : F → Hold) (path : List ℕ) (result : Result F Error) (old new : FilesState) : Type 0 where
-  pub file : IfOk result (λ f. (old.image path ≡ Some (state f).image) × (hold f ≡ free))
+  pub file : IfOk result (λ f. (old.image path ≡ Some (state f).image) × IsFree (hold f))
   pub missing : IfErr result (λ e. error_kind e ≡ ErrorKind.NotFound → old.image path ≡ None)
   pub same : new ≡ old
 
 -- an empty file was made where nothing was, and opened, or nothing changed (std, `OpenOptions::create_new`)
 pub record Makes {F : Type 0} (state : F → SiteState) (hold : F → Hold) (path : List ℕ) (result : Result F Error) (old new : FilesState) : Type 0 where
   pub missing : OnOk result (old.image path ≡ None)
-  pub file : IfOk result (λ f. ((state f).image ≡ []) × (hold f ≡ free))
+  pub file : IfOk result (λ f. ((state f).image ≡ []) × IsFree (hold f))
   pub failed : OnErr result (new ≡ old)
 
 -- where the call succeeds the name of the file at the path is on the disk

@@ -33,6 +33,7 @@ pub trait HostFile {
 
     /// Whether it is a regular file.
     fn is_regular(&mut self) -> io::Result<bool>
+        ensures regular { tells → IfOk result (λ b. b ≡ (hold self.old).regular) }
         ensures hold { tells → hold self.new ≡ hold self.old }
         ensures told { tells → Reads (state self.old) (state self.new) }
         ensures one { tells → calls self.new ≡ one_more (calls self.old) };
@@ -114,6 +115,7 @@ pub trait HostFiles {
 }
 
 impl HostFile for File {
+    ghost use Rattle.std.specs.Prelude.{true};
     ghost use Rattle.site_traits.specs.Site.{untold};
     ghost use Rattle.host_calls.specs.Files.{free};
 
@@ -121,7 +123,7 @@ impl HostFile for File {
 
     ghost state = { λ _. untold };
 
-    ghost hold = { λ _. free };
+    ghost hold = { λ _. free true };
 
     ghost calls = { λ _. 0 };
 

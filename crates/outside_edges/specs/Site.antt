@@ -4,7 +4,7 @@ use Rattle.std.specs.declared.io.ErrorKind.{ErrorKind}
 use Rattle.std.specs.declared.io.ErrorKind.TheVariants as kind
 use Rattle.site_traits.specs.Counts.{SiteCounts, one_more}
 use Rattle.site_traits.specs.Site.{SiteState, untold}
-use Rattle.host_calls.specs.Files.{FilesState, Hold, free, whole}
+use Rattle.host_calls.specs.Files.{FilesState, Hold, IsFree, whole}
 use Rattle.outside_edges.specs.declared.real_site.FolderSync.{FolderSync}
 use Rattle.outside_edges.specs.declared.real_site.FolderSync.TheVariants.{Always, WhereMade}
 use Rattle.outside_edges.specs.declared.real_site.RealSite.{RealSite}
@@ -37,11 +37,11 @@ IsUnasked path folder old new = folder ≡ WhereMade → (old.image path ≡ Non
 -- the file is what stood at the path, or an empty one where nothing did
 pub record IsFound {F : Type 0} (state : F → SiteState) (hold : F → Hold) (path : List ℕ) (folder : FolderSync) (file : F) (old new : FilesState) : Type 0 where
   pub image : (state file).image ≡ unwrap_or (old.image path) []
-  pub hold_is : hold file ≡ free
+  pub hold_is : IsFree (hold file)
   pub named : IsNamed path folder old new
   pub unasked : IsUnasked path folder old new
 
--- it is that, is locked, and reads what the disk has
+-- it is that, is a regular file, is locked, and reads what the disk has
 pub record IsHad {F : Type 0} (state : F → SiteState) (hold : F → Hold) (path : List ℕ) (folder : FolderSync) (file : F) (old new : FilesState) : Type 0 where
   pub image : (state file).image ≡ unwrap_or (old.image path) []
   pub hold_is : hold file ≡ whole

@@ -48,7 +48,7 @@ impl HostFile for MemFile {
 
     ghost state = { λ _. untold };
 
-    ghost hold = { λ _. free };
+    ghost hold = { λ _. free true };
 
     ghost calls = { λ _. 0 };
 
