@@ -1,5 +1,5 @@
 #!/bin/sh
-# The system calls around the journal's file: who may read one that is made; that `init` syncs the folder each time before it
+# The system calls around the journal's file: who may read one that is made; that `init` syncs its folder each time before it
 # answers, after a stop and a failed sync too; that what the kernel holds of the file is dropped before it is read; and that
 # no call on it goes to a standard stream. Needs strace.
 . "$(dirname "$0")/common.sh"
@@ -19,6 +19,12 @@ calls() { # CALLS WORD..
 # How often a folder is synced before the answer is written.
 folder_syncs() {
     calls fsync,write init --journal "$journal" --manager 7
+}
+
+# The folder that `init` syncs: what is opened last before the first sync.
+synced_folder() { # JOURNAL
+    strace -o "$room/calls" -e trace=openat,fsync "$program" init --journal "$1" --manager 7 >"$room/out" 2>"$room/err"
+    sed -n 's/^openat(AT_FDCWD, "\(.*\)", .*/\1/p;/^fsync(/q' "$room/calls" | tail -n 1
 }
 
 umask 022
@@ -46,6 +52,12 @@ expect "init whose sync of the folder fails, status" "$?" 3
 expect "init whose sync of the folder fails, answer" "$(head -n 1 "$room/out")" "site fault"
 expect "init behind it" "$(folder_syncs)" "fsync write"
 expect "init behind it, answer" "$(cat "$room/out")" "journal made for manager 7"
+
+rm -f "$journal"
+expect "init, what is synced" "$(synced_folder "$journal")" "$room"
+rm -f "$journal"
+expect "init, a name alone, what is synced" "$(cd "$room" && synced_folder journal)" .
+expect "init, a name alone, bytes are there" "$(test -s "$journal" && echo yes)" yes
 
 cp "$start" "$journal"
 expect "once, calls from the lock to the first read" \

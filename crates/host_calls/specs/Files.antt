@@ -1,6 +1,7 @@
 -- What calls of std on paths and open files do to the files that stand there.
-use Rattle.std.specs.Prelude.{◌≡◌, ℕ, List, [], Bool, true, false, Option, Some, None, Result, IfOk, IfErr, OnOk, OnErr}
+use Rattle.std.specs.Prelude.{◌≡◌, ℕ, List, [], ◌∷◌, Bool, true, false, Option, Some, None, Result, IfOk, IfErr, OnOk, OnErr}
 use Rattle.std.specs.IoError.{error_kind}
+use Rattle.std.specs.Path.{cur_dir, path_parent}
 use Rattle.std.specs.declared.io.ErrorKind.{ErrorKind}
 use Rattle.std.specs.declared.io.Error.{Error}
 use Rattle.site_traits.specs.Site.{SiteState}
@@ -59,3 +60,12 @@ pub record Makes {F : Type 0} (state : F → SiteState) (hold : F → Hold) (pat
 pub record SyncsFolder {T E : Type 0} (path : List ℕ) (result : Result T E) (old new : FilesState) : Type 0 where
   pub named : OnOk result (new.named path ≡ true)
   pub image : new.image ≡ old.image
+
+-- the folder of this name, or `.` where there is no name or an empty one
+abbrev pub folder_or_here : Option (List ℕ) → List ℕ
+folder_or_here (Some (byte ∷ bytes)) = byte ∷ bytes
+folder_or_here _ = cur_dir
+
+-- the folder that a path's last name is in: its parent (std, `Path::parent`), or `.` where it has none or an empty one
+abbrev pub folder_in : List ℕ → List ℕ
+folder_in path = folder_or_here (path_parent path)

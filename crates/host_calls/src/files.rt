@@ -1,8 +1,9 @@
 //! Files, and where they are found.
 ghost use Rattle.std.specs.Prelude.{◌≡◌, ◌≤◌, ◌+◌, ℕ, IfOk, OnOk, length, take, drop};
+ghost use Rattle.std.specs.Path.{path_bytes};
 ghost use Rattle.site_traits.specs.Counts.{one_more};
 ghost use Rattle.site_traits.specs.Site.{SiteState, Reads, Writes, Cuts, Syncs};
-ghost use Rattle.host_calls.specs.Files.{FilesState, Hold, Locks, Forgets, Finds, Makes, SyncsFolder};
+ghost use Rattle.host_calls.specs.Files.{FilesState, Hold, Locks, Forgets, Finds, Makes, SyncsFolder, folder_in};
 
 use standard_streams::HeldStreams;
 use std::fs::{File, OpenOptions};
@@ -207,7 +208,9 @@ impl<'a, R: Files<File = File>> HostFiles for StdFiles<'a, R> {
 }
 
 /// The folder that a path's last name is in.
-fn folder_of(path: &str) -> Path<'_> {
+fn folder_of(path: &str) -> Path<'_>
+    ensures { path_bytes result ≡ folder_in path.now }
+{
     match Path::new(path).parent() {
         Some(folder) if folder.to_str() != Some("") => folder,
         _ => Path::new("."),
