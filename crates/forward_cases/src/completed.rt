@@ -1,10 +1,12 @@
 //! An instantiation of the edge router to COMPLETED: what each round records, the work of the jobs, and what is shown.
 
-use crate::expected::{CHANGES, ROUNDS, completed, done, has_jobs};
-use crate::records::{Step, journal_with};
-use crate::router::{ACCEPTED, prepared, quiet_rounds, rounds, site_over};
-use crate::views::{is_shown_completed, is_shown_idle, is_shown_instantiated, is_shown_processing};
-use lcm_events::{Act, DefKind, Verb};
+use memory_runs::expected::{CHANGES, ROUNDS, completed, done, has_jobs};
+use memory_runs::records::{Step, journal_with};
+use memory_runs::router::{ACCEPTED, prepared, quiet_rounds, rounds, site_over};
+use memory_runs::views::{
+    is_shown_completed, is_shown_idle, is_shown_instantiated, is_shown_processing,
+};
+use memory_runs::work::makes;
 use site_traits::MemSite;
 use std::alloc::{AllocError, Global};
 use std::test::Fail;
@@ -78,109 +80,8 @@ fn a_completed_instantiation_is_shown_with_its_resources(rt: HostRuntime) -> Res
     let _ = quiet_rounds(alloc, &mut site, 1)?;
     assert!(rt; has_jobs(alloc, &site, &done(alloc, CHANGES)?)?);
     assert!(rt; is_shown_completed(alloc, &mut site)?);
-    assert!(rt; is_shown_instantiated(alloc, &mut site)?);
+    assert!(rt; is_shown_instantiated(alloc, &mut site, 13)?);
     Ok(())
-}
-
-/// The work of a job: the kind, the template, the VDU, the serial number, the size, the processors, and the resources that it is done on.
-type Work = (
-    DefKind,
-    &'static str,
-    &'static str,
-    u32,
-    u64,
-    u32,
-    &'static [&'static str],
-);
-
-const WORK: [Work; 13] = [
-    (DefKind::Link, "net_data", "", 0, 0, 0, &[]),
-    (DefKind::Link, "net_mgmt", "", 0, 0, 0, &[]),
-    (
-        DefKind::Storage,
-        "STO_A",
-        "VDU_A",
-        1,
-        10_000_000_000,
-        0,
-        &[],
-    ),
-    (
-        DefKind::Storage,
-        "STO_A",
-        "VDU_A",
-        2,
-        10_000_000_000,
-        0,
-        &[],
-    ),
-    (DefKind::Storage, "STO_B", "VDU_B", 1, 1_000_000_000, 0, &[]),
-    (
-        DefKind::Compute,
-        "VDU_A",
-        "VDU_A",
-        1,
-        2_147_483_648,
-        2,
-        &["r3"],
-    ),
-    (
-        DefKind::Compute,
-        "VDU_A",
-        "VDU_A",
-        2,
-        2_147_483_648,
-        2,
-        &["r4"],
-    ),
-    (
-        DefKind::Compute,
-        "VDU_B",
-        "VDU_B",
-        1,
-        512_000_000,
-        1,
-        &["r5"],
-    ),
-    (DefKind::Port, "CP_A_data", "VDU_A", 1, 0, 0, &["r6", "r1"]),
-    (DefKind::Port, "CP_A_mgmt", "VDU_A", 1, 0, 0, &["r6", "r2"]),
-    (DefKind::Port, "CP_A_data", "VDU_A", 2, 0, 0, &["r7", "r1"]),
-    (DefKind::Port, "CP_A_mgmt", "VDU_A", 2, 0, 0, &["r7", "r2"]),
-    (DefKind::Port, "CP_B_mgmt", "VDU_B", 1, 0, 0, &["r8", "r2"]),
-];
-
-/// Whether the work is done on these resources.
-fn is_on(act: &Act, names: &[&str]) -> bool {
-    for (place, name) in names.iter().enumerate() {
-        match act.on.as_slice().get(place) {
-            Some(resource) if resource.as_bytes() == name.as_bytes() => {}
-            _ => return false,
-        }
-    }
-    act.on.len() == names.len()
-}
-
-/// Whether a creation at `vim1` is this work.
-fn is_work(act: &Act, work: &Work) -> bool {
-    act.verb == Verb::Create
-        && act.kind == work.0
-        && act.template.as_bytes() == work.1.as_bytes()
-        && act.vdu.as_bytes() == work.2.as_bytes()
-        && act.serial == work.3
-        && act.vim.as_bytes() == b"vim1".as_slice()
-        && act.zone.is_empty()
-        && act.size == work.4
-        && act.cpus == work.5
-        && is_on(act, work.6)
-}
-
-/// Whether the job at this place, from 0, does this work.
-fn does(site: &MemSite, place: usize, work: &Work) -> bool {
-    if place >= site.jobs() {
-        return false;
-    }
-    let (_, act, _) = site.job(place);
-    is_work(act, work)
 }
 
 #[test]
@@ -188,9 +89,9 @@ fn each_job_does_the_work_of_its_change(rt: HostRuntime) -> Result<(), Fail> {
     let alloc = rt.alloc();
     let mut site = site_over(alloc, &prepared(alloc)?, &[])?;
     let _ = rounds(alloc, &mut site, ROUNDS)?;
-    for (place, work) in WORK.iter().enumerate() {
-        assert!(rt; does(&site, place, work), "job {place}");
+    for change in 0..usize::from(CHANGES) {
+        assert!(rt; makes(&site, change, change), "job {change}");
     }
-    assert_eq!(rt; site.jobs(), WORK.len());
+    assert_eq!(rt; site.jobs(), usize::from(CHANGES));
     Ok(())
 }

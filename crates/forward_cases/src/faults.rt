@@ -1,9 +1,10 @@
 //! Each disk call of an instantiation that fails: what is told, what stands, and the life behind it.
 
-use crate::expected::{ROUNDS, completed};
-use crate::records::{Step, front_of, front_with};
-use crate::router::{ACCEPTED, failing_site, prepared, rounds, site_over};
-use crate::stops::{calls_to_open, calls_until, ends_completed, not_begun};
+use crate::stops::ends_completed;
+use memory_runs::calls::{CALLS, calls_of, not_begun, opening, standing};
+use memory_runs::expected::{ROUNDS, completed};
+use memory_runs::records::{Step, front_of, front_with};
+use memory_runs::router::{ACCEPTED, failing_site, prepared, rounds, site_over};
 use site_traits::MemSite;
 use std::alloc::{AllocError, Global};
 use std::test::Fail;
@@ -11,9 +12,6 @@ use std::test::Fail;
 /// The answer where the disk failed.
 const FAULT: &[u8] =
     b"HTTP/1.1 500 Internal Server Error\r\nContent-Type: application/problem+json\r\nContent-Length: 39\r\nConnection: close\r\n\r\n{\"detail\":\"journal fault\",\"status\":500}";
-
-/// The disk calls of one record.
-const CALLS: usize = 4;
 
 /// What is told where the disk fails behind so many calls of the operation's records: nothing where the journal wasn't opened, that the
 /// journal failed where the operation was being recorded, and else that it is accepted.
@@ -23,15 +21,6 @@ fn told_behind(calls: Option<usize>) -> &'static [u8] {
         Some(before) if before < CALLS => FAULT,
         Some(_) => ACCEPTED,
     }
-}
-
-/// How many of the operation's records stand where the disk fails behind so many calls of them: a record stands once its gate was written.
-fn standing(calls: usize) -> usize {
-    let whole = calls / CALLS;
-    if calls % CALLS == 3 {
-        return whole.saturating_add(1);
-    }
-    whole
 }
 
 /// Whether this site has so many of these steps behind this file.
@@ -56,11 +45,11 @@ fn is_survived(
     call: usize,
 ) -> Result<bool, AllocError> {
     let number = u64::try_from(call).unwrap_or(0);
-    let mut site = failing_site(alloc, file, number)?;
+    let mut site = failing_site(alloc, file, &[], number)?;
     let ran = rounds(alloc, &mut site, ROUNDS)?;
     let before = call.saturating_sub(1).checked_sub(opened);
     let records = standing(before.unwrap_or(0));
-    let begins = calls_until(&site, site.moment()).begins;
+    let begins = calls_of(&site).begins;
     let lost = not_begun(steps, records, begins);
     Ok(
         ran.status == 3
@@ -80,8 +69,8 @@ fn each_disk_call_that_fails_is_made_up_for_by_the_next_life(rt: HostRuntime) ->
     let steps = completed(alloc)?;
     let mut whole = site_over(alloc, &file, &[])?;
     let _ = rounds(alloc, &mut whole, ROUNDS)?;
-    let opened = calls_to_open(&whole);
-    let all = calls_until(&whole, whole.moment()).disk;
+    let opened = opening(&whole);
+    let all = calls_of(&whole).disk;
     assert!(rt; opened > 0);
     for call in 1..all.saturating_add(1) {
         assert!(rt;
@@ -92,6 +81,7 @@ fn each_disk_call_that_fails_is_made_up_for_by_the_next_life(rt: HostRuntime) ->
     let mut behind = failing_site(
         alloc,
         &file,
+        &[],
         u64::try_from(all).unwrap_or(0).saturating_add(1),
     )?;
     assert_eq!(rt; rounds(alloc, &mut behind, ROUNDS)?.status, 0);

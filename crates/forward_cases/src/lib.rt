@@ -4,18 +4,10 @@
 #[cfg(test)]
 mod completed;
 #[cfg(test)]
-mod expected;
-#[cfg(test)]
 mod faults;
-#[cfg(test)]
-mod records;
-#[cfg(test)]
-mod router;
 #[cfg(test)]
 mod stops;
 #[cfg(test)]
 mod troubles;
 #[cfg(test)]
 mod turns;
-#[cfg(test)]
-mod views;

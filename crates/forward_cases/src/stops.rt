@@ -1,76 +1,18 @@
 //! An instantiation that is stopped at each moment, whatever is left of what isn't synced, and the life behind it.
 
-use crate::expected::{
+use memory_runs::calls::{calls_of, calls_until, left_behind, not_begun, opening};
+use memory_runs::expected::{
     CHANGES, Job, ROUNDS, completed, completed_with, done, done_again, has_jobs, made_up_to,
 };
-use crate::records::{Step, front_of, front_with, journal_with};
-use crate::router::{ACCEPTED, prepared, quiet_rounds, rounds, site_over};
+use memory_runs::lives::next_life;
+use memory_runs::records::{At, Step, front_of, front_with, journal_with};
+use memory_runs::router::{ACCEPTED, prepared, quiet_rounds, rounds, site_over};
 use site_traits::{Arrival, Choice, JobEnd, JobPlan, MemSite, Phase, SiteCall};
 use std::alloc::{AllocError, Global};
 use std::test::Fail;
 
-/// The disk calls of one record: a write and a sync of it, and a write and a sync of its gate.
-const CALLS: usize = 4;
-
-/// The records of the operation.
-const RECORDS: usize = 30;
-
 /// The rounds of the life behind a stop. A stop costs at most an attempt that was recorded and not begun, and so two rounds.
 const MORE_ROUNDS: usize = 31;
-
-/// What is on a site's record: how many calls on the disk, begins and looks.
-#[derive(Clone, Copy, Debug, PartialEq, Eq)]
-pub struct Calls {
-    /// Calls on the disk.
-    pub disk: usize,
-    /// Begins.
-    pub begins: usize,
-    /// Looks.
-    pub looks: usize,
-}
-
-/// The calls on record up to this moment.
-pub fn calls_until(site: &MemSite, moment: usize) -> Calls {
-    let mut calls = Calls {
-        disk: 0,
-        begins: 0,
-        looks: 0,
-    };
-    for place in 0..moment.min(site.moment()) {
-        match site.call(place) {
-            SiteCall::Began { .. } => calls.begins = calls.begins.saturating_add(1),
-            SiteCall::Looked { .. } => calls.looks = calls.looks.saturating_add(1),
-            SiteCall::Aborted { .. } => {}
-            _ => calls.disk = calls.disk.saturating_add(1),
-        }
-    }
-    calls
-}
-
-/// The disk calls that open the journal: those of a whole run that aren't of its records.
-pub fn calls_to_open(site: &MemSite) -> usize {
-    let all = calls_until(site, site.moment()).disk;
-    all.saturating_sub(RECORDS.saturating_mul(CALLS))
-}
-
-/// How many of the operation's records a stop leaves behind so many disk calls of them, where what isn't synced is left like this: those
-/// whose gates are open on the disk.
-fn left_behind(calls: usize, choice: Choice) -> usize {
-    let synced = calls / CALLS;
-    if calls % CALLS == 3 && choice == Choice::New {
-        return synced.saturating_add(1);
-    }
-    synced
-}
-
-/// The change whose attempt is the last of so many records, and has no job yet, where so many jobs were begun.
-pub fn not_begun(steps: &[Step], records: usize, begins: usize) -> Option<u16> {
-    let last = steps.get(records.checked_sub(1)?)?;
-    match last {
-        Step::Intent(change, _) if usize::from(*change) == begins => Some(*change),
-        _ => None,
-    }
-}
 
 /// What an operation that is taken up behind a stop records in all, where the attempt at this change had no job yet: that attempt is ended by
 /// the look at it, and there is another.
@@ -79,10 +21,10 @@ fn taken_up(alloc: Global, lost: Option<u16>) -> Result<Vec<Step>, AllocError> {
         None => completed(alloc),
         Some(change) => {
             let at = [
-                Step::Intent(change, 1),
-                Step::NotBegun(change, 1),
-                Step::Intent(change, 2),
-                Step::Done(change, 2, change.saturating_add(1)),
+                Step::Forward(change, 1, At::Intent),
+                Step::Forward(change, 1, At::NotBegun),
+                Step::Forward(change, 2, At::Intent),
+                Step::Forward(change, 2, At::Done(change.saturating_add(1))),
             ];
             completed_with(alloc, change, &at)
         }
@@ -154,7 +96,7 @@ fn whole_life(alloc: Global) -> Result<Life, AllocError> {
     let file = prepared(alloc)?;
     let mut site = site_over(alloc, &file, &[])?;
     let _ = rounds(alloc, &mut site, ROUNDS)?;
-    let opened = calls_to_open(&site);
+    let opened = opening(&site);
     Ok(Life {
         site,
         file,
@@ -205,7 +147,7 @@ fn survived(
 /// without a job.
 fn all_go_on(alloc: Global, choice: Choice, each: usize) -> Result<bool, AllocError> {
     let life = whole_life(alloc)?;
-    let calls = calls_until(&life.site, life.site.moment());
+    let calls = calls_of(&life.site);
     let moments = calls
         .disk
         .saturating_add(calls.begins)
@@ -276,7 +218,11 @@ fn is_taken_up(
     steps: &[Step],
 ) -> Result<bool, AllocError> {
     let mut site = stopped_behind_the_begin(alloc, file, plan)?;
-    let intended = journal_with(alloc, file, &made_up_to(alloc, 0, &[Step::Intent(0, 1)])?)?;
+    let intended = journal_with(
+        alloc,
+        file,
+        &made_up_to(alloc, 0, &[Step::Forward(0, 1, At::Intent)])?,
+    )?;
     let is_left = site.file() == intended.as_slice() && site.jobs() == jobs;
     let _ = quiet_rounds(alloc, &mut site, looked.saturating_sub(1))?;
     let waits = site.file() == intended.as_slice();
@@ -294,12 +240,15 @@ fn is_taken_up(
 fn the_first_act_behind_a_stop_looks_for_the_job(rt: HostRuntime) -> Result<(), Fail> {
     let alloc = rt.alloc();
     let file = prepared(alloc)?;
-    let found = [Step::Intent(0, 1), Step::Done(0, 1, 1)];
+    let found = [
+        Step::Forward(0, 1, At::Intent),
+        Step::Forward(0, 1, At::Done(1)),
+    ];
     let absent = [
-        Step::Intent(0, 1),
-        Step::NotBegun(0, 1),
-        Step::Intent(0, 2),
-        Step::Done(0, 2, 1),
+        Step::Forward(0, 1, At::Intent),
+        Step::Forward(0, 1, At::NotBegun),
+        Step::Forward(0, 2, At::Intent),
+        Step::Forward(0, 2, At::Done(1)),
     ];
     let cases: [(JobPlan, usize, usize, &[Step]); 6] = [
         (begin(Arrival::Taken, 0), 1, 1, &found),
@@ -333,28 +282,6 @@ fn is_at_the_end(site: &MemSite) -> bool {
     front_of(site.file()).ends_with(LAST) && site.jobs() == usize::from(CHANGES)
 }
 
-/// The calls that opened the journal in this site's only life: those before the first that writes, begins a job or looks at one.
-fn opening(site: &MemSite) -> usize {
-    for place in 0..site.moment() {
-        match site.call(place) {
-            SiteCall::Length | SiteCall::Read { .. } | SiteCall::Synced => {}
-            _ => return place,
-        }
-    }
-    site.moment()
-}
-
-/// Rounds that make 28 calls or more, since each round records an event.
-const SHORT_LIFE: usize = 7;
-
-/// How many calls behind its opening a life of this number is stopped: from 5, which is the attempt's intent with its begin or the look with its
-/// end, to 27, and another number in each of 23 lives. Where all were stopped at one place, each might end the attempt of the one before
-/// and leave another without a job.
-fn length_of(life: usize) -> usize {
-    let turned = life.saturating_mul(7) % 23;
-    turned.saturating_add(5)
-}
-
 /// How many lives, each stopped in its turn from this one on with this choice, come to the end behind this file; none where they don't.
 fn lives_to_the_end(
     alloc: Global,
@@ -367,13 +294,9 @@ fn lives_to_the_end(
         if is_at_the_end(&site) {
             return Ok(Some(lives));
         }
-        let before = front_of(site.file()).to_vec(alloc)?;
-        let _ = quiet_rounds(alloc, &mut site, SHORT_LIFE)?;
-        let calls = length_of(first.saturating_add(lives));
-        let last = opening(&site).saturating_add(calls);
-        site = site.stopped(alloc, last.min(site.moment()), choice)?;
-        if !front_of(site.file()).starts_with(&before) {
-            return Ok(None);
+        match next_life(alloc, &mut site, first.saturating_add(lives), choice)? {
+            Some(left) => site = left,
+            None => return Ok(None),
         }
     }
     Ok(None)

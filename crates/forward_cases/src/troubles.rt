@@ -1,10 +1,12 @@
 //! An attempt that comes to trouble, or seems to, at each change in turn: what is recorded, which jobs there are, and what is shown.
 
-use crate::expected::{CHANGES, Job, ROUNDS, Stands, completed_with, done, has_jobs, made_up_to};
-use crate::records::{Step, journal_with};
-use crate::router::{narrow_site, prepared, rounds, site_over};
-use crate::views::{is_shown_completed, is_shown_failed, is_shown_idle};
 use lcm_events::OpState;
+use memory_runs::expected::{
+    CHANGES, Job, ROUNDS, Stands, completed_with, done, has_jobs, made_up_to,
+};
+use memory_runs::records::{At, Step, journal_with};
+use memory_runs::router::{TAKEN, narrow_site, prepared, rounds, site_over, work_with};
+use memory_runs::views::{is_shown_completed, is_shown_failed, is_shown_idle};
 use site_traits::{Arrival, JobEnd, JobPlan, MemSite};
 use std::alloc::{AllocError, Global};
 use std::test::Fail;
@@ -46,15 +48,15 @@ fn plan_of(trouble: Trouble) -> (Arrival, JobEnd) {
 /// What is recorded of the attempt at this change.
 fn steps_of(alloc: Global, trouble: Trouble, change: u16) -> Result<Vec<Step>, AllocError> {
     let mut steps = Vec::new(alloc);
-    steps.push(Step::Intent(change, 1))?;
+    steps.push(Step::Forward(change, 1, At::Intent))?;
     if trouble == Trouble::Lost || trouble == Trouble::LostAndBroken {
-        steps.push(Step::CallFailed(change, 1))?;
+        steps.push(Step::Forward(change, 1, At::CallFailed))?;
     }
     steps.push(match trouble {
-        Trouble::Lost => Step::NotBegun(change, 1),
-        Trouble::Refused => Step::Broken(change, 1, 9),
-        Trouble::Broken | Trouble::LostAndBroken => Step::Broken(change, 1, 7),
-        Trouble::NoRoom => Step::Broken(change, 1, 1),
+        Trouble::Lost => Step::Forward(change, 1, At::NotBegun),
+        Trouble::Refused => Step::Forward(change, 1, At::Broken(9)),
+        Trouble::Broken | Trouble::LostAndBroken => Step::Forward(change, 1, At::Broken(7)),
+        Trouble::NoRoom => Step::Forward(change, 1, At::Broken(1)),
     })?;
     Ok(steps)
 }
@@ -102,22 +104,12 @@ fn work(
     arrival: Arrival,
     end: JobEnd,
 ) -> Result<Vec<JobPlan>, AllocError> {
-    let mut work = Vec::new(alloc);
-    for _ in 0..change {
-        work.push(JobPlan {
-            arrival: Arrival::Taken,
-            looks: 0,
-            end: JobEnd::Done,
-            abortable: true,
-        })?;
-    }
-    work.push(JobPlan {
+    let plan = JobPlan {
         arrival,
-        looks: 0,
         end,
-        abortable: true,
-    })?;
-    Ok(work)
+        ..TAKEN
+    };
+    work_with(alloc, change, plan)
 }
 
 /// A site with this file over which the work comes to this trouble at this change.
@@ -255,9 +247,9 @@ fn is_found(alloc: Global, file: &[u8], change: u16) -> Result<bool, AllocError>
     let mut site = site_over(alloc, file, &plan)?;
     let ran = rounds(alloc, &mut site, ROUNDS)?;
     let at = [
-        Step::Intent(change, 1),
-        Step::CallFailed(change, 1),
-        Step::Done(change, 1, change.saturating_add(1)),
+        Step::Forward(change, 1, At::Intent),
+        Step::Forward(change, 1, At::CallFailed),
+        Step::Forward(change, 1, At::Done(change.saturating_add(1))),
     ];
     let after = journal_with(alloc, file, &completed_with(alloc, change, &at)?)?;
     Ok(

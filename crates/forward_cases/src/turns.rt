@@ -1,13 +1,16 @@
 //! Turns: how many acts were recorded, wait or reached nobody, and which occurrences are passed over.
 
-use crate::expected::{CHANGES, completed};
-use crate::records::{Step, journal_with};
-use crate::router::{blind_site, prepared, quiet_rounds, rounds, rounds_with, site_over};
 use executor::Manager;
 use grant_desk::GrantAll;
 use lcm_events::{CancelMode, OpState, Way};
+use memory_runs::calls::calls_of;
+use memory_runs::expected::{CHANGES, completed};
+use memory_runs::records::{At, Step, journal_with};
+use memory_runs::router::{
+    TAKEN, blind_site, prepared, quiet_rounds, rounds, rounds_with, site_over, work_with,
+};
 use occ_work::{Turn, turn};
-use site_traits::{Arrival, JobEnd, JobPlan, MemSite, SiteCall};
+use site_traits::{JobPlan, MemSite};
 use std::alloc::{AllocError, Global};
 use std::test::Fail;
 use vnfm_base::Moment;
@@ -115,29 +118,20 @@ fn look_of(change: usize) -> usize {
 }
 
 /// The plan of begins of which the one for this change has so many looks that find its job running.
-fn slow(alloc: Global, change: usize, looks: u16) -> Result<Vec<JobPlan>, AllocError> {
-    let mut work = Vec::new(alloc);
-    for place in 0..change.saturating_add(1) {
-        work.push(JobPlan {
-            arrival: Arrival::Taken,
-            looks: if place == change { looks } else { 0 },
-            end: JobEnd::Done,
-            abortable: true,
-        })?;
-    }
-    Ok(work)
+fn slow(alloc: Global, change: u16, looks: u16) -> Result<Vec<JobPlan>, AllocError> {
+    work_with(alloc, change, JobPlan { looks, ..TAKEN })
 }
 
 #[test]
 fn a_job_that_runs_is_waited_for(rt: HostRuntime) -> Result<(), Fail> {
     let alloc = rt.alloc();
     let file = prepared(alloc)?;
-    let cases: [(usize, u16); 4] = [(0, 2), (0, 1), (5, 3), (12, 2)];
+    let cases: [(u16, u16); 4] = [(0, 2), (0, 1), (5, 3), (12, 2)];
     for (change, looks) in cases {
         let mut site = site_over(alloc, &file, &slow(alloc, change, looks)?)?;
         let held = usize::from(looks);
         assert!(rt;
-            goes_on(alloc, &mut site, look_of(change), held, WAITS)?,
+            goes_on(alloc, &mut site, look_of(usize::from(change)), held, WAITS)?,
             "change {change}"
         );
         assert!(rt; is_completed(alloc, &site, &file)?, "change {change}");
@@ -147,7 +141,7 @@ fn a_job_that_runs_is_waited_for(rt: HostRuntime) -> Result<(), Fail> {
 
 /// Whether the turn of this look, which fails, reaches nobody, and all others record an act.
 fn is_made_up_for(alloc: Global, file: &[u8], look: u64) -> Result<bool, AllocError> {
-    let mut site = blind_site(alloc, look)?;
+    let mut site = blind_site(alloc, &[], look)?;
     let change = usize::try_from(look.saturating_sub(1)).unwrap_or(0);
     let goes_on = goes_on(alloc, &mut site, look_of(change), 1, UNREACHED)?;
     let counts = site.look_faults() == 1 && site.vim_faults() == 1;
@@ -168,7 +162,7 @@ fn a_look_that_fails_is_made_again(rt: HostRuntime) -> Result<(), Fail> {
 fn a_look_that_fails_costs_a_round(rt: HostRuntime) -> Result<(), Fail> {
     let alloc = rt.alloc();
     let file = prepared(alloc)?;
-    let mut site = blind_site(alloc, 3)?;
+    let mut site = blind_site(alloc, &[], 3)?;
     let first = rounds(alloc, &mut site, 29)?;
     assert!(rt; !is_completed(alloc, &site, &file)?);
     let last = quiet_rounds(alloc, &mut site, 1)?;
@@ -194,55 +188,37 @@ fn journal_of(
 
 /// Whether no call on jobs is on this site's record.
 fn is_idle(site: &MemSite) -> bool {
-    for place in 0..site.moment() {
-        match site.call(place) {
-            SiteCall::Began { .. } | SiteCall::Looked { .. } | SiteCall::Aborted { .. } => {
-                return false;
-            }
-            _ => {}
-        }
-    }
-    site.vim_faults() == 0
+    let calls = calls_of(site);
+    calls.begins == 0 && calls.looks == 0 && calls.aborts == 0 && site.vim_faults() == 0
 }
 
 /// The steps from PROCESSING to FAILED_TEMP.
 const FAILED: [Step; 3] = [
-    Step::Intent(0, 1),
-    Step::Broken(0, 1, 9),
+    Step::Forward(0, 1, At::Intent),
+    Step::Forward(0, 1, At::Broken(9)),
     Step::Moved(OpState::FailedTemp),
 ];
 
-/// The steps from PROCESSING on to where an occurrence no longer goes forward.
-const PASSED: [&[Step]; 8] = [
+/// The steps from PROCESSING on to where an occurrence is no longer worked on.
+const PASSED: [&[Step]; 3] = [
     &FAILED,
     &[
-        Step::Intent(0, 1),
-        Step::Broken(0, 1, 9),
+        Step::Forward(0, 1, At::Intent),
+        Step::Forward(0, 1, At::Broken(9)),
         Step::Moved(OpState::FailedTemp),
         Step::Moved(OpState::RollingBack),
+        Step::Moved(OpState::RolledBack),
     ],
     &[
-        Step::Intent(0, 1),
-        Step::Done(0, 1, 1),
-        Step::Intent(1, 1),
-        Step::Broken(1, 1, 9),
-        Step::Moved(OpState::FailedTemp),
-        Step::Moved(OpState::RollingBack),
-    ],
-    &[
-        Step::Intent(0, 1),
-        Step::Broken(0, 1, 9),
+        Step::Forward(0, 1, At::Intent),
+        Step::Forward(0, 1, At::Broken(9)),
         Step::Moved(OpState::FailedTemp),
         Step::Moved(OpState::Failed),
     ],
-    &[Step::Cancelled(CancelMode::Graceful)],
-    &[Step::Cancelled(CancelMode::Forceful)],
-    &[Step::Intent(0, 1), Step::Cancelled(CancelMode::Graceful)],
-    &[Step::Intent(0, 1), Step::Cancelled(CancelMode::Forceful)],
 ];
 
 #[test]
-fn an_occurrence_that_does_not_go_forward_is_passed_over(rt: HostRuntime) -> Result<(), Fail> {
+fn an_occurrence_that_is_not_worked_on_is_passed_over(rt: HostRuntime) -> Result<(), Fail> {
     let alloc = rt.alloc();
     let file = prepared(alloc)?;
     for (at, back) in PASSED.iter().enumerate() {
@@ -329,7 +305,7 @@ fn the_next_occurrence_goes_on_behind_one_that_is_passed_over(rt: HostRuntime) -
 }
 
 #[test]
-fn a_turn_acts_for_each_occurrence_that_goes_forward(rt: HostRuntime) -> Result<(), Fail> {
+fn a_turn_acts_for_each_occurrence_that_is_worked_on(rt: HostRuntime) -> Result<(), Fail> {
     let alloc = rt.alloc();
     let mut site = site_over(alloc, &prepared(alloc)?, &slow(alloc, 0, 2)?)?;
     let mut orchestrator = GrantAll::new(alloc)?;

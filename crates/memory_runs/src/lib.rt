@@ -1,5 +1,13 @@
-//! Runs of commands over the objects in memory, and what a run did there.
+//! Runs of commands over the objects in memory, what a run did there, and what operations of one descriptor are to do.
 #![tactic(auto)]
+
+pub mod calls;
+pub mod expected;
+pub mod lives;
+pub mod records;
+pub mod router;
+pub mod views;
+pub mod work;
 
 use lcm_api::Mouth;
 use lcm_events::Role;

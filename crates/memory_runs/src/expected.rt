@@ -1,6 +1,6 @@
-//! What an instantiation of the edge router records, and the jobs that it leaves, by the rules of operations that go forward.
+//! What an instantiation of the edge router records while it goes forward, and the jobs that it leaves.
 
-use crate::records::Step;
+use crate::records::{At, Step};
 use lcm_events::{OpState, Tag, Way};
 use site_traits::{MemSite, Phase};
 use std::alloc::{AllocError, Global};
@@ -14,8 +14,8 @@ pub const ROUNDS: usize = 29;
 /// The changes from this one up to that one, each made at its first attempt by the next job.
 fn made_from(steps: &mut Vec<Step>, from: u16, to: u16) -> Result<(), AllocError> {
     for change in from..to {
-        steps.push(Step::Intent(change, 1))?;
-        steps.push(Step::Done(change, 1, change.saturating_add(1)))?;
+        steps.push(Step::Forward(change, 1, At::Intent))?;
+        steps.push(Step::Forward(change, 1, At::Done(change.saturating_add(1))))?;
     }
     Ok(())
 }

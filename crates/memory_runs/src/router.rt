@@ -1,10 +1,8 @@
 //! The edge router: its descriptor, a journal with one instance of it, and runs over that.
 
+use crate::{CREATE, MADE, Ran, door_of, init, onboard, once, run_asking, site_with, words_of};
 use grant_desk::GrantAll;
-use memory_runs::{
-    CREATE, MADE, Ran, door_of, init, onboard, once, run_asking, site_with, words_of,
-};
-use site_traits::{DoorPlan, JobPlan, MemSite, SitePlan};
+use site_traits::{Arrival, DoorPlan, JobEnd, JobPlan, MemSite, SitePlan};
 use std::alloc::{AllocError, Global};
 
 /// The descriptor: two kinds of machines with a disk each, of the first of which the default level has two, two links and three kinds of ports.
@@ -18,6 +16,54 @@ pub const INSTANTIATE: &[u8] =
 /// The answer to it, which makes occurrence 1.
 pub const ACCEPTED: &[u8] =
     b"HTTP/1.1 202 Accepted\r\nLocation: /vnflcm/v1/vnf_lcm_op_occs/00000007-766d-8002-8000-000000000001\r\nContent-Length: 0\r\n\r\n";
+
+/// The request that retries occurrence 1.
+pub const RETRY: &[u8] =
+    b"POST /vnflcm/v1/vnf_lcm_op_occs/00000007-766d-8002-8000-000000000001/retry HTTP/1.1\r\n\r\n";
+
+/// The request that rolls it back.
+pub const ROLLBACK: &[u8] =
+    b"POST /vnflcm/v1/vnf_lcm_op_occs/00000007-766d-8002-8000-000000000001/rollback HTTP/1.1\r\n\r\n";
+
+/// The request that gives it up.
+pub const FAIL: &[u8] =
+    b"POST /vnflcm/v1/vnf_lcm_op_occs/00000007-766d-8002-8000-000000000001/fail HTTP/1.1\r\n\r\n";
+
+/// The request that cancels it once what is under way has ended.
+pub const CANCEL: &[u8] =
+    b"POST /vnflcm/v1/vnf_lcm_op_occs/00000007-766d-8002-8000-000000000001/cancel HTTP/1.1\r\nContent-Length: 25\r\n\r\n{\"cancelMode\":\"GRACEFUL\"}";
+
+/// The request that cancels it and aborts what is under way.
+pub const ABORT: &[u8] =
+    b"POST /vnflcm/v1/vnf_lcm_op_occs/00000007-766d-8002-8000-000000000001/cancel HTTP/1.1\r\nContent-Length: 25\r\n\r\n{\"cancelMode\":\"FORCEFUL\"}";
+
+/// The answer to a retry, a rollback or a cancel that is taken up.
+pub const TAKEN_UP: &[u8] = b"HTTP/1.1 202 Accepted\r\nContent-Length: 0\r\n\r\n";
+
+/// The request that deletes instance 1.
+pub const DELETE: &[u8] =
+    b"DELETE /vnflcm/v1/vnf_instances/00000007-766d-8001-8000-000000000001 HTTP/1.1\r\n\r\n";
+
+/// The answer where it is deleted.
+pub const DELETED: &[u8] = b"HTTP/1.1 204 No Content\r\n\r\n";
+
+/// A begin that is taken, whose job is done at the first look and can be aborted.
+pub const TAKEN: JobPlan = JobPlan {
+    arrival: Arrival::Taken,
+    looks: 0,
+    end: JobEnd::Done,
+    abortable: true,
+};
+
+/// The plan of begins of which the one behind so many that are taken and done is this.
+pub fn work_with(alloc: Global, before: u16, plan: JobPlan) -> Result<Vec<JobPlan>, AllocError> {
+    let mut work = Vec::new(alloc);
+    for _ in 0..before {
+        work.push(TAKEN)?;
+    }
+    work.push(plan)?;
+    Ok(work)
+}
 
 /// Bytes that each site has room for.
 const ROOM: usize = 20_000;
@@ -66,43 +112,49 @@ pub fn narrow_site(alloc: Global, file: &[u8], jobs: usize) -> Result<MemSite, A
     MemSite::with_file(alloc, plan, file)
 }
 
-/// A site with this file, of which this disk call, from 1, fails.
-pub fn failing_site(alloc: Global, file: &[u8], call: u64) -> Result<MemSite, AllocError> {
-    let plan = plan_of(alloc, &[], JOBS, vec![in alloc; call]?)?;
+/// A site with this file, over which begins come out like this, and of which this disk call, from 1, fails.
+pub fn failing_site(
+    alloc: Global,
+    file: &[u8],
+    work: &[JobPlan],
+    call: u64,
+) -> Result<MemSite, AllocError> {
+    let plan = plan_of(alloc, work, JOBS, vec![in alloc; call]?)?;
     MemSite::with_file(alloc, plan, file)
 }
 
-/// A site with the prepared journal, over which this look, from 1, fails.
-pub fn blind_site(alloc: Global, look: u64) -> Result<MemSite, AllocError> {
-    let plan = plan_of(alloc, &[], JOBS, Vec::new(alloc))?;
-    let mut site = MemSite::unreachable(alloc, plan, vec![in alloc; look]?)?;
+/// A site with the prepared journal, over which begins come out like this, and this look or abort, from 1 over both, fails.
+pub fn blind_site(alloc: Global, work: &[JobPlan], call: u64) -> Result<MemSite, AllocError> {
+    let plan = plan_of(alloc, work, JOBS, Vec::new(alloc))?;
+    let mut site = MemSite::unreachable(alloc, plan, vec![in alloc; call]?)?;
     let _ = init(alloc, &mut site)?;
     prepare(alloc, &mut site)?;
     Ok(site)
 }
 
-/// So many rounds over this site and this door, with an orchestrator that grants all.
-fn rounds_at(
+/// So many rounds over this site and this door, with this orchestrator.
+pub fn rounds_at(
     alloc: Global,
     site: &mut MemSite,
     count: usize,
     door: Vec<DoorPlan>,
+    orchestrator: &mut GrantAll,
 ) -> Result<Ran, AllocError> {
     let number = format!(in alloc; "{count}")?;
     let words = words_of(
         alloc,
         &["once", "--journal", "j", "--rounds", number.as_str()],
     )?;
-    let mut orchestrator = GrantAll::new(alloc)?;
-    run_asking(alloc, &words, site, door, &mut orchestrator, None)
+    run_asking(alloc, &words, site, door, orchestrator, None)
 }
 
-/// So many rounds over this site without a connection.
+/// So many rounds over this site without a connection, with an orchestrator that grants all.
 pub fn quiet_rounds(alloc: Global, site: &mut MemSite, count: usize) -> Result<Ran, AllocError> {
-    rounds_at(alloc, site, count, Vec::new(alloc))
+    let mut orchestrator = GrantAll::new(alloc)?;
+    rounds_at(alloc, site, count, Vec::new(alloc), &mut orchestrator)
 }
 
-/// So many rounds over this site, whose one connection has these bytes.
+/// So many rounds over this site, whose one connection has these bytes, with an orchestrator that grants all.
 pub fn rounds_with(
     alloc: Global,
     site: &mut MemSite,
@@ -110,10 +162,20 @@ pub fn rounds_with(
     bytes: &[u8],
 ) -> Result<Ran, AllocError> {
     let door = door_of(alloc, bytes)?;
-    rounds_at(alloc, site, count, door)
+    let mut orchestrator = GrantAll::new(alloc)?;
+    rounds_at(alloc, site, count, door, &mut orchestrator)
 }
 
-/// So many rounds over this site, whose one connection instantiates instance 1.
+/// So many rounds over this site, whose one connection instantiates instance 1, with an orchestrator that grants all.
 pub fn rounds(alloc: Global, site: &mut MemSite, count: usize) -> Result<Ran, AllocError> {
     rounds_with(alloc, site, count, INSTANTIATE)
+}
+
+/// The answer where a request is refused for what stands, with this detail.
+pub fn conflict(alloc: Global, detail: &str) -> Result<String, AllocError> {
+    let body = format!(in alloc; "{{\"detail\":\"{detail}\",\"status\":409}}")?;
+    let length = body.len();
+    format!(in alloc;
+        "HTTP/1.1 409 Conflict\r\nContent-Type: application/problem+json\r\nContent-Length: {length}\r\n\r\n{body}"
+    )
 }

@@ -3,7 +3,24 @@
 use lcm_events::{CancelMode, OpState};
 use std::alloc::{AllocError, Global};
 
-/// A record of occurrence 1: change, attempt and what else it says.
+/// What is recorded of an attempt.
+#[derive(Clone, Copy, Debug, PartialEq, Eq)]
+pub enum At {
+    /// It is about to begin.
+    Intent,
+    /// The call that was to begin it failed.
+    CallFailed,
+    /// It was done, by the job at this place of the list.
+    Done(u16),
+    /// It was broken with this code.
+    Broken(u32),
+    /// It was aborted.
+    Aborted,
+    /// The infrastructure never got it.
+    NotBegun,
+}
+
+/// A record of occurrence 1.
 #[derive(Clone, Copy, Debug, PartialEq, Eq)]
 pub enum Step {
     /// The operation was asked for.
@@ -12,16 +29,10 @@ pub enum Step {
     Granted,
     /// It moved to this state.
     Moved(OpState),
-    /// This attempt at this change is about to begin.
-    Intent(u16, u32),
-    /// The call that was to begin it failed.
-    CallFailed(u16, u32),
-    /// It was done, by the job at this place of the list.
-    Done(u16, u32, u16),
-    /// It was broken with this code.
-    Broken(u16, u32, u32),
-    /// The infrastructure never got it.
-    NotBegun(u16, u32),
+    /// Of the attempt of this number at making this change.
+    Forward(u16, u32, At),
+    /// Of the attempt of this number at undoing this change.
+    Undo(u16, u32, At),
     /// A cancel was asked for.
     Cancelled(CancelMode),
 }
@@ -61,12 +72,18 @@ fn number_of_mode(mode: CancelMode) -> u8 {
     }
 }
 
-/// What stands behind the number of the occurrence for this attempt forward at this change, with this behind it.
-fn attempt(alloc: Global, change: u16, attempt: u32, behind: &[u8]) -> Result<Vec<u8>, AllocError> {
+/// What stands behind the number of the occurrence for this attempt at this change in the way of this number, with this behind it.
+fn attempt(
+    alloc: Global,
+    change: u16,
+    attempt: u32,
+    way: u8,
+    behind: &[u8],
+) -> Result<Vec<u8>, AllocError> {
     let mut fields = Vec::new(alloc);
     fields.extend_from_slice(&change.to_be_bytes())?;
     fields.extend_from_slice(&attempt.to_be_bytes())?;
-    fields.push(0)?;
+    fields.push(way)?;
     fields.extend_from_slice(behind)?;
     Ok(fields)
 }
@@ -89,21 +106,39 @@ fn broken(alloc: Global, code: u32) -> Result<Vec<u8>, AllocError> {
     Ok(end)
 }
 
+/// The number of the kind of an attempt's record, and what stands behind the attempt.
+fn end_of(alloc: Global, at: At) -> Result<(u8, Vec<u8>), AllocError> {
+    Ok(match at {
+        At::Intent => (8, Vec::new(alloc)),
+        At::CallFailed => (9, Vec::new(alloc)),
+        At::Done(job) => (10, done(alloc, job)?),
+        At::Broken(code) => (10, broken(alloc, code)?),
+        At::Aborted => (10, vec![in alloc; 2]?),
+        At::NotBegun => (10, vec![in alloc; 3]?),
+    })
+}
+
+/// The number of the kind of this record of an attempt at this change in the way of this number, and what stands behind its moment and the
+/// number of the occurrence.
+fn attempted(
+    alloc: Global,
+    change: u16,
+    number: u32,
+    way: u8,
+    at: At,
+) -> Result<(u8, Vec<u8>), AllocError> {
+    let (kind, end) = end_of(alloc, at)?;
+    Ok((kind, attempt(alloc, change, number, way, &end)?))
+}
+
 /// The number of a record's kind, and what stands behind its moment and the number of the occurrence.
 fn fields_of(alloc: Global, step: Step) -> Result<(u8, Vec<u8>), AllocError> {
     Ok(match step {
         Step::Asked => (4, PLAN.to_vec(alloc)?),
         Step::Granted => (6, GRANT.to_vec(alloc)?),
         Step::Moved(to) => (11, vec![in alloc; number_of(to)]?),
-        Step::Intent(change, number) => (8, attempt(alloc, change, number, &[])?),
-        Step::CallFailed(change, number) => (9, attempt(alloc, change, number, &[])?),
-        Step::Done(change, number, job) => {
-            (10, attempt(alloc, change, number, &done(alloc, job)?)?)
-        }
-        Step::Broken(change, number, code) => {
-            (10, attempt(alloc, change, number, &broken(alloc, code)?)?)
-        }
-        Step::NotBegun(change, number) => (10, attempt(alloc, change, number, &[3])?),
+        Step::Forward(change, number, at) => attempted(alloc, change, number, 0, at)?,
+        Step::Undo(change, number, at) => attempted(alloc, change, number, 1, at)?,
         Step::Cancelled(mode) => (12, vec![in alloc; number_of_mode(mode)]?),
     })
 }

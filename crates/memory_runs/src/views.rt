@@ -1,7 +1,7 @@
 //! How instance 1 of the edge router and its instantiation are shown, member by member, by the rules of the formats.
 
+use crate::once;
 use lcm_events::DefKind;
-use memory_runs::once;
 use site_traits::MemSite;
 use std::alloc::{AllocError, Global};
 
@@ -33,7 +33,7 @@ fn resource(alloc: Global, name: &str) -> Result<String, AllocError> {
 }
 
 /// A resource that was added, as a change of the occurrence.
-fn added(alloc: Global, shown: &Shown, place: usize) -> Result<String, AllocError> {
+fn added(alloc: Global, shown: &Shown, place: u16) -> Result<String, AllocError> {
     let (kind, id, template) = *shown;
     let name = format!(in alloc; "r{place}")?;
     let it = resource(alloc, name.as_str())?;
@@ -58,23 +58,32 @@ fn put_entry(list: &mut String, entry: &str) -> Result<(), AllocError> {
     list.push_str(entry)
 }
 
-/// The entries of this kind among the first so many changes.
-fn added_of(alloc: Global, of: DefKind, made: usize) -> Result<String, AllocError> {
+/// The job on whose resource this change stands, by these of all changes; 0 where it doesn't stand.
+fn job_of(jobs: &[u16], change: usize) -> u16 {
+    match jobs.get(change) {
+        Some(job) => *job,
+        None => 0,
+    }
+}
+
+/// The entries of this kind among the changes that stand, on the resources of these jobs.
+fn added_of(alloc: Global, of: DefKind, jobs: &[u16]) -> Result<String, AllocError> {
     let mut list = String::new(alloc);
-    for (place, shown) in SHOWN.iter().enumerate() {
-        if place < made && shown.0 == of {
-            let entry = added(alloc, shown, place.saturating_add(1))?;
+    for (change, shown) in SHOWN.iter().enumerate() {
+        let job = job_of(jobs, change);
+        if job > 0 && shown.0 == of {
+            let entry = added(alloc, shown, job)?;
             put_entry(&mut list, entry.as_str())?;
         }
     }
     Ok(list)
 }
 
-/// The changes of the occurrence of which the first so many are made.
-fn changes(alloc: Global, made: usize) -> Result<String, AllocError> {
-    let links = added_of(alloc, DefKind::Link, made)?;
-    let storages = added_of(alloc, DefKind::Storage, made)?;
-    let machines = added_of(alloc, DefKind::Compute, made)?;
+/// The changes of the occurrence that stand, on the resources of these jobs.
+fn changes(alloc: Global, jobs: &[u16]) -> Result<String, AllocError> {
+    let links = added_of(alloc, DefKind::Link, jobs)?;
+    let storages = added_of(alloc, DefKind::Storage, jobs)?;
+    let machines = added_of(alloc, DefKind::Compute, jobs)?;
     format!(in alloc;
         "{{\"affectedVirtualLinks\":[{links}],\"affectedVirtualStorages\":[{storages}],\"affectedVnfcs\":[{machines}]}}"
     )
@@ -108,28 +117,55 @@ fn error(alloc: Global, detail: &str) -> Result<String, AllocError> {
     format!(in alloc; "\"error\":{{\"detail\":\"{detail}\",\"status\":500}},")
 }
 
-/// The view of occurrence 1 in this state, with links to these tasks, this detail of an error, and so many changes made.
-fn occurrence(
-    alloc: Global,
-    state: &str,
-    names: &[&str],
-    detail: &str,
-    made: usize,
-) -> Result<String, AllocError> {
-    let links = tasks(alloc, names)?;
-    let error = error(alloc, detail)?;
-    let changes = changes(alloc, made)?;
+/// What is shown of occurrence 1.
+#[derive(Clone, Copy)]
+pub struct View<'a> {
+    /// Its state.
+    pub state: &'a str,
+    /// The tasks that it has a link to.
+    pub tasks: &'a [&'a str],
+    /// The mode of the cancel in force; empty where none is.
+    pub cancel: &'a str,
+    /// The detail of its error; empty where it has none.
+    pub detail: &'a str,
+    /// Whether it was granted.
+    pub granted: bool,
+    /// For each change the job on whose resource it stands, or 0 where it doesn't.
+    pub jobs: &'a [u16],
+}
+
+/// The mode of the cancel in force, where there is one.
+fn cancel_mode(alloc: Global, mode: &str) -> Result<String, AllocError> {
+    if mode.is_empty() {
+        return Ok(String::new(alloc));
+    }
+    format!(in alloc; "\"cancelMode\":\"{mode}\",")
+}
+
+/// This view of occurrence 1, as it is told.
+pub fn occurrence(alloc: Global, view: &View) -> Result<String, AllocError> {
+    let links = tasks(alloc, view.tasks)?;
+    let mode = cancel_mode(alloc, view.cancel)?;
+    let error = error(alloc, view.detail)?;
+    let grant = if view.granted {
+        "\"grantId\":\"g1\","
+    } else {
+        ""
+    };
+    let pending = !view.cancel.is_empty();
+    let state = view.state;
+    let changes = changes(alloc, view.jobs)?;
     format!(in alloc;
-        "{{\"_links\":{{{links}\"self\":{{\"href\":\"{OCCURRENCE}\"}},\"vnfInstance\":{{\"href\":\"{INSTANCE}\"}}}},{error}\"grantId\":\"g1\",\"id\":\"00000007-766d-8002-8000-000000000001\",\"isAutomaticInvocation\":false,\"isCancelPending\":false,\"operation\":\"INSTANTIATE\",\"operationParams\":{{\"flavourId\":\"simple\"}},\"operationState\":\"{state}\",\"resourceChanges\":{changes},\"startTime\":\"2023-11-14T22:13:20.000Z\",\"stateEnteredTime\":\"2023-11-14T22:13:20.000Z\",\"vnfInstanceId\":\"00000007-766d-8001-8000-000000000001\"}}"
+        "{{\"_links\":{{{links}\"self\":{{\"href\":\"{OCCURRENCE}\"}},\"vnfInstance\":{{\"href\":\"{INSTANCE}\"}}}},{mode}{error}{grant}\"id\":\"00000007-766d-8002-8000-000000000001\",\"isAutomaticInvocation\":false,\"isCancelPending\":{pending},\"operation\":\"INSTANTIATE\",\"operationParams\":{{\"flavourId\":\"simple\"}},\"operationState\":\"{state}\",\"resourceChanges\":{changes},\"startTime\":\"2023-11-14T22:13:20.000Z\",\"stateEnteredTime\":\"2023-11-14T22:13:20.000Z\",\"vnfInstanceId\":\"00000007-766d-8001-8000-000000000001\"}}"
     )
 }
 
-/// The storages of the instance.
-fn storages(alloc: Global) -> Result<String, AllocError> {
+/// The storages of the instance among the first so many changes.
+fn storages(alloc: Global, made: usize) -> Result<String, AllocError> {
     let mut list = String::new(alloc);
     for (place, shown) in SHOWN.iter().enumerate() {
         let (kind, id, template) = *shown;
-        if kind == DefKind::Storage {
+        if place < made && kind == DefKind::Storage {
             let name = format!(in alloc; "r{}", place.saturating_add(1))?;
             let it = resource(alloc, name.as_str())?;
             let entry = format!(in alloc;
@@ -141,10 +177,10 @@ fn storages(alloc: Global) -> Result<String, AllocError> {
     Ok(list)
 }
 
-/// The links of the instance.
-fn networks(alloc: Global) -> Result<String, AllocError> {
+/// The links of the instance among the first so many changes.
+fn networks(alloc: Global, made: usize) -> Result<String, AllocError> {
     let mut list = String::new(alloc);
-    for (name, id) in [("r1", "net_data"), ("r2", "net_mgmt")] {
+    for (name, id) in [("r1", "net_data"), ("r2", "net_mgmt")].iter().take(made) {
         let it = resource(alloc, name)?;
         let entry = format!(in alloc;
             "{{\"id\":\"{id}\",\"networkResource\":{it},\"vnfVirtualLinkDescId\":\"{id}\"}}"
@@ -154,24 +190,30 @@ fn networks(alloc: Global) -> Result<String, AllocError> {
     Ok(list)
 }
 
-/// The machines of the instance.
-fn machines(alloc: Global) -> Result<String, AllocError> {
+/// The changes of the plan before its machines.
+const BEFORE_MACHINES: usize = 5;
+
+/// The machines of the instance among the first so many changes. Their disks were made before them.
+fn machines(alloc: Global, made: usize) -> Result<String, AllocError> {
     let mut list = String::new(alloc);
-    for (id, vdu, name, disk) in MACHINES {
-        let it = resource(alloc, name)?;
-        let entry = format!(in alloc;
-            "{{\"computeResource\":{it},\"id\":\"{id}\",\"storageResourceIds\":[\"{disk}\"],\"vduId\":\"{vdu}\"}}"
-        )?;
-        put_entry(&mut list, entry.as_str())?;
+    for (place, machine) in MACHINES.iter().enumerate() {
+        if place.saturating_add(BEFORE_MACHINES) < made {
+            let (id, vdu, name, disk) = *machine;
+            let it = resource(alloc, name)?;
+            let entry = format!(in alloc;
+                "{{\"computeResource\":{it},\"id\":\"{id}\",\"storageResourceIds\":[\"{disk}\"],\"vduId\":\"{vdu}\"}}"
+            )?;
+            put_entry(&mut list, entry.as_str())?;
+        }
     }
     Ok(list)
 }
 
-/// The view of instance 1 once it is INSTANTIATED.
-fn instance(alloc: Global) -> Result<String, AllocError> {
-    let storages = storages(alloc)?;
-    let networks = networks(alloc)?;
-    let machines = machines(alloc)?;
+/// The view of instance 1 once it is INSTANTIATED, where the first so many changes stand.
+fn instance(alloc: Global, made: usize) -> Result<String, AllocError> {
+    let storages = storages(alloc, made)?;
+    let networks = networks(alloc, made)?;
+    let machines = machines(alloc, made)?;
     format!(in alloc;
         "{{\"_links\":{{\"heal\":{{\"href\":\"{INSTANCE}/heal\"}},\"operate\":{{\"href\":\"{INSTANCE}/operate\"}},\"scale\":{{\"href\":\"{INSTANCE}/scale\"}},\"scaleToLevel\":{{\"href\":\"{INSTANCE}/scale_to_level\"}},\"self\":{{\"href\":\"{INSTANCE}\"}},\"terminate\":{{\"href\":\"{INSTANCE}/terminate\"}}}},\"id\":\"00000007-766d-8001-8000-000000000001\",\"instantiatedVnfInfo\":{{\"extCpInfo\":[],\"flavourId\":\"simple\",\"scaleStatus\":[{{\"aspectId\":\"workers\",\"scaleLevel\":1}}],\"virtualStorageResourceInfo\":[{storages}],\"vnfState\":\"STARTED\",\"vnfVirtualLinkResourceInfo\":[{networks}],\"vnfcResourceInfo\":[{machines}]}},\"instantiationState\":\"INSTANTIATED\",\"vnfInstanceName\":\"edge-1\",\"vnfProductName\":\"Edge Router\",\"vnfProvider\":\"Example\",\"vnfSoftwareVersion\":\"1.0\",\"vnfdId\":\"vnfd-1\",\"vnfdVersion\":\"1.0\"}}"
     )
@@ -184,21 +226,62 @@ fn idle_instance(alloc: Global) -> Result<String, AllocError> {
     )
 }
 
+/// The answer that shows this body.
+pub fn shown(alloc: Global, body: &str) -> Result<String, AllocError> {
+    let length = body.len();
+    format!(in alloc;
+        "HTTP/1.1 200 OK\r\nContent-Type: application/json\r\nContent-Length: {length}\r\n\r\n{body}"
+    )
+}
+
 /// Whether a request that shows this path is told this body.
-fn is_shown(alloc: Global, site: &mut MemSite, path: &str, body: &str) -> Result<bool, AllocError> {
+fn is_told(alloc: Global, site: &mut MemSite, path: &str, body: &str) -> Result<bool, AllocError> {
     let request = format!(in alloc; "GET {path} HTTP/1.1\r\n\r\n")?;
-    let answer = format!(in alloc;
-        "HTTP/1.1 200 OK\r\nContent-Type: application/json\r\nContent-Length: {}\r\n\r\n{body}",
-        body.len()
-    )?;
+    let answer = shown(alloc, body)?;
     let ran = once(alloc, site, request.as_bytes())?;
     Ok(ran.status == 0 && ran.told.as_slice() == answer.as_bytes())
 }
 
+/// Whether occurrence 1 is shown so. The round that shows it also acts for it.
+pub fn is_shown(alloc: Global, site: &mut MemSite, view: &View) -> Result<bool, AllocError> {
+    let body = occurrence(alloc, view)?;
+    is_told(alloc, site, OCCURRENCE, body.as_str())
+}
+
+/// For each of the first so many changes the job that made it, where each was made at its first attempt.
+pub fn first_jobs(alloc: Global, made: usize) -> Result<Vec<u16>, AllocError> {
+    let mut jobs = Vec::new(alloc);
+    for place in 0..made {
+        jobs.push(u16::try_from(place).unwrap_or(0).saturating_add(1))?;
+    }
+    Ok(jobs)
+}
+
+/// Whether occurrence 1, which was granted and of which the first so many changes stand, is shown in this state, with links to these tasks and
+/// this detail of an error.
+fn is_shown_in(
+    alloc: Global,
+    site: &mut MemSite,
+    state: &str,
+    tasks: &[&str],
+    detail: &str,
+    made: usize,
+) -> Result<bool, AllocError> {
+    let jobs = first_jobs(alloc, made)?;
+    let view = View {
+        state,
+        tasks,
+        cancel: "",
+        detail,
+        granted: true,
+        jobs: &jobs,
+    };
+    is_shown(alloc, site, &view)
+}
+
 /// Whether occurrence 1 is shown COMPLETED with all its changes.
 pub fn is_shown_completed(alloc: Global, site: &mut MemSite) -> Result<bool, AllocError> {
-    let body = occurrence(alloc, "COMPLETED", &[], "", 13)?;
-    is_shown(alloc, site, OCCURRENCE, body.as_str())
+    is_shown_in(alloc, site, "COMPLETED", &[], "", 13)
 }
 
 /// Whether occurrence 1 is shown PROCESSING with so many changes made.
@@ -207,9 +290,11 @@ pub fn is_shown_processing(
     site: &mut MemSite,
     made: usize,
 ) -> Result<bool, AllocError> {
-    let body = occurrence(alloc, "PROCESSING", &["cancel"], "", made)?;
-    is_shown(alloc, site, OCCURRENCE, body.as_str())
+    is_shown_in(alloc, site, "PROCESSING", &["cancel"], "", made)
 }
+
+/// The tasks of an occurrence in FAILED_TEMP.
+pub const STOPPED: [&str; 3] = ["fail", "retry", "rollback"];
 
 /// Whether occurrence 1 is shown FAILED_TEMP with this detail, and so many changes made.
 pub fn is_shown_failed(
@@ -218,19 +303,21 @@ pub fn is_shown_failed(
     detail: &str,
     made: usize,
 ) -> Result<bool, AllocError> {
-    let names = ["fail", "retry", "rollback"];
-    let body = occurrence(alloc, "FAILED_TEMP", &names, detail, made)?;
-    is_shown(alloc, site, OCCURRENCE, body.as_str())
+    is_shown_in(alloc, site, "FAILED_TEMP", &STOPPED, detail, made)
 }
 
-/// Whether instance 1 is shown INSTANTIATED with its resources.
-pub fn is_shown_instantiated(alloc: Global, site: &mut MemSite) -> Result<bool, AllocError> {
-    let body = instance(alloc)?;
-    is_shown(alloc, site, INSTANCE, body.as_str())
+/// Whether instance 1 is shown INSTANTIATED with the resources of the first so many changes.
+pub fn is_shown_instantiated(
+    alloc: Global,
+    site: &mut MemSite,
+    made: usize,
+) -> Result<bool, AllocError> {
+    let body = instance(alloc, made)?;
+    is_told(alloc, site, INSTANCE, body.as_str())
 }
 
 /// Whether instance 1 is shown NOT_INSTANTIATED.
 pub fn is_shown_idle(alloc: Global, site: &mut MemSite) -> Result<bool, AllocError> {
     let body = idle_instance(alloc)?;
-    is_shown(alloc, site, INSTANCE, body.as_str())
+    is_told(alloc, site, INSTANCE, body.as_str())
 }
