@@ -62,7 +62,7 @@ fn asked(alloc: Global, links: u8, number: u8) -> Result<Vec<u8>, AllocError> {
     Ok(content)
 }
 
-/// An event of a turn at moment 8, and the number of its occurrence.
+/// An event at moment 8, and the number of its occurrence.
 #[derive(Clone, Copy, Debug, PartialEq, Eq)]
 pub enum Recorded {
     /// The grant `g1` of two changes, both at the connection `v0`.
@@ -73,6 +73,10 @@ pub enum Recorded {
     Later(u8),
     /// The move to PROCESSING.
     Processing(u8),
+    /// A cancel that lets end what is under way.
+    Cancelled(u8),
+    /// A cancel that doesn't.
+    Forced(u8),
 }
 
 /// The content of that event.
@@ -82,6 +86,8 @@ fn content_of(alloc: Global, event: Recorded) -> Result<Vec<u8>, AllocError> {
         Recorded::Trouble(occ) => (5, occ, &[1]),
         Recorded::Later(occ) => (5, occ, b"\0\0\x13/grant/v1/grants/g1"),
         Recorded::Processing(occ) => (11, occ, &[1]),
+        Recorded::Cancelled(occ) => (12, occ, &[0]),
+        Recorded::Forced(occ) => (12, occ, &[1]),
     };
     let mut content = front(kind, 8, number).to_vec(alloc)?;
     content.extend_from_slice(rest)?;
@@ -116,12 +122,23 @@ pub fn site_of(
     instances: u8,
     failing: Vec<u64>,
 ) -> Result<MemSite, AllocError> {
+    site_behind(alloc, links, instances, &[], failing)
+}
+
+/// The same behind these events.
+pub fn site_behind(
+    alloc: Global,
+    links: u8,
+    instances: u8,
+    events: &[Recorded],
+    failing: Vec<u64>,
+) -> Result<MemSite, AllocError> {
     let plan = SitePlan {
         bytes: 20_000,
         jobs: 0,
         failing,
         work: Vec::new(alloc),
     };
-    let file = file_of(alloc, links, instances, &[])?;
+    let file = file_of(alloc, links, instances, events)?;
     MemSite::with_file(alloc, plan, file.as_slice())
 }

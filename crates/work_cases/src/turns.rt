@@ -1,6 +1,6 @@
 //! An instantiation from its ask to PROCESSING or ROLLED_BACK, a turn behind a load each time.
 
-use crate::journals::site_of;
+use crate::journals::{Recorded, site_behind, site_of};
 use crate::peers::{Says, orchestrator_of};
 use executor::{Manager, WorkFault};
 use lcm_events::OpState;
@@ -70,10 +70,16 @@ fn turns(
 /// What came of turns: how the last ended, the state then, and how many requests and polls were answered.
 type Seen = (Ended, Option<OpState>, usize, usize);
 
-/// So many turns over a journal with so many links, with an orchestrator that gives these answers.
-fn seen(alloc: Global, links: u8, answers: &[Says], count: u8) -> Result<Seen, AllocError> {
+/// So many turns over a journal with so many links behind these events, with an orchestrator that gives these answers.
+fn seen(
+    alloc: Global,
+    links: u8,
+    events: &[Recorded],
+    answers: &[Says],
+    count: u8,
+) -> Result<Seen, AllocError> {
     let mut orchestrator = orchestrator_of(alloc, answers)?;
-    let (last, now) = over(alloc, links, &mut orchestrator, count)?;
+    let (last, now) = over(alloc, links, events, &mut orchestrator, count)?;
     Ok((last, now, orchestrator.asked(), orchestrator.polled()))
 }
 
@@ -81,10 +87,11 @@ fn seen(alloc: Global, links: u8, answers: &[Says], count: u8) -> Result<Seen, A
 fn over(
     alloc: Global,
     links: u8,
+    events: &[Recorded],
     orchestrator: &mut MemOrchestrator,
     count: u8,
 ) -> Result<(Ended, Option<OpState>), AllocError> {
-    let mut site = site_of(alloc, links, 1, Vec::new(alloc))?;
+    let mut site = site_behind(alloc, links, 1, events, Vec::new(alloc))?;
     let last = turns(alloc, &mut site, orchestrator, count);
     Ok((last, state(alloc, &mut site)))
 }
@@ -190,7 +197,82 @@ fn turns_lead_to_processing_or_to_rolled_back(rt: HostRuntime) -> Result<(), Fai
     ];
     for (at, (links, answers, count, expected)) in cases.iter().enumerate() {
         assert!(rt;
-            seen(alloc, *links, answers, *count)? == *expected,
+            seen(alloc, *links, &[], answers, *count)? == *expected,
+            "case {at}"
+        );
+    }
+    Ok(())
+}
+
+/// Events behind the ask, of which one is a cancel, the answers, the turns and what comes of them.
+type Cancelled = (&'static [Recorded], &'static [Says], u8, Seen);
+
+const BACK: Option<OpState> = Some(OpState::RolledBack);
+
+/// Cancels while the grant is asked for: a graceful one leaves the exchange to its end, and a forceful one doesn't.
+const CANCELLED: [Cancelled; 9] = [
+    (
+        &[Recorded::Later(1), Recorded::Cancelled(1)],
+        &[Says::Later(false)],
+        1,
+        (Ended::Through(0, 1), Some(OpState::Starting), 0, 1),
+    ),
+    (
+        &[Recorded::Later(1), Recorded::Cancelled(1)],
+        &[Says::Later(false), Says::Grant(2, 1)],
+        3,
+        (Ended::Through(1, 0), BACK, 0, 2),
+    ),
+    (
+        &[Recorded::Later(1), Recorded::Forced(1)],
+        &[Says::Grant(2, 1)],
+        1,
+        (Ended::Through(1, 0), BACK, 0, 0),
+    ),
+    (
+        &[Recorded::Cancelled(1)],
+        &[Says::Status(403)],
+        2,
+        (Ended::Through(1, 0), BACK, 1, 0),
+    ),
+    (
+        &[Recorded::Cancelled(1)],
+        &[Says::Grant(1, 1)],
+        2,
+        (Ended::Through(1, 0), BACK, 1, 0),
+    ),
+    (
+        &[Recorded::Cancelled(1)],
+        &TROUBLES,
+        5,
+        (Ended::Through(1, 0), Some(OpState::Starting), 4, 0),
+    ),
+    (
+        &[Recorded::Cancelled(1)],
+        &TROUBLES,
+        6,
+        (Ended::Through(1, 0), BACK, 4, 0),
+    ),
+    (
+        &[Recorded::Trouble(1), Recorded::Forced(1)],
+        &[Says::Grant(2, 1)],
+        1,
+        (Ended::Through(1, 0), BACK, 0, 0),
+    ),
+    (
+        &[Recorded::Granted(1), Recorded::Cancelled(1)],
+        &[],
+        1,
+        (Ended::Through(1, 0), BACK, 0, 0),
+    ),
+];
+
+#[test]
+fn a_cancel_lets_the_grant_exchange_end_or_ends_it(rt: HostRuntime) -> Result<(), Fail> {
+    let alloc = rt.alloc();
+    for (at, (events, answers, count, expected)) in CANCELLED.iter().enumerate() {
+        assert!(rt;
+            seen(alloc, 2, events, answers, *count)? == *expected,
             "case {at}"
         );
     }
