@@ -1,4 +1,4 @@
-//! The limits of the lowest crates, as numbers, so that none of them changes unseen. Each law is the contract of a call that
+//! Limits of other crates, as numbers, so that none of them changes unseen. Each law is the contract of a call that
 //! does nothing; it stands here, over these crates, and what is built on them need not be proved again for it.
 #![tactic(auto)]
 
@@ -9,6 +9,7 @@ ghost use Rattle.vnfm_base.specs.declared.name.TheConstants.{NAME_MAX};
 ghost use Rattle.vnfm_base.specs.declared.line.TheConstants.{LINE_MAX};
 ghost use Rattle.vnfm_base.specs.declared.moment.TheConstants.{MAX_MOMENT};
 ghost use Rattle.event_codec.specs.declared.record_buf.TheConstants.{RECORD_MAX};
+ghost use Rattle.json_views.specs.declared.occurrences.TheConstants.{MAX_LISTED};
 
 /// The limits of vnfm_base: a name has 255 bytes at most, a line 2,048, and the last moment is 9999-12-31T23:59:59.999Z.
 ///
@@ -34,4 +35,11 @@ pub fn limits_of_objects()
     ensures heard { HEARD_MAX ≡ 1048576 }
     ensures calls { CALLS ≡ 1048576 }
     ensures bytes { BYTES ≡ 67108864 }
+{}
+
+/// The limit of json_views: a list of operation occurrences has those of the 10,000 greatest numbers.
+///
+/// Source: own rule, docs/FORMATS.md.
+pub fn limits_of_lists()
+    ensures listed { MAX_LISTED ≡ 10000 }
 {}
