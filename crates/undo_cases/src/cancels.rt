@@ -567,48 +567,40 @@ fn at_once(alloc: Global) -> Result<Vec<Step>, AllocError> {
     Ok(steps)
 }
 
+/// The steps where the cancel came behind the last change, and a retry has nothing left to make.
+fn behind_all(alloc: Global) -> Result<Vec<Step>, AllocError> {
+    made_up_to(alloc, 13, &[GRACEFUL, FAILED_TEMP, PROCESSED, COMPLETED])
+}
+
+/// Whether this script over this begin comes to COMPLETED by these steps, with so many jobs.
+fn is_completed(
+    alloc: Global,
+    plan: JobPlan,
+    script: &[Life],
+    steps: &[Step],
+    jobs: usize,
+) -> Result<bool, AllocError> {
+    let face = ("COMPLETED", "", "");
+    comes_to(alloc, &[plan], script, steps, (jobs, 13), face)
+}
+
+/// The lives in which an operation is asked for, cancelled while its first job runs, and retried.
+const LATE: [Life; 3] = [Life::Asked(3), Life::Task(ABORT, 2), Life::Task(RETRY, 25)];
+
+const IN_TIME: [Life; 3] = [Life::Asked(3), Life::Task(ABORT, 2), Life::Task(RETRY, 27)];
+
+/// The same, cancelled before its first change, and behind its last.
+const BEFORE: [Life; 3] = [Life::Asked(2), Life::Task(CANCEL, 1), Life::Task(RETRY, 27)];
+
+const BEHIND: [Life; 3] = [Life::Asked(28), Life::Task(CANCEL, 1), Life::Task(RETRY, 1)];
+
 #[test]
 fn a_cancelled_operation_is_completed_by_a_retry(rt: HostRuntime) -> Result<(), Fail> {
     let alloc = rt.alloc();
-    let cases: [(&[JobPlan], [Life; 3], Vec<Step>, usize); 4] = [
-        (
-            &[FIRM],
-            [Life::Asked(3), Life::Task(ABORT, 2), Life::Task(RETRY, 25)],
-            too_late(alloc)?,
-            13,
-        ),
-        (
-            &[SLOW],
-            [Life::Asked(3), Life::Task(ABORT, 2), Life::Task(RETRY, 27)],
-            aborted(alloc)?,
-            14,
-        ),
-        (
-            &[],
-            [Life::Asked(2), Life::Task(CANCEL, 1), Life::Task(RETRY, 27)],
-            at_once(alloc)?,
-            13,
-        ),
-        (
-            &[],
-            [Life::Asked(28), Life::Task(CANCEL, 1), Life::Task(RETRY, 1)],
-            made_up_to(alloc, 13, &[GRACEFUL, FAILED_TEMP, PROCESSED, COMPLETED])?,
-            13,
-        ),
-    ];
-    for (at, (work, script, steps, jobs)) in cases.iter().enumerate() {
-        assert!(rt;
-            comes_to(
-                alloc,
-                work,
-                script,
-                steps,
-                (*jobs, 13),
-                ("COMPLETED", "", "")
-            )?,
-            "case {at}"
-        );
-    }
+    assert!(rt; is_completed(alloc, FIRM, &LATE, &too_late(alloc)?, 13)?);
+    assert!(rt; is_completed(alloc, SLOW, &IN_TIME, &aborted(alloc)?, 14)?);
+    assert!(rt; is_completed(alloc, TAKEN, &BEFORE, &at_once(alloc)?, 13)?);
+    assert!(rt; is_completed(alloc, TAKEN, &BEHIND, &behind_all(alloc)?, 13)?);
     Ok(())
 }
 

@@ -1,6 +1,6 @@
 //! Disk calls and looks of a rollback that fail, each in turn, and undos that come to trouble: what stands, and the life behind it.
 
-use crate::expected::{refused, refused_at, roll_back, rolled_back, undo};
+use crate::expected::{refused, refused_at, roll_back, rolled_back};
 use crate::scripts::{Life, has_face, has_left, plays};
 use crate::sound::standing;
 use crate::stops::{ends_rolled_back, going_back, joined};
@@ -9,11 +9,10 @@ use executor::Manager;
 use grant_desk::GrantAll;
 use lcm_events::OpState;
 use memory_runs::calls::{CALLS, calls_of, not_begun, opening, standing as standing_records};
-use memory_runs::expected::CHANGES;
 use memory_runs::records::{At, Step, front_of, front_with};
 use memory_runs::router::{
-    ROLLBACK, TAKEN_UP, blind_site, failing_site, prepared, quiet_rounds, rounds, rounds_with,
-    site_over, work_with,
+    ROLLBACK, TAKEN_UP, blind_site, failing_site, prepared, rounds, rounds_with, site_over,
+    work_with,
 };
 use occ_work::{Turn, turn};
 use site_traits::{Choice, JobPlan, MemSite};

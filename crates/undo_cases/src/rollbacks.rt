@@ -255,6 +255,42 @@ fn a_change_that_was_made_again_is_undone_on_its_new_resource(rt: HostRuntime) -
     Ok(())
 }
 
+/// The answer that accepts the second operation.
+const ACCEPTED_ANEW: &[u8] =
+    b"HTTP/1.1 202 Accepted\r\nLocation: /vnflcm/v1/vnf_lcm_op_occs/00000007-766d-8002-8000-000000000002\r\nContent-Length: 0\r\n\r\n";
+
+/// The record that occurrence 2 moved to COMPLETED, with the closed gate behind it.
+const COMPLETED_ANEW: &[u8] =
+    b"\x01\0\0\0\x12\x0b\0\0\x01\x8b\xcf\xe5\x68\0\0\0\0\0\0\0\0\x02\x02\0";
+
+/// The serial number that the job at this place, from 0, works on; none where it isn't a job of occurrence 2.
+fn serial_anew(site: &MemSite, place: usize) -> Option<u32> {
+    if place >= site.jobs() {
+        return None;
+    }
+    let (tag, act, _) = site.job(place);
+    if tag.occ == 2 { Some(act.serial) } else { None }
+}
+
+#[test]
+fn an_instance_that_was_rolled_back_is_instantiated_anew(rt: HostRuntime) -> Result<(), Fail> {
+    let alloc = rt.alloc();
+    let mut site = refused_at(alloc, &prepared(alloc)?, 5)?;
+    let _ = rounds_with(alloc, &mut site, 11, ROLLBACK)?;
+    let ran = rounds_with(alloc, &mut site, 29, INSTANTIATE)?;
+    assert!(rt; ran.told.as_slice() == ACCEPTED_ANEW);
+    assert!(rt; site.file().ends_with(COMPLETED_ANEW));
+    assert_eq!(rt; site.jobs(), 23);
+    let serials: [u32; 13] = [0, 0, 3, 4, 2, 3, 4, 2, 3, 3, 4, 4, 2];
+    for (change, serial) in serials.iter().enumerate() {
+        assert!(rt;
+            serial_anew(&site, change.saturating_add(10)) == Some(*serial),
+            "change {change}"
+        );
+    }
+    Ok(())
+}
+
 /// The answer that shows an operation that was refused at this change and given up.
 fn told_failed(alloc: Global, change: u16) -> Result<String, AllocError> {
     let detail = detail(alloc, change)?;
