@@ -2,8 +2,8 @@
 //! behind the session, in which no orchestrator is reached.
 use crate::expected::joined;
 use crate::routes::{
-    ASKED, CANCELLED, COMPLETED, CREATED, GRANTED, PROCESSING, TROUBLE, answer_of, is_shown,
-    journal_with, refusal_of, tells,
+    ASKED, CANCELLED, COMPLETED, CREATED, GRANTED, PROCESSING, STOPPED, TROUBLE, answer_of,
+    is_shown, journal_with, refusal_of, tells,
 };
 use memory_runs::{CREATE, MADE, Ran, onboard, once, site_with};
 use site_traits::MemSite;
@@ -137,7 +137,8 @@ fn an_instantiation_is_refused_for_the_first_cause(rt: HostRuntime) -> Result<()
 #[test]
 fn an_instance_in_use_is_not_instantiated(rt: HostRuntime) -> Result<(), Fail> {
     let alloc = rt.alloc();
-    let busy = journal_with(alloc, &[CREATED, ASKED, GRANTED, PROCESSING, CANCELLED])?;
+    let stopped = [CREATED, ASKED, GRANTED, PROCESSING, CANCELLED, STOPPED];
+    let busy = journal_with(alloc, &stopped)?;
     let used = journal_with(alloc, &[CREATED, ASKED, GRANTED, PROCESSING, COMPLETED])?;
     let simple = "{\"flavourId\":\"simple\"}";
     let other = "{\"flavourId\":\"x\"}";

@@ -20,8 +20,11 @@ pub const GRANTED: &[u8] =
 
 pub const PROCESSING: &[u8] = b"\x01\0\0\0\x12\x0b\0\0\x01\x8b\xcf\xe5\x68\0\0\0\0\0\0\0\0\x01\x01";
 
-/// A graceful cancel of the operation, which no turn goes on with.
+/// A graceful cancel of the operation.
 pub const CANCELLED: &[u8] = b"\x01\0\0\0\x12\x0c\0\0\x01\x8b\xcf\xe5\x68\0\0\0\0\0\0\0\0\x01\0";
+
+/// It has stopped: it moved to FAILED_TEMP, which no turn works on.
+pub const STOPPED: &[u8] = b"\x01\0\0\0\x12\x0b\0\0\x01\x8b\xcf\xe5\x68\0\0\0\0\0\0\0\0\x01\x03";
 
 pub const COMPLETED: &[u8] = b"\x01\0\0\0\x12\x0b\0\0\x01\x8b\xcf\xe5\x68\0\0\0\0\0\0\0\0\x01\x02";
 
@@ -325,7 +328,8 @@ fn an_instance_that_is_instantiated_is_shown_whole(rt: HostRuntime) -> Result<()
 #[test]
 fn an_instance_is_not_deleted_while_it_is_in_use(rt: HostRuntime) -> Result<(), Fail> {
     let alloc = rt.alloc();
-    let busy = journal_with(alloc, &[CREATED, ASKED, GRANTED, PROCESSING, CANCELLED])?;
+    let stopped = [CREATED, ASKED, GRANTED, PROCESSING, CANCELLED, STOPPED];
+    let busy = journal_with(alloc, &stopped)?;
     let used = journal_with(alloc, &[CREATED, ASKED, GRANTED, PROCESSING, COMPLETED])?;
     let delete = "DELETE /vnflcm/v1/vnf_instances/00000007-766d-8001-8000-000000000001";
     assert!(rt;

@@ -3,15 +3,12 @@ use crate::connections::{NOW, serve};
 use crate::expected::joined;
 use crate::occurrences::{ELEVEN, ROUTER_ASKED, router_site};
 use crate::routes::{
-    ASKED, CANCELLED, COMPLETED, CREATED, GRANTED, PROCESSING, answer_of, is_shown, journal_with,
-    refusal_of,
+    ASKED, CANCELLED, COMPLETED, CREATED, GRANTED, PROCESSING, STOPPED, answer_of, is_shown,
+    journal_with, refusal_of,
 };
 use crate::turns::{ROLLED_BACK, ROUTER_GRANTED, SHOW};
 use std::alloc::{AllocError, Global};
 use std::test::Fail;
-
-/// The work of the occurrence stopped: it moved to FAILED_TEMP.
-const STOPPED: &[u8] = b"\x01\0\0\0\x12\x0b\0\0\x01\x8b\xcf\xe5\x68\0\0\0\0\0\0\0\0\x01\x03";
 
 /// It was given up: it moved to FAILED.
 const GIVEN_UP: &[u8] = b"\x01\0\0\0\x12\x0b\0\0\x01\x8b\xcf\xe5\x68\0\0\0\0\0\0\0\0\x01\x04";
@@ -129,15 +126,25 @@ fn is_refused(
 /// The media type of JSON.
 const JSON: &str = "application/json";
 
+/// Whether this task of an occurrence with these records is refused with this detail.
+fn is_conflict(
+    alloc: Global,
+    records: Records,
+    task: &str,
+    detail: &str,
+) -> Result<bool, AllocError> {
+    let file = journal_with(alloc, records)?;
+    is_refused(alloc, &file, 1, task, "409 Conflict", detail)
+}
+
 #[test]
 fn a_task_is_refused_in_a_state_that_it_is_not_for(rt: HostRuntime) -> Result<(), Fail> {
     let alloc = rt.alloc();
     for (state, records, tasks) in REFUSED {
-        let file = journal_with(alloc, records)?;
         let detail = format!(in alloc; "operation is {state}")?;
         for task in tasks {
             assert!(rt;
-                is_refused(alloc, &file, 1, task, "409 Conflict", &detail)?,
+                is_conflict(alloc, records, task, &detail)?,
                 "{task} in {state}"
             );
         }
@@ -167,6 +174,12 @@ const TAKES: [(&str, &str, Records, &[u8]); 8] = [
     ),
 ];
 
+/// This journal with this record behind its others.
+fn followed_by(alloc: Global, file: &[u8], record: &[u8]) -> Result<Vec<u8>, AllocError> {
+    let front = file.get(..file.len().saturating_sub(1)).unwrap_or(file);
+    joined(alloc, &[front, record, b"\0"])
+}
+
 /// Whether this request over an occurrence with these records is told that it was taken up, and this is recorded.
 fn is_taken(
     alloc: Global,
@@ -195,10 +208,10 @@ fn a_task_is_recorded_before_it_is_answered(rt: HostRuntime) -> Result<(), Fail>
 #[test]
 fn the_body_of_a_retry_or_a_rollback_is_not_read(rt: HostRuntime) -> Result<(), Fail> {
     let alloc = rt.alloc();
-    let retry = request_of(alloc, 1, "retry", "text/plain", "{")?;
-    let rollback = request_of(alloc, 1, "rollback", "text/plain", "{")?;
-    assert!(rt; is_taken(alloc, IN_FAILED_TEMP, &retry, PROCESSING)?);
-    assert!(rt; is_taken(alloc, IN_FAILED_TEMP, &rollback, UNDOING)?);
+    for (task, record) in [("retry", PROCESSING), ("rollback", UNDOING)] {
+        let bytes = request_of(alloc, 1, task, "text/plain", "{")?;
+        assert!(rt; is_taken(alloc, IN_FAILED_TEMP, &bytes, record)?, "{task}");
+    }
     Ok(())
 }
 
@@ -218,7 +231,32 @@ const FAILED: [&str; 3] = [
 const LINK: &str =
     "{\"changeType\":\"ADDED\",\"id\":\"net_data\",\"networkResource\":{\"resourceId\":\"r1\",\"vimConnectionId\":\"vim1\"},\"vnfVirtualLinkDescId\":\"net_data\"}";
 
-/// Whether fail over this file shows the occurrence as it is then, with this error and this link, and so does a later request.
+/// Whether fail over this file, with a body of this media type, is told this view, and leaves that file.
+fn tells_view(
+    alloc: Global,
+    file: &[u8],
+    media: &str,
+    view: &str,
+    after: &[u8],
+) -> Result<bool, AllocError> {
+    let bytes = request_of(alloc, 1, "fail", media, "{")?;
+    let told = answer_of(alloc, "200 OK", "json", view)?;
+    tells(alloc, file, &bytes, LATER, &told, after)
+}
+
+/// Whether fail over this file, with a body of this media type, is told this view, and so is a later request.
+fn shows(alloc: Global, file: &[u8], media: &str, view: &str) -> Result<bool, AllocError> {
+    let after = followed_by(alloc, file, FAILED_LATER)?;
+    if !tells_view(alloc, file, media, view, &after)? {
+        return Ok(false);
+    }
+    is_shown(alloc, &after, ONE, view)
+}
+
+/// The request line that shows occurrence 1.
+const ONE: &str = "GET /vnflcm/v1/vnf_lcm_op_occs/00000007-766d-8002-8000-000000000001";
+
+/// Whether fail over this file shows the occurrence as it is then, with this error and this link.
 fn fails(
     alloc: Global,
     file: &[u8],
@@ -226,15 +264,8 @@ fn fails(
     detail: &str,
     link: &str,
 ) -> Result<bool, AllocError> {
-    let bytes = request_of(alloc, 1, "fail", media, "{")?;
     let view = format!(in alloc; "{}{detail}{}{link}{}", FAILED[0], FAILED[1], FAILED[2])?;
-    let told = answer_of(alloc, "200 OK", "json", &view)?;
-    let after = joined(
-        alloc,
-        &[&file[..file.len().saturating_sub(1)], FAILED_LATER, b"\0"],
-    )?;
-    let shown = "GET /vnflcm/v1/vnf_lcm_op_occs/00000007-766d-8002-8000-000000000001";
-    Ok(tells(alloc, file, &bytes, LATER, &told, &after)? && is_shown(alloc, &after, shown, &view)?)
+    shows(alloc, file, media, &view)
 }
 
 #[test]
@@ -253,24 +284,26 @@ const BROKEN: [&[u8]; 4] = [
     b"\x01\0\0\0\x1d\x0a\0\0\x01\x8b\xcf\xe5\x68\0\0\0\0\0\0\0\0\x01\0\x01\0\0\0\x01\0\x01\0\0\0\x09",
 ];
 
+/// The records of the edge router's instantiation, of which change 1 broke.
+fn broken(alloc: Global) -> Result<Vec<u8>, AllocError> {
+    let attempts = joined(alloc, &BROKEN)?;
+    joined(
+        alloc,
+        &[ROUTER_ASKED, ROUTER_GRANTED, PROCESSING, &attempts, STOPPED],
+    )
+}
+
+/// The journal with them behind the edge router's instance.
+fn broken_journal(alloc: Global) -> Result<Vec<u8>, AllocError> {
+    let records = broken(alloc)?;
+    let site = router_site(alloc, &ELEVEN)?;
+    followed_by(alloc, site.file(), &records)
+}
+
 #[test]
 fn fail_shows_what_was_made(rt: HostRuntime) -> Result<(), Fail> {
     let alloc = rt.alloc();
-    let site = router_site(alloc, &ELEVEN)?;
-    let front = &site.file()[..site.file().len().saturating_sub(1)];
-    let broken = joined(alloc, &BROKEN)?;
-    let file = joined(
-        alloc,
-        &[
-            front,
-            ROUTER_ASKED,
-            ROUTER_GRANTED,
-            PROCESSING,
-            &broken,
-            STOPPED,
-            b"\0",
-        ],
-    )?;
+    let file = broken_journal(alloc)?;
     assert!(rt; fails(alloc, &file, JSON, "change 1: broken 9", LINK)?);
     Ok(())
 }
@@ -305,14 +338,19 @@ const SHOWN: [(Records, &str, &str); 3] = [
     ),
 ];
 
+/// Whether an occurrence with these records is shown so.
+fn is_view(alloc: Global, records: Records, view: &str) -> Result<bool, AllocError> {
+    let file = journal_with(alloc, records)?;
+    let told = answer_of(alloc, "200 OK", "json", view)?;
+    tells(alloc, &file, SHOW, NOW, &told, &file)
+}
+
 #[test]
 fn a_cancel_is_shown_while_it_is_in_force(rt: HostRuntime) -> Result<(), Fail> {
     let alloc = rt.alloc();
     for (records, mode, pending) in SHOWN {
-        let file = journal_with(alloc, records)?;
         let view = format!(in alloc; "{}{mode}{}{pending}{}", WORKING[0], WORKING[1], WORKING[2])?;
-        let told = answer_of(alloc, "200 OK", "json", &view)?;
-        assert!(rt; tells(alloc, &file, SHOW, NOW, &told, &file)?, "{mode}");
+        assert!(rt; is_view(alloc, records, &view)?, "{mode}");
     }
     Ok(())
 }
@@ -351,17 +389,33 @@ fn terminating(alloc: Global, records: &[&[u8]]) -> Result<Vec<u8>, AllocError> 
     )
 }
 
+/// Whether a rollback of that TERMINATE with these records behind is refused.
+fn is_not_rolled_back(alloc: Global, records: &[&[u8]]) -> Result<bool, AllocError> {
+    let file = terminating(alloc, records)?;
+    is_refused(
+        alloc,
+        &file,
+        2,
+        "rollback",
+        NOT_FOUND,
+        "task is not supported",
+    )
+}
+
+/// Whether a request for a task of it is taken up where its work has stopped, and this is recorded.
+fn takes_up(alloc: Global, bytes: &[u8], record: &[u8]) -> Result<bool, AllocError> {
+    let file = terminating(alloc, &[CANCELLED_2, STOPPED_2])?;
+    let after = followed_by(alloc, &file, record)?;
+    tells(alloc, &file, bytes, NOW, TAKEN, &after)
+}
+
 #[test]
 fn a_termination_is_not_rolled_back(rt: HostRuntime) -> Result<(), Fail> {
     let alloc = rt.alloc();
-    let stopped = terminating(alloc, &[CANCELLED_2, STOPPED_2])?;
-    let completed = terminating(alloc, &[COMPLETED_2])?;
-    let none = "task is not supported";
-    assert!(rt; is_refused(alloc, &stopped, 2, "rollback", "404 Not Found", none)?);
-    assert!(rt; is_refused(alloc, &completed, 2, "rollback", "404 Not Found", none)?);
-    let retried = terminating(alloc, &[CANCELLED_2, STOPPED_2, PROCESSING_2])?;
+    assert!(rt; is_not_rolled_back(alloc, &[CANCELLED_2, STOPPED_2])?);
+    assert!(rt; is_not_rolled_back(alloc, &[COMPLETED_2])?);
     let retry = request_of(alloc, 2, "retry", JSON, "")?;
-    assert!(rt; tells(alloc, &stopped, &retry, NOW, TAKEN, &retried)?);
+    assert!(rt; takes_up(alloc, &retry, PROCESSING_2)?);
     Ok(())
 }
 
@@ -383,19 +437,26 @@ const NOT_ALLOWED: &str = "405 Method Not Allowed\r\nAllow: POST";
 
 const NOT_FOUND: &str = "404 Not Found";
 
+/// Whether a request with this method and this end of its path is refused so over this file.
+fn is_nowhere(
+    alloc: Global,
+    file: &[u8],
+    case: &(&str, &str, &str, &str),
+) -> Result<bool, AllocError> {
+    let (method, path, line, detail) = *case;
+    let bytes = format!(in alloc;
+        "{method} /vnflcm/v1/vnf_lcm_op_occs/00000007-766d-8002-8000-00000000000{path} HTTP/1.1\r\n\r\n"
+    )?;
+    let told = refusal_of(alloc, line, detail)?;
+    tells(alloc, file, bytes.as_bytes(), NOW, &told, file)
+}
+
 #[test]
 fn a_task_of_no_occurrence_is_not_found(rt: HostRuntime) -> Result<(), Fail> {
     let alloc = rt.alloc();
     let file = journal_with(alloc, IN_FAILED_TEMP)?;
-    for (method, path, line, detail) in NOWHERE {
-        let bytes = format!(in alloc;
-            "{method} /vnflcm/v1/vnf_lcm_op_occs/00000007-766d-8002-8000-00000000000{path} HTTP/1.1\r\n\r\n"
-        )?;
-        let told = refusal_of(alloc, line, detail)?;
-        assert!(rt;
-            tells(alloc, &file, bytes.as_bytes(), NOW, &told, &file)?,
-            "{path}"
-        );
+    for case in &NOWHERE {
+        assert!(rt; is_nowhere(alloc, &file, case)?, "{}", case.1);
     }
     assert!(rt; is_refused(alloc, &file, 2, "cancel", NOT_FOUND, "no such occurrence")?);
     Ok(())
@@ -441,14 +502,24 @@ const JSON_ASKED: &str = "body must be application/json";
 
 const BAD: &str = "400 Bad Request";
 
+/// Whether a cancel with this body is refused so over this file.
+fn is_refused_cancel(
+    alloc: Global,
+    file: &[u8],
+    case: &(u8, &str, &str, &str, &str),
+) -> Result<bool, AllocError> {
+    let (number, media, body, line, detail) = *case;
+    let bytes = request_of(alloc, number, "cancel", media, body)?;
+    let told = refusal_of(alloc, line, detail)?;
+    tells(alloc, file, &bytes, NOW, &told, file)
+}
+
 #[test]
 fn a_cancel_is_refused_for_the_first_cause(rt: HostRuntime) -> Result<(), Fail> {
     let alloc = rt.alloc();
     let file = journal_with(alloc, &[CREATED, ASKED, GRANTED, PROCESSING, COMPLETED])?;
-    for (number, media, body, line, detail) in CANCELS {
-        let bytes = request_of(alloc, number, "cancel", media, body)?;
-        let told = refusal_of(alloc, line, detail)?;
-        assert!(rt; tells(alloc, &file, &bytes, NOW, &told, &file)?, "{body}");
+    for case in &CANCELS {
+        assert!(rt; is_refused_cancel(alloc, &file, case)?, "{}", case.2);
     }
     Ok(())
 }
