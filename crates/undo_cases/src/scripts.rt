@@ -60,6 +60,19 @@ fn put_talk(
     put_told(alloc, told, one)
 }
 
+/// Puts these requests, and what they are told.
+fn put_talks(
+    alloc: Global,
+    bytes: &mut Vec<u8>,
+    told: &mut Vec<u8>,
+    talk: &[(&[u8], Told)],
+) -> Result<(), AllocError> {
+    for (request, one) in talk {
+        put_talk(alloc, bytes, told, request, *one)?;
+    }
+    Ok(())
+}
+
 /// Puts the requests of a life and what they are told, and gives the number of its rounds.
 fn put_life(
     alloc: Global,
@@ -78,9 +91,7 @@ fn put_life(
             Ok(count)
         }
         Life::Talk(talk, count) => {
-            for (request, one) in talk {
-                put_talk(alloc, bytes, told, request, *one)?;
-            }
+            put_talks(alloc, bytes, told, talk)?;
             Ok(count)
         }
     }
