@@ -65,6 +65,9 @@ expect "a turn behind it" "$(run /dev/null once)" "status 9, journal full: $((li
 expect "a request, and a turn" "$(run "$request" once)" \
     "status 9, HTTP/1.1 507 Insufficient Storage,journal full: $((limit - 1)) + 18 bytes, $limit bytes"
 expect "a request, its detail" "$(tail -n 1 "$room/out")" '{"detail":"journal full","status":507}'
+expect "a cancel, and a turn" "$(run "$here/examples/cancel.http" once)" \
+    "status 9, HTTP/1.1 507 Insufficient Storage,journal full: $((limit - 1)) + 18 bytes, $limit bytes"
+expect "a cancel, its detail" "$(tail -n 1 "$room/out")" '{"detail":"journal full","status":507}'
 expect "no round" "$(run /dev/null once --rounds 0)" "status 0, done after 0 rounds, $limit bytes"
 expect "a descriptor" "$(run "$room/other.json" onboard)" "status 9, journal full: $((limit - 1)) + 256 bytes, $limit bytes"
 

@@ -102,6 +102,14 @@ status 6, no memory, $((begun + 23)) bytes
 status 0, HTTP/1.1 503 Service Unavailable,done after 1 rounds, $((begun + 46)) bytes" "$room/asked" /dev/null once
 }
 turn "a turn of two tries"
+
+# A cancel of the first, which records 23 bytes, and the turn behind it: a move to ROLLED_BACK and a try.
+begun=$(bytes_of "$room/asked")
+fail_each "a cancel, and the turn behind it" "status 0, HTTP/1.1 202 Accepted,done after 1 rounds, $((begun + 69)) bytes" "status 6, no memory, $begun bytes
+status 0, HTTP/1.1 503 Service Unavailable,done after 1 rounds, $((begun + 46)) bytes
+status 6, HTTP/1.1 202 Accepted,no memory, $((begun + 23)) bytes
+status 6, HTTP/1.1 202 Accepted,no memory, $((begun + 46)) bytes" "$room/asked" "$here/examples/cancel.http" once
+
 once --rounds 3 </dev/null
 turn "a turn of a move and a try"
 
