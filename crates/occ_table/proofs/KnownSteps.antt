@@ -1,7 +1,7 @@
--- What each event makes of what is known of a definition, and what a change used by it.
+-- What each event makes of what is known of a definition.
 use Rattle.std.proofs.Common.{◌≡◌, ◌≤◌, ◌-◌, ◌==◌, ◌&&◌, ◌∙◌, ℕ, List, [], ◌∷◌, Bool, true, false, cond, Option, None, Some, refl, ap, sym, subst, filter, slice_get, eqb-true, inl, inr}
 use Rattle.std.specs.List.{cons_option, list_any}
-use Rattle.std.specs.Prelude.{nat_le, option_and_then, option_map, ◌||◌}
+use Rattle.std.specs.Prelude.{if◌then◌else◌, nat_le, option_and_then, option_map, ◌||◌}
 use Rattle.lcm_events.specs.Same.{same_def, same_verb, same_way}
 use Rattle.lcm_events.proofs.SameLaws.{eq-refl, same_def-refl}
 use Rattle.lcm_events.specs.declared.attempts.Outcome.{Outcome}
@@ -34,11 +34,10 @@ use Rattle.lcm_laws.proofs.StandLaws.{of_cons}
 use Rattle.occ_table.proofs.EndedLaws.{works_not_over}
 use Rattle.occ_table.proofs.HomeLaws.{not_zero}
 use Rattle.occ_table.proofs.RowsSteps.{looked, low}
-use Rattle.occ_table.proofs.UsedSteps.{used_told}
 use Rattle.occ_table.specs.Descriptors.{numbered}
 use Rattle.occ_table.specs.Ended.{is_over, kept_grant}
-use Rattle.occ_table.specs.Resources.{deed_by, deed_in, deed_of, known_after, place_by, remade, used_after}
-use Rattle.occ_table.specs.Rows.{StandsFor, occurrence, row}
+use Rattle.occ_table.specs.Resources.{deed_by, deed_in, deed_of, place_by, remade}
+use Rattle.occ_table.specs.Rows.{StandsFor, row}
 use Rattle.occ_table.specs.Used.{known, placed, used_by}
 use Rattle.occ_table.specs.declared.resources.Deed.{Deed}
 use Rattle.occ_table.specs.declared.rows.OccRow.{OccRow}
@@ -57,7 +56,7 @@ by_operation : (H : List Event) (t : Tag) (name : List ℕ) (y : Effect) (a : Op
 by_operation H t name y None e = cc
 by_operation H t name y (Some a) e = by_change H t name a y (slice_get a.changes t.change) e
 
-of_attempt : (H : List Event) (t : Tag) (outcome : Outcome) (y : Effect) → effect_done H t outcome ≡ Some y → y.tag ≡ t
+pub of_attempt : (H : List Event) (t : Tag) (outcome : Outcome) (y : Effect) → effect_done H t outcome ≡ Some y → y.tag ≡ t
 of_attempt H t (Done name) y e = by_operation H t name y (operation H t.occ) e
 of_attempt H t _ y e = cc
 
@@ -93,7 +92,7 @@ not_granted H o goes_on granted =
     sym goes_on ∙ ended
 
 -- the first of these that passes is one of them
-first_of : {A : Type 0} → (x : A) (xs : List A) → first xs ≡ Some x → IsIn x xs
+pub first_of : {A : Type 0} → (x : A) (xs : List A) → first xs ≡ Some x → IsIn x xs
 first_of x [] e = cc
 first_of x (y ∷ xs) e = inl cc
 
@@ -117,6 +116,11 @@ place_stays width m H time n name places spots i x (Some y) legal allowed is =
 -- what a deed does whose effect and place are these
 abbrev pub deed_done : List Event → Effect → Deed
 deed_done H y = record { effect = y; place = granted_place H y.tag.occ y.tag.change }
+
+-- what is known of definitions after an attempt did something, or nothing
+abbrev pub known_after : Option Deed → (ℕ → Def → Option Used) → ℕ → Def → Option Used
+known_after None f i x = f i x
+known_after (Some d) f i x = if is_creation d.effect && is_effect_on i x d.effect then remade d (f i x) else f i x
 
 -- the first of what passes a test of all that pass another
 placed_again : (ys : List Effect) (f : Effect → Option Place)
@@ -177,10 +181,12 @@ by_row : (H : List Event) (t : Tag) (name : List ℕ) (a : Operation) (c : Optio
 by_row H t name a None is = refl
 by_row H t name a (Some c) is = ap (λ (p : Option Place). Some (record { effect = effect t name a c; place = p })) is
 
-found_row : (H : List Event) (rs : List OccRow) (t : Tag) (a : Operation) → 1 ≤ t.occ → slice_get rs (t.occ - 1) ≡ occurrence H t.occ → operation H t.occ ≡ Some a
-    → numbered t.occ rs ≡ Some (row H a)
-found_row H rs t a from at is =
-    ap (λ (b : Bool). cond b None (slice_get rs (t.occ - 1))) (not_zero t.occ from) ∙ (at ∙ ap (λ (o : Option Operation). option_map (row H) o) is)
+-- the row of an operation is found under its number
+pub row_numbered : (width m : ℕ) (H : List Event) (rs : List OccRow) (o : ℕ) (a : Operation) → IsLegalWithin width m H → StandsFor rs H → 1 ≤ o → operation H o ≡ Some a
+    → numbered o rs ≡ Some (row H a)
+row_numbered width m H rs o a legal stands from is =
+    ap (λ (b : Bool). cond b None (slice_get rs (o - 1))) (not_zero o from)
+    ∙ (looked width m H rs o legal stands from ∙ ap (λ (x : Option Operation). option_map (row H) x) is)
 
 done_deed : (width m : ℕ) (H : List Event) (rs : List OccRow) (t : Tag) (name : List ℕ) → IsLegalWithin width m H → is_open H t ≡ true → StandsFor rs H
     → deed_of t (Done name) rs ≡ option_map (deed_done H) (effect_done H t (Done name))
@@ -192,7 +198,7 @@ done_deed width m H rs t name legal opened stands =
     subst (λ (o : ℕ). is_over H o ≡ false) (sym number) (works_not_over H t.occ t (open_state width m H legal t opened)) in
     let place : place_by t.change (row H mine.0) ≡ granted_place H t.occ t.change =
     row_place H mine.0 t.change going ∙ ap (λ (o : ℕ). granted_place H o t.change) number in
-    ap (λ (r : Option OccRow). option_and_then (deed_by t name) r) (found_row H rs t mine.0 from (looked width m H rs t.occ legal stands from) mine.1)
+    ap (λ (r : Option OccRow). option_and_then (deed_by t name) r) (row_numbered width m H rs t.occ mine.0 legal stands from mine.1)
     ∙ (by_row H t name mine.0 (slice_get mine.0.changes t.change) place
     ∙ ap (λ (a : Option Operation). option_map (deed_done H) (option_and_then (λ a. option_map (effect t name a) (slice_get a.changes t.change)) a)) (sym mine.1))
 
@@ -205,35 +211,14 @@ deeds width m H rs (Settled t _) legal allowed stands = refl
 deeds width m H rs _ legal allowed stands = refl
 
 -- an effect is on its own definition
-on_own : (y : Effect) → is_effect_on y.instance y.def y ≡ true
+pub on_own : (y : Effect) → is_effect_on y.instance y.def y ≡ true
 on_own y = and_true (y.instance == y.instance) (same_def y.def y.def) (eq-refl y.instance) (same_def-refl y.def)
 
-own_use : (H : List Event) (f : ℕ → Def → Option Used) (y : Effect) → same_way y.tag.way Forward ≡ true → f y.instance y.def ≡ known H y.instance y.def
-    → known_after (Some (deed_done H y)) f y.instance y.def ≡ used_by H y
-own_use H f y forward is =
+-- what is known of the definition of an effect after it is what that used, where it wasn't an undo
+pub own_use : (H : List Event) (y : Effect) → same_way y.tag.way Forward ≡ true → known_after (Some (deed_done H y)) (known H) y.instance y.def ≡ used_by H y
+own_use H y forward =
     let own : is_effect_on y.instance y.def y ≡ true = on_own y in
-    by_test (same_verb y.verb Create) (λ creates. rw (creates, own, forward) refl) (λ other. rw other is)
-
-by_way : (H : List Event) (f : ℕ → Def → Option Used) (t : Tag) (outcome : Outcome) (o : Option Effect) → effect_done H t outcome ≡ o → ((i : ℕ) (x : Def) → f i x ≡ known H i x)
-    → used_after (option_map (deed_done H) o) f ≡ cond (same_way t.way Forward) (option_and_then (used_by H) o) None
-by_way H f t outcome None is same = by_test (same_way t.way Forward) (λ yes. rw yes refl) (λ no. rw no refl)
-by_way H f t outcome (Some y) is same =
-    let tag : y.tag ≡ t = of_attempt H t outcome y is in
-    subst (λ (u : Tag). used_after (Some (deed_done H y)) f ≡ cond (same_way u.way Forward) (used_by H y) None) tag
-    (by_test (same_way y.tag.way Forward)
-    (λ forward.
-    ap (λ (b : Bool). cond b (known_after (Some (deed_done H y)) f y.instance y.def) None) forward
-    ∙ (own_use H f y forward (same y.instance y.def) ∙ sym (ap (λ (b : Bool). cond b (used_by H y) None) forward)))
-    (λ undo.
-    ap (λ (b : Bool). cond b (known_after (Some (deed_done H y)) f y.instance y.def) None) undo
-    ∙ sym (ap (λ (b : Bool). cond b (used_by H y) None) undo)))
-
--- what a change used by an event, by what is known of definitions before it
-pub used-step : (H : List Event) (f : ℕ → Def → Option Used) (k : EventKind) → ((i : ℕ) (x : Def) → f i x ≡ known H i x)
-    → used_after (option_map (deed_done H) (effect_in H k)) f ≡ used_told H k
-unfolding effect_in
-used-step H f (Settled t outcome) same = by_way H f t outcome (effect_done H t outcome) refl same
-used-step H f _ same = refl
+    by_test (same_verb y.verb Create) (λ creates. rw (creates, own, forward) refl) (λ other. rw other refl)
 
 -- an end that isn't done does nothing
 pub no_deed : (t : Tag) (outcome : Outcome) (rs : List OccRow) → ((name : List ℕ) → outcome ≡ Done name → ⊥) → deed_of t outcome rs ≡ None
@@ -244,9 +229,3 @@ no_deed t _ rs f = refl
 pub no_deed_in : (k : EventKind) (rs : List OccRow) → ((t : Tag) (outcome : Outcome) → k ≡ Settled t outcome → ⊥) → deed_in k rs ≡ None
 no_deed_in (Settled t outcome) rs f = absurd (f t outcome refl)
 no_deed_in _ rs f = refl
-
--- what is known after a deed goes by what was known before
-pub known-same : (d : Option Deed) (f g : ℕ → Def → Option Used) → ((i : ℕ) (x : Def) → f i x ≡ g i x) → (i : ℕ) (x : Def)
-    → known_after d f i x ≡ known_after d g i x
-known-same None f g same i x = same i x
-known-same (Some d) f g same i x = ap (λ (u : Option Used). cond (is_creation d.effect && is_effect_on i x d.effect) (remade d u) u) (same i x)

@@ -15,7 +15,8 @@ pub mod PlanPhases
 pub mod GoingLaws
 pub mod OngoingSteps
 pub mod KnownSteps
+pub mod NeededLaws
+pub mod NeededSteps
 pub mod TableLaws
 pub mod PackedLaws
-pub mod ResourceLaws
 pub mod VnfdLaws

@@ -1,6 +1,7 @@
 pub mod Descriptors
 pub mod Ended
 pub mod Going
+pub mod Needed
 pub mod Ongoing
 pub mod Packed
 pub mod PackedAsks

@@ -14,10 +14,11 @@ use Rattle.lcm_model.specs.Operations.{occurrences_made}
 use Rattle.occ_table.specs.Descriptors.{vnfds}
 use Rattle.occ_table.specs.Going.{active, next_active}
 use Rattle.occ_table.specs.Ongoing.{ongoing_of, ongoings}
+use Rattle.occ_table.specs.Needed.{entry, needed}
 use Rattle.occ_table.specs.Resources.{kept_of}
 use Rattle.occ_table.specs.Rows.{StandsFor, occurrence}
 use Rattle.occ_table.specs.Steps.{first_row}
-use Rattle.occ_table.specs.Used.{known}
+use Rattle.occ_table.specs.declared.resources.Entry.{Entry}
 use Rattle.occ_table.specs.declared.resources.Key.{Key}
 use Rattle.occ_table.specs.declared.rows.OccRow.{OccRow}
 use Rattle.occ_table.specs.declared.used.Used.{Used}
@@ -38,13 +39,13 @@ pub record Reserved : Type 0 where
   pub used_names : ℕ
 
 -- what a contract sees of the table: its rows, the numbers of the active occurrences, the ongoing operation and the descriptor of
--- each instance, the resource of each definition that was ever made, and what is reserved
+-- each instance, the resource of each definition that is needed, and what is reserved
 pub record Occurrences : Type 0 where
   pub rows : List OccRow
   pub active : List ℕ
   pub ongoing : List (Option ℕ)
   pub vnfds : List (List ℕ)
-  pub resources : List (Key × Used)
+  pub resources : List (Key × Entry)
   pub reserved : Reserved
 
 -- the event needs a reservation
@@ -75,14 +76,19 @@ HasRoomFor time _ r = Unit {0}
 abbrev pub HasRoom : Event → Reserved → Type 0
 HasRoom e r = HasRoomFor e.moment e.kind r
 
+-- what was reserved is reserved: all as it was, and room for as many resources, or for more where some were forgotten
+pub record IsKept (old new : Reserved) : Type 0 where
+  pub others : new ≡ record old { resources = new.resources }
+  pub resources : old.resources ≤ new.resources
+
 -- the table is that of the history: its rows, the numbers of its active occurrences, the ongoing operation and the descriptor of each
--- instance, and the resource of each definition that was ever made, with its place
+-- instance, and of each definition that is needed the resource with its place, and whether it stands; of any other nothing
 pub record IsTableOf (t : Occurrences) (H : List Event) : Type 0 where
   pub rows : StandsFor t.rows H
   pub active : t.active ≡ active H
   pub ongoing : t.ongoing ≡ ongoings H
   pub vnfds : t.vnfds ≡ vnfds H
-  pub resources : (i : ℕ) (x : Def) → kept_of t.resources i x ≡ known H i x
+  pub resources : (i : ℕ) (x : Def) → kept_of t.resources i x ≡ entry H i x
 
 -- a table of a legal history is that of it with the event that was allowed after it, where at most four attempts of an occurrence may be open
 abbrev pub Applies : Event → Occurrences → Occurrences → Type 0
@@ -101,9 +107,9 @@ Follows after x ns = (width m : ℕ) (H : List Event) → IsLegalWithin width m 
 abbrev pub Looks : ℕ → Option OccRow → List OccRow → Type 0
 Looks n x rs = (width m : ℕ) (H : List Event) → IsLegalWithin width m H → StandsFor rs H → x ≡ occurrence H n
 
--- what is found is the resource of this definition of the instance, with its place, in each history whose table this is
+-- what is found is the resource of this definition of the instance, with its place, where that is needed, in each history whose table this is
 abbrev pub Knows : ℕ → Def → Option Used → Occurrences → Type 0
-Knows i x found t = (H : List Event) → IsTableOf t H → found ≡ known H i x
+Knows i x found t = (H : List Event) → IsTableOf t H → found ≡ needed H i x
 
 -- this is how many operations each history asks for that the rows stand for
 abbrev pub Counts : ℕ → List OccRow → Type 0

@@ -1,17 +1,21 @@
-//! The resource and the place of each definition of an instance that was ever made, by keys.
+//! The resource and the place of each definition of an instance that an attempt can still ask for, by keys.
 
-ghost use Rattle.std.specs.Prelude.{◌≡◌, ◌<◌, ◌≤◌, ℕ, None, Some, OnOk, cond, if◌then◌else◌, option_map};
+ghost use Rattle.std.specs.List.{list_any};
+ghost use Rattle.std.specs.Option.{option_map_or};
+ghost use Rattle.std.specs.Prelude.{◌≡◌, ◌&&◌, ◌==◌, ◌<◌, ◌≤◌, ℕ, None, Some, false, not, true, OnOk, cond, if◌then◌else◌, option_and_then, option_map};
 ghost use Rattle.std.specs.HashMap.{spare};
-ghost use Rattle.lcm_events.specs.Same.{kind_number, same_way};
+ghost use Rattle.lcm_events.specs.Same.{kind_number, same_def, same_way};
 ghost use Rattle.lcm_events.specs.declared.attempts.Way.TheVariants.{Forward};
 ghost use Rattle.lcm_events.specs.declared.changes.Def.{Def};
-ghost use Rattle.occ_table.specs.Resources.{kept_by, kept_of, key_of, known_after, same_key, used_after};
+ghost use Rattle.lcm_model.specs.Holding.{leaves_it};
+ghost use Rattle.occ_table.specs.Resources.{kept_by, kept_of, key_of, learned, left, outlasting, same_key, standing, touched, used_after, used_of, where_it_stands};
 ghost use Rattle.occ_table.specs.Used.{placed};
 ghost use Rattle.occ_table.specs.declared.resources.Key.{Key};
 
 use crate::rooms::Rooms;
+use crate::rows::OccRow;
 use crate::used::{PackedUsed, Used};
-use lcm_events::{Def, DefKind, Place, Verb, Way};
+use lcm_events::{Change, Def, DefKind, Place, Verb, Way};
 use lcm_model::Effect;
 use std::alloc::{AllocError, Global};
 use std::collections::HashMap;
@@ -69,12 +73,21 @@ impl Key {
     }
 }
 
-/// The resource and the place of each definition that was ever made.
+/// What is kept of a definition.
+#[derive(Debug, Drop)]
+pub struct Entry {
+    /// Its resource, with its place.
+    pub used: PackedUsed,
+    /// Whether it stands.
+    pub stands: bool,
+}
+
+/// What is kept of definitions.
 ///
-/// A contract sees what is known by each key, and what is laid aside for one more.
+/// A contract sees what is kept by each key, and what is laid aside for one more.
 #[derive(Debug, Drop)]
 pub struct Resources {
-    entries: HashMap<Key, PackedUsed>,
+    entries: HashMap<Key, Entry>,
     names: Rooms,
 }
 
@@ -87,19 +100,39 @@ impl Model for Resources {
     ghost view = { λ r. record { entries = r.entries.entries; spare = spare r.entries; room = r.names } };
 }
 
-/// Puts what is known by a key, for which there is room.
-fn insert(entries: &mut HashMap<Key, PackedUsed>, key: Key, used: PackedUsed)
+/// Puts what is kept by a key, for which there is room.
+fn insert(entries: &mut HashMap<Key, Entry>, key: Key, entry: Entry)
     requires { 0 < spare entries.old }
-    ensures { (q : Key) → kept_by entries.new.entries q ≡ cond (same_key key q) (Some used) (kept_by entries.old.entries q) }
+    ensures { (q : Key) → kept_by entries.new.entries q ≡ cond (same_key key q) (Some entry) (kept_by entries.old.entries q) }
 {
-    match entries.insert(key, used) {
+    match entries.insert(key, entry) {
         Ok(_) => {}
         Err(_) => unreachable!(),
     }
 }
 
+/// What is kept by a key stands from now on, or doesn't. Nothing happens where nothing is kept.
+fn leave_in(entries: &mut HashMap<Key, Entry>, key: &Key, stands: bool)
+    ensures { (q : Key) → kept_by entries.new.entries q ≡ cond (same_key key.now q) (option_map (left stands) (kept_by entries.old.entries q)) (kept_by entries.old.entries q) }
+{
+    match entries.get_mut(key) {
+        Some(entry) => entry.stands = stands,
+        None => {}
+    }
+}
+
+/// Whether what is kept by a key doesn't stand.
+fn is_gone(entries: &HashMap<Key, Entry>, key: &Key) -> bool
+    ensures { result ≡ option_map_or (λ e. not e.stands) (kept_by entries.now.entries key.now) false }
+{
+    match entries.get(key) {
+        Some(entry) => !entry.stands,
+        None => false,
+    }
+}
+
 impl Resources {
-    /// Nothing is known, and no memory is taken.
+    /// Nothing is kept, and no memory is taken.
     pub fn new(alloc: Global) -> Self
         ensures { (q : Key) → kept_by result.entries q ≡ None }
     {
@@ -119,46 +152,49 @@ impl Resources {
         self.names.reserve(alloc)
     }
 
-    /// What is known by a key.
+    /// The resource that is kept by a key, with its place.
     fn at(&self, key: &Key) -> Option<Used>
-        ensures { result ≡ kept_by self.now.entries key.now }
+        ensures { result ≡ used_of (kept_by self.now.entries key.now) }
     {
         match self.entries.get(key) {
-            Some(used) => Some(used.unpack()),
+            Some(entry) => Some(entry.used.unpack()),
             None => None,
         }
     }
 
-    /// What is known of a definition of an instance.
+    /// The resource that is kept of a definition of an instance, with its place.
     pub fn of(&self, instance: u64, def: &Def) -> Option<Used>
-        ensures { result ≡ kept_of self.now.entries instance def.now }
+        ensures { result ≡ used_of (kept_of self.now.entries instance def.now) }
     {
         self.at(&Key::of(instance, def))
     }
 
-    /// From now on this is known by a key: no memory is taken.
+    /// From now on this is kept by a key, and stands: no memory is taken.
     fn put(&mut self, key: Key, used: &Used)
         requires room { 765 ≤ self.old.room }
         requires spare { 0 < self.old.spare }
-        ensures { (q : Key) → kept_by self.new.entries q ≡ cond (same_key key q) (Some used.now) (kept_by self.old.entries q) }
+        ensures { (q : Key) → kept_by self.new.entries q ≡ cond (same_key key q) (standing (Some used.now)) (kept_by self.old.entries q) }
     {
         if let Some(names) = self.names.take(used.names_len()) {
-            insert(&mut self.entries, key, PackedUsed::of(names, used));
+            let used = PackedUsed::of(names, used);
+            insert(&mut self.entries, key, Entry { used, stands: true });
         }
     }
 
-    /// From now on nothing is known by a key.
+    /// From now on nothing is kept by a key, and its memory is given back.
     fn forget(&mut self, key: &Key)
-        ensures { (q : Key) → kept_by self.new.entries q ≡ cond (same_key key.now q) None (kept_by self.old.entries q) }
+        ensures entries { (q : Key) → kept_by self.new.entries q ≡ cond (same_key key.now q) None (kept_by self.old.entries q) }
+        ensures spare { self.old.spare ≤ self.new.spare }
+        ensures room { self.new.room ≡ self.old.room }
     {
         let _ = self.entries.remove(key);
     }
 
-    /// From now on a definition has this resource, and this place.
+    /// From now on a definition stands that has this resource, and this place.
     fn set(&mut self, key: Key, resource: Name, place: Option<Place>)
         requires room { 765 ≤ self.old.room }
         requires spare { 0 < self.old.spare }
-        ensures { (q : Key) → kept_by self.new.entries q ≡ cond (same_key key q) (placed (Some resource) place) (kept_by self.old.entries q) }
+        ensures { (q : Key) → kept_by self.new.entries q ≡ cond (same_key key q) (standing (placed (Some resource) place)) (kept_by self.old.entries q) }
     {
         match place {
             Some(place) => self.put(key, &Used { resource, place }),
@@ -166,9 +202,9 @@ impl Resources {
         }
     }
 
-    /// The place that is known by a key.
+    /// The place that is kept by a key.
     fn place_at(&self, key: &Key) -> Option<Place>
-        ensures { result ≡ option_map (λ u. u.place) (kept_by self.now.entries key.now) }
+        ensures { result ≡ option_map (λ u. u.place) (used_of (kept_by self.now.entries key.now)) }
     {
         let used = self.at(key)?;
         Some(used.place)
@@ -176,7 +212,7 @@ impl Resources {
 
     /// The place of a definition that an attempt made: that which was granted, or for an undo the one that it had.
     fn place_of(&self, key: &Key, deed: &Deed) -> Option<Place>
-        ensures { result ≡ (if same_way deed.now.effect.tag.way Forward then deed.now.place else option_map (λ u. u.place) (kept_by self.now.entries key.now)) }
+        ensures { result ≡ (if same_way deed.now.effect.tag.way Forward then deed.now.place else option_map (λ u. u.place) (used_of (kept_by self.now.entries key.now))) }
     {
         match deed.effect.tag.way {
             Way::Forward => deed.place,
@@ -188,13 +224,15 @@ impl Resources {
     fn learn(&mut self, deed: &Deed)
         requires room { 765 ≤ self.old.room }
         requires spare { 0 < self.old.spare }
-        ensures { (i : ℕ) (x : Def) → kept_of self.new.entries i x ≡ known_after (Some deed.now) (kept_of self.old.entries) i x }
+        ensures { (i : ℕ) (x : Def) → kept_of self.new.entries i x ≡ learned (Some deed.now) (kept_of self.old.entries) i x }
     {
         let effect = &deed.effect;
+        let key = Key::of(effect.instance, &effect.def);
         if effect.verb == Verb::Create {
-            let key = Key::of(effect.instance, &effect.def);
             let place = self.place_of(&key, deed);
             self.set(key, effect.resource, place);
+        } else {
+            leave_in(&mut self.entries, &key, effect.verb != Verb::Remove);
         }
     }
 
@@ -202,7 +240,7 @@ impl Resources {
     pub fn take(&mut self, deed: &Option<Deed>) -> Option<Used>
         requires room { 765 ≤ self.old.room }
         requires spare { 0 < self.old.spare }
-        ensures kept { (i : ℕ) (x : Def) → kept_of self.new.entries i x ≡ known_after deed.now (kept_of self.old.entries) i x }
+        ensures kept { (i : ℕ) (x : Def) → kept_of self.new.entries i x ≡ learned deed.now (kept_of self.old.entries) i x }
         ensures used { result ≡ used_after deed.now (kept_of self.old.entries) }
     {
         match deed {
@@ -216,11 +254,44 @@ impl Resources {
 
     /// What the change of an attempt used, after what it did was learned.
     fn used_by(&self, deed: &Deed) -> Option<Used>
-        ensures { result ≡ (if same_way deed.now.effect.tag.way Forward then kept_of self.now.entries deed.now.effect.instance deed.now.effect.def else None) }
+        ensures { result ≡ (if same_way deed.now.effect.tag.way Forward then used_of (kept_of self.now.entries deed.now.effect.instance deed.now.effect.def) else None) }
     {
         match deed.effect.tag.way {
             Way::Forward => self.of(deed.effect.instance, &deed.effect.def),
             Way::Undo => None,
         }
+    }
+
+    /// Forgets a definition of an instance, where it doesn't stand.
+    fn forget_gone(&mut self, instance: u64, def: &Def)
+        ensures entries { (i : ℕ) (x : Def) → kept_of self.new.entries i x ≡ cond ((instance == i) && same_def def.now x) (option_and_then where_it_stands (kept_of self.old.entries i x)) (kept_of self.old.entries i x) }
+        ensures spare { self.old.spare ≤ self.new.spare }
+        ensures room { self.new.room ≡ self.old.room }
+    {
+        let key = Key::of(instance, def);
+        if is_gone(&self.entries, &key) {
+            self.forget(&key);
+        }
+    }
+
+    /// Forgets the definitions of these changes of an instance that don't stand.
+    fn forget_gone_among(&mut self, instance: u64, changes: &[Change])
+        ensures entries { (i : ℕ) (x : Def) → kept_of self.new.entries i x ≡ cond ((instance == i) && list_any (λ c. same_def c.def x) changes.now) (option_and_then where_it_stands (kept_of self.old.entries i x)) (kept_of self.old.entries i x) }
+        ensures spare { self.old.spare ≤ self.new.spare }
+        ensures room { self.new.room ≡ self.old.room }
+    {
+        for change in changes {
+            self.forget_gone(instance, &change.def);
+        }
+    }
+
+    /// Forgets, once the occurrence of a row is over, the definitions of its changes that don't stand, since nothing asks for them any more. Each
+    /// change is looked at once, and the memory is given back.
+    pub fn forget_gone_of(&mut self, row: &OccRow)
+        ensures entries { (i : ℕ) (x : Def) → kept_of self.new.entries i x ≡ outlasting (Some row.now) (kept_of self.old.entries) i x }
+        ensures spare { self.old.spare ≤ self.new.spare }
+        ensures room { self.new.room ≡ self.old.room }
+    {
+        self.forget_gone_among(row.instance, row.changes.as_slice());
     }
 }

@@ -11,9 +11,9 @@ ghost use Rattle.occ_table.specs.Descriptors.{numbered, vnfd_in};
 ghost use Rattle.occ_table.specs.Going.{Rises, active_moved};
 ghost use Rattle.occ_table.specs.Ongoing.{instance_in, ongoing_in, ongoing_moved, with_ongoing};
 ghost use Rattle.occ_table.specs.Steps.{described, first_row, noted, row_after, rows_about, update, after_granted, after_told, is_bringing, is_later};
-ghost use Rattle.occ_table.specs.Resources.{deed_of, kept_of, known_after, used_after};
+ghost use Rattle.occ_table.specs.Resources.{deed_of, kept_moved, kept_of, learned, used_after};
 ghost use Rattle.occ_table.specs.Rows.{StandsFor};
-ghost use Rattle.occ_table.specs.Table.{Applies, Counts, Follows, GoesOn, HasNames, HasRoom, HasRoomFor, IsTableOf, Knows, Looks, Occurrences, Reserved, needs_room};
+ghost use Rattle.occ_table.specs.Table.{Applies, Counts, Follows, GoesOn, HasNames, HasRoom, HasRoomFor, IsKept, IsTableOf, Knows, Looks, Occurrences, Reserved, needs_room};
 
 use crate::going::{append, first_above, move_active, reserve_places};
 use crate::ongoing::{instance_of, move_ongoing, ongoing_at, set_ongoing};
@@ -26,6 +26,7 @@ use crate::vnfds::Vnfds;
 use lcm_events::{
     Def, Event, EventKind, GrantTry, Listed, OpState, Operation, Outcome, Place, Tag,
 };
+use lcm_model::ends;
 use std::alloc::{AllocError, Global};
 use std::marker::Model;
 use vnfm_base::{Line, Moment, Name};
@@ -33,7 +34,7 @@ use vnfm_base::{Line, Moment, Name};
 /// The table of occurrences.
 ///
 /// A contract sees its rows, which occurrences are active, which operation of each instance goes on, which resource each definition has that
-/// was ever made, and what is reserved for an event.
+/// stands or is in work, and what is reserved for an event.
 /// Each row has a place among the active numbers, so that a move needs no memory, and until its occurrence is over room for four open attempts,
 /// so that an attempt needs none to begin.
 #[derive(Debug)]
@@ -378,15 +379,29 @@ impl OccTable {
         ensures active { length (active_moved occ to self.old.active) ≤ length self.old.rows → self.new.active ≡ active_moved occ to self.old.active }
         ensures ongoing { self.new.ongoing ≡ ongoing_moved (instance_in occ self.old.rows) to self.old.ongoing }
         ensures vnfds { self.new.vnfds ≡ self.old.vnfds }
-        ensures resources { self.new.resources ≡ self.old.resources }
-        ensures reserved { self.new.reserved ≡ self.old.reserved }
+        ensures resources { (i : ℕ) (x : Def) → kept_of self.new.resources i x ≡ kept_moved to (numbered occ self.old.rows) (kept_of self.old.resources) i x }
+        ensures reserved { IsKept self.old.reserved self.new.reserved }
     {
+        self.forget_where_over(occ, to);
         let instance = instance_of(self.rows.as_slice(), occ);
         if occ > 0 {
             follow_at(&mut self.rows, (occ - 1) as usize, moment, kind);
         }
         move_active(&mut self.active, occ, to);
         move_ongoing(&mut self.ongoing, instance, to);
+    }
+
+    /// Forgets what was kept for an occurrence alone, where it moves to a final state: the definitions of its changes that don't stand.
+    fn forget_where_over(&mut self, occ: u64, to: OpState)
+        ensures kept { self.new ≡ record self.old { resources = self.new.resources; reserved = self.new.reserved } }
+        ensures resources { (i : ℕ) (x : Def) → kept_of self.new.resources i x ≡ kept_moved to (numbered occ self.old.rows) (kept_of self.old.resources) i x }
+        ensures reserved { IsKept self.old.reserved self.new.reserved }
+    {
+        if ends(to) {
+            if let Some(row) = row_of(self.rows.as_slice(), occ) {
+                self.resources.forget_gone_of(row);
+            }
+        }
     }
 
     /// Lets the row of an occurrence follow an event of this moment.
@@ -481,7 +496,7 @@ impl OccTable {
         ensures active { self.new.active ≡ self.old.active }
         ensures ongoing { self.new.ongoing ≡ self.old.ongoing }
         ensures vnfds { self.new.vnfds ≡ self.old.vnfds }
-        ensures resources { (i : ℕ) (x : Def) → kept_of self.new.resources i x ≡ known_after (deed_of tag.now (Done resource) self.old.rows) (kept_of self.old.resources) i x }
+        ensures resources { (i : ℕ) (x : Def) → kept_of self.new.resources i x ≡ learned (deed_of tag.now (Done resource) self.old.rows) (kept_of self.old.resources) i x }
         ensures names { self.new.reserved.used_names ≡ self.old.reserved.used_names }
     {
         let deed = deed_of(self.rows.as_slice(), tag, resource);
@@ -496,7 +511,7 @@ impl OccTable {
         ensures active { self.new.active ≡ self.old.active }
         ensures ongoing { self.new.ongoing ≡ self.old.ongoing }
         ensures vnfds { self.new.vnfds ≡ self.old.vnfds }
-        ensures resources { (i : ℕ) (x : Def) → kept_of self.new.resources i x ≡ known_after (deed_of tag.now (Done resource) self.old.rows) (kept_of self.old.resources) i x }
+        ensures resources { (i : ℕ) (x : Def) → kept_of self.new.resources i x ≡ learned (deed_of tag.now (Done resource) self.old.rows) (kept_of self.old.resources) i x }
     {
         let used = self.take_deed(tag, resource);
         self.follow_about(moment, kind);
@@ -511,7 +526,7 @@ impl OccTable {
         ensures active { self.new.active ≡ self.old.active }
         ensures ongoing { self.new.ongoing ≡ self.old.ongoing }
         ensures vnfds { self.new.vnfds ≡ self.old.vnfds }
-        ensures resources { (i : ℕ) (x : Def) → kept_of self.new.resources i x ≡ known_after (deed_of tag.now outcome.now self.old.rows) (kept_of self.old.resources) i x }
+        ensures resources { (i : ℕ) (x : Def) → kept_of self.new.resources i x ≡ learned (deed_of tag.now outcome.now self.old.rows) (kept_of self.old.resources) i x }
         ensures reserved { is_done outcome.now ≡ false → self.new.reserved ≡ self.old.reserved }
     {
         match outcome {
@@ -526,7 +541,7 @@ impl OccTable {
     pub fn apply(&mut self, e: &Event)
         requires room { HasRoom e.now self.old.reserved }
         ensures applies { Applies e.now self.old self.new }
-        ensures stays { needs_room e.now.kind ≡ false → self.new.reserved ≡ self.old.reserved }
+        ensures stays { needs_room e.now.kind ≡ false → IsKept self.old.reserved self.new.reserved }
     {
         match &e.kind {
             EventKind::Created { vnfd, .. } => self.put_instance(*vnfd),
@@ -597,7 +612,8 @@ impl OccTable {
         ongoing_at(self.ongoing.as_slice(), instance)
     }
 
-    /// The resource that a definition of an instance has, or had before it was removed, with its place; none where it was never made.
+    /// The resource that a definition of an instance has, with its place, or had before the operation removed it that goes on; none where
+    /// it doesn't stand and no operation that goes on did anything to it.
     ///
     /// Source: SOL 003 5.5.3 (the resource infos of an instance).
     pub fn resource(&self, instance: u64, def: &Def) -> Option<Used>

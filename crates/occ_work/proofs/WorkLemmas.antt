@@ -1,5 +1,5 @@
 -- The work of the attempt that an occurrence begins next, by its row.
-use Rattle.std.proofs.Common.{◌≡◌, ◌∙◌, ℕ, List, [], Bool, true, false, Option, None, Some, is_some, refl, ap, sym, subst, arith, length, filter, option_map, slice_get, ◌∷◌}
+use Rattle.std.proofs.Common.{◌≡◌, ◌∙◌, ℕ, List, [], Bool, true, false, cond, Option, None, Some, is_some, refl, ap, sym, subst, arith, length, filter, option_map, slice_get, ◌∷◌}
 use Rattle.std.specs.Prelude.{option_and_then}
 use Rattle.change_planner.specs.Tags.{IsOfAttempt}
 use Rattle.instance_table.specs.Rows.{instance}
@@ -7,8 +7,9 @@ use Rattle.instance_table.specs.Standing.{RowsHaveHoldings}
 use Rattle.instance_table.specs.declared.rows.InstanceRow.{InstanceRow}
 use Rattle.lcm_events.specs.declared.attempts.Tag.{Tag}
 use Rattle.lcm_events.specs.declared.attempts.Way.{Way}
-use Rattle.lcm_events.specs.declared.attempts.Way.TheVariants.{Undo}
+use Rattle.lcm_events.specs.declared.attempts.Way.TheVariants.{Forward, Undo}
 use Rattle.lcm_events.specs.declared.changes.Change.{Change}
+use Rattle.lcm_events.specs.declared.changes.Def.{Def}
 use Rattle.lcm_events.specs.declared.changes.Verb.{Verb}
 use Rattle.lcm_events.specs.declared.changes.Verb.TheVariants.{Create, Remove, Start, Stop}
 use Rattle.lcm_events.specs.declared.descriptor.Vnfd.{Vnfd}
@@ -40,6 +41,7 @@ use Rattle.lcm_model.specs.Work.{IsTurnOf, window}
 use Rattle.lcm_model.specs.declared.actions.Action.TheVariants.{Begin}
 use Rattle.lcm_model.specs.declared.holding.Effect.{Effect}
 use Rattle.occ_table.specs.Ended.{is_over, kept_grant}
+use Rattle.occ_table.specs.Needed.{WorkIsOnWhatIsNeeded, is_needed, needed}
 use Rattle.occ_table.specs.Resources.{place_by}
 use Rattle.occ_table.specs.Rows.{occurrence}
 use Rattle.occ_table.specs.Used.{known, placed}
@@ -187,14 +189,21 @@ its_instance H t r d h k found s =
     let same : s.asked ≡ mine.0 = cc in
     ap (λ (a : Operation). a.instance) same ∙ ap (λ (y : OccRow). y.instance) mine.3
 
--- so that what the table knows of the definition is where it stands, or stood last
-pub undone_at : WorkFitsWhatStands → WhatStandsHasAPlace → ItemsFollowWhatIsDone → OtherEventsLeavePlaces → (m : ℕ) (H : List Event) (t : Tag) (r : OccRow) (d : Vnfd) (h : Holding)
-    (k : Change) (x : Option Place) → Begins m H t → t.way ≡ Undo → occurrence H t.occ ≡ Some r → (s : IsOfAttempt d h k H t)
-    → x ≡ option_map (λ (u : Used). u.place) (known H r.instance k.def) → (x ≡ place H s.asked.instance k.def) × (is_some x ≡ true)
-undone_at fits stand follows leaves m H t r d h k x begins back found s is =
+-- of what is needed all is kept that is known
+needed_known : (H : List Event) (i : ℕ) (x : Def) → is_needed H i x ≡ true → needed H i x ≡ known H i x
+needed_known H i x need = ap (λ (n : Bool). cond n (known H i x) None) need
+
+-- so that what the table keeps of the definition is where it stands, or stood last
+pub undone_at : WorkFitsWhatStands → WorkIsOnWhatIsNeeded → WhatStandsHasAPlace → ItemsFollowWhatIsDone → OtherEventsLeavePlaces → (m : ℕ) (H : List Event) (t : Tag) (r : OccRow) (d : Vnfd)
+    (h : Holding) (k : Change) (x : Option Place) → Begins m H t → t.way ≡ Undo → occurrence H t.occ ≡ Some r → (s : IsOfAttempt d h k H t)
+    → x ≡ option_map (λ (u : Used). u.place) (needed H r.instance k.def) → (x ≡ place H s.asked.instance k.def) × (is_some x ≡ true)
+undone_at fits needs stand follows leaves m H t r d h k x begins back found s is =
     let own = undone_known fits stand follows leaves m H t d h k begins back s in
+    let need : is_needed H s.asked.instance k.def ≡ true =
+    needs window m H t begins.legal begins.allowed s.asked k s.found s.change (λ forward makes. let clash : Undo ≡ Forward = sym back ∙ forward in cc) in
     let same : x ≡ place H s.asked.instance k.def =
-    is ∙ (ap (λ (i : ℕ). option_map (λ (u : Used). u.place) (known H i k.def)) (sym (its_instance H t r d h k found s)) ∙ own.0) in
+    is ∙ (ap (λ (i : ℕ). option_map (λ (u : Used). u.place) (needed H i k.def)) (sym (its_instance H t r d h k found s))
+    ∙ (ap (λ (u : Option Used). option_map (λ (v : Used). v.place) u) (needed_known H s.asked.instance k.def need) ∙ own.0)) in
     (same, ap is_some same ∙ own.1)
 
 -- what is some isn't none

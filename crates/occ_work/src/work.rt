@@ -5,8 +5,8 @@ ghost use Rattle.executor.specs.Managed.{Keeps};
 ghost use Rattle.lcm_events.specs.declared.events.Event.{Event};
 ghost use Rattle.lcm_model.specs.Next.{next_action};
 ghost use Rattle.lcm_model.specs.declared.actions.Action.TheVariants as actions;
+ghost use Rattle.occ_table.specs.Needed.{needed};
 ghost use Rattle.occ_table.specs.Resources.{place_by};
-ghost use Rattle.occ_table.specs.Used.{known};
 ghost use Rattle.occ_work.specs.Active.{IsActive};
 
 use crate::instances::{instance_of, vnfd_of};
@@ -21,7 +21,7 @@ use lcm_laws::{
     what_stands_has_a_place, work_fits_what_stands,
 };
 use lcm_model::place_in;
-use occ_table::OccRow;
+use occ_table::{OccRow, work_is_on_what_is_needed};
 use rollback_plan::undo_act;
 use site_traits::Site;
 use std::alloc::{AllocError, Global};
@@ -43,10 +43,10 @@ fn place_granted(row: &OccRow, change: u16) -> Option<Place>
     }
 }
 
-/// The place where a definition of an instance stands, or stood last.
+/// The place where a definition of an instance stands, or stood before the operation removed it that goes on.
 fn place_known<S: Site>(manager: &Manager<S>, instance: u64, def: &Def) -> Option<Place>
     requires usable { manager.now.ledger.closed ≡ false }
-    ensures { (H : List Event) → Keeps manager.now H → result ≡ option_map (λ u. u.place) (known H instance def.now) }
+    ensures { (H : List Event) → Keeps manager.now H → result ≡ option_map (λ u. u.place) (needed H instance def.now) }
 {
     let used = manager.occurrences().resource(instance, def)?;
     Some(used.place)
@@ -66,6 +66,7 @@ pub fn work_of<S: Site>(alloc: Global, manager: &Manager<S>, tag: &Tag) -> Resul
     attempts_stand_behind_grants();
     granted_changes_have_places();
     work_fits_what_stands();
+    work_is_on_what_is_needed();
     what_stands_has_a_place();
     items_follow_what_is_done();
     other_events_leave_places();

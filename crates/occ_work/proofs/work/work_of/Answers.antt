@@ -38,7 +38,7 @@ unreachable-requires-in_default-place_known g c =
     let at = sym (rw c.in-Some.is at c.change_at.ensures) in
     let attempt = of_attempt c.rows_have_holdings.ensures _ it.0 c.args.tag.now _ _ _ _ begins found live (c.vnfd_of-vnfd.ensures it.0 it.1) at in
     let known =
-    undone_at c.work_fits_what_stands.ensures c.what_stands_has_a_place.ensures c.items_follow_what_is_done.ensures c.other_events_leave_places.ensures _ it.0 c.args.tag.now _ _ _ _ _ begins
+    undone_at c.work_fits_what_stands.ensures c.work_is_on_what_is_needed.ensures c.what_stands_has_a_place.ensures c.items_follow_what_is_done.ensures c.other_events_leave_places.ensures _ it.0 c.args.tag.now _ _ _ _ _ begins
     c.in-Undo.is found attempt (c.place_known.ensures it.0 it.1) in
     never_none _ known.1 c.in_default-place_known.is
 
@@ -60,6 +60,6 @@ returns-in-Some-place_known g c = λ H keeps is next.
     let at = sym (rw c.in-Some.is at c.change_at.ensures) in
     let attempt = of_attempt c.rows_have_holdings.ensures _ H c.args.tag.now _ _ _ _ begins found live (c.vnfd_of-vnfd.ensures H keeps) at in
     let known =
-    undone_at c.work_fits_what_stands.ensures c.what_stands_has_a_place.ensures c.items_follow_what_is_done.ensures c.other_events_leave_places.ensures _ H c.args.tag.now _ _ _ _ _ begins
+    undone_at c.work_fits_what_stands.ensures c.work_is_on_what_is_needed.ensures c.what_stands_has_a_place.ensures c.items_follow_what_is_done.ensures c.other_events_leave_places.ensures _ H c.args.tag.now _ _ _ _ _ begins
     c.in-Undo.is found attempt (c.place_known.ensures H keeps) in
     c.undo_act.ensures.of_attempt H c.args.tag.now attempt c.in-Undo.is (sym known.0 ∙ c.in-Some-place_known.is)

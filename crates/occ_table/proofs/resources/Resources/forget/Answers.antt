@@ -1,7 +1,7 @@
 use Rattle.std.proofs.Common.{◌∙◌, ap, cond, None, Option}
 use Rattle.occ_table.specs.Resources.{KeptResources, kept_by, same_key}
-use Rattle.occ_table.specs.declared.used.Used.{Used}
+use Rattle.occ_table.specs.declared.resources.Entry.{Entry}
 use Rattle.occ_table.proofs.resources.Resources.forget.Goals as goal
 
-pub returns : goal.returns
-returns c = λ q. c.remove.ensures.updates.0 q ∙ ap (λ (r : KeptResources). cond {A = Option Used} (same_key c.args.key.now q) None (kept_by r.entries q)) c.self.view_is
+pub returns-clause-entries : goal.returns-clause-entries
+returns-clause-entries c = λ q. c.remove.ensures.updates.0 q ∙ ap (λ (r : KeptResources). cond {A = Option Entry} (same_key c.args.key.now q) None (kept_by r.entries q)) c.self.view_is

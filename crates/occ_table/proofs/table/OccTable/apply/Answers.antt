@@ -6,7 +6,7 @@ use Rattle.occ_table.specs.declared.rows.Grant.{Grant}
 use Rattle.occ_table.specs.declared.rows.OccRow.{OccRow}
 use Rattle.lcm_events.specs.declared.attempts.Tag.{Tag}
 use Rattle.occ_table.proofs.KnownSteps.{no_deed_in}
-use Rattle.occ_table.specs.Resources.{deed_of, kept_of, known_after, used_after}
+use Rattle.occ_table.specs.Resources.{deed_of, kept_of, used_after}
 use Rattle.occ_table.specs.Table.{Occurrences}
 use Rattle.occ_table.specs.declared.resources.Deed.{Deed}
 use Rattle.occ_table.specs.Steps.{first_row, is_bringing, row_after, rows_after, update}
@@ -15,7 +15,8 @@ use Rattle.occ_table.proofs.GoingLaws.{active_fit, moved_fit, unmoved}
 use Rattle.occ_table.proofs.HomeLaws.{undescribed}
 use Rattle.occ_table.proofs.OngoingSteps.{unengaged}
 use Rattle.occ_table.proofs.RowsSteps.{followed, low, not_bringing}
-use Rattle.occ_table.proofs.TableLaws.{table_after}
+use Rattle.occ_table.proofs.NeededSteps.{kept_as_before}
+use Rattle.occ_table.proofs.TableLaws.{kept_same, table_after}
 use Rattle.occ_table.proofs.table.OccTable.apply.Goals as goal
 
 pub returns-in-Created : goal.returns-in-Created
@@ -58,7 +59,7 @@ returns-in-GrantTried c = record {
       (c.follow_try.ensures.numbered c.requires.room (low width m H c.args.e.now.kind n (ap occurrence_of c.in-GrantTried.is) legal allowed)
       ∙ ap (λ (k : EventKind). update (row_after c.args.e.now.moment None k) (n - 1) old) c.in-GrantTried.is)
       c.follow_try.ensures.active c.follow_try.ensures.ongoing c.follow_try.ensures.vnfds (λ i x. ap (λ es. kept_of es i x) c.follow_try.ensures.resources);
-  stays = λ none. c.follow_try.ensures.reserved none;
+  stays = λ none. kept_same _ _ (c.follow_try.ensures.reserved none);
 }
 
 pub returns-in-Moved : goal.returns-in-Moved
@@ -70,7 +71,7 @@ returns-in-Moved c = record {
       (c.follow_move.ensures.numbered (low width m H c.args.e.now.kind n (ap occurrence_of c.in-Moved.is) legal allowed)
       ∙ ap (λ (k : EventKind). update (row_after c.args.e.now.moment None k) (n - 1) old) c.in-Moved.is)
       (c.follow_move.ensures.active (moved_fit width m H c.args.e.now n c.in-Moved.to old c.args.self.now.active c.in-Moved.is legal allowed table.rows table.active))
-      c.follow_move.ensures.ongoing c.follow_move.ensures.vnfds (λ i x. ap (λ es. kept_of es i x) c.follow_move.ensures.resources);
+      c.follow_move.ensures.ongoing c.follow_move.ensures.vnfds c.follow_move.ensures.resources;
   stays = λ none. c.follow_move.ensures.reserved;
 }
 
@@ -83,7 +84,7 @@ returns-in-Settled c = record {
       (c.follow_end.ensures.rows (low width m H c.args.e.now.kind t.occ (ap occurrence_of c.in-Settled.is) legal allowed)
       ∙ ap (λ (k : EventKind). update (row_after c.args.e.now.moment (used_after (deed_of t c.in-Settled.outcome old.rows) (kept_of old.resources)) k) (t.occ - 1) old.rows) c.in-Settled.is)
       c.follow_end.ensures.active c.follow_end.ensures.ongoing c.follow_end.ensures.vnfds c.follow_end.ensures.resources;
-  stays = λ none. c.follow_end.ensures.reserved (sym (ap needs_room c.in-Settled.is) ∙ none);
+  stays = λ none. kept_same _ _ (c.follow_end.ensures.reserved (sym (ap needs_room c.in-Settled.is) ∙ none));
 }
 
 pub follow_end-requires-clause-room : goal.follow_end-requires-clause-room
@@ -102,8 +103,8 @@ returns-in_default c = record {
       (c.follow_about.ensures.vnfds ∙ undescribed c.args.e.now.kind c.args.self.now.vnfds c.in_default.not-Created)
       (λ i x.
       ap (λ es. kept_of es i x) c.follow_about.ensures.resources
-      ∙ ap (λ (d : Option Deed). known_after d (kept_of c.args.self.now.resources) i x) (sym (no_deed_in c.args.e.now.kind c.args.self.now.rows c.in_default.not-Settled)));
-  stays = λ none. c.follow_about.ensures.reserved;
+      ∙ kept_as_before c.args.e.now.kind c.args.self.now.rows (kept_of c.args.self.now.resources) i x c.in_default.not-Settled c.in_default.not-Moved);
+  stays = λ none. kept_same _ _ c.follow_about.ensures.reserved;
 }
 
 pub follow_move-requires : goal.follow_move-requires

@@ -4,7 +4,7 @@ use Rattle.lcm_events.specs.declared.attempts.Tag.{Tag}
 use Rattle.lcm_events.specs.declared.events.EventKind.{EventKind}
 use Rattle.lcm_model.specs.Attempts.{is_done}
 use Rattle.lcm_model.specs.Operations.{occurrence_of}
-use Rattle.occ_table.specs.Resources.{deed_of, kept_of, known_after, used_after}
+use Rattle.occ_table.specs.Resources.{deed_of, kept_of, learned, used_after}
 use Rattle.occ_table.specs.Steps.{row_after, rows_about, update}
 use Rattle.occ_table.specs.Table.{Occurrences}
 use Rattle.occ_table.specs.declared.resources.Deed.{Deed}
@@ -25,7 +25,7 @@ returns-in-Done c =
       ongoing = c.follow_done.ensures.ongoing;
       vnfds = c.follow_done.ensures.vnfds;
       resources = λ i x.
-          c.follow_done.ensures.resources i x ∙ ap (λ (o : Outcome). known_after (deed_of t o old.rows) (kept_of old.resources) i x) (sym c.in-Done.is);
+          c.follow_done.ensures.resources i x ∙ ap (λ (o : Outcome). learned (deed_of t o old.rows) (kept_of old.resources) i x) (sym c.in-Done.is);
       reserved = λ none. let yes : true ≡ false = sym (ap is_done c.in-Done.is) ∙ none in cc;
     }
 
@@ -45,6 +45,6 @@ returns-in_default c =
       ongoing = c.follow_about.ensures.ongoing;
       vnfds = c.follow_about.ensures.vnfds;
       resources = λ i x.
-          ap (λ es. kept_of es i x) c.follow_about.ensures.resources ∙ ap (λ (d : Option Deed). known_after d (kept_of old.resources) i x) (sym nothing);
+          ap (λ es. kept_of es i x) c.follow_about.ensures.resources ∙ ap (λ (d : Option Deed). learned d (kept_of old.resources) i x) (sym nothing);
       reserved = λ none. c.follow_about.ensures.reserved;
     }
