@@ -1,3 +1,5 @@
 pub mod Lists
+pub mod MarkLaws
+pub mod RowLaws
 pub mod WaitLaws
 pub mod TableLaws

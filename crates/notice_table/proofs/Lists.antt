@@ -2,7 +2,7 @@
 use Rattle.std.proofs.Common.{◌≡◌, ◌≤◌, ◌<◌, ◌+◌, ◌++◌, ◌==◌, ◌∙◌, ℕ, List, [], ◌∷◌, zero, suc, Bool, true, false, cond, Option, None, Some, refl, ap, sym, subst, length, map, filter, find, reverse, take, drop, set, get_or, arith, nat_lt, lt-ltb, ltb-true, le-ltb, eqb-true, eq-eqb, inl, inr, is_some}
 use Rattle.std.specs.List.{All, AllWithin}
 use Rattle.std.specs.List.Sorted.{IsPartitionPoint}
-use Rattle.std.specs.Prelude.{slice_index_or, unwrap_or}
+use Rattle.std.specs.Prelude.{IfSome, slice_get, slice_index_or, unwrap_or}
 use Rattle.std.proofs.lemmas.List.{length-map}
 use Rattle.std.proofs.lemmas.List.Elements.{All-cons, All-head, All-nil, All-same, All-tail, filter-append}
 use mathlib.Core.List.{reverse-cons}
@@ -10,7 +10,7 @@ use Rattle.lcm_model.specs.Words.{IsIn, first, last}
 use Rattle.lcm_laws.proofs.Lists.{by_test, filter_swap, filter_same}
 use Rattle.lcm_laws.proofs.Members.{of_filter}
 use Rattle.lcm_laws.proofs.NumberLaws.{IsCounted, found_within}
-use Rattle.instance_table.specs.Steps.{Over, Rises, update}
+use Rattle.instance_table.specs.Steps.{Over, Rises, update, with_key}
 use Rattle.instance_table.proofs.Sorted.{Falls, Under, falls-filter, rises-reverse}
 
 -- what is seen of a list stays, where what is written looks as what stood there
@@ -63,7 +63,7 @@ map_filter p f (x ∷ xs) = by_test (p (f x))
     (λ passes. rw passes (ap (λ ys. f x ∷ ys) (map_filter p f xs)))
     (λ fails. rw fails (map_filter p f xs))
 
-nil_right : {A : Type 0} → (ys : List A) → ys ++ [] ≡ ys
+pub nil_right : {A : Type 0} → (ys : List A) → ys ++ [] ≡ ys
 nil_right [] = refl
 nil_right (y ∷ ys) = ap (λ zs. y ∷ zs) (nil_right ys)
 
@@ -75,7 +75,8 @@ filter_reverse p (x ∷ xs) =
     ∙ (ap (λ ys. ys ++ filter p (x ∷ [])) (filter_reverse p xs)
     ∙ by_test (p x) (λ passes. rw passes (sym (reverse-cons x (filter p xs)))) (λ fails. rw fails (nil_right (reverse (filter p xs))))))
 
-map_end : {A B : Type 0} → (f : A → B) (xs : List A) (y : A) → map f (xs ++ y ∷ []) ≡ map f xs ++ f y ∷ []
+-- a list with one entry more
+pub map_end : {A B : Type 0} → (f : A → B) (xs : List A) (y : A) → map f (xs ++ y ∷ []) ≡ map f xs ++ f y ∷ []
 map_end f [] y = refl
 map_end f (x ∷ xs) y = ap (λ ys. f x ∷ ys) (map_end f xs y)
 
@@ -228,11 +229,46 @@ past_written P xs i x all = λ k d low high.
     let same = set_length xs i x in
     subst P (sym (index_past xs i x k d (omega (arith, low)))) (all k d (omega (arith, low)) (omega (arith, high, same)))
 
+-- the front of a list
+pub front : {A : Type 0} → (n : ℕ) (xs ys : List A) → n ≡ length xs → take n (xs ++ ys) ≡ xs
+front zero [] ys e = refl
+front (suc n) [] ys e = absurd (omega (arith, e))
+front zero (x ∷ xs) ys e = absurd (omega (arith, e))
+front (suc n) (x ∷ xs) ys e = ap (λ zs. x ∷ zs) (front n xs ys (omega (arith, e)))
+
 -- what holds of all holds of the front of them and more
 pub all_taken : {A : Type 0} → (P : A → Type 0) (n : ℕ) (xs ys : List A) → n ≡ length xs → All P xs → All P (take n (xs ++ ys))
-all_taken P n xs ys e all = All-same P (take n (xs ++ ys)) xs (front n xs ys e) all where
-  front : {A : Type 0} → (n : ℕ) (xs ys : List A) → n ≡ length xs → take n (xs ++ ys) ≡ xs
-  front zero [] ys e = refl
-  front (suc n) [] ys e = absurd (omega (arith, e))
-  front zero (x ∷ xs) ys e = absurd (omega (arith, e))
-  front (suc n) (x ∷ xs) ys e = ap (λ zs. x ∷ zs) (front n xs ys (omega (arith, e)))
+all_taken P n xs ys e all = All-same P (take n (xs ++ ys)) xs (front n xs ys e) all
+
+-- the rest of a list whose front is changed
+pub untouched : {A : Type 0} → (f : A → A) (i : ℕ) (xs : List A) (d : A) → get_or (map f (take i xs) ++ drop i xs) i d ≡ get_or xs i d
+untouched f i [] d = nowhere f i d where
+  nowhere : {A : Type 0} → (f : A → A) (i : ℕ) (d : A) → get_or (map f (take i []) ++ drop i []) i d ≡ get_or [] i d
+  nowhere f zero d = refl
+  nowhere f (suc i) d = refl
+untouched f zero (x ∷ xs) d = refl
+untouched f (suc i) (x ∷ xs) d = untouched f i xs d
+
+-- what holds of all holds of the entry at a place
+pub holds_at : {A : Type 0} → (P : A → Type 0) (xs : List A) (i : ℕ) → All P xs → IfSome (slice_get xs i) P
+holds_at P [] i all = tt
+holds_at P (x ∷ xs) zero all = All-head P x xs all
+holds_at P (x ∷ xs) (suc i) all = holds_at P xs i (All-tail P x xs all)
+
+pub holds_keyed : {A : Type 0} → (P : A → Type 0) (f : A → ℕ) (n : ℕ) (x : Option A) → IfSome x P → IfSome (with_key f n x) P
+holds_keyed P f n None h = tt
+holds_keyed P f n (Some x) h = by_test (f x == n) (λ own. rw own h) (λ other. rw other tt)
+
+-- what a change keeps holds of all after the change of one
+pub all_updated : {A : Type 0} → (P : A → Type 0) (g : A → A) → ((x : A) → P x → P (g x)) → (i : ℕ) (xs : List A) → All P xs → All P (update g i xs)
+all_updated P g keeps i [] all = All-nil P
+all_updated P g keeps zero (x ∷ xs) all = All-cons P (g x) xs (keeps x (All-head P x xs all)) (All-tail P x xs all)
+all_updated P g keeps (suc i) (x ∷ xs) all = All-cons P x (update g i xs) (All-head P x xs all) (all_updated P g keeps i xs (All-tail P x xs all))
+
+-- what is seen of the entries up to one that is written
+pub seen_step : {A B : Type 0} → (f : A → B) (n : ℕ) (xs : List A) (x : A) → n < length xs → take (n + 1) (map f (set xs n x)) ≡ take n (map f xs) ++ f x ∷ []
+seen_step f n xs x h = let more : n + 1 ≡ suc n = omega arith in ap (λ (k : ℕ). take k (map f (set xs n x))) more ∙ step f n xs x h where
+  step : {A B : Type 0} → (f : A → B) (n : ℕ) (xs : List A) (x : A) → n < length xs → take (suc n) (map f (set xs n x)) ≡ take n (map f xs) ++ f x ∷ []
+  step f n [] x h = absurd (omega (arith, h))
+  step f zero (y ∷ ys) x h = refl
+  step f (suc n) (y ∷ ys) x h = ap (λ bs. f y ∷ bs) (step f n ys x (omega (arith, h)))

@@ -1,22 +1,12 @@
 -- What each event makes of the queues.
-use Rattle.std.specs.Prelude.{List, None, Option, Some, drop, filter, if◌then◌else◌, map, nat_le, not, ℕ, [], ◌+◌, ◌++◌, ◌-◌, ◌==◌, ◌||◌, ◌∷◌}
+use Rattle.std.specs.Prelude.{List, None, Option, Some, drop, filter, if◌then◌else◌, map, nat_le, not, ℕ, [], ◌+◌, ◌++◌, ◌==◌, ◌||◌, ◌∷◌}
 use Rattle.lcm_events.specs.declared.events.EventKind.{EventKind}
 use Rattle.lcm_events.specs.declared.events.EventKind.TheVariants.{Posted, Subscribed, Unsubscribed}
 use Rattle.lcm_events.specs.declared.events.PostOutcome.{PostOutcome}
 use Rattle.lcm_events.specs.declared.filters.Filter.{Filter}
 use Rattle.lcm_model.specs.Notices.{is_delivered, matches}
 use Rattle.lcm_model.specs.Notices as model
-use Rattle.std.specs.VecDeque.{deque_capacity, deque_len}
 use Rattle.notice_table.specs.Queues.{Queue}
-use Rattle.notice_table.specs.declared.queues.QueueRow.{QueueRow}
-
--- a row without the room that it has
-abbrev pub plain : QueueRow → Queue
-plain r = record { number = r.number; filter = r.filter; tries = r.tries; waiting = r.waiting.items }
-
--- for how many more notices a row has room
-abbrev pub room : QueueRow → ℕ
-room r = deque_capacity r.waiting - deque_len r.waiting
 
 -- the queue of a subscription when it is made
 abbrev pub first_queue : ℕ → Filter → Queue

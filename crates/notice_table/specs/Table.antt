@@ -12,19 +12,21 @@ use Rattle.subscription_filter.specs.declared.filters.NoticeFacts.{NoticeFacts}
 use Rattle.notice_table.specs.Queues.{Queue, StandsFor, first_waiting}
 use Rattle.notice_table.specs.Steps.{first_queue, heard}
 
--- what a contract sees of the table: its queues, for how many more notices each has room, for how many more queues there is
--- room, and the queue that is to come
+-- what a contract sees of the table: its queues, for how many more places there is room, for how many more words of marks each queue
+-- has room, for how many more queues there is room, and the queue that is to come
 pub record Shown : Type 0 where
   pub queues : List Queue
+  pub ahead : ℕ
   pub rooms : List ℕ
   pub spare : ℕ
   pub next : Option Queue
 
--- each queue has room for one more notice
-abbrev pub HasPlaces : Shown → Type 0
-HasPlaces t = All (λ n. 0 < n) t.rooms
+-- there is room for one more notice: for its place, and for a mark in each queue
+pub record HasPlaces (t : Shown) : Type 0 where
+  pub place : 0 < t.ahead
+  pub marks : All (λ n. 0 < n) t.rooms
 
--- where the event makes a notice, each queue has room for it
+-- where the event makes a notice, there is room for it
 abbrev pub HasRoomForNotice : Option NoticeFacts → Shown → Type 0
 HasRoomForNotice None t = Unit {0}
 HasRoomForNotice (Some n) t = HasPlaces t
@@ -44,8 +46,8 @@ abbrev pub makes_queue : EventKind → Bool
 makes_queue (Subscribed s role callback f) = true
 makes_queue _ = false
 
--- what was reserved is reserved: the queue that is to come as it was, at least as much room for queues, and room in each queue
--- where there was room in each
+-- what was reserved is reserved: the queue that is to come as it was, at least as much room for queues, and room for a notice where
+-- there was room for one
 pub record IsKept (old new : Shown) : Type 0 where
   pub next : new.next ≡ old.next
   pub spare : old.spare ≤ new.spare

@@ -2,6 +2,7 @@
 #![tactic(auto)]
 
 mod copies;
+mod marks;
 mod queues;
 mod table;
 

@@ -1,4 +1,4 @@
-//! The table: a queue for each live subscription, in the order of their numbers.
+//! The table: a queue for each live subscription, in the order of their numbers. The places that wait stand once, for all queues.
 
 ghost use Rattle.std.specs.Prelude.{IfSome, IsOk, OnOk, Some, None, ℕ, [], false, find, map, option_and_then, option_copied, ◌++◌, ◌<◌, ◌==◌, ◌∷◌, ◌≡◌, ◌≤◌};
 ghost use Rattle.instance_table.specs.Steps.{Rises};
@@ -8,17 +8,21 @@ ghost use Rattle.notice_table.specs.Steps.{changed, first_queue, posted, without
 ghost use Rattle.notice_table.specs.Table.{Applies, FindsFirst, HasPlaces, HasRoom, HasRoomForNotice, HasRoomForQueue, IsKept, Judges, heard_of, makes_queue};
 ghost use Rattle.vnfm_base.specs.Ident.{IsIdentNumber};
 
-use crate::queues::{QueueRow, hear_all, post_in, queue_in, remove, reserve_all};
+use crate::queues::{QueueRow, ask_all, post_in, put_place, queue_in, remove, reserve_all};
 use lcm_events::{Event, EventKind, Filter, PostOutcome};
 use std::alloc::{AllocError, Global};
+use std::collections::VecDeque;
 use std::marker::Model;
 use subscription_filter::NoticeFacts;
 
-/// The notices that wait for each live subscription: for each a queue of their places in the journal.
+/// The notices that wait for each live subscription: their places in the journal, each once, and for each subscription a mark for each of
+/// the last of them.
 ///
-/// A contract sees the queues, and beside them what is reserved for an event.
+/// A contract sees for each subscription the queue of its places, and beside the queues what is reserved for an event.
 #[derive(Debug)]
 pub struct NoticeTable {
+    /// The places, the oldest first. When a notice is heard, those that no queue waits for any more are dropped from the front.
+    places: VecDeque<u64>,
     queues: Vec<QueueRow>,
     next: Option<QueueRow>,
 }
@@ -26,18 +30,27 @@ pub struct NoticeTable {
 impl Drop for NoticeTable {
     // Written out, so that the proof of a caller calls it and doesn't take the table apart at each of its ends.
     fn drop(self) {
-        let NoticeTable { queues: _, next: _ } = self;
+        let NoticeTable {
+            places: _,
+            queues: _,
+            next: _,
+        } = self;
     }
 }
 
 impl Model for NoticeTable {
-    ghost use Rattle.std.specs.Prelude.{◌-◌, map, option_map, vec_len, vec_capacity};
-    ghost use Rattle.notice_table.specs.Steps.{plain, room};
+    ghost use Rattle.std.specs.Prelude.{[], ◌-◌, map, option_map, vec_len, vec_capacity};
+    ghost use Rattle.std.specs.VecDeque.{deque_capacity, deque_len};
+    ghost use Rattle.notice_table.specs.Rows.{plain, room, row};
     ghost use Rattle.notice_table.specs.Table.{Shown};
 
     ghost Value = { Shown };
 
-    ghost view = { λ t. record { queues = map plain t.queues.items; rooms = map room t.queues.items; spare = vec_capacity t.queues - vec_len t.queues; next = option_map plain t.next } };
+    ghost use Rattle.notice_table.specs.Holding.{IsHeld};
+
+    ghost view = { λ t. record { queues = map (plain t.places.items) (map row t.queues.items); ahead = deque_capacity t.places - deque_len t.places; rooms = map room t.queues.items; spare = vec_capacity t.queues - vec_len t.queues; next = option_map (λ r. plain [] (row r)) t.next } };
+
+    ghost invariant = { IsHeld };
 }
 
 impl NoticeTable {
@@ -47,20 +60,22 @@ impl NoticeTable {
         ensures next { result.next ≡ None }
     {
         NoticeTable {
+            places: VecDeque::new(alloc),
             queues: Vec::new(alloc),
             next: None,
         }
     }
 
-    /// Reserves room for one more notice in each queue.
+    /// Reserves room for one more notice.
     fn reserve_places(&mut self) -> Result<(), AllocError>
         ensures kept { self.new.queues ≡ self.old.queues }
         ensures room { OnOk result (HasPlaces self.new) }
     {
+        self.places.reserve(1)?;
         reserve_all(self.queues.as_mut_slice())
     }
 
-    /// Reserves room for one more notice in each queue, where there is a notice.
+    /// Reserves room for one more notice, where there is one.
     fn reserve_notice(&mut self, notice: Option<&NoticeFacts>) -> Result<(), AllocError>
         ensures kept { self.new.queues ≡ self.old.queues }
         ensures room { OnOk result (HasRoomForNotice (option_copied notice.entry) self.new) }
@@ -81,6 +96,7 @@ impl NoticeTable {
         filter: &Filter,
     ) -> Result<(), AllocError>
         ensures kept { self.new.queues ≡ self.old.queues }
+        ensures ahead { self.new.ahead ≡ self.old.ahead }
         ensures rooms { self.new.rooms ≡ self.old.rooms }
         ensures laid { OnOk result (self.new.next ≡ Some (first_queue number filter.now)) }
         ensures spare { OnOk result (0 < self.new.spare) }
@@ -94,6 +110,7 @@ impl NoticeTable {
     /// Reserves the queue that an event makes, where it makes one.
     fn reserve_kind(&mut self, alloc: Global, kind: &EventKind) -> Result<(), AllocError>
         ensures kept { self.new.queues ≡ self.old.queues }
+        ensures ahead { self.new.ahead ≡ self.old.ahead }
         ensures rooms { self.new.rooms ≡ self.old.rooms }
         ensures room { OnOk result (HasRoomForQueue kind.now self.new) }
         ensures free { makes_queue kind.now ≡ false → IsOk result }
@@ -110,7 +127,7 @@ impl NoticeTable {
     }
 
     /// Reserves the memory that an event with this notice needs, so that `apply` takes none: the queue of a subscription that is made, and
-    /// room for the notice in each queue. The queues stay, also after an error, which comes for want of memory alone, and never where the event
+    /// room for the notice's place and for a mark of it in each queue. The queues stay, also after an error, which comes for want of memory alone, and never where the event
     /// makes no subscription and has no notice.
     ///
     /// Source: own rule.
@@ -137,7 +154,10 @@ impl NoticeTable {
         ensures next { self.new.next ≡ self.old.next }
         ensures spare { self.new.spare ≡ self.old.spare }
     {
-        hear_all(self.queues.as_mut_slice(), place, notice);
+        let queues = self.queues.as_mut_slice();
+        if ask_all(queues, notice) {
+            put_place(&mut self.places, queues, place);
+        }
     }
 
     /// The event's notice waits in each queue whose filter lets it through, where there is one.
@@ -227,7 +247,7 @@ impl NoticeTable {
         ensures { Rises (λ q. q.number) self.now.queues → result ≡ option_and_then (λ q. first q.waiting) (find (λ q. q.number == subscription) self.now.queues) }
     {
         match queue_in(self.queues.as_slice(), subscription) {
-            Some(queue) => queue.first(),
+            Some(queue) => queue.first(&self.places),
             None => None,
         }
     }
