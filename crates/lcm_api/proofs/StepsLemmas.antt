@@ -1,32 +1,33 @@
 -- What one step of a session is.
-use Rattle.std.proofs.Common.{◌≡◌, ◌≤◌, ◌∙◌, ℕ, List, [], ◌∷◌, ◌++◌, Option, Some, None, Result, Ok, Err, true, false, true≢false, sym, subst, refl, ap, append-nil, arith, if◌then◌else◌, take, Bool, ◌⊎◌, ⊎_elim, codes}
-use Rattle.std.specs.Result.{is_ok}
+use Rattle.std.proofs.Common.{◌≡◌, ◌≤◌, ◌∙◌, ℕ, List, [], ◌∷◌, ◌++◌, Option, Some, None, Result, Ok, Err, true, false, sym, subst, refl, ap, append-nil, arith, if◌then◌else◌, take, Bool, ◌⊎◌, ⊎_elim, codes}
+use Rattle.std.specs.Result.{is_ok, is_err}
 use Rattle.executor.specs.Managed.{Managed, IsReady}
 use Rattle.executor.specs.Work.{Idles, Stays, Work, went, Works}
-use Rattle.http_wire.specs.Wire.{WireState, bytes_of, Counts, OnlyTakesIn, TakesNone}
+use Rattle.http_wire.specs.Wire.{WireState, bytes_of, Counts, FaultCounts, OnlyTakesIn, ReadCounts, TakesNone}
 use Rattle.http_wire.specs.declared.request.Request.{Request}
 use Rattle.http_wire.specs.declared.request.Taken.{Taken}
 use Rattle.http_wire.specs.declared.request.WireFault.{WireFault}
 use Rattle.http_wire.specs.declared.request.WireFault.TheVariants as wire
+use Rattle.lcm_api.specs.Failing.{FailsOnce, counts_by}
 use Rattle.lcm_api.specs.Mouth.{MouthState, OnlyAtDoor, Takes}
 use Rattle.lcm_api.specs.Response.{text}
 use Rattle.lcm_api.specs.Answering.{IsAcknowledged, IsOutcomeOf}
 use Rattle.lcm_api.specs.Outcome.{outcome}
 use Rattle.lcm_api.specs.Replies.{refusal, starved}
-use Rattle.lcm_api.specs.Session.{AreFor, Ask, Last, Ending, Talk, asked_last, has_reply, is_breaking, once_answered, outcome_of, replies, reply_last, said, taken_by, work_last}
+use Rattle.lcm_api.specs.Session.{AreFor, Ask, Last, Ending, Talk, asked_last, has_reply, is_breaking, is_cut, unheard, once_answered, outcome_of, replies, reply_last, said, taken_by, work_last}
 use Rattle.lcm_api.specs.Step.{Responds, IsAbout, IsStep, answered_one, ended_so}
 use Rattle.lcm_api.specs.declared.session.Step.{Step}
 use Rattle.lcm_api.specs.declared.session.Step.TheVariants as step
 use Rattle.site_traits.specs.Clock.{Gives}
 use Rattle.lcm_api.specs.Talking as talking
-use Rattle.lcm_api.specs.Talking.{World, world, Remains, remains_of, IsNext, AreRequests, GaveAll, Converses, IsSaid, SaysLast, Speaks, AsksLast, EndsFor, IsLost, IsRejection, Talks}
-use Rattle.lcm_api.specs.Telling.{TellCause, Tells}
+use Rattle.lcm_api.specs.Talking.{World, world, Remains, remains_of, IsNext, AreRequests, GaveAll, Converses, IsSaid, SaysLast, Speaks, AsksLast, EndsFor, IsRejection, Talks}
+use Rattle.lcm_api.specs.Telling.{Tells}
 use Rattle.lcm_api.specs.declared.door.DoorFailed.{DoorFailed}
 use Rattle.lcm_api.specs.declared.reply.Reply.{Reply}
-use Rattle.lcm_api.proofs.TalkLemmas.{converses_then, converses_read, converses_told, converses_front, counts_then, ends_since, lost_since}
+use Rattle.lcm_api.proofs.TalkLemmas.{converses_then, converses_read, converses_told, converses_front, counts_left, counts_since, counts_then, ends_since}
 use Rattle.lcm_events.specs.declared.events.Event.{Event}
 use Rattle.lcm_events.specs.declared.states.Role.{Role}
-use Rattle.site_traits.specs.Door.{DoorCounts, DoorState, NoNextFault}
+use Rattle.site_traits.specs.Door.{DoorCounts, DoorState}
 use Rattle.site_traits.specs.Site.{SiteState}
 
 -- what is left of a connection stays where nothing comes in
@@ -52,20 +53,18 @@ next_taken tells r a b counts told = record {
   ended = counts.ended;
 }
 
--- telling leaves the count of failed waits
-pub cause_counts : (result : Result (Unit {0}) DoorFailed) (a b : DoorCounts) → TellCause result a b → NoNextFault a b
-cause_counts (Ok done) a b cause = cause
-cause_counts (Err failed) a b cause = cause.0
-
--- a telling that failed is counted
-pub cause_lost : (last : Last) (result : Result (Unit {0}) DoorFailed) (a b : DoorCounts) → TellCause result a b → IsLost (Some (record { last = last; told = result })) a b
-cause_lost last (Ok done) a b cause = λ failed. absurd (true≢false failed)
-cause_lost last (Err failed) a b cause = λ is. cause.1
+-- a fault of the wire leaves one failed read where it is that
+pub cut_counts : (cause : WireFault) (reply : Option Reply) (a b : DoorCounts) → FaultCounts cause a b → b ≡ counts_by (is_cut (unheard cause reply)) a
+cut_counts wire.Malformed reply a b counts = counts
+cut_counts wire.TooLarge reply a b counts = counts
+cut_counts wire.Unfinished reply a b counts = counts
+cut_counts wire.Read reply a b counts = counts
+cut_counts wire.Memory reply a b counts = counts
 
 -- a request was taken and answered
 pub talk_of_request : (t : talking.Tells) (m : ℕ) (H : List Event) (talk : Talk) (r : Request) (n : Managed) (s : SiteState) (c u : MouthState) (ks : List ℕ) (v : World)
-    → Counts t.door c.wire u.wire r → OnlyTakesIn t.door c.wire.intake u.wire.intake → Responds t m H talk n (world s u ks) v → IsAbout r talk → Talks t m H talk n (world s c ks) v
-talk_of_request t m H talk r n s c u ks v counts reads does about =
+    → Counts t.door c.wire u.wire r → OnlyTakesIn t.door c.wire.intake u.wire.intake → u.wire.intake.counts ≡ c.wire.intake.counts → Responds t m H talk n (world s u ks) v → IsAbout r talk → Talks t m H talk n (world s c ks) v
+talk_of_request t m H talk r n s c u ks v counts reads same does about =
     let Q : List Ask → Type 0 = λ asks. AreRequests asks (remains_of c.wire) (remains_of v.mouth.wire) in
     record {
       works = does.works;
@@ -73,9 +72,9 @@ talk_of_request t m H talk r n s c u ks v counts reads does about =
         roles = subst (AreFor talk.role) (sym about.is) (refl, tt);
         requests = λ told.
             let replied = does.replies told in
-            let same = remains_kept [] (said (replies m H talk.asks) ++ replied.final) u v.mouth does.kept replied.door in
+            let rest = remains_kept [] (said (replies m H talk.asks) ++ replied.final) u v.mouth does.kept replied.door in
             let P : Remains → Type 0 = λ z. IsNext r (remains_of c.wire) z in
-            subst Q (sym about.is) (remains_of c.wire, refl, subst P (sym same) (next_taken t.door r c.wire u.wire counts told));
+            subst Q (sym about.is) (remains_of c.wire, refl, subst P (sym rest) (next_taken t.door r c.wire u.wire counts told));
         speaks = λ told.
             let replied = does.replies told in
             let came = reads.door told in
@@ -87,8 +86,8 @@ talk_of_request t m H talk r n s c u ks v counts reads does about =
                   (converses_read came.0 c.wire.intake.door u.wire.intake.door came.1) replied.door;
             };
         clock = does.clock;
-        ends = ends_since t.door talk.end c.wire u.wire v.mouth.wire reads.counts does.ends;
-        lost = lost_since talk.end c.wire.intake.counts u.wire.intake.counts v.mouth.wire.intake.counts reads.counts does.lost;
+        ends = ends_since t.door talk.end c.wire u.wire v.mouth.wire same does.ends;
+        faults = counts_since talk.end c.wire.intake.counts u.wire.intake.counts v.mouth.wire.intake.counts same does.faults;
         counts = counts_then c.wire.intake.counts u.wire.intake.counts v.mouth.wire.intake.counts reads.counts does.counts;
       };
     }
@@ -103,15 +102,15 @@ says_last reply (Err failed) a b tells =
 -- No request was taken, and the session ends.
 pub talk_of_end : (t : talking.Tells) (m : Managed) (H : List Event) (role : Role) (end : Ending) (answer : Result Taken WireFault) (s : SiteState) (c u v : MouthState) (ks : List ℕ)
     → Idles t.site s → IsReady t.site m H s → Takes t.door answer c.wire u.wire → OnlyTakesIn t.door c.wire.intake u.wire.intake → TakesNone t.door c.wire u.wire
-    → asked_last end.last ≡ [] → work_last m.ledger.manager H end.last ≡ went H → (AsksLast t.door answer c.wire v.wire → EndsFor t.door end.last end.told c.wire v.wire)
+    → asked_last end.last ≡ [] → work_last m.ledger.manager H end.last ≡ went H → (AsksLast t.door answer end.told c.wire v.wire → EndsFor t.door end.last end.told c.wire v.wire)
     → (t.door → (final : List ℕ) × IsSaid (reply_last m.ledger.manager H end.last) end.told final × Converses [] final u.wire.intake.door v.wire.intake.door)
-    → OnlyAtDoor u v → IsLost (Some end) u.wire.intake.counts v.wire.intake.counts → NoNextFault u.wire.intake.counts v.wire.intake.counts
+    → OnlyAtDoor u v → ReadCounts answer c.wire.intake.counts u.wire.intake.counts → u.wire.intake.counts ≡ counts_by (is_cut end.last) c.wire.intake.counts
+    → FailsOnce (is_err end.told) u.wire.intake.counts v.wire.intake.counts
     → Talks t m.ledger.manager H (ended_so role end) m (world s c ks) (world s v ks)
-talk_of_end t m H role end answer s c u v ks idles ready takes reads none asked work ends says kept lost counts =
+talk_of_end t m H role end answer s c u v ks idles ready takes reads none asked work ends says kept heard cut fails =
     let P : Work → Type 0 = λ w. Works t.site m.ledger.manager H w m s s in
     let Q : List Ask → Type 0 = λ asks. AreRequests (asks ++ []) (remains_of c.wire) (remains_of v.wire) in
     let R : List Ask → Type 0 = λ asks. GaveAll (asks ++ []) ks ks in
-    let later = reads.counts.faults in
     record {
       works = subst P (sym work) (idles m H ready);
       holds = record {
@@ -135,15 +134,16 @@ talk_of_end t m H role end answer s c u v ks idles ready takes reads none asked 
           before = c.wire;
           behind = u.wire;
           takes = takes;
-          since = omega arith;
-          until = counts.faults;
+          since = refl;
+          reads = heard;
+          until = fails.is;
           bytes = λ told. ap (λ (z : Remains). z.bytes) (remains_kept [] (says told).0 u v kept (says told).2);
           held = kept.held;
           taken = kept.taken;
           ended = kept.ended;
         });
-        lost = lost_since (Some end) c.wire.intake.counts u.wire.intake.counts v.wire.intake.counts reads.counts lost;
-        counts = counts_then c.wire.intake.counts u.wire.intake.counts v.wire.intake.counts reads.counts counts;
+        faults = fails.is ∙ ap (counts_by (is_err end.told)) cut;
+        counts = counts_then c.wire.intake.counts u.wire.intake.counts v.wire.intake.counts reads.counts fails.counts;
       };
     }
 
@@ -169,8 +169,8 @@ same_hand hand q r one other = cc
 -- the reply to a request was told whole
 pub responds_told : (t : talking.Tells) (m : ℕ) (H : List Event) (role : Role) (x : Ask) (n : Managed) (reply : Reply) (w v : World) → Works t.site m H (went (once_answered m H x)) n w.site v.site
     → reply ≡ (outcome_of m H x).reply → (t.clock → Gives x.value w.clock v.clock) → (t.door → Tells (text reply) (Ok tt) w.mouth.wire.intake.door v.mouth.wire.intake.door)
-    → OnlyAtDoor w.mouth v.mouth → NoNextFault w.mouth.wire.intake.counts v.mouth.wire.intake.counts → Responds t m H (answered_one role x) n w v
-responds_told t m H role x n reply w v works is gives told kept counts = record {
+    → OnlyAtDoor w.mouth v.mouth → FailsOnce false w.mouth.wire.intake.counts v.mouth.wire.intake.counts → Responds t m H (answered_one role x) n w v
+responds_told t m H role x n reply w v works is gives told kept fails = record {
   works = works;
   replies = λ tells.
       let P : Reply → Type 0 = λ r. Converses [] (text r ++ []) w.mouth.wire.intake.door v.mouth.wire.intake.door in
@@ -178,17 +178,17 @@ responds_told t m H role x n reply w v works is gives told kept counts = record 
       record { final = []; final_is = refl; door = subst P is (subst Q (sym (append-nil (text reply))) (converses_told (text reply) _ _ (told tells))) };
   clock = λ tells. (w.clock, refl, gives tells);
   ends = tt;
-  lost = tt;
+  faults = fails.is;
   kept = kept;
-  counts = counts;
+  counts = fails.counts;
 }
 
 -- the session ends with a request
 pub responds_last : (t : talking.Tells) (m : ℕ) (H : List Event) (role : Role) (x : Ask) (last : Last) (result : Result (Unit {0}) DoorFailed) (n : Managed) (reply : Reply) (w v : World)
-    → asked_last last ≡ x ∷ [] → Works t.site m H (work_last m H last) n w.site v.site → reply_last m H last ≡ Some reply → EndsFor t.door last result w.mouth.wire v.mouth.wire
+    → asked_last last ≡ x ∷ [] → is_cut last ≡ false → Works t.site m H (work_last m H last) n w.site v.site → reply_last m H last ≡ Some reply → EndsFor t.door last result w.mouth.wire v.mouth.wire
     → (t.clock → Gives x.value w.clock v.clock) → (t.door → Tells (text reply) result w.mouth.wire.intake.door v.mouth.wire.intake.door)
-    → OnlyAtDoor w.mouth v.mouth → TellCause result w.mouth.wire.intake.counts v.mouth.wire.intake.counts → Responds t m H (ended_so role (record { last = last; told = result })) n w v
-responds_last t m H role x last result n reply w v asked works is ends gives told kept cause =
+    → OnlyAtDoor w.mouth v.mouth → FailsOnce (is_err result) w.mouth.wire.intake.counts v.mouth.wire.intake.counts → Responds t m H (ended_so role (record { last = last; told = result })) n w v
+responds_last t m H role x last result n reply w v asked whole works is ends gives told kept fails =
     let Q : List Ask → Type 0 = λ asks. GaveAll (asks ++ []) w.clock v.clock in
     record {
       works = works;
@@ -198,9 +198,9 @@ responds_last t m H role x last result n reply w v asked works is ends gives tol
           record { final = says.0; final_is = subst P (sym is) says.1; door = says.2 };
       clock = λ tells. subst Q (sym asked) (w.clock, refl, gives tells);
       ends = ends;
-      lost = cause_lost last result w.mouth.wire.intake.counts v.mouth.wire.intake.counts cause;
+      faults = rw whole fails.is;
       kept = kept;
-      counts = cause_counts result w.mouth.wire.intake.counts v.mouth.wire.intake.counts cause;
+      counts = fails.counts;
     }
 
 -- a talk about a request, under another name of it
@@ -216,6 +216,10 @@ told_step role last (Ok done) answer some fine is =
 told_step role last (Err failed) answer some fine is =
     let P : Step → Type 0 = λ s. IsStep role (ended_so role (record { last = last; told = Err failed })) s in
     subst P (sym is) (record { last = last; told = Err failed }, refl, rw some refl, fine)
+
+-- no call of the door failed
+pub fails_not : (a : DoorCounts) → FailsOnce false a a
+fails_not a = record { counts = counts_left a; is = refl }
 
 -- nothing changes at the door
 pub door_left : (u : MouthState) → OnlyAtDoor u u

@@ -6,10 +6,10 @@ use Rattle.http_wire.specs.declared.TheConstants.{CONNECTION_REQUESTS}
 use Rattle.http_wire.specs.Intake.{OnlyReads}
 use Rattle.http_wire.specs.Wire.{WireState}
 use Rattle.lcm_api.specs.Response.{text}
-use Rattle.lcm_api.specs.Session.{AreFor, Ask, Last, Ending, Talk, over, unheard, untold, starving, breaking, life, once_answered, outcome_of, replies, said, asked_by, work_by}
+use Rattle.lcm_api.specs.Session.{AreFor, Ask, Last, Ending, Talk, over, unheard, untold, starving, breaking, counts_behind, life, once_answered, outcome_of, replies, said, asked_by, work_by}
 use Rattle.lcm_api.specs.Step.{answered_one, ended_so}
 use Rattle.lcm_api.specs.Talking as talking
-use Rattle.lcm_api.specs.Talking.{World, Remains, IsNext, AreRequests, GaveAll, Converses, SaysLast, Speaks, AsksLast, EndsFor, Ends, IsLost, Talks}
+use Rattle.lcm_api.specs.Talking.{World, Remains, IsNext, AreRequests, GaveAll, Converses, SaysLast, Speaks, AsksLast, EndsFor, Ends, Talks}
 use Rattle.lcm_api.specs.Telling.{Tells}
 use Rattle.lcm_api.specs.declared.door.DoorFailed.{DoorFailed}
 use Rattle.lcm_api.specs.declared.reply.Reply.{Reply}
@@ -99,12 +99,14 @@ pub counts_then : (a b c : DoorCounts) → NoNextFault a b → NoNextFault b c �
 counts_then a b c first second = let one = first.faults in let two = second.faults in
     record { faults = omega (arith, one, two); next = second.next ∙ first.next; up = second.up ∙ first.up }
 
-asks_since : (tells : Type 0) (answer : _) (a b c : WireState) → a.intake.counts.faults ≤ b.intake.counts.faults → AsksLast tells answer b c → AsksLast tells answer a c
-asks_since tells answer a b c before asks = let since = asks.since in record {
+asks_since : (tells : Type 0) (answer : _) (told : Result (Unit {0}) DoorFailed) (a b c : WireState) → b.intake.counts ≡ a.intake.counts → AsksLast tells answer told b c
+    → AsksLast tells answer told a c
+asks_since tells answer told a b c before asks = record {
   before = asks.before;
   behind = asks.behind;
   takes = asks.takes;
-  since = omega (arith, before, since);
+  since = asks.since ∙ before;
+  reads = asks.reads;
   until = asks.until;
   bytes = asks.bytes;
   held = asks.held;
@@ -112,23 +114,22 @@ asks_since tells answer a b c before asks = let since = asks.since in record {
   ended = asks.ended;
 }
 
-ends_for_since : (tells : Type 0) (last : Last) (told : Result (Unit {0}) DoorFailed) (a b c : WireState) → a.intake.counts.faults ≤ b.intake.counts.faults
+ends_for_since : (tells : Type 0) (last : Last) (told : Result (Unit {0}) DoorFailed) (a b c : WireState) → b.intake.counts ≡ a.intake.counts
     → EndsFor tells last told b c → EndsFor tells last told a c
-ends_for_since tells over told a b c before ends = asks_since tells _ a b c before ends
-ends_for_since tells (unheard cause reply) told a b c before ends = (asks_since tells _ a b c before ends.0, ends.1)
+ends_for_since tells over told a b c before ends = asks_since tells _ told a b c before ends
+ends_for_since tells (unheard cause reply) told a b c before ends = (asks_since tells _ told a b c before ends.0, ends.1)
 ends_for_since tells (untold x) told a b c before ends = ends
 ends_for_since tells (starving x) told a b c before ends = ends
 ends_for_since tells (breaking x) told a b c before ends = ends
 
 -- what a talk that began later says of its end
-pub ends_since : (tells : Type 0) (end : Option Ending) (a b c : WireState) → NoNextFault a.intake.counts b.intake.counts → Ends tells end b c → Ends tells end a c
+pub ends_since : (tells : Type 0) (end : Option Ending) (a b c : WireState) → b.intake.counts ≡ a.intake.counts → Ends tells end b c → Ends tells end a c
 ends_since tells None a b c before ends = tt
-ends_since tells (Some end) a b c before ends = ends_for_since tells end.last end.told a b c before.faults ends
+ends_since tells (Some end) a b c before ends = ends_for_since tells end.last end.told a b c before ends
 
--- a write that failed late failed in all
-pub lost_since : (end : Option Ending) (a b c : DoorCounts) → NoNextFault a b → IsLost end b c → IsLost end a c
-lost_since None a b c before lost = tt
-lost_since (Some end) a b c before lost = λ failed. let rose = lost failed in let earlier = before.faults in omega (arith, rose, earlier)
+-- what a talk that began where nothing had failed leaves of the counts
+pub counts_since : (end : Option Ending) (a b c : DoorCounts) → b ≡ a → c ≡ counts_behind end b → c ≡ counts_behind end a
+counts_since end a b c before behind = behind ∙ ap (counts_behind end) before
 
 speaks_on : (m : ℕ) (H : List Event) (role : Role) (xs ys : List Ask) (end : Option Ending) (a b c : DoorState) → Speaks m H (record { role = role; asks = xs; end = None }) a b
     → Speaks m (life (once_answered m) H xs) (record { role = role; asks = ys; end = end }) b c → Speaks m H (record { role = role; asks = ys ++ xs; end = end }) a c
@@ -165,8 +166,8 @@ talks_on t m H role xs ys end n o w u v joins first second =
         requests = λ told. subst Q taken (requests_more xs (asked_by end ++ ys) (talking.remains_of w.mouth.wire) (talking.remains_of u.mouth.wire) (talking.remains_of v.mouth.wire) (first.holds.requests told) (second.holds.requests told));
         speaks = λ told. speaks_on m H role xs ys end w.mouth.wire.intake.door u.mouth.wire.intake.door v.mouth.wire.intake.door (first.holds.speaks told) (second.holds.speaks told);
         clock = λ told. subst R taken (gave_more xs (asked_by end ++ ys) w.clock u.clock v.clock (first.holds.clock told) (second.holds.clock told));
-        ends = ends_since t.door end w.mouth.wire u.mouth.wire v.mouth.wire first.holds.counts second.holds.ends;
-        lost = lost_since end w.mouth.wire.intake.counts u.mouth.wire.intake.counts v.mouth.wire.intake.counts first.holds.counts second.holds.lost;
+        ends = ends_since t.door end w.mouth.wire u.mouth.wire v.mouth.wire first.holds.faults second.holds.ends;
+        faults = counts_since end w.mouth.wire.intake.counts u.mouth.wire.intake.counts v.mouth.wire.intake.counts first.holds.faults second.holds.faults;
         counts = counts_then w.mouth.wire.intake.counts u.mouth.wire.intake.counts v.mouth.wire.intake.counts first.holds.counts second.holds.counts;
       };
     }
@@ -192,7 +193,7 @@ none_so_far t role m w idles up = record {
         speaks = λ told. record { read = []; final = []; final_is = refl; door = converses_none w.mouth.wire.intake.door };
         clock = λ told. refl;
         ends = tt;
-        lost = tt;
+        faults = refl;
         counts = counts_left w.mouth.wire.intake.counts;
       };
     },

@@ -1,6 +1,7 @@
 pub mod Answering
 pub mod Bodies
 pub mod Creating
+pub mod Failing
 pub mod Hearing
 pub mod Instances
 pub mod Instantiating

@@ -2,10 +2,12 @@
 -- (RFC 9112 9.3, Persistence; 9.6, Tear-down; the order is an own rule).
 use Rattle.std.specs.Prelude.{◌≡◌, ℕ, ◌+◌, Bool, true, false, List, [], ◌∷◌, ◌++◌, length, min, Option, Some, None, is_some, ◌&&◌, if◌then◌else◌, Result, Ok, Err}
 use Rattle.std.specs.List.{AllByRecursion}
-use Rattle.std.specs.Result.{is_ok}
+use Rattle.std.specs.Result.{is_ok, is_err}
 use Rattle.executor.specs.Work.{Work, went, broke}
 use Rattle.http_wire.specs.declared.request.Request.{Request}
 use Rattle.http_wire.specs.declared.request.WireFault.{WireFault}
+use Rattle.http_wire.specs.declared.request.WireFault.TheVariants as fault
+use Rattle.lcm_api.specs.Failing.{counts_by}
 use Rattle.lcm_api.specs.Outcome.{outcome}
 use Rattle.lcm_api.specs.Replies.{Outcome, starved, faulted}
 use Rattle.lcm_api.specs.Response.{text}
@@ -14,6 +16,7 @@ use Rattle.lcm_api.specs.declared.reply.Reply.{Reply}
 use Rattle.lcm_api.specs.declared.session.Closed.{Closed}
 use Rattle.lcm_events.specs.declared.events.Event.{Event}
 use Rattle.lcm_events.specs.declared.states.Role.{Role}
+use Rattle.site_traits.specs.Door.{DoorCounts}
 
 -- a request that was taken, for whom, and what the clock gave for it, in milliseconds
 pub record Ask : Type 0 where
@@ -129,6 +132,17 @@ is_breaking other = false
 abbrev pub breaks : Option Ending → Bool
 breaks None = false
 breaks (Some end) = is_breaking end.last
+
+-- the read for the next request failed
+abbrev pub is_cut : Last → Bool
+is_cut (unheard fault.Read reply) = true
+is_cut other = false
+
+-- The door's counts once a session ended so, or as far as it went: one fault more where the read for the next request failed, one where telling
+-- what was to be told did, and else none (own rule).
+abbrev pub counts_behind : Option Ending → DoorCounts → DoorCounts
+counts_behind None c = c
+counts_behind (Some end) c = counts_by (is_err end.told) (counts_by (is_cut end.last) c)
 
 -- what a session answers: how many replies were told whole, or that the disk failed
 abbrev pub Answers : Talk → Result ℕ Closed → Type 0

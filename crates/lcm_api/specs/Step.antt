@@ -1,6 +1,6 @@
 -- One step of a session: a request is answered and the session goes on, or it ends.
 use Rattle.std.specs.Prelude.{◌≡◌, ◌<◌, ◌≤◌, ℕ, true, false, List, [], ◌∷◌, ◌++◌, Some, None, Result, Ok, Err, if◌then◌else◌}
-use Rattle.std.specs.Result.{is_ok}
+use Rattle.std.specs.Result.{is_ok, is_err}
 use Rattle.std.specs.declared.alloc.AllocError.{AllocError}
 use Rattle.executor.specs.Managed.{Managed}
 use Rattle.executor.specs.Work.{Works}
@@ -9,12 +9,13 @@ use Rattle.http_wire.specs.declared.request.Request.{Request}
 use Rattle.lcm_api.specs.Mouth.{MouthState, OnlyAtDoor}
 use Rattle.lcm_api.specs.Replies.{starved}
 use Rattle.lcm_api.specs.Response.{text}
-use Rattle.lcm_api.specs.Telling.{TellCause, Tells}
+use Rattle.lcm_api.specs.Failing.{FailsOnce}
+use Rattle.lcm_api.specs.Telling.{Tells}
 use Rattle.lcm_api.specs.declared.door.DoorFailed.{DoorFailed}
 use Rattle.lcm_api.specs.declared.reply.Reply.{Reply}
-use Rattle.lcm_api.specs.Session.{Ask, Ending, Talk, life, once_answered, replies, said, taken_by, told_last, breaks, work_of}
+use Rattle.lcm_api.specs.Session.{Ask, Ending, Talk, life, once_answered, replies, said, taken_by, told_last, breaks, counts_behind, work_of}
 use Rattle.lcm_api.specs.Talking as talking
-use Rattle.lcm_api.specs.Talking.{World, Converses, Ends, GaveAll, IsLost, SaysLast}
+use Rattle.lcm_api.specs.Talking.{World, Converses, Ends, GaveAll, SaysLast}
 use Rattle.lcm_api.specs.declared.session.Step.{Step}
 use Rattle.lcm_api.specs.declared.session.Step.TheVariants as step
 use Rattle.lcm_events.specs.declared.events.Event.{Event}
@@ -48,7 +49,7 @@ pub record Responds (t : talking.Tells) (m : ℕ) (H : List Event) (talk : Talk)
   pub replies : t.door → Replies m H talk w.mouth.wire.intake.door v.mouth.wire.intake.door
   pub clock : t.clock → GaveAll (taken_by talk) w.clock v.clock
   pub ends : Ends t.door talk.end w.mouth.wire v.mouth.wire
-  pub lost : IsLost talk.end w.mouth.wire.intake.counts v.mouth.wire.intake.counts
+  pub faults : v.mouth.wire.intake.counts ≡ counts_behind talk.end w.mouth.wire.intake.counts
   pub kept : OnlyAtDoor w.mouth v.mouth
   pub counts : NoNextFault w.mouth.wire.intake.counts v.mouth.wire.intake.counts
 
@@ -72,4 +73,4 @@ pub record TellsLast (tells : Type 0) (reply : Reply) (answer : Step) (a b : Mou
   pub result : Result (Unit {0}) DoorFailed
   pub is : answer ≡ (if is_ok result then step.ToldLast else step.Over)
   pub told : tells → Tells (text reply) result a.wire.intake.door b.wire.intake.door
-  pub cause : TellCause result a.wire.intake.counts b.wire.intake.counts
+  pub cause : FailsOnce (is_err result) a.wire.intake.counts b.wire.intake.counts

@@ -1,27 +1,27 @@
 -- What a session does to all that is outside: the journal's file, the connection and the clock.
-use Rattle.std.specs.Prelude.{◌≡◌, ◌≤◌, ◌+◌, ◌==◌, ◌||◌, ◌⊎◌, ℕ, Bool, false, List, [], ◌∷◌, ◌++◌, take, Option, Some, None, Result, Ok, Err}
-use Rattle.std.specs.Result.{is_ok}
+use Rattle.std.specs.Prelude.{◌≡◌, ◌+◌, ◌==◌, ◌||◌, ◌⊎◌, ℕ, Bool, false, List, [], ◌∷◌, ◌++◌, take, Option, Some, None, Result, Ok, Err}
+use Rattle.std.specs.Result.{is_ok, is_err}
 use Rattle.executor.specs.Managed.{Managed}
 use Rattle.executor.specs.Work.{Works}
 use Rattle.http_frames.specs.Framing.{fields_of, media, closes}
 use Rattle.http_frames.specs.Messages.{Message, ReadsMessage}
-use Rattle.http_wire.specs.Wire.{WireState, bytes_of}
+use Rattle.http_wire.specs.Wire.{ReadCounts, WireState, bytes_of}
 use Rattle.http_wire.specs.declared.TheConstants.{CONNECTION_REQUESTS}
 use Rattle.http_wire.specs.declared.request.Request.{Request}
 use Rattle.http_wire.specs.declared.request.Taken.{Taken}
 use Rattle.http_wire.specs.declared.request.Taken.TheVariants as taken
 use Rattle.http_wire.specs.declared.request.WireFault.{WireFault}
 use Rattle.http_wire.specs.declared.request.WireFault.TheVariants as fault
+use Rattle.lcm_api.specs.Failing.{counts_by}
 use Rattle.lcm_api.specs.Mouth.{MouthState, Takes}
 use Rattle.lcm_api.specs.Replies.{malformed, too_large, starved}
 use Rattle.lcm_api.specs.Response.{text}
-use Rattle.lcm_api.specs.Session.{AreFor, Ask, Last, Ending, Talk, over, unheard, untold, life, once_answered, replies, said, taken_by, reply_last, work_of}
+use Rattle.lcm_api.specs.Session.{AreFor, Ask, Last, Ending, Talk, over, unheard, untold, counts_behind, life, once_answered, replies, said, taken_by, reply_last, work_of}
 use Rattle.lcm_api.specs.declared.door.DoorFailed.{DoorFailed}
 use Rattle.lcm_api.specs.declared.reply.Reply.{Reply}
 use Rattle.lcm_events.specs.declared.events.Event.{Event}
 use Rattle.site_traits.specs.Clock.{Gives}
-use Rattle.site_traits.specs.Counts.{Rose}
-use Rattle.site_traits.specs.Door.{DoorCounts, DoorState, HangsUp, NoNextFault, closed}
+use Rattle.site_traits.specs.Door.{DoorState, HangsUp, NoNextFault, closed}
 use Rattle.site_traits.specs.Site.{SiteState}
 
 -- which of the objects outside tell what is done to them
@@ -123,14 +123,15 @@ IsRejection fault.Unfinished reply = reply ≡ None
 IsRejection fault.Read reply = reply ≡ None
 IsRejection fault.Memory reply = reply ≡ Some starved
 
--- The wire gave this answer when it was asked for the last time, between the session's start and its end. Behind that nothing is taken, and
--- what is held stays.
-pub record AsksLast (tells : Type 0) (answer : Result Taken WireFault) (a b : WireState) : Type 0 where
+-- The wire gave this answer when it was asked for the last time, between the session's start and its end. Before that no call of the door
+-- failed; behind it nothing is taken, what is held stays, and no call failed but where telling did.
+pub record AsksLast (tells : Type 0) (answer : Result Taken WireFault) (told : Result (Unit {0}) DoorFailed) (a b : WireState) : Type 0 where
   pub before : WireState
   pub behind : WireState
   pub takes : Takes tells answer before behind
-  pub since : a.intake.counts.faults ≤ before.intake.counts.faults
-  pub until : behind.intake.counts.faults ≤ b.intake.counts.faults
+  pub since : before.intake.counts ≡ a.intake.counts
+  pub reads : ReadCounts answer before.intake.counts behind.intake.counts
+  pub until : b.intake.counts ≡ counts_by (is_err told) behind.intake.counts
   pub bytes : tells → bytes_of b.intake ≡ bytes_of behind.intake
   pub held : b.intake.held ≡ behind.intake.held
   pub taken : b.taken ≡ behind.taken
@@ -138,19 +139,14 @@ pub record AsksLast (tells : Type 0) (answer : Result Taken WireFault) (a b : Wi
 
 -- why it ended: no request was left; the bytes that are left are none, and that is told; or telling a reply failed
 abbrev pub EndsFor : Type 0 → Last → Result (Unit {0}) DoorFailed → WireState → WireState → Type 0
-EndsFor tells over told a b = AsksLast tells (Ok taken.End) a b
-EndsFor tells (unheard cause reply) told a b = AsksLast tells (Err cause) a b × IsRejection cause reply
+EndsFor tells over told a b = AsksLast tells (Ok taken.End) told a b
+EndsFor tells (unheard cause reply) told a b = AsksLast tells (Err cause) told a b × IsRejection cause reply
 EndsFor tells (untold x) told a b = is_ok told ≡ false
 EndsFor tells other told a b = Unit {0}
 
 abbrev pub Ends : Type 0 → Option Ending → WireState → WireState → Type 0
 Ends tells None a b = Unit {0}
 Ends tells (Some end) a b = EndsFor tells end.last end.told a b
-
--- a write failed, and was counted, where what was to be told at the end wasn't told whole
-abbrev pub IsLost : Option Ending → DoorCounts → DoorCounts → Type 0
-IsLost None a b = Unit {0}
-IsLost (Some end) a b = is_ok end.told ≡ false → Rose a.faults b.faults
 
 -- What a session does to the connection and the clock, or as much of it as was done so far, over history H of manager m.
 pub record Holds (t : Tells) (m : ℕ) (H : List Event) (talk : Talk) (a b : Peers) : Type 0 where
@@ -159,7 +155,7 @@ pub record Holds (t : Tells) (m : ℕ) (H : List Event) (talk : Talk) (a b : Pee
   pub speaks : t.door → Speaks m H talk a.mouth.wire.intake.door b.mouth.wire.intake.door
   pub clock : t.clock → GaveAll (taken_by talk) a.clock b.clock
   pub ends : Ends t.door talk.end a.mouth.wire b.mouth.wire
-  pub lost : IsLost talk.end a.mouth.wire.intake.counts b.mouth.wire.intake.counts
+  pub faults : b.mouth.wire.intake.counts ≡ counts_behind talk.end a.mouth.wire.intake.counts
   pub counts : NoNextFault a.mouth.wire.intake.counts b.mouth.wire.intake.counts
 
 -- what it does to the journal too; the manager is now n

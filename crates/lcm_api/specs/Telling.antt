@@ -1,15 +1,9 @@
 -- What telling bytes to a connection does.
 use Rattle.std.specs.Prelude.{ℕ, List, take, Result, Ok, Err}
-use Rattle.site_traits.specs.Counts.{Rose}
-use Rattle.site_traits.specs.Door.{DoorState, DoorCounts, ConnIs, has_written, write_broke, NoNextFault}
+use Rattle.site_traits.specs.Door.{DoorState, ConnIs, has_written, write_broke}
 use Rattle.lcm_api.specs.declared.door.DoorFailed.{DoorFailed}
 
 -- the bytes went out, or a front of them, and then a write failed
 abbrev pub Tells : List ℕ → Result (Unit {0}) DoorFailed → DoorState → DoorState → Type 0
 Tells bytes (Ok done) a b = ConnIs (has_written bytes a.conn) a b
 Tells bytes (Err failed) a b = (n : ℕ) × ConnIs (write_broke (has_written (take n bytes) a.conn)) a b
-
--- the count of faults did not fall, and it rose where telling failed
-abbrev pub TellCause : Result (Unit {0}) DoorFailed → DoorCounts → DoorCounts → Type 0
-TellCause (Ok done) a b = NoNextFault a b
-TellCause (Err failed) a b = NoNextFault a b × Rose a.faults b.faults

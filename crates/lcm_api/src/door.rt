@@ -1,18 +1,20 @@
 //! Writing bytes to a connection until the door has taken them.
 ghost use Rattle.std.specs.Prelude.{◌≡◌, ◌≤◌, length, true};
-ghost use Rattle.lcm_api.specs.Telling.{Tells, TellCause};
+ghost use Rattle.std.specs.Result.{is_err};
+ghost use Rattle.lcm_api.specs.Failing.{FailsOnce};
+ghost use Rattle.lcm_api.specs.Telling.{Tells};
 
 use site_traits::{Door, WriteAnswer};
 
-/// A write failed: the door's count of faults rose, and a front of the bytes went out.
+/// A write failed: the door's count of faults rose by one, and a front of the bytes went out.
 #[derive(Clone, Copy, Debug, PartialEq, Eq)]
 pub struct DoorFailed;
 
-/// Writes the bytes, with as few writes as the door takes.
+/// Writes the bytes, with as few writes as the door takes. After one that failed there is no other.
 pub fn write_all<D: Door>(door: &mut D, bytes: &[u8]) -> Result<(), DoorFailed>
     requires up { (D.counts door.old).up ≡ true }
     ensures told { D.tells → Tells bytes.now result (D.state door.old) (D.state door.new) }
-    ensures cause { TellCause result (D.counts door.old) (D.counts door.new) }
+    ensures cause { FailsOnce (is_err result) (D.counts door.old) (D.counts door.new) }
 {
     let mut at = 0;
     while at < bytes.len() {

@@ -1,7 +1,6 @@
 //! Reading the bytes of a connection into room that was taken beforehand.
 ghost use Rattle.std.specs.Prelude.{◌≡◌, ◌≤◌, length, take, true};
-ghost use Rattle.site_traits.specs.Counts.{Rose};
-ghost use Rattle.site_traits.specs.Door.{NoNextFault};
+ghost use Rattle.lcm_api.specs.Failing.{FailsOnce};
 ghost use Rattle.lcm_api.specs.Hearing.{Hears};
 
 use site_traits::{Door, ReadAnswer};
@@ -21,8 +20,7 @@ pub fn read_to_end<D: Door>(door: &mut D, room: &mut [u8]) -> Reading
     ensures within { result.count ≤ length room.old }
     ensures room { length room.new ≡ length room.old }
     ensures told { D.tells → Hears (length room.old) (take result.count room.new) result.failed (D.state door.old) (D.state door.new) }
-    ensures cause { NoNextFault (D.counts door.old) (D.counts door.new) }
-    ensures failed { result.failed ≡ true → Rose (D.counts door.old).faults (D.counts door.new).faults }
+    ensures cause { FailsOnce result.failed (D.counts door.old) (D.counts door.new) }
 {
     let mut at = 0;
     while at < room.len() {

@@ -1,13 +1,14 @@
 //! The mouth: a wire, the request in hand, and the one call that writes to the door.
 ghost use Rattle.std.specs.Prelude.{◌≡◌, ◌≤◌, ◌<◌, length, take, IfOk, Some, is_some, true, false};
-ghost use Rattle.site_traits.specs.Counts.{Rose};
-ghost use Rattle.site_traits.specs.Door.{Nexts, HangsUp, NextCause, NoNextFault, closed};
+ghost use Rattle.std.specs.Result.{is_err};
+ghost use Rattle.site_traits.specs.Door.{Nexts, HangsUp, NextCause, closed};
 ghost use Rattle.http_wire.specs.Wire.{OnlyTakesIn, ReadCounts};
 ghost use Rattle.lcm_api.specs.Answering.{IsAcknowledged};
+ghost use Rattle.lcm_api.specs.Failing.{FailsOnce};
 ghost use Rattle.lcm_api.specs.Hearing.{Hears};
 ghost use Rattle.lcm_api.specs.Mouth.{Begins, Heard, OnlyAtDoor};
 ghost use Rattle.lcm_api.specs.Response.{text};
-ghost use Rattle.lcm_api.specs.Telling.{Tells, TellCause};
+ghost use Rattle.lcm_api.specs.Telling.{Tells};
 
 use crate::door::DoorFailed;
 use crate::listen::{Reading, read_to_end};
@@ -96,13 +97,12 @@ impl<D: Door> Mouth<D> {
     /// Reads what is left of the connection at hand to its end, or until the room is full. The wire doesn't see these bytes.
     ///
     /// Condition: the connection is up.
-    /// Where a read failed, the answer says so, and the door's count of faults rose; the bytes before it were read.
+    /// Where a read failed, the answer says so, and the door's count of faults rose by one; the bytes before it were read. Else the counts stay.
     pub fn read_to_end(&mut self, room: &mut [u8]) -> Reading
         requires up { self.old.wire.intake.counts.up ≡ true }
         ensures within { result.count ≤ length room.old }
         ensures told { D.tells → Hears (length room.old) (take result.count room.new) result.failed self.old.wire.intake.door self.new.wire.intake.door }
-        ensures cause { NoNextFault self.old.wire.intake.counts self.new.wire.intake.counts }
-        ensures failed { result.failed ≡ true → Rose self.old.wire.intake.counts.faults self.new.wire.intake.counts.faults }
+        ensures cause { FailsOnce result.failed self.old.wire.intake.counts self.new.wire.intake.counts }
         ensures kept { OnlyAtDoor self.old self.new }
     {
         read_to_end(self.wire.door_mut(), room)
@@ -139,7 +139,8 @@ impl<D: Door> Mouth<D> {
     ///
     /// Condition: the connection is up. Condition of a reply below 400: the manager is open, the reply is the outcome of the request
     /// in hand for its role, and its events end the manager's history, which every stop leaves.
-    /// Refusal: `DoorFailed` where a write failed: the door's count of faults rose, and a front of the bytes went out.
+    /// Refusal: `DoorFailed` where a write failed: the door's count of faults rose by one, and a front of the bytes went out. Where the
+    /// reply was told whole the counts stay.
     /// Source: RFC 9112 4, 5, 6.2, 9.6.
     pub fn tell<S: Site>(
         &mut self,
@@ -150,7 +151,7 @@ impl<D: Door> Mouth<D> {
         requires up { self.old.wire.intake.counts.up ≡ true }
         requires acknowledged { reply.now.status < 400 → IsAcknowledged S.tells manager.now (S.state site.now) self.old.hand self.old.role reply.now }
         ensures told { D.tells → Tells (text reply.now) result self.old.wire.intake.door self.new.wire.intake.door }
-        ensures cause { TellCause result self.old.wire.intake.counts self.new.wire.intake.counts }
+        ensures cause { FailsOnce (is_err result) self.old.wire.intake.counts self.new.wire.intake.counts }
         ensures kept { OnlyAtDoor self.old self.new }
     {
         tell_reply(self.wire.door_mut(), &mut self.outgoing, reply)

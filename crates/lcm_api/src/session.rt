@@ -42,7 +42,8 @@ pub enum Step {
 /// bytes that are left are no request, a read or a write fails, or there is no memory; then it ends the connection. The answer is the
 /// number of replies that were told whole.
 ///
-/// Where the bytes that are left are no request, 400 or 413 is told; for want of memory 503; where the disk failed 500.
+/// Where the bytes that are left are no request, 400 or 413 is told; for want of memory 503; where the disk failed 500. The door counts one
+/// fault where a read failed and one where telling did, each of which ends the session, and else none.
 /// Conditions: the connection is up; the manager isn't closed, and its file has its history.
 /// Refusal: `Closed` exactly where the disk failed in this call.
 /// Source: SOL 003 4.3 (API structure), 5.4.2; RFC 9112 9.3, 9.6.

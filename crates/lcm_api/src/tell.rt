@@ -1,7 +1,9 @@
 //! Telling a reply: its head and the front of its body in one write, and the rest of a longer body behind it.
 ghost use Rattle.std.specs.Prelude.{◌≡◌, ◌++◌, length, true};
+ghost use Rattle.std.specs.Result.{is_err};
+ghost use Rattle.lcm_api.specs.Failing.{FailsOnce};
 ghost use Rattle.lcm_api.specs.Response.{body_told, head_text, text};
-ghost use Rattle.lcm_api.specs.Telling.{Tells, TellCause};
+ghost use Rattle.lcm_api.specs.Telling.{Tells};
 
 use crate::door::{DoorFailed, write_all};
 use crate::outgoing::Outgoing;
@@ -16,7 +18,7 @@ pub fn tell_reply<D: Door>(
 ) -> Result<(), DoorFailed>
     requires up { (D.counts door.old).up ≡ true }
     ensures told { D.tells → Tells (text reply.now) result (D.state door.old) (D.state door.new) }
-    ensures cause { TellCause result (D.counts door.old) (D.counts door.new) }
+    ensures cause { FailsOnce (is_err result) (D.counts door.old) (D.counts door.new) }
 {
     let body = body_told(reply);
     outgoing.set_head(reply, body.len());
@@ -28,7 +30,7 @@ pub fn tell_reply<D: Door>(
 fn write_both<D: Door>(door: &mut D, first: &[u8], rest: &[u8]) -> Result<(), DoorFailed>
     requires up { (D.counts door.old).up ≡ true }
     ensures told { D.tells → Tells (first.now ++ rest.now) result (D.state door.old) (D.state door.new) }
-    ensures cause { TellCause result (D.counts door.old) (D.counts door.new) }
+    ensures cause { FailsOnce (is_err result) (D.counts door.old) (D.counts door.new) }
 {
     write_all(door, first)?;
     write_all(door, rest)

@@ -1,5 +1,5 @@
 -- The reading ended, or the room is full.
-use Rattle.std.proofs.Common.{◌≡◌, ◌≤◌, length, drop, ◌+◌, ◌-◌, ◌∙◌, arith, refl}
+use Rattle.std.proofs.Common.{◌≡◌, ◌≤◌, length, drop, ◌+◌, ◌-◌, arith, refl, rules}
 use Rattle.std.proofs.lemmas.List.{length-drop, length-take-le}
 use Rattle.std.proofs.lemmas.Slice.{take-put_mid, take-put_mid_below}
 use Rattle.lcm_api.proofs.ListenLemmas.{heard_all, heard_full, heard_more}
@@ -23,13 +23,9 @@ loop-at-preserved g c =
     let left : length (drop c.loop-at.at c.loop-at.room) ≡ length c.loop-at.room - c.loop-at.at = length-drop c.loop-at.at c.loop-at.room in
     let piece = length-take-le (length c.loop-at.room - c.loop-at.at) (drop c.loop-at.at c.loop-at.room) (omega (arith, left)) in
     let amount = c.in-Got.ensures.amount in
-    let before = c.loop-at.invariant.counts in
-    let now = c.in-Got.ensures.cause.counts in
-    let faults = before.faults in
-    let later = now.faults in
     record {
       within = let most = amount.1 in omega (arith, most, piece, room, within);
-      counts = record { faults = omega (arith, faults, later); next = now.next ∙ before.next; up = now.up ∙ before.up };
+      counts = search rules;
       told = λ tells.
           heard_more c.loop-at.at c.in-Got.n c.loop-at.room _ c.read.new.into _ _ _ _ (omega (arith, room, within)) (take-put_mid c.loop-at.at (length c.loop-at.room - c.loop-at.at) c.loop-at.room c.read.new.into (c.loop-at.at + length c.read.new.into) refl (omega (arith, room, within)))
           (c.loop-at.invariant.told tells) (c.in-Got.ensures.told tells);

@@ -1,15 +1,14 @@
-use Rattle.std.proofs.Common.{◌≤◌, ◌-◌, length}
-use Rattle.site_traits.specs.Door.{NoNextFault}
+use Rattle.std.proofs.Common.{◌≡◌, ◌≤◌, ◌-◌, length}
 use Rattle.lcm_api.proofs.ListenLemmas.{HeardSoFar}
 use Rattle.lcm_api.proofs.listen.read_to_end.Given as goal
 
--- the bytes so far are the connection's next ones
+-- the bytes so far are the connection's next ones, and no read failed
 abbrev pub invariant-loop-at : goal.invariant-loop-at
 invariant-loop-at g l =
     let start = g.D.Door.state l.fn.door in
     record {
       within : l.at ≤ length l.fn.room;
-      counts : NoNextFault (g.D.Door.counts l.fn.door) (g.D.Door.counts l.door);
+      counts : g.D.Door.counts l.door ≡ g.D.Door.counts l.fn.door;
       told : g.D.Door.tells → HeardSoFar l.at l.room start (g.D.Door.state l.door);
     }
 

@@ -1,11 +1,11 @@
 -- The next request was answered, or there is none and the session ends.
-use Rattle.std.proofs.Common.{[], Ok, Err, None, Some, refl, subst, true≢false}
+use Rattle.std.proofs.Common.{[], Ok, Err, None, Some, refl, subst}
 use Rattle.http_wire.specs.declared.request.Taken.TheVariants as taken
 use Rattle.lcm_api.specs.Session.{Ending, over, unheard}
 use Rattle.lcm_api.specs.Step.{IsStep, ended_so}
 use Rattle.lcm_events.specs.declared.states.Role.{Role}
-use Rattle.lcm_api.proofs.TalkLemmas.{converses_none, counts_left}
-use Rattle.lcm_api.proofs.StepsLemmas.{door_left, cause_counts, cause_lost, rejection_refuses, says_last, talk_of_end, talk_of_request, told_step}
+use Rattle.lcm_api.proofs.TalkLemmas.{converses_none}
+use Rattle.lcm_api.proofs.StepsLemmas.{cut_counts, door_left, fails_not, rejection_refuses, says_last, talk_of_end, talk_of_request, told_step}
 use Rattle.lcm_api.proofs.session.answer_next.Goals as goal
 
 pub tell_last-requires-clause-refusal : goal.tell_last-requires-clause-refusal
@@ -16,7 +16,7 @@ returns-in-Ok-true-clause-talks g c = λ H ready.
     let heard = rw c.in-Ok-true.field-0-test at c.in-Ok-true.ensures.heard in
     let did = c.respond.ensures.responds H ready heard.0 heard.1 in
     let P : Role → Type 0 = λ role. IsStep role did.0 c.respond.result in
-    (did.0, talk_of_request _ _ H did.0 heard.0 _ _ c.args.mouth.now c.hear.new.self _ _ heard.2.is c.in-Ok-true.ensures.reads did.1 did.2, subst P c.hear.ensures.role did.3)
+    (did.0, talk_of_request _ _ H did.0 heard.0 _ _ c.args.mouth.now c.hear.new.self _ _ heard.2.is c.in-Ok-true.ensures.reads c.in-Ok-true.ensures.counts did.1 did.2, subst P c.hear.ensures.role did.3)
 
 pub returns-in-Ok-false-clause-talks : goal.returns-in-Ok-false-clause-talks
 returns-in-Ok-false-clause-talks g c = λ H ready.
@@ -24,7 +24,7 @@ returns-in-Ok-false-clause-talks g c = λ H ready.
     let heard = rw c.in-Ok-false.field-0-test at c.in-Ok-false.ensures.heard in (
       ended_so c.args.role end,
       talk_of_end _ _ H c.args.role end (Ok taken.End) _ c.args.mouth.now c.hear.new.self c.hear.new.self _ (c.works_add_up.ensures.idles c.args.site.now) ready heard.1 c.in-Ok-false.ensures.reads heard.1.is.0 refl refl (λ asks. asks)
-          (λ told. ([], refl, converses_none _)) (door_left c.hear.new.self) (λ failed. absurd (true≢false failed)) (counts_left _),
+          (λ told. ([], refl, converses_none _)) (door_left c.hear.new.self) c.in-Ok-false.ensures.counts c.in-Ok-false.ensures.counts (fails_not _),
       (end, refl, refl, refl),
     )
 
@@ -36,7 +36,8 @@ returns-in-Some-clause-talks g c = λ H ready.
       ended_so c.args.role end,
       talk_of_end _ _ H c.args.role end (Err c.in-Err.fault) _ c.args.mouth.now c.hear.new.self c.tell_last.new.mouth _ (c.works_add_up.ensures.idles c.args.site.now) ready heard.1 c.in-Err.ensures.reads heard.1.is.0 refl refl
           (λ asks. (asks, c.in-Some.ensures))
-          (λ tells. says_last c.in-Some.reply told.result _ _ (told.told tells)) c.tell_last.ensures.kept (cause_lost (unheard c.in-Err.fault (Some c.in-Some.reply)) told.result _ _ told.cause) (cause_counts _ _ _ told.cause),
+          (λ tells. says_last c.in-Some.reply told.result _ _ (told.told tells)) c.tell_last.ensures.kept c.in-Err.ensures.counts
+          (cut_counts c.in-Err.fault (Some c.in-Some.reply) _ _ c.in-Err.ensures.counts) told.cause,
       told_step c.args.role (unheard c.in-Err.fault (Some c.in-Some.reply)) told.result c.tell_last.result refl refl told.is,
     )
 
@@ -46,6 +47,7 @@ returns-in-None-clause-talks g c = λ H ready.
     let heard = c.in-Err.ensures.heard in (
       ended_so c.args.role end,
       talk_of_end _ _ H c.args.role end (Err c.in-Err.fault) _ c.args.mouth.now c.hear.new.self c.hear.new.self _ (c.works_add_up.ensures.idles c.args.site.now) ready heard.1 c.in-Err.ensures.reads heard.1.is.0 refl refl
-          (λ asks. (asks, c.in-None.ensures)) (λ told. ([], refl, converses_none _)) (door_left c.hear.new.self) (λ failed. absurd (true≢false failed)) (counts_left _),
+          (λ asks. (asks, c.in-None.ensures)) (λ told. ([], refl, converses_none _)) (door_left c.hear.new.self) c.in-Err.ensures.counts
+          (cut_counts c.in-Err.fault None _ _ c.in-Err.ensures.counts) (fails_not _),
       (end, refl, refl, refl),
     )
