@@ -1,22 +1,23 @@
 -- What onboarding does, by what was heard at the door.
-use Rattle.std.proofs.Common.{◌≡◌, ℕ, Bool, List, [], take, min, true, false, Result, Ok, Err, refl, ap, ◌∙◌}
+use Rattle.std.proofs.Common.{◌≡◌, ℕ, Bool, List, [], take, min, true, false, Result, Ok, Err, inl, inr, refl, ap, ◌∙◌, ⊎_elim}
 use Rattle.executor.specs.Managed.{Managed, IsReady}
 use Rattle.executor.specs.Work.{Idles, Works}
+use Rattle.lcm_api.specs.Failing.{counts_by}
 use Rattle.lcm_api.specs.Hearing.{heard_of}
 use Rattle.lcm_api.specs.Mouth.{MouthState}
 use Rattle.lcm_api.specs.Talking.{Tells, World, world}
 use Rattle.lcm_events.specs.declared.events.Event.{Event}
 use Rattle.lcm_events.specs.declared.states.Role.{Role}
-use Rattle.onboarding.specs.Doing.{HearsDescriptor, Onboards}
-use Rattle.onboarding.specs.Onboarding.{Onboarding, unheard, cut_off, heard, answer_of, ended_by, judged_answer, worked}
-use Rattle.onboarding.specs.Verdict.{onboarded, verdict}
+use Rattle.onboarding.specs.Doing.{Brings, BringsNothing, HearsDescriptor, OnboardingAtDoor, Onboards, OnlyDoorFails}
+use Rattle.onboarding.specs.Onboarding.{Ended, done, starving, breaking, Onboarding, unready, unheard, cut_off, heard, answer_of, ended_by, judged_answer, worked}
+use Rattle.onboarding.specs.Verdict.{Verdict, refused, full, accepted, onboarded, verdict}
 use Rattle.onboarding.specs.declared.answer.Onboarded.{Onboarded}
 use Rattle.onboarding.specs.declared.answer.OnboardFault.{OnboardFault}
 use Rattle.onboarding.specs.declared.answer.OnboardFault.TheVariants as fault
 use Rattle.onboarding.specs.declared.hearing.Unheard.{Unheard}
 use Rattle.onboarding.specs.declared.hearing.Unheard.TheVariants.{Waiting, Reading}
 use Rattle.site_traits.specs.Clock.{Gives}
-use Rattle.site_traits.specs.Door.{Conn, DoorState, Comes, ConnIs, HangsUp}
+use Rattle.site_traits.specs.Door.{Conn, DoorCounts, DoorState, Comes, ConnIs, HangsUp, closed, opened}
 use Rattle.site_traits.specs.Site.{SiteState}
 
 heard_out : (n : ℕ) (failed : Bool) (c : Conn) → (heard_of n failed c).out ≡ c.out
@@ -50,3 +51,32 @@ onboards_unheard t m H Waiting room s c d ks hears idles ready =
     (unheard, record { works = idles m H ready; brings = record { door = hears; clock = λ tells. refl } }, refl)
 onboards_unheard t m H Reading room s c d ks hears idles ready =
     (cut_off hears.0, record { works = idles m H ready; brings = record { door = hears.1; clock = λ tells. refl } }, refl)
+
+-- a connection that came, was read and was ended leaves one fault more where a read of it failed, and else none
+brought_counts : (tells : Type 0) (bytes : List ℕ) (failed : Bool) (a b : MouthState) → Brings tells bytes failed a b
+    → b.wire.intake.counts ≡ closed (counts_by failed (opened a.wire.intake.counts))
+brought_counts tells bytes failed a b brings = brings.down ∙ ap closed (brings.fails.is ∙ ap (counts_by failed) brings.counts)
+
+-- no verdict is a fault of the door
+never_door : (v : Verdict) (ended : Ended) → judged_answer v ended ≡ Err fault.Door → ⊥
+never_door (refused why) done is = cc is
+never_door (full end more) done is = cc is
+never_door (accepted vnfd) done is = cc is
+never_door v starving is = cc is
+never_door v breaking is = cc is
+
+-- a call of the door failed exactly where onboarding answers so
+pub onboarding_fails : (tells : Type 0) (H : List Event) (o : Onboarding) (a b : MouthState) → OnboardingAtDoor tells o a b
+    → OnlyDoorFails (answer_of H o ≡ Err fault.Door) a.wire.intake.counts b.wire.intake.counts
+onboarding_fails tells H unready a b at = record { rose = λ is. absurd (cc is); stays = λ never. (rw at refl, rw at refl) }
+onboarding_fails tells H unheard a b at = record { rose = λ is. (rw at.counts refl, inr (rw at.counts refl)); stays = λ never. absurd (never refl) }
+onboarding_fails tells H (cut_off bytes) a b at =
+    let counts = brought_counts tells bytes true a b at in
+    record { rose = λ is. (rw counts refl, inl (rw counts refl)); stays = λ never. absurd (never refl) }
+onboarding_fails tells H (heard bytes now ended) a b at = record {
+  rose = λ is. absurd (never_door (verdict H now bytes) ended is);
+  stays = λ never. ⊎_elim
+      (λ (some : Brings tells bytes false a b). let counts = brought_counts tells bytes false a b some in (rw counts refl, rw counts refl))
+      (λ (none : BringsNothing tells bytes a b). (rw none.counts refl, rw none.counts refl))
+      at;
+}

@@ -2,6 +2,7 @@
 use Rattle.std.specs.Prelude.{◌≡◌, ◌⊎◌, ℕ, List, [], Bool, true, false, min, take, Result, Ok, Err}
 use Rattle.executor.specs.Managed.{Managed}
 use Rattle.executor.specs.Work.{Works}
+use Rattle.lcm_api.specs.Failing.{FailsOnce}
 use Rattle.lcm_api.specs.Hearing.{Hears}
 use Rattle.lcm_api.specs.Mouth.{MouthState}
 use Rattle.lcm_api.specs.Talking.{Tells, Peers, World, peers_of}
@@ -13,8 +14,13 @@ use Rattle.onboarding.specs.declared.limits.TheConstants.{MAX_READ}
 use Rattle.onboarding.specs.declared.hearing.Unheard.{Unheard}
 use Rattle.onboarding.specs.declared.hearing.Unheard.TheVariants.{Waiting, Reading}
 use Rattle.site_traits.specs.Clock.{Gives}
-use Rattle.site_traits.specs.Counts.{Rose}
-use Rattle.site_traits.specs.Door.{Comes, HangsUp, NoNextFault, closed, opened as has_come}
+use Rattle.site_traits.specs.Counts.{one_more}
+use Rattle.site_traits.specs.Door.{Comes, DoorCounts, HangsUp, closed, opened as has_come}
+
+-- Where this holds a call of the door failed, and is counted as one fault, among the failed waits too where it was one; else none did (own rule).
+pub record OnlyDoorFails (failed : Type 0) (a b : DoorCounts) : Type 0 where
+  pub rose : failed → (b.faults ≡ one_more a.faults) × ((b.next ≡ a.next) ⊎ (b.next ≡ one_more a.next))
+  pub stays : ¬ failed → (b.faults ≡ a.faults) × (b.next ≡ a.next)
 
 -- A connection came, these bytes of it were read, up to its end or to one byte more than a descriptor may have, or up to where
 -- a read failed, and it was ended. Nothing was written to it.
@@ -25,8 +31,7 @@ pub record Brings (tells : Type 0) (bytes : List ℕ) (failed : Bool) (a b : Mou
   pub counts : between.wire.intake.counts ≡ has_come a.wire.intake.counts
   pub behind : MouthState
   pub hears : tells → Hears MAX_READ bytes failed between.wire.intake.door behind.wire.intake.door
-  pub broke : failed ≡ true → Rose between.wire.intake.counts.faults behind.wire.intake.counts.faults
-  pub reading : NoNextFault between.wire.intake.counts behind.wire.intake.counts
+  pub fails : FailsOnce failed between.wire.intake.counts behind.wire.intake.counts
   pub gone : tells → HangsUp behind.wire.intake.door b.wire.intake.door
   pub down : b.wire.intake.counts ≡ closed behind.wire.intake.counts
   pub silent : tells → b.wire.intake.door.conn.out ≡ []

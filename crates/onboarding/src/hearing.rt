@@ -1,11 +1,11 @@
 //! Onboarding: a connection's bytes are heard, and their descriptor is taken in.
-ghost use Rattle.std.specs.Prelude.{◌≡◌, ◌≤◌, ◌⊎◌, List, length, IfOk};
+ghost use Rattle.std.specs.Prelude.{◌≡◌, ◌≤◌, List, length, IfOk};
 ghost use Rattle.executor.specs.Managed.{IsReady};
 ghost use Rattle.lcm_api.specs.Talking.{telling, world};
 ghost use Rattle.lcm_events.specs.declared.events.Event.{Event};
-ghost use Rattle.onboarding.specs.Doing.{HearsDescriptor, Onboards};
+ghost use Rattle.onboarding.specs.Doing.{HearsDescriptor, Onboards, OnlyDoorFails};
 ghost use Rattle.onboarding.specs.Onboarding.{Onboarding, answer_of};
-ghost use Rattle.site_traits.specs.Counts.{OnlyDiskFails, Rose};
+ghost use Rattle.site_traits.specs.Counts.{OnlyDiskFails};
 
 use crate::answer::{OnboardFault, Onboarded};
 use crate::judge::take_in;
@@ -19,7 +19,8 @@ use vnfm_base::Moment;
 /// Onboards the descriptor that the door's first connection brings.
 ///
 /// The connection is read to its end or to its 1,048,577th byte, and then ended; where nobody comes the descriptor is empty.
-/// Then the clock is read, the descriptor is judged, and its event is recorded. The first of these that fails gives the answer.
+/// Then the clock is read, the descriptor is judged, and its event is recorded. The first of these that fails gives the answer: `Door`
+/// exactly where a call of the door failed, `Disk` exactly where one of the disk did.
 /// Conditions: the manager isn't closed, and its file has its history.
 /// Source: SOL 001, in the form of docs/DESCRIPTORS.md; the limits are an own rule.
 pub fn onboard<S: Site, D: Door, K: Clock>(
@@ -35,7 +36,7 @@ pub fn onboard<S: Site, D: Door, K: Clock>(
         (world (S.state site.old) mouth.old (K.state clock.old)) (world (S.state site.new) mouth.new (K.state clock.new))
         × (result ≡ answer_of H o) }
     ensures disk { OnlyDiskFails (result ≡ Err OnboardFault.Disk) (S.counts site.old) (S.counts site.new) }
-    ensures door { result ≡ Err OnboardFault.Door → Rose mouth.old.wire.intake.counts.next mouth.new.wire.intake.counts.next ⊎ Rose mouth.old.wire.intake.counts.faults mouth.new.wire.intake.counts.faults }
+    ensures door { OnlyDoorFails (result ≡ Err OnboardFault.Door) mouth.old.wire.intake.counts mouth.new.wire.intake.counts }
 {
     works_add_up::<S>();
     let mut room = vec![in alloc; 0; MAX_READ]?;
@@ -58,7 +59,6 @@ fn onboard_into<S: Site, D: Door, K: Clock>(
         (world (S.state site.old) mouth.old (K.state clock.old)) (world (S.state site.new) mouth.new (K.state clock.new))
         × (result ≡ answer_of H o) }
     ensures disk { OnlyDiskFails (result ≡ Err OnboardFault.Disk) (S.counts site.old) (S.counts site.new) }
-    ensures door { result ≡ Err OnboardFault.Door → Rose mouth.old.wire.intake.counts.next mouth.new.wire.intake.counts.next ⊎ Rose mouth.old.wire.intake.counts.faults mouth.new.wire.intake.counts.faults }
 {
     works_add_up::<S>();
     let count = hear(mouth, room)?;
@@ -90,8 +90,6 @@ fn hear<D: Door>(mouth: &mut Mouth<D>, room: &mut [u8]) -> Result<usize, Unheard
     requires room { length room.old ≡ MAX_READ }
     ensures within { IfOk result (λ count. count ≤ length room.new) }
     ensures heard { HearsDescriptor D.tells result room.new mouth.old mouth.new }
-    ensures waiting { result ≡ Err Unheard.Waiting → Rose mouth.old.wire.intake.counts.next mouth.new.wire.intake.counts.next }
-    ensures reading { result ≡ Err Unheard.Reading → Rose mouth.old.wire.intake.counts.faults mouth.new.wire.intake.counts.faults }
 {
     match mouth.next() {
         NextAnswer::Came(_) => {
