@@ -1,6 +1,6 @@
 -- What one step of a session is.
 use Rattle.std.proofs.Common.{◌≡◌, ◌≤◌, ◌∙◌, ℕ, List, [], ◌∷◌, ◌++◌, Option, Some, None, Result, Ok, Err, true, false, sym, subst, refl, ap, append-nil, arith, if◌then◌else◌, take, Bool, ◌⊎◌, ⊎_elim, codes}
-use Rattle.std.specs.Result.{is_ok, is_err}
+use Rattle.std.specs.Result.{is_ok}
 use Rattle.executor.specs.Managed.{Managed, IsReady}
 use Rattle.executor.specs.Work.{Idles, Stays, Work, went, Works}
 use Rattle.http_wire.specs.Wire.{WireState, bytes_of, Counts, FaultCounts, OnlyTakesIn, ReadCounts, TakesNone}
@@ -14,7 +14,7 @@ use Rattle.lcm_api.specs.Response.{text}
 use Rattle.lcm_api.specs.Answering.{IsAcknowledged, IsOutcomeOf}
 use Rattle.lcm_api.specs.Outcome.{outcome}
 use Rattle.lcm_api.specs.Replies.{refusal, starved}
-use Rattle.lcm_api.specs.Session.{AreFor, Ask, Last, Ending, Talk, asked_last, has_reply, is_breaking, is_cut, unheard, once_answered, outcome_of, replies, reply_last, said, taken_by, work_last}
+use Rattle.lcm_api.specs.Session.{AreFor, Ask, Last, Ending, Talk, asked_last, counts_behind, has_reply, is_breaking, is_cut, is_lost, unheard, once_answered, outcome_of, replies, reply_last, said, taken_by, work_last}
 use Rattle.lcm_api.specs.Step.{Responds, IsAbout, IsStep, answered_one, ended_so}
 use Rattle.lcm_api.specs.declared.session.Step.{Step}
 use Rattle.lcm_api.specs.declared.session.Step.TheVariants as step
@@ -27,7 +27,7 @@ use Rattle.lcm_api.specs.declared.reply.Reply.{Reply}
 use Rattle.lcm_api.proofs.TalkLemmas.{converses_then, converses_read, converses_told, converses_front, counts_left, counts_since, counts_then, ends_since}
 use Rattle.lcm_events.specs.declared.events.Event.{Event}
 use Rattle.lcm_events.specs.declared.states.Role.{Role}
-use Rattle.site_traits.specs.Door.{DoorCounts, DoorState}
+use Rattle.site_traits.specs.Door.{DoorCounts, DoorState, NoNextFault}
 use Rattle.site_traits.specs.Site.{SiteState}
 
 -- what is left of a connection stays where nothing comes in
@@ -102,10 +102,10 @@ says_last reply (Err failed) a b tells =
 -- No request was taken, and the session ends.
 pub talk_of_end : (t : talking.Tells) (m : Managed) (H : List Event) (role : Role) (end : Ending) (answer : Result Taken WireFault) (s : SiteState) (c u v : MouthState) (ks : List ℕ)
     → Idles t.site s → IsReady t.site m H s → Takes t.door answer c.wire u.wire → OnlyTakesIn t.door c.wire.intake u.wire.intake → TakesNone t.door c.wire u.wire
-    → asked_last end.last ≡ [] → work_last m.ledger.manager H end.last ≡ went H → (AsksLast t.door answer end.told c.wire v.wire → EndsFor t.door end.last end.told c.wire v.wire)
+    → asked_last end.last ≡ [] → work_last m.ledger.manager H end.last ≡ went H → (AsksLast t.door answer (is_lost end) c.wire v.wire → EndsFor t.door end.last end.told c.wire v.wire)
     → (t.door → (final : List ℕ) × IsSaid (reply_last m.ledger.manager H end.last) end.told final × Converses [] final u.wire.intake.door v.wire.intake.door)
     → OnlyAtDoor u v → ReadCounts answer c.wire.intake.counts u.wire.intake.counts → u.wire.intake.counts ≡ counts_by (is_cut end.last) c.wire.intake.counts
-    → FailsOnce (is_err end.told) u.wire.intake.counts v.wire.intake.counts
+    → FailsOnce (is_lost end) u.wire.intake.counts v.wire.intake.counts
     → Talks t m.ledger.manager H (ended_so role end) m (world s c ks) (world s v ks)
 talk_of_end t m H role end answer s c u v ks idles ready takes reads none asked work ends says kept heard cut fails =
     let P : Work → Type 0 = λ w. Works t.site m.ledger.manager H w m s s in
@@ -142,7 +142,7 @@ talk_of_end t m H role end answer s c u v ks idles ready takes reads none asked 
           taken = kept.taken;
           ended = kept.ended;
         });
-        faults = fails.is ∙ ap (counts_by (is_err end.told)) cut;
+        faults = fails.is ∙ ap (counts_by (is_lost end)) cut;
         counts = counts_then c.wire.intake.counts u.wire.intake.counts v.wire.intake.counts reads.counts fails.counts;
       };
     }
@@ -185,10 +185,11 @@ responds_told t m H role x n reply w v works is gives told kept fails = record {
 
 -- the session ends with a request
 pub responds_last : (t : talking.Tells) (m : ℕ) (H : List Event) (role : Role) (x : Ask) (last : Last) (result : Result (Unit {0}) DoorFailed) (n : Managed) (reply : Reply) (w v : World)
-    → asked_last last ≡ x ∷ [] → is_cut last ≡ false → Works t.site m H (work_last m H last) n w.site v.site → reply_last m H last ≡ Some reply → EndsFor t.door last result w.mouth.wire v.mouth.wire
+    → asked_last last ≡ x ∷ [] → Works t.site m H (work_last m H last) n w.site v.site → reply_last m H last ≡ Some reply → EndsFor t.door last result w.mouth.wire v.mouth.wire
     → (t.clock → Gives x.value w.clock v.clock) → (t.door → Tells (text reply) result w.mouth.wire.intake.door v.mouth.wire.intake.door)
-    → OnlyAtDoor w.mouth v.mouth → FailsOnce (is_err result) w.mouth.wire.intake.counts v.mouth.wire.intake.counts → Responds t m H (ended_so role (record { last = last; told = result })) n w v
-responds_last t m H role x last result n reply w v asked whole works is ends gives told kept fails =
+    → OnlyAtDoor w.mouth v.mouth → v.mouth.wire.intake.counts ≡ counts_behind (Some (record { last = last; told = result })) w.mouth.wire.intake.counts
+    → NoNextFault w.mouth.wire.intake.counts v.mouth.wire.intake.counts → Responds t m H (ended_so role (record { last = last; told = result })) n w v
+responds_last t m H role x last result n reply w v asked works is ends gives told kept faults counts =
     let Q : List Ask → Type 0 = λ asks. GaveAll (asks ++ []) w.clock v.clock in
     record {
       works = works;
@@ -198,9 +199,9 @@ responds_last t m H role x last result n reply w v asked whole works is ends giv
           record { final = says.0; final_is = subst P (sym is) says.1; door = says.2 };
       clock = λ tells. subst Q (sym asked) (w.clock, refl, gives tells);
       ends = ends;
-      faults = rw whole fails.is;
+      faults = faults;
       kept = kept;
-      counts = fails.counts;
+      counts = counts;
     }
 
 -- a talk about a request, under another name of it

@@ -1,5 +1,5 @@
 -- A talk behind another is one talk.
-use Rattle.std.proofs.Common.{◌≡◌, ◌≤◌, ◌∙◌, ℕ, List, [], ◌∷◌, ◌++◌, Option, Some, None, Result, Ok, Err, take, length, true, sym, subst, refl, ap, append_assoc, append-nil, arith, ◌+◌, ◌<◌, ◌⊎◌, inl, inr, ⊎_elim}
+use Rattle.std.proofs.Common.{◌≡◌, ◌≤◌, ◌∙◌, ℕ, List, [], ◌∷◌, ◌++◌, Option, Some, None, Result, Ok, Err, take, length, true, sym, subst, refl, ap, append_assoc, append-nil, arith, ◌+◌, ◌<◌, ◌⊎◌, Bool, inl, inr, ⊎_elim}
 use Rattle.executor.specs.Managed.{Managed, IsReady}
 use Rattle.executor.specs.Work.{Idles, Joins, LeadsOn, Works}
 use Rattle.http_wire.specs.declared.TheConstants.{CONNECTION_REQUESTS}
@@ -99,9 +99,8 @@ pub counts_then : (a b c : DoorCounts) → NoNextFault a b → NoNextFault b c �
 counts_then a b c first second = let one = first.faults in let two = second.faults in
     record { faults = omega (arith, one, two); next = second.next ∙ first.next; up = second.up ∙ first.up }
 
-asks_since : (tells : Type 0) (answer : _) (told : Result (Unit {0}) DoorFailed) (a b c : WireState) → b.intake.counts ≡ a.intake.counts → AsksLast tells answer told b c
-    → AsksLast tells answer told a c
-asks_since tells answer told a b c before asks = record {
+asks_since : (tells : Type 0) (answer : _) (lost : Bool) (a b c : WireState) → b.intake.counts ≡ a.intake.counts → AsksLast tells answer lost b c → AsksLast tells answer lost a c
+asks_since tells answer lost a b c before asks = record {
   before = asks.before;
   behind = asks.behind;
   takes = asks.takes;
@@ -116,8 +115,8 @@ asks_since tells answer told a b c before asks = record {
 
 ends_for_since : (tells : Type 0) (last : Last) (told : Result (Unit {0}) DoorFailed) (a b c : WireState) → b.intake.counts ≡ a.intake.counts
     → EndsFor tells last told b c → EndsFor tells last told a c
-ends_for_since tells over told a b c before ends = asks_since tells _ told a b c before ends
-ends_for_since tells (unheard cause reply) told a b c before ends = (asks_since tells _ told a b c before ends.0, ends.1)
+ends_for_since tells over told a b c before ends = asks_since tells _ _ a b c before ends
+ends_for_since tells (unheard cause reply) told a b c before ends = (asks_since tells _ _ a b c before ends.0, ends.1)
 ends_for_since tells (untold x) told a b c before ends = ends
 ends_for_since tells (starving x) told a b c before ends = ends
 ends_for_since tells (breaking x) told a b c before ends = ends

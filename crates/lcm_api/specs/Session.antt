@@ -138,11 +138,15 @@ abbrev pub is_cut : Last → Bool
 is_cut (unheard fault.Read reply) = true
 is_cut other = false
 
--- The door's counts once a session ended so, or as far as it went: one fault more where the read for the next request failed, one where telling
--- what was to be told did, and else none (own rule).
+-- something was to be told at the end, and wasn't told whole
+abbrev pub is_lost : Ending → Bool
+is_lost end = has_reply end.last && is_err end.told
+
+-- The door's counts once a session ended so, or as far as it went: one fault more where the read for the next request failed, one where what was
+-- to be told wasn't told whole, and else none (own rule).
 abbrev pub counts_behind : Option Ending → DoorCounts → DoorCounts
 counts_behind None c = c
-counts_behind (Some end) c = counts_by (is_err end.told) (counts_by (is_cut end.last) c)
+counts_behind (Some end) c = counts_by (is_lost end) (counts_by (is_cut end.last) c)
 
 -- what a session answers: how many replies were told whole, or that the disk failed
 abbrev pub Answers : Talk → Result ℕ Closed → Type 0

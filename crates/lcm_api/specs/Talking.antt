@@ -1,5 +1,5 @@
 -- What a session does to all that is outside: the journal's file, the connection and the clock.
-use Rattle.std.specs.Prelude.{◌≡◌, ◌+◌, ◌==◌, ◌||◌, ◌⊎◌, ℕ, Bool, false, List, [], ◌∷◌, ◌++◌, take, Option, Some, None, Result, Ok, Err}
+use Rattle.std.specs.Prelude.{◌≡◌, ◌+◌, ◌==◌, ◌||◌, ◌⊎◌, ℕ, Bool, false, List, [], ◌∷◌, ◌++◌, take, Option, Some, None, is_some, ◌&&◌, Result, Ok, Err}
 use Rattle.std.specs.Result.{is_ok, is_err}
 use Rattle.executor.specs.Managed.{Managed}
 use Rattle.executor.specs.Work.{Works}
@@ -124,14 +124,14 @@ IsRejection fault.Read reply = reply ≡ None
 IsRejection fault.Memory reply = reply ≡ Some starved
 
 -- The wire gave this answer when it was asked for the last time, between the session's start and its end. Before that no call of the door
--- failed; behind it nothing is taken, what is held stays, and no call failed but where telling did.
-pub record AsksLast (tells : Type 0) (answer : Result Taken WireFault) (told : Result (Unit {0}) DoorFailed) (a b : WireState) : Type 0 where
+-- failed; behind it nothing is taken, what is held stays, and no call failed but where what was to be told was lost.
+pub record AsksLast (tells : Type 0) (answer : Result Taken WireFault) (lost : Bool) (a b : WireState) : Type 0 where
   pub before : WireState
   pub behind : WireState
   pub takes : Takes tells answer before behind
   pub since : before.intake.counts ≡ a.intake.counts
   pub reads : ReadCounts answer before.intake.counts behind.intake.counts
-  pub until : b.intake.counts ≡ counts_by (is_err told) behind.intake.counts
+  pub until : b.intake.counts ≡ counts_by lost behind.intake.counts
   pub bytes : tells → bytes_of b.intake ≡ bytes_of behind.intake
   pub held : b.intake.held ≡ behind.intake.held
   pub taken : b.taken ≡ behind.taken
@@ -139,8 +139,8 @@ pub record AsksLast (tells : Type 0) (answer : Result Taken WireFault) (told : R
 
 -- why it ended: no request was left; the bytes that are left are none, and that is told; or telling a reply failed
 abbrev pub EndsFor : Type 0 → Last → Result (Unit {0}) DoorFailed → WireState → WireState → Type 0
-EndsFor tells over told a b = AsksLast tells (Ok taken.End) told a b
-EndsFor tells (unheard cause reply) told a b = AsksLast tells (Err cause) told a b × IsRejection cause reply
+EndsFor tells over told a b = AsksLast tells (Ok taken.End) false a b
+EndsFor tells (unheard cause reply) told a b = AsksLast tells (Err cause) (is_some reply && is_err told) a b × IsRejection cause reply
 EndsFor tells (untold x) told a b = is_ok told ≡ false
 EndsFor tells other told a b = Unit {0}
 

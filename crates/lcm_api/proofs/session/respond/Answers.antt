@@ -27,9 +27,9 @@ returns-in-Ok-clause-responds g c = λ H ready r hand.
     let end : Ending = record { last = untold x; told = c.tell.result } in
     let same = same_hand c.args.mouth.now.hand c.request.result.now r c.request.ensures hand in (
       ended_so c.args.mouth.now.role end,
-      responds_last _ _ H c.args.mouth.now.role x (untold x) c.tell.result _ c.in-Ok.reply _ _ refl refl (rw (c.of-now.ensures, c.role.ensures) at (c.in-Ok.ensures.works H ready))
+      responds_last _ _ H c.args.mouth.now.role x (untold x) c.tell.result _ c.in-Ok.reply _ _ refl (rw (c.of-now.ensures, c.role.ensures) at (c.in-Ok.ensures.works H ready))
           (ap Some (sym (rw (c.of-now.ensures, c.role.ensures) at (c.in-Ok.ensures.reply H ready.keeps)))) (rw c.in-Err.is refl)
-          c.now.ensures.told c.tell.ensures.told c.tell.ensures.kept c.tell.ensures.cause,
+          c.now.ensures.told c.tell.ensures.told c.tell.ensures.kept c.tell.ensures.cause.is c.tell.ensures.cause.counts,
       about c.request.result.now r c.now.result _ same refl,
       (end, refl, rw c.in-Err.is refl, refl),
     )
@@ -40,8 +40,8 @@ returns-in-Err-Disk-clause-responds g c = λ H ready r hand.
     let end : Ending = record { last = breaking x; told = c.tell-in-Err-Disk.result } in
     let same = same_hand c.args.mouth.now.hand c.request.result.now r c.request.ensures hand in (
       ended_so c.args.mouth.now.role end,
-      responds_last _ _ H c.args.mouth.now.role x (breaking x) c.tell-in-Err-Disk.result _ c.bare.result _ _ refl refl (rw (c.in-Err-Disk.field-0-is, c.of-now.ensures, c.role.ensures) at (c.in-Err-Disk.ensures.works H ready)) (rw c.bare.ensures refl) tt
-          c.now.ensures.told c.tell-in-Err-Disk.ensures.told c.tell-in-Err-Disk.ensures.kept c.tell-in-Err-Disk.ensures.cause,
+      responds_last _ _ H c.args.mouth.now.role x (breaking x) c.tell-in-Err-Disk.result _ c.bare.result _ _ refl (rw (c.in-Err-Disk.field-0-is, c.of-now.ensures, c.role.ensures) at (c.in-Err-Disk.ensures.works H ready)) (rw c.bare.ensures refl) tt
+          c.now.ensures.told c.tell-in-Err-Disk.ensures.told c.tell-in-Err-Disk.ensures.kept c.tell-in-Err-Disk.ensures.cause.is c.tell-in-Err-Disk.ensures.cause.counts,
       about c.request.result.now r c.now.result _ same refl,
       (end, refl, refl),
     )
@@ -53,8 +53,8 @@ returns-clause-responds g c = λ H ready r hand.
     let end : Ending = record { last = starving x; told = told.result } in
     let same = same_hand c.args.mouth.now.hand c.request.result.now r c.request.ensures hand in (
       ended_so c.args.mouth.now.role end,
-      responds_last _ _ H c.args.mouth.now.role x (starving x) told.result _ c.bare-in-Err-Memory.result _ _ refl refl (rw c.in-Err-Memory.field-0-is at (c.in-Err-Memory.ensures.works H ready)) (rw c.bare-in-Err-Memory.ensures refl) tt
-          c.now.ensures.told told.told c.tell_last.ensures.kept told.cause,
+      responds_last _ _ H c.args.mouth.now.role x (starving x) told.result _ c.bare-in-Err-Memory.result _ _ refl (rw c.in-Err-Memory.field-0-is at (c.in-Err-Memory.ensures.works H ready)) (rw c.bare-in-Err-Memory.ensures refl) tt
+          c.now.ensures.told told.told c.tell_last.ensures.kept told.cause.is told.cause.counts,
       about c.request.result.now r c.now.result _ same refl,
       told_step c.args.mouth.now.role (starving x) told.result c.tell_last.result refl refl told.is,
     )
