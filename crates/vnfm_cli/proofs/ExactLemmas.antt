@@ -11,9 +11,10 @@ use Rattle.journal_core.specs.Exclusion.{IsHeadedOrNot, IsWholeOrForeign, IsWhol
 use Rattle.onboarding.specs.Onboarding.{Onboarding, answer_of, unready, unheard, cut_off, heard, done, starving as no_memory, breaking, verdict_answer}
 use Rattle.onboarding.specs.Verdict.{Verdict, refused, full as no_room, accepted, verdict}
 use Rattle.lcm_events.specs.declared.events.Event.{Event}
-use Rattle.site_traits.specs.Counts.{Rose}
+use Rattle.site_traits.specs.Counts.{one_more}
 use Rattle.site_traits.specs.Door.{DoorCounts}
 use Rattle.site_traits.specs.Site.{SiteState}
+use Rattle.vnfm_cli.specs.Causes.{FailsAtDoor}
 use Rattle.vnfm_cli.specs.Course.{Course, misused, starved, making, unopened, opened, Close, finished, unreached, stopped, halted, full, starving, broken, serving, onboarding, close_ending, ending_of, onboarding_ending, unopened_failure, IsOf, IsOfSettings, IsOfWords}
 use Rattle.vnfm_cli.specs.Ending.{failure_status, status_of}
 use Rattle.vnfm_cli.specs.Runs.{AtFile, IsDoorCause, IsLegalCourse, IsNoJournal, IsOrYields, IsSoundStart, IsStartOf, MayEndWith}
@@ -27,6 +28,7 @@ use Rattle.command_line.specs.declared.options.Command.{Command}
 use Rattle.command_line.specs.declared.options.Command.TheVariants.{Init, Onboard, Once}
 use Rattle.command_line.specs.declared.options.Settings.{Settings}
 use Rattle.vnfm_cli.specs.declared.ending.Failure.TheVariants.{SiteFault, DoorFault}
+use Rattle.vnfm_cli.proofs.DiskLemmas.{one_fault}
 
 -- words set one thing
 set_once : (words : List (List ℕ)) (s t : Settings) → settings_of words ≡ Some s → settings_of words ≡ Some t → s ≡ t
@@ -218,20 +220,17 @@ same_command : (words : List (List ℕ)) (c d : Command) → AreWordsOf c words 
 same_command words c d are other = sym are.is ∙ ap (λ (s : Settings). s.command) (set_once words are.settings other.settings are.set other.set) ∙ other.is
 
 -- why the door failed for the command of these words
-pub door_cause : (command : Command) (words : List (List ℕ)) (a b : DoorCounts) → AreWordsOf command words
-    → Rose a.next b.next ⊎ (AreWordsOf Onboard words × Rose a.faults b.faults) → IsDoorCause command a b
-door_cause Init words a b are cause = ⊎_elim
-    (λ (next : Rose a.next b.next). next)
-    (λ (on : AreWordsOf Onboard words × Rose a.faults b.faults). let same = same_command words Init Onboard are on.0 in cc)
-    cause
-door_cause Onboard words a b are cause = ⊎_elim
-    (λ (next : Rose a.next b.next). inl next)
-    (λ (on : AreWordsOf Onboard words × Rose a.faults b.faults). inr on.1)
-    cause
-door_cause Once words a b are cause = ⊎_elim
-    (λ (next : Rose a.next b.next). next)
-    (λ (on : AreWordsOf Onboard words × Rose a.faults b.faults). let same = same_command words Once Onboard are on.0 in cc)
-    cause
+pub door_cause : (command : Command) (words : List (List ℕ)) (failed : Type 0) (a b : DoorCounts) → AreWordsOf command words → FailsAtDoor words failed a b → failed → IsDoorCause command a b
+door_cause Init words failed a b are fails is = ⊎_elim
+    (λ (next : b.next ≡ one_more a.next). one_fault a.next b.next next)
+    (λ (on : AreWordsOf Onboard words × (b.next ≡ a.next)). let same = same_command words Init Onboard are on.0 in cc)
+    (fails.rose is)
+door_cause Onboard words failed a b are fails is =
+    inr (one_fault a.faults b.faults ((fails.faults (λ once. let same = same_command words Onboard Once are once in cc)).0 is))
+door_cause Once words failed a b are fails is = ⊎_elim
+    (λ (next : b.next ≡ one_more a.next). one_fault a.next b.next next)
+    (λ (on : AreWordsOf Onboard words × (b.next ≡ a.next)). let same = same_command words Once Onboard are on.0 in cc)
+    (fails.rose is)
 
 -- what is known of files
 module _ (whole_unmade : IsWholeOrUnmade) (whole_foreign : IsWholeOrForeign) (headed : IsHeadedOrNot) (no_bad : HasNoBadRecord) where

@@ -15,7 +15,7 @@ use Rattle.occ_work.specs.declared.ends.Acted.{Acted}
 use Rattle.occ_work.specs.declared.ends.Turn.{Turn}
 use Rattle.site_traits.specs.Clock.{Gives}
 use Rattle.site_traits.specs.Counts.{CallCounts, OnlyDiskFails, SiteCounts}
-use Rattle.site_traits.specs.Door.{DoorCounts, Comes, ComesNot, next_failed, opened as has_come}
+use Rattle.site_traits.specs.Door.{Comes, ComesNot, next_failed, opened as has_come}
 use Rattle.site_traits.specs.Peers.{OrchestratorState}
 use Rattle.site_traits.specs.declared.door.NextAnswer.{NextAnswer}
 use Rattle.site_traits.specs.declared.door.NextAnswer.TheVariants.{Nobody, Ended}
@@ -191,12 +191,6 @@ door_end why unreached is = ap Err is
 door_end why (stopped came talk) is = ap Err is
 door_end why (halted visit turn ended cause) is = absurd is
 
--- serving a connection leaves the count of failed waits
-pub served_next : (t : Tells) (m : ℕ) (H : List Event) (talk : Talk) (n : Managed) (c : MouthState) (w v : World) → w.mouth.wire.intake.counts ≡ has_come c.wire.intake.counts
-    → Serves t m H talk n w v → v.mouth.wire.intake.counts.next ≡ c.wire.intake.counts.next
-served_next t m H talk n c w v came serves =
-    ap (λ (k : DoorCounts). k.next) serves.attends.counts ∙ serves.attends.holds.counts.next ∙ ap (λ (k : DoorCounts). k.next) came
-
 -- nobody came
 pub met_nobody : (t : Tells) (m : Managed) (H : List Event) (answer : NextAnswer) (s : SiteState) (c d : MouthState) (ks : List ℕ) → Idles t.site s → IsReady t.site m H s
     → (answer ≡ Nobody) ⊎ (answer ≡ Ended) → (t.door → ComesNot answer c.wire.intake.door d.wire.intake.door) → d.wire.intake.counts ≡ c.wire.intake.counts
@@ -233,17 +227,15 @@ round_over t asked m H role why failed (over (stopped came talk)) n w v e i told
 )
 round_over t asked m H role why failed (over (halted visit turn ended cause)) n w v e i told calls alone meets for is counts same = absurd is
 
--- The rounds so far: all were made, and none failed to reach the door.
+-- the rounds so far: all were made
 pub record RoundsSoFar (t : Tells) (asked : Type 0) (role : Role) (m n : Managed) (made : ℕ) (w v : World) (a b : Around) : Type 0 where
   pub each : (H : List Event) → IsReady t.site m H w.site → (rounds : List Round)
       × WorksWithJobs t.site m.ledger.manager H (went (life (once_made m.ledger.manager) H rounds)) n w.site v.site
       × RoundsDo t m.ledger.manager H rounds (peers_of w) (peers_of v) × TurnsDo (asking t.site asked) m.ledger.manager H rounds a b × AreFor role rounds × (made ≡ length rounds)
-  pub next : v.mouth.wire.intake.counts.next ≡ w.mouth.wire.intake.counts.next
 
 pub none_made : (t : Tells) (asked : Type 0) (role : Role) (m : Managed) (w : World) (a : Around) → Idles t.site w.site → WorksAreWithJobs t.site w.site w.site → RoundsSoFar t asked role m m 0 w w a a
 none_made t asked role m w a idles alone = record {
   each = λ H ready. ([], alone m.ledger.manager H (went H) m (idles m H ready), refl, refl, tt, refl);
-  next = refl;
 }
 
 pub ready_so_far : (t : Tells) (asked : Type 0) (role : Role) (m n : Managed) (made : ℕ) (w v : World) (a b : Around) → RoundsSoFar t asked role m n made w v a b → WorksWithJobsLeadOn t.site w.site v.site
@@ -266,8 +258,8 @@ the_end why (end c) is = (c, refl, is)
 -- one round more
 pub one_round_more : (t : Tells) (asked : Type 0) (role : Role) (m n o : Managed) (made : ℕ) (w u v : World) (a b d : Around) → RoundsSoFar t asked role m n made w u a b → WorksWithJobsLeadOn t.site w.site u.site → WorksWithJobsJoin t.site w.site u.site v.site
     → ((H : List Event) → IsReady t.site n H u.site → (one : One) × MakesOne t asked n.ledger.manager H one o u v b d × OneFor role one × IsOne (Ok tt) one)
-    → v.mouth.wire.intake.counts.next ≡ u.mouth.wire.intake.counts.next → RoundsSoFar t asked role m o (made + 1) w v a d
-one_round_more t asked role m n o made w u v a b d so_far leads joins step next = record {
+    → RoundsSoFar t asked role m o (made + 1) w v a d
+one_round_more t asked role m n o made w u v a b d so_far leads joins step = record {
   each = λ H ready.
       let it = so_far.each H ready in
       let G : List Event = life (once_made m.ledger.manager) H it.0 in
@@ -285,7 +277,6 @@ one_round_more t asked role m n o made w u v a b d so_far leads joins step next 
         (subst R r.1 did.2, it.4),
         omega (arith, count),
       );
-  next = next ∙ so_far.next;
 }
 
 -- all were made

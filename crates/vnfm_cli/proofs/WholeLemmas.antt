@@ -1,8 +1,10 @@
 -- Where no call of the door failed, a connection got all that was to be told.
-use Rattle.std.proofs.Common.{◌≡◌, ◌∙◌, ℕ, List, [], ◌++◌, false, Option, Some, None, Result, Ok, Err, ap, refl}
-use Rattle.std.specs.Result.{is_ok}
-use Rattle.lcm_api.specs.Session.{Ending as Closing, life, once_answered, replies, reply_last, said}
-use Rattle.lcm_api.specs.Talking.{IsLost, IsSaid, SaysLast, Tells}
+use Rattle.std.proofs.Common.{◌≡◌, ◌∙◌, ℕ, List, [], ◌++◌, ◌&&◌, Bool, true, false, arith, Option, Some, None, Result, Ok, Err, ap, refl}
+use Rattle.std.specs.Prelude.{is_some}
+use Rattle.std.specs.Result.{is_err}
+use Rattle.lcm_api.specs.Failing.{counts_by}
+use Rattle.lcm_api.specs.Session.{Ending as Closing, Last, over, unheard, untold, starving, breaking, counts_behind, has_reply, is_cut, is_lost, life, once_answered, replies, reply_last, said}
+use Rattle.lcm_api.specs.Talking.{IsSaid, SaysLast, Tells}
 use Rattle.lcm_api.specs.declared.door.DoorFailed.{DoorFailed}
 use Rattle.lcm_api.specs.declared.reply.Reply.{Reply}
 use Rattle.lcm_events.specs.declared.events.Event.{Event}
@@ -11,15 +13,32 @@ use Rattle.site_traits.specs.Door.{DoorCounts}
 use Rattle.vnfm_cli.specs.Laws.{AnswersAreWhole, optional_text, text_last}
 use Rattle.vnfm_cli.proofs.AnswerLemmas.{fresh_out, out_is}
 
-said_whole : (reply : Option Reply) (told : Result (Unit {0}) DoorFailed) (bytes : List ℕ) → IsSaid reply told bytes → (is_ok told ≡ false → ⊥) → bytes ≡ optional_text reply
+said_whole : (reply : Option Reply) (told : Result (Unit {0}) DoorFailed) (bytes : List ℕ) → IsSaid reply told bytes → ((is_some reply && is_err told) ≡ true → ⊥) → bytes ≡ optional_text reply
 said_whole (Some reply) (Ok done) bytes is fine = is
 said_whole None (Ok done) bytes is fine = is
-said_whole reply (Err failed) bytes is fine = absurd (fine refl)
+said_whole (Some reply) (Err failed) bytes is fine = absurd (fine refl)
+said_whole None (Err failed) bytes is fine = absurd is
 
-last_whole : (m : ℕ) (H : List Event) (closing : Option Closing) (a b : DoorCounts) (bytes : List ℕ) → SaysLast m H closing bytes → IsLost closing a b → (Rose a.faults b.faults → ⊥)
+-- something is told at an end exactly where it has a reply
+replied : (m : ℕ) (H : List Event) (last : Last) → has_reply last ≡ is_some (reply_last m H last)
+replied m H over = refl
+replied m H (unheard cause reply) = refl
+replied m H (untold x) = refl
+replied m H (starving x) = refl
+replied m H (breaking x) = refl
+
+-- what was lost is counted
+lost_rose : (cut lost : Bool) (a b : DoorCounts) → b ≡ counts_by lost (counts_by cut a) → lost ≡ true → Rose a.faults b.faults
+lost_rose cut false a b is lost = absurd (cc lost)
+lost_rose true true a b is lost = rw is (omega arith)
+lost_rose false true a b is lost = rw is (omega arith)
+
+last_whole : (m : ℕ) (H : List Event) (closing : Option Closing) (a b : DoorCounts) (bytes : List ℕ) → SaysLast m H closing bytes → b ≡ counts_behind closing a → (Rose a.faults b.faults → ⊥)
     → bytes ≡ text_last m H closing
-last_whole m H None a b bytes is lost fine = is
-last_whole m H (Some closing) a b bytes is lost fine = said_whole (reply_last m H closing.last) closing.told bytes is (λ failed. fine (lost failed))
+last_whole m H None a b bytes is counts fine = is
+last_whole m H (Some closing) a b bytes is counts fine =
+    said_whole (reply_last m H closing.last) closing.told bytes is
+    (λ lost. fine (lost_rose (is_cut closing.last) (is_lost closing) a b counts (rw (replied m H closing.last) lost)))
 
 pub whole_answer : (t : Tells) → AnswersAreWhole t
 whole_answer t m H came talk a b receives told fine =
@@ -28,7 +47,7 @@ whole_answer t m H came talk a b receives told fine =
     let fresh : receives.between.wire.intake.door.conn.out ≡ [] = fresh_out came _ _ (receives.comes told) in
     let before : receives.between.wire.intake.counts.faults ≡ a.mouth.wire.intake.counts.faults = ap (λ (k : DoorCounts). k.faults) receives.counts in
     let behind : b.mouth.wire.intake.counts.faults ≡ attends.between.wire.intake.counts.faults = ap (λ (k : DoorCounts). k.faults) attends.counts in
-    let final = last_whole m (life (once_answered m) H talk.asks) talk.end receives.between.wire.intake.counts attends.between.wire.intake.counts speaks.final speaks.final_is attends.holds.lost
+    let final = last_whole m (life (once_answered m) H talk.asks) talk.end receives.between.wire.intake.counts attends.between.wire.intake.counts speaks.final speaks.final_is attends.holds.faults
     (λ rose. fine (rw (← before, behind) rose)) in
     record {
       out = out_is _ attends.between.wire.intake.door b.mouth.wire.intake.door (attends.gone told) ∙ speaks.door.out ∙ ap (λ (t : List ℕ). t ++ (said (replies m H talk.asks) ++ speaks.final)) fresh

@@ -3,21 +3,28 @@ use Rattle.std.specs.Prelude.{◌≡◌, ◌⊎◌, ◌↔◌, ℕ, List, None}
 use Rattle.executor.specs.Open.{IsBadRecord}
 use Rattle.journal_core.specs.Header.{IsUnfinished}
 use Rattle.lcm_api.specs.Talking.{World}
-use Rattle.site_traits.specs.Counts.{CallCounts, Rose}
+use Rattle.site_traits.specs.Counts.{CallCounts, Rose, one_more}
+use Rattle.site_traits.specs.Door.{DoorCounts}
 use Rattle.vnfm_cli.specs.Ending.{IsStatus}
 use Rattle.vnfm_cli.specs.Runs.{IsNoJournal, IsOrYields}
 use Rattle.command_line.specs.Words.{settings_of}
 use Rattle.vnfm_cli.specs.Words.{AreInit, AreLoading, AreWordsOf}
 use Rattle.command_line.specs.declared.options.Command.TheVariants.{Onboard, Once}
 
--- Each status has its cause: 2 comes exactly where the words are no command; 4, 7, 9 and 10 only where waiting for a connection or a read of
--- a descriptor failed, where the line couldn't be put, for `onboard` or `once`, and for `onboard`; and where the site tells, 5 exactly where the file that is to be
+-- Where this holds of a run of these words a wait for a connection failed, and is counted once, or for `onboard` a read of one; else no wait failed.
+-- But for the talks of `once` no other call of the door failed, and one that did is counted once.
+pub record FailsAtDoor (words : List (List ℕ)) (failed : Type 0) (a b : DoorCounts) : Type 0 where
+  pub rose : failed → (b.next ≡ one_more a.next) ⊎ (AreWordsOf Onboard words × (b.next ≡ a.next))
+  pub stays : ¬ failed → b.next ≡ a.next
+  pub faults : ¬ (AreWordsOf Once words) → (failed → b.faults ≡ one_more a.faults) × (¬ failed → b.faults ≡ a.faults)
+
+-- Each status has its cause: 2 comes exactly where the words are no command; 4 exactly where waiting for a connection or a read of a descriptor
+-- failed; 7, 9 and 10 only where the line couldn't be put, for `onboard` or `once`, and for `onboard`; and where the site tells, 5 exactly where the file that is to be
 -- opened is no journal, 8 exactly where one of its records is bad, and 11 exactly where the file isn't unfinished for the manager of
 -- `init`, but that each of these yields to a disk fault and to want of memory.
 pub record HasCauses (tells : Type 0) (words : List (List ℕ)) (status : ℕ) (w v : World) (before now : CallCounts) : Type 0 where
   pub usage : (status ≡ 2) ↔ (settings_of words ≡ None)
-  pub door : status ≡ 4 → Rose w.mouth.wire.intake.counts.next v.mouth.wire.intake.counts.next
-      ⊎ (AreWordsOf Onboard words × Rose w.mouth.wire.intake.counts.faults v.mouth.wire.intake.counts.faults)
+  pub door : FailsAtDoor words (status ≡ 4) w.mouth.wire.intake.counts v.mouth.wire.intake.counts
   pub sink : status ≡ 7 → Rose before.faults now.faults
   pub journal : tells → status ≡ 5 → IsNoJournal w.site.image
   pub no_journal : tells → AreLoading words → IsNoJournal w.site.image → IsOrYields 5 status

@@ -13,15 +13,20 @@ use Rattle.occ_work.specs.Around.{DiskFails}
 use Rattle.site_traits.specs.Counts.{CallCounts, Rose, SiteCounts, one_more}
 use Rattle.site_traits.specs.Site.{Pair, SiteState}
 use Rattle.vnfm_cli.specs.Course.{Course, ending_of}
+use Rattle.vnfm_cli.specs.DoorFaults.{AreCounted, door_faults}
 use Rattle.vnfm_cli.specs.Ending.{Ending, Ends}
 use Rattle.vnfm_cli.specs.Headline.{IsLeftWith, IsSoundBeginning, IsSoundPair}
 use Rattle.vnfm_cli.specs.Rounds.{Receives}
-use Rattle.vnfm_cli.specs.Runs.{Runs}
+use Rattle.vnfm_cli.specs.Runs.{AtPeers, Runs}
 use Rattle.vnfm_cli.specs.Words.{AreInit}
 
 -- where the count of disk faults is greater behind a run, its status is 3
 abbrev pub DiskFaultsAreTold : Type 0
 DiskFaultsAreTold = (status : ℕ) (a b : SiteCounts) → DiskFails (status ≡ 3) a b → a.disk < b.disk → status ≡ 3
+
+-- a run counts each call of the door that failed in it as one fault, and nothing else
+abbrev pub DoorFaultsAreCounted : Tells → Type 0
+DoorFaultsAreCounted t = (course : Course) (a b : Peers) → AtPeers t course a b → AreCounted (door_faults course) a.mouth.wire.intake.counts b.mouth.wire.intake.counts
 
 -- a run puts one line
 abbrev pub OneLineIsPut : Type 0 → Type 0

@@ -1,5 +1,6 @@
 pub mod Causes
 pub mod Course
+pub mod DoorFaults
 pub mod Ending
 pub mod Headline
 pub mod Laws

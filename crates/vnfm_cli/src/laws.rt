@@ -1,7 +1,7 @@
 //! What holds of every run, as contracts of calls that do nothing.
 ghost use Rattle.lcm_api.specs.Talking.{telling};
 ghost use Rattle.vnfm_cli.specs.Headline.{SoundJobsMakeSoundPairs};
-ghost use Rattle.vnfm_cli.specs.Laws.{AnswersAreWhole, DiskFaultsAreTold, InitMakes, LivesGoOn, MadeJournalsBeginSoundly, OneLineIsPut};
+ghost use Rattle.vnfm_cli.specs.Laws.{AnswersAreWhole, DiskFaultsAreTold, DoorFaultsAreCounted, InitMakes, LivesGoOn, MadeJournalsBeginSoundly, OneLineIsPut};
 
 use lcm_jobs::{
     changes_stand_at_most_once, completed_stands_once, idle_instances_have_no_job_standing,
@@ -14,6 +14,13 @@ use site_traits::{Clock, Door, Sink, Site};
 /// Source: own rule, docs/FORMATS.md.
 pub fn disk_faults_are_told()
     ensures { DiskFaultsAreTold }
+{}
+
+/// The door's counts are those before a run, with one fault more for each call of the door that failed in its course, and no other.
+///
+/// Source: own rule, docs/FORMATS.md.
+pub fn door_faults_are_counted<S: Site, D: Door, K: Clock>()
+    ensures { DoorFaultsAreCounted (telling S.tells D.tells K.tells) }
 {}
 
 /// A run puts one line, whatever its words.

@@ -6,7 +6,7 @@ ghost use Rattle.lcm_events.specs.declared.events.Event.{Event};
 ghost use Rattle.occ_work.specs.Around.{DiskFails, outside, telling as asking};
 ghost use Rattle.occ_work.specs.Turns.{TurnEnd, Turns};
 ghost use Rattle.site_traits.specs.Clock.{Gives};
-ghost use Rattle.site_traits.specs.Counts.{OnlyDiskFails, Rose};
+ghost use Rattle.site_traits.specs.Counts.{OnlyDiskFails};
 ghost use Rattle.vnfm_cli.specs.Course.{IsCount, Service, Turning, close_ending, halt_of, halting, moment_of};
 ghost use Rattle.vnfm_cli.specs.Rounds.{IsMet, IsOne, Makes, MakesOne, Meets, Met, MetFor, One, OneFor, IsTurned, beside};
 
@@ -42,7 +42,6 @@ pub fn make_rounds<S: Site, D: Door, O: Orchestrator, K: Clock>(
         (beside (S.state site.old) (S.counts site.old) (O.state orchestrator.old) (O.counts orchestrator.old)) (beside (S.state site.new) (S.counts site.new) (O.state orchestrator.new) (O.counts orchestrator.new))
         × (service.role ≡ role) × IsCount count (length service.rounds) service.close × (result ≡ close_ending (length service.rounds) service.close) }
     ensures disk { DiskFails (result ≡ Err Failure.SiteFault) (S.counts site.old) (S.counts site.new) }
-    ensures door { result ≡ Err Failure.DoorFault → Rose mouth.old.wire.intake.counts.next mouth.new.wire.intake.counts.next }
 {
     works_add_up::<S>();
     works_with_jobs_add_up::<S>();
@@ -73,8 +72,6 @@ fn make_round<S: Site, D: Door, O: Orchestrator, K: Clock>(
         (beside (S.state site.old) (S.counts site.old) (O.state orchestrator.old) (O.counts orchestrator.old)) (beside (S.state site.new) (S.counts site.new) (O.state orchestrator.new) (O.counts orchestrator.new))
         × OneFor role one × IsOne result one }
     ensures disk { DiskFails (result ≡ Err Failure.SiteFault) (S.counts site.old) (S.counts site.new) }
-    ensures next { result ≢ Err Failure.DoorFault → mouth.new.wire.intake.counts.next ≡ mouth.old.wire.intake.counts.next }
-    ensures door { result ≡ Err Failure.DoorFault → Rose mouth.old.wire.intake.counts.next mouth.new.wire.intake.counts.next }
 {
     works_add_up::<S>();
     works_with_jobs_add_up::<S>();
@@ -99,8 +96,6 @@ fn meet<S: Site, D: Door, K: Clock>(
         (world (S.state site.old) mouth.old (K.state clock.old)) (world (S.state site.new) mouth.new (K.state clock.new))
         × MetFor role met × IsMet result met }
     ensures disk { OnlyDiskFails (result ≡ Err Failure.SiteFault) (S.counts site.old) (S.counts site.new) }
-    ensures next { result ≢ Err Failure.DoorFault → mouth.new.wire.intake.counts.next ≡ mouth.old.wire.intake.counts.next }
-    ensures door { result ≡ Err Failure.DoorFault → Rose mouth.old.wire.intake.counts.next mouth.new.wire.intake.counts.next }
     ensures untouched { result ≡ Err Failure.DoorFault → site.new ≡ site.old }
 {
     works_add_up::<S>();
@@ -129,7 +124,6 @@ fn take_turn<S: Site, O: Orchestrator, K: Clock>(
         (outside (S.state site.old) (S.counts site.old) (O.state orchestrator.old) (O.counts orchestrator.old)) (outside (S.state site.new) (S.counts site.new) (O.state orchestrator.new) (O.counts orchestrator.new))
         × (K.tells → Gives turning.value (K.state clock.old) (K.state clock.new)) × IsTurned result end }
     ensures disk { DiskFails (result ≡ Err Failure.SiteFault) (S.counts site.old) (S.counts site.new) }
-    ensures door { result ≢ Err Failure.DoorFault }
 {
     let now = Moment::of(clock.now());
     match turn(alloc, manager, site, orchestrator, now) {

@@ -1,5 +1,5 @@
 //! The top call: one command over the objects that it is handed.
-ghost use Rattle.std.specs.Prelude.{◌≡◌, ◌≢◌, ◌⊎◌, ◌↔◌, ℕ, List, None, Result, true};
+ghost use Rattle.std.specs.Prelude.{◌≡◌, ◌≢◌, ◌↔◌, ℕ, List, None, Result, true};
 ghost use Rattle.journal_core.specs.Create.{Creates};
 ghost use Rattle.journal_core.specs.declared.create.CreateFault.{CreateFault};
 ghost use Rattle.lcm_events.specs.declared.events.Event.{Event};
@@ -17,7 +17,7 @@ ghost use Rattle.vnfm_cli.specs.Runs.{Deeds, Does, IsDoorCause, IsStartOf, MayEn
 ghost use Rattle.command_line.specs.Words.{settings_of};
 ghost use Rattle.vnfm_cli.specs.Words.{AreInit, AreWordsOf, loads};
 ghost use Rattle.command_line.specs.declared.options.Command.{Command};
-ghost use Rattle.command_line.specs.declared.options.Command.TheVariants.{Onboard, Once};
+ghost use Rattle.command_line.specs.declared.options.Command.TheVariants.{Once};
 
 use crate::ending::{Ending, Failure, Report, finish};
 use crate::laws::sound_jobs_make_sound_pairs;
@@ -52,7 +52,7 @@ use vnfm_base::Text;
 /// The orchestrator and the infrastructure are asked by `once` alone, the courier isn't asked yet, and `--orchestrator` and `--vim` are used
 /// by nothing.
 /// Statuses: 0 the command did its work; 2 the words are no command; 3 exactly where a disk call failed, in an act too, after which no other
-/// is made; 4 waiting for a connection failed, or a read of a descriptor; 5 the file is no journal; 6 there is no memory; 7 the line of
+/// is made; 4 exactly where waiting for a connection failed, or a read of a descriptor; 5 the file is no journal; 6 there is no memory; 7 the line of
 /// status 0 couldn't be put; 8 a record is bad; 9 the journal has no room for the descriptor, or for an event of an act; 10 the descriptor is
 /// refused; 11 the file isn't unfinished for the manager of `init`. After 2, 5, 8, 10 and 11 the file is as it was; after 4, 6 and 9 too, but
 /// that what `once` acknowledged, and what its acts recorded, stand. A call of the orchestrator or the infrastructure that failed gives no
@@ -112,7 +112,6 @@ fn obey<S: Site, D: Door, O: Orchestrator, K: Clock>(
     ensures usage { (result ≡ Err Failure.Usage) ↔ (settings_of words.now ≡ None) }
     ensures disk { DiskFails (result ≡ Err Failure.SiteFault) (S.counts site.old) (S.counts site.new) }
     ensures untouched_jobs { ¬ (AreWordsOf Once words.now) → CountJobsAlike (S.counts site.old) (S.counts site.new) }
-    ensures door { result ≡ Err Failure.DoorFault → Rose mouth.old.wire.intake.counts.next mouth.new.wire.intake.counts.next ⊎ (AreWordsOf Onboard words.now × Rose mouth.old.wire.intake.counts.faults mouth.new.wire.intake.counts.faults) }
 {
     works_add_up::<S>();
     let settings = settings(alloc, words)?;
@@ -135,7 +134,6 @@ fn perform<S: Site, D: Door, O: Orchestrator, K: Clock>(
     ensures unasked { settings.now.command ≢ Once → orchestrator.new ≡ orchestrator.old }
     ensures disk { DiskFails (result ≡ Err Failure.SiteFault) (S.counts site.old) (S.counts site.new) }
     ensures untouched_jobs { settings.now.command ≢ Once → CountJobsAlike (S.counts site.old) (S.counts site.new) }
-    ensures door { result ≡ Err Failure.DoorFault → IsDoorCause settings.now.command mouth.old.wire.intake.counts mouth.new.wire.intake.counts }
 {
     match settings.command {
         Command::Init => init(settings.manager, site),
@@ -149,7 +147,6 @@ fn init<S: Site>(manager: u32, site: &mut S) -> Ending
     ensures makes { (making : Result (Unit {0}) CreateFault) × (S.tells → Creates manager making (S.state site.old) (S.state site.new)) × (result ≡ making_ending manager making) }
     ensures jobs { S.tells → KeepsJobs (S.state site.old) (S.state site.new) }
     ensures disk { OnlyDiskFails (result ≡ Err Failure.SiteFault) (S.counts site.old) (S.counts site.new) }
-    ensures door { result ≢ Err Failure.DoorFault }
 {
     faults_are_counted();
     Journal::create(site, manager)?;
@@ -173,7 +170,6 @@ fn open<S: Site, D: Door, O: Orchestrator, K: Clock>(
     ensures unasked { settings.now.command ≢ Once → orchestrator.new ≡ orchestrator.old }
     ensures disk { DiskFails (result ≡ Err Failure.SiteFault) (S.counts site.old) (S.counts site.new) }
     ensures untouched_jobs { settings.now.command ≢ Once → CountJobsAlike (S.counts site.old) (S.counts site.new) }
-    ensures door { result ≡ Err Failure.DoorFault → IsDoorCause settings.now.command mouth.old.wire.intake.counts mouth.new.wire.intake.counts }
 {
     works_add_up::<S>();
     works_with_jobs_add_up::<S>();
@@ -209,7 +205,6 @@ fn work<S: Site, D: Door, O: Orchestrator, K: Clock>(
     ensures unasked { settings.now.command ≢ Once → orchestrator.new ≡ orchestrator.old }
     ensures disk { DiskFails (result ≡ Err Failure.SiteFault) (S.counts site.old) (S.counts site.new) }
     ensures untouched_jobs { settings.now.command ≢ Once → CountJobsAlike (S.counts site.old) (S.counts site.new) }
-    ensures door { result ≡ Err Failure.DoorFault → IsDoorCause settings.now.command mouth.old.wire.intake.counts mouth.new.wire.intake.counts }
 {
     match settings.command {
         Command::Init => unreachable!(),

@@ -5,7 +5,7 @@ use Rattle.site_traits.specs.Counts.{fails_as}
 use Rattle.site_traits.specs.declared.door.NextAnswer.TheVariants.{Nobody, Ended}
 use Rattle.vnfm_cli.specs.Course.{served, stopped, unasked, unreached}
 use Rattle.vnfm_cli.specs.Rounds.{visited, over}
-use Rattle.vnfm_cli.proofs.RoundLemmas.{met_nobody, met_served, met_stopped, met_unreached, served_next}
+use Rattle.vnfm_cli.proofs.RoundLemmas.{met_nobody, met_served, met_stopped, met_unreached}
 use Rattle.vnfm_cli.proofs.rounds.meet.Goals as goal
 
 pub returns-in-Ok-clause-meets : goal.returns-in-Ok-clause-meets
@@ -18,11 +18,6 @@ returns-in-Ok-clause-meets g c = λ H ready.
       tt,
     )
 
-pub returns-in-Ok-clause-next : goal.returns-in-Ok-clause-next
-returns-in-Ok-clause-next g c = λ made.
-    let it = c.in-Ok.ensures.serves c.requires.ready.0 c.requires.ready.1 in
-    served_next _ _ c.requires.ready.0 it.0 _ c.args.mouth.now _ _ c.in-Came.ensures.cause it.1
-
 pub returns-in-Err-clause-meets : goal.returns-in-Err-clause-meets
 returns-in-Err-clause-meets g c = λ H ready.
     let it = c.in-Err.ensures.serves H ready in
@@ -32,11 +27,6 @@ returns-in-Err-clause-meets g c = λ H ready.
       it.2,
       refl,
     )
-
-pub returns-in-Err-clause-next : goal.returns-in-Err-clause-next
-returns-in-Err-clause-next g c = λ made.
-    let it = c.in-Err.ensures.serves c.requires.ready.0 c.requires.ready.1 in
-    served_next _ _ c.requires.ready.0 it.0 _ c.args.mouth.now _ _ c.in-Came.ensures.cause it.1
 
 pub returns-in-Nobody-clause-meets : goal.returns-in-Nobody-clause-meets
 returns-in-Nobody-clause-meets g c = λ H ready. (

@@ -3,6 +3,7 @@ use Rattle.std.proofs.Common.{◌∙◌, ℕ, ap, subst, sym, arith}
 use Rattle.vnfm_cli.specs.Ending.{status_of}
 use Rattle.vnfm_cli.specs.Runs.{MayEndWith}
 use Rattle.vnfm_cli.proofs.DiskLemmas.{disk_as, lost_line, one_fault}
+use Rattle.vnfm_cli.proofs.DoorLemmas.{course_fails, fails_with}
 use Rattle.vnfm_cli.proofs.EndingLemmas.{is_status, put_result, seven_lost, status_result, status_told, told_by, told_same, yields_result}
 use Rattle.vnfm_cli.proofs.ExactLemmas.{bad_record_ending, complete_ending, door_cause, no_journal_ending, taken_ending, told_bad_record, told_full, told_no_journal, told_refused, told_taken}
 use Rattle.vnfm_cli.proofs.HeadlineLemmas.{leaves_fresh, leaves_sound}
@@ -16,7 +17,10 @@ returns-clause-causes g c =
         (λ two. c.obey-ending.ensures.usage.0 ((told_by _).usage (status_told _ _ 2 (sym c.finish.ensures.status_is ∙ two) (omega arith)))),
         (λ none. c.finish.ensures.status_is ∙ told_same _ _ 2 (ap status_of (c.obey-ending.ensures.usage.1 none)) (omega arith)),
       );
-      door = λ four. c.obey-ending.ensures.door ((told_by _).door (status_told _ _ 4 (sym c.finish.ensures.status_is ∙ four) (omega arith)));
+      door = fails_with _ _ _ _ _
+          (λ is. c.finish.ensures.status_is ∙ told_same _ _ 4 (ap status_of (runs.3 ∙ is)) (omega arith))
+          (λ four. sym runs.3 ∙ (told_by _).door (status_told _ _ 4 (sym c.finish.ensures.status_is ∙ four) (omega arith)))
+          (course_fails _ _ runs.0 _ _ runs.1.words_are runs.1.does.peers);
       only = rw c.finish.ensures.status_is (is_status c.finish.ensures.put _);
       journal = λ tells five. told_no_journal runs.0 (g.S.Site.state c.args.site.now) (g.S.Site.state c.obey-ending.new.site) (runs.1.does.site tells) (status_result 5 _ _ _ _ c.finish.ensures.status_is runs.3 (omega arith) five);
       no_journal = λ tells are none. yields_result 5 _ _ _ _ c.finish.ensures.status_is runs.3 (omega arith) (no_journal_ending c.files_are_one_thing.ensures.unmade c.files_are_one_thing.ensures.foreign c.files_are_one_thing.ensures.headed c.a_legal_history_has_no_bad_record.ensures runs.0 c.args.words.now (g.S.Site.state c.args.site.now) (g.S.Site.state c.obey-ending.new.site) are runs.1.words_are (runs.1.does.site tells) none);
@@ -36,7 +40,7 @@ returns-clause-complete g c = λ tells command are start disk door sink.
     subst P (sym (put_result _ _ _ _ c.finish.ensures.status_is runs.3 (λ lost. sink (lost_line _ _ _ c.finish.ensures.counts lost))))
     (complete_ending c.files_are_one_thing.ensures.unmade c.files_are_one_thing.ensures.foreign c.files_are_one_thing.ensures.headed c.a_legal_history_has_no_bad_record.ensures command runs.0 c.args.words.now (g.S.Site.state c.args.site.now) (g.S.Site.state c.obey-ending.new.site) are start runs.1.words_are (runs.1.does.site tells)
     (λ fault. disk (one_fault _ _ (c.obey-ending.ensures.disk.rose (runs.3 ∙ fault))))
-    (λ fault. door (door_cause command c.args.words.now _ _ are (c.obey-ending.ensures.door (runs.3 ∙ fault)))))
+    (λ fault. door (door_cause command c.args.words.now _ _ _ are (course_fails _ _ runs.0 _ _ runs.1.words_are runs.1.does.peers) fault)))
 
 pub returns-clause-site : goal.returns-clause-site
 returns-clause-site g c =
