@@ -4,4 +4,6 @@
 #[cfg(test)]
 mod events;
 #[cfg(test)]
+mod many;
+#[cfg(test)]
 mod posts;

@@ -27,8 +27,8 @@ fn follow_event(
     Ok(())
 }
 
-/// Lets the table follow a step about instance 1 or 2, or about none, at this place.
-fn follow(
+/// Lets the table follow a step about an instance, or about none, at this place.
+pub fn follow(
     table: &mut NoticeTable,
     rt: &impl Abort,
     alloc: Global,
@@ -42,7 +42,7 @@ fn follow(
     match notice_of(rt, step) {
         Some(notice) => {
             let instance = notice.instance;
-            assert!(rt; instance == 1 || instance == 2);
+            assert!(rt; instance >= 1 && instance <= 1_000);
             follow_event(table, alloc, place, &event, Some(&notice))
         }
         None => follow_event(table, alloc, place, &event, None),
