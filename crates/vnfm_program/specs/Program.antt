@@ -169,8 +169,7 @@ module _ {N H F K L E : Type 0} where
     pub set : settings_of words ≡ Some settings
     pub streams : g.device_tells → AreStreamsTaken (g.numbers b.device)
     pub starves : Starves g.errors_tells status (g.errors a.errors) (g.errors b.errors)
-    pub counts : counts_of b.site ≡ counts_of a.site
-    pub kept : b ≡ record a { device = b.device; files = b.files; site = b.site; errors = b.errors }
+    pub kept : b ≡ record a { device = b.device; files = b.files; errors = b.errors }
 
   -- a page was printed to standard output, and nothing else was done
   pub record IsPrinted (g : Meaning N H F K L E) (page : Page) (status : ℕ) (a b : Objects N H F K L E) : Type 0 where
