@@ -17,7 +17,7 @@ use Rattle.onboarding.specs.declared.answer.OnboardFault.TheVariants as fault
 use Rattle.onboarding.specs.declared.hearing.Unheard.{Unheard}
 use Rattle.onboarding.specs.declared.hearing.Unheard.TheVariants.{Waiting, Reading}
 use Rattle.site_traits.specs.Clock.{Gives}
-use Rattle.site_traits.specs.Door.{Conn, DoorCounts, DoorState, Comes, ConnIs, HangsUp, closed, opened}
+use Rattle.site_traits.specs.Door.{Conn, DoorState, Comes, ConnIs, HangsUp, closed, opened}
 use Rattle.site_traits.specs.Site.{SiteState}
 
 heard_out : (n : ℕ) (failed : Bool) (c : Conn) → (heard_of n failed c).out ≡ c.out
