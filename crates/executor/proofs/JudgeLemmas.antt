@@ -4,7 +4,9 @@ use Rattle.std.specs.List.{AllByRecursion}
 use Rattle.event_codec.specs.Valid.{IsEvent}
 use Rattle.journal_core.specs.File.{size}
 use Rattle.journal_core.specs.Room.{Adds, AddsUp, TakesMore}
-use Rattle.journal_core.specs.Load.{Progress, IsBegun, Loads, LoadsAll, ReadsOn}
+use Rattle.journal_core.specs.Load.{Finds, Grows, Progress, IsBegun, Loads, LoadsAll, ReadsOn}
+use Rattle.journal_core.specs.declared.loading.Found.{Found}
+use Rattle.journal_core.specs.declared.loading.Found.TheVariants as found
 use Rattle.journal_core.specs.declared.journal.TheConstants.{MAX_FILE}
 use Rattle.instance_table.specs.Rows.{Rows}
 use Rattle.lcm_events.specs.declared.events.Event.{Event}
@@ -148,6 +150,12 @@ all_judged tells j l k a b way manager count end ends =
       judged = record { tables = rw manager is.tables; legal = rw manager is.legal; events = is.events; count = λ none. count ∙ is.count none; end = λ none. end ∙ is.end none };
       all = λ told. let so_far = way.so_far told in record { rs = so_far.rs; loads = ends told so_far.rs so_far.loads; judged = rw manager so_far.judged };
     }
+
+-- all that were found were judged
+pub through : (tells : Type 0) (j : Judged) (answer : Found) (l k : Progress) (a b : SiteState) → IsUnderWay tells j l a → (answer ≡ found.Record → ⊥)
+    → Grows (Ok answer) l k → (tells → (rs : List (List ℕ)) → Loads rs l a → Finds rs (Ok answer) k b) → IsThrough tells j k b
+through tells j found.Record l k a b way other grows finds = absurd (other refl)
+through tells j found.End l k a b way other grows finds = all_judged tells j l k a b way grows.manager grows.count grows.end finds
 
 -- there was no memory to judge it
 pub judges_starved : (r : Result Judged OpenFault) (rs : List (List ℕ)) (l : Progress) (a b : SiteState) → IsErrAnd r (λ why. why ≡ opening.Memory) → Loads rs l b → Reads a b → JudgesAll r l a b

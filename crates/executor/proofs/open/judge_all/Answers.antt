@@ -2,7 +2,7 @@
 use Rattle.std.proofs.Common.{◌∙◌, refl, rules}
 use Rattle.site_traits.specs.Moments.{reads-refl, reads-then}
 use Rattle.executor.proofs.FaultLemmas.{err_is, next_failed}
-use Rattle.executor.proofs.JudgeLemmas.{judges_starved, none_judged, small_so_far, step_on}
+use Rattle.executor.proofs.JudgeLemmas.{judges_starved, none_judged, small_so_far, step_on, through}
 use Rattle.executor.proofs.open.judge_all.Goals as goal
 
 pub loop-judged-init : goal.loop-judged-init
@@ -46,6 +46,10 @@ returns-in_err-next-clause-told g c = λ tells.
       finds = search rules;
       reads = reads-then _ _ _ (c.loop-judged.invariant.reads tells) (c.next.ensures.told tells);
     }
+
+pub returns-clause-judged : goal.returns-clause-judged
+returns-clause-judged g c =
+    through _ _ _ _ _ _ _ c.loop-judged.invariant.judged c.in_default.not-Record c.in_ok-next.ensures.grown c.in_ok-next.ensures.found
 
 pub returns-clause-told : goal.returns-clause-told
 returns-clause-told g c = λ tells. record { finds = tt; reads = reads-then _ _ _ (c.loop-judged.invariant.reads tells) (c.next.ensures.told tells) }
