@@ -1,18 +1,20 @@
 //! What becomes of a descriptor that was heard: it is read, judged by the history, and its event is recorded.
 ghost use Rattle.std.specs.Prelude.{◌≡◌, ℕ, List, length};
-ghost use Rattle.executor.specs.Managed.{IsReady, Keeps};
-ghost use Rattle.executor.specs.Work.{Works};
+ghost use Rattle.executor.specs.Managed.{IsReady, Keeps, MayRecord};
+ghost use Rattle.executor.specs.Room.{TellsRoom};
+ghost use Rattle.executor.specs.Work.{Works, recorded};
 ghost use Rattle.lcm_events.specs.declared.events.Event.{Event};
 ghost use Rattle.lcm_events.specs.declared.events.EventKind.TheVariants.{Onboarded as OnboardedKind};
 ghost use Rattle.lcm_model.specs.Descriptors.{IsValid};
 ghost use Rattle.onboarding.specs.Judging.{Judges, JudgesNew};
 ghost use Rattle.onboarding.specs.Onboarding.{ended_by, judged_answer, worked};
 ghost use Rattle.onboarding.specs.Verdict.{onboarded, verdict};
+ghost use Rattle.journal_core.specs.declared.journal.TheConstants.{MAX_FILE};
 ghost use Rattle.site_traits.specs.Counts.{OnlyDiskFails};
 
 use crate::answer::{DescriptorRefusal, OnboardFault, Onboarded};
 use crate::limits::MAX_DESCRIPTORS;
-use executor::{Manager, works_add_up};
+use executor::{Manager, WorkFault, works_add_up};
 use journal_core::MAX_FILE;
 use lcm_events::{Event, EventKind, Vnfd};
 use site_traits::Site;
@@ -38,10 +40,26 @@ pub fn take_in<S: Site>(
     let vnfd = judge(alloc, manager, bytes)?;
     let said = said_of(&vnfd);
     let event = onboarding(now, vnfd);
-    let recorded = manager.commit(alloc, site, &event, MAX_FILE);
+    let recorded = record_event(alloc, manager, site, &event);
     drop(event);
     recorded?;
     Ok(said)
+}
+
+/// Records the event of a descriptor, which may take the journal to the end of its file.
+fn record_event<S: Site>(
+    alloc: Global,
+    manager: &mut Manager<S>,
+    site: &mut S,
+    event: &Event,
+) -> Result<(), WorkFault>
+    requires { (H : List Event) × IsReady S.tells manager.old H (S.state site.old) × MayRecord manager.old.ledger.manager H event.now }
+    ensures works { (H : List Event) → IsReady S.tells manager.old H (S.state site.old) → MayRecord manager.old.ledger.manager H event.now
+        → Works S.tells manager.old.ledger.manager H (recorded H event.now result) manager.new (S.state site.old) (S.state site.new) }
+    ensures room { (H : List Event) → Keeps manager.old H → TellsRoom MAX_FILE H event.now result }
+    ensures disk { OnlyDiskFails (result ≡ Err WorkFault.Disk) (S.counts site.old) (S.counts site.new) }
+{
+    manager.commit(alloc, site, event, MAX_FILE)
 }
 
 /// The descriptor of these bytes, where it may be onboarded.

@@ -7,8 +7,8 @@ use Rattle.onboarding.specs.declared.answer.OnboardFault.{OnboardFault}
 use Rattle.onboarding.proofs.VerdictLemmas.{err_is, may_record, recorded_done, recorded_not, works_as}
 use Rattle.onboarding.proofs.judge.take_in.Goals as goal
 
-pub commit-recorded-requires-clause-may : goal.commit-recorded-requires-clause-may
-commit-recorded-requires-clause-may g c =
+pub record_event-recorded-requires : goal.record_event-recorded-requires
+record_event-recorded-requires g c =
     let ready = c.requires.ready in
     (ready.0, ready.1, may_record _ _ c.args.now c.in_ok-vnfd.vnfd _ c.onboarding-event.ensures (c.in_ok-vnfd.ensures.judged ready.0 ready.1.keeps).1)
 
