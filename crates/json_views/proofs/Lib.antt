@@ -3,6 +3,7 @@ mod ListLemmas
 mod MomentLemmas
 mod OccurrenceLemmas
 mod OccurrenceLists
+mod PathLemmas
 mod RangeLemmas
 mod ShowLaws
 pub mod TextLemmas

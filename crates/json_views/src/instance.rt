@@ -3,6 +3,7 @@ ghost use Rattle.std.specs.Prelude.{◌≡◌, ◌++◌, codes, string_bytes, If
 ghost use Rattle.serde_json.specs.View.{view, members_view};
 ghost use Rattle.serde_json.specs.Data.{object, string};
 ghost use Rattle.vnfm_base.specs.Ident.{IsIdentNumber, ident, ident_text};
+ghost use Rattle.vnfm_base.specs.Text.{IsLine};
 ghost use Rattle.held_items.specs.Items.{AreInOrder};
 ghost use Rattle.instance_table.specs.Rows.{row_with, unheld};
 ghost use Rattle.json_views.specs.Instance.{created_text, instance_id, instance_path, instance_text, instance_value, instantiation_state};
@@ -50,7 +51,8 @@ pub fn identifier(alloc: Global, manager: u32, kind: Kind, n: u64) -> Result<Str
 #[tactic(auto, unfolding(crate::specs::Instance::instance_path))]
 pub fn instance_path(alloc: Global, manager: u32, n: u64) -> Result<String, AllocError>
     requires { IsIdentNumber n }
-    ensures { IfOk result (λ path. string_bytes path ≡ instance_path manager n) }
+    ensures path { IfOk result (λ path. string_bytes path ≡ instance_path manager n) }
+    ensures line { IfOk result (λ path. IsLine (string_bytes path)) }
 {
     let id = instance_id(alloc, manager, n)?;
     let mut path = String::from_str(alloc, "/vnflcm/v1/vnf_instances/")?;

@@ -3,6 +3,7 @@ ghost use Rattle.std.specs.Prelude.{◌≡◌, List, codes, string_bytes, IfOk, 
 ghost use Rattle.serde_json.specs.View.{view, members_view};
 ghost use Rattle.serde_json.specs.Data.{object, string};
 ghost use Rattle.vnfm_base.specs.Ident.{IsIdentNumber};
+ghost use Rattle.vnfm_base.specs.Text.{IsLine};
 ghost use Rattle.json_views.specs.Instance.{instance_id, instance_path};
 ghost use Rattle.json_views.specs.MadeOccurrence.{occurrence_members, with_moments, with_operation};
 ghost use Rattle.json_views.specs.Moments.{moment_text};
@@ -41,7 +42,8 @@ pub fn occurrence_id(alloc: Global, manager: u32, n: u64) -> Result<String, Allo
 #[tactic(auto, unfolding(crate::specs::Occurrence::occurrence_path))]
 pub fn occurrence_path(alloc: Global, manager: u32, n: u64) -> Result<String, AllocError>
     requires { IsIdentNumber n }
-    ensures { IfOk result (λ path. string_bytes path ≡ occurrence_path manager n) }
+    ensures path { IfOk result (λ path. string_bytes path ≡ occurrence_path manager n) }
+    ensures line { IfOk result (λ path. IsLine (string_bytes path)) }
 {
     let id = occurrence_id(alloc, manager, n)?;
     let mut path = String::from_str(alloc, "/vnflcm/v1/vnf_lcm_op_occs/")?;

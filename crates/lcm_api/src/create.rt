@@ -15,14 +15,14 @@ use crate::answer::ApiFault;
 use crate::bodies::refused_body;
 use crate::media::is_json;
 use crate::record::{Planned, carry_out};
-use crate::reply::{Reply, refusal};
+use crate::reply::{Reply, location, refusal};
 use executor::{Manager, works_add_up};
 use http_wire::Request;
 use json_views::{CreateBody, created_view, instance_path, read_create};
 use lcm_events::{Event, EventKind, Vnfd};
 use site_traits::Site;
 use std::alloc::{AllocError, Global};
-use vnfm_base::{Kind, Line, Moment};
+use vnfm_base::{Kind, Moment};
 
 /// Instances that may be live at one time.
 pub const MAX_INSTANCES: u64 = 1_000;
@@ -132,12 +132,9 @@ fn created(
 {
     let view = created_view(alloc, manager, n, body, vnfd)?;
     let path = instance_path(alloc, manager, n)?;
-    let Some(location) = Line::of_string(path) else {
-        return Err(AllocError);
-    };
     Ok(Reply {
         status: 201,
-        location: Some(location),
+        location: Some(location(path)),
         allow: None,
         problem: false,
         body: view,

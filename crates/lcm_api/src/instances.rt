@@ -63,7 +63,7 @@ pub fn show<S: Site>(
     }
 }
 
-/// Refuses a task of an instance, none of which is served yet. Its body isn't read.
+/// Refuses a task of an instance that isn't served yet. Its body isn't read.
 ///
 /// Source: SOL 003 5.4.4 to 5.4.10; the refusal is an own rule.
 pub fn task<S: Site>(

@@ -19,7 +19,7 @@ use crate::bodies::refused_body;
 use crate::instances::{asked_id, named_instance, no_instance};
 use crate::media::is_json;
 use crate::record::{Planned, carry_out};
-use crate::reply::{Reply, refusal, refusal_for};
+use crate::reply::{Reply, location, refusal, refusal_for};
 use executor::{AskFault, Manager, works_add_up};
 use http_wire::Request;
 use json_views::{InstantiateBody, occurrence_path, read_instantiate};
@@ -27,7 +27,7 @@ use lcm_events::{Ask, Event, EventKind, Operation, Role};
 use lcm_laws::{asked_events_fit_records, plans_are_exact, plans_are_small};
 use site_traits::Site;
 use std::alloc::{AllocError, Global};
-use vnfm_base::{Bytes, Line, Moment};
+use vnfm_base::{Bytes, Moment};
 
 /// Answers a request of this role to instantiate an instance: the operation is recorded with its plan, and its occurrence is STARTING.
 ///
@@ -188,12 +188,9 @@ fn accepted(alloc: Global, manager: u32, occ: u64, last: bool) -> Result<Reply, 
     ensures { IfOk result (λ reply. reply ≡ accepted manager occ last) }
 {
     let path = occurrence_path(alloc, manager, occ)?;
-    let Some(location) = Line::of_string(path) else {
-        return Err(AllocError);
-    };
     Ok(Reply {
         status: 202,
-        location: Some(location),
+        location: Some(location(path)),
         allow: None,
         problem: false,
         body: Bytes::empty(alloc),

@@ -1,7 +1,8 @@
 //! A reply, and those that no route has for its own.
-ghost use Rattle.std.specs.Prelude.{◌≡◌, ◌++◌, IfOk};
+ghost use Rattle.std.specs.Prelude.{◌≡◌, ◌++◌, IfOk, string_bytes};
 ghost use Rattle.lcm_api.specs.Refusals.{refusal_status, refusal_text};
 ghost use Rattle.lcm_api.specs.Replies.{bare, malformed, refusal, shown, too_large};
+ghost use Rattle.vnfm_base.specs.Text.{IsLine};
 
 use json_views::problem_view;
 use lcm_model::Refusal;
@@ -121,6 +122,17 @@ pub fn shown(body: Bytes, last: bool) -> Reply
         problem: false,
         body,
         last,
+    }
+}
+
+/// Where what was made is found.
+pub fn location(path: String) -> Line
+    requires { IsLine (string_bytes path) }
+    ensures { result ≡ string_bytes path }
+{
+    match Line::of_string(path) {
+        Some(line) => line,
+        None => unreachable!(),
     }
 }
 

@@ -1,0 +1,8 @@
+-- The path is a line.
+use Rattle.std.proofs.Common.{◌≡◌}
+use Rattle.json_views.proofs.PathLemmas.{occurrence_line}
+use Rattle.json_views.proofs.occurrence.occurrence_path.Goals as goal
+
+pub returns-clause-line : goal.returns-clause-line
+returns-clause-line c =
+    rw (c.push_str.ensures.bytes, c.in_ok-path.ensures.ok, c.as_str.ensures.value, c.in_ok-id.ensures) (occurrence_line _ c.args.manager c.args.n)
