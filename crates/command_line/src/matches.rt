@@ -12,19 +12,13 @@ use std::alloc::Global;
 pub fn matches_of<'a>(alloc: Global, words: &'a [&'a str]) -> Result<ArgMatches<'a>, Error>
     ensures { IfOk result (λ m. (command : Command) (pairs : List Pair) → parted (map (λ word. word.now) words.entry.now) ≡ Some (command, pairs) → HasValues (found_of m) pairs) }
 {
-    let journal = option(alloc, "journal", "");
-    let manager = option(alloc, "manager", "0");
-    let role = option(alloc, "role", "orchestrator");
-    let rounds = option(alloc, "rounds", "1");
-    let orchestrator = option(alloc, "orchestrator", "");
-    let vim = option(alloc, "vim", "");
     let all = clap::Command::new(alloc, "vnfm")
-        .arg(journal)?
-        .arg(manager)?
-        .arg(role)?
-        .arg(rounds)?
-        .arg(orchestrator)?
-        .arg(vim)?;
+        .arg(option(alloc, "journal", ""))?
+        .arg(option(alloc, "manager", "0"))?
+        .arg(option(alloc, "role", "orchestrator"))?
+        .arg(option(alloc, "rounds", "1"))?
+        .arg(option(alloc, "orchestrator", ""))?
+        .arg(option(alloc, "vim", ""))?;
     all.try_get_matches_from(words)
 }
 
