@@ -6,14 +6,10 @@ use Rattle.lcm_events.specs.declared.changes.Change.{Change}
 use Rattle.lcm_events.specs.declared.descriptor.Vnfd.{Vnfd}
 use Rattle.lcm_events.specs.declared.events.Operation.{Operation}
 use Rattle.event_codec.specs.Spell as spell
-use Rattle.event_codec.specs.Spell.{spelling, u64}
-use Rattle.lcm_laws.proofs.RecordLaws.{length-operation, most_ask}
+use Rattle.event_codec.specs.Spell.{spelling}
+use Rattle.change_planner.proofs.RecordLaws.{length-operation, length-u64, most_ask}
 use Rattle.lcm_model.specs.Descriptors.{IsValid}
 use Rattle.change_planner.specs.Planning.{FitsRecord}
-
-length-u64 : (n : ℕ) → length (spell.u64 n) ≡ 8
-unfolding u64
-length-u64 n = refl
 
 -- an operation with at most 5,000 changes fits a record
 pub record_fits : (d : Vnfd) (ask : Ask) (changes : List Change) → IsValid d → length changes ≤ 5000 → FitsRecord d ask changes

@@ -9,6 +9,7 @@ pub mod RangeLaws
 pub mod SectionLaws
 pub mod PlanLaws
 pub mod SizeLaws
+mod RecordLaws
 pub mod FitLaws
 pub mod SpanLaws
 pub mod StepLaws

@@ -12,7 +12,7 @@ use Rattle.lcm_events.specs.declared.held.Holding.{Holding}
 use Rattle.lcm_events.specs.declared.states.Role.{Role}
 use Rattle.event_codec.specs.Spell.{spelling}
 use Rattle.event_codec.specs.Typed.{TypedAsk}
-use Rattle.lcm_laws.specs.Records.{NamesFew}
+use Rattle.change_planner.specs.Records.{NamesFew}
 use Rattle.lcm_model.specs.Instances.{inventory_of}
 use Rattle.lcm_model.specs.Levels.{count}
 use Rattle.lcm_model.specs.Plans.{plan}

@@ -13,6 +13,7 @@ mod holdings;
 mod in_step;
 mod planning;
 mod plans;
+mod records;
 mod refusals;
 mod rolls;
 mod spans;
@@ -22,6 +23,7 @@ pub use holdings::{can_be_planned, holdings_are_inventories, plans_are_those_of_
 pub use in_step::is_in_step;
 use lcm_events::Change;
 pub use planning::plan;
+pub use records::asked_events_fit_records;
 pub use refusals::PlanRefusal;
 pub use rolls::storages_in;
 

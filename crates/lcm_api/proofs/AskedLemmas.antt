@@ -19,7 +19,7 @@ use Rattle.lcm_events.specs.declared.events.EventKind.TheVariants.{Asked}
 use Rattle.lcm_events.specs.declared.events.Operation.{Operation}
 use Rattle.lcm_events.specs.declared.states.Role.{Role}
 use Rattle.lcm_laws.specs.Planning.{PlansAreExact, PlansAreSmall}
-use Rattle.lcm_laws.specs.Records.{AskedEventsFitRecords, NamesFew}
+use Rattle.change_planner.specs.Records.{AskedEventsFitRecords, NamesFew}
 use Rattle.lcm_model.specs.Allowed.{IsAllowed, IsLegal, IsPlanOf, MayAsk}
 use Rattle.lcm_model.specs.Lives.{descriptor}
 use Rattle.lcm_model.specs.Operations.{occurrences_made}

@@ -31,4 +31,3 @@ pub mod RootLaws
 pub mod WorldLaws
 pub mod BeginLaws
 pub mod PowerLaws
-pub mod RecordLaws

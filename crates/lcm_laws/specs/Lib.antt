@@ -13,4 +13,3 @@ pub mod Granting
 pub mod Holdings
 pub mod Levelling
 pub mod Needing
-pub mod Records

@@ -13,7 +13,6 @@ mod needing;
 mod nets;
 mod operations;
 mod plans;
-mod records;
 mod serials;
 mod standing;
 
@@ -47,7 +46,6 @@ pub use plans::{
     operations_begin_in_step, operations_have_plans, plans_are_distinct, plans_are_exact,
     plans_are_small, plans_are_sorted, plans_fit_what_stands, plans_meet_their_counts,
 };
-pub use records::asked_events_fit_records;
 pub use serials::serials_are_counted;
 pub use standing::{
     computes_run_as_they_were_left, deleted_instances_hold_nothing, idle_instances_hold_nothing,

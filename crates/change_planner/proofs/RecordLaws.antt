@@ -28,7 +28,7 @@ use Rattle.lcm_model.specs.Lives.{descriptor}
 use Rattle.lcm_model.specs.Descriptors.{IsValid}
 use Rattle.lcm_model.specs.Refusals.{aim_refusal, aspect_named, content_refusal, has_aspect, is_above, names_twice, plan_refusal, situation, state_refusal}
 use Rattle.lcm_model.specs.Allowed.{IsAllowedWithin, IsLegalWithin, IsPlanOf}
-use Rattle.lcm_laws.specs.Records.{NamesFew}
+use Rattle.change_planner.specs.Records.{NamesFew}
 use Rattle.lcm_laws.proofs.Lists.{and_left, and_right, by_test, none_of-front, none_of-rest, when-none}
 use Rattle.lcm_laws.proofs.Members.{Rises, in_map, of_map}
 use Rattle.lcm_laws.proofs.BoundLaws.{Differ, few, few_changes}
@@ -44,7 +44,7 @@ length-u32 : (n : ℕ) → length (spell.u32 n) ≡ 4
 unfolding u32
 length-u32 n = refl
 
-length-u64 : (n : ℕ) → length (spell.u64 n) ≡ 8
+pub length-u64 : (n : ℕ) → length (spell.u64 n) ≡ 8
 unfolding u64
 length-u64 n = refl
 

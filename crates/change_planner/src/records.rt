@@ -1,6 +1,6 @@
 //! What is asked for fits a record of the journal.
 
-ghost use Rattle.lcm_laws.specs.Records.{AskedEventsFitRecords};
+ghost use Rattle.change_planner.specs.Records.{AskedEventsFitRecords};
 
 /// An operation that may be asked for fits a record of 65,536 bytes, where it names at most 512 machines.
 ///
