@@ -3,8 +3,6 @@
 
 mod page;
 mod reason;
-#[cfg(test)]
-mod tests;
 mod wrong;
 
 pub use page::{Page, page_of};

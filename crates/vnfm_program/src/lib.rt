@@ -3,8 +3,6 @@
 
 mod output;
 mod program;
-#[cfg(test)]
-mod tests;
 mod words;
 
 pub use program::start;

@@ -1,8 +1,8 @@
 //! What words set, and what is printed, by words and by status.
-use crate::{Page, page_of, reason_of};
 use command_line::{Command, Settings, SettingsFault, settings};
 use lcm_events::Role;
 use outside_edges::WhyLost;
+use program_words::{Page, page_of, reason_of};
 use std::alloc::{AllocError, Global};
 use std::test::Fail;
 use vnfm_base::Text;

@@ -1,7 +1,6 @@
 //! The program over objects in memory: its status, what it prints, and whether it opens a file.
 ghost use Rattle.std.specs.Prelude.{◌≡◌, ◌≤◌, ◌+◌, length, true};
 
-use crate::start;
 use host_calls::{HostFile, HostFiles, InStream, OutStream};
 use lcm_api::Mouth;
 use lcm_events::Role;
@@ -13,6 +12,7 @@ use std::io;
 use std::io::ErrorKind;
 use std::test::Fail;
 use vnfm_base::Bytes;
+use vnfm_program::start;
 
 /// What holds a number.
 #[derive(Drop)]
