@@ -83,12 +83,23 @@ fn has_left(
 }
 
 /// A whole life, over this file and of these steps.
-#[derive(Drop)]
 struct Life {
     site: MemSite,
     file: Vec<u8>,
     steps: Vec<Step>,
     opened: usize,
+}
+
+impl Drop for Life {
+    // Written out, so that the proof of a caller calls it and doesn't take the value apart at each of its ends.
+    fn drop(self) {
+        let Life {
+            site: _,
+            file: _,
+            steps: _,
+            opened: _,
+        } = self;
+    }
 }
 
 /// The life from the request to COMPLETED.

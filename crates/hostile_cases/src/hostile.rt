@@ -13,12 +13,23 @@ use vnfm_base::{Bytes, Text};
 use vnfm_cli::run;
 
 /// The objects of a run, but for its site and its door.
-#[derive(Drop)]
 struct Others {
     orchestrator: MemOrchestrator,
     courier: MemCourier,
     clock: SetClock,
     sink: MemSink,
+}
+
+impl Drop for Others {
+    // Written out, so that the proof of a caller calls it and doesn't take the value apart at each of its ends.
+    fn drop(self) {
+        let Others {
+            orchestrator: _,
+            courier: _,
+            clock: _,
+            sink: _,
+        } = self;
+    }
 }
 
 fn others_of(alloc: Global) -> Result<Others, AllocError> {

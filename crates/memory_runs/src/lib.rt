@@ -43,7 +43,6 @@ pub const CREATE: &[u8] =
     b"POST /vnflcm/v1/vnf_instances HTTP/1.1\r\nHost: vnfm.example\r\nContent-Type: application/json\r\nContent-Length: 46\r\n\r\n{\"vnfdId\":\"vnfd-1\",\"vnfInstanceName\":\"edge-1\"}";
 
 /// What a run did.
-#[derive(Drop)]
 pub struct Ran {
     /// The program's status.
     pub status: u8,
@@ -55,6 +54,19 @@ pub struct Ran {
     pub ended: bool,
     /// How often the clock was read.
     pub clock: u64,
+}
+
+impl Drop for Ran {
+    // Written out, so that the proof of a caller calls it and doesn't take the value apart at each of its ends.
+    fn drop(self) {
+        let Ran {
+            status: _,
+            told: _,
+            printed: _,
+            ended: _,
+            clock: _,
+        } = self;
+    }
 }
 
 /// A site with this file, of which these disk calls, from 1, fail.
@@ -126,12 +138,23 @@ fn pieces_of(alloc: Global, bytes: &[u8], size: usize) -> Result<Vec<Bytes>, All
 }
 
 /// The objects of a run, but for its site and its orchestrator.
-#[derive(Drop)]
 struct Objects {
     mouth: Mouth<MemDoor>,
     courier: MemCourier,
     clock: SetClock,
     sink: MemSink,
+}
+
+impl Drop for Objects {
+    // Written out, so that the proof of a caller calls it and doesn't take the value apart at each of its ends.
+    fn drop(self) {
+        let Objects {
+            mouth: _,
+            courier: _,
+            clock: _,
+            sink: _,
+        } = self;
+    }
 }
 
 /// The objects with this door, and a sink of which this put fails.

@@ -100,12 +100,23 @@ pub fn ends_rolled_back(
 }
 
 /// A whole life over what was left before it, of these steps.
-#[derive(Drop)]
 struct Whole {
     site: MemSite,
     file: Vec<u8>,
     before: Vec<Step>,
     steps: Vec<Step>,
+}
+
+impl Drop for Whole {
+    // Written out, so that the proof of a caller calls it and doesn't take the value apart at each of its ends.
+    fn drop(self) {
+        let Whole {
+            site: _,
+            file: _,
+            before: _,
+            steps: _,
+        } = self;
+    }
 }
 
 /// A site on which no call was made, with the file and the jobs of this one.

@@ -193,12 +193,23 @@ fn a_call_of_the_orchestrator_that_fails_is_trouble_for_its_occurrence_alone(
 
 /// The journal of two instances, an orchestrator that grants, and the file with each of the events that may follow, by how many are granted
 /// and whether another turn was made.
-#[derive(Drop)]
 struct Prepared {
     site: MemSite,
     orchestrator: MemOrchestrator,
     granted: [Vec<u8>; 3],
     turned: [Vec<u8>; 3],
+}
+
+impl Drop for Prepared {
+    // Written out, so that the proof of a caller calls it and doesn't take the value apart at each of its ends.
+    fn drop(self) {
+        let Prepared {
+            site: _,
+            orchestrator: _,
+            granted: _,
+            turned: _,
+        } = self;
+    }
 }
 
 /// The files with the events that stand where none, one or two of the occurrences are granted, and then turned or not.
