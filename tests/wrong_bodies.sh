@@ -1,8 +1,9 @@
 #!/bin/sh
 # Tries the wrong bodies that the gate doesn't: those of tests/wrong_bodies/NAME/ for each crate NAME that is given, or for
 # each crate that has some. Each edit has the form of one in must-fail/, and is tried on a copy of the sources, so that
-# nothing of this tree changes. Ends with 1 where one is still proved, or can't be tried. Whoever changes the contracts of
-# a crate runs it for that crate.
+# nothing of this tree changes. What the gate proved on this machine isn't proved again for it, but for the crates whose
+# edits are tried, from which each of theirs begins. Ends with 1 where an edit is still proved, or can't be tried. Whoever
+# changes the contracts of a crate runs it for that crate.
 here=$(cd "$(dirname "$0")/.." && pwd) || exit 1
 room=$(mktemp -d) || exit 1
 trap 'rm -rf "$room"' EXIT
@@ -12,6 +13,7 @@ trap 'rm -rf "$room"' EXIT
     tar xf - -C "$room" || exit 1
 
 [ $# -gt 0 ] || set -- $(ls "$here/tests/wrong_bodies")
+tried=
 for name in "$@"; do
     if [ ! -d "$here/crates/$name" ]; then
         echo "wrong_bodies.sh: there is no crate $name" >&2
@@ -22,5 +24,13 @@ for name in "$@"; do
         continue
     fi
     cp -R "$here/tests/wrong_bodies/$name" "$room/crates/$name/must-fail" || exit 1
+    tried="$tried $name"
 done
-cd "$room" && rt must-fail "$@"
+[ -n "$tried" ] || exit 0
+cd "$room" || exit 1
+{
+    rt ci $tried 2>&1
+    echo $? >status
+} | tee told
+# (an edit that can't be applied or read counts for nothing there, and fails nothing)
+! grep -q "BAD EDIT" told && [ "$(cat status)" = 0 ]
