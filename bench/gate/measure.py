@@ -9,9 +9,11 @@ and that is the whole measurement. Where it takes from an earlier run what that 
 measurement is then a run that is told to take nothing, or one on a machine that has kept nothing.
 
 The seconds are read from /proc four times a second, so what a short command took in its last quarter of a second is
-missing. Standard output is the table; what `rt ci` prints goes to standard error. Ends with the status of `rt ci`."""
+missing. Standard output is the table; what `rt ci` prints goes to standard error. Ends with the status of `rt ci`. A run that
+is interrupted has the table of what was done until then, and a status other than 0."""
 import collections
 import os
+import signal
 import subprocess
 import sys
 import time
@@ -82,9 +84,14 @@ def main():
     begun = time.time()
     ran = subprocess.Popen(["rt", "ci", *sys.argv[1:]], cwd=TOP, stdout=sys.stderr, stdin=subprocess.DEVNULL)
     kinds, seconds = {}, {}
-    while ran.poll() is None:
-        look(ran.pid, kinds, seconds)
-        time.sleep(0.25)
+    signal.signal(signal.SIGTERM, signal.default_int_handler)
+    try:
+        while ran.poll() is None:
+            look(ran.pid, kinds, seconds)
+            time.sleep(0.25)
+    except KeyboardInterrupt:
+        ran.terminate()
+        ran.wait()
     rows = collections.defaultdict(lambda: dict.fromkeys(KINDS, 0.0))
     for key, (crate, kind) in kinds.items():
         rows[crate][kind] += seconds.get(key, 0.0)
