@@ -7,9 +7,16 @@ use std::marker::Model;
 use vnfm_base::Name;
 
 /// A list on the heap.
-#[derive(Debug, Drop)]
+#[derive(Debug)]
 pub struct Listed<T> {
     entries: Vec<T>,
+}
+
+impl<T: Drop> Drop for Listed<T> {
+    // Written out, so that the proof of a caller calls it and doesn't take it apart at each of its ends.
+    fn drop(self) {
+        let Listed { entries: _ } = self;
+    }
 }
 
 impl<T> Model for Listed<T> {
@@ -65,7 +72,8 @@ impl<T> Listed<T> {
     pub fn into_vec(self) -> Vec<T>
         ensures { result.items ≡ self }
     {
-        self.entries
+        let Listed { entries } = self;
+        entries
     }
 
     /// Puts an entry last. After an error the list is as it was.

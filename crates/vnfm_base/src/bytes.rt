@@ -7,9 +7,16 @@ use std::marker::Model;
 /// Bytes of any length.
 ///
 /// A contract sees them as a list.
-#[derive(Drop, Debug)]
+#[derive(Debug)]
 pub struct Bytes {
     content: Vec<u8>,
+}
+
+impl Drop for Bytes {
+    // Written out, so that the proof of a caller calls it and doesn't take them apart at each of its ends.
+    fn drop(self) {
+        let Bytes { content: _ } = self;
+    }
 }
 
 impl Model for Bytes {
@@ -56,7 +63,8 @@ impl Bytes {
     pub fn into_vec(self) -> Vec<u8>
         ensures { result.items ≡ self }
     {
-        self.content
+        let Bytes { content } = self;
+        content
     }
 
     /// Their number.

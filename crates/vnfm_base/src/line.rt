@@ -18,9 +18,16 @@ pub const LINE_MAX: usize = 2_048;
 /// A contract sees its bytes as a list.
 ///
 /// Source: own rule.
-#[derive(Drop, Debug)]
+#[derive(Debug)]
 pub struct Line {
     text: String,
+}
+
+impl Drop for Line {
+    // Written out, so that the proof of a caller calls it and doesn't take it apart at each of its ends.
+    fn drop(self) {
+        let Line { text: _ } = self;
+    }
 }
 
 impl Model for Line {
