@@ -1,57 +1,180 @@
-//! A stop at each moment of a run, and the life behind it.
-use memory_runs::{DESCRIPTOR, JOURNAL, MADE, init, onboard, site_with};
-use site_traits::Choice;
-use std::test::Fail;
+//! Lives that are stopped at each moment, or of which each disk call fails in turn: what is left, and which attempt had no job yet.
 
-#[test]
-fn a_stop_in_the_making_leaves_a_file_that_is_made_by_the_next(
-    rt: HostRuntime,
-) -> Result<(), Fail> {
-    let alloc = rt.alloc();
-    let mut site = site_with(alloc, &[], Vec::new(alloc))?;
-    let first = init(alloc, &mut site)?;
-    assert_eq!(rt; first.status, 0);
-    let last = site.moment();
-    for moment in 0..last.saturating_add(1) {
-        for choice in [Choice::Old, Choice::New, Choice::Torn] {
-            let mut left = site.stopped(alloc, moment, choice)?;
-            let second = init(alloc, &mut left)?;
-            assert!(rt;
-                second.status == 0 || second.status == 11,
-                "moment {moment}"
-            );
-            if moment == last {
-                assert_eq!(rt; second.status, 11);
-            }
-            assert!(rt; left.file() == MADE.as_slice());
+use crate::calls::{calls_of, calls_until, left_behind, not_begun, opening, standing};
+use crate::records::{At, Step};
+use crate::stage::plain_site;
+use site_traits::{Choice, MemSite};
+use std::alloc::{AllocError, Global};
+
+/// What the lives before the one at hand did.
+#[derive(Clone, Copy)]
+pub struct Earlier {
+    /// The jobs that there are.
+    pub jobs: usize,
+    /// The begins on the record of the same site.
+    pub begins: usize,
+    /// The disk calls on it.
+    pub disk: usize,
+}
+
+impl Earlier {
+    /// There was none.
+    pub fn none() -> Earlier {
+        Earlier {
+            jobs: 0,
+            begins: 0,
+            disk: 0,
         }
+    }
+
+    /// What this site's record has.
+    pub fn of(site: &MemSite) -> Earlier {
+        let calls = calls_of(site);
+        Earlier {
+            jobs: site.jobs(),
+            begins: calls.begins,
+            disk: calls.disk,
+        }
+    }
+}
+
+/// A whole life, of these steps behind those.
+pub struct Whole {
+    /// The site behind it, with its record.
+    pub site: MemSite,
+    /// The steps of the lives before it.
+    pub before: Vec<Step>,
+    /// Its steps.
+    pub steps: Vec<Step>,
+    /// The lives before it.
+    pub earlier: Earlier,
+}
+
+impl Drop for Whole {
+    // Written out, so that the proof of a caller calls it and doesn't take the value apart at each of its ends.
+    fn drop(self) {
+        let Whole {
+            site: _,
+            before: _,
+            steps: _,
+            earlier: _,
+        } = self;
+    }
+}
+
+impl Whole {
+    /// A life in which nothing was done.
+    pub fn none(alloc: Global) -> Result<Whole, AllocError> {
+        Ok(Whole {
+            site: plain_site(alloc, &[])?,
+            before: Vec::new(alloc),
+            steps: Vec::new(alloc),
+            earlier: Earlier::none(),
+        })
+    }
+
+    /// What a stop at this moment leaves with this choice.
+    pub fn stopped(
+        &self,
+        alloc: Global,
+        moment: usize,
+        choice: Choice,
+    ) -> Result<MemSite, AllocError> {
+        self.site
+            .stopped(alloc, moment.min(self.site.moment()), choice)
+    }
+
+    /// What is there of it behind a stop at this moment with this choice.
+    pub fn stop(&self, moment: usize, choice: Choice) -> Stop {
+        let calls = calls_until(&self.site, moment);
+        let behind = calls.disk.checked_sub(opening(&self.site));
+        let records = left_behind(behind.unwrap_or(0), choice);
+        self.behind(moment, behind, records, calls.begins)
+    }
+
+    /// What is there of it where this disk call of its own, from 0, fails, and so many begins were made.
+    pub fn fault(&self, call: usize, begins: usize) -> Stop {
+        let behind = call.checked_sub(opening(&self.site));
+        let records = standing(behind.unwrap_or(0));
+        self.behind(call, behind, records, begins)
+    }
+
+    /// So many of its records and begins.
+    fn behind(&self, place: usize, calls: Option<usize>, records: usize, begins: usize) -> Stop {
+        Stop {
+            place,
+            act: 0,
+            calls,
+            records,
+            begins,
+            lost: not_begun(&self.steps, records, begins),
+        }
+    }
+
+    /// The steps of it and of the lives before it, up to so many of its own.
+    pub fn steps_to(&self, alloc: Global, records: usize) -> Result<Vec<Step>, AllocError> {
+        let mut steps = self.before.to_vec(alloc)?;
+        steps.extend_from_slice(self.steps.get(..records).unwrap_or(&self.steps))?;
+        Ok(steps)
+    }
+
+    /// All of these steps, where the attempt at this change had no job yet: that attempt is ended by the look at it, and there is another.
+    pub fn steps_again(&self, alloc: Global, lost: Option<u16>) -> Result<Vec<Step>, AllocError> {
+        let mut steps = self.before.to_vec(alloc)?;
+        for step in &self.steps {
+            put_again(&mut steps, *step, lost)?;
+        }
+        Ok(steps)
+    }
+}
+
+/// Puts a step of a life, where the attempt at this change was lost: it isn't begun, and the next one is done.
+fn put_again(steps: &mut Vec<Step>, step: Step, lost: Option<u16>) -> Result<(), AllocError> {
+    match step {
+        Step::Forward(change, attempt, At::Done(job)) if lost == Some(change) => {
+            let next = attempt.saturating_add(1);
+            steps.push(Step::Forward(change, attempt, At::NotBegun))?;
+            steps.push(Step::Forward(change, next, At::Intent))?;
+            steps.push(Step::Forward(change, next, At::Done(job)))?;
+        }
+        Step::Undo(change, attempt, At::Done(job)) if lost == Some(change) => {
+            let next = attempt.saturating_add(1);
+            steps.push(Step::Undo(change, attempt, At::NotBegun))?;
+            steps.push(Step::Undo(change, next, At::Intent))?;
+            steps.push(Step::Undo(change, next, At::Done(job)))?;
+        }
+        _ => steps.push(step)?,
     }
     Ok(())
 }
 
-#[test]
-fn a_stop_in_an_onboarding_leaves_the_descriptor_or_not(rt: HostRuntime) -> Result<(), Fail> {
-    let alloc = rt.alloc();
-    let mut site = site_with(alloc, &MADE, Vec::new(alloc))?;
-    let first = onboard(alloc, &mut site, DESCRIPTOR)?;
-    assert_eq!(rt; first.status, 0);
-    let last = site.moment();
-    for moment in 0..last.saturating_add(1) {
-        for choice in [Choice::Old, Choice::New, Choice::Torn] {
-            let mut left = site.stopped(alloc, moment, choice)?;
-            let second = onboard(alloc, &mut left, DESCRIPTOR)?;
-            assert!(rt;
-                second.status == 0 || second.status == 10,
-                "moment {moment}"
-            );
-            if moment == last {
-                assert_eq!(rt; second.status, 10);
-            }
-            if moment == 0 {
-                assert_eq!(rt; second.status, 0);
-            }
-            assert!(rt; left.file() == JOURNAL.as_slice());
+/// What is there of a whole life behind a stop, or behind a disk call that failed.
+#[derive(Clone, Copy)]
+pub struct Stop {
+    /// The moment, the disk call of the life, from 0, or the length of the front.
+    pub place: usize,
+    /// The act that is played there, from 0.
+    pub act: usize,
+    /// The disk calls behind its opening; none where the journal wasn't opened.
+    pub calls: Option<usize>,
+    /// Its records.
+    pub records: usize,
+    /// Its begins.
+    pub begins: usize,
+    /// The change whose attempt has no job yet.
+    pub lost: Option<u16>,
+}
+
+impl Stop {
+    /// None.
+    pub fn none() -> Stop {
+        Stop {
+            place: 0,
+            act: 0,
+            calls: None,
+            records: 0,
+            begins: 0,
+            lost: None,
         }
     }
-    Ok(())
 }

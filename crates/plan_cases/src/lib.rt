@@ -1,4 +1,4 @@
-//! Acts, plans and rules that were written out by hand, and that each call succeeds with ample memory.
+//! Acts, plans, levels and rules that were written out by hand, and that each call succeeds with ample memory.
 #![tactic(auto)]
 
 #[cfg(test)]
@@ -11,5 +11,7 @@ mod plans;
 mod routers;
 #[cfg(test)]
 mod rules;
+#[cfg(test)]
+mod scaling;
 #[cfg(test)]
 mod targets;

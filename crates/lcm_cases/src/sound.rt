@@ -1,10 +1,12 @@
 //! Whether the jobs of a site agree with what is recorded of their attempts, and what stands by either.
 
+use crate::records::{At, Step};
 use lcm_events::{Tag, Way};
-use memory_runs::expected::CHANGES;
-use memory_runs::records::{At, Step};
 use site_traits::{MemSite, Phase};
 use std::alloc::{AllocError, Global};
+
+/// The changes of the edge router's plan.
+const CHANGES: u16 = 13;
 
 /// The tag of this attempt of occurrence 1.
 fn tag_of(way: Way, change: u16, attempt: u32) -> Tag {
@@ -199,24 +201,14 @@ pub fn standing(site: &MemSite) -> usize {
     count
 }
 
-/// The job that made this change last and was not undone since, by these steps; 0 where it doesn't stand.
-fn job_by(steps: &[Step], change: u16) -> u16 {
-    let mut job = 0;
-    for step in steps {
-        match step {
-            Step::Forward(of, _, At::Done(by)) if *of == change => job = *by,
-            Step::Undo(of, _, At::Done(_)) if *of == change => job = 0,
-            _ => {}
-        }
+/// The change that the job at this place, from 0, is for, where it is done.
+pub fn change_done(site: &MemSite, place: usize) -> Option<u64> {
+    if place >= site.jobs() {
+        return None;
     }
-    job
-}
-
-/// For each change the job that made it, by these steps; 0 where it doesn't stand.
-pub fn jobs_by(alloc: Global, steps: &[Step]) -> Result<Vec<u16>, AllocError> {
-    let mut jobs = Vec::new(alloc);
-    for change in 0..CHANGES {
-        jobs.push(job_by(steps, change))?;
+    let (tag, _, phase) = site.job(place);
+    match phase {
+        Phase::Done(_) => Some(u64::from(tag.change)),
+        _ => None,
     }
-    Ok(jobs)
 }

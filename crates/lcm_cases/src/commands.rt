@@ -1,0 +1,215 @@
+//! Acts that run a command or make a turn, and what stops a life.
+
+use crate::calls::opening;
+use crate::objects::{clock_at, run_over, words_of};
+use crate::stage::Stage;
+use crate::stops::Earlier;
+use crate::words::{ActFault, behind, code, count, number, part};
+use executor::Manager;
+use grant_desk::GrantAll;
+use lcm_api::{Mouth, answer_session};
+use lcm_events::Role;
+use occ_work::{Turn, turn};
+use serde_json::Value;
+use site_traits::{
+    Choice, DoorPlan, MemDoor, MemOrchestrator, MemSite, NextAnswer, SetClock, SiteCall,
+};
+use std::alloc::{AllocError, Global};
+use std::mem;
+use vnfm_base::{Moment, Text};
+
+/// The words of a command, as an act spells them.
+fn command_of(alloc: Global, values: &[Value]) -> Result<Vec<Text>, ActFault> {
+    let mut words = Vec::new(alloc);
+    for value in values {
+        let Some(word) = value.as_str() else {
+            return Err(ActFault::Spelling);
+        };
+        words.push(Text::of_string(String::from_str(alloc, word)?))?;
+    }
+    Ok(words)
+}
+
+/// The words `once --journal j --rounds` and this number.
+fn rounds_words(alloc: Global, count: u64) -> Result<Vec<Text>, AllocError> {
+    let number = format!(in alloc; "{count}")?;
+    words_of(
+        alloc,
+        &["once", "--journal", "j", "--rounds", number.as_str()],
+    )
+}
+
+/// Opens the journal and makes a turn; none where that failed.
+fn one_turn(alloc: Global, site: &mut MemSite, orchestrator: &mut GrantAll) -> Option<Turn> {
+    let Ok(mut manager) = Manager::load(alloc, site) else {
+        return None;
+    };
+    let now = Moment::of(1_700_000_000_000);
+    turn(alloc, &mut manager, site, orchestrator, now).ok()
+}
+
+/// Answers the session of the connection that this mouth's door plans, at this moment, without a turn: how many replies were told; none where the
+/// journal wasn't opened or nobody came.
+fn serve(
+    alloc: Global,
+    site: &mut MemSite,
+    mouth: &mut Mouth<MemDoor>,
+    clock: &mut SetClock,
+) -> Option<u32> {
+    let mut manager = match Manager::load(alloc, site) {
+        Ok(manager) => manager,
+        Err(_) => return None,
+    };
+    let NextAnswer::Came(_) = mouth.next() else {
+        return None;
+    };
+    answer_session(alloc, &mut manager, site, mouth, clock, Role::Orchestrator).ok()
+}
+
+/// What stands behind the first begin on this site's record.
+fn behind_the_begin(site: &MemSite) -> usize {
+    for place in 0..site.moment() {
+        if let SiteCall::Began { .. } = site.call(place) {
+            return place.saturating_add(1);
+        }
+    }
+    site.moment()
+}
+
+impl Stage {
+    /// The connections that are planned.
+    fn door(&mut self, alloc: Global) -> Vec<DoorPlan> {
+        mem::replace(&mut self.outside.door, Vec::new(alloc))
+    }
+
+    /// Keeps the file as it is before a command.
+    fn keep_file(&mut self, alloc: Global) -> Result<(), AllocError> {
+        self.before = self.site.file().to_vec(alloc)?;
+        Ok(())
+    }
+
+    /// Runs these words, with an orchestrator that says what is planned.
+    fn run_words(&mut self, alloc: Global, words: &[Text]) -> Result<(), AllocError> {
+        self.keep_file(alloc)?;
+        let says = mem::replace(&mut self.outside.says, Vec::new(alloc));
+        let door = self.door(alloc);
+        let mut orchestrator = MemOrchestrator::new(alloc, says)?;
+        let put = self.outside.put;
+        self.ran = run_over(alloc, words, &mut self.site, door, &mut orchestrator, put)?;
+        Ok(())
+    }
+
+    /// Runs these words, with the orchestrator that grants all.
+    fn run_granted(&mut self, alloc: Global, words: &[Text]) -> Result<(), AllocError> {
+        self.keep_file(alloc)?;
+        let door = self.door(alloc);
+        let put = self.outside.put;
+        self.ran = run_over(alloc, words, &mut self.site, door, &mut self.granting, put)?;
+        Ok(())
+    }
+
+    /// So many rounds without a connection, with the orchestrator that grants all.
+    pub fn quiet_rounds(&mut self, alloc: Global, count: u64) -> Result<(), AllocError> {
+        let words = rounds_words(alloc, count)?;
+        self.run_granted(alloc, &words)
+    }
+
+    /// Plans the connection whose text stands at this place, where one does.
+    fn plan_asked(&mut self, alloc: Global, act: &[Value], place: usize) -> Result<(), ActFault> {
+        match act.get(place) {
+            Some(text) => self.plan_door(alloc, text),
+            None => Ok(()),
+        }
+    }
+
+    /// Whether the command ended with 0 and was told what stands at this place, where something does.
+    fn went_well(&self, alloc: Global, act: &[Value], place: usize) -> Result<bool, ActFault> {
+        let Some(told) = act.get(place) else {
+            return Ok(true);
+        };
+        let told = self.names.text(alloc, told)?;
+        Ok(self.ran.status == 0 && self.ran.ended && self.ran.told.as_slice() == told.as_slice())
+    }
+
+    /// `["go", WORD..]`: runs these words.
+    pub fn go(&mut self, alloc: Global, act: &[Value]) -> Result<bool, ActFault> {
+        let words = command_of(alloc, behind(act, 1))?;
+        self.run_words(alloc, &words)?;
+        Ok(true)
+    }
+
+    /// `["once", TEXT, TOLD]`: runs `once` with a connection of this text, which is told that and hung up, with status 0. Both may be left out,
+    /// or the second.
+    pub fn once(&mut self, alloc: Global, act: &[Value]) -> Result<bool, ActFault> {
+        self.plan_asked(alloc, act, 1)?;
+        let words = words_of(alloc, &["once", "--journal", "j"])?;
+        self.run_words(alloc, &words)?;
+        self.went_well(alloc, act, 2)
+    }
+
+    /// `["rounds", N, TEXT, TOLD]`: runs so many rounds of `once` with the orchestrator that grants all, the first with a connection of this
+    /// text, which is told that and hung up, with status 0. The texts may be left out, or the second.
+    pub fn rounds(&mut self, alloc: Global, act: &[Value]) -> Result<bool, ActFault> {
+        self.plan_asked(alloc, act, 2)?;
+        let words = rounds_words(alloc, number(act, 1)?)?;
+        self.run_granted(alloc, &words)?;
+        self.went_well(alloc, act, 3)
+    }
+
+    /// Answers the session of the connection that is planned, at this moment: how many replies were told.
+    fn answer(&mut self, alloc: Global, now: u64) -> Result<Option<u32>, AllocError> {
+        let door = self.door(alloc);
+        let mut clock = clock_at(alloc, now)?;
+        let mut mouth = Mouth::new(alloc, MemDoor::new(alloc, door)?)?;
+        let replies = serve(alloc, &mut self.site, &mut mouth, &mut clock);
+        self.ran.told = mouth.door().conn().out().to_vec(alloc)?;
+        Ok(replies)
+    }
+
+    /// `["answers", NOW, TEXT, TOLD]`: the session of a connection with this text, whose second write fails, is answered at this moment with this
+    /// one reply. No turn is made behind it.
+    pub fn answers(&mut self, alloc: Global, act: &[Value]) -> Result<bool, ActFault> {
+        self.keep_file(alloc)?;
+        self.plan_second_write(alloc, part(act, 2)?)?;
+        let replies = self.answer(alloc, number(act, 1)?)?;
+        let told = self.names.text(alloc, part(act, 3)?)?;
+        Ok(replies == Some(1) && self.ran.told.as_slice() == told.as_slice())
+    }
+
+    /// `["turn", ACTED, WAITING, UNREACHED]`: opens the journal and makes a turn, which comes to these counts, and leaves the file where it records
+    /// nothing.
+    pub fn turn(&mut self, alloc: Global, act: &[Value]) -> Result<bool, ActFault> {
+        let told = Turn {
+            acted: code(act, 1)?,
+            waiting: code(act, 2)?,
+            unreached: code(act, 3)?,
+        };
+        self.keep_file(alloc)?;
+        let made = one_turn(alloc, &mut self.site, &mut self.granting);
+        let stays = self.site.file() == self.before.as_slice();
+        Ok(made == Some(told) && stays == (told.acted == 0))
+    }
+
+    /// `["renew"]`: the site behind what was done, with no call on its record.
+    pub fn renew(&mut self, alloc: Global) -> Result<(), ActFault> {
+        self.earlier = Earlier::of(&self.site);
+        self.site = self.site.stopped(alloc, self.site.moment(), Choice::Old)?;
+        Ok(())
+    }
+
+    /// `["stop behind", CALLS]`: what a stop behind so many calls from the opening on leaves, where what isn't synced is lost.
+    pub fn stop_behind(&mut self, alloc: Global, act: &[Value]) -> Result<(), ActFault> {
+        let moment = opening(&self.site).saturating_add(count(act, 1)?);
+        self.site = self
+            .site
+            .stopped(alloc, moment.min(self.site.moment()), Choice::Old)?;
+        Ok(())
+    }
+
+    /// `["stop behind the begin"]`: what a stop right behind the first begin leaves, where what isn't synced is lost.
+    pub fn stop_behind_the_begin(&mut self, alloc: Global) -> Result<(), ActFault> {
+        let moment = behind_the_begin(&self.site).min(self.site.moment());
+        self.site = self.site.stopped(alloc, moment, Choice::Old)?;
+        Ok(())
+    }
+}

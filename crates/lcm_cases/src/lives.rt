@@ -1,0 +1,121 @@
+//! Whole lives, which are stopped or of which a call fails, and short ones, of which each is stopped at another of its calls.
+
+use crate::calls::{calls_of, opening};
+use crate::records::front_of;
+use crate::stage::{Stage, plain_site};
+use crate::steps::steps_of;
+use crate::stops::Whole;
+use crate::words::{ActFault, count, list, part};
+use grant_desk::GrantAll;
+use serde_json::Value;
+use site_traits::Choice;
+use std::alloc::Global;
+use std::mem;
+
+/// Rounds that make 28 calls or more, since each round records an event.
+const SHORT_LIFE: u64 = 7;
+
+/// The most short lives.
+const LIVES: usize = 60;
+
+/// How many calls behind its opening a short life of this number is stopped: from 5, which is the attempt's intent with its begin or the look with
+/// its end, to 27, and another number in each of 23 lives. Where all were stopped at one place, each might end the attempt of the one before
+/// and leave another without a job.
+fn length_of(life: usize) -> usize {
+    let turned = life.saturating_mul(7) % 23;
+    turned.saturating_add(5)
+}
+
+impl Stage {
+    /// `["life", [STEP..], [STEP..]]`: what was done on the site, since it was made or renewed, is a whole life of the second steps, behind the
+    /// first ones.
+    pub fn take_life(&mut self, alloc: Global, act: &[Value]) -> Result<(), ActFault> {
+        let before = steps_of(alloc, list(act, 1)?)?;
+        let steps = steps_of(alloc, list(act, 2)?)?;
+        let site = mem::replace(&mut self.site, plain_site(alloc, &[])?);
+        self.whole = Whole {
+            site,
+            before,
+            steps,
+            earlier: self.earlier,
+        };
+        Ok(())
+    }
+
+    /// Lets the site be what a stop of the whole life at this moment leaves with this choice.
+    pub fn stop_at(
+        &mut self,
+        alloc: Global,
+        moment: usize,
+        choice: Choice,
+    ) -> Result<(), ActFault> {
+        self.granting = GrantAll::new(alloc)?;
+        self.site = self.whole.stopped(alloc, moment, choice)?;
+        self.stop = self.whole.stop(moment, choice);
+        if self.stop.lost.is_some() {
+            self.lost = self.lost.saturating_add(1);
+        }
+        Ok(())
+    }
+
+    /// The disk calls of the whole life.
+    pub fn disk_calls(&self) -> usize {
+        calls_of(&self.whole.site).disk
+    }
+
+    /// Plans for the next site that this disk call of the whole life, from 0, fails.
+    pub fn fail_at(&mut self, alloc: Global, call: usize) -> Result<(), ActFault> {
+        let number = self
+            .whole
+            .earlier
+            .disk
+            .saturating_add(call)
+            .saturating_add(1);
+        self.plan.failing = u64::try_from(number).ok();
+        self.stop = self.whole.fault(call, 0);
+        self.granting = GrantAll::new(alloc)?;
+        Ok(())
+    }
+
+    /// `["fallen"]`: the last command ended with 3 and `site fault`. What is there of the whole life is counted, and the next command has another
+    /// orchestrator.
+    pub fn fallen(&mut self, alloc: Global) -> Result<bool, ActFault> {
+        let made = calls_of(&self.site).begins;
+        let begins = made.saturating_sub(self.whole.earlier.begins);
+        self.stop = self.whole.fault(self.stop.place, begins);
+        self.granting = GrantAll::new(alloc)?;
+        Ok(self.ran.status == 3 && self.ran.printed.as_slice() == b"site fault\n".as_slice())
+    }
+
+    /// Whether a short life of this number, stopped in its turn with this choice, leaves all records that were there.
+    fn lives_on(&mut self, alloc: Global, life: usize, choice: Choice) -> Result<bool, ActFault> {
+        self.granting = GrantAll::new(alloc)?;
+        self.quiet_rounds(alloc, SHORT_LIFE)?;
+        let last = opening(&self.site).saturating_add(length_of(life));
+        self.site = self
+            .site
+            .stopped(alloc, last.min(self.site.moment()), choice)?;
+        Ok(front_of(self.site.file()).starts_with(front_of(&self.before)))
+    }
+
+    /// `["lives", FIRST, CHOICE, TEXT]`: short lives, from the one of that number on, each stopped in its turn with that choice, keep each record
+    /// that was there, and come to records that end with this text.
+    pub fn lives(
+        &mut self,
+        alloc: Global,
+        act: &[Value],
+        choice: Choice,
+    ) -> Result<bool, ActFault> {
+        let end = self.names.text(alloc, part(act, 3)?)?;
+        let first = count(act, 1)?;
+        for life in 0..LIVES {
+            if front_of(self.site.file()).ends_with(&end) {
+                return Ok(true);
+            }
+            if !self.lives_on(alloc, first.saturating_add(life), choice)? {
+                return Ok(false);
+            }
+        }
+        Ok(false)
+    }
+}

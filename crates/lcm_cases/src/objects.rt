@@ -1,0 +1,192 @@
+//! The objects in memory that a run of a command is made over, and what it did to them.
+
+use lcm_api::Mouth;
+use lcm_events::Role;
+use site_traits::{
+    DoorPlan, MemConn, MemCourier, MemDoor, MemOrchestrator, MemSink, MemSite, Orchestrator,
+    SetClock,
+};
+use std::alloc::{AllocError, Global};
+use vnfm_base::{Bytes, Text};
+use vnfm_cli::run;
+
+/// What a run did.
+pub struct Ran {
+    /// The program's status.
+    pub status: u8,
+    /// What the last connection was told.
+    pub told: Vec<u8>,
+    /// What was printed.
+    pub printed: Vec<u8>,
+    /// Whether the last connection was hung up.
+    pub ended: bool,
+    /// How often the clock was read.
+    pub clock: u64,
+    /// How many connections came that were all told the same and hung up; 0 where they weren't.
+    pub alike: usize,
+}
+
+impl Drop for Ran {
+    // Written out, so that the proof of a caller calls it and doesn't take the value apart at each of its ends.
+    fn drop(self) {
+        let Ran {
+            status: _,
+            told: _,
+            printed: _,
+            ended: _,
+            clock: _,
+            alike: _,
+        } = self;
+    }
+}
+
+impl Ran {
+    /// Before any run.
+    pub fn none(alloc: Global) -> Ran {
+        Ran {
+            status: 0,
+            told: Vec::new(alloc),
+            printed: Vec::new(alloc),
+            ended: false,
+            clock: 0,
+            alike: 0,
+        }
+    }
+}
+
+/// The objects of a run, but for its site and its orchestrator.
+struct Objects {
+    mouth: Mouth<MemDoor>,
+    courier: MemCourier,
+    clock: SetClock,
+    sink: MemSink,
+}
+
+impl Drop for Objects {
+    // Written out, so that the proof of a caller calls it and doesn't take the value apart at each of its ends.
+    fn drop(self) {
+        let Objects {
+            mouth: _,
+            courier: _,
+            clock: _,
+            sink: _,
+        } = self;
+    }
+}
+
+/// The objects with this door, and a sink of which this put fails.
+fn objects_of(
+    alloc: Global,
+    door: Vec<DoorPlan>,
+    failing_put: Option<u64>,
+) -> Result<Objects, AllocError> {
+    let clock = clock_at(alloc, 1_700_000_000_000)?;
+    let sink = MemSink::new(alloc, failing_put)?;
+    let courier = MemCourier::new(alloc, Vec::new(alloc))?;
+    let mouth = Mouth::new(alloc, MemDoor::new(alloc, door)?)?;
+    Ok(Objects {
+        mouth,
+        courier,
+        clock,
+        sink,
+    })
+}
+
+/// A clock that always gives this.
+pub fn clock_at(alloc: Global, now: u64) -> Result<SetClock, AllocError> {
+    SetClock::new(alloc, vec![in alloc; now]?)
+}
+
+/// What a run that ended with this status did to its objects.
+fn report(alloc: Global, status: u8, objects: &Objects) -> Result<Ran, AllocError> {
+    let door = objects.mouth.door();
+    Ok(Ran {
+        status,
+        told: door.conn().out().to_vec(alloc)?,
+        printed: objects.sink.bytes().to_vec(alloc)?,
+        ended: door.conn().is_hung_up(),
+        clock: objects.clock.calls(),
+        alike: alike(door),
+    })
+}
+
+/// How many connections came to the door, where each was told what the last was and was hung up; 0 where one wasn't.
+fn alike(door: &MemDoor) -> usize {
+    let told = door.conn().out();
+    // The first of the past ones is no connection, but stood there before any came.
+    for conn in door.past().iter().skip(1) {
+        if !has_heard(conn, told) {
+            return 0;
+        }
+    }
+    if has_heard(door.conn(), told) {
+        return door.past().len();
+    }
+    0
+}
+
+/// Whether the connection was told this and hung up.
+fn has_heard(conn: &MemConn, told: &[u8]) -> bool {
+    conn.is_hung_up() && conn.out() == told
+}
+
+/// Runs these words over this site, this door, this orchestrator and a sink of which this put fails.
+pub fn run_over<O: Orchestrator>(
+    alloc: Global,
+    words: &[Text],
+    site: &mut MemSite,
+    door: Vec<DoorPlan>,
+    orchestrator: &mut O,
+    failing_put: Option<u64>,
+) -> Result<Ran, AllocError> {
+    let mut objects = objects_of(alloc, door, failing_put)?;
+    let status = run(
+        alloc,
+        words,
+        site,
+        &mut objects.mouth,
+        orchestrator,
+        &mut objects.courier,
+        &mut objects.clock,
+        &mut objects.sink,
+    );
+    report(alloc, status, &objects)
+}
+
+/// These words.
+pub fn words_of(alloc: Global, texts: &[&str]) -> Result<Vec<Text>, AllocError> {
+    let mut words = Vec::new(alloc);
+    for text in texts {
+        words.push(Text::of_string(String::from_str(alloc, text)?))?;
+    }
+    Ok(words)
+}
+
+/// The connection with these bytes, in pieces of this size.
+pub fn connection(
+    alloc: Global,
+    bytes: &[u8],
+    size: usize,
+    failing_read: Option<usize>,
+    failing_write: Option<usize>,
+) -> Result<DoorPlan, AllocError> {
+    let mut pieces = Vec::new(alloc);
+    for piece in bytes.chunks(size.max(1)) {
+        pieces.push(Bytes::of(alloc, piece)?)?;
+    }
+    Ok(DoorPlan::Conn {
+        role: Role::Orchestrator,
+        pieces,
+        failing_read,
+        failing_write,
+    })
+}
+
+/// Runs `once` over this site for a connection with these bytes, with an orchestrator that is never reached.
+pub fn ask(alloc: Global, site: &mut MemSite, bytes: &[u8]) -> Result<Ran, AllocError> {
+    let words = words_of(alloc, &["once", "--journal", "j"])?;
+    let mut door = Vec::new(alloc);
+    door.push(connection(alloc, bytes, bytes.len(), None, None)?)?;
+    let mut orchestrator = MemOrchestrator::new(alloc, Vec::new(alloc))?;
+    run_over(alloc, &words, site, door, &mut orchestrator, None)
+}

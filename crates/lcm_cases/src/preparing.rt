@@ -1,0 +1,265 @@
+//! Acts that prepare a command: texts, the site, the connections and the answers of the outside.
+
+use crate::objects::connection;
+use crate::records::front_of;
+use crate::stage::Stage;
+use crate::words::{ActFault, behind, code, count, entries, number, part, small, word};
+use lcm_events::Role;
+use serde_json::Value;
+use site_traits::{Arrival, DoorPlan, GrantPlan, JobEnd, JobPlan};
+use std::alloc::{AllocError, Global};
+use vnfm_base::{Bytes, Line};
+
+/// A begin that is taken, whose job is done at the first look and can be aborted.
+const TAKEN: JobPlan = JobPlan {
+    arrival: Arrival::Taken,
+    looks: 0,
+    end: JobEnd::Done,
+    abortable: true,
+};
+
+/// The answer that says what is wrong, with this status line and what stands between the length and the body.
+fn problem(alloc: Global, line: &str, detail: &str, between: &str) -> Result<String, AllocError> {
+    let status = line.split_once(' ').map_or(line, |(status, _)| status);
+    let body = format!(in alloc; "{{\"detail\":\"{detail}\",\"status\":{status}}}")?;
+    let length = body.len();
+    format!(in alloc;
+        "HTTP/1.1 {line}\r\nContent-Type: application/problem+json\r\nContent-Length: {length}\r\n{between}\r\n{body}"
+    )
+}
+
+/// The front of the answer that shows a body of this length.
+fn shown_front(alloc: Global, length: usize) -> Result<String, AllocError> {
+    format!(in alloc;
+        "HTTP/1.1 200 OK\r\nContent-Type: application/json\r\nContent-Length: {length}\r\n\r\n"
+    )
+}
+
+/// The answer that refuses a request with this status line and this detail, behind which the connection goes on.
+pub fn refusal(alloc: Global, line: &str, detail: &str) -> Result<String, AllocError> {
+    problem(alloc, line, detail, "")
+}
+
+/// The answer that shows this body.
+pub fn shown(alloc: Global, body: &[u8]) -> Result<Vec<u8>, AllocError> {
+    let mut answer = shown_front(alloc, body.len())?.into_bytes();
+    answer.extend_from_slice(body)?;
+    Ok(answer)
+}
+
+/// The connection with these bytes in two pieces.
+fn in_two(alloc: Global, front: &[u8], back: &[u8]) -> Result<DoorPlan, AllocError> {
+    let mut pieces = Vec::new(alloc);
+    pieces.push(Bytes::of(alloc, front)?)?;
+    pieces.push(Bytes::of(alloc, back)?)?;
+    Ok(DoorPlan::Conn {
+        role: Role::Orchestrator,
+        pieces,
+        failing_read: None,
+        failing_write: None,
+    })
+}
+
+/// The number of the call that fails, where it isn't 0.
+fn failing(number: usize) -> Option<usize> {
+    if number == 0 { None } else { Some(number) }
+}
+
+/// The location that is told; none where the text is empty, or no line.
+fn location_of(alloc: Global, text: &str) -> Option<Line> {
+    if text.is_empty() {
+        return None;
+    }
+    Line::of(alloc, text.as_bytes()).ok()
+}
+
+/// Changes what comes of a begin by this word, whose number stands behind it.
+fn change_plan(
+    plan: &mut JobPlan,
+    words: &[Value],
+    place: usize,
+    word: &str,
+) -> Result<(), ActFault> {
+    let next = place.saturating_add(1);
+    match word {
+        "taken" => {}
+        "lost" => plan.arrival = Arrival::FailedLost,
+        "arrived" => plan.arrival = Arrival::FailedArrived,
+        "refused" => plan.arrival = Arrival::Refused(code(words, next)?),
+        "broken" => plan.end = JobEnd::Broken(code(words, next)?),
+        "looks" => plan.looks = small(words, next)?,
+        "firm" => plan.abortable = false,
+        _ => return Err(ActFault::Spelling),
+    }
+    Ok(())
+}
+
+/// What comes of a begin: the words `taken`, `lost`, `arrived` and `refused` with a code say how it comes out; `looks` with a number how many
+/// looks find its job running, `broken` with a code how that ends, and `firm` that it can't be aborted.
+fn job_plan(words: &[Value]) -> Result<JobPlan, ActFault> {
+    let mut plan = TAKEN;
+    for (place, value) in words.iter().enumerate() {
+        if let Some(word) = value.as_str() {
+            change_plan(&mut plan, words, place, word)?;
+        }
+    }
+    Ok(plan)
+}
+
+impl Stage {
+    /// `["let", NAME, TEXT]`: the text has that name.
+    pub fn name_text(&mut self, alloc: Global, act: &[Value]) -> Result<(), ActFault> {
+        let text = self.names.text(alloc, part(act, 2)?)?;
+        Ok(self.names.put(alloc, word(act, 1)?, &text)?)
+    }
+
+    /// `["keep", NAME]`: the site's file has that name.
+    pub fn name_file(&mut self, alloc: Global, act: &[Value]) -> Result<(), ActFault> {
+        Ok(self.names.put(alloc, word(act, 1)?, self.site.file())?)
+    }
+
+    /// `["keep records", NAME]`: the site's file up to its closed gate has that name.
+    pub fn name_records(&mut self, alloc: Global, act: &[Value]) -> Result<(), ActFault> {
+        let records = front_of(self.site.file());
+        Ok(self.names.put(alloc, word(act, 1)?, records)?)
+    }
+
+    /// `["problem", NAME, LINE, DETAIL]` and `["last problem", NAME, LINE, DETAIL]`: the answer with this status line and this detail has that
+    /// name; the second is its connection's last.
+    pub fn name_problem(
+        &mut self,
+        alloc: Global,
+        act: &[Value],
+        between: &str,
+    ) -> Result<(), ActFault> {
+        let answer = problem(alloc, word(act, 2)?, word(act, 3)?, between)?;
+        Ok(self.names.put(alloc, word(act, 1)?, answer.as_bytes())?)
+    }
+
+    /// `["json", NAME, TEXT]`: the answer that shows this text has that name.
+    pub fn name_shown(&mut self, alloc: Global, act: &[Value]) -> Result<(), ActFault> {
+        let body = self.names.text(alloc, part(act, 2)?)?;
+        let answer = shown(alloc, &body)?;
+        Ok(self.names.put(alloc, word(act, 1)?, &answer)?)
+    }
+
+    /// `["work", N, PLAN..]`: what comes of the begins on the next site: N are taken, and those behind them come out by these plans.
+    pub fn plan_work(&mut self, alloc: Global, act: &[Value]) -> Result<(), ActFault> {
+        self.plan.work = Vec::new(alloc);
+        for _ in 0..number(act, 1)? {
+            self.plan.work.push(TAKEN)?;
+        }
+        for plan in behind(act, 2) {
+            self.plan.work.push(job_plan(entries(plan)?)?)?;
+        }
+        Ok(())
+    }
+
+    /// `["room", N]`: the next site has room for so many jobs.
+    pub fn plan_room(&mut self, act: &[Value]) -> Result<(), ActFault> {
+        self.plan.jobs = count(act, 1)?;
+        Ok(())
+    }
+
+    /// `["no fault"]`: no disk call fails on the next site.
+    pub fn plan_no_fault(&mut self) {
+        self.plan.failing = None;
+    }
+
+    /// `["blind", N]`: the look or abort of that number, from 1 over both, fails on the next site, whose file is empty.
+    pub fn plan_blind(&mut self, act: &[Value]) -> Result<(), ActFault> {
+        self.plan.blind = Some(number(act, 1)?);
+        Ok(())
+    }
+
+    /// `["site", TEXT]`: a site with this file, by the plan.
+    pub fn make_site(&mut self, alloc: Global, act: &[Value]) -> Result<(), ActFault> {
+        self.base = self.names.text(alloc, part(act, 1)?)?;
+        self.site = self.plan.site(alloc, &self.base)?;
+        Ok(())
+    }
+
+    /// `["base"]`: steps are compared behind the file as it is now.
+    pub fn take_base(&mut self, alloc: Global) -> Result<(), ActFault> {
+        self.base = self.site.file().to_vec(alloc)?;
+        Ok(())
+    }
+
+    /// `["pieces", N]`: the connections that are planned from now on come in pieces of so many bytes.
+    pub fn plan_pieces(&mut self, act: &[Value]) -> Result<(), ActFault> {
+        self.outside.piece = count(act, 1)?;
+        Ok(())
+    }
+
+    /// Plans a connection with this text, of which this read and this write fail, from 1, where they aren't 0.
+    fn plan_connection(
+        &mut self,
+        alloc: Global,
+        text: &Value,
+        failing_read: usize,
+        failing_write: usize,
+    ) -> Result<(), ActFault> {
+        let bytes = self.names.text(alloc, text)?;
+        let plan = connection(
+            alloc,
+            &bytes,
+            self.outside.piece,
+            failing(failing_read),
+            failing(failing_write),
+        )?;
+        self.outside.door.push(plan)?;
+        Ok(())
+    }
+
+    /// `["door", TEXT]`: a connection comes with this text.
+    pub fn plan_door(&mut self, alloc: Global, text: &Value) -> Result<(), ActFault> {
+        self.plan_connection(alloc, text, 0, 0)
+    }
+
+    /// Plans a connection with this text, of which the second write fails.
+    pub fn plan_second_write(&mut self, alloc: Global, text: &Value) -> Result<(), ActFault> {
+        self.plan_connection(alloc, text, 0, 2)
+    }
+
+    /// `["bad door", READ, WRITE, TEXT]`: a connection comes of which this read or this write fails, from 1; 0 where none does.
+    pub fn plan_bad_door(&mut self, alloc: Global, act: &[Value]) -> Result<(), ActFault> {
+        self.plan_connection(alloc, part(act, 3)?, count(act, 1)?, count(act, 2)?)
+    }
+
+    /// `["nobody"]` and `["no door"]`: nobody comes, or the door fails.
+    pub fn plan_absence(&mut self, plan: DoorPlan) -> Result<(), ActFault> {
+        self.outside.door.push(plan)?;
+        Ok(())
+    }
+
+    /// `["cuts", TEXT]`: connections come with this text in pieces of one byte, and in two pieces, cut at each place.
+    pub fn plan_cuts(&mut self, alloc: Global, act: &[Value]) -> Result<(), ActFault> {
+        let bytes = self.names.text(alloc, part(act, 1)?)?;
+        self.outside
+            .door
+            .push(connection(alloc, &bytes, 1, None, None)?)?;
+        for cut in 0..bytes.len() {
+            let (front, back) = bytes.split_at(cut);
+            self.outside.door.push(in_two(alloc, front, back)?)?;
+        }
+        Ok(())
+    }
+
+    /// `["sink", N]`: the put of a line of that number, from 1, fails.
+    pub fn plan_sink(&mut self, act: &[Value]) -> Result<(), ActFault> {
+        self.outside.put = Some(number(act, 1)?);
+        Ok(())
+    }
+
+    /// `["says", STATUS, LOCATION, TEXT]`: the orchestrator of the next command answers this next; an empty location is none.
+    pub fn plan_answer(&mut self, alloc: Global, act: &[Value]) -> Result<(), ActFault> {
+        let body = self.names.text(alloc, part(act, 3)?)?;
+        let status = small(act, 1)?;
+        self.outside.says.push(GrantPlan::Raw {
+            status,
+            location: location_of(alloc, word(act, 2)?),
+            body: Bytes::of_vec(body),
+        })?;
+        Ok(())
+    }
+}

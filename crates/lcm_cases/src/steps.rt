@@ -1,0 +1,130 @@
+//! The steps of an operation, as runs spell them.
+//!
+//! A step is a word or an array: `asked`, `granted`, a state, which it moved to, `graceful` and `forceful`; `["forward", CHANGE, ATTEMPT, AT]` and
+//! `["undo", CHANGE, ATTEMPT, AT]`, where AT is `intent`, `call failed`, `done` with its job behind it, `broken` with its code, `aborted` or
+//! `not begun`. Several stand for `["made", N]`, an operation up to N changes made in PROCESSING; `["make", FROM, TO, ATTEMPT, JOB]`, the changes
+//! from FROM to before TO, each made at that attempt, by that job and those behind it; `["unmake", FROM, TO, ATTEMPT, JOB]`, the same changes undone,
+//! the last of them first.
+
+use crate::records::{At, Step};
+use crate::words::{ActFault, code, entries, small, word};
+use lcm_events::{CancelMode, OpState};
+use serde_json::Value;
+use std::alloc::{AllocError, Global};
+
+/// The step of this word.
+fn named(word: &str) -> Option<Step> {
+    Some(match word {
+        "asked" => Step::Asked,
+        "granted" => Step::Granted,
+        "graceful" => Step::Cancelled(CancelMode::Graceful),
+        "forceful" => Step::Cancelled(CancelMode::Forceful),
+        "PROCESSING" => Step::Moved(OpState::Processing),
+        "COMPLETED" => Step::Moved(OpState::Completed),
+        "FAILED_TEMP" => Step::Moved(OpState::FailedTemp),
+        "FAILED" => Step::Moved(OpState::Failed),
+        "ROLLING_BACK" => Step::Moved(OpState::RollingBack),
+        "ROLLED_BACK" => Step::Moved(OpState::RolledBack),
+        _ => return None,
+    })
+}
+
+/// What is recorded of an attempt, as it stands from the fourth place of a step on.
+fn at(step: &[Value]) -> Result<At, ActFault> {
+    Ok(match word(step, 3)? {
+        "intent" => At::Intent,
+        "call failed" => At::CallFailed,
+        "done" => At::Done(small(step, 4)?),
+        "broken" => At::Broken(code(step, 4)?),
+        "aborted" => At::Aborted,
+        "not begun" => At::NotBegun,
+        _ => return Err(ActFault::Spelling),
+    })
+}
+
+/// The changes from this one to before that one are made, each at the attempt of this number, by this job and those behind it.
+fn make(
+    steps: &mut Vec<Step>,
+    from: u16,
+    to: u16,
+    attempt: u32,
+    first: u16,
+) -> Result<(), AllocError> {
+    let mut job = first;
+    for change in from..to {
+        steps.push(Step::Forward(change, attempt, At::Intent))?;
+        steps.push(Step::Forward(change, attempt, At::Done(job)))?;
+        job = job.saturating_add(1);
+    }
+    Ok(())
+}
+
+/// The same changes are undone, the last of them first.
+fn unmake(
+    steps: &mut Vec<Step>,
+    from: u16,
+    to: u16,
+    attempt: u32,
+    first: u16,
+) -> Result<(), AllocError> {
+    let mut job = first;
+    for change in (from..to).rev() {
+        steps.push(Step::Undo(change, attempt, At::Intent))?;
+        steps.push(Step::Undo(change, attempt, At::Done(job)))?;
+        job = job.saturating_add(1);
+    }
+    Ok(())
+}
+
+/// The operation up to PROCESSING, with so many changes made.
+fn made(steps: &mut Vec<Step>, changes: u16) -> Result<(), AllocError> {
+    steps.push(Step::Asked)?;
+    steps.push(Step::Granted)?;
+    steps.push(Step::Moved(OpState::Processing))?;
+    make(steps, 0, changes, 1, 1)
+}
+
+/// Puts the step or the steps of this list.
+fn put_listed(steps: &mut Vec<Step>, step: &[Value]) -> Result<(), ActFault> {
+    match word(step, 0)? {
+        "made" => made(steps, small(step, 1)?)?,
+        "make" => make(
+            steps,
+            small(step, 1)?,
+            small(step, 2)?,
+            code(step, 3)?,
+            small(step, 4)?,
+        )?,
+        "unmake" => unmake(
+            steps,
+            small(step, 1)?,
+            small(step, 2)?,
+            code(step, 3)?,
+            small(step, 4)?,
+        )?,
+        "forward" => steps.push(Step::Forward(small(step, 1)?, code(step, 2)?, at(step)?))?,
+        "undo" => steps.push(Step::Undo(small(step, 1)?, code(step, 2)?, at(step)?))?,
+        _ => return Err(ActFault::Spelling),
+    }
+    Ok(())
+}
+
+/// Puts the step of this word, or those of this list.
+fn put_step(steps: &mut Vec<Step>, value: &Value) -> Result<(), ActFault> {
+    let Some(word) = value.as_str() else {
+        return put_listed(steps, entries(value)?);
+    };
+    match named(word) {
+        Some(step) => Ok(steps.push(step)?),
+        None => Err(ActFault::Spelling),
+    }
+}
+
+/// The steps that are spelled so.
+pub fn steps_of(alloc: Global, values: &[Value]) -> Result<Vec<Step>, ActFault> {
+    let mut steps = Vec::new(alloc);
+    for value in values {
+        put_step(&mut steps, value)?;
+    }
+    Ok(steps)
+}
