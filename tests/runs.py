@@ -1,7 +1,8 @@
 #!/usr/bin/env python3
 """Writes the runs that `lcm_cases` plays: what is asked, what fails, where a life is stopped, and what all that is to come to.
 
-usage: tests/runs.py >crates/lcm_cases/stdin     from the top
+usage: tests/runs.py >crates/lcm_cases/stdin     from the top; `tests/runs.py | cmp - crates/lcm_cases/stdin` tells whether they are stored as they
+       are written here
 
 A run is an array of its title and its acts, which the files of crates/lcm_cases/src say. What is to be told, printed and left is written out here
 by hand, or by the rules of docs/FORMATS.md and docs/EVENTS.md in another language; nothing of it comes from the program.
