@@ -3,17 +3,17 @@
 #
 # usage: bench/codec/run.sh [PROGRAM]     from the top; without PROGRAM it is built by `rt run` first
 set -eu
-program=${1:-crates/codec_bench/out/codec_bench}
+program=${1:-crates/benchmarks/out/benchmarks}
 if [ $# -eq 0 ]; then
-    (cd crates/codec_bench && rt run >/dev/null)
+    (cd crates/benchmarks && rt run -- codec >/dev/null)
 fi
 echo "| Events | Bytes | Reading, ms | MB/s | Writing, ms | MB/s |"
 echo "|---|---|---|---|---|---|"
 for events in 25000 50000 100000 200000; do
-    "$program" "$events" >/tmp/codec_bench.$$
-    python3 bench/codec/stream.py "$events" | cmp - /tmp/codec_bench.$$
+    "$program" codec "$events" >/tmp/codec.$$
+    python3 bench/codec/stream.py "$events" | cmp - /tmp/codec.$$
     for _ in $(seq 21); do
-        "$program" "$events" times
+        "$program" codec "$events" times
     done | awk -v events="$events" '
         $1 == "bytes" { bytes = $2 }
         $1 == "reading" && (!reading || $2 < reading) { reading = $2 }
@@ -23,4 +23,4 @@ for events in 25000 50000 100000 200000; do
                 reading / 1e6, bytes * 1e3 / reading, writing / 1e6, bytes * 1e3 / writing
         }'
 done
-rm -f /tmp/codec_bench.$$
+rm -f /tmp/codec.$$

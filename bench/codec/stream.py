@@ -1,7 +1,7 @@
 #!/usr/bin/env python3
-"""Spells the events of `codec_bench` after docs/EVENTS.md, and prints what it must print.
+"""Spells the events of `benchmarks codec` after docs/EVENTS.md, and prints what it must print.
 
-usage: stream.py EVENTS     what `codec_bench EVENTS` prints
+usage: stream.py EVENTS     what `benchmarks codec EVENTS` prints
        stream.py --fields   the fields of each kind, in hexadecimal
 """
 import hashlib

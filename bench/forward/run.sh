@@ -5,9 +5,9 @@
 # usage: bench/forward/run.sh [PROGRAM [FOLDER]]     from the top; without PROGRAM it is built by `rt run` first. The files on a disk stand in a
 #        new folder within FOLDER (default: where temporary files do), which decides what disk is measured; the others in /dev/shm.
 set -eu
-program=${1:-crates/forward_bench/out/forward_bench}
+program=${1:-crates/benchmarks/out/benchmarks}
 if [ $# -eq 0 ]; then
-    (cd crates/forward_bench && rt run <stdin >/dev/null)
+    (cd crates/benchmarks && rt run -- forward <data/forward.journal >/dev/null)
 fi
 room=$(mktemp -d -p "${2:-${TMPDIR:-/tmp}}")
 held=$(mktemp -d -p /dev/shm)
@@ -16,10 +16,10 @@ trap 'rm -rf "$room" "$held"' EXIT
 # one operation beside its records, of which both files are alike: operation [FOLDER]
 operation() {
     if [ $# -eq 0 ]; then
-        "$program" operation <"$room/journal"
+        "$program" forward operation <"$room/journal"
     else
         rm -f "$1/first" "$1/worked" "$1/bare"
-        "$program" operation "$1/first" "$1/worked" "$1/bare" <"$room/journal"
+        "$program" forward operation "$1/first" "$1/worked" "$1/bare" <"$room/journal"
         cmp "$1/worked" "$1/bare" >&2
     fi
 }
@@ -60,7 +60,7 @@ attempts() {
     shift
     for _ in $(seq 7); do
         [ $# -eq 0 ] || rm -f "$1"
-        "$program" turns 99 "$@" <"$room/journal" | awk -v operations="$operations" '
+        "$program" forward turns 99 "$@" <"$room/journal" | awk -v operations="$operations" '
             $1 == "acts" { acts += $2 }
             $1 == "turn" { turns += 1; if (turns < 99 && turns % 2) begins += $3; else if (turns < 99) looks += $3; all += $3 }
             $1 == "completed" && $2 == operations { found = 1 }

@@ -5,11 +5,11 @@
 # usage: bench/journal/calls.sh [VNFM [PROGRAM]]     from the top; without VNFM it is built by ./vnfm first, without PROGRAM by `rt run`
 set -eu
 vnfm=${1:-.build/vnfm}
-program=${2:-crates/journal_bench/out/journal_bench}
-[ $# -ge 1 ] || ./vnfm --version >/dev/null
-[ $# -ge 2 ] || (cd crates/journal_bench && rt run >/dev/null)
+program=${2:-crates/benchmarks/out/benchmarks}
 room=$(mktemp -d)
 trap 'rm -rf "$room"' EXIT
+[ $# -ge 1 ] || ./vnfm --version >/dev/null
+[ $# -ge 2 ] || (cd crates/benchmarks && rt run -- journal append "$room/built" 1 >/dev/null)
 
 # How often a call stands in a count of calls.
 count() { # FILE CALL
@@ -19,8 +19,8 @@ count() { # FILE CALL
 cp examples/journal "$room/journal"
 strace -c -o "$room/post" "$vnfm" once --journal "$room/journal" <examples/create.http >"$room/answer" 2>/dev/null
 head -n 1 "$room/answer"
-strace -c -o "$room/one" "$program" append "$room/first" 1 >/dev/null
-strace -c -o "$room/more" "$program" append "$room/second" 11 >/dev/null
+strace -c -o "$room/one" "$program" journal append "$room/first" 1 >/dev/null
+strace -c -o "$room/more" "$program" journal append "$room/second" 11 >/dev/null
 
 echo "| Calls | One POST, with its load | Ten appends more |"
 echo "|---|---|---|"

@@ -5,22 +5,22 @@
 # usage: bench/journal/run.sh [PROGRAM [FOLDER]]     from the top; without PROGRAM it is built by `rt run` first. The files stand
 #        in a new folder within FOLDER (default: where temporary files do), which decides what disk is measured.
 set -eu
-program=${1:-crates/journal_bench/out/journal_bench}
-if [ $# -eq 0 ]; then
-    (cd crates/journal_bench && rt run >/dev/null)
-fi
+program=${1:-crates/benchmarks/out/benchmarks}
 room=$(mktemp -d -p "${2:-${TMPDIR:-/tmp}}")
 trap 'rm -rf "$room"' EXIT
+if [ $# -eq 0 ]; then
+    (cd crates/benchmarks && rt run -- journal append "$room/built" 1 >/dev/null)
+fi
 
 echo "| Records | Bytes | Load, ms | ns a record |"
 echo "|---|---|---|---|"
 for records in 10000 100000 1000000; do
     python3 bench/journal/stream.py "$records" "$room/journal"
-    { echo "records $records"; "$program" read "$room/journal"; } >"$room/read"
+    { echo "records $records"; "$program" journal read "$room/journal"; } >"$room/read"
     python3 bench/journal/stream.py "$records" | cmp - "$room/read"
     bytes=$(wc -c <"$room/journal")
     for _ in $(seq 7); do
-        "$program" load "$room/journal"
+        "$program" journal load "$room/journal"
     done | awk -v records="$records" -v bytes="$bytes" '
         $1 == "records" && $2 != records { print "records differ"; exit 1 }
         $1 == "took" && (!took || $2 < took) { took = $2 }
@@ -34,7 +34,7 @@ appends=1000
 for _ in $(seq 5); do
     for what in append bare; do
         rm -f "$room/file"
-        "$program" "$what" "$room/file" "$appends" | awk -v what="$what" '$1 == "took" { print what, $2 }'
+        "$program" journal "$what" "$room/file" "$appends" | awk -v what="$what" '$1 == "took" { print what, $2 }'
     done
 done | awk -v appends="$appends" '
     !least[$1] || $2 < least[$1] { least[$1] = $2 }

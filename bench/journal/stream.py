@@ -1,7 +1,7 @@
 #!/usr/bin/env python3
-"""Spells the journal of `journal_bench` after docs/JOURNAL.md.
+"""Spells the journal of `benchmarks journal` after docs/JOURNAL.md.
 
-usage: stream.py RECORDS        what `journal_bench` prints of so many records
+usage: stream.py RECORDS        what `benchmarks journal` prints of so many records
        stream.py RECORDS PATH   writes the journal to this path
 """
 import hashlib

@@ -5,11 +5,11 @@
 #
 # usage: bench/load/run.sh [PROGRAM]     from the top; without PROGRAM it is built by `rt run` first
 set -eu
-program=${1:-crates/load_bench/out/load_bench}
+program=${1:-crates/benchmarks/out/benchmarks}
 if [ $# -eq 0 ]; then
-    (cd crates/load_bench && rt run <stdin >/dev/null)
+    (cd crates/benchmarks && rt run -- load <data/load.journal >/dev/null)
 fi
-journal=/tmp/load_bench.$$
+journal=/tmp/load.$$
 trap 'rm -f "$journal"' EXIT
 
 # the least nanoseconds an event, where every run finds them all: least EVENTS MODE [PATH]
@@ -18,7 +18,7 @@ least() {
     shift
     runs=$((events > 1000000 ? 1 : events >= 1000000 ? 3 : 7))
     for _ in $(seq "$runs"); do
-        "$program" "$@" <"$journal"
+        "$program" load "$@" <"$journal"
     done | awk -v events="$events" -v runs="$runs" '
         $1 == "records" && $2 == events { found += 1 }
         $1 == "took" && (!took || $2 < took) { took = $2 }
@@ -27,7 +27,7 @@ least() {
 
 # the peak of memory in MB: peak MODE
 peak() {
-    python3 bench/vnfd/peak.py "$program" "$1" "$journal"
+    python3 bench/vnfd/peak.py "$program" load "$1" "$journal"
 }
 
 # makes a journal, and measures it: measure EVENTS SHAPE [NUMBER]

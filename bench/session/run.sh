@@ -5,9 +5,9 @@
 #
 # usage: bench/session/run.sh [PROGRAM]     from the top; without PROGRAM it is built by `rt run` first
 set -eu
-program=${1:-crates/session_bench/out/session_bench}
+program=${1:-crates/benchmarks/out/benchmarks}
 if [ $# -eq 0 ]; then
-    (cd crates/session_bench && rt run <stdin >/dev/null)
+    (cd crates/benchmarks && rt run -- session <data/session.journal >/dev/null)
 fi
 room=$(mktemp -d)
 trap 'rm -rf "$room"' EXIT
@@ -15,7 +15,7 @@ trap 'rm -rf "$room"' EXIT
 # the replies, the bytes and the least nanoseconds of so many requests: serve REQUEST NUMBER INSTANCES
 serve() {
     for _ in 1 2 3 4 5 6 7; do
-        "$program" "$@" times <crates/session_bench/stdin
+        "$program" session "$@" times <crates/benchmarks/data/session.journal
     done | awk -v number="$2" '
         $1 == "replies" && $2 == number { found += 1 }
         $1 == "bytes" { bytes = $3 }

@@ -3,15 +3,15 @@
 #
 # usage: bench/table/run.sh [PROGRAM]     from the top; without PROGRAM it is built by `rt run` first
 set -eu
-program=${1:-crates/table_bench/out/table_bench}
+program=${1:-crates/benchmarks/out/benchmarks}
 if [ $# -eq 0 ]; then
-    (cd crates/table_bench && rt run >/dev/null)
+    (cd crates/benchmarks && rt run -- table >/dev/null)
 fi
 
 # the least nanoseconds an event of following, an occurrence of looking up, and an instance of asking for its ongoing operation
 least() {
     for _ in 1 2 3; do
-        "$program" "$1" "$2" "$3"
+        "$program" table "$1" "$2" "$3"
     done | awk -v occurrences="$1" '
         $1 == "events" { events = $2 + 0 }
         $1 == "following" && (!following || $2 < following) { following = $2 }
@@ -22,7 +22,7 @@ least() {
 
 # the peak of memory of a run, in bytes
 peak() {
-    python3 - "$program" "$@" <<'PYTHON'
+    python3 - "$program" table "$@" <<'PYTHON'
 import resource, subprocess, sys
 subprocess.run(sys.argv[1:], stdout=subprocess.DEVNULL, check=True)
 print(resource.getrusage(resource.RUSAGE_CHILDREN).ru_maxrss * 1024)
@@ -34,7 +34,7 @@ echo "|---|---|---|---|---|---|---|"
 for size in "1000 50" "10000 50" "100000 5" "200 500" "1000 500" "40 2500" "200 2500"; do
     set -- $size
     judged=$(least "$1" "$2" judged)
-    events=$("$program" "$1" "$2" followed | awk '$1 == "events" { print $2 + 0 }')
+    events=$("$program" table "$1" "$2" followed | awk '$1 == "events" { print $2 + 0 }')
     occurrences=$1 changes=$2
     set -- $(least "$1" "$2" followed)
     echo "| $occurrences | $changes | $events | $1 | ${judged%% *} | $2 | $3 |"

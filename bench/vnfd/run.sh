@@ -4,19 +4,19 @@
 #
 # usage: bench/vnfd/run.sh [PROGRAM]     from the top; without PROGRAM it is built by `rt run` first
 set -eu
-program=${1:-crates/vnfd_bench/out/vnfd_bench}
+program=${1:-crates/benchmarks/out/benchmarks}
 if [ $# -eq 0 ]; then
-    (cd crates/vnfd_bench && rt run >/dev/null)
+    (cd crates/benchmarks && rt run -- vnfd data/vnfd.json >/dev/null)
 fi
-document=/tmp/vnfd_bench.$$
+document=/tmp/vnfd.$$
 trap 'rm -f "$document"' EXIT
 
 # row SHAPE BYTES RUNS
 row() {
     python3 bench/vnfd/document.py "$1" "$2" >"$document"
-    memory=$(python3 bench/vnfd/peak.py "$program" "$document")
+    memory=$(python3 bench/vnfd/peak.py "$program" vnfd "$document")
     for _ in $(seq "$3"); do
-        "$program" "$document" times
+        "$program" vnfd "$document" times
     done | awk -v shape="$1" -v bytes="$2" -v memory="$memory" '
         BEGIN { answer = "read" }
         $1 == "descriptor" { answer = substr($0, 21) }

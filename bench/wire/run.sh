@@ -4,16 +4,16 @@
 #
 # usage: bench/wire/run.sh [PROGRAM]     from the top; without PROGRAM it is built by `rt run` first
 set -eu
-program=${1:-crates/wire_bench/out/wire_bench}
+program=${1:-crates/benchmarks/out/benchmarks}
 if [ $# -eq 0 ]; then
-    (cd crates/wire_bench && rt run >/dev/null)
+    (cd crates/benchmarks && rt run -- wire >/dev/null)
 fi
 row() {
-    "$program" "$@" >/tmp/wire_bench.$$
-    python3 bench/wire/stream.py "$@" | cmp - /tmp/wire_bench.$$
-    peak=$(/usr/bin/time -f %M "$program" "$@" 2>&1 >/dev/null)
+    "$program" wire "$@" >/tmp/wire.$$
+    python3 bench/wire/stream.py "$@" | cmp - /tmp/wire.$$
+    peak=$(/usr/bin/time -f %M "$program" wire "$@" 2>&1 >/dev/null)
     for _ in $(seq 9); do
-        "$program" "$@" times
+        "$program" wire "$@" times
     done | awk -v what="$1 | $2 | $3 | $4" -v peak="$peak" '
         $1 == "bytes" && $2 == "in" { bytes = $3 }
         $1 == "taking" && (!least || $2 < least) { least = $2 }
@@ -36,4 +36,4 @@ for piece in 1 4096; do
         row sized 1000 "$requests" "$piece"
     done
 done
-rm -f /tmp/wire_bench.$$
+rm -f /tmp/wire.$$

@@ -1,5 +1,5 @@
 #!/usr/bin/env python3
-"""Prints what `wire_bench` must print.
+"""Prints what `benchmarks wire` must print.
 
 usage: stream.py FRAMING SIZE REQUESTS PIECE
 """
