@@ -768,8 +768,21 @@ run(
             *[('{"vnfInstanceName":7}', "missing vnfdId"), ('{"vnfdId":"v","vnfInstanceName":"\\u0001"}', "bad vnfInstanceName")],
             ('{"vnfdId":"v","vnfInstanceName":"\\u007f"}', "bad vnfInstanceName"),
             ('{"vnfdId":"v","vnfInstanceDescription":[]}', "bad vnfInstanceDescription"),
+            *[('{"vnfdId":"v"', "malformed JSON"), ('{"vnfInstanceName":7,"vnfInstanceDescription":7}', "missing vnfdId")],
+            *[('{"vnfdId":"v","vnfdId":null}', "missing vnfdId"), ('{"vnfdId":"","vnfInstanceName":7}', "bad vnfdId")],
+            ('{"vnfInstanceDescription":7,"vnfInstanceName":[],"vnfdId":"v"}', "bad vnfInstanceName"),
+            ('{"vnfInstanceDescription":"\\n","vnfInstanceName":"n","vnfdId":"v"}', "bad vnfInstanceDescription"),
+            ('{"vnfInstanceDescription":"d","vnfInstanceName":"\\u007f","vnfdId":"v"}', "bad vnfInstanceName"),
         ]
         for act in (once(creation(body)), refused(BAD, detail))
+    ],
+    *[
+        act
+        for body in [
+            *['{"vnfdId":"v"}', '{"vnfInstanceDescription":null,"vnfInstanceName":null,"vnfdId":"v"}', '{"vnfdId":7,"vnfdId":"v"}'],
+            '{"vnfInstanceDescription":"","vnfInstanceName":"","vnfdId":"v","x":1.5}',
+        ]
+        for act in (once(creation(body)), refused(UNPROCESSABLE, "vnfdId is not onboarded"))
     ],
 )
 
@@ -916,10 +929,18 @@ run(
             (1, '{"flavourId":"x"}', UNPROCESSABLE, NO_FLAVOUR),
             (1, '{"flavourId":"x","instantiationLevelId":"huge"}', UNPROCESSABLE, NO_FLAVOUR),
             (1, '{"flavourId":"simple","instantiationLevelId":"huge"}', UNPROCESSABLE, "instantiationLevelId is not in the descriptor"),
+            *[(2, '"simple"', BAD, "malformed JSON"), (2, '{"flavourId":"simple"}}', BAD, "malformed JSON")],
+            *[(2, '{"instantiationLevelId":7}', BAD, "missing flavourId"), (2, '{"flavourId":["simple"]}', BAD, "bad flavourId")],
+            *[(2, '{"flavourId":"","instantiationLevelId":7}', BAD, "bad flavourId"), (2, '{"flavourId":"x","x":[]}', NOT_FOUND, "no such instance")],
+            (2, '{"flavourId":"simple","instantiationLevelId":7}', BAD, "bad instantiationLevelId"),
+            (1, '{"instantiationLevelId":"huge","flavourId":"simple"}', UNPROCESSABLE, "instantiationLevelId is not in the descriptor"),
+            (1, '{"flavourId":"simple","instantiationLevelId":"","extVirtualLinks":[]}', UNPROCESSABLE, "instantiationLevelId is not in the descriptor"),
         ]
         for act in (instantiation(number, body), refused(line, detail))
     ],
 )
+WITHOUT_LEVEL = '{"flavourId":"simple","instantiationLevelId":null}'
+run("an instantiation at no level is one at the default level", ["site", JOURNALS[1]], instantiation(1, WITHOUT_LEVEL), ["told", ACCEPTED])
 run(
     "an instance in use is not instantiated",
     *[["site", journal(*IN_FAILED_TEMP)], instantiation(1, SIMPLE), refused(CONFLICT, "an operation is ongoing")],
@@ -1267,6 +1288,10 @@ for title, text, records, behind in [
     ("a forceful cancel in ROLLING_BACK", task_of(1, "cancel", FORCEFUL), IN_ROLLING_BACK, FORCED),
     ("a forceful cancel behind a graceful one", task_of(1, "cancel", FORCEFUL), [*IN_PROCESSING, CANCELLED], FORCED),
     (
+        *["a forceful cancel, of two modes the last", task_of(1, "cancel", '{"cancelMode":"GRACEFUL","cancelMode":"FORCEFUL"}')],
+        *[IN_PROCESSING, FORCED],
+    ),
+    (
         *["a graceful cancel behind a forceful one, with a member more", task_of(1, "cancel", '{"x":[],"cancelMode":"GRACEFUL"}')],
         *[[*IN_PROCESSING, FORCED], CANCELLED],
     ),
@@ -1334,7 +1359,8 @@ run(
 )
 CANCEL_BODIES = [(1, "", NO_JSON), (2, "{", NO_JSON), (1, '["GRACEFUL"]', NO_JSON), (2, "{}", NO_MODE), (1, '{"cancelMode":null}', NO_MODE)]
 CANCEL_BODIES += [(1, '{"CancelMode":"GRACEFUL"}', NO_MODE), (1, '{"cancelMode":1}', BAD_MODE), (1, '{"cancelMode":""}', BAD_MODE)]
-CANCEL_BODIES += [(1, '{"cancelMode":"graceful"}', BAD_MODE), (2, '{"cancelMode":"FORCEFULL"}', BAD_MODE)]
+CANCEL_BODIES += [(1, '{"cancelMode":"graceful"}', BAD_MODE), (2, '{"cancelMode":"FORCEFULL"}', BAD_MODE), (1, '"GRACEFUL"', NO_JSON)]
+CANCEL_BODIES += [(1, '{"mode":"GRACEFUL"}', NO_MODE), (1, '{"cancelMode":"Graceful"}', BAD_MODE), (1, '{"cancelMode":["GRACEFUL"]}', BAD_MODE)]
 run(
     "a cancel is refused for the first cause",
     *[["site", journal(*IN_COMPLETED)], answers(task_of(1, "cancel", GRACEFUL, "text/plain"), NOT_JSON), ["stays"]],

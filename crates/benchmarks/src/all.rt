@@ -1,7 +1,7 @@
-//! The usual run of each benchmark, one after the other: what they print but for figures, which is the same each time.
+//! The usual run of each benchmark, one after the other. None prints figures, so what is printed is the same each time.
 //!
-//! `benchmarks all` has one folder for all of them, the one that it is run in. There the files `forward.journal`, `load.journal` and
-//! `session.journal` are read in place of standard input, and the descriptor `vnfd.json`; and `journal`, which isn't there before, is made.
+//! `benchmarks all` works in the folder that it is run in: it reads `forward.journal`, `load.journal` and `session.journal` there in place
+//! of standard input, and the descriptor `vnfd.json`, and makes `journal`, which isn't there before.
 
 use crate::{codec, forward, journal, load, plan, session, table, vnfd, wire};
 use anyhow::Result;
@@ -21,15 +21,15 @@ pub fn run(
     println!(rt; "codec")?;
     codec::usual(rt)?;
     println!(rt; "forward")?;
-    forward::usual(rt, &held_file(rt, streams, "forward.journal")?)?;
+    forward::usual(rt, &bytes_at(rt, streams, "forward.journal")?)?;
     println!(rt; "journal")?;
     journal::usual(rt, streams)?;
     println!(rt; "load")?;
-    load::usual(rt, held_file(rt, streams, "load.journal")?)?;
+    load::usual(rt, bytes_at(rt, streams, "load.journal")?)?;
     println!(rt; "plan")?;
     plan::usual(rt)?;
     println!(rt; "session")?;
-    session::usual(rt, &held_file(rt, streams, "session.journal")?)?;
+    session::usual(rt, &bytes_at(rt, streams, "session.journal")?)?;
     println!(rt; "table")?;
     table::usual(rt)?;
     println!(rt; "vnfd")?;
@@ -39,7 +39,7 @@ pub fn run(
 }
 
 /// All bytes of the file at this path.
-fn held_file(
+fn bytes_at(
     rt: &(impl Files<File = File> + AllocGlobal),
     _streams: &HeldStreams<File>,
     path: &str,

@@ -1,7 +1,7 @@
 //! Measures the parts of the manager, each by a benchmark of its own.
 //!
 //! - `benchmarks NAME [WORD..]`: the name is codec, forward, journal, load, plan, session, table, vnfd or wire. The module of this name says
-//!   what the words are and what is printed.
+//!   what the words are, counted behind the name, and what is printed.
 //! - `benchmarks all` plays the usual run of each of them, whose figures are left out.
 #![tactic(auto)]
 
@@ -32,9 +32,9 @@ use std::io::{Input, Print};
 use std::rt::Files;
 use std::time::{Clock, CpuClock};
 
-/// What is said where the first word is missing, or names nothing.
+/// What is said where no benchmark is named, or one that isn't there.
 const NAMES: &str =
-    "the first word is none of all, codec, forward, journal, load, plan, session, table, vnfd and wire";
+    "name a benchmark: codec, forward, journal, load, plan, session, table, vnfd or wire; or all";
 
 /// Does what the benchmark of this name does with the words behind it.
 fn measure(

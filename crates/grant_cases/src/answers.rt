@@ -1,7 +1,6 @@
 //! What the orchestrator's answers say, hostile ones among them.
 
-use crate::router::name;
-use grant_desk::{GrantAnswer, read_answer};
+use grant_desk::{GrantAnswer, GrantRow, read_answer};
 use site_traits::Heard;
 use std::alloc::Global;
 use std::process::Abort;
@@ -160,59 +159,99 @@ fn repeated(
     Ok(body)
 }
 
-#[test]
-fn a_deep_or_long_answer_is_read_or_is_trouble(rt: HostRuntime) -> Result<(), Fail> {
-    let alloc = rt.alloc();
-    let deep = repeated(
-        alloc,
+/// The word of what is read of a created grant with this body.
+fn word_of_body(alloc: Global, body: &[u8]) -> Result<&'static str, Fail> {
+    Ok(word(&read(alloc, true, 201, None, body)?))
+}
+
+/// The word of what is read of a grant with a member more, of so many arrays in one another.
+fn word_of_nested(alloc: Global, arrays: usize) -> Result<&'static str, Fail> {
+    let front = repeated(alloc, b"{\"id\":\"g1\",\"x\":", b"[", arrays, b"")?;
+    let whole = repeated(alloc, front.as_slice(), b"]", arrays, b"}")?;
+    word_of_body(alloc, whole.as_slice())
+}
+
+/// A front, a middle and how often it stands there, a back, and the word of what is read.
+type Long = (
+    &'static [u8],
+    &'static [u8],
+    usize,
+    &'static [u8],
+    &'static str,
+);
+
+const LONG: [Long; 4] = [
+    (
         b"{\"id\":\"g1\",\"addResources\":",
         b"[",
         1_000_000,
         b"",
-    )?;
-    assert!(rt; word(&read(alloc, true, 201, None, deep.as_slice())?) == "trouble");
-    let passed_over = repeated(alloc, b"{\"id\":\"g1\",\"x\":", b"[", 200, b"")?;
-    let passed_over = repeated(alloc, passed_over.as_slice(), b"]", 200, b"}")?;
-    assert!(rt; word(&read(alloc, true, 201, None, passed_over.as_slice())?) == "trouble");
-    let longest = repeated(alloc, b"{\"id\":\"", b"g", 255, b"\"}")?;
-    assert!(rt; word(&read(alloc, true, 201, None, longest.as_slice())?) == "granted");
-    let too_long = repeated(alloc, b"{\"id\":\"", b"g", 256, b"\"}")?;
-    assert!(rt; word(&read(alloc, true, 201, None, too_long.as_slice())?) == "trouble");
-    let row = b"{\"resourceDefinitionId\":\"\"},";
-    let many = repeated(
-        alloc,
+        "trouble",
+    ),
+    (b"{\"id\":\"", b"g", 255, b"\"}", "granted"),
+    (b"{\"id\":\"", b"g", 256, b"\"}", "trouble"),
+    (
         b"{\"addResources\":[",
-        row,
+        b"{\"resourceDefinitionId\":\"\"},",
         37_000,
         b"{\"resourceDefinitionId\":\"d1\"}],\"id\":\"g1\"}",
-    )?;
-    assert!(rt; word(&read(alloc, true, 201, None, many.as_slice())?) == "granted");
+        "granted",
+    ),
+];
+
+/// The word of what is read of that body.
+fn word_of_long(alloc: Global, long: &Long) -> Result<&'static str, Fail> {
+    let body = repeated(alloc, long.0, long.1, long.2, long.3)?;
+    word_of_body(alloc, body.as_slice())
+}
+
+#[test]
+fn a_deep_or_long_answer_is_read_or_is_trouble(rt: HostRuntime) -> Result<(), Fail> {
+    for long in &LONG {
+        assert_eq!(rt; word_of_long(rt.alloc(), long)?, long.4);
+    }
+    assert_eq!(rt; word_of_nested(rt.alloc(), 200)?, "trouble");
     Ok(())
+}
+
+/// A row as it is written: the identifier, the connection and the zone.
+type Written = (&'static str, &'static str, &'static str);
+
+/// Whether the row is this one.
+fn is_row(row: &GrantRow, written: &Written) -> bool {
+    let (id, place) = row;
+    id.as_str() == written.0 && place.vim.as_str() == written.1 && place.zone.as_str() == written.2
+}
+
+/// Whether the rows are these, in this order.
+fn are_rows(rows: &[GrantRow], written: &[Written]) -> bool {
+    for (row, its) in rows.iter().zip(written) {
+        if !is_row(row, its) {
+            return false;
+        }
+    }
+    rows.len() == written.len()
+}
+
+/// Whether the answer is the grant `g1` of these rows to add and to remove, and of none to update.
+fn is_grant(answer: &GrantAnswer, add: &[Written], remove: &[Written]) -> bool {
+    match answer {
+        GrantAnswer::Granted(rows) => {
+            rows.grant.as_str() == "g1"
+                && are_rows(rows.add.as_slice(), add)
+                && are_rows(rows.remove.as_slice(), remove)
+                && rows.update.is_empty()
+        }
+        _ => false,
+    }
 }
 
 #[test]
 fn the_rows_of_a_grant_are_read_in_order(rt: HostRuntime) -> Result<(), Fail> {
-    let alloc = rt.alloc();
     let body =
         b"{\"removeResources\":[{\"zoneId\":\"west\",\"resourceDefinitionId\":\"d7\"}],\"id\":\"g1\",\"addResources\":[{\"resourceDefinitionId\":\"d3\",\"vimConnectionId\":\"vim2\",\"zoneId\":\"east\"},{\"resourceDefinitionId\":\"d3\"}]}";
-    let GrantAnswer::Granted(rows) = read(alloc, false, 200, None, body)? else {
-        return Ok(assert!(rt; false));
-    };
-    assert_eq!(rt; rows.grant.as_str(), "g1");
-    let expected = [("d3", "vim2", "east"), ("d3", "", "")];
-    assert_eq!(rt; rows.add.len(), 2);
-    for ((id, place), (its, vim, zone)) in rows.add.as_slice().iter().zip(&expected) {
-        assert!(rt;
-            *id == name(&rt, its) && place.vim == name(&rt, vim) && place.zone == name(&rt, zone),
-            "{its}"
-        );
-    }
-    assert_eq!(rt; rows.remove.len(), 1);
-    for (id, place) in rows.remove.as_slice() {
-        assert!(rt;
-            id.as_str() == "d7" && place.vim.as_str() == "" && place.zone.as_str() == "west"
-        );
-    }
-    assert!(rt; rows.update.is_empty());
+    let answer = read(rt.alloc(), false, 200, None, body)?;
+    let add = [("d3", "vim2", "east"), ("d3", "", "")];
+    assert!(rt; is_grant(&answer, &add, &[("d7", "", "west")]));
     Ok(())
 }

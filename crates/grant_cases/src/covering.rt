@@ -145,27 +145,36 @@ fn spread(rt: &impl Abort, alloc: Global, count: usize, places: usize) -> Result
     Ok(adding(rt, alloc, rows))
 }
 
+/// Whether a grant of forty changes, each at one of so many places, covers a plan of as many machines.
+fn covers_forty(rt: &impl Abort, alloc: Global, places: usize) -> Result<bool, Fail>
+    requires { 0 < places }
+{
+    let plan = machines(alloc, 40)?;
+    let rows = spread(rt, alloc, 40, places)?;
+    Ok(covers(plan.as_slice(), &rows))
+}
+
+/// A row for each of so many changes, at one connection and in a zone of its own.
+fn in_zones(rt: &impl Abort, alloc: Global, count: usize) -> Result<Listed<GrantRow>, Fail> {
+    let mut rows: Listed<GrantRow> = Listed::new(alloc);
+    for change in 0..count {
+        let zone = format!(in alloc; "zone{change}")?;
+        let place = Place {
+            vim: name(rt, "vim0"),
+            zone: name(rt, zone.as_str()),
+        };
+        rows.push(row(rt, alloc, change, &place)?)?;
+    }
+    Ok(rows)
+}
+
 #[test]
 fn a_grant_has_at_most_thirty_two_places(rt: HostRuntime) -> Result<(), Fail> {
     let alloc = rt.alloc();
-    let plan = machines(alloc, 40)?;
-    assert!(rt; covers(plan.as_slice(), &spread(&rt, alloc, 40, 32)?));
-    assert!(rt; !covers(plan.as_slice(), &spread(&rt, alloc, 40, 33)?));
-    let mut zones = spread(&rt, alloc, 40, 1)?;
-    let elsewhere = Place {
-        vim: name(&rt, "vim0"),
-        zone: name(&rt, "west"),
-    };
-    zones.add = rows_of(&rt, alloc, &[])?;
-    for change in 0..40 {
-        let zone = format!(in alloc; "zone{change}")?;
-        let place = Place {
-            vim: elsewhere.vim,
-            zone: name(&rt, zone.as_str()),
-        };
-        zones.add.push(row(&rt, alloc, change, &place)?)?;
-    }
-    assert!(rt; !covers(plan.as_slice(), &zones));
+    assert!(rt; covers_forty(&rt, alloc, 32)?);
+    assert!(rt; !covers_forty(&rt, alloc, 33)?);
+    let zones = adding(&rt, alloc, in_zones(&rt, alloc, 40)?);
+    assert!(rt; !covers(machines(alloc, 40)?.as_slice(), &zones));
     Ok(())
 }
 

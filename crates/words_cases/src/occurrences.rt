@@ -299,90 +299,84 @@ fn terminate() -> Ask {
     }
 }
 
+fn plain(rt: &impl Abort) -> Ask {
+    Ask::Instantiate {
+        flavour: name(rt, "simple"),
+        level: None,
+    }
+}
+
+fn heal_all(alloc: Global) -> Ask {
+    Ask::Heal {
+        cause: None,
+        named: Listed::new(alloc),
+    }
+}
+
+fn to_level(rt: &impl Abort) -> Ask {
+    Ask::ScaleToLevel(Aim::Level(name(rt, "normal")))
+}
+
 #[test]
 fn what_an_operation_was_asked_for_with_is_shown(rt: HostRuntime) -> Result<(), Fail> {
     let alloc = rt.alloc();
-    let plain = Ask::Instantiate {
-        flavour: name(&rt, "simple"),
-        level: None,
-    };
-    let all = Ask::Heal {
-        cause: None,
-        named: Listed::new(alloc),
-    };
-    let level = Ask::ScaleToLevel(Aim::Level(name(&rt, "normal")));
-    assert!(rt;
+    let shown = [
         is_asked_with(
             &rt,
             alloc,
             instantiate(&rt),
-            "\"operation\":\"INSTANTIATE\",\"operationParams\":{\"flavourId\":\"simple\",\"instantiationLevelId\":\"normal\"},"
-        )?
-    );
-    assert!(rt;
+            "\"operation\":\"INSTANTIATE\",\"operationParams\":{\"flavourId\":\"simple\",\"instantiationLevelId\":\"normal\"},",
+        )?,
         is_asked_with(
             &rt,
             alloc,
-            plain,
-            "\"operation\":\"INSTANTIATE\",\"operationParams\":{\"flavourId\":\"simple\"},"
-        )?
-    );
-    assert!(rt;
+            plain(&rt),
+            "\"operation\":\"INSTANTIATE\",\"operationParams\":{\"flavourId\":\"simple\"},",
+        )?,
         is_asked_with(
             &rt,
             alloc,
             scale(&rt),
-            "\"operation\":\"SCALE\",\"operationParams\":{\"aspectId\":\"workers\",\"numberOfSteps\":4294967295,\"type\":\"SCALE_IN\"},"
-        )?
-    );
-    assert!(rt;
+            "\"operation\":\"SCALE\",\"operationParams\":{\"aspectId\":\"workers\",\"numberOfSteps\":4294967295,\"type\":\"SCALE_IN\"},",
+        )?,
         is_asked_with(
             &rt,
             alloc,
-            level,
-            "\"operation\":\"SCALE_TO_LEVEL\",\"operationParams\":{\"instantiationLevelId\":\"normal\"},"
-        )?
-    );
-    assert!(rt;
+            to_level(&rt),
+            "\"operation\":\"SCALE_TO_LEVEL\",\"operationParams\":{\"instantiationLevelId\":\"normal\"},",
+        )?,
         is_asked_with(
             &rt,
             alloc,
             to_levels(&rt, alloc)?,
-            "\"operation\":\"SCALE_TO_LEVEL\",\"operationParams\":{\"scaleInfo\":[{\"aspectId\":\"workers\",\"scaleLevel\":3},{\"aspectId\":\"readers\",\"scaleLevel\":0}]},"
-        )?
-    );
-    assert!(rt;
+            "\"operation\":\"SCALE_TO_LEVEL\",\"operationParams\":{\"scaleInfo\":[{\"aspectId\":\"workers\",\"scaleLevel\":3},{\"aspectId\":\"readers\",\"scaleLevel\":0}]},",
+        )?,
         is_asked_with(
             &rt,
             alloc,
             heal(alloc)?,
-            "\"operation\":\"HEAL\",\"operationParams\":{\"cause\":\"disk \\\"full\\\"\",\"vnfcInstanceId\":[\"VDU_A-30\",\"VDU_B-2\"]},"
-        )?
-    );
-    assert!(rt;
+            "\"operation\":\"HEAL\",\"operationParams\":{\"cause\":\"disk \\\"full\\\"\",\"vnfcInstanceId\":[\"VDU_A-30\",\"VDU_B-2\"]},",
+        )?,
         is_asked_with(
             &rt,
             alloc,
-            all,
-            "\"operation\":\"HEAL\",\"operationParams\":{},"
-        )?
-    );
-    assert!(rt;
+            heal_all(alloc),
+            "\"operation\":\"HEAL\",\"operationParams\":{},",
+        )?,
         is_asked_with(
             &rt,
             alloc,
             operate(),
-            "\"operation\":\"OPERATE\",\"operationParams\":{\"changeStateTo\":\"STOPPED\",\"stopType\":\"GRACEFUL\"},"
-        )?
-    );
-    assert!(rt;
+            "\"operation\":\"OPERATE\",\"operationParams\":{\"changeStateTo\":\"STOPPED\",\"stopType\":\"GRACEFUL\"},",
+        )?,
         is_asked_with(
             &rt,
             alloc,
             terminate(),
-            "\"operation\":\"TERMINATE\",\"operationParams\":{\"gracefulTerminationTimeout\":30,\"terminationType\":\"FORCEFUL\"},"
-        )?
-    );
+            "\"operation\":\"TERMINATE\",\"operationParams\":{\"gracefulTerminationTimeout\":30,\"terminationType\":\"FORCEFUL\"},",
+        )?,
+    ];
+    assert_eq!(rt; shown, [true; 9]);
     Ok(())
 }
 

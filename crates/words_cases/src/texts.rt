@@ -6,53 +6,66 @@ use vnfm_base::{
     ident, ident_read, ident_text, moment_text,
 };
 
+/// Identifiers that were written out by hand.
+const WRITTEN: [&[u8]; 4] = [
+    b"00000007-766d-8001-8000-000000000001",
+    b"00000007-766d-8002-8000-000000000002",
+    b"ffffffff-766d-8003-8000-00000000abcd",
+    b"00000000-766d-8004-bfff-ffffffffffff",
+];
+
 #[test]
-fn identifiers_are_written_and_read(rt: HostRuntime) -> Result<(), Fail> {
-    let texts: [&[u8]; 4] = [
-        b"00000007-766d-8001-8000-000000000001",
-        b"00000007-766d-8002-8000-000000000002",
-        b"ffffffff-766d-8003-8000-00000000abcd",
-        b"00000000-766d-8004-bfff-ffffffffffff",
-    ];
+fn identifiers_are_written(rt: HostRuntime) -> Result<(), Fail> {
     let made = [
         ident_text(&ident(7, Kind::Instance, 1)),
         ident_text(&ident(7, Kind::Occurrence, 2)),
         ident_text(&ident(4_294_967_295, Kind::Subscription, 43_981)),
         ident_text(&ident(0, Kind::Notice, 4_611_686_018_427_387_903)),
     ];
-    assert_eq!(rt; made[0].as_slice(), texts[0]);
-    assert_eq!(rt; made[1].as_slice(), texts[1]);
-    assert_eq!(rt; made[2].as_slice(), texts[2]);
-    assert_eq!(rt; made[3].as_slice(), texts[3]);
-    assert_eq!(rt; ident_read(texts[0], 7, Kind::Instance), Some(1));
-    assert_eq!(rt; ident_read(texts[1], 7, Kind::Occurrence), Some(2));
-    assert_eq!(rt;
-        ident_read(texts[3], 0, Kind::Notice),
-        Some(4_611_686_018_427_387_903)
-    );
-    // Another kind, another manager, upper case, braces, and numbers out of range.
-    assert_eq!(rt; ident_read(texts[0], 7, Kind::Occurrence), None);
-    assert_eq!(rt; ident_read(texts[0], 8, Kind::Instance), None);
-    assert_eq!(rt;
-        ident_read(b"00000007-766D-8001-8000-000000000001", 7, Kind::Instance),
-        None
-    );
-    assert_eq!(rt;
-        ident_read(b"{00000007-766d-8001-8000-000000000001}", 7, Kind::Instance),
-        None
-    );
-    assert_eq!(rt;
-        ident_read(b"00000007-766d-8001-8000-000000000000", 7, Kind::Instance),
-        None
-    );
-    assert_eq!(rt;
-        ident_read(b"00000007-766d-8001-c000-000000000000", 7, Kind::Instance),
-        None
-    );
-    assert_eq!(rt;
-        ident_read(b"00000007766d80018000000000000001", 7, Kind::Instance),
-        None
-    );
+    for (text, expected) in made.iter().zip(&WRITTEN) {
+        assert_eq!(rt; text.as_slice(), *expected);
+    }
+    Ok(())
+}
+
+#[test]
+fn identifiers_are_read(rt: HostRuntime) -> Result<(), Fail> {
+    let rows: [(&[u8], u32, Kind, Option<u64>); 10] = [
+        (WRITTEN[0], 7, Kind::Instance, Some(1)),
+        (WRITTEN[1], 7, Kind::Occurrence, Some(2)),
+        (WRITTEN[3], 0, Kind::Notice, Some(4_611_686_018_427_387_903)),
+        // Another kind, another manager, upper case, braces, numbers out of range, and no hyphens.
+        (WRITTEN[0], 7, Kind::Occurrence, None),
+        (WRITTEN[0], 8, Kind::Instance, None),
+        (
+            b"00000007-766D-8001-8000-000000000001",
+            7,
+            Kind::Instance,
+            None,
+        ),
+        (
+            b"{00000007-766d-8001-8000-000000000001}",
+            7,
+            Kind::Instance,
+            None,
+        ),
+        (
+            b"00000007-766d-8001-8000-000000000000",
+            7,
+            Kind::Instance,
+            None,
+        ),
+        (
+            b"00000007-766d-8001-c000-000000000000",
+            7,
+            Kind::Instance,
+            None,
+        ),
+        (b"00000007766d80018000000000000001", 7, Kind::Instance, None),
+    ];
+    for (text, manager, kind, number) in rows {
+        assert_eq!(rt; ident_read(text, manager, kind), number);
+    }
     Ok(())
 }
 
