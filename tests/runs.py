@@ -1078,7 +1078,7 @@ def about(*names):
 
 VDU, STORAGE, LINK, PORT = "Vdu.Compute", "Vdu.VirtualBlockStorage", "VnfVirtualLink", "VduCp"
 ASPECTS, DELTAS, FIRST, LEVELS, NUMBERS = "ScalingAspects", "VduScalingAspectDeltas", "VduInitialDelta", "InstantiationLevels", "VduInstantiationLevels"
-TAKEN_UP_TEXT = "onboarded vnfd-1: 2 vdus, 1 aspects, 2 levels\n"
+ONBOARDED_LINE = "onboarded vnfd-1: 2 vdus, 1 aspects, 2 levels\n"
 ENDS = "]}}"
 
 
@@ -1237,7 +1237,7 @@ ROUTER_RECORD = onboarding(
 )
 run(
     "the edge router's descriptor is recorded as it is read",
-    *[["site", MADE], ["door", ROUTER], ONBOARD, ["printed", TAKEN_UP_TEXT], ["file", [HEADER, ROUTER_RECORD, "\0"]]],
+    *[["site", MADE], ["door", ROUTER], ONBOARD, ["printed", ONBOARDED_LINE], ["file", [HEADER, ROUTER_RECORD, "\0"]]],
 )
 PLAIN = "".join(
     [
