@@ -7,7 +7,7 @@ use crate::records::{Step, front_of, front_with, journal_with};
 use crate::sound::{agrees, change_done, standing};
 use crate::stage::{Stage, plain_site};
 use crate::steps::steps_of;
-use crate::words::{ActFault, behind, code, count, number, part, small, word};
+use case_words::{CaseFault, behind, code, count, number, part, small, word};
 use crate::work::{makes, removes};
 use lcm_events::{Tag, Way};
 use serde_json::Value;
@@ -27,7 +27,7 @@ fn is_shown_over(
     file: &[u8],
     request: &[u8],
     body: &[u8],
-) -> Result<bool, ActFault> {
+) -> Result<bool, CaseFault> {
     let mut site = plain_site(alloc, file)?;
     let told = shown(alloc, body)?;
     let ran = ask(alloc, &mut site, request)?;
@@ -35,16 +35,16 @@ fn is_shown_over(
 }
 
 /// The way of this word.
-fn way_of(word: &str) -> Result<Way, ActFault> {
+fn way_of(word: &str) -> Result<Way, CaseFault> {
     match word {
         "forward" => Ok(Way::Forward),
         "undo" => Ok(Way::Undo),
-        _ => Err(ActFault::Spelling),
+        _ => Err(CaseFault::Spelling),
     }
 }
 
 /// The tag that stands from the second place of an act on: the occurrence, the change, the attempt and its way.
-fn tag_of(act: &[Value]) -> Result<Tag, ActFault> {
+fn tag_of(act: &[Value]) -> Result<Tag, CaseFault> {
     Ok(Tag {
         occ: number(act, 2)?,
         change: small(act, 3)?,
@@ -59,7 +59,7 @@ fn holds(all: &[u8], part: &[u8]) -> bool {
 }
 
 /// Whether these are the numbers behind the first place of an act.
-fn are(act: &[Value], numbers: &[u64]) -> Result<bool, ActFault> {
+fn are(act: &[Value], numbers: &[u64]) -> Result<bool, CaseFault> {
     for (place, found) in numbers.iter().enumerate() {
         if number(act, place.saturating_add(1))? != *found {
             return Ok(false);
@@ -75,12 +75,12 @@ impl Stage {
     }
 
     /// `["stays"]`: the file is as it was before the last command.
-    pub fn file_stays(&self) -> Result<bool, ActFault> {
+    pub fn file_stays(&self) -> Result<bool, CaseFault> {
         Ok(self.stays())
     }
 
     /// `["status", N]`, or one of several numbers: the last command ended with this status.
-    pub fn has_status(&self, act: &[Value]) -> Result<bool, ActFault> {
+    pub fn has_status(&self, act: &[Value]) -> Result<bool, CaseFault> {
         let status = u64::from(self.ran.status);
         for value in behind(act, 1) {
             if value.as_u64() == Some(status) {
@@ -91,46 +91,46 @@ impl Stage {
     }
 
     /// `["told", TEXT]`: the last connection was told this.
-    pub fn is_told(&self, alloc: Global, act: &[Value]) -> Result<bool, ActFault> {
+    pub fn is_told(&self, alloc: Global, act: &[Value]) -> Result<bool, CaseFault> {
         let text = self.names.text(alloc, part(act, 1)?)?;
         Ok(self.ran.told.as_slice() == text.as_slice())
     }
 
     /// `["told front", TEXT]`: what the last connection was told begins with this.
-    pub fn is_told_front(&self, alloc: Global, act: &[Value]) -> Result<bool, ActFault> {
+    pub fn is_told_front(&self, alloc: Global, act: &[Value]) -> Result<bool, CaseFault> {
         let text = self.names.text(alloc, part(act, 1)?)?;
         Ok(self.ran.told.as_slice().starts_with(&text))
     }
 
     /// `["told part", TEXT]`: what the last connection was told has this somewhere.
-    pub fn is_told_part(&self, alloc: Global, act: &[Value]) -> Result<bool, ActFault> {
+    pub fn is_told_part(&self, alloc: Global, act: &[Value]) -> Result<bool, CaseFault> {
         let text = self.names.text(alloc, part(act, 1)?)?;
         Ok(holds(self.ran.told.as_slice(), &text))
     }
 
     /// `["printed", TEXT]`: the last command printed this.
-    pub fn has_printed(&self, alloc: Global, act: &[Value]) -> Result<bool, ActFault> {
+    pub fn has_printed(&self, alloc: Global, act: &[Value]) -> Result<bool, CaseFault> {
         let text = self.names.text(alloc, part(act, 1)?)?;
         Ok(self.ran.printed.as_slice() == text.as_slice())
     }
 
     /// `["ended"]`: the last connection was hung up.
-    pub fn has_ended(&self) -> Result<bool, ActFault> {
+    pub fn has_ended(&self) -> Result<bool, CaseFault> {
         Ok(self.ran.ended)
     }
 
     /// `["clock", N]`: the clock was read so often.
-    pub fn has_read_the_clock(&self, act: &[Value]) -> Result<bool, ActFault> {
+    pub fn has_read_the_clock(&self, act: &[Value]) -> Result<bool, CaseFault> {
         are(act, &[self.ran.clock])
     }
 
     /// `["alike", N]`: so many connections came, each was told the same, and was hung up.
-    pub fn are_told_alike(&self, act: &[Value]) -> Result<bool, ActFault> {
+    pub fn are_told_alike(&self, act: &[Value]) -> Result<bool, CaseFault> {
         Ok(count(act, 1)? == self.ran.alike)
     }
 
     /// `["refused", LINE, DETAIL]`: the last command ended with 0, its connection was told this refusal and hung up, and the file stays.
-    pub fn is_refused(&self, alloc: Global, act: &[Value]) -> Result<bool, ActFault> {
+    pub fn is_refused(&self, alloc: Global, act: &[Value]) -> Result<bool, CaseFault> {
         let told = refusal(alloc, word(act, 1)?, word(act, 2)?)?;
         Ok(
             self.ran.status == 0
@@ -141,7 +141,7 @@ impl Stage {
     }
 
     /// `["told shown", TEXT]`: the last command ended with 0, and its connection was shown this and hung up.
-    pub fn is_told_shown(&self, alloc: Global, act: &[Value]) -> Result<bool, ActFault> {
+    pub fn is_told_shown(&self, alloc: Global, act: &[Value]) -> Result<bool, CaseFault> {
         let body = self.names.text(alloc, part(act, 1)?)?;
         let told = shown(alloc, &body)?;
         let is_told = self.ran.told.as_slice() == told.as_slice();
@@ -149,46 +149,46 @@ impl Stage {
     }
 
     /// `["shown", TEXT]`: the same, and the file stays.
-    pub fn is_shown(&self, alloc: Global, act: &[Value]) -> Result<bool, ActFault> {
+    pub fn is_shown(&self, alloc: Global, act: &[Value]) -> Result<bool, CaseFault> {
         Ok(self.stays() && self.is_told_shown(alloc, act)?)
     }
 
     /// `["file", TEXT]`: the file is this.
-    pub fn has_file(&self, alloc: Global, act: &[Value]) -> Result<bool, ActFault> {
+    pub fn has_file(&self, alloc: Global, act: &[Value]) -> Result<bool, CaseFault> {
         let text = self.names.text(alloc, part(act, 1)?)?;
         Ok(self.site.file() == text.as_slice())
     }
 
     /// `["file front", TEXT]`: the file begins with this.
-    pub fn has_file_front(&self, alloc: Global, act: &[Value]) -> Result<bool, ActFault> {
+    pub fn has_file_front(&self, alloc: Global, act: &[Value]) -> Result<bool, CaseFault> {
         let text = self.names.text(alloc, part(act, 1)?)?;
         Ok(self.site.file().starts_with(&text))
     }
 
     /// `["file end", TEXT]`: the file ends with this.
-    pub fn has_file_end(&self, alloc: Global, act: &[Value]) -> Result<bool, ActFault> {
+    pub fn has_file_end(&self, alloc: Global, act: &[Value]) -> Result<bool, CaseFault> {
         let text = self.names.text(alloc, part(act, 1)?)?;
         Ok(self.site.file().ends_with(&text))
     }
 
     /// `["file length", N]`: the file has so many bytes.
-    pub fn has_file_length(&self, act: &[Value]) -> Result<bool, ActFault> {
+    pub fn has_file_length(&self, act: &[Value]) -> Result<bool, CaseFault> {
         Ok(count(act, 1)? == self.site.file().len())
     }
 
     /// `["grown", N]`: the last command made the file so many bytes longer.
-    pub fn has_grown(&self, act: &[Value]) -> Result<bool, ActFault> {
+    pub fn has_grown(&self, act: &[Value]) -> Result<bool, CaseFault> {
         let length = self.before.len().saturating_add(count(act, 1)?);
         Ok(self.site.file().len() == length)
     }
 
     /// `["moment", N]`: so many calls are on the site's record.
-    pub fn is_at_moment(&self, act: &[Value]) -> Result<bool, ActFault> {
+    pub fn is_at_moment(&self, act: &[Value]) -> Result<bool, CaseFault> {
         Ok(count(act, 1)? == self.site.moment())
     }
 
     /// `["calls", BEGINS, LOOKS, ABORTS]`: so many calls on jobs are on the site's record.
-    pub fn has_called(&self, act: &[Value]) -> Result<bool, ActFault> {
+    pub fn has_called(&self, act: &[Value]) -> Result<bool, CaseFault> {
         let made = calls_of(&self.site);
         Ok(
             count(act, 1)? == made.begins
@@ -199,7 +199,7 @@ impl Stage {
 
     /// `["faults", DISK, JOBS, LOOKS, REFUSALS]`: so many disk calls failed, so many calls on jobs, so many of these were looks, and so many begins
     /// were refused.
-    pub fn has_faults(&self, act: &[Value]) -> Result<bool, ActFault> {
+    pub fn has_faults(&self, act: &[Value]) -> Result<bool, CaseFault> {
         are(
             act,
             &[
@@ -212,22 +212,22 @@ impl Stage {
     }
 
     /// `["grants", N]`: the orchestrator that grants all was asked so often in this run.
-    pub fn has_asked(&self, act: &[Value]) -> Result<bool, ActFault> {
+    pub fn has_asked(&self, act: &[Value]) -> Result<bool, CaseFault> {
         Ok(count(act, 1)? == self.granting.asked())
     }
 
     /// `["job count", N]`: there are so many jobs.
-    pub fn has_job_count(&self, act: &[Value]) -> Result<bool, ActFault> {
+    pub fn has_job_count(&self, act: &[Value]) -> Result<bool, CaseFault> {
         Ok(count(act, 1)? == self.site.jobs())
     }
 
     /// `["jobs", N, STANDING]`: there are so many jobs, and so many changes stand by them.
-    pub fn has_jobs(&self, act: &[Value]) -> Result<bool, ActFault> {
+    pub fn has_jobs(&self, act: &[Value]) -> Result<bool, CaseFault> {
         Ok(count(act, 1)? == self.site.jobs() && count(act, 2)? == standing(&self.site))
     }
 
     /// `["done jobs", CHANGE..]`: the jobs are all done, and are for these changes, in this order.
-    pub fn are_done(&self, act: &[Value]) -> Result<bool, ActFault> {
+    pub fn are_done(&self, act: &[Value]) -> Result<bool, CaseFault> {
         let changes = behind(act, 1);
         for (place, change) in changes.iter().enumerate() {
             if change.as_u64() != change_done(&self.site, place) {
@@ -238,7 +238,7 @@ impl Stage {
     }
 
     /// `["job", PLACE, OCCURRENCE, CHANGE, ATTEMPT, WAY]`: the job at this place, from 0, is for this attempt.
-    pub fn has_job(&self, act: &[Value]) -> Result<bool, ActFault> {
+    pub fn has_job(&self, act: &[Value]) -> Result<bool, CaseFault> {
         let place = count(act, 1)?;
         if place >= self.site.jobs() {
             return Ok(false);
@@ -248,7 +248,7 @@ impl Stage {
     }
 
     /// `["serial", PLACE, N]`: the work of the job at this place, from 0, has this serial number.
-    pub fn has_serial(&self, act: &[Value]) -> Result<bool, ActFault> {
+    pub fn has_serial(&self, act: &[Value]) -> Result<bool, CaseFault> {
         let place = count(act, 1)?;
         if place >= self.site.jobs() {
             return Ok(false);
@@ -258,29 +258,29 @@ impl Stage {
     }
 
     /// `["makes", PLACE, CHANGE]`: the job at this place, from 0, does the work that makes this change at its first attempt.
-    pub fn job_makes(&self, act: &[Value]) -> Result<bool, ActFault> {
+    pub fn job_makes(&self, act: &[Value]) -> Result<bool, CaseFault> {
         Ok(makes(&self.site, count(act, 1)?, count(act, 2)?))
     }
 
     /// `["removes", PLACE, CHANGE, RESOURCE]`: the job at this place, from 0, removes this resource, which that change made.
-    pub fn job_removes(&self, act: &[Value]) -> Result<bool, ActFault> {
+    pub fn job_removes(&self, act: &[Value]) -> Result<bool, CaseFault> {
         Ok(removes(&self.site, count(act, 1)?, count(act, 2)?, word(act, 3)?))
     }
 
     /// Whether the file has these steps behind its base, and the jobs agree with them.
-    fn has_left(&self, alloc: Global, steps: &[Step]) -> Result<bool, ActFault> {
+    fn has_left(&self, alloc: Global, steps: &[Step]) -> Result<bool, CaseFault> {
         let file = journal_with(alloc, &self.base, steps)?;
         Ok(self.site.file() == file.as_slice() && agrees(alloc, &self.site, steps)?)
     }
 
     /// `["steps", STEP..]`: the file has these steps behind its base, and the jobs agree with them.
-    pub fn has_steps(&mut self, alloc: Global, act: &[Value]) -> Result<bool, ActFault> {
+    pub fn has_steps(&mut self, alloc: Global, act: &[Value]) -> Result<bool, CaseFault> {
         self.steps = steps_of(alloc, behind(act, 1))?;
         self.has_left(alloc, &self.steps)
     }
 
     /// `["left"]`: the file has the records that are left of the whole life, the jobs agree with them, and are as many as were begun.
-    pub fn is_left(&self, alloc: Global) -> Result<bool, ActFault> {
+    pub fn is_left(&self, alloc: Global) -> Result<bool, CaseFault> {
         let steps = self.whole.steps_to(alloc, self.stop.records)?;
         let front = front_with(alloc, &self.base, &steps)?;
         let jobs = self.whole.earlier.jobs.saturating_add(self.stop.begins);
@@ -293,27 +293,27 @@ impl Stage {
 
     /// `["again"]`: the file has all steps of the whole life, behind the records that were there before the last command, where an attempt that
     /// had no job yet is made again; and the jobs agree with them.
-    pub fn is_again(&mut self, alloc: Global) -> Result<bool, ActFault> {
+    pub fn is_again(&mut self, alloc: Global) -> Result<bool, CaseFault> {
         self.steps = self.whole.steps_again(alloc, self.stop.lost)?;
         let is_behind = self.site.file().starts_with(front_of(&self.before));
         Ok(is_behind && self.has_left(alloc, &self.steps)?)
     }
 
     /// `["face", TEXT]`: occurrence 1, of which the steps were compared last, is shown so.
-    pub fn has_face(&self, alloc: Global, act: &[Value]) -> Result<bool, ActFault> {
+    pub fn has_face(&self, alloc: Global, act: &[Value]) -> Result<bool, CaseFault> {
         let file = journal_with(alloc, &self.base, &self.steps)?;
         let body = self.names.text(alloc, part(act, 1)?)?;
         is_shown_over(alloc, &file, SHOW_OCCURRENCE, &body)
     }
 
     /// `["instance", TEXT]`: instance 1 is shown so over a copy of the file.
-    pub fn has_instance(&self, alloc: Global, act: &[Value]) -> Result<bool, ActFault> {
+    pub fn has_instance(&self, alloc: Global, act: &[Value]) -> Result<bool, CaseFault> {
         let body = self.names.text(alloc, part(act, 1)?)?;
         is_shown_over(alloc, self.site.file(), SHOW_INSTANCE, &body)
     }
 
     /// `["lost", N]`: so many of the stops before found an attempt without a job.
-    pub fn has_lost(&self, act: &[Value]) -> Result<bool, ActFault> {
+    pub fn has_lost(&self, act: &[Value]) -> Result<bool, CaseFault> {
         Ok(count(act, 1)? == self.lost)
     }
 }

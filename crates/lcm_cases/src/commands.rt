@@ -4,7 +4,7 @@ use crate::calls::opening;
 use crate::objects::{clock_at, run_over, words_of};
 use crate::stage::Stage;
 use crate::stops::Earlier;
-use crate::words::{ActFault, behind, code, count, number, part};
+use case_words::{CaseFault, behind, code, count, number, part};
 use executor::Manager;
 use grant_desk::GrantAll;
 use lcm_api::{Mouth, answer_session};
@@ -19,11 +19,11 @@ use std::mem;
 use vnfm_base::{Moment, Text};
 
 /// The words of a command, as an act spells them.
-fn command_of(alloc: Global, values: &[Value]) -> Result<Vec<Text>, ActFault> {
+fn command_of(alloc: Global, values: &[Value]) -> Result<Vec<Text>, CaseFault> {
     let mut words = Vec::new(alloc);
     for value in values {
         let Some(word) = value.as_str() else {
-            return Err(ActFault::Spelling);
+            return Err(CaseFault::Spelling);
         };
         words.push(Text::of_string(String::from_str(alloc, word)?))?;
     }
@@ -115,7 +115,7 @@ impl Stage {
     }
 
     /// Plans the connection whose text stands at this place, where one does.
-    fn plan_asked(&mut self, alloc: Global, act: &[Value], place: usize) -> Result<(), ActFault> {
+    fn plan_asked(&mut self, alloc: Global, act: &[Value], place: usize) -> Result<(), CaseFault> {
         match act.get(place) {
             Some(text) => self.plan_door(alloc, text),
             None => Ok(()),
@@ -123,7 +123,7 @@ impl Stage {
     }
 
     /// Whether the command ended with 0 and was told what stands at this place, where something does.
-    fn went_well(&self, alloc: Global, act: &[Value], place: usize) -> Result<bool, ActFault> {
+    fn went_well(&self, alloc: Global, act: &[Value], place: usize) -> Result<bool, CaseFault> {
         let Some(told) = act.get(place) else {
             return Ok(true);
         };
@@ -132,7 +132,7 @@ impl Stage {
     }
 
     /// `["go", WORD..]`: runs these words.
-    pub fn go(&mut self, alloc: Global, act: &[Value]) -> Result<bool, ActFault> {
+    pub fn go(&mut self, alloc: Global, act: &[Value]) -> Result<bool, CaseFault> {
         let words = command_of(alloc, behind(act, 1))?;
         self.run_words(alloc, &words)?;
         Ok(true)
@@ -140,7 +140,7 @@ impl Stage {
 
     /// `["once", TEXT, TOLD]`: runs `once` with a connection of this text, which is told that and hung up, with status 0. Both may be left out,
     /// or the second.
-    pub fn once(&mut self, alloc: Global, act: &[Value]) -> Result<bool, ActFault> {
+    pub fn once(&mut self, alloc: Global, act: &[Value]) -> Result<bool, CaseFault> {
         self.plan_asked(alloc, act, 1)?;
         let words = words_of(alloc, &["once", "--journal", "j"])?;
         self.run_words(alloc, &words)?;
@@ -149,7 +149,7 @@ impl Stage {
 
     /// `["rounds", N, TEXT, TOLD]`: runs so many rounds of `once` with the orchestrator that grants all, the first with a connection of this
     /// text, which is told that and hung up, with status 0. The texts may be left out, or the second.
-    pub fn rounds(&mut self, alloc: Global, act: &[Value]) -> Result<bool, ActFault> {
+    pub fn rounds(&mut self, alloc: Global, act: &[Value]) -> Result<bool, CaseFault> {
         self.plan_asked(alloc, act, 2)?;
         let words = rounds_words(alloc, number(act, 1)?)?;
         self.run_granted(alloc, &words)?;
@@ -168,7 +168,7 @@ impl Stage {
 
     /// `["answers", NOW, TEXT, TOLD]`: the session of a connection with this text, whose second write fails, is answered at this moment with this
     /// one reply. No turn is made behind it.
-    pub fn answers(&mut self, alloc: Global, act: &[Value]) -> Result<bool, ActFault> {
+    pub fn answers(&mut self, alloc: Global, act: &[Value]) -> Result<bool, CaseFault> {
         self.keep_file(alloc)?;
         self.plan_second_write(alloc, part(act, 2)?)?;
         let replies = self.answer(alloc, number(act, 1)?)?;
@@ -178,7 +178,7 @@ impl Stage {
 
     /// `["turn", ACTED, WAITING, UNREACHED]`: opens the journal and makes a turn, which comes to these counts, and leaves the file where it records
     /// nothing.
-    pub fn turn(&mut self, alloc: Global, act: &[Value]) -> Result<bool, ActFault> {
+    pub fn turn(&mut self, alloc: Global, act: &[Value]) -> Result<bool, CaseFault> {
         let told = Turn {
             acted: code(act, 1)?,
             waiting: code(act, 2)?,
@@ -191,14 +191,14 @@ impl Stage {
     }
 
     /// `["renew"]`: the site behind what was done, with no call on its record.
-    pub fn renew(&mut self, alloc: Global) -> Result<(), ActFault> {
+    pub fn renew(&mut self, alloc: Global) -> Result<(), CaseFault> {
         self.earlier = Earlier::of(&self.site);
         self.site = self.site.stopped(alloc, self.site.moment(), Choice::Old)?;
         Ok(())
     }
 
     /// `["stop behind", CALLS]`: what a stop behind so many calls from the opening on leaves, where what isn't synced is lost.
-    pub fn stop_behind(&mut self, alloc: Global, act: &[Value]) -> Result<(), ActFault> {
+    pub fn stop_behind(&mut self, alloc: Global, act: &[Value]) -> Result<(), CaseFault> {
         let moment = opening(&self.site).saturating_add(count(act, 1)?);
         self.site = self
             .site
@@ -207,7 +207,7 @@ impl Stage {
     }
 
     /// `["stop behind the begin"]`: what a stop right behind the first begin leaves, where what isn't synced is lost.
-    pub fn stop_behind_the_begin(&mut self, alloc: Global) -> Result<(), ActFault> {
+    pub fn stop_behind_the_begin(&mut self, alloc: Global) -> Result<(), CaseFault> {
         let moment = behind_the_begin(&self.site).min(self.site.moment());
         self.site = self.site.stopped(alloc, moment, Choice::Old)?;
         Ok(())

@@ -5,7 +5,7 @@ use crate::records::front_of;
 use crate::stage::{Stage, plain_site};
 use crate::steps::steps_of;
 use crate::stops::Whole;
-use crate::words::{ActFault, count, list, part};
+use case_words::{CaseFault, count, list, part};
 use grant_desk::GrantAll;
 use serde_json::Value;
 use site_traits::Choice;
@@ -29,7 +29,7 @@ fn length_of(life: usize) -> usize {
 impl Stage {
     /// `["life", [STEP..], [STEP..]]`: what was done on the site, since it was made or renewed, is a whole life of the second steps, behind the
     /// first ones.
-    pub fn take_life(&mut self, alloc: Global, act: &[Value]) -> Result<(), ActFault> {
+    pub fn take_life(&mut self, alloc: Global, act: &[Value]) -> Result<(), CaseFault> {
         let before = steps_of(alloc, list(act, 1)?)?;
         let steps = steps_of(alloc, list(act, 2)?)?;
         let site = mem::replace(&mut self.site, plain_site(alloc, &[])?);
@@ -48,7 +48,7 @@ impl Stage {
         alloc: Global,
         moment: usize,
         choice: Choice,
-    ) -> Result<(), ActFault> {
+    ) -> Result<(), CaseFault> {
         self.granting = GrantAll::new(alloc)?;
         self.site = self.whole.stopped(alloc, moment, choice)?;
         self.stop = self.whole.stop(moment, choice);
@@ -64,7 +64,7 @@ impl Stage {
     }
 
     /// Plans for the next site that this disk call of the whole life, from 0, fails.
-    pub fn fail_at(&mut self, alloc: Global, call: usize) -> Result<(), ActFault> {
+    pub fn fail_at(&mut self, alloc: Global, call: usize) -> Result<(), CaseFault> {
         let number = self
             .whole
             .earlier
@@ -79,7 +79,7 @@ impl Stage {
 
     /// `["fallen"]`: the last command ended with 3 and `site fault`. What is there of the whole life is counted, and the next command has another
     /// orchestrator.
-    pub fn fallen(&mut self, alloc: Global) -> Result<bool, ActFault> {
+    pub fn fallen(&mut self, alloc: Global) -> Result<bool, CaseFault> {
         let made = calls_of(&self.site).begins;
         let begins = made.saturating_sub(self.whole.earlier.begins);
         self.stop = self.whole.fault(self.stop.place, begins);
@@ -88,7 +88,7 @@ impl Stage {
     }
 
     /// Whether a short life of this number, stopped in its turn with this choice, leaves all records that were there.
-    fn lives_on(&mut self, alloc: Global, life: usize, choice: Choice) -> Result<bool, ActFault> {
+    fn lives_on(&mut self, alloc: Global, life: usize, choice: Choice) -> Result<bool, CaseFault> {
         self.granting = GrantAll::new(alloc)?;
         self.quiet_rounds(alloc, SHORT_LIFE)?;
         let last = opening(&self.site).saturating_add(length_of(life));
@@ -105,7 +105,7 @@ impl Stage {
         alloc: Global,
         act: &[Value],
         choice: Choice,
-    ) -> Result<bool, ActFault> {
+    ) -> Result<bool, CaseFault> {
         let end = self.names.text(alloc, part(act, 3)?)?;
         let first = count(act, 1)?;
         for life in 0..LIVES {

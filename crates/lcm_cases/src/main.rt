@@ -18,19 +18,18 @@ mod stage;
 mod steps;
 mod stops;
 mod texts;
-mod words;
 mod work;
 
 use crate::playing::play_act;
 use crate::stage::Stage;
-use crate::words::{ActFault, entries, word};
+use case_words::{CaseFault, entries, word};
 use anyhow::{Result, bail};
 use serde_json::Value;
 use std::alloc::{AllocGlobal, Global};
 use std::io::{Input, Print, Read};
 
 /// Plays a run: the number of the act that doesn't go well, from 1, where there is one.
-fn play(stage: &mut Stage, alloc: Global, run: &[Value]) -> Result<Option<usize>, ActFault> {
+fn play(stage: &mut Stage, alloc: Global, run: &[Value]) -> Result<Option<usize>, CaseFault> {
     stage.begin(alloc)?;
     for (place, act) in run.iter().enumerate().skip(1) {
         if !play_act(stage, alloc, entries(act)?)? {

@@ -13,13 +13,13 @@
 //! `["at last", ACT]` at the first moment and at the last. Everywhere, `["times", N, ACT]` plays the act so many times.
 
 use crate::stage::Stage;
-use crate::words::{ActFault, behind, count, entries, list, number, part, word};
+use case_words::{CaseFault, behind, count, entries, list, number, part, word};
 use serde_json::Value;
 use site_traits::{Choice, DoorPlan};
 use std::alloc::Global;
 
 /// Plays an act that compares what was told or printed.
-fn hears(stage: &mut Stage, alloc: Global, act: &[Value]) -> Result<bool, ActFault> {
+fn hears(stage: &mut Stage, alloc: Global, act: &[Value]) -> Result<bool, CaseFault> {
     match word(act, 0)? {
         "status" => stage.has_status(act),
         "told" => stage.is_told(alloc, act),
@@ -35,12 +35,12 @@ fn hears(stage: &mut Stage, alloc: Global, act: &[Value]) -> Result<bool, ActFau
         "face" => stage.has_face(alloc, act),
         "instance" => stage.has_instance(alloc, act),
         "grants" => stage.has_asked(act),
-        _ => Err(ActFault::Spelling),
+        _ => Err(CaseFault::Spelling),
     }
 }
 
 /// Plays an act that compares what stands.
-fn finds(stage: &mut Stage, alloc: Global, act: &[Value]) -> Result<bool, ActFault> {
+fn finds(stage: &mut Stage, alloc: Global, act: &[Value]) -> Result<bool, CaseFault> {
     match word(act, 0)? {
         "stays" => stage.file_stays(),
         "file" => stage.has_file(alloc, act),
@@ -67,7 +67,7 @@ fn finds(stage: &mut Stage, alloc: Global, act: &[Value]) -> Result<bool, ActFau
 }
 
 /// Plays an act that runs a command, makes a turn or stops a life.
-fn runs(stage: &mut Stage, alloc: Global, act: &[Value]) -> Result<bool, ActFault> {
+fn runs(stage: &mut Stage, alloc: Global, act: &[Value]) -> Result<bool, CaseFault> {
     match word(act, 0)? {
         "go" => stage.go(alloc, act),
         "once" => stage.once(alloc, act),
@@ -81,7 +81,7 @@ fn runs(stage: &mut Stage, alloc: Global, act: &[Value]) -> Result<bool, ActFaul
 }
 
 /// Plays an act that prepares a command, or another.
-fn plays(stage: &mut Stage, alloc: Global, act: &[Value]) -> Result<bool, ActFault> {
+fn plays(stage: &mut Stage, alloc: Global, act: &[Value]) -> Result<bool, CaseFault> {
     match word(act, 0)? {
         "let" => stage.name_text(alloc, act)?,
         "keep" => stage.name_file(alloc, act)?,
@@ -118,7 +118,7 @@ fn plays_often(
     alloc: Global,
     act: &[Value],
     times: u64,
-) -> Result<bool, ActFault> {
+) -> Result<bool, CaseFault> {
     for _ in 0..times {
         if !plays(stage, alloc, act)? {
             return Ok(false);
@@ -128,7 +128,7 @@ fn plays_often(
 }
 
 /// Plays an act, or one so many times.
-fn plays_it(stage: &mut Stage, alloc: Global, act: &[Value]) -> Result<bool, ActFault> {
+fn plays_it(stage: &mut Stage, alloc: Global, act: &[Value]) -> Result<bool, CaseFault> {
     match word(act, 0)? {
         "times" => plays_often(stage, alloc, list(act, 2)?, number(act, 1)?),
         _ => plays(stage, alloc, act),
@@ -136,7 +136,7 @@ fn plays_it(stage: &mut Stage, alloc: Global, act: &[Value]) -> Result<bool, Act
 }
 
 /// Whether the number is one of those that stand from the second place of an act on, the first and the last.
-fn is_between(act: &[Value], number: usize) -> Result<bool, ActFault> {
+fn is_between(act: &[Value], number: usize) -> Result<bool, CaseFault> {
     Ok(count(act, 1)? <= number && number <= count(act, 2)?)
 }
 
@@ -146,7 +146,7 @@ fn plays_where(
     alloc: Global,
     act: &[Value],
     holds: bool,
-) -> Result<bool, ActFault> {
+) -> Result<bool, CaseFault> {
     if holds {
         plays_it(stage, alloc, act)
     } else {
@@ -155,7 +155,7 @@ fn plays_where(
 }
 
 /// Plays an act, or one that is only played at some stops.
-fn plays_within(stage: &mut Stage, alloc: Global, act: &[Value]) -> Result<bool, ActFault> {
+fn plays_within(stage: &mut Stage, alloc: Global, act: &[Value]) -> Result<bool, CaseFault> {
     let stop = stage.stop;
     match word(act, 0)? {
         "at records" => { plays_where(stage, alloc, list(act, 3)?, is_between(act, stop.records)?) }
@@ -177,7 +177,7 @@ fn plays_within(stage: &mut Stage, alloc: Global, act: &[Value]) -> Result<bool,
 }
 
 /// Plays these acts, up to the first that doesn't go well.
-fn play_within(stage: &mut Stage, alloc: Global, acts: &[Value]) -> Result<bool, ActFault> {
+fn play_within(stage: &mut Stage, alloc: Global, acts: &[Value]) -> Result<bool, CaseFault> {
     for (place, act) in acts.iter().enumerate() {
         stage.stop.act = place;
         if !plays_within(stage, alloc, entries(act)?)? {
@@ -188,12 +188,12 @@ fn play_within(stage: &mut Stage, alloc: Global, acts: &[Value]) -> Result<bool,
 }
 
 /// The choice of this word.
-fn choice_of(word: &str) -> Result<Choice, ActFault> {
+fn choice_of(word: &str) -> Result<Choice, CaseFault> {
     match word {
         "old" => Ok(Choice::Old),
         "new" => Ok(Choice::New),
         "torn" => Ok(Choice::Torn),
-        _ => Err(ActFault::Spelling),
+        _ => Err(CaseFault::Spelling),
     }
 }
 
@@ -203,7 +203,7 @@ fn play_stops(
     alloc: Global,
     choice: Choice,
     acts: &[Value],
-) -> Result<bool, ActFault> {
+) -> Result<bool, CaseFault> {
     stage.lost = 0;
     for moment in 0..stage.whole.site.moment().saturating_add(1) {
         stage.stop_at(alloc, moment, choice)?;
@@ -215,7 +215,7 @@ fn play_stops(
 }
 
 /// Plays these acts for each disk call of the whole life, which is to fail.
-fn play_faults(stage: &mut Stage, alloc: Global, acts: &[Value]) -> Result<bool, ActFault> {
+fn play_faults(stage: &mut Stage, alloc: Global, acts: &[Value]) -> Result<bool, CaseFault> {
     for call in 0..stage.disk_calls() {
         stage.fail_at(alloc, call)?;
         if !play_within(stage, alloc, acts)? {
@@ -232,7 +232,7 @@ fn play_fronts(
     name: &str,
     text: &[u8],
     acts: &[Value],
-) -> Result<bool, ActFault> {
+) -> Result<bool, CaseFault> {
     for length in 0..text.len() {
         stage.stop.place = length;
         stage
@@ -246,7 +246,7 @@ fn play_fronts(
 }
 
 /// Plays an act of a run, or one with acts in it.
-pub fn play_act(stage: &mut Stage, alloc: Global, act: &[Value]) -> Result<bool, ActFault> {
+pub fn play_act(stage: &mut Stage, alloc: Global, act: &[Value]) -> Result<bool, CaseFault> {
     match word(act, 0)? {
         "each stop" => play_stops(stage, alloc, choice_of(word(act, 1)?)?, behind(act, 2)),
         "each fault" => play_faults(stage, alloc, behind(act, 1)),

@@ -3,7 +3,7 @@
 use crate::objects::connection;
 use crate::records::front_of;
 use crate::stage::Stage;
-use crate::words::{ActFault, behind, code, count, entries, number, part, small, word};
+use case_words::{CaseFault, behind, code, count, entries, number, part, small, word};
 use lcm_events::Role;
 use serde_json::Value;
 use site_traits::{Arrival, DoorPlan, GrantPlan, JobEnd, JobPlan};
@@ -79,7 +79,7 @@ fn change_plan(
     words: &[Value],
     place: usize,
     word: &str,
-) -> Result<(), ActFault> {
+) -> Result<(), CaseFault> {
     let next = place.saturating_add(1);
     match word {
         "taken" => {}
@@ -89,14 +89,14 @@ fn change_plan(
         "broken" => plan.end = JobEnd::Broken(code(words, next)?),
         "looks" => plan.looks = small(words, next)?,
         "firm" => plan.abortable = false,
-        _ => return Err(ActFault::Spelling),
+        _ => return Err(CaseFault::Spelling),
     }
     Ok(())
 }
 
 /// What comes of a begin: the words `taken`, `lost`, `arrived` and `refused` with a code say how it comes out; `looks` with a number how many
 /// looks find its job running, `broken` with a code how that ends, and `firm` that it can't be aborted.
-fn job_plan(words: &[Value]) -> Result<JobPlan, ActFault> {
+fn job_plan(words: &[Value]) -> Result<JobPlan, CaseFault> {
     let mut plan = TAKEN;
     for (place, value) in words.iter().enumerate() {
         if let Some(word) = value.as_str() {
@@ -108,18 +108,18 @@ fn job_plan(words: &[Value]) -> Result<JobPlan, ActFault> {
 
 impl Stage {
     /// `["let", NAME, TEXT]`: the text has that name.
-    pub fn name_text(&mut self, alloc: Global, act: &[Value]) -> Result<(), ActFault> {
+    pub fn name_text(&mut self, alloc: Global, act: &[Value]) -> Result<(), CaseFault> {
         let text = self.names.text(alloc, part(act, 2)?)?;
         Ok(self.names.put(alloc, word(act, 1)?, &text)?)
     }
 
     /// `["keep", NAME]`: the site's file has that name.
-    pub fn name_file(&mut self, alloc: Global, act: &[Value]) -> Result<(), ActFault> {
+    pub fn name_file(&mut self, alloc: Global, act: &[Value]) -> Result<(), CaseFault> {
         Ok(self.names.put(alloc, word(act, 1)?, self.site.file())?)
     }
 
     /// `["keep records", NAME]`: the site's file up to its closed gate has that name.
-    pub fn name_records(&mut self, alloc: Global, act: &[Value]) -> Result<(), ActFault> {
+    pub fn name_records(&mut self, alloc: Global, act: &[Value]) -> Result<(), CaseFault> {
         let records = front_of(self.site.file());
         Ok(self.names.put(alloc, word(act, 1)?, records)?)
     }
@@ -131,20 +131,20 @@ impl Stage {
         alloc: Global,
         act: &[Value],
         between: &str,
-    ) -> Result<(), ActFault> {
+    ) -> Result<(), CaseFault> {
         let answer = problem(alloc, word(act, 2)?, word(act, 3)?, between)?;
         Ok(self.names.put(alloc, word(act, 1)?, answer.as_bytes())?)
     }
 
     /// `["json", NAME, TEXT]`: the answer that shows this text has that name.
-    pub fn name_shown(&mut self, alloc: Global, act: &[Value]) -> Result<(), ActFault> {
+    pub fn name_shown(&mut self, alloc: Global, act: &[Value]) -> Result<(), CaseFault> {
         let body = self.names.text(alloc, part(act, 2)?)?;
         let answer = shown(alloc, &body)?;
         Ok(self.names.put(alloc, word(act, 1)?, &answer)?)
     }
 
     /// `["work", N, PLAN..]`: what comes of the begins on the next site: N are taken, and those behind them come out by these plans.
-    pub fn plan_work(&mut self, alloc: Global, act: &[Value]) -> Result<(), ActFault> {
+    pub fn plan_work(&mut self, alloc: Global, act: &[Value]) -> Result<(), CaseFault> {
         self.plan.work = Vec::new(alloc);
         for _ in 0..number(act, 1)? {
             self.plan.work.push(TAKEN)?;
@@ -156,7 +156,7 @@ impl Stage {
     }
 
     /// `["room", N]`: the next site has room for so many jobs.
-    pub fn plan_room(&mut self, act: &[Value]) -> Result<(), ActFault> {
+    pub fn plan_room(&mut self, act: &[Value]) -> Result<(), CaseFault> {
         self.plan.jobs = count(act, 1)?;
         Ok(())
     }
@@ -167,26 +167,26 @@ impl Stage {
     }
 
     /// `["blind", N]`: the look or abort of that number, from 1 over both, fails on the next site, whose file is empty.
-    pub fn plan_blind(&mut self, act: &[Value]) -> Result<(), ActFault> {
+    pub fn plan_blind(&mut self, act: &[Value]) -> Result<(), CaseFault> {
         self.plan.blind = Some(number(act, 1)?);
         Ok(())
     }
 
     /// `["site", TEXT]`: a site with this file, by the plan.
-    pub fn make_site(&mut self, alloc: Global, act: &[Value]) -> Result<(), ActFault> {
+    pub fn make_site(&mut self, alloc: Global, act: &[Value]) -> Result<(), CaseFault> {
         self.base = self.names.text(alloc, part(act, 1)?)?;
         self.site = self.plan.site(alloc, &self.base)?;
         Ok(())
     }
 
     /// `["base"]`: steps are compared behind the file as it is now.
-    pub fn take_base(&mut self, alloc: Global) -> Result<(), ActFault> {
+    pub fn take_base(&mut self, alloc: Global) -> Result<(), CaseFault> {
         self.base = self.site.file().to_vec(alloc)?;
         Ok(())
     }
 
     /// `["pieces", N]`: the connections that are planned from now on come in pieces of so many bytes.
-    pub fn plan_pieces(&mut self, act: &[Value]) -> Result<(), ActFault> {
+    pub fn plan_pieces(&mut self, act: &[Value]) -> Result<(), CaseFault> {
         self.outside.piece = count(act, 1)?;
         Ok(())
     }
@@ -198,7 +198,7 @@ impl Stage {
         text: &Value,
         failing_read: usize,
         failing_write: usize,
-    ) -> Result<(), ActFault> {
+    ) -> Result<(), CaseFault> {
         let bytes = self.names.text(alloc, text)?;
         let plan = connection(
             alloc,
@@ -212,28 +212,28 @@ impl Stage {
     }
 
     /// `["door", TEXT]`: a connection comes with this text.
-    pub fn plan_door(&mut self, alloc: Global, text: &Value) -> Result<(), ActFault> {
+    pub fn plan_door(&mut self, alloc: Global, text: &Value) -> Result<(), CaseFault> {
         self.plan_connection(alloc, text, 0, 0)
     }
 
     /// Plans a connection with this text, of which the second write fails.
-    pub fn plan_second_write(&mut self, alloc: Global, text: &Value) -> Result<(), ActFault> {
+    pub fn plan_second_write(&mut self, alloc: Global, text: &Value) -> Result<(), CaseFault> {
         self.plan_connection(alloc, text, 0, 2)
     }
 
     /// `["bad door", READ, WRITE, TEXT]`: a connection comes of which this read or this write fails, from 1; 0 where none does.
-    pub fn plan_bad_door(&mut self, alloc: Global, act: &[Value]) -> Result<(), ActFault> {
+    pub fn plan_bad_door(&mut self, alloc: Global, act: &[Value]) -> Result<(), CaseFault> {
         self.plan_connection(alloc, part(act, 3)?, count(act, 1)?, count(act, 2)?)
     }
 
     /// `["nobody"]` and `["no door"]`: nobody comes, or the door fails.
-    pub fn plan_absence(&mut self, plan: DoorPlan) -> Result<(), ActFault> {
+    pub fn plan_absence(&mut self, plan: DoorPlan) -> Result<(), CaseFault> {
         self.outside.door.push(plan)?;
         Ok(())
     }
 
     /// `["cuts", TEXT]`: connections come with this text in pieces of one byte, and in two pieces, cut at each place.
-    pub fn plan_cuts(&mut self, alloc: Global, act: &[Value]) -> Result<(), ActFault> {
+    pub fn plan_cuts(&mut self, alloc: Global, act: &[Value]) -> Result<(), CaseFault> {
         let bytes = self.names.text(alloc, part(act, 1)?)?;
         self.outside
             .door
@@ -246,13 +246,13 @@ impl Stage {
     }
 
     /// `["sink", N]`: the put of a line of that number, from 1, fails.
-    pub fn plan_sink(&mut self, act: &[Value]) -> Result<(), ActFault> {
+    pub fn plan_sink(&mut self, act: &[Value]) -> Result<(), CaseFault> {
         self.outside.put = Some(number(act, 1)?);
         Ok(())
     }
 
     /// `["says", STATUS, LOCATION, TEXT]`: the orchestrator of the next command answers this next; an empty location is none.
-    pub fn plan_answer(&mut self, alloc: Global, act: &[Value]) -> Result<(), ActFault> {
+    pub fn plan_answer(&mut self, alloc: Global, act: &[Value]) -> Result<(), CaseFault> {
         let body = self.names.text(alloc, part(act, 3)?)?;
         let status = small(act, 1)?;
         self.outside.says.push(GrantPlan::Raw {

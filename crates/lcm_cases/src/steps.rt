@@ -7,7 +7,7 @@
 //! the last of them first.
 
 use crate::records::{At, Step};
-use crate::words::{ActFault, code, entries, small, word};
+use case_words::{CaseFault, code, entries, small, word};
 use lcm_events::{CancelMode, OpState};
 use serde_json::Value;
 use std::alloc::{AllocError, Global};
@@ -30,7 +30,7 @@ fn named(word: &str) -> Option<Step> {
 }
 
 /// What is recorded of an attempt, as it stands from the fourth place of a step on.
-fn at(step: &[Value]) -> Result<At, ActFault> {
+fn at(step: &[Value]) -> Result<At, CaseFault> {
     Ok(match word(step, 3)? {
         "intent" => At::Intent,
         "call failed" => At::CallFailed,
@@ -38,7 +38,7 @@ fn at(step: &[Value]) -> Result<At, ActFault> {
         "broken" => At::Broken(code(step, 4)?),
         "aborted" => At::Aborted,
         "not begun" => At::NotBegun,
-        _ => return Err(ActFault::Spelling),
+        _ => return Err(CaseFault::Spelling),
     })
 }
 
@@ -85,7 +85,7 @@ fn made(steps: &mut Vec<Step>, changes: u16) -> Result<(), AllocError> {
 }
 
 /// Puts the step or the steps of this list.
-fn put_listed(steps: &mut Vec<Step>, step: &[Value]) -> Result<(), ActFault> {
+fn put_listed(steps: &mut Vec<Step>, step: &[Value]) -> Result<(), CaseFault> {
     match word(step, 0)? {
         "made" => made(steps, small(step, 1)?)?,
         "make" => make(
@@ -104,24 +104,24 @@ fn put_listed(steps: &mut Vec<Step>, step: &[Value]) -> Result<(), ActFault> {
         )?,
         "forward" => steps.push(Step::Forward(small(step, 1)?, code(step, 2)?, at(step)?))?,
         "undo" => steps.push(Step::Undo(small(step, 1)?, code(step, 2)?, at(step)?))?,
-        _ => return Err(ActFault::Spelling),
+        _ => return Err(CaseFault::Spelling),
     }
     Ok(())
 }
 
 /// Puts the step of this word, or those of this list.
-fn put_step(steps: &mut Vec<Step>, value: &Value) -> Result<(), ActFault> {
+fn put_step(steps: &mut Vec<Step>, value: &Value) -> Result<(), CaseFault> {
     let Some(word) = value.as_str() else {
         return put_listed(steps, entries(value)?);
     };
     match named(word) {
         Some(step) => Ok(steps.push(step)?),
-        None => Err(ActFault::Spelling),
+        None => Err(CaseFault::Spelling),
     }
 }
 
 /// The steps that are spelled so.
-pub fn steps_of(alloc: Global, values: &[Value]) -> Result<Vec<Step>, ActFault> {
+pub fn steps_of(alloc: Global, values: &[Value]) -> Result<Vec<Step>, CaseFault> {
     let mut steps = Vec::new(alloc);
     for value in values {
         put_step(&mut steps, value)?;

@@ -4,7 +4,7 @@
 //! the other. `{"times": N, "of": T}` is T so many times; `{"from": A, "to": B, "of": [..]}` is what stands there for each number from A to before B,
 //! where `{"digits": W}` are its decimal digits, W with zeros in front, and `{"bytes": W}` its last W bytes, the greatest first.
 
-use crate::words::{ActFault, entries};
+use case_words::{CaseFault, entries, put_bytes};
 use serde_json::Value;
 use std::alloc::{AllocError, Global};
 
@@ -42,13 +42,13 @@ impl Names {
     }
 
     /// The text that has this name; the last one, where several were given it.
-    fn get(&self, name: &str) -> Result<&[u8], ActFault> {
+    fn get(&self, name: &str) -> Result<&[u8], CaseFault> {
         for named in self.all.iter().rev() {
             if named.name.as_str() == name {
                 return Ok(named.text.as_slice());
             }
         }
-        Err(ActFault::Spelling)
+        Err(CaseFault::Spelling)
     }
 
     /// Gives this text a name.
@@ -62,14 +62,14 @@ impl Names {
     }
 
     /// The text that is spelled so.
-    pub fn text(&self, alloc: Global, value: &Value) -> Result<Vec<u8>, ActFault> {
+    pub fn text(&self, alloc: Global, value: &Value) -> Result<Vec<u8>, CaseFault> {
         let mut text = Vec::new(alloc);
         self.put_text(&mut text, value)?;
         Ok(text)
     }
 
     /// Puts the text that is spelled so.
-    fn put_text(&self, into: &mut Vec<u8>, value: &Value) -> Result<(), ActFault> {
+    fn put_text(&self, into: &mut Vec<u8>, value: &Value) -> Result<(), CaseFault> {
         match value.as_array() {
             Some(parts) => {
                 for part in parts {
@@ -82,7 +82,7 @@ impl Names {
     }
 
     /// Puts a string, or what an object says.
-    fn put_part(&self, into: &mut Vec<u8>, part: &Value) -> Result<(), ActFault> {
+    fn put_part(&self, into: &mut Vec<u8>, part: &Value) -> Result<(), CaseFault> {
         match part.as_str() {
             Some(string) => self.put_string(into, string),
             None => self.put_often(into, part),
@@ -90,7 +90,7 @@ impl Names {
     }
 
     /// Puts the text of this name, or these bytes.
-    fn put_string(&self, into: &mut Vec<u8>, string: &str) -> Result<(), ActFault> {
+    fn put_string(&self, into: &mut Vec<u8>, string: &str) -> Result<(), CaseFault> {
         match string.strip_prefix("$") {
             Some(name) => Ok(into.extend_from_slice(self.get(name)?)?),
             None => put_bytes(into, string),
@@ -98,9 +98,9 @@ impl Names {
     }
 
     /// Puts what the object says: a text so many times, or once for each number.
-    fn put_often(&self, into: &mut Vec<u8>, object: &Value) -> Result<(), ActFault> {
+    fn put_often(&self, into: &mut Vec<u8>, object: &Value) -> Result<(), CaseFault> {
         let Some(of) = object.get("of") else {
-            return Err(ActFault::Spelling);
+            return Err(CaseFault::Spelling);
         };
         match member(object, "times") {
             Some(times) => self.put_times(into, of, times),
@@ -109,9 +109,9 @@ impl Names {
     }
 
     /// Puts the string so many times.
-    fn put_times(&self, into: &mut Vec<u8>, of: &Value, times: u64) -> Result<(), ActFault> {
+    fn put_times(&self, into: &mut Vec<u8>, of: &Value, times: u64) -> Result<(), CaseFault> {
         let Some(string) = of.as_str() else {
-            return Err(ActFault::Spelling);
+            return Err(CaseFault::Spelling);
         };
         for _ in 0..times {
             self.put_string(into, string)?;
@@ -120,9 +120,9 @@ impl Names {
     }
 
     /// Puts what stands there for each number.
-    fn put_counted(&self, into: &mut Vec<u8>, object: &Value, of: &Value) -> Result<(), ActFault> {
+    fn put_counted(&self, into: &mut Vec<u8>, object: &Value, of: &Value) -> Result<(), CaseFault> {
         let (Some(from), Some(to)) = (member(object, "from"), member(object, "to")) else {
-            return Err(ActFault::Spelling);
+            return Err(CaseFault::Spelling);
         };
         let parts = entries(of)?;
         for number in from..to {
@@ -137,7 +137,7 @@ impl Names {
         into: &mut Vec<u8>,
         parts: &[Value],
         number: u64,
-    ) -> Result<(), ActFault> {
+    ) -> Result<(), CaseFault> {
         for part in parts {
             match part.as_str() {
                 Some(string) => self.put_string(into, string)?,
@@ -153,28 +153,17 @@ fn member(object: &Value, name: &str) -> Option<u64> {
     object.get(name)?.as_u64()
 }
 
-/// Puts the characters of a string, each as a byte.
-fn put_bytes(into: &mut Vec<u8>, string: &str) -> Result<(), ActFault> {
-    for character in string.chars() {
-        match u8::try_from(u32::from(character)) {
-            Ok(byte) => into.push(byte)?,
-            Err(_) => return Err(ActFault::Spelling),
-        }
-    }
-    Ok(())
-}
-
 /// Puts the digits or the bytes of a number.
-fn put_number(into: &mut Vec<u8>, object: &Value, number: u64) -> Result<(), ActFault> {
+fn put_number(into: &mut Vec<u8>, object: &Value, number: u64) -> Result<(), CaseFault> {
     match (member(object, "digits"), member(object, "bytes")) {
         (Some(width), None) => put_digits(into, number, width),
         (None, Some(width)) => put_last_bytes(into, number, width),
-        _ => Err(ActFault::Spelling),
+        _ => Err(CaseFault::Spelling),
     }
 }
 
 /// Puts so many decimal digits of a number, of which the first may be zeros.
-fn put_digits(into: &mut Vec<u8>, number: u64, width: u64) -> Result<(), ActFault> {
+fn put_digits(into: &mut Vec<u8>, number: u64, width: u64) -> Result<(), CaseFault> {
     for place in (0..width).rev() {
         let mut left = number;
         for _ in 0..place {
@@ -186,7 +175,7 @@ fn put_digits(into: &mut Vec<u8>, number: u64, width: u64) -> Result<(), ActFaul
 }
 
 /// Puts the last so many bytes of a number.
-fn put_last_bytes(into: &mut Vec<u8>, number: u64, width: u64) -> Result<(), ActFault> {
+fn put_last_bytes(into: &mut Vec<u8>, number: u64, width: u64) -> Result<(), CaseFault> {
     let bytes = number.to_be_bytes();
     let first = 8usize.saturating_sub(usize::try_from(width).unwrap_or(8));
     Ok(into.extend_from_slice(bytes.get(first..).unwrap_or(&bytes))?)

@@ -1,0 +1,11 @@
+//! Cases as data: the words, numbers and lists of acts, and what each act comes to, line by line.
+#![tactic(auto)]
+
+mod telling;
+mod words;
+
+pub use telling::{Teller, tell_each};
+pub use words::{
+    CaseFault, behind, bytes, code, count, entries, list, number, part, put_bytes, small, truth,
+    word,
+};
