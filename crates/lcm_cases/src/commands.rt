@@ -19,7 +19,7 @@ use std::mem;
 use vnfm_base::{Moment, Text};
 
 /// The words of a command, as an act spells them.
-fn command_of(alloc: Global, values: &[Value]) -> Result<Vec<Text>, CaseFault> {
+pub fn command_of(alloc: Global, values: &[Value]) -> Result<Vec<Text>, CaseFault> {
     let mut words = Vec::new(alloc);
     for value in values {
         let Some(word) = value.as_str() else {

@@ -18,6 +18,18 @@ use serde_json::Value;
 use site_traits::{Choice, DoorPlan};
 use std::alloc::Global;
 
+/// Plays an act on the words of a command line, or on the program that is started with them.
+fn spells(stage: &Stage, alloc: Global, act: &[Value]) -> Result<bool, CaseFault> {
+    match word(act, 0)? {
+        "start" => stage.starts(alloc, act),
+        "start without a mouth" => stage.starts_without_a_mouth(alloc, act),
+        "set" => stage.is_set(alloc, act),
+        "line" => stage.is_explained(alloc, act),
+        "page" => stage.is_page(alloc, act),
+        _ => Err(CaseFault::Spelling),
+    }
+}
+
 /// Plays an act that compares what was told or printed.
 fn hears(stage: &mut Stage, alloc: Global, act: &[Value]) -> Result<bool, CaseFault> {
     match word(act, 0)? {
@@ -35,7 +47,7 @@ fn hears(stage: &mut Stage, alloc: Global, act: &[Value]) -> Result<bool, CaseFa
         "face" => stage.has_face(alloc, act),
         "instance" => stage.has_instance(alloc, act),
         "grants" => stage.has_asked(act),
-        _ => Err(CaseFault::Spelling),
+        _ => spells(stage, alloc, act),
     }
 }
 

@@ -1,16 +1,18 @@
-//! The program over objects in memory: its status, what it prints, and whether it opens a file.
+//! Acts that start the program over objects in memory: its status, what it prints, and whether it makes a file.
 ghost use Rattle.std.specs.Prelude.{◌≡◌, ◌≤◌, ◌+◌, length, true};
 
+use crate::stage::Stage;
+use case_words::{CaseFault, list, number, word};
 use host_calls::{HostFile, HostFiles, InStream, OutStream};
 use lcm_api::Mouth;
 use lcm_events::Role;
 use outside_edges::{RealDoor, RealSite};
+use serde_json::Value;
 use site_traits::{MemSink, SetClock};
 use standard_streams::{HeldStreams, NullDevice};
 use std::alloc::{AllocError, Global};
 use std::io;
 use std::io::ErrorKind;
-use std::test::Fail;
 use vnfm_base::Bytes;
 use vnfm_program::start;
 
@@ -197,19 +199,22 @@ fn mouth_at(alloc: Global) -> Result<Mouth<RealDoor<NoInput, NoOutput>>, AllocEr
 }
 
 /// The program's name, and the words behind it.
-fn arguments_of(alloc: Global, words: &[&str]) -> Result<Vec<String>, AllocError> {
+fn arguments_of(alloc: Global, words: &[Value]) -> Result<Vec<String>, CaseFault> {
     let mut all = Vec::new(alloc);
     all.push(String::from_str(alloc, "vnfm")?)?;
     for word in words {
+        let Some(word) = word.as_str() else {
+            return Err(CaseFault::Spelling);
+        };
         all.push(String::from_str(alloc, word)?)?;
     }
     Ok(all)
 }
 
-/// What comes of these words over this mouth.
+/// What comes of these arguments over this mouth.
 fn seen_at(
     alloc: Global,
-    words: &[&str],
+    arguments: Vec<String>,
     mut mouth: Result<Mouth<RealDoor<NoInput, NoOutput>>, AllocError>,
 ) -> Result<Seen, AllocError> {
     let mut files = MemFiles { alloc, made: 0 };
@@ -218,7 +223,7 @@ fn seen_at(
     let mut errors = MemSink::new(alloc, None)?;
     let status = start(
         alloc,
-        Ok(arguments_of(alloc, words)?.into_iter()),
+        Ok(arguments.into_iter()),
         &mut Null,
         &mut files,
         &mut RealSite::made(),
@@ -235,75 +240,34 @@ fn seen_at(
     })
 }
 
-/// Whether these words end with this status, print this to standard output and that to standard error, and make so many files.
-fn ends(
+/// Whether an act has this behind its words.
+fn is_seen(seen: &Seen, act: &[Value]) -> Result<bool, CaseFault> {
+    let status = number(act, 2)? == u64::from(seen.status);
+    let lines = word(act, 3)?.as_bytes() == seen.lines.as_slice();
+    let errors = word(act, 4)?.as_bytes() == seen.errors.as_slice();
+    Ok(status && lines && errors && number(act, 5)? == seen.made)
+}
+
+/// Whether the program with the words of this act, over this mouth, comes to what it has behind them.
+fn comes_out(
     alloc: Global,
-    words: &[&str],
-    status: u8,
-    lines: &str,
-    errors: &str,
-    made: u64,
-) -> Result<bool, AllocError> {
-    let seen = seen_at(alloc, words, mouth_at(alloc))?;
-    Ok(
-        seen.status == status
-            && seen.lines.as_slice() == lines.as_bytes()
-            && seen.errors.as_slice() == errors.as_bytes()
-            && seen.made == made,
-    )
+    act: &[Value],
+    mouth: Result<Mouth<RealDoor<NoInput, NoOutput>>, AllocError>,
+) -> Result<bool, CaseFault> {
+    let arguments = arguments_of(alloc, list(act, 1)?)?;
+    let seen = seen_at(alloc, arguments, mouth)?;
+    is_seen(&seen, act)
 }
 
-#[test]
-fn a_page_opens_nothing(rt: HostRuntime) -> Result<(), Fail> {
-    let seen = ends(rt.alloc(), &["--version"], 0, "vnfm 0.1.0\n", "", 0)?;
-    assert_eq!(rt; seen, true);
-    Ok(())
-}
+impl Stage {
+    /// `["start", WORDS, STATUS, PRINTED, ERRORS, MADE]`: the program with these words ends with this status, prints this to standard output and that
+    /// to standard error, and makes so many files.
+    pub fn starts(&self, alloc: Global, act: &[Value]) -> Result<bool, CaseFault> {
+        comes_out(alloc, act, mouth_at(alloc))
+    }
 
-#[test]
-fn init_makes_its_file_and_says_so(rt: HostRuntime) -> Result<(), Fail> {
-    let words = ["init", "--journal", "j", "--manager", "7"];
-    let seen = ends(rt.alloc(), &words, 0, "journal made for manager 7\n", "", 1)?;
-    assert_eq!(rt; seen, true);
-    Ok(())
-}
-
-#[test]
-fn a_surplus_word_opens_nothing(rt: HostRuntime) -> Result<(), Fail> {
-    let seen = ends(
-        rt.alloc(),
-        &["init", "--journal", "j", "--manager", "7", "8"],
-        2,
-        "usage: vnfm init|onboard|once|serve|check|trial\n",
-        "vnfm: \"8\" isn't understood; vnfm --help says more\n",
-        0,
-    )?;
-    assert_eq!(rt; seen, true);
-    Ok(())
-}
-
-#[test]
-fn once_is_told_on_standard_error(rt: HostRuntime) -> Result<(), Fail> {
-    let seen = ends(
-        rt.alloc(),
-        &["once", "--journal", "j"],
-        5,
-        "",
-        "no journal\nvnfm: \"j\": it is not a journal that init has finished\n",
-        1,
-    )?;
-    assert_eq!(rt; seen, true);
-    Ok(())
-}
-
-#[test]
-fn no_room_for_a_mouth_is_want_of_memory(rt: HostRuntime) -> Result<(), Fail> {
-    let seen = seen_at(rt.alloc(), &["once", "--journal", "j"], Err(AllocError))?;
-    assert_eq!(rt; seen.status, 6);
-    assert_eq!(rt;
-        seen.errors.as_slice(),
-        b"no memory\nvnfm: there was no memory\n".as_slice()
-    );
-    assert_eq!(rt; seen.made, 0);
-    Ok(())
+    /// `["start without a mouth", WORDS, STATUS, PRINTED, ERRORS, MADE]`: the same, where there was no memory for the mouth.
+    pub fn starts_without_a_mouth(&self, alloc: Global, act: &[Value]) -> Result<bool, CaseFault> {
+        comes_out(alloc, act, Err(AllocError))
+    }
 }

@@ -1,0 +1,105 @@
+//! Acts on the words of a command line: what they set, which page they ask for, and the line that explains how a run ended.
+
+use crate::commands::command_of;
+use crate::stage::Stage;
+use case_words::{CaseFault, list, part, truth, word};
+use command_line::{Settings, SettingsFault, settings};
+use outside_edges::WhyLost;
+use program_words::{page_of, reason_of};
+use serde_json::Value;
+use std::alloc::{AllocError, Global};
+use vnfm_base::Text;
+
+/// What is set, as an act spells it: the command, the journal, the manager, the role, the rounds, both addresses, the orchestrator, the
+/// infrastructure, and the start and the steps of a trial.
+fn spelled(alloc: Global, set: &Settings) -> Result<String, AllocError> {
+    let (command, journal, manager, role) = (
+        set.command,
+        set.journal.as_str(),
+        set.manager,
+        set.role,
+    );
+    let (rounds, listen, em_listen) = (set.rounds, set.listen.as_str(), set.em_listen.as_str());
+    let (orchestrator, vim) = (set.orchestrator.as_str(), set.vim.as_str());
+    let (start, count) = (set.start, set.count);
+    format!(in alloc;
+        "{command:?} {journal:?} {manager} {role:?} {rounds} {listen:?} {em_listen:?} {orchestrator:?} {vim:?} {start} {count}"
+    )
+}
+
+/// What these words set, spelled so; `usage` where they are no command.
+fn set_by(alloc: Global, words: &[Text]) -> Result<String, AllocError> {
+    match settings(alloc, words) {
+        Ok(set) => spelled(alloc, &set),
+        Err(SettingsFault::Usage) => String::from_str(alloc, "usage"),
+        Err(SettingsFault::Memory) => Err(AllocError),
+    }
+}
+
+/// Why the journal was lost, by its word; nothing where the word is empty.
+fn lost_by(word: &str) -> Result<Option<WhyLost>, CaseFault> {
+    Ok(Some(match word {
+        "" => return Ok(None),
+        "locked" => WhyLost::Locked,
+        "no folder" => WhyLost::NoFolder,
+        "not permitted" => WhyLost::NotPermitted,
+        "not a file" => WhyLost::NotAFile,
+        "memory" => WhyLost::Memory,
+        "other" => WhyLost::Other,
+        _ => return Err(CaseFault::Spelling),
+    }))
+}
+
+/// The status at this place of an act.
+fn status(act: &[Value], place: usize) -> Result<u8, CaseFault> {
+    match part(act, place)?.as_u64().map(u8::try_from) {
+        Some(Ok(status)) => Ok(status),
+        _ => Err(CaseFault::Spelling),
+    }
+}
+
+/// The line of a run with these words that ended so; nothing where there is none.
+fn line_of(
+    alloc: Global,
+    words: &[Text],
+    status: u8,
+    lost: Option<WhyLost>,
+    undelivered: bool,
+) -> Result<String, AllocError> {
+    match reason_of(status, lost, undelivered) {
+        Some(reason) => reason.line(alloc, words),
+        None => Ok(String::new(alloc)),
+    }
+}
+
+/// The text of the page that these words ask for; nothing where they ask for none.
+fn page_text(words: &[Text]) -> &'static str {
+    match page_of(words) {
+        Some(page) => page.text(),
+        None => "",
+    }
+}
+
+impl Stage {
+    /// `["set", WORDS, TEXT]`: these words set this.
+    pub fn is_set(&self, alloc: Global, act: &[Value]) -> Result<bool, CaseFault> {
+        let words = command_of(alloc, list(act, 1)?)?;
+        Ok(set_by(alloc, &words)?.as_str() == word(act, 2)?)
+    }
+
+    /// `["line", WORDS, STATUS, LOST, UNDELIVERED, LINE]`: a run with these words that ended with this status, lost its journal so and couldn't deliver an
+    /// answer, where it says so, is explained by this line.
+    pub fn is_explained(&self, alloc: Global, act: &[Value]) -> Result<bool, CaseFault> {
+        let words = command_of(alloc, list(act, 1)?)?;
+        let lost = lost_by(word(act, 3)?)?;
+        let line = line_of(alloc, &words, status(act, 2)?, lost, truth(act, 4)?)?;
+        Ok(line.as_str() == word(act, 5)?)
+    }
+
+    /// `["page", WORDS, FRONT]`: these words ask for a page that begins so; for none where that is empty.
+    pub fn is_page(&self, alloc: Global, act: &[Value]) -> Result<bool, CaseFault> {
+        let words = command_of(alloc, list(act, 1)?)?;
+        let (text, front) = (page_text(&words), word(act, 2)?);
+        Ok(text.starts_with(front) && text.is_empty() == front.is_empty())
+    }
+}
