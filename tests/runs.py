@@ -9,7 +9,9 @@ by hand, or by the rules of docs/FORMATS.md and docs/EVENTS.md in another langua
 """
 import itertools
 import json
-import struct
+
+import cases
+from cases import latin, name, u8, u16, u32, u64
 
 NOW = 1_700_000_000_000
 CHANGES = 13
@@ -20,22 +22,14 @@ TEXTS = []
 
 # ---- Texts
 
-def latin(data):
-    """Bytes as the string of a run."""
-    return data.decode("latin-1")
-
-
-u8 = lambda n: struct.pack(">B", n)
-u16 = lambda n: struct.pack(">H", n)
-u32 = lambda n: struct.pack(">I", n)
-u64 = lambda n: struct.pack(">Q", n)
-name = lambda text: u8(len(text)) + text.encode()
+def in_record(event):
+    """A record behind its open gate: its length and the event."""
+    return latin(u8(1) + u32(len(event)) + event)
 
 
 def record(kind, *fields, moment=NOW):
-    """A record behind its open gate: its length, the number of its kind, its moment and its fields."""
-    content = u8(kind) + u64(moment) + b"".join(fields)
-    return latin(u8(1) + u32(len(content)) + content)
+    """The record of an event of this kind, with its moment and its fields."""
+    return in_record(cases.event(kind, *fields, moment=moment))
 
 
 def let(title, text):
@@ -2254,6 +2248,187 @@ run(
     *not_understood("\u0667", "init", *AT_J, "--manager", "\u0667"),
     *not_understood("--help", "init", *AT_J, "--help", "7"),
 )
+
+
+# ---- Turns with planned answers, over the journal of a descriptor of links whose instances were asked to be instantiated
+
+LINKS_VNFD = "vnfd-2"
+GRANT_AT = "/grant/v1/grants/g1"
+LATER_AT = cases.grant_later(1, GRANT_AT), cases.grant_later(2, GRANT_AT)
+TROUBLED = cases.grant_trouble(1), cases.grant_trouble(2)
+LINKS_GRANTED = [cases.granted(n, "g1", [("v0", "")], [0, 0]) for n in (1, 2)]
+WORKING = cases.moved(1, "PROCESSING"), cases.moved(2, "PROCESSING")
+BACK_THEN, REFUSED_THEN, MISSED = cases.moved(1, "ROLLED_BACK"), cases.denied(1), cases.grant_misses(1)
+CANCELLED_THEN, FORCED_THEN = cases.cancel_asked(1, "GRACEFUL"), cases.cancel_asked(1, "FORCEFUL")
+
+
+def links_asked(links, instances, *events, closed=True):
+    """The journal of so many instances of that many links, each asked to be instantiated, with these events behind, and up to its closed gate."""
+    names = ["n%02d" % it for it in range(links)]
+    all_events = [cases.onboarded(cases.descriptor(LINKS_VNFD, links=names, levels=[cases.level("only")]))]
+    changes = [cases.change(0, "create", "LINK", it, cases.NO_VDU, 0) for it in range(links)]
+    for number in range(1, instances + 1):
+        all_events += [cases.created(number, LINKS_VNFD), cases.asked(number, cases.instantiate(), changes, instance=number)]
+    return [HEADER, *map(in_record, [*all_events, *events]), *["\0"][: closed]]
+
+
+def says_grant(changes, places):
+    """A grant of so many changes, from the first on, at so many places in turn."""
+    rows = ['{"resourceDefinitionId":"d%d","vimConnectionId":"v%d"}' % (it, it % places) for it in range(changes)]
+    return ["says", 201, "", '{"id":"g1","addResources":[%s]}' % ",".join(rows)]
+
+
+def says_status(status):
+    return ["says", status, "", ""]
+
+
+SAYS_GRANT, SAYS_NOTHING, SAYS_DENIED, SAYS_LATER = says_grant(2, 1), ["says nothing"], says_status(403), says_status(202)
+SAYS_WHERE = ["says", 202, GRANT_AT, ""]
+SAYS_TROUBLE = [SAYS_NOTHING, says_status(500), SAYS_LATER, says_status(200), says_status(204)]
+
+
+def peer_turns(*ends):
+    return [["peer turn", end] for end in ends]
+
+
+def exchange(links, events, answers, ends, then, calls, instances=1):
+    """Turns that end so, behind these events and with these answers: the events that stand behind them then, and how many asks and polls were answered."""
+    silent = sum(it == SAYS_NOTHING for it in answers[: len(ends) * instances])
+    return [
+        *[["no fault"], ["room", 0], ["site", links_asked(links, instances, *events)], *answers, ["peer"], *peer_turns(*ends)],
+        *[["file front", links_asked(links, instances, *events, *then, closed=False)], ["peer calls", *calls, silent]],
+    ]
+
+
+ONE, TWO, WAITS, RESTS = "1 0 0", "2 0 0", "0 1 0", "0 0 0"
+SIX_TROUBLES = [TROUBLED[0]] * 5
+run(
+    "turns lead to PROCESSING or to ROLLED_BACK",
+    *exchange(2, [], [SAYS_GRANT], [ONE], [LINKS_GRANTED[0]], (1, 0)),
+    *exchange(2, [], [SAYS_GRANT], [ONE] * 2, [LINKS_GRANTED[0], WORKING[0]], (1, 0)),
+    *exchange(2, [], [SAYS_GRANT], [ONE] * 3, [LINKS_GRANTED[0], WORKING[0]], (1, 0)),
+    *exchange(2, [], [says_grant(1, 1)], [ONE], [MISSED], (1, 0)),
+    *exchange(2, [], [says_grant(1, 1)], [ONE] * 2, [MISSED, BACK_THEN], (1, 0)),
+    *exchange(2, [], [says_grant(3, 1)], [ONE] * 2, [MISSED, BACK_THEN], (1, 0)),
+    *exchange(2, [], [SAYS_DENIED], [ONE], [REFUSED_THEN], (1, 0)),
+    *exchange(2, [], [SAYS_DENIED], [ONE] * 2, [REFUSED_THEN, BACK_THEN], (1, 0)),
+    *exchange(2, [], [SAYS_DENIED], [ONE, ONE, RESTS], [REFUSED_THEN, BACK_THEN], (1, 0)),
+    *exchange(2, [], [SAYS_WHERE, SAYS_LATER, SAYS_GRANT], [ONE], [LATER_AT[0]], (1, 0)),
+    *exchange(2, [], [SAYS_WHERE, SAYS_LATER, SAYS_GRANT], [ONE, WAITS], [LATER_AT[0]], (1, 1)),
+    *exchange(2, [], [SAYS_WHERE, SAYS_LATER, SAYS_GRANT], [ONE, WAITS, ONE], [LATER_AT[0], LINKS_GRANTED[0]], (1, 2)),
+    *exchange(2, [], [SAYS_WHERE, SAYS_LATER, SAYS_GRANT], [ONE, WAITS, ONE, ONE], [LATER_AT[0], LINKS_GRANTED[0], WORKING[0]], (1, 2)),
+    *exchange(2, [], SAYS_TROUBLE, [ONE] * 4, SIX_TROUBLES[:4], (3, 0)),
+    *exchange(2, [], SAYS_TROUBLE, [ONE] * 5, SIX_TROUBLES, (4, 0)),
+    *exchange(2, [], SAYS_TROUBLE, [ONE] * 6, [*SIX_TROUBLES, BACK_THEN], (4, 0)),
+    *exchange(
+        *[33, [], [says_grant(33, 32)], [ONE] * 2],
+        [cases.granted(1, "g1", [("v%d" % it, "") for it in range(32)], [*range(32), 0]), WORKING[0]],
+        (1, 0),
+    ),
+    *exchange(33, [], [says_grant(33, 33)], [ONE] * 2, [MISSED, BACK_THEN], (1, 0)),
+    *exchange(0, [], [says_grant(0, 1)], [ONE] * 2, [cases.granted(1, "g1"), WORKING[0]], (1, 0)),
+)
+run(
+    "a cancel lets the grant exchange end, or ends it",
+    *exchange(2, [LATER_AT[0], CANCELLED_THEN], [SAYS_LATER], [WAITS], [], (0, 1)),
+    *exchange(2, [LATER_AT[0], CANCELLED_THEN], [SAYS_LATER, SAYS_GRANT], [WAITS, ONE, ONE], [LINKS_GRANTED[0], BACK_THEN], (0, 2)),
+    *exchange(2, [LATER_AT[0], FORCED_THEN], [SAYS_GRANT], [ONE], [BACK_THEN], (0, 0)),
+    *exchange(2, [CANCELLED_THEN], [SAYS_DENIED], [ONE] * 2, [REFUSED_THEN, BACK_THEN], (1, 0)),
+    *exchange(2, [CANCELLED_THEN], [says_grant(1, 1)], [ONE] * 2, [MISSED, BACK_THEN], (1, 0)),
+    *exchange(2, [CANCELLED_THEN], SAYS_TROUBLE, [ONE] * 5, SIX_TROUBLES, (4, 0)),
+    *exchange(2, [CANCELLED_THEN], SAYS_TROUBLE, [ONE] * 6, [*SIX_TROUBLES, BACK_THEN], (4, 0)),
+    *exchange(2, [TROUBLED[0], FORCED_THEN], [SAYS_GRANT], [ONE], [BACK_THEN], (0, 0)),
+    *exchange(2, [LINKS_GRANTED[0], CANCELLED_THEN], [], [ONE], [BACK_THEN], (0, 0)),
+)
+run(
+    "a call of the orchestrator that fails is trouble for its occurrence alone",
+    *exchange(2, [], [SAYS_NOTHING, SAYS_GRANT], [TWO], [TROUBLED[0], LINKS_GRANTED[1]], (1, 0), 2),
+    *exchange(2, [], [SAYS_GRANT, SAYS_NOTHING], [TWO], [LINKS_GRANTED[0], TROUBLED[1]], (1, 0), 2),
+    *exchange(2, [], [SAYS_NOTHING, SAYS_NOTHING], [TWO], [*TROUBLED], (0, 0), 2),
+    *exchange(2, [], [SAYS_WHERE, SAYS_WHERE, SAYS_NOTHING, SAYS_GRANT], [TWO] * 2, [*LATER_AT, TROUBLED[0], LINKS_GRANTED[1]], (2, 1), 2),
+    *exchange(2, [], [SAYS_WHERE, SAYS_WHERE, SAYS_GRANT, SAYS_NOTHING], [TWO] * 2, [*LATER_AT, LINKS_GRANTED[0], TROUBLED[1]], (2, 1), 2),
+)
+
+
+def calls_to_open(records):
+    """The disk calls that open a journal: a sync, the length, the header, the head and the bytes of each record, and the closed gate."""
+    return 4 + 2 * records
+
+
+def with_fault(instances, call, granted, *turns):
+    """Turns where this disk call of the site fails; each ends so, and behind it the journal has these events, up to its closed gate."""
+    acts = [["fault", call], ["site", links_asked(2, instances)], *[SAYS_GRANT] * granted, ["peer"]]
+    for end, events in turns:
+        acts += [*peer_turns(end), ["file front", links_asked(2, instances, *events)]]
+    return acts
+
+
+UNOPENED = "unopened: site fault"
+for number in range(1, 31):
+    first, second = calls_to_open(3), calls_to_open(3) + 4 + calls_to_open(4)
+    grant, work_too = [LINKS_GRANTED[0]], [LINKS_GRANTED[0], WORKING[0]]
+    if number <= first:
+        expected = (UNOPENED, []), (ONE, grant)
+    elif number < first + 4:
+        expected = ("site fault", []), (ONE, grant)
+    elif number == first + 4:
+        expected = ("site fault", grant), (ONE, work_too)
+    elif number <= second:
+        expected = (ONE, grant), (UNOPENED, grant), (ONE, work_too)
+    elif number < second + 4:
+        expected = (ONE, grant), ("site fault", grant), (ONE, work_too)
+    else:
+        expected = (ONE, grant), ("site fault", work_too)
+    run("a turn whose disk fails is made up for: call %d" % number, *with_fault(1, number, 2, *expected))
+for number in range(8):
+    begun, granted_then = number // 4, (number + 1) // 4
+    follow = [LINKS_GRANTED[0], WORKING[0], LINKS_GRANTED[1], WORKING[1]] if granted_then == 1 else [*LINKS_GRANTED, *WORKING]
+    run(
+        "the acts before a disk call that fails stand: call %d" % number,
+        *with_fault(2, calls_to_open(5) + 1 + number, 4, ("site fault", follow[:granted_then])),
+        *[["peer calls", begun + 1, 0, 0], *peer_turns(TWO), ["file front", links_asked(2, 2, *follow[: granted_then + 2])]],
+        ["peer calls", begun + 3 - granted_then, 0, 0],
+    )
+
+# ---- Journals that are opened
+
+D, OTHER = "d", "e"
+D_ONBOARDED, D_CREATED = cases.onboarded(cases.descriptor(D, levels=[cases.level("l")])), cases.created(1, D)
+D_GONE, NEVER_ASKED, NO_EVENT = cases.deleted(1), cases.denied(1), b"\0"
+
+
+def with_records(*events):
+    return ["site", [HEADER, *map(in_record, events), "\0"]]
+
+
+def opens(events, text):
+    return [with_records(*events), ["opened", text]]
+
+
+run(
+    "each record is allowed after those before it",
+    ["no fault"],
+    *opens([], "0 records, 0 descriptors, 0 instances, 0 live"),
+    *opens([D_ONBOARDED, D_CREATED], "2 records, 1 descriptors, 1 instances, 1 live"),
+    *opens([D_ONBOARDED, D_CREATED, D_GONE], "3 records, 1 descriptors, 1 instances, 0 live"),
+    *opens([D_CREATED], "bad record 1"),
+    *opens([D_ONBOARDED, D_ONBOARDED], "bad record 2"),
+    *opens([D_ONBOARDED, D_CREATED, D_CREATED], "bad record 3"),
+    *opens([D_ONBOARDED, NEVER_ASKED, D_CREATED], "bad record 2"),
+    *opens([D_ONBOARDED, NO_EVENT], "bad record 2"),
+)
+run(
+    "a manager answers from its history",
+    *[["no fault"], with_records(D_ONBOARDED, D_CREATED, D_GONE), ["descriptor", D, True], ["descriptor", OTHER, False]],
+)
+for number in range(1, 13):
+    first = calls_to_open(2)
+    made = 'Created { instance: 1, vnfd: "d", name: None, text: None }'
+    run(
+        "an event is read back from the file: call %d fails" % number,
+        *[["fault", number], with_records(D_ONBOARDED, D_CREATED)],
+        ["read back", 2, UNOPENED if number <= first else "site fault" if number <= first + 2 else made],
+    )
 
 
 def main():

@@ -115,7 +115,7 @@ turn "a turn of a move and a try"
 
 # A turn of two grants, which no program reaches yet: a test gives them from memory, and passes wherever an allocation fails.
 # The toolchain proves and builds it.
-test=faults::the_acts_before_a_want_of_memory_stand
+test=turns::the_acts_before_a_want_of_memory_stand
 (cd "$here/crates/work_cases" && exec rt test) >"$room/out" 2>&1 </dev/null || { cat "$room/out" >&2; exit 1; }
 count=1
 while rm -f "$room/failed"

@@ -10,6 +10,7 @@ mod checks;
 mod commands;
 mod lives;
 mod objects;
+mod peers;
 mod playing;
 mod preparing;
 mod program;

@@ -47,6 +47,7 @@ fn hears(stage: &mut Stage, alloc: Global, act: &[Value]) -> Result<bool, CaseFa
         "face" => stage.has_face(alloc, act),
         "instance" => stage.has_instance(alloc, act),
         "grants" => stage.has_asked(act),
+        "peer calls" => stage.has_peer_calls(act),
         _ => spells(stage, alloc, act),
     }
 }
@@ -87,6 +88,10 @@ fn runs(stage: &mut Stage, alloc: Global, act: &[Value]) -> Result<bool, CaseFau
         "answers" => stage.answers(alloc, act),
         "turn" => stage.turn(alloc, act),
         "fallen" => stage.fallen(alloc),
+        "peer turn" => stage.makes_turn(alloc, act),
+        "opened" => stage.is_opened(alloc, act),
+        "descriptor" => stage.has_descriptor(alloc, act),
+        "read back" => stage.is_read_back(alloc, act),
         "lives" => stage.lives(alloc, act, choice_of(word(act, 2)?)?),
         _ => finds(stage, alloc, act),
     }
@@ -119,6 +124,9 @@ fn plays(stage: &mut Stage, alloc: Global, act: &[Value]) -> Result<bool, CaseFa
         "life" => stage.take_life(alloc, act)?,
         "stop behind" => stage.stop_behind(alloc, act)?,
         "stop behind the begin" => stage.stop_behind_the_begin(alloc)?,
+        "says nothing" => stage.plan_silence()?,
+        "fault" => stage.plan_fault(act)?,
+        "peer" => stage.make_peer(alloc)?,
         _ => return runs(stage, alloc, act),
     }
     Ok(true)

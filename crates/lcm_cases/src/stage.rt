@@ -5,7 +5,7 @@ use crate::records::Step;
 use crate::stops::{Earlier, Stop, Whole};
 use crate::texts::Names;
 use grant_desk::GrantAll;
-use site_traits::{DoorPlan, GrantPlan, JobPlan, MemSite, SitePlan};
+use site_traits::{DoorPlan, GrantPlan, JobPlan, MemOrchestrator, MemSite, SitePlan};
 use std::alloc::{AllocError, Global};
 
 /// Bytes that each site has room for.
@@ -127,6 +127,8 @@ pub struct Stage {
     pub outside: Outside,
     /// The orchestrator that grants all.
     pub granting: GrantAll,
+    /// The orchestrator of turns that gives planned answers.
+    pub peer: MemOrchestrator,
     /// The site.
     pub site: MemSite,
     /// The file behind which steps are recorded.
@@ -155,6 +157,7 @@ impl Drop for Stage {
             plan: _,
             outside: _,
             granting: _,
+            peer: _,
             site: _,
             base: _,
             before: _,
@@ -174,11 +177,13 @@ impl Stage {
         let whole = Whole::none(alloc)?;
         let site = plain_site(alloc, &[])?;
         let granting = GrantAll::new(alloc)?;
+        let peer = MemOrchestrator::new(alloc, Vec::new(alloc))?;
         Ok(Stage {
             names: Names::new(alloc),
             plan: Plan::new(alloc),
             outside: Outside::new(alloc),
             granting,
+            peer,
             site,
             base: Vec::new(alloc),
             before: Vec::new(alloc),

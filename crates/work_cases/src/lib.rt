@@ -1,13 +1,8 @@
-//! Journals in memory that are opened, and turns over one: what is asked, what is heard, and what stands then.
+//! A turn of two acts, in which any allocation may fail: which acts stand then, and the turn behind it. tests/want_of_memory.sh lets each fail in turn; all
+//! else of turns is played by lcm_cases.
 #![tactic(auto)]
 
 #[cfg(test)]
-mod faults;
-#[cfg(test)]
 mod journals;
-#[cfg(test)]
-mod openings;
-#[cfg(test)]
-mod peers;
 #[cfg(test)]
 mod turns;

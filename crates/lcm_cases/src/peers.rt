@@ -1,0 +1,121 @@
+//! Acts that make turns with an orchestrator whose answers are planned, and that open a journal and ask its manager.
+
+use crate::stage::Stage;
+use case_words::{CaseFault, count, number, truth, word};
+use executor::{Manager, WorkFault};
+use occ_work::{Turn, turn};
+use serde_json::Value;
+use site_traits::{GrantPlan, MemOrchestrator, MemSite};
+use std::alloc::{AllocError, Global};
+use std::mem;
+use vnfm_base::{Kind, Moment, Name};
+
+/// How a turn ended: what it acted, waited for and didn't reach, or why it was ended.
+fn end_text(alloc: Global, end: &Result<Turn, WorkFault>) -> Result<String, AllocError> {
+    match end {
+        Ok(turn) => format!(in alloc; "{} {} {}", turn.acted, turn.waiting, turn.unreached),
+        Err(fault) => format!(in alloc; "{fault}"),
+    }
+}
+
+/// Opens the journal and makes a turn with this orchestrator: how that ended.
+fn turn_text(
+    alloc: Global,
+    site: &mut MemSite,
+    peer: &mut MemOrchestrator,
+) -> Result<String, AllocError> {
+    let mut manager = match Manager::load(alloc, site) {
+        Ok(manager) => manager,
+        Err(fault) => return format!(in alloc; "unopened: {fault}"),
+    };
+    let now = Moment::of(1_700_000_000_000);
+    end_text(alloc, &turn(alloc, &mut manager, site, peer, now))
+}
+
+/// Opens the journal: what its manager says of how much there is.
+fn opened_text(alloc: Global, site: &mut MemSite) -> Result<String, AllocError> {
+    let manager = match Manager::load(alloc, site) {
+        Ok(manager) => manager,
+        Err(fault) => return format!(in alloc; "{fault}"),
+    };
+    let (records, descriptors) = (manager.records(), manager.descriptors());
+    let (made, live) = (manager.made(Kind::Instance), manager.live(Kind::Instance));
+    format!(in alloc; "{records} records, {descriptors} descriptors, {made} instances, {live} live")
+}
+
+/// What a manager reads back at this place of its history.
+fn event_text(alloc: Global, site: &mut MemSite, place: u64) -> Result<String, AllocError> {
+    let mut manager = match Manager::load(alloc, site) {
+        Ok(manager) => manager,
+        Err(fault) => return format!(in alloc; "unopened: {fault}"),
+    };
+    if place == 0 || manager.records() < place {
+        return String::from_str(alloc, "no such record");
+    }
+    match manager.event_at(alloc, site, place) {
+        Ok(event) => format!(in alloc; "{:?}", event.kind),
+        Err(fault) => format!(in alloc; "{fault}"),
+    }
+}
+
+/// Whether the manager of the journal has the descriptor of this name; none where the journal isn't opened.
+fn has_descriptor(alloc: Global, site: &mut MemSite, name: &Name) -> Option<bool> {
+    let manager = Manager::load(alloc, site).ok()?;
+    Some(manager.vnfd(name).is_some())
+}
+
+impl Stage {
+    /// `["says nothing"]`: the call of the next command's orchestrator that comes next fails.
+    pub fn plan_silence(&mut self) -> Result<(), CaseFault> {
+        Ok(self.outside.says.push(GrantPlan::Fail)?)
+    }
+
+    /// `["fault", K]`: the disk call of this number, from 1, fails on the next site.
+    pub fn plan_fault(&mut self, act: &[Value]) -> Result<(), CaseFault> {
+        self.plan.failing = Some(number(act, 1)?);
+        Ok(())
+    }
+
+    /// `["peer"]`: the orchestrator of the turns that follow gives the answers that are planned.
+    pub fn make_peer(&mut self, alloc: Global) -> Result<(), CaseFault> {
+        let says = mem::replace(&mut self.outside.says, Vec::new(alloc));
+        self.peer = MemOrchestrator::new(alloc, says)?;
+        Ok(())
+    }
+
+    /// `["peer turn", TEXT]`: opens the journal and makes a turn with that orchestrator, which ends so: `ACTED WAITING UNREACHED`, or what ended it.
+    pub fn makes_turn(&mut self, alloc: Global, act: &[Value]) -> Result<bool, CaseFault> {
+        let text = turn_text(alloc, &mut self.site, &mut self.peer)?;
+        Ok(text.as_str() == word(act, 1)?)
+    }
+
+    /// `["peer calls", ASKED, POLLED, FAULTS]`: that orchestrator answered so many asks and polls, and so many calls of it failed.
+    pub fn has_peer_calls(&self, act: &[Value]) -> Result<bool, CaseFault> {
+        Ok(
+            count(act, 1)? == self.peer.asked()
+                && count(act, 2)? == self.peer.polled()
+                && number(act, 3)? == self.peer.faults(),
+        )
+    }
+
+    /// `["opened", TEXT]`: the journal is opened, and its manager has so many records, descriptors and instances, or it isn't, for this cause.
+    pub fn is_opened(&mut self, alloc: Global, act: &[Value]) -> Result<bool, CaseFault> {
+        let text = opened_text(alloc, &mut self.site)?;
+        Ok(text.as_str() == word(act, 1)?)
+    }
+
+    /// `["descriptor", NAME, TRUTH]`: the journal is opened, and its manager has the descriptor of this name, or hasn't.
+    pub fn has_descriptor(&mut self, alloc: Global, act: &[Value]) -> Result<bool, CaseFault> {
+        let Some(name) = Name::of(word(act, 1)?.as_bytes()) else {
+            return Err(CaseFault::Spelling);
+        };
+        let has = has_descriptor(alloc, &mut self.site, &name);
+        Ok(has == Some(truth(act, 2)?))
+    }
+
+    /// `["read back", PLACE, TEXT]`: the journal is opened, and its event at this place, from 1, is read back as this.
+    pub fn is_read_back(&mut self, alloc: Global, act: &[Value]) -> Result<bool, CaseFault> {
+        let text = event_text(alloc, &mut self.site, number(act, 1)?)?;
+        Ok(text.as_str() == word(act, 2)?)
+    }
+}
