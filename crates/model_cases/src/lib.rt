@@ -1,10 +1,8 @@
-//! Plans, places, judgements and rows that were written out by hand, and that each call succeeds with ample memory.
+//! Asks, judgements and rows that were written out by hand, and that each call succeeds with ample memory.
 #![tactic(auto)]
 
 #[cfg(test)]
 mod judging;
-#[cfg(test)]
-mod placing;
 #[cfg(test)]
 mod plans;
 #[cfg(test)]

@@ -1,17 +1,13 @@
-//! A plan that was written out by hand: made over an instance of which nothing stands, and judged by the tables of the history in which it was
-//! created.
+//! A plan that was written out by hand, judged by the tables of the history in which its instance was created.
 
 ghost use Rattle.std.specs.Prelude.{IfOk, IsTrue, None, ◌≡◌};
 ghost use Rattle.lcm_model.specs.Operations.{asked_in};
 ghost use Rattle.model_cases.specs.Idle.{CanFollow, IsIdle, IsSmallIdle};
 
-use change_planner::can_be_planned;
 use lcm_events::{
-    Ask, Aspect, Change, Changes, Def, DefKind, Event, EventKind, Holding, Level, Listed,
-    Operation, Port, Role, Row, Storage, Vdu, Verb, Vnfd,
+    Ask, Aspect, Change, Def, DefKind, Event, EventKind, Level, Listed, Operation, Port, Role, Row,
+    Storage, Vdu, Verb, Vnfd,
 };
-use lcm_model::Refusal;
-use lcm_plans::plan_standing;
 use lcm_tables::Tables;
 use std::alloc::{AllocError, Global};
 use std::process::Abort;
@@ -171,69 +167,6 @@ fn stop() -> Ask {
         started: false,
         stop: None,
     }
-}
-
-/// Nothing stands, of two VDUs and one aspect.
-fn nothing(alloc: Global) -> Result<Holding, Fail> {
-    Ok(Holding {
-        instantiated: false,
-        started: false,
-        levels: Listed::of(vec![in alloc; 0]?),
-        items: Listed::new(alloc),
-        top: Listed::of(vec![in alloc; 0, 0]?),
-    })
-}
-
-/// The plan of an ask over what stands, or why it is refused; none where this can't stand of the descriptor.
-fn planned(
-    alloc: Global,
-    vnfd: &Vnfd,
-    holding: &Holding,
-    ask: &Ask,
-) -> Result<Option<Result<Changes, Refusal>>, AllocError> {
-    if !can_be_planned(vnfd, holding, &holding.levels) {
-        return Ok(None);
-    }
-    Ok(Some(plan_standing(alloc, vnfd, holding, false, ask)?))
-}
-
-/// Whether an ask over what stands comes to these changes.
-fn comes_to(
-    alloc: Global,
-    vnfd: &Vnfd,
-    holding: &Holding,
-    ask: &Ask,
-    expected: &[Change],
-) -> Result<bool, AllocError> {
-    match planned(alloc, vnfd, holding, ask)? {
-        Some(Ok(changes)) => Ok(changes.as_slice() == expected),
-        _ => Ok(false),
-    }
-}
-
-/// Whether an ask over what stands is refused so.
-fn is_refused(
-    alloc: Global,
-    vnfd: &Vnfd,
-    holding: &Holding,
-    ask: &Ask,
-    expected: Refusal,
-) -> Result<bool, AllocError> {
-    match planned(alloc, vnfd, holding, ask)? {
-        Some(Err(why)) => Ok(why == expected),
-        _ => Ok(false),
-    }
-}
-
-#[test]
-fn the_first_plan_makes_thirteen_resources_in_order(rt: HostRuntime) -> Result<(), Fail> {
-    let alloc = rt.alloc();
-    let vnfd = router(&rt, alloc)?;
-    let nothing = nothing(alloc)?;
-    let expected = thirteen_changes();
-    assert!(rt; comes_to(alloc, &vnfd, &nothing, &instantiate(&rt), &expected)?);
-    assert!(rt; is_refused(alloc, &vnfd, &nothing, &stop(), Refusal::NotInstantiated)?);
-    Ok(())
 }
 
 fn at_once(kind: EventKind) -> Event

@@ -1,326 +1,126 @@
-//! Plans of an edge router of two machines over what stands of it, as an operator would write them down.
+//! Acts about a descriptor, what stands of an instance of it and an ask.
 
-use crate::routers::{
-    Asked, Bounds, DATA, DISK, LINK, MACHINE, MANAGEMENT, NARROW, PORT, Part, Stands, USUAL, WIDE,
-    ask_of, holding, nothing, out, router, running, two,
-};
+use crate::levels::steps_text;
+use crate::parts::{Told, event, levels, operation, sentence};
+use case_words::{CaseFault, list, truth, word};
 use change_planner::{PlanRefusal, can_be_planned, plan};
-use lcm_events::{Ask, Change, Changes, DefKind, Holding, Listed, StopType, Verb, Vnfc, Vnfd};
-use std::alloc::{AllocError, Global};
-use std::process::Abort;
-use std::test::Fail;
+use lcm_events::{Ask, Change, Changes, Holding, Levels, Vnfd};
+use lcm_model::Refusal;
+use lcm_plans::plan_standing;
+use scaling_levels::target;
+use serde_json::Value;
+use std::alloc::Global;
 
-/// A change: its verb and definition.
-type Told = (Verb, DefKind, u16, u16, u32);
+/// What an act about a descriptor, what stands of it and the ask at its fourth place comes to.
+pub fn of_ask(alloc: Global, vnfd: &Vnfd, holding: &Holding, act: &[Value]) -> Told {
+    let asked = event(alloc, act, 3)?;
+    over_ask(alloc, vnfd, holding, &operation(&asked)?.ask, act)
+}
 
-/// The plan of an ask at a level of the workers, where it may be asked for; a plan that may not is `Memory`, which no test wants.
+/// What an act about a descriptor, what stands of it and this ask comes to.
+fn over_ask(alloc: Global, vnfd: &Vnfd, holding: &Holding, ask: &Ask, act: &[Value]) -> Told {
+    match word(act, 0)? {
+        "aim" => aim(alloc, vnfd, holding, ask),
+        "aimed" => aimed(alloc, vnfd, holding, ask),
+        "standing" => standing(alloc, vnfd, holding, ask, act),
+        "plan" => at_levels(alloc, vnfd, holding, ask, act, true),
+        "count" => at_levels(alloc, vnfd, holding, ask, act, false),
+        _ => Err(CaseFault::Spelling),
+    }
+}
+
+/// How many changes there are, and where `each` says so, each of them.
+fn changes_text(alloc: Global, changes: &[Change], each: bool) -> Told {
+    let mut text = format!(in alloc; "{} changes", changes.len())?;
+    if each {
+        for change in changes {
+            put_change(&mut text, change)?;
+        }
+    }
+    Ok(text)
+}
+
+/// Puts a change: its phase, its verb and its definition.
+fn put_change(text: &mut String, change: &Change) -> Result<(), CaseFault> {
+    let (verb, def) = (change.verb, change.def);
+    write!(
+        text,
+        "\n    {} {verb:?} {:?} {} {} {}",
+        change.phase, def.kind, def.item, def.vdu, def.serial
+    )?;
+    Ok(())
+}
+
+/// The changes of a plan, or why there is none.
+fn plan_text(alloc: Global, planned: &Result<Changes, PlanRefusal>, each: bool) -> Told {
+    match planned {
+        Ok(changes) => changes_text(alloc, changes.as_slice(), each),
+        Err(why) => Ok(format!(in alloc; "{why}")?),
+    }
+}
+
+/// The plan of an ask over what stands, at these levels.
 fn planned(
     alloc: Global,
     vnfd: &Vnfd,
     holding: &Holding,
     ask: &Ask,
-    level: u32,
-) -> Result<Changes, PlanRefusal> {
-    let Ok(numbers) = vec![in alloc; level] else {
-        return Err(PlanRefusal::Memory);
-    };
-    let to = Listed::of(numbers);
-    if can_be_planned(vnfd, holding, &to) {
-        plan(alloc, vnfd, holding, ask, &to)
-    } else {
-        Err(PlanRefusal::Memory)
+    to: &Levels,
+    each: bool,
+) -> Told {
+    if !can_be_planned(vnfd, holding, to) {
+        return sentence(alloc, "no such holding");
     }
+    plan_text(alloc, &plan(alloc, vnfd, holding, ask, to), each)
 }
 
-/// How many changes a plan has, or why there is none.
-fn shown(alloc: Global, planned: &Result<Changes, PlanRefusal>) -> Result<String, Fail> {
-    match planned {
-        Ok(changes) => Ok(format!(in alloc; "{} changes", changes.len())?),
+/// `["plan", DESCRIPTOR, HOLDING, ASKED, LEVELS]`: the plan of the ask at the levels, and `"count"` how many changes it has; or why there is none.
+fn at_levels(
+    alloc: Global,
+    vnfd: &Vnfd,
+    holding: &Holding,
+    ask: &Ask,
+    act: &[Value],
+    each: bool,
+) -> Told {
+    let to = levels(alloc, list(act, 4)?)?;
+    planned(alloc, vnfd, holding, ask, &to, each)
+}
+
+/// `["aim", DESCRIPTOR, HOLDING, ASKED]`: the levels that the ask aims at, or why it aims at none.
+fn aim(alloc: Global, vnfd: &Vnfd, holding: &Holding, ask: &Ask) -> Told {
+    if !can_be_planned(vnfd, holding, &holding.levels) {
+        return sentence(alloc, "no such holding");
+    }
+    steps_text(alloc, &target(alloc, vnfd, holding, ask))
+}
+
+/// `["aimed", DESCRIPTOR, HOLDING, ASKED]`: how many changes the plan of the ask at the levels that it aims at has, or why there is none.
+fn aimed(alloc: Global, vnfd: &Vnfd, holding: &Holding, ask: &Ask) -> Told {
+    if !can_be_planned(vnfd, holding, &holding.levels) {
+        return sentence(alloc, "no such holding");
+    }
+    match target(alloc, vnfd, holding, ask) {
+        Ok(to) => planned(alloc, vnfd, holding, ask, &to, false),
         Err(why) => Ok(format!(in alloc; "{why}")?),
     }
 }
 
-/// What comes of an ask at a level of the workers.
-type Row = (Asked<'static>, u32, &'static str);
-
-/// What comes of what is asked.
-fn outcome(
-    rt: &impl Abort,
-    alloc: Global,
-    vnfd: &Vnfd,
-    holding: &Holding,
-    asked: Asked<'_>,
-    level: u32,
-) -> Result<String, Fail> {
-    let ask = ask_of(rt, alloc, asked)?;
-    shown(alloc, &planned(alloc, vnfd, holding, &ask, level))
-}
-
-fn rows_come_out(
-    rt: &impl Abort,
-    alloc: Global,
-    vnfd: &Vnfd,
-    holding: &Holding,
-    rows: &[Row],
-) -> Result<(), Fail> {
-    for (row, (asked, level, expected)) in rows.iter().enumerate() {
-        let text = outcome(rt, alloc, vnfd, holding, *asked, *level)?;
-        assert_eq!(rt; text.as_str(), *expected, "row {row}");
-    }
-    Ok(())
-}
-
-/// Of a router of these bounds over what stands of it, asks come out so.
-fn come_out(
-    rt: &impl Abort,
-    alloc: Global,
-    bounds: Bounds,
-    stands: Stands<'_>,
-    rows: &[Row],
-) -> Result<(), Fail> {
-    let vnfd = router(rt, alloc, bounds)?;
-    let holding = holding(rt, alloc, stands)?;
-    rows_come_out(rt, alloc, &vnfd, &holding, rows)
-}
-
-/// The changes as they are told.
-fn told(alloc: Global, changes: &[Change]) -> Result<Vec<Told>, AllocError> {
-    let mut list: Vec<Told> = Vec::new(alloc);
-    for change in changes {
-        let def = change.def;
-        list.push((change.verb, def.kind, def.item, def.vdu, def.serial))?;
-    }
-    Ok(list)
-}
-
-/// Whether these are the changes of a plan.
-fn are_changes(
-    alloc: Global,
-    planned: &Result<Changes, PlanRefusal>,
-    expected: &[Told],
-) -> Result<bool, AllocError> {
-    match planned {
-        Ok(changes) => Ok(told(alloc, changes.as_slice())?.as_slice() == expected),
-        Err(_) => Ok(false),
+/// The changes of a plan, or why the ask is refused.
+fn answer_text(alloc: Global, answer: &Result<Changes, Refusal>) -> Told {
+    match answer {
+        Ok(changes) => changes_text(alloc, changes.as_slice(), true),
+        Err(why) => Ok(format!(in alloc; "{why:?}")?),
     }
 }
 
-/// Whether the plan of what is asked is this.
-fn is_plan(
-    rt: &impl Abort,
-    alloc: Global,
-    vnfd: &Vnfd,
-    holding: &Holding,
-    plan: (Asked<'_>, u32, &[Told]),
-) -> Result<bool, AllocError> {
-    let (asked, level, expected) = plan;
-    let ask = ask_of(rt, alloc, asked)?;
-    are_changes(alloc, &planned(alloc, vnfd, holding, &ask, level), expected)
-}
-
-/// Of the usual router over what stands of it, the plan of what is asked is this.
-fn is_planned(
-    rt: &impl Abort,
-    alloc: Global,
-    stands: Stands<'_>,
-    asked: Asked<'_>,
-    level: u32,
-    expected: &[Told],
-) -> Result<(), Fail> {
-    let vnfd = router(rt, alloc, USUAL)?;
-    let holding = holding(rt, alloc, stands)?;
-    assert!(rt; is_plan(rt, alloc, &vnfd, &holding, (asked, level, expected))?);
-    Ok(())
-}
-
-const INSTANTIATED: [Told; 13] = [
-    (Verb::Create, LINK, 0, 65_535, 0),
-    (Verb::Create, LINK, 1, 65_535, 0),
-    (Verb::Create, DISK, 0, 0, 1),
-    (Verb::Create, DISK, 0, 0, 2),
-    (Verb::Create, DISK, 1, 1, 1),
-    (Verb::Create, MACHINE, 0, 0, 1),
-    (Verb::Create, MACHINE, 0, 0, 2),
-    (Verb::Create, MACHINE, 0, 1, 1),
-    (Verb::Create, PORT, 0, 0, 1),
-    (Verb::Create, PORT, 1, 0, 1),
-    (Verb::Create, PORT, 0, 0, 2),
-    (Verb::Create, PORT, 1, 0, 2),
-    (Verb::Create, PORT, 2, 1, 1),
-];
-
-#[test]
-fn instantiating_makes_links_disks_machines_and_ports_in_this_order(
-    rt: HostRuntime,
-) -> Result<(), Fail> {
-    is_planned(
-        &rt,
-        rt.alloc(),
-        nothing(),
-        Asked::Instantiate,
-        1,
-        &INSTANTIATED,
-    )
-}
-
-const FOURTH_MADE: [Told; 4] = [
-    (Verb::Create, DISK, 0, 0, 4),
-    (Verb::Create, MACHINE, 0, 0, 4),
-    (Verb::Create, PORT, 0, 0, 4),
-    (Verb::Create, PORT, 1, 0, 4),
-];
-
-const SECOND_REMOVED: [Told; 4] = [
-    (Verb::Remove, PORT, 0, 0, 2),
-    (Verb::Remove, PORT, 1, 0, 2),
-    (Verb::Remove, MACHINE, 0, 0, 2),
-    (Verb::Remove, DISK, 0, 0, 2),
-];
-
-#[test]
-fn scaling_makes_the_next_serial_and_removes_the_greatest(rt: HostRuntime) -> Result<(), Fail> {
-    let alloc = rt.alloc();
-    let small = Asked::ScaleTo("small");
-    // Of VDU_A a third once stood.
-    let third_gone = Stands {
-        tops: (3, 1),
-        ..two()
-    };
-    is_planned(&rt, alloc, third_gone, out(1), 2, &FOURTH_MADE)?;
-    is_planned(&rt, alloc, third_gone, small, 0, &SECOND_REMOVED)?;
-    come_out(&rt, alloc, USUAL, third_gone, &[(out(9), 10, "36 changes")])
-}
-
-/// The first of VDU_A.
-const FIRST: Vnfc = Vnfc { vdu: 0, serial: 1 };
-
-const FIRST_MADE_ANEW: [Told; 8] = [
-    (Verb::Create, DISK, 0, 0, 3),
-    (Verb::Create, MACHINE, 0, 0, 3),
-    (Verb::Create, PORT, 0, 0, 3),
-    (Verb::Create, PORT, 1, 0, 3),
-    (Verb::Remove, PORT, 0, 0, 1),
-    (Verb::Remove, PORT, 1, 0, 1),
-    (Verb::Remove, MACHINE, 0, 0, 1),
-    (Verb::Remove, DISK, 0, 0, 1),
-];
-
-#[test]
-fn healing_makes_anew_what_is_named_and_all_where_none_is(rt: HostRuntime) -> Result<(), Fail> {
-    let alloc = rt.alloc();
-    let first = Asked::Heal(&[FIRST]);
-    is_planned(&rt, alloc, two(), first, 1, &FIRST_MADE_ANEW)?;
-    come_out(
-        &rt,
-        alloc,
-        USUAL,
-        two(),
-        &[(Asked::Heal(&[]), 1, "22 changes")],
-    )
-}
-
-/// What stands where the third of VDU_A has nothing but its disk.
-const PARTIAL: [Part; 14] = [
-    (DISK, 0, 0, 1),
-    (MACHINE, 0, 0, 1),
-    (PORT, 0, 0, 1),
-    (PORT, 1, 0, 1),
-    (DISK, 0, 0, 2),
-    (MACHINE, 0, 0, 2),
-    (PORT, 0, 0, 2),
-    (PORT, 1, 0, 2),
-    (DISK, 0, 0, 3),
-    (DISK, 1, 1, 1),
-    (MACHINE, 0, 1, 1),
-    (PORT, 2, 1, 1),
-    DATA,
-    MANAGEMENT,
-];
-
-const THIRD_REMOVED: [Told; 1] = [(Verb::Remove, DISK, 0, 0, 3)];
-
-#[test]
-fn a_partial_machine_is_removed_also_where_another_is_named(rt: HostRuntime) -> Result<(), Fail> {
-    let alloc = rt.alloc();
-    let partial = running(&PARTIAL, &[1], (3, 1));
-    let third = Asked::Heal(&[Vnfc { vdu: 0, serial: 3 }]);
-    let other = Asked::Heal(&[Vnfc { vdu: 1, serial: 1 }]);
-    is_planned(&rt, alloc, partial, third, 1, &THIRD_REMOVED)?;
-    come_out(&rt, alloc, USUAL, partial, &[(other, 1, "7 changes")])
-}
-
-const STOPPED_AND_REMOVED: [Told; 16] = [
-    (Verb::Stop, MACHINE, 0, 0, 1),
-    (Verb::Stop, MACHINE, 0, 0, 2),
-    (Verb::Stop, MACHINE, 0, 1, 1),
-    (Verb::Remove, PORT, 0, 0, 1),
-    (Verb::Remove, PORT, 1, 0, 1),
-    (Verb::Remove, PORT, 0, 0, 2),
-    (Verb::Remove, PORT, 1, 0, 2),
-    (Verb::Remove, PORT, 2, 1, 1),
-    (Verb::Remove, MACHINE, 0, 0, 1),
-    (Verb::Remove, MACHINE, 0, 0, 2),
-    (Verb::Remove, MACHINE, 0, 1, 1),
-    (Verb::Remove, DISK, 0, 0, 1),
-    (Verb::Remove, DISK, 0, 0, 2),
-    (Verb::Remove, DISK, 1, 1, 1),
-    (Verb::Remove, LINK, 0, 65_535, 0),
-    (Verb::Remove, LINK, 1, 65_535, 0),
-];
-
-#[test]
-fn terminating_stops_first_where_it_is_graceful(rt: HostRuntime) -> Result<(), Fail> {
-    let alloc = rt.alloc();
-    let graceful = Asked::Terminate(StopType::Graceful);
-    let forceful = Asked::Terminate(StopType::Forceful);
-    is_planned(&rt, alloc, two(), graceful, 1, &STOPPED_AND_REMOVED)?;
-    let rows = [
-        (forceful, 1, "13 changes"),
-        (Asked::Operate(false), 1, "3 changes"),
-    ];
-    come_out(&rt, alloc, USUAL, two(), &rows)
-}
-
-/// A machine that there never was, and what would be a link's.
-const UNKNOWN: Vnfc = Vnfc { vdu: 0, serial: 9 };
-
-const NO_MACHINE: Vnfc = Vnfc {
-    vdu: 65_535,
-    serial: 0,
-};
-
-#[test]
-fn a_heal_names_the_first_machine_that_is_unknown(rt: HostRuntime) -> Result<(), Fail> {
-    let rows = [
-        (Asked::Heal(&[FIRST, UNKNOWN]), 1, "entry 1 names no VNFC"),
-        (Asked::Heal(&[NO_MACHINE]), 1, "entry 0 names no VNFC"),
-    ];
-    come_out(&rt, rt.alloc(), NARROW, two(), &rows)
-}
-
-#[test]
-fn what_is_so_already_is_nothing_to_do(rt: HostRuntime) -> Result<(), Fail> {
-    let rows = [
-        (Asked::ScaleTo("normal"), 1, "nothing to do"),
-        (Asked::Operate(true), 1, "nothing to do"),
-    ];
-    come_out(&rt, rt.alloc(), NARROW, two(), &rows)
-}
-
-#[test]
-fn a_vdu_above_its_maximum_is_refused_but_terminated(rt: HostRuntime) -> Result<(), Fail> {
-    let alloc = rt.alloc();
-    let made = [(Asked::Instantiate, 1, "VDU 0 above its maximum")];
-    let ended = [(Asked::Terminate(StopType::Forceful), 1, "13 changes")];
-    come_out(&rt, alloc, NARROW, nothing(), &made)?;
-    come_out(&rt, alloc, NARROW, two(), &ended)
-}
-
-#[test]
-fn more_than_2500_definitions_are_too_many(rt: HostRuntime) -> Result<(), Fail> {
-    let rows = [
-        (Asked::Instantiate, 622, "2497 changes"),
-        (Asked::Instantiate, 623, "2501 resources are too many"),
-    ];
-    come_out(&rt, rt.alloc(), WIDE, nothing(), &rows)
+/// `["standing", DESCRIPTOR, HOLDING, ASKED, BUSY]`: the plan of the ask over what stands, where another operation goes on or none does, or why it is
+/// refused.
+fn standing(alloc: Global, vnfd: &Vnfd, holding: &Holding, ask: &Ask, act: &[Value]) -> Told {
+    let busy = truth(act, 4)?;
+    if !can_be_planned(vnfd, holding, &holding.levels) {
+        return sentence(alloc, "no such holding");
+    }
+    let answer = plan_standing(alloc, vnfd, holding, busy, ask)?;
+    answer_text(alloc, &answer)
 }
