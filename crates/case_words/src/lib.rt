@@ -2,9 +2,11 @@
 #![tactic(auto)]
 
 mod telling;
+mod texts;
 mod words;
 
 pub use telling::{Teller, tell_each};
+pub use texts::text;
 pub use words::{
     CaseFault, behind, bytes, code, count, entries, list, number, part, put_bytes, small, truth,
     word,
