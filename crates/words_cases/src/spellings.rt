@@ -1,147 +1,175 @@
-//! Spellings written out by hand, one of each kind, both ways; and the longest that fits and the first that doesn't.
+//! Spellings: the bytes that an act gives, and how the event is spelled again that they are.
 
+use crate::words::told;
+use case_words::{CaseFault, entries, number, part, put_bytes, word};
 use event_codec::{DecodeFault, RecordBuf, TooLong, decode, encode};
-use std::alloc::{AllocError, Global};
-use std::test::Fail;
+use serde_json::Value;
+use std::alloc::Global;
 
-/// Whether the event of the bytes is written as they are; `None` where they are no event.
-fn is_written_again(
-    alloc: Global,
-    buf: &mut RecordBuf,
-    bytes: &[u8],
-) -> Result<Option<bool>, Fail> {
+/// The bytes of the spelling at this place of an act.
+pub fn spelled(alloc: Global, act: &[Value], place: usize) -> Result<Vec<u8>, CaseFault> {
+    let mut bytes = Vec::new(alloc);
+    put_spelling(&mut bytes, part(act, place)?)?;
+    Ok(bytes)
+}
+
+/// Puts the bytes of a spelling.
+fn put_spelling(into: &mut Vec<u8>, spelling: &Value) -> Result<(), CaseFault> {
+    match spelling.as_str() {
+        Some(string) => put_bytes(into, string),
+        None => put_parts(into, entries(spelling)?),
+    }
+}
+
+/// Puts what is one behind the other.
+fn put_parts(into: &mut Vec<u8>, parts: &[Value]) -> Result<(), CaseFault> {
+    for part in parts {
+        match part.as_str() {
+            Some(string) => put_bytes(into, string)?,
+            None => put_each(into, entries(part)?)?,
+        }
+    }
+    Ok(())
+}
+
+/// Puts a front, the digits and a back for each of some numbers.
+fn put_each(into: &mut Vec<u8>, part: &[Value]) -> Result<(), CaseFault> {
+    for number in number(part, 1)?..number(part, 2)? {
+        put_bytes(into, word(part, 0)?)?;
+        put_digits(into, number)?;
+        put_bytes(into, word(part, 3)?)?;
+    }
+    Ok(())
+}
+
+/// Puts the last three digits of a number.
+fn put_digits(into: &mut Vec<u8>, number: u64) -> Result<(), CaseFault> {
+    for power in [100, 10, 1u64] {
+        let digit = number.checked_div(power).unwrap_or(0) % 10;
+        into.push(b'0' + digit as u8)?;
+    }
+    Ok(())
+}
+
+/// How the event is spelled again that some bytes are.
+#[derive(Clone, Copy)]
+enum Respelling {
+    /// They are none.
+    NoEvent,
+    /// With the same bytes.
+    Same,
+    /// With others.
+    Other,
+    /// With so many that a record doesn't hold them.
+    TooLong(u64),
+}
+
+/// How the event of these bytes is spelled again.
+fn again(alloc: Global, buf: &mut RecordBuf, bytes: &[u8]) -> Result<Respelling, CaseFault> {
     match decode(alloc, bytes) {
-        Ok(event) => {
-            encode(&event, buf)?;
-            Ok(Some(buf.as_slice() == bytes))
-        }
-        Err(DecodeFault::NotEvent) => Ok(None),
-        Err(fault) => Err(fault.into()),
+        Ok(event) => match encode(&event, buf) {
+            Ok(()) => Ok(same(buf, bytes)),
+            Err(TooLong(length)) => Ok(Respelling::TooLong(length)),
+        },
+        Err(DecodeFault::NotEvent) => Ok(Respelling::NoEvent),
+        Err(DecodeFault::Memory) => Err(CaseFault::Memory),
     }
 }
 
-/// Whether the bytes with any other byte at this place are another event's spelling or none.
-fn changes_make_another(
+/// Whether a record has these bytes.
+fn same(buf: &RecordBuf, bytes: &[u8]) -> Respelling {
+    if buf.as_slice() == bytes {
+        Respelling::Same
+    } else {
+        Respelling::Other
+    }
+}
+
+/// How the event is spelled again that the bytes of an act are.
+pub fn event(alloc: Global, act: &[Value]) -> Result<String, CaseFault> {
+    let bytes = spelled(alloc, act, 1)?;
+    let again = again_once(alloc, &bytes)?;
+    again_told(alloc, again)
+}
+
+/// The same of these bytes.
+fn again_once(alloc: Global, bytes: &[u8]) -> Result<Respelling, CaseFault> {
+    let mut buf = RecordBuf::new(alloc)?;
+    again(alloc, &mut buf, bytes)
+}
+
+/// What is told of it.
+fn again_told(alloc: Global, again: Respelling) -> Result<String, CaseFault> {
+    match again {
+        Respelling::NoEvent => told(alloc, b"no event"),
+        Respelling::Same => told(alloc, b"the same bytes"),
+        Respelling::Other => told(alloc, b"other bytes"),
+        Respelling::TooLong(length) => Ok(format!(in alloc; "too long: {length}")?),
+    }
+}
+
+/// How many spellings are none, are spelled the same again and are spelled otherwise.
+#[derive(Clone, Copy)]
+struct Counts {
+    none: u64,
+    same: u64,
+    other: u64,
+}
+
+impl Counts {
+    /// Counts one more.
+    fn count(&mut self, again: Respelling) {
+        match again {
+            Respelling::NoEvent => self.none = self.none.saturating_add(1),
+            Respelling::Same => self.same = self.same.saturating_add(1),
+            Respelling::Other | Respelling::TooLong(_) => self.other = self.other.saturating_add(1),
+        }
+    }
+}
+
+/// How the events are spelled again that the bytes of an act are where any one of them is changed to any other.
+pub fn changed(alloc: Global, act: &[Value]) -> Result<String, CaseFault> {
+    let mut bytes = spelled(alloc, act, 1)?;
+    let Counts { none, same, other } = change_each(alloc, &mut bytes)?;
+    Ok(format!(in alloc; "{none} no event, {same} the same bytes, {other} other bytes")?)
+}
+
+/// Counts what comes of the changes at each place.
+fn change_each(alloc: Global, bytes: &mut [u8]) -> Result<Counts, CaseFault> {
+    let mut buf = RecordBuf::new(alloc)?;
+    let mut counts = Counts {
+        none: 0,
+        same: 0,
+        other: 0,
+    };
+    for place in 0..bytes.len() {
+        change_at(alloc, &mut buf, bytes, place, &mut counts)?;
+    }
+    Ok(counts)
+}
+
+/// Counts what comes of the changes at this place, and leaves the bytes as they are.
+fn change_at(
     alloc: Global,
     buf: &mut RecordBuf,
-    bytes: &[u8],
+    bytes: &mut [u8],
     place: usize,
-) -> Result<bool, Fail> {
-    let mut changed = bytes.to_vec(alloc)?;
-    for value in 0..=255 {
-        if let Some(byte) = changed.get_mut(place) {
-            *byte = value;
-        }
-        if is_written_again(alloc, buf, changed.as_slice())? == Some(false) {
-            return Ok(false);
-        }
-    }
-    Ok(true)
-}
-
-/// Whether the bytes are written as they were read, and no change of one byte gives the same event.
-fn holds_both_ways(alloc: Global, buf: &mut RecordBuf, bytes: &[u8]) -> Result<bool, Fail> {
-    for place in 0..bytes.len() {
-        if !changes_make_another(alloc, buf, bytes, place)? {
-            return Ok(false);
+    counts: &mut Counts,
+) -> Result<(), CaseFault> {
+    let before = bytes.get(place).copied().unwrap_or(0);
+    for value in 0..=255u8 {
+        if value != before {
+            put_at(bytes, place, value);
+            counts.count(again(alloc, buf, bytes)?);
         }
     }
-    Ok(is_written_again(alloc, buf, bytes)? == Some(true))
-}
-
-#[test]
-fn one_event_of_each_kind(rt: HostRuntime) -> Result<(), Fail> {
-    let spellings: [&[u8]; 15] = [
-        b"\x01\x00\x00\x01\x8b\xcf\xe5\x68\x00\x01\x64\x01\x70\x01\x6e\x01\x31\x01\x32\x01\x66\x00\x01\x01\x56\
-          \x00\x00\x00\x00\x00\x00\x04\x00\x00\x00\x00\x02\xff\xff\xff\xff\x00\x00\x00\x01\x00\x01\x00\x00\x00\
-          \x01\x01\x73\x00\x00\x00\x00\x00\x00\x00\x05\x00\x01\x01\x6c\x00\x02\x01\x63\x00\x00\x00\x00\x01\x6d\
-          \x00\x00\xff\xff\x00\x01\x01\x61\x00\x00\x00\x03\x00\x01\x00\x01\x00\x00\x00\x00\x00\x02\x00\x01\x01\
-          \x78\x00\x00\x00\x01\x00\x00",
-        b"\x02\x00\x00\x01\x8b\xcf\xe5\x68\x00\x00\x00\x00\x00\x00\x00\x00\x01\x06\x76\x6e\x66\x64\x2d\x31\x01\
-          \x06\x65\x64\x67\x65\x2d\x31\x00",
-        b"\x03\x00\x00\x01\x8b\xcf\xe5\x68\x00\x00\x00\x00\x00\x00\x00\x00\x01",
-        b"\x04\x00\x00\x01\x8b\xcf\xe5\x68\x00\x00\x00\x00\x00\x00\x00\x00\x01\x00\x00\x00\x00\x00\x00\x00\x02\
-          \x00\x02\x01\x07\x77\x6f\x72\x6b\x65\x72\x73\x00\x00\x00\x02\x00\x01\x06\x01\x02\x00\x00\x00\x01\x00\
-          \x00\x00\x03",
-        b"\x05\x00\x00\x01\x8b\xcf\xe5\x68\x00\x00\x00\x00\x00\x00\x00\x00\x01\x00\x00\x03\x2f\x67\x31",
-        b"\x06\x00\x00\x01\x8b\xcf\xe5\x68\x00\x00\x00\x00\x00\x00\x00\x00\x01\x02\x67\x31\x01\x01\x76\x00\x00\
-          \x02\x00\x00",
-        b"\x07\x00\x00\x01\x8b\xcf\xe5\x68\x00\x00\x00\x00\x00\x00\x00\x00\x01",
-        b"\x08\x00\x00\x01\x8b\xcf\xe5\x68\x00\x00\x00\x00\x00\x00\x00\x00\x01\x00\x02\x00\x00\x00\x01\x00",
-        b"\x09\x00\x00\x01\x8b\xcf\xe5\x68\x00\x00\x00\x00\x00\x00\x00\x00\x01\x00\x02\x00\x00\x00\x01\x01",
-        b"\x0a\x00\x00\x01\x8b\xcf\xe5\x68\x00\x00\x00\x00\x00\x00\x00\x00\x01\x00\x02\x00\x00\x00\x01\x00\x00\
-          \x02\x72\x31",
-        b"\x0b\x00\x00\x01\x8b\xcf\xe5\x68\x00\x00\x00\x00\x00\x00\x00\x00\x01\x03",
-        b"\x0c\x00\x00\x01\x8b\xcf\xe5\x68\x00\x00\x00\x00\x00\x00\x00\x00\x01\x01",
-        b"\x0d\x00\x00\x01\x8b\xcf\xe5\x68\x00\x00\x00\x00\x00\x00\x00\x00\x01\x01\x00\x0a\x68\x74\x74\x70\x3a\
-          \x2f\x2f\x68\x2f\x78\x00\x01\x01\x64\x00\x00\x00\x00\x00\x02\x00\x02\x00\x02\x01\x09\x00\x01\x02",
-        b"\x0e\x00\x00\x01\x8b\xcf\xe5\x68\x00\x00\x00\x00\x00\x00\x00\x00\x01",
-        b"\x0f\x00\x00\x01\x8b\xcf\xe5\x68\x00\x00\x00\x00\x00\x00\x00\x00\x01\x00\x00\x00\x00\x00\x00\x00\x05\
-          \x01",
-    ];
-    let mut buf = RecordBuf::new(rt.alloc())?;
-    for bytes in spellings {
-        assert!(rt; holds_both_ways(rt.alloc(), &mut buf, bytes)?);
-    }
+    put_at(bytes, place, before);
     Ok(())
 }
 
-/// A Subscribed with 64 values of 255 bytes in each list of names.
-fn longest_subscribed(alloc: Global) -> Result<Vec<u8>, AllocError> {
-    let mut bytes =
-        b"\x0d\x00\x00\x00\x00\x00\x00\x00\x00\x00\x00\x00\x00\x00\x00\x00\x01\x00\x00\x00".to_vec(
-            alloc,
-        )?;
-    for _ in 0..3 {
-        bytes.extend_from_slice(b"\x00\x40")?;
-        for _ in 0..64 {
-            bytes.extend_from_slice(&[255])?;
-            bytes.extend_from_slice(&[97; 255])?;
-        }
+/// Puts a byte at this place.
+fn put_at(bytes: &mut [u8], place: usize, value: u8) {
+    if let Some(byte) = bytes.get_mut(place) {
+        *byte = value;
     }
-    bytes.extend_from_slice(&[0; 6])?;
-    Ok(bytes)
-}
-
-/// An Onboarded of 65,537 bytes: 255 links with names of 255 bytes and one with a name of 219.
-fn onboarded_too_long(alloc: Global) -> Result<Vec<u8>, AllocError> {
-    let mut bytes =
-        b"\x01\x00\x00\x00\x00\x00\x00\x00\x00\x01a\x01a\x01a\x01a\x01a\x01a\x00\x00\x00\x00\x01\x00".to_vec(
-            alloc,
-        )?;
-    for number in 0..=255_u8 {
-        let length = if number == 255 { 219 } else { 255 };
-        bytes.extend_from_slice(&[length, 97 + number / 16, 97 + number % 16])?;
-        for _ in 2..length {
-            bytes.extend_from_slice(&[122])?;
-        }
-    }
-    bytes.extend_from_slice(b"\x00\x00\x00\x00\x00\x01\x01x\x00\x00")?;
-    Ok(bytes)
-}
-
-#[test]
-fn the_longest_subscribed_fits(rt: HostRuntime) -> Result<(), Fail> {
-    let mut buf = RecordBuf::new(rt.alloc())?;
-    let mut bytes = longest_subscribed(rt.alloc())?;
-    assert_eq!(rt;
-        is_written_again(rt.alloc(), &mut buf, bytes.as_slice())?,
-        Some(true)
-    );
-    bytes.extend_from_slice(&[0])?;
-    assert_eq!(rt;
-        is_written_again(rt.alloc(), &mut buf, bytes.as_slice())?,
-        None
-    );
-    Ok(())
-}
-
-#[test]
-fn an_onboarded_may_be_too_long(rt: HostRuntime) -> Result<(), Fail> {
-    let mut buf = RecordBuf::new(rt.alloc())?;
-    let bytes = onboarded_too_long(rt.alloc())?;
-    assert_eq!(rt; bytes.len(), 65_537);
-    let event = decode(rt.alloc(), bytes.as_slice())?;
-    assert!(rt; matches!(encode(&event, &mut buf), Err(TooLong(65_537))));
-    Ok(())
 }

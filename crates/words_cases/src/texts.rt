@@ -1,129 +1,131 @@
-//! Values from outside: identifiers and moments written out by hand, and that each call succeeds with ample memory.
+//! Names, lines, texts, bytes and lists: what is taken, and what it then holds.
 
-use std::test::Fail;
-use vnfm_base::{
-    Bytes, Kind, LINE_MAX, Line, LineFault, MAX_MOMENT, Moment, NAME_MAX, Name, Text, TextFault,
-    ident, ident_read, ident_text, moment_text,
-};
+use crate::spellings::spelled;
+use crate::words::told;
+use case_words::{CaseFault, small, word};
+use lcm_events::Listed;
+use serde_json::Value;
+use std::alloc::Global;
+use vnfm_base::{Bytes, Line, LineFault, Name, Text, TextFault};
 
-/// Identifiers that were written out by hand.
-const WRITTEN: [&[u8]; 4] = [
-    b"00000007-766d-8001-8000-000000000001",
-    b"00000007-766d-8002-8000-000000000002",
-    b"ffffffff-766d-8003-8000-00000000abcd",
-    b"00000000-766d-8004-bfff-ffffffffffff",
-];
+/// A name: its length and what it holds.
+pub fn name(alloc: Global, act: &[Value]) -> Result<String, CaseFault> {
+    let bytes = spelled(alloc, act, 1)?;
+    match Name::of(&bytes) {
+        Some(name) => name_told(alloc, &name),
+        None => told(alloc, b"no name"),
+    }
+}
 
-#[test]
-fn identifiers_are_written(rt: HostRuntime) -> Result<(), Fail> {
-    let made = [
-        ident_text(&ident(7, Kind::Instance, 1)),
-        ident_text(&ident(7, Kind::Occurrence, 2)),
-        ident_text(&ident(4_294_967_295, Kind::Subscription, 43_981)),
-        ident_text(&ident(0, Kind::Notice, 4_611_686_018_427_387_903)),
-    ];
-    for (text, expected) in made.iter().zip(&WRITTEN) {
-        assert_eq!(rt; text.as_slice(), *expected);
+/// What is told of a name.
+fn name_told(alloc: Global, name: &Name) -> Result<String, CaseFault> {
+    let (length, empty) = (name.len(), name.is_empty());
+    Ok(format!(in alloc; "{length} bytes, empty {empty}: {:?}", name.as_str())?)
+}
+
+/// Whether a name comes before another, and whether it is the same.
+pub fn names(alloc: Global, act: &[Value]) -> Result<String, CaseFault> {
+    let (first, second) = (word(act, 1)?, word(act, 2)?);
+    match (Name::of(first.as_bytes()), Name::of(second.as_bytes())) {
+        (Some(first), Some(second)) => compared(alloc, &first, &second),
+        _ => told(alloc, b"no names"),
+    }
+}
+
+/// How two names compare.
+fn compared(alloc: Global, first: &Name, second: &Name) -> Result<String, CaseFault> {
+    let (before, same) = (first < second, first == second);
+    Ok(format!(in alloc; "before {before}, the same {same}")?)
+}
+
+/// A line: its length, what it holds, and whether that is what was spelled and what a copy of it holds.
+pub fn line(alloc: Global, act: &[Value]) -> Result<String, CaseFault> {
+    let bytes = spelled(alloc, act, 1)?;
+    match Line::of(alloc, &bytes) {
+        Ok(line) => line_told(alloc, &bytes, &line),
+        Err(LineFault::NotLine) => told(alloc, b"no line"),
+        Err(LineFault::Memory) => Err(CaseFault::Memory),
+    }
+}
+
+/// What is told of a line.
+fn line_told(alloc: Global, bytes: &[u8], line: &Line) -> Result<String, CaseFault> {
+    let copied = line.clone()? == *line;
+    let (length, kept) = (line.len(), line.as_bytes() == bytes);
+    Ok(format!(in alloc;
+        "{length} bytes, kept {kept}, copied {copied}: {:?}",
+        line.as_str()
+    )?)
+}
+
+/// A text: what a copy of it holds.
+pub fn text(alloc: Global, act: &[Value]) -> Result<String, CaseFault> {
+    let bytes = spelled(alloc, act, 1)?;
+    match Text::of(alloc, &bytes) {
+        Ok(text) => text_told(alloc, &text),
+        Err(TextFault::NotText) => told(alloc, b"no text"),
+        Err(TextFault::Memory) => Err(CaseFault::Memory),
+    }
+}
+
+/// What is told of a text.
+fn text_told(alloc: Global, text: &Text) -> Result<String, CaseFault> {
+    let copy = text.clone()?;
+    Ok(format!(in alloc; "{} bytes: {:?}", copy.len(), copy.as_str())?)
+}
+
+/// Bytes: what a copy of them holds, and how many their vector has.
+pub fn bytes(alloc: Global, act: &[Value]) -> Result<String, CaseFault> {
+    let bytes = spelled(alloc, act, 1)?;
+    let length = vector_length(alloc, &bytes)?;
+    bytes_told(alloc, &bytes, length)
+}
+
+/// How many bytes the vector of these has.
+fn vector_length(alloc: Global, bytes: &[u8]) -> Result<usize, CaseFault> {
+    Ok(Bytes::of(alloc, bytes)?.into_vec().len())
+}
+
+/// What is told of these bytes, whose vector has so many.
+fn bytes_told(alloc: Global, bytes: &[u8], length: usize) -> Result<String, CaseFault> {
+    let copy = Bytes::of(alloc, bytes)?.clone()?;
+    Ok(format!(in alloc; "{:?}, a vector of {length}", copy.as_slice())?)
+}
+
+/// No bytes: whether there are none.
+pub fn no_bytes(alloc: Global) -> Result<String, CaseFault> {
+    Ok(format!(in alloc; "empty {}", Bytes::empty(alloc).is_empty())?)
+}
+
+/// The list of the numbers of an act.
+fn numbers(alloc: Global, act: &[Value]) -> Result<Listed<u16>, CaseFault> {
+    let mut list = Listed::new(alloc);
+    put_numbers(&mut list, case_words::list(act, 1)?)?;
+    Ok(list)
+}
+
+/// Puts these numbers into a list.
+fn put_numbers(list: &mut Listed<u16>, numbers: &[Value]) -> Result<(), CaseFault> {
+    for place in 0..numbers.len() {
+        list.push(small(numbers, place)?)?;
     }
     Ok(())
 }
 
-#[test]
-fn identifiers_are_read(rt: HostRuntime) -> Result<(), Fail> {
-    let rows: [(&[u8], u32, Kind, Option<u64>); 10] = [
-        (WRITTEN[0], 7, Kind::Instance, Some(1)),
-        (WRITTEN[1], 7, Kind::Occurrence, Some(2)),
-        (WRITTEN[3], 0, Kind::Notice, Some(4_611_686_018_427_387_903)),
-        // Another kind, another manager, upper case, braces, numbers out of range, and no hyphens.
-        (WRITTEN[0], 7, Kind::Occurrence, None),
-        (WRITTEN[0], 8, Kind::Instance, None),
-        (
-            b"00000007-766D-8001-8000-000000000001",
-            7,
-            Kind::Instance,
-            None,
-        ),
-        (
-            b"{00000007-766d-8001-8000-000000000001}",
-            7,
-            Kind::Instance,
-            None,
-        ),
-        (
-            b"00000007-766d-8001-8000-000000000000",
-            7,
-            Kind::Instance,
-            None,
-        ),
-        (
-            b"00000007-766d-8001-c000-000000000000",
-            7,
-            Kind::Instance,
-            None,
-        ),
-        (b"00000007766d80018000000000000001", 7, Kind::Instance, None),
-    ];
-    for (text, manager, kind, number) in rows {
-        assert_eq!(rt; ident_read(text, manager, kind), number);
-    }
-    Ok(())
+/// A list of these numbers: its length and its entries.
+pub fn list(alloc: Global, act: &[Value]) -> Result<String, CaseFault> {
+    let list = numbers(alloc, act)?;
+    list_told(alloc, &list)
 }
 
-#[test]
-fn moments_are_written(rt: HostRuntime) -> Result<(), Fail> {
-    let rows: [(u64, &[u8]); 6] = [
-        (0, b"1970-01-01T00:00:00.000Z"),
-        (1_700_000_000_000, b"2023-11-14T22:13:20.000Z"),
-        (1_709_210_096_789, b"2024-02-29T12:34:56.789Z"),
-        (MAX_MOMENT, b"9999-12-31T23:59:59.999Z"),
-        (MAX_MOMENT + 1, b"9999-12-31T23:59:59.999Z"),
-        (u64::MAX, b"9999-12-31T23:59:59.999Z"),
-    ];
-    for (milliseconds, text) in rows {
-        assert_eq!(rt; moment_text(Moment::of(milliseconds)).as_slice(), text);
-    }
-    Ok(())
+/// The list that is made of the vector of such a list.
+pub fn list_again(alloc: Global, act: &[Value]) -> Result<String, CaseFault> {
+    let list = Listed::of(numbers(alloc, act)?.into_vec());
+    list_told(alloc, &list)
 }
 
-#[test]
-fn texts_are_taken_or_refused(rt: HostRuntime) -> Result<(), Fail> {
-    let alloc = rt.alloc();
-    let longest = [97; NAME_MAX + 1];
-    assert_eq!(rt; Name::of(b"").is_some(), true);
-    assert_eq!(rt; Name::of("Zürich".as_bytes()).is_some(), true);
-    assert_eq!(rt; Name::of(&longest[1..]).is_some(), true);
-    assert_eq!(rt; Name::of(&longest).is_some(), false);
-    assert_eq!(rt; Name::of(b"a\x1fb").is_some(), false);
-    assert_eq!(rt; Name::of(b"a\x7fb").is_some(), false);
-    assert_eq!(rt; Name::of(b"\xc3").is_some(), false);
-    let (a, b) = (
-        Name::of(b"ab").ok_or("a name")?,
-        Name::of(b"b").ok_or("a name")?,
-    );
-    assert_eq!(rt;
-        a < b && a == a && a.as_str() == "ab" && a.len() == 2 && !a.is_empty(),
-        true
-    );
-    let line = Line::of(alloc, b"http://h/x")?;
-    assert_eq!(rt; line.as_bytes(), b"http://h/x".as_slice());
-    assert_eq!(rt;
-        line.clone()? == line && line.as_str() == "http://h/x",
-        true
-    );
-    let long = [97; LINE_MAX + 1];
-    assert_eq!(rt; Line::of(alloc, &long[1..])?.len(), LINE_MAX);
-    assert_eq!(rt;
-        matches!(Line::of(alloc, &long), Err(LineFault::NotLine)),
-        true
-    );
-    assert_eq!(rt;
-        matches!(Text::of(alloc, b"\xff"), Err(TextFault::NotText)),
-        true
-    );
-    assert_eq!(rt; Text::of(alloc, b"a\nb")?.clone()?.as_str(), "a\nb");
-    let bytes = Bytes::of(alloc, b"\x00\xff")?;
-    assert_eq!(rt; bytes.clone()?.as_slice(), b"\x00\xff".as_slice());
-    assert_eq!(rt; bytes.into_vec().len(), 2);
-    assert_eq!(rt; Bytes::empty(alloc).is_empty(), true);
-    Ok(())
+/// What is told of a list.
+fn list_told(alloc: Global, list: &Listed<u16>) -> Result<String, CaseFault> {
+    let (length, empty, entries) = (list.len(), list.is_empty(), list.as_slice());
+    Ok(format!(in alloc; "{length} entries, empty {empty}: {entries:?}")?)
 }
