@@ -1,7 +1,6 @@
-#!/usr/bin/env python3
-"""Writes a random legal history of 600 events, with events that aren't allowed between them, for `table_cases`.
+"""A random legal history of 600 events, with events that aren't allowed between them, and what the tables say after each event that happens.
 
-usage: history.py FOLDER     writes FOLDER/stdin, the events after docs/EVENTS.md, and FOLDER/stdout, what the program must print
+tests/table_cases.py takes it from `stored`, and writes it as a case of `table_cases`.
 
 Instances of one descriptor live side by side: each is created, asked for operations of all six kinds, and maybe deleted. Subscriptions of both
 roles come and go, and their notices are posted. What may come next, and what the tables say after it, is told here by the rules of
@@ -9,10 +8,8 @@ docs/MODEL.md, written once more in another language; one attempt of an occurren
 one first; and the spelling. The history is the same each time: its numbers are drawn from one seed.
 """
 import collections
-import os
 import random
 import struct
-import sys
 import uuid
 
 import texts
@@ -808,17 +805,9 @@ def history(seed):
     return h
 
 
-def main(folder):
+def stored():
+    """The history that is stored."""
     h = history(SEED)
     missing = [what for what in WANTED if not h.seen[what]]
     assert not missing, missing
-    with open(os.path.join(folder, "stdin"), "wb") as out:
-        out.write(b"".join(h.entries))
-    with open(os.path.join(folder, "stdout"), "w") as out:
-        out.writelines(f"{told}\n" for told in h.told)
-        out.write(f"events {h.events}, allowed {h.events}\n")
-        out.write(f"other events {h.wrong}, allowed 0\n")
-
-
-if __name__ == "__main__":
-    main(sys.argv[1])
+    return h

@@ -1,22 +1,37 @@
-//! The entries of the history on standard input.
+//! The events of an act.
 
 ghost use Rattle.std.specs.Prelude.{◌<◌, ◌≤◌, ◌+◌, length, IfOk, IfSome};
 
-use anyhow::{Context, Result, bail};
+use case_words::{CaseFault, bytes};
 use event_codec::decode;
 use lcm_events::Event;
+use serde_json::Value;
 use std::alloc::Global;
 
 /// Bytes before the spelling of an event: whether it happens, and the spelling's length.
 const HEAD: usize = 5;
 
-/// An event, and whether it happens.
+/// An event of a history, and whether it happens.
 #[derive(Drop)]
 pub struct Entry {
     /// Whether it is allowed and happens.
     pub happens: bool,
     /// The event.
     pub event: Event,
+}
+
+/// The event that is spelled so.
+fn read_event(alloc: Global, spelling: &[u8]) -> Result<Event, CaseFault> {
+    match decode(alloc, spelling) {
+        Ok(event) => Ok(event),
+        Err(_) => Err(CaseFault::Spelling),
+    }
+}
+
+/// The event at this place of an act.
+pub fn event(alloc: Global, act: &[Value], place: usize) -> Result<Event, CaseFault> {
+    let spelling = bytes(alloc, act, place)?;
+    read_event(alloc, spelling.as_slice())
 }
 
 /// The spelling that these bytes begin with, behind its head, and where it ends.
@@ -35,23 +50,22 @@ fn front(bytes: &[u8]) -> Option<(bool, &[u8])>
 }
 
 /// The entry that these bytes begin with, and how many bytes it takes.
-fn read_entry(alloc: Global, bytes: &[u8]) -> Result<(Entry, usize)>
+fn read_entry(alloc: Global, bytes: &[u8]) -> Result<(Entry, usize), CaseFault>
     ensures { IfOk result (λ r. (0 < r.1) × (r.1 ≤ length bytes.now)) }
 {
     let Some((happens, spelling)) = front(bytes) else {
-        bail!("the history ends within an entry");
+        return Err(CaseFault::Spelling);
     };
-    let event = decode(alloc, spelling).context("an entry is no event")?;
+    let event = read_event(alloc, spelling)?;
     Ok((Entry { happens, event }, HEAD + spelling.len()))
 }
 
 /// The entries that these bytes are.
-pub fn read_entries(alloc: Global, bytes: &[u8]) -> Result<Vec<Entry>> {
+pub fn read_entries(alloc: Global, bytes: &[u8]) -> Result<Vec<Entry>, CaseFault> {
     let mut entries = Vec::new(alloc);
     let mut at = 0;
     while at < bytes.len() {
-        let read = read_entry(alloc, &bytes[at..]);
-        let (entry, taken) = read.with_context(|| format!(in alloc; "at byte {at}"))?;
+        let (entry, taken) = read_entry(alloc, &bytes[at..])?;
         entries.push(entry)?;
         at += taken;
     }

@@ -1,22 +1,31 @@
-//! Events, one after the other: each is judged by the tables, and where it happens they follow it and tell what they say.
+//! Events of a history, one after the other: each is judged by the tables, and where it happens they follow it and tell what they say.
 
 ghost use Rattle.std.specs.Prelude.{◌≡◌, ◌<◌, IfOk, IsTrue};
 ghost use Rattle.table_cases.specs.Followed.{CanFollow, IsFollowed, IsSmallHistory, asked_by};
 
-use crate::entries::Entry;
+use crate::entries::{Entry, read_entries};
 use crate::telling::tell;
-use anyhow::{Result, ensure};
+use case_words::{CaseFault, bytes};
 use lcm_events::{Event, EventKind};
 use lcm_laws::serials_are_counted;
 use lcm_tables::Tables;
-use std::alloc::{AllocError, AllocGlobal, Global};
-use std::io::Print;
+use serde_json::Value;
+use std::alloc::{AllocError, Global};
 
 /// The manager whose history it is.
 const MANAGER: u32 = 1;
 
 /// Events, and changes that operations have together, stay below this number.
 const LIMIT: u64 = 2_147_483_648;
+
+/// Whether an event that doesn't happen tells how it is judged.
+#[derive(Clone, Copy, PartialEq, Eq, Debug)]
+pub enum Others {
+    /// They are counted alone.
+    Counted,
+    /// Each tells whether it is allowed.
+    Told,
+}
 
 /// Events of one sort, and those of them that were judged to be allowed.
 #[derive(Clone, Copy)]
@@ -63,16 +72,54 @@ impl Counts {
             self.others.add(allowed);
         }
     }
+}
 
-    /// Prints what was counted.
-    fn print(&self, rt: &impl Print) -> Result<()> {
-        let (happened, others) = (self.happened, self.others);
-        println!(rt; "events {}, allowed {}", happened.events, happened.allowed)?;
-        println!(rt;
+/// What is told of a history.
+#[derive(Drop)]
+struct Report {
+    text: String,
+    counts: Counts,
+    others: Others,
+}
+
+impl Report {
+    /// Nothing is told yet.
+    fn new(alloc: Global, others: Others) -> Report {
+        Report {
+            text: String::new(alloc),
+            counts: Counts::new(),
+            others,
+        }
+    }
+
+    /// Tells how an event that doesn't happen is judged, where that is asked.
+    fn put_other(&mut self, allowed: bool) -> Result<(), AllocError> {
+        match self.others {
+            Others::Counted => Ok(()),
+            Others::Told => writeln!(self.text, "allowed {allowed}"),
+        }
+    }
+
+    /// Tells what was counted, at the end.
+    fn put_counts(&mut self) -> Result<(), AllocError> {
+        let Counts { happened, others } = self.counts;
+        writeln!(
+            self.text,
+            "events {}, allowed {}",
+            happened.events, happened.allowed
+        )?;
+        write!(
+            self.text,
             "other events {}, allowed {}",
             others.events, others.allowed
-        )?;
-        Ok(())
+        )
+    }
+
+    /// All that is told, with what was counted.
+    fn into_text(mut self) -> Result<String, AllocError> {
+        self.put_counts()?;
+        let Report { text, .. } = self;
+        Ok(text)
     }
 }
 
@@ -125,50 +172,69 @@ fn happen(alloc: Global, followed: &mut Followed, event: &Event) -> Result<(), A
     Ok(())
 }
 
-/// Judges an event, and lets the tables follow it where it happens.
+/// Judges an event, and lets the tables follow it where it happens and is allowed.
 fn take(
-    rt: &(impl Print + AllocGlobal),
+    alloc: Global,
     followed: &mut Followed,
     entry: &Entry,
-    counts: &mut Counts,
-) -> Result<()>
+    report: &mut Report,
+) -> Result<(), CaseFault>
     requires { IsFollowed followed.old.changes followed.old.tables }
     ensures { IsFollowed followed.new.changes followed.new.tables }
 {
-    ensure!(are_few(followed), "too many events");
-    let allowed = may_follow(rt.alloc(), followed, &entry.event.kind)?;
-    counts.add(entry.happens, allowed);
-    if entry.happens {
-        ensure!(allowed, "an event that happens isn't allowed");
-        happen(rt.alloc(), followed, &entry.event)?;
-        tell(rt, &followed.tables, &entry.event.kind)?;
+    if !are_few(followed) {
+        return Err(CaseFault::Spelling);
+    }
+    let allowed = may_follow(alloc, followed, &entry.event.kind)?;
+    report.counts.add(entry.happens, allowed);
+    if !entry.happens {
+        return Ok(report.put_other(allowed)?);
+    }
+    if allowed {
+        happen(alloc, followed, &entry.event)?;
+        tell(alloc, &followed.tables, &entry.event.kind, &mut report.text)?;
     }
     Ok(())
 }
 
 /// Takes each of these, behind the events so far.
 fn take_each(
-    rt: &(impl Print + AllocGlobal),
+    alloc: Global,
     followed: &mut Followed,
     entries: &[Entry],
-    counts: &mut Counts,
-) -> Result<()>
+    report: &mut Report,
+) -> Result<(), CaseFault>
     requires { IsFollowed followed.old.changes followed.old.tables }
 {
     for entry in entries {
-        take(rt, followed, entry, counts)?;
+        take(alloc, followed, entry, report)?;
     }
     Ok(())
 }
 
-/// Follows a history, and prints how its events were judged.
+/// Follows these from the first event on.
 #[tactic(auto, using(crate::proofs::FollowedLaws::followed_none))]
-pub fn follow_all(rt: &(impl Print + AllocGlobal), entries: &[Entry]) -> Result<()> {
-    let mut counts = Counts::new();
+fn follow_all(alloc: Global, entries: &[Entry], report: &mut Report) -> Result<(), CaseFault> {
     let mut followed = Followed {
-        tables: Tables::new(rt.alloc(), MANAGER),
+        tables: Tables::new(alloc, MANAGER),
         changes: 0,
     };
-    take_each(rt, &mut followed, entries, &mut counts)?;
-    counts.print(rt)
+    take_each(alloc, &mut followed, entries, report)
+}
+
+/// The entries of the act `[WORD, BYTES]`.
+fn entries_of(alloc: Global, act: &[Value]) -> Result<Vec<Entry>, CaseFault> {
+    let spelling = bytes(alloc, act, 1)?;
+    read_entries(alloc, spelling.as_slice())
+}
+
+/// Follows the history of an act, `[WORD, BYTES]`, which has events that are allowed and happen, and others between them that don't: a byte, 1
+/// where it happens; the length of its spelling in four bytes; and the spelling. After each event that happens it tells its place, the digest of
+/// all that the tables say, and what they say of what the event is about; at the end how many events happened, and how many of them the tables
+/// judged to be allowed; and the same of the others.
+pub fn follow_history(alloc: Global, act: &[Value], others: Others) -> Result<String, CaseFault> {
+    let entries = entries_of(alloc, act)?;
+    let mut report = Report::new(alloc, others);
+    follow_all(alloc, entries.as_slice(), &mut report)?;
+    Ok(report.into_text()?)
 }

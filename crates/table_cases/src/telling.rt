@@ -1,15 +1,15 @@
-//! Prints what the tables say after an event.
+//! Tells what all tables say after an event.
 
 use crate::texts::{
-    Told, changes_text, digest, instance_text, items_text, occurrence_text, subscription_text,
-    tables_text,
+    digest, put_changes, put_instance, put_instance_rest, put_items, put_occurrence,
+    put_occurrence_rest, put_subscription, put_subscription_rest, put_tables,
 };
-use anyhow::Result;
+use instance_table::{InstanceRow, SubscriptionRow};
 use lcm_events::EventKind;
 use lcm_model::ends;
 use lcm_tables::Tables;
-use std::alloc::AllocGlobal;
-use std::io::Print;
+use occ_table::OccRow;
+use std::alloc::{AllocError, Global};
 
 /// The number of the occurrence that an event is about.
 fn occurrence_in(kind: &EventKind) -> Option<u64> {
@@ -46,61 +46,61 @@ fn subscription_in(kind: &EventKind) -> Option<u64> {
     }
 }
 
-/// Prints what a row says.
-fn print_told(rt: &impl Print, told: &Told) -> Result<()> {
-    let rest = digest(told.rest.as_str());
-    println!(rt; "{}, rest {rest:08x}", told.line)?;
-    Ok(())
+/// Ends a line with the digest of the rest of what a row says.
+fn tell_rest(told: &mut String, rest: &str) -> Result<(), AllocError> {
+    let rest = digest(rest);
+    writeln!(told, ", rest {rest:08x}")
 }
 
-/// Prints what is said of an instance.
-fn tell_instance(rt: &(impl Print + AllocGlobal), tables: &Tables, number: u64) -> Result<()> {
-    match tables.instances.instance(number) {
-        Some(row) => print_told(rt, &instance_text(rt.alloc(), row)?),
-        None => Ok(println!(rt; "instance {number}: none")?),
-    }
+/// Tells the row of an instance.
+fn tell_instance_row(
+    alloc: Global,
+    row: &InstanceRow,
+    told: &mut String,
+) -> Result<(), AllocError> {
+    let mut rest = String::new(alloc);
+    put_instance_rest(&mut rest, row)?;
+    put_instance(told, row)?;
+    tell_rest(told, rest.as_str())
 }
 
-/// Prints what the changes of an occurrence used, and what stands of its instance.
-fn tell_end(rt: &(impl Print + AllocGlobal), tables: &Tables, occ: u64) -> Result<()> {
-    let Some(row) = tables.occurrences.occurrence(occ) else {
-        return Ok(());
-    };
-    print!(rt; "used\n{}", changes_text(rt.alloc(), row)?)?;
-    if let Some(instance) = tables.instances.instance(row.instance) {
-        print!(rt; "stands\n{}", items_text(rt.alloc(), &instance.holding)?)?;
-    }
-    Ok(())
-}
-
-/// Prints what is said of an occurrence, and where the event may change it of its instance; once it is over, with all that its changes used and
-/// all that stands.
-fn tell_occurrence(
-    rt: &(impl Print + AllocGlobal),
+/// Tells what is said of an instance.
+fn tell_instance(
+    alloc: Global,
     tables: &Tables,
-    occ: u64,
-    changes_instance: bool,
-) -> Result<()> {
-    let Some(row) = tables.occurrences.occurrence(occ) else {
-        return Ok(println!(rt; "occurrence {occ}: none")?);
-    };
-    print_told(rt, &occurrence_text(rt.alloc(), occ, row)?)?;
-    if changes_instance {
-        tell_instance(rt, tables, row.instance)?;
+    number: u64,
+    told: &mut String,
+) -> Result<(), AllocError> {
+    match tables.instances.instance(number) {
+        Some(row) => tell_instance_row(alloc, row, told),
+        None => writeln!(told, "instance {number}: none"),
     }
-    if ends(row.state) {
-        tell_end(rt, tables, occ)?;
-    }
-    Ok(())
 }
 
-/// Prints what is said of a subscription.
-fn tell_subscription(rt: &(impl Print + AllocGlobal), tables: &Tables, number: u64) -> Result<()> {
-    let first = tables.notices.first(number);
-    match tables.instances.subscription(number) {
-        Some(row) => print_told(rt, &subscription_text(rt.alloc(), row, first)?),
-        None => Ok(println!(rt; "subscription {number}: none")?),
+/// Tells what the changes of an occurrence used, and what stands of its instance.
+fn tell_end(tables: &Tables, row: &OccRow, told: &mut String) -> Result<(), AllocError> {
+    writeln!(told, "used")?;
+    put_changes(told, row)?;
+    match tables.instances.instance(row.instance) {
+        Some(instance) => {
+            writeln!(told, "stands")?;
+            put_items(told, &instance.holding)
+        }
+        None => Ok(()),
     }
+}
+
+/// Tells the row of an occurrence.
+fn tell_occurrence_row(
+    alloc: Global,
+    number: u64,
+    row: &OccRow,
+    told: &mut String,
+) -> Result<(), AllocError> {
+    let mut rest = String::new(alloc);
+    put_occurrence_rest(&mut rest, row)?;
+    put_occurrence(told, number, row)?;
+    tell_rest(told, rest.as_str())
 }
 
 /// Whether an event may change what is said of an instance.
@@ -111,22 +111,93 @@ fn changes_instance(kind: &EventKind) -> bool {
     )
 }
 
-/// Prints what the tables say after an event of this kind.
-pub fn tell(rt: &(impl Print + AllocGlobal), tables: &Tables, kind: &EventKind) -> Result<()> {
-    let place = tables.instances.events();
-    let all = digest(tables_text(rt.alloc(), tables)?.as_str());
-    print!(rt; "{place} {all:08x} ")?;
-    if let Some(occ) = occurrence_in(kind) {
-        tell_occurrence(rt, tables, occ, changes_instance(kind))?;
+/// Tells what is said of an occurrence, and where the event may change it of its instance; once it is over, with all that its changes used and
+/// all that stands.
+fn tell_occurrence(
+    alloc: Global,
+    tables: &Tables,
+    number: u64,
+    kind: &EventKind,
+    told: &mut String,
+) -> Result<(), AllocError> {
+    let Some(row) = tables.occurrences.occurrence(number) else {
+        return writeln!(told, "occurrence {number}: none");
+    };
+    tell_occurrence_row(alloc, number, row, told)?;
+    if changes_instance(kind) {
+        tell_instance(alloc, tables, row.instance, told)?;
     }
-    if let Some(instance) = instance_in(kind) {
-        tell_instance(rt, tables, instance)?;
-    }
-    if let Some(subscription) = subscription_in(kind) {
-        tell_subscription(rt, tables, subscription)?;
-    }
-    if let EventKind::Onboarded(vnfd) = kind {
-        println!(rt; "descriptor {:?}", vnfd.descriptor_id)?;
+    if ends(row.state) {
+        tell_end(tables, row, told)?;
     }
     Ok(())
+}
+
+/// Tells the row of a subscription, and the place of the first notice that waits for it.
+fn tell_subscription_row(
+    alloc: Global,
+    row: &SubscriptionRow,
+    first: Option<u64>,
+    told: &mut String,
+) -> Result<(), AllocError> {
+    let mut rest = String::new(alloc);
+    put_subscription_rest(&mut rest, row)?;
+    put_subscription(told, row)?;
+    write!(told, ", first {first:?}")?;
+    tell_rest(told, rest.as_str())
+}
+
+/// Tells what is said of a subscription.
+fn tell_subscription(
+    alloc: Global,
+    tables: &Tables,
+    number: u64,
+    told: &mut String,
+) -> Result<(), AllocError> {
+    match tables.instances.subscription(number) {
+        Some(row) => tell_subscription_row(alloc, row, tables.notices.first(number), told),
+        None => writeln!(told, "subscription {number}: none"),
+    }
+}
+
+/// The digest of all that the tables say.
+fn digest_of(alloc: Global, tables: &Tables) -> Result<u32, AllocError> {
+    let mut text = String::new(alloc);
+    put_tables(alloc, tables, &mut text)?;
+    Ok(digest(text.as_str()))
+}
+
+/// Tells what the tables say of what an event of this kind is about.
+fn tell_subject(
+    alloc: Global,
+    tables: &Tables,
+    kind: &EventKind,
+    told: &mut String,
+) -> Result<(), AllocError> {
+    if let EventKind::Onboarded(vnfd) = kind {
+        return writeln!(told, "descriptor {:?}", vnfd.descriptor_id);
+    }
+    if let Some(number) = occurrence_in(kind) {
+        return tell_occurrence(alloc, tables, number, kind, told);
+    }
+    if let Some(number) = instance_in(kind) {
+        return tell_instance(alloc, tables, number, told);
+    }
+    match subscription_in(kind) {
+        Some(number) => tell_subscription(alloc, tables, number, told),
+        None => Ok(()),
+    }
+}
+
+/// Tells what the tables say after an event of this kind: its place, the digest of all that they say, and what they say of what it is about.
+pub fn tell(
+    alloc: Global,
+    tables: &Tables,
+    kind: &EventKind,
+    told: &mut String,
+) -> Result<(), AllocError> {
+    let place = tables.instances.events();
+    let all = digest_of(alloc, tables)?;
+    write!(told, "{place} {all:08x} ")?;
+    tell_subject(alloc, tables, kind, told)
 }

@@ -1,0 +1,53 @@
+//! Events and their parts, which are handed over as the bytes of events.
+
+use crate::texts::text;
+use crate::words::{CaseFault, part, word};
+use event_codec::{DecodeFault, decode};
+use lcm_events::{Event, EventKind, Operation, Vnfd};
+use serde_json::Value;
+use std::alloc::Global;
+use vnfm_base::Name;
+
+/// The event of which these are the bytes.
+pub fn event_of(alloc: Global, bytes: &[u8]) -> Result<Event, CaseFault> {
+    match decode(alloc, bytes) {
+        Ok(event) => Ok(event),
+        Err(DecodeFault::NotEvent) => Err(CaseFault::Spelling),
+        Err(DecodeFault::Memory) => Err(CaseFault::Memory),
+    }
+}
+
+/// The event whose bytes the text at this place of an act has.
+pub fn event(alloc: Global, act: &[Value], place: usize) -> Result<Event, CaseFault> {
+    let bytes = text(alloc, part(act, place)?)?;
+    event_of(alloc, &bytes)
+}
+
+/// The operation that an event says was asked for.
+pub fn operation(event: &Event) -> Result<&Operation, CaseFault> {
+    match &event.kind {
+        EventKind::Asked(operation) => Ok(operation),
+        _ => Err(CaseFault::Spelling),
+    }
+}
+
+/// The descriptor that an event says was onboarded.
+pub fn descriptor(event: &Event) -> Result<&Vnfd, CaseFault> {
+    match &event.kind {
+        EventKind::Onboarded(vnfd) => Ok(vnfd),
+        _ => Err(CaseFault::Spelling),
+    }
+}
+
+/// The name that is this text.
+pub fn named(text: &str) -> Result<Name, CaseFault> {
+    match Name::of(text.as_bytes()) {
+        Some(name) => Ok(name),
+        None => Err(CaseFault::Spelling),
+    }
+}
+
+/// The name at this place of an act.
+pub fn name(act: &[Value], place: usize) -> Result<Name, CaseFault> {
+    named(word(act, place)?)
+}
