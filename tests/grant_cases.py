@@ -226,7 +226,7 @@ def halves(count):
     named, placed = '{"resourceDefinitionId":"d', '{"vimConnectionId":"v","resourceDefinitionId":"d'
     if count == 0:
         return rows()
-    front = ['{"id":"g1","addResources":[', [count // 2 + 1, count, placed, '"},'], [1, count // 2 + 1, named, '"},']]
+    front = ['{"id":"g1","addResources":[', [count, count // 2 + 1, placed, '"},'], [count // 2 + 1, 1, named, '"},']]
     return front + [named + '0"}]}']
 
 
@@ -402,8 +402,8 @@ CASES.case(
 
 def requesting(standing, event, told):
     """The request over what stands of the router, each with its name in the infrastructure."""
-    stands = creating([definition for definition, _ in standing])
-    holding = [stands, [resource for _, resource in standing], "vim1", [1], [3, 1]]
+    items = [[kind.capitalize(), *more, resource, True] for (kind, *more), resource in standing]
+    holding = [True, True, [1], [3, 1], items]
     return ["requests", latin(onboarded(ROUTER)), holding, latin(event)], told
 
 

@@ -43,8 +43,8 @@ cases.case("moments are written", *rows(
 
 
 def numbered(front, count, back):
-    """A spelling's part, which stands for each number from 0 to before the count, and its text."""
-    return [front, 0, count, back], "".join("%s%03d%s" % (front, number, back) for number in range(count))
+    """A part of a text that stands for so many numbers of three digits, and its text."""
+    return [100, 100 + count, front, back], "".join("%s%d%s" % (front, 100 + number, back) for number in range(count))
 
 
 NAME, NAME_TEXT = numbered("", 85, "")
@@ -290,14 +290,14 @@ EACH_KIND = map(bytes.fromhex, EACH_KIND.replace("\n  ", "").split("\n")[1:-1])
 cases.case("one event of each kind", *[row for event in EACH_KIND for row in both_ways(event)])
 
 # 64 values of 255 bytes in each list of names; 255 links with names of 255 bytes and one with a name of so many.
-VALUES = ["\0@", ["\xff", 0, 64, "a" * 252]]
+VALUES = ["\0@", [100, 164, "\xff", "a" * 252]]
 LONGEST = [latin(event(13, u64(1), u8(0), line(""), moment=0)), *VALUES * 3, "\0" * 6]
 cases.case("the longest subscribed fits", (["event", LONGEST], "the same bytes"), (["event", [*LONGEST, "\0"]], "no event"))
 
 
 def links_of(last):
     front = event(1, name("a") * 6, u16(0), u16(0), u16(256), moment=0)
-    links = ["\xff", 0, 255, "z" * 252], [latin(u8(last)), 255, 256, "z" * (last - 3)]
+    links = [100, 355, "\xff", "z" * 252], [355, 356, latin(u8(last)), "z" * (last - 3)]
     return [latin(front), *links, latin(each([]) + each([]) + each([level("x")]) + u16(0))]
 
 

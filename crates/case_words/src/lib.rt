@@ -1,10 +1,14 @@
-//! Cases as data: the words, numbers and lists of acts, and what each act comes to, line by line.
+//! Cases as data: the words, numbers, lists, texts and events that acts are spelled in, and what each act comes to, line by line.
 #![tactic(auto)]
 
+mod events;
+mod holdings;
 mod telling;
 mod texts;
 mod words;
 
+pub use events::{descriptor, event, event_of, name, named, operation};
+pub use holdings::{holding, numbers, place};
 pub use telling::{Teller, tell_each};
 pub use texts::text;
 pub use words::{

@@ -1,8 +1,8 @@
 //! Texts of any length, spelled in few characters.
 //!
 //! A text is a string, whose characters are bytes, up to U+00FF, or an array of parts, one behind the other. A part is such a string; `[N, STRING]`,
-//! the string so many times; or `[FROM, TO, FRONT, BACK]`, the digits of each number from FROM to before TO, the greatest first, each between these
-//! strings.
+//! the string so many times; or `[FROM, TO, FRONT, BACK]`, the digits of each number from FROM to before TO, each between these strings, where TO may
+//! be the smaller one: then the greatest is the one before FROM, and comes first.
 
 use crate::words::{CaseFault, bytes, entries, number, put_bytes, word};
 use itoa::Buffer;
@@ -18,12 +18,21 @@ fn put_times(into: &mut Vec<u8>, alloc: Global, part: &[Value]) -> Result<(), Ca
     Ok(())
 }
 
-/// Puts numbers, the greatest first, each between two strings.
+/// Puts a number between the two strings of a part.
+fn put_number(into: &mut Vec<u8>, part: &[Value], number: u64) -> Result<(), CaseFault> {
+    put_bytes(into, word(part, 2)?)?;
+    put_bytes(into, Buffer::new().format(number))?;
+    put_bytes(into, word(part, 3)?)
+}
+
+/// Puts numbers, each between two strings.
 fn put_numbers(into: &mut Vec<u8>, part: &[Value]) -> Result<(), CaseFault> {
-    for number in (number(part, 0)?..number(part, 1)?).rev() {
-        put_bytes(into, word(part, 2)?)?;
-        put_bytes(into, Buffer::new().format(number))?;
-        put_bytes(into, word(part, 3)?)?;
+    let (from, to) = (number(part, 0)?, number(part, 1)?);
+    for number in from..to {
+        put_number(into, part, number)?;
+    }
+    for number in (to..from).rev() {
+        put_number(into, part, number)?;
     }
     Ok(())
 }

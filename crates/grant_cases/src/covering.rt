@@ -1,8 +1,7 @@
 //! Whether grants cover what was asked, and what is recorded of those that do.
 
 use crate::answers::grant_of;
-use crate::events::{event, operation};
-use case_words::CaseFault;
+use case_words::{CaseFault, event, operation};
 use grant_desk::{GrantAnswer, GrantRows, covers, places_of};
 use lcm_events::Change;
 use serde_json::Value;

@@ -15,7 +15,6 @@
 
 mod answers;
 mod covering;
-mod events;
 mod requests;
 mod serving;
 

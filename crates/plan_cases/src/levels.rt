@@ -1,8 +1,8 @@
 //! Acts about a descriptor: its levels, and where steps lead from them.
 
-use crate::parts::{Told, descriptor, event, levels, name, operation, sentence};
+use crate::parts::{Told, sentence};
 use crate::standing::of_holding;
-use case_words::{CaseFault, list, small, word};
+use case_words::{descriptor, event, list, name, numbers, operation, small, word};
 use lcm_events::{Ask, Levels, Vnfd};
 use lcm_model::are_levels_in;
 use scaling_levels::{StepFault, count, level_of, stepped, vnfd_valid};
@@ -40,7 +40,7 @@ fn counted(vnfd: &Vnfd, vdu: u16, levels: &Levels) -> Option<u32> {
 /// How many machines the VDU that an act names has at the levels there.
 fn counted_in(alloc: Global, vnfd: &Vnfd, act: &[Value]) -> Result<Option<u32>, CaseFault> {
     let vdu = small(act, 2)?;
-    let levels = levels(alloc, list(act, 3)?)?;
+    let levels = numbers(alloc, list(act, 3)?)?;
     Ok(counted(vnfd, vdu, &levels))
 }
 
@@ -85,7 +85,7 @@ fn step(alloc: Global, vnfd: &Vnfd, ask: &Ask, from: &Levels) -> Told {
 
 /// Where the steps that are asked for lead from the levels of an act.
 fn from_levels(alloc: Global, vnfd: &Vnfd, ask: &Ask, act: &[Value]) -> Told {
-    let from = levels(alloc, list(act, 3)?)?;
+    let from = numbers(alloc, list(act, 3)?)?;
     step(alloc, vnfd, ask, &from)
 }
 

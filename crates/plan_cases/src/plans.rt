@@ -1,8 +1,8 @@
 //! Acts about a descriptor, what stands of an instance of it and an ask.
 
 use crate::levels::steps_text;
-use crate::parts::{Told, event, levels, operation, sentence};
-use case_words::{CaseFault, list, truth, word};
+use crate::parts::{Told, sentence};
+use case_words::{CaseFault, event, list, numbers, operation, truth, word};
 use change_planner::{PlanRefusal, can_be_planned, plan};
 use lcm_events::{Ask, Change, Changes, Holding, Levels, Vnfd};
 use lcm_model::Refusal;
@@ -83,7 +83,7 @@ fn at_levels(
     act: &[Value],
     each: bool,
 ) -> Told {
-    let to = levels(alloc, list(act, 4)?)?;
+    let to = numbers(alloc, list(act, 4)?)?;
     planned(alloc, vnfd, holding, ask, &to, each)
 }
 

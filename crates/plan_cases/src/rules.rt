@@ -1,7 +1,7 @@
 //! Acts about rules: which state may follow which, which task may be asked, what a cancel does first, which change is next, and where places stand.
 
-use crate::parts::{Told, event, operation, sentence};
-use case_words::{CaseFault, bytes, count, truth, word};
+use crate::parts::{Told, sentence};
+use case_words::{CaseFault, bytes, count, event, operation, truth, word};
 use change_planner::next_change;
 use lcm_events::{CancelMode, Change, EventKind, OpKind, OpState, Place, Task};
 use lcm_model::{is_placing, works};

@@ -1,13 +1,10 @@
 //! Acts about a descriptor and what stands of an instance of it.
-//!
-//! What stands is spelled as `[INSTANTIATED, STARTED, LEVELS, TOPS, ITEMS]`: two truths, two lists of numbers, and items, each as
-//! `[KIND, ITEM, VDU, SERIAL, RESOURCE, RUNNING]`, which stand in the place `vim1` without a zone.
 
-use crate::parts::{Told, event, levels, name, named, operation, sentence};
+use crate::parts::{Told, sentence};
 use crate::plans::of_ask;
-use case_words::{CaseFault, code, entries, list, small, truth, word};
+use case_words::{CaseFault, event, holding, list, operation, place, word};
 use change_planner::{can_be_planned, forward_act, is_in_step};
-use lcm_events::{Act, Change, Def, DefKind, Event, Held, Holding, Listed, Place, Vnfd};
+use lcm_events::{Act, Change, Event, Holding, Vnfd};
 use rollback_plan::undo_act;
 use serde_json::Value;
 use std::alloc::Global;
@@ -25,67 +22,6 @@ fn over_holding(alloc: Global, vnfd: &Vnfd, holding: &Holding, act: &[Value]) ->
         "made" | "undone" => worked(alloc, vnfd, holding, act),
         _ => of_ask(alloc, vnfd, holding, act),
     }
-}
-
-/// The kind that the word at the first place of an item names.
-fn kind(item: &[Value]) -> Result<DefKind, CaseFault> {
-    match word(item, 0)? {
-        "Link" => Ok(DefKind::Link),
-        "Storage" => Ok(DefKind::Storage),
-        "Compute" => Ok(DefKind::Compute),
-        "Port" => Ok(DefKind::Port),
-        _ => Err(CaseFault::Spelling),
-    }
-}
-
-/// The definition that an item has.
-fn def(item: &[Value]) -> Result<Def, CaseFault> {
-    Ok(Def {
-        kind: kind(item)?,
-        item: small(item, 1)?,
-        vdu: small(item, 2)?,
-        serial: code(item, 3)?,
-    })
-}
-
-/// The place in a connection of this name, without a zone.
-fn place(vim: &str) -> Result<Place, CaseFault> {
-    Ok(Place {
-        vim: named(vim)?,
-        zone: named("")?,
-    })
-}
-
-/// The item that is spelled so.
-fn held(item: &[Value]) -> Result<Held, CaseFault> {
-    Ok(Held {
-        def: def(item)?,
-        resource: name(item, 4)?,
-        place: place("vim1")?,
-        running: truth(item, 5)?,
-    })
-}
-
-/// The items that are spelled so.
-fn items(alloc: Global, values: &[Value]) -> Result<Listed<Held>, CaseFault> {
-    let mut items = Listed::new(alloc);
-    for value in values {
-        items.push(held(entries(value)?)?)?;
-    }
-    Ok(items)
-}
-
-/// What stands, as it is spelled.
-fn holding(alloc: Global, parts: &[Value]) -> Result<Holding, CaseFault> {
-    let (instantiated, started) = (truth(parts, 0)?, truth(parts, 1)?);
-    let (numbers, tops, held) = (list(parts, 2)?, list(parts, 3)?, list(parts, 4)?);
-    Ok(Holding {
-        instantiated,
-        started,
-        levels: levels(alloc, numbers)?,
-        top: levels(alloc, tops)?,
-        items: items(alloc, held)?,
-    })
 }
 
 /// `["in step", DESCRIPTOR, HOLDING]`: whether what stands is as it is meant to.

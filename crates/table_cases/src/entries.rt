@@ -2,10 +2,8 @@
 
 ghost use Rattle.std.specs.Prelude.{◌<◌, ◌≤◌, ◌+◌, length, IfOk, IfSome};
 
-use case_words::{CaseFault, bytes};
-use event_codec::decode;
+use case_words::{CaseFault, event_of};
 use lcm_events::Event;
-use serde_json::Value;
 use std::alloc::Global;
 
 /// Bytes before the spelling of an event: whether it happens, and the spelling's length.
@@ -18,20 +16,6 @@ pub struct Entry {
     pub happens: bool,
     /// The event.
     pub event: Event,
-}
-
-/// The event that is spelled so.
-fn read_event(alloc: Global, spelling: &[u8]) -> Result<Event, CaseFault> {
-    match decode(alloc, spelling) {
-        Ok(event) => Ok(event),
-        Err(_) => Err(CaseFault::Spelling),
-    }
-}
-
-/// The event at this place of an act.
-pub fn event(alloc: Global, act: &[Value], place: usize) -> Result<Event, CaseFault> {
-    let spelling = bytes(alloc, act, place)?;
-    read_event(alloc, spelling.as_slice())
 }
 
 /// The spelling that these bytes begin with, behind its head, and where it ends.
@@ -56,7 +40,7 @@ fn read_entry(alloc: Global, bytes: &[u8]) -> Result<(Entry, usize), CaseFault>
     let Some((happens, spelling)) = front(bytes) else {
         return Err(CaseFault::Spelling);
     };
-    let event = read_event(alloc, spelling)?;
+    let event = event_of(alloc, spelling)?;
     Ok((Entry { happens, event }, HEAD + spelling.len()))
 }
 

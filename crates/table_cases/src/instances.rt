@@ -1,8 +1,7 @@
 //! A table of descriptors, instances and subscriptions by itself follows events.
 
-use crate::entries::event;
 use crate::texts::{put_instance, put_instance_rest, put_subscription};
-use case_words::{CaseFault, Teller, number, word};
+use case_words::{CaseFault, Teller, event, number, word};
 use instance_table::{InstanceRow, InstanceTable, SubscriptionRow};
 use serde_json::Value;
 use std::alloc::{AllocError, Global};

@@ -3,8 +3,7 @@
 ghost use Rattle.std.specs.Prelude.{◌≡◌, ◌↔◌, IsTrue};
 ghost use Rattle.vnfm_base.specs.Ident.{IsIdentNumber};
 
-use crate::entries::event;
-use case_words::{CaseFault, Teller, number, word};
+use case_words::{CaseFault, Teller, event, number, word};
 use lcm_events::{Event, EventKind, NoticeKind, PostOutcome};
 use notice_table::NoticeTable;
 use serde_json::Value;

@@ -1,8 +1,7 @@
 //! A table of occurrences by itself follows events.
 
-use crate::entries::event;
 use crate::texts::{active, put_changes, put_occurrence};
-use case_words::{CaseFault, Teller, bytes, number, word};
+use case_words::{CaseFault, Teller, bytes, event, number, word};
 use lcm_events::EventKind;
 use occ_table::{OccRow, OccTable};
 use serde_json::Value;

@@ -1,22 +1,10 @@
 //! The tables behind some events.
 
-use case_words::{CaseFault, bytes};
-use event_codec::{DecodeFault, decode};
+use case_words::{CaseFault, event};
 use instance_table::InstanceTable;
-use lcm_events::Event;
 use occ_table::OccTable;
 use serde_json::Value;
 use std::alloc::Global;
-
-/// The event that is spelled at this place.
-fn event(alloc: Global, events: &[Value], place: usize) -> Result<Event, CaseFault> {
-    let bytes = bytes(alloc, events, place)?;
-    match decode(alloc, &bytes) {
-        Ok(event) => Ok(event),
-        Err(DecodeFault::NotEvent) => Err(CaseFault::Spelling),
-        Err(DecodeFault::Memory) => Err(CaseFault::Memory),
-    }
-}
 
 /// Lets a table of descriptors and instances follow these events.
 fn follow_instances(

@@ -1,7 +1,6 @@
 //! Tells what words, spellings, views and routes come to: the acts on standard input are calls with what is asked, and what they answer is printed.
 //!
-//! A spelling is a string, whose characters are bytes, up to U+00FF, or a list of strings and of arrays that are one behind the other: the array
-//! `[FRONT, FROM, TO, BACK]` is, for each number from FROM to before TO, the front, the number's last three digits and the back.
+//! A spelling is a text, as `case_words` reads it; events are those of their bytes.
 //!
 //! | Act | What is told |
 //! |---|---|

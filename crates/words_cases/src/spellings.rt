@@ -1,54 +1,14 @@
 //! Spellings: the bytes that an act gives, and how the event is spelled again that they are.
 
 use crate::words::told;
-use case_words::{CaseFault, entries, number, part, put_bytes, word};
+use case_words::{CaseFault, part, text};
 use event_codec::{DecodeFault, RecordBuf, TooLong, decode, encode};
 use serde_json::Value;
 use std::alloc::Global;
 
-/// The bytes of the spelling at this place of an act.
+/// The bytes of the text at this place of an act.
 pub fn spelled(alloc: Global, act: &[Value], place: usize) -> Result<Vec<u8>, CaseFault> {
-    let mut bytes = Vec::new(alloc);
-    put_spelling(&mut bytes, part(act, place)?)?;
-    Ok(bytes)
-}
-
-/// Puts the bytes of a spelling.
-fn put_spelling(into: &mut Vec<u8>, spelling: &Value) -> Result<(), CaseFault> {
-    match spelling.as_str() {
-        Some(string) => put_bytes(into, string),
-        None => put_parts(into, entries(spelling)?),
-    }
-}
-
-/// Puts what is one behind the other.
-fn put_parts(into: &mut Vec<u8>, parts: &[Value]) -> Result<(), CaseFault> {
-    for part in parts {
-        match part.as_str() {
-            Some(string) => put_bytes(into, string)?,
-            None => put_each(into, entries(part)?)?,
-        }
-    }
-    Ok(())
-}
-
-/// Puts a front, the digits and a back for each of some numbers.
-fn put_each(into: &mut Vec<u8>, part: &[Value]) -> Result<(), CaseFault> {
-    for number in number(part, 1)?..number(part, 2)? {
-        put_bytes(into, word(part, 0)?)?;
-        put_digits(into, number)?;
-        put_bytes(into, word(part, 3)?)?;
-    }
-    Ok(())
-}
-
-/// Puts the last three digits of a number.
-fn put_digits(into: &mut Vec<u8>, number: u64) -> Result<(), CaseFault> {
-    for power in [100, 10, 1u64] {
-        let digit = number.checked_div(power).unwrap_or(0) % 10;
-        into.push(b'0' + digit as u8)?;
-    }
-    Ok(())
+    text(alloc, part(act, place)?)
 }
 
 /// How the event is spelled again that some bytes are.
