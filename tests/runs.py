@@ -3,12 +3,14 @@
 
 usage: tests/runs.py >crates/lcm_cases/stdin     from the top; `tests/runs.py | cmp - crates/lcm_cases/stdin` tells whether they are stored as they
        are written here
+       tests/runs.py TITLE                       the run of this title alone
 
 A run is an array of its title and its acts, which the files of crates/lcm_cases/src say. What is to be told, printed and left is written out here
 by hand, or by the rules of docs/FORMATS.md and docs/EVENTS.md in another language; nothing of it comes from the program.
 """
 import itertools
 import json
+import sys
 
 import cases
 from cases import latin, name, u8, u16, u32, u64
@@ -2389,6 +2391,20 @@ for number in range(8):
         *[["peer calls", begun + 1, 0, 0], *peer_turns(TWO), ["file front", links_asked(2, 2, *follow[: granted_then + 2])]],
         ["peer calls", begun + 3 - granted_then, 0, 0],
     )
+STARVED = "the acts before a want of memory stand"
+run(
+    STARVED,
+    *[["no fault"], ["site", links_asked(2, 2)], *[SAYS_GRANT] * 4, ["peer"]],
+    [
+        "starved",
+        [links_asked(2, 2, *LINKS_GRANTED[:granted]) for granted in range(3)],
+        [
+            links_asked(2, 2, *LINKS_GRANTED),
+            links_asked(2, 2, LINKS_GRANTED[0], WORKING[0], LINKS_GRANTED[1]),
+            links_asked(2, 2, *LINKS_GRANTED, *WORKING),
+        ],
+    ],
+)
 
 # ---- Journals that are opened
 
@@ -2432,7 +2448,17 @@ for number in range(1, 13):
 
 
 def main():
-    runs = [["the texts of all runs", *TEXTS], *RUNS]
+    texts = ["the texts of all runs", *TEXTS]
+    # (with a title behind it, the run of that title alone, and of the texts those that it names)
+    if sys.argv[1:]:
+        found = [it for it in RUNS if it[0] == sys.argv[1]]
+        named = json.dumps(found)
+        write([[texts[0], *[it for it in TEXTS if '"$%s"' % it[1] in named]], *found])
+    else:
+        write([texts, *RUNS])
+
+
+def write(runs):
     print("[")
     for number, (title, *acts) in enumerate(runs, 1):
         end = "]," if number < len(runs) else "]"

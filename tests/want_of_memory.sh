@@ -113,21 +113,29 @@ status 6, HTTP/1.1 202 Accepted,no memory, $((begun + 46)) bytes" "$room/asked" 
 once --rounds 3 </dev/null
 turn "a turn of a move and a try"
 
-# A turn of two grants, which no program reaches yet: a test gives them from memory, and passes wherever an allocation fails.
-# The toolchain proves and builds it.
-test=turns::the_acts_before_a_want_of_memory_stand
-(cd "$here/crates/work_cases" && exec rt test) >"$room/out" 2>&1 </dev/null || { cat "$room/out" >&2; exit 1; }
+# A turn of two grants, which the program doesn't reach yet: lcm_cases plays it over the objects in memory. Where an allocation of
+# what it reads or plays the run with fails, it says that there was no memory; else the run comes out as it is to. The
+# toolchain proves and builds it.
+turn="the acts before a want of memory stand"
+python3 -B "$here/tests/runs.py" "$turn" >"$room/turn" || exit 1
+(cd "$here/crates/lcm_cases" && exec rt run) >"$room/out" 2>&1 </dev/null || { cat "$room/out" >&2; exit 1; }
 count=1
+played=0
 while rm -f "$room/failed"
-    FAIL_AT=$count FAIL_TOLD=$room/failed LD_PRELOAD=$room/fail.so "$here/crates/work_cases/out/work_cases_tests" "$test" \
+    FAIL_AT=$count FAIL_TOLD=$room/failed LD_PRELOAD=$room/fail.so "$here/crates/lcm_cases/out/lcm_cases" <"$room/turn" \
         >"$room/out" 2>&1
     status=$?
     [ -e "$room/failed" ] && [ "$count" -lt 10000 ]; do
-    [ "$status" = 0 ] || expect "a turn of two grants, allocation $count, status" "$status" 0
+    case "$status, $(cat "$room/out")" in
+    "0, 2 runs, 0 wrong") played=$((played + 1)) ;;
+    *"an act is no memory"*) ;;
+    *"standard input is no JSON"* | *memory*) ;;
+    *) expect "a turn of two grants, allocation $count" "status $status, $(cat "$room/out")" "2 runs, 0 wrong" ;;
+    esac
     count=$((count + 1))
 done
-expect "a turn of two grants, behind the last allocation, status" "$status" 0
-echo "a turn of two grants, allocations that failed in turn: $((count - 1))"
-[ "$count" -gt 1 ] || differs=1
+expect "a turn of two grants, behind the last allocation" "$(cat "$room/out")" "2 runs, 0 wrong"
+echo "a turn of two grants, allocations that failed in turn: $((count - 1)), of which the run was played behind $played"
+[ "$played" -gt 0 ] || differs=1
 
 exit "$differs"

@@ -1,7 +1,7 @@
 //! Acts that make turns with an orchestrator whose answers are planned, and that open a journal and ask its manager.
 
 use crate::stage::Stage;
-use case_words::{CaseFault, count, number, truth, word};
+use case_words::{CaseFault, count, list, number, truth, word};
 use executor::{Manager, WorkFault};
 use occ_work::{Turn, turn};
 use serde_json::Value;
@@ -64,7 +64,84 @@ fn has_descriptor(alloc: Global, site: &mut MemSite, name: &Name) -> Option<bool
     Some(manager.vnfd(name).is_some())
 }
 
+/// How a turn of two acts ended in which any allocation may fail.
+#[derive(Clone, Copy, Debug, PartialEq, Eq)]
+enum Ended {
+    /// Both acts were recorded.
+    Through,
+    /// There was no memory in it.
+    Starved,
+    /// The journal wasn't opened.
+    Unopened,
+    /// Otherwise, which is never to be.
+    Otherwise,
+}
+
+/// Opens the journal and makes such a turn with this orchestrator.
+fn end_of_turn(alloc: Global, site: &mut MemSite, peer: &mut MemOrchestrator) -> Ended {
+    let Ok(mut manager) = Manager::load(alloc, site) else {
+        return Ended::Unopened;
+    };
+    let now = Moment::of(1_700_000_000_000);
+    match turn(alloc, &mut manager, site, peer, now) {
+        Ok(
+            Turn {
+                acted: 2,
+                waiting: 0,
+                unreached: 0,
+            },
+        ) => Ended::Through,
+        Err(WorkFault::Memory) => Ended::Starved,
+        _ => Ended::Otherwise,
+    }
+}
+
+/// Whether a turn of two grants that ended so, behind which so many of them stand, asked as often as that says.
+fn asked_as_said(end: Ended, stand: Option<usize>, asked: usize) -> bool {
+    match (end, stand) {
+        (Ended::Through, Some(2)) => asked == 2,
+        (Ended::Starved, Some(0)) => asked <= 1,
+        (Ended::Starved, Some(1)) => asked == 1 || asked == 2,
+        (Ended::Unopened, Some(0)) => asked == 0,
+        _ => false,
+    }
+}
+
+/// The place, from 0, of the text that these bytes are.
+fn place_among(texts: &[Vec<u8>], bytes: &[u8]) -> Option<usize> {
+    texts.iter().position(|text| text.as_slice() == bytes)
+}
+
 impl Stage {
+    /// The texts that are spelled so.
+    fn texts(&self, alloc: Global, values: &[Value]) -> Result<Vec<Vec<u8>>, CaseFault> {
+        let mut texts = Vec::new(alloc);
+        for value in values {
+            texts.push(self.names.text(alloc, value)?)?;
+        }
+        Ok(texts)
+    }
+
+    /// Makes a turn of two grants and the turn behind it: whether the acts before a want of memory stand, and the next turn goes on from them.
+    fn stands(&mut self, alloc: Global, granted: &[Vec<u8>], turned: &[Vec<u8>]) -> bool {
+        let first = end_of_turn(alloc, &mut self.site, &mut self.peer);
+        let stand = place_among(granted, self.site.file());
+        let is_as_said = asked_as_said(first, stand, self.peer.asked());
+        let second = end_of_turn(alloc, &mut self.site, &mut self.peer);
+        let goes_on = second != Ended::Through || place_among(turned, self.site.file()) == stand;
+        is_as_said && goes_on && (first == Ended::Through || second == Ended::Through)
+    }
+
+    /// `["starved", [TEXT, TEXT, TEXT], [TEXT, TEXT, TEXT]]`: opens the journal and makes a turn that grants two occurrences, and again, where at most one
+    /// allocation of both fails. Behind the first the file is one of the first texts: none, one or both are granted, as the turn ended and asked; where it
+    /// didn't come through, the second does, and the file is then that of the same place of the other texts. tests/want_of_memory.sh lets each
+    /// allocation fail in turn.
+    pub fn is_starved(&mut self, alloc: Global, act: &[Value]) -> Result<bool, CaseFault> {
+        let granted = self.texts(alloc, list(act, 1)?)?;
+        let turned = self.texts(alloc, list(act, 2)?)?;
+        Ok(self.stands(alloc, &granted, &turned))
+    }
+
     /// `["says nothing"]`: the call of the next command's orchestrator that comes next fails.
     pub fn plan_silence(&mut self) -> Result<(), CaseFault> {
         Ok(self.outside.says.push(GrantPlan::Fail)?)

@@ -89,6 +89,7 @@ fn runs(stage: &mut Stage, alloc: Global, act: &[Value]) -> Result<bool, CaseFau
         "turn" => stage.turn(alloc, act),
         "fallen" => stage.fallen(alloc),
         "peer turn" => stage.makes_turn(alloc, act),
+        "starved" => stage.is_starved(alloc, act),
         "opened" => stage.is_opened(alloc, act),
         "descriptor" => stage.has_descriptor(alloc, act),
         "read back" => stage.is_read_back(alloc, act),

@@ -2,7 +2,7 @@
 
 use crate::parts::{Told, sentence};
 use crate::standing::of_holding;
-use case_words::{descriptor, event, list, name, numbers, operation, small, word};
+use case_words::{CaseFault, descriptor, event, list, name, numbers, operation, small, word};
 use lcm_events::{Ask, Levels, Vnfd};
 use lcm_model::are_levels_in;
 use scaling_levels::{StepFault, count, level_of, stepped, vnfd_valid};
