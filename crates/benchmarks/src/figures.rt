@@ -6,7 +6,7 @@ use std::io::Print;
 use std::time::Duration;
 
 /// How many records there were, and how long they took.
-#[derive(Clone, Copy, Debug)]
+#[derive(Clone, Copy)]
 pub struct Measured {
     /// How many records there were.
     pub records: u64,

@@ -40,7 +40,7 @@ const ROOM: usize = 67_108_864;
 const JOBS: usize = 65_536;
 
 /// What was done for the operation of a journal, and for its records alone.
-#[derive(Debug, Drop)]
+#[derive(Drop)]
 struct Compared {
     worked: Worked,
     records: usize,

@@ -18,7 +18,7 @@ use std::time::CpuClock;
 use vnfm_base::Name;
 
 /// What the words ask for.
-#[derive(Clone, Copy, Debug)]
+#[derive(Clone, Copy)]
 struct Words {
     /// How many machines the instance has.
     machines: u32,

@@ -83,7 +83,7 @@ fn count_going(table: &OccTable, instances: u64) -> u64 {
 }
 
 /// What was counted, and how long following took.
-#[derive(Clone, Copy, Debug)]
+#[derive(Clone, Copy)]
 struct Totals {
     events: u64,
     allowed: u64,
@@ -127,7 +127,7 @@ fn measure_all(
 }
 
 /// What was found in the table, and how long that took.
-#[derive(Clone, Copy, Debug)]
+#[derive(Clone, Copy)]
 struct Found {
     completed: u64,
     looking: Duration,

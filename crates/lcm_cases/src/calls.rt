@@ -7,7 +7,7 @@ use site_traits::{Choice, MemSite, SiteCall};
 pub const CALLS: usize = 4;
 
 /// What is on a site's record: how many calls on the disk, begins, looks and aborts.
-#[derive(Clone, Copy, Debug, PartialEq, Eq)]
+#[derive(Clone, Copy)]
 pub struct Calls {
     /// Calls on the disk.
     pub disk: usize,

@@ -65,7 +65,7 @@ fn has_descriptor(alloc: Global, site: &mut MemSite, name: &Name) -> Option<bool
 }
 
 /// How a turn of two acts ended in which any allocation may fail.
-#[derive(Clone, Copy, Debug, PartialEq, Eq)]
+#[derive(Clone, Copy, PartialEq)]
 enum Ended {
     /// Both acts were recorded.
     Through,

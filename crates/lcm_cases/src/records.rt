@@ -4,7 +4,7 @@ use lcm_events::{CancelMode, OpState};
 use std::alloc::{AllocError, Global};
 
 /// What is recorded of an attempt.
-#[derive(Clone, Copy, Debug, PartialEq, Eq)]
+#[derive(Clone, Copy, PartialEq)]
 pub enum At {
     /// It is about to begin.
     Intent,
@@ -21,7 +21,7 @@ pub enum At {
 }
 
 /// A record of occurrence 1.
-#[derive(Clone, Copy, Debug, PartialEq, Eq)]
+#[derive(Clone, Copy)]
 pub enum Step {
     /// The operation was asked for.
     Asked,

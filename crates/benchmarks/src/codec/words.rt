@@ -5,7 +5,7 @@ use anyhow::{Context, Result};
 use std::env::Args;
 
 /// What the words ask for.
-#[derive(Clone, Copy, Debug, PartialEq, Eq)]
+#[derive(Clone, Copy)]
 pub struct Words {
     /// How many events are read and written.
     pub events: u32,

@@ -17,7 +17,7 @@ use std::alloc::AllocGlobal;
 use std::time::{Clock, CpuClock};
 
 /// How long a turn took, and the append of its record alone.
-#[derive(Clone, Copy, Debug)]
+#[derive(Clone, Copy)]
 pub struct Pair {
     /// The turn.
     pub turn: Took,

@@ -22,7 +22,7 @@ const MOST_TURNS: u32 = 1_000_000;
 const NOW: u64 = 1_700_000_100_000;
 
 /// What was done for the operations of a journal.
-#[derive(Clone, Copy, Debug)]
+#[derive(Clone, Copy)]
 pub struct Worked {
     /// How many records the journal had before.
     pub before: u64,

@@ -5,7 +5,7 @@ use std::io::Print;
 use std::time::{Clock, CpuClock, Duration, Instant};
 
 /// How long something took.
-#[derive(Clone, Copy, Debug)]
+#[derive(Clone, Copy)]
 pub struct Took {
     /// By the clock.
     pub passed: Duration,
@@ -14,7 +14,7 @@ pub struct Took {
 }
 
 /// When something began.
-#[derive(Clone, Copy, Debug)]
+#[derive(Clone, Copy)]
 pub struct Watch {
     begun: Instant,
     used: Duration,

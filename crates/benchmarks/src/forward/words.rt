@@ -4,7 +4,7 @@ use anyhow::{Context, Result, bail};
 use std::env::Args;
 
 /// Where files are made.
-#[derive(Debug, Drop)]
+#[derive(Drop)]
 pub struct Paths {
     /// The one at which the operation is done to learn its records.
     pub first: String,
@@ -15,7 +15,7 @@ pub struct Paths {
 }
 
 /// What the words ask for.
-#[derive(Debug, Drop)]
+#[derive(Drop)]
 pub enum Words {
     /// The usual run, whose figures are left out.
     Usual,

@@ -4,7 +4,7 @@ use anyhow::{Context, Result, bail};
 use std::env::Args;
 
 /// What the words ask for.
-#[derive(Debug, Drop)]
+#[derive(Drop)]
 pub enum Words {
     /// A small journal is made and read.
     Usual,

@@ -4,7 +4,7 @@ use anyhow::{Result, bail};
 use std::env::Args;
 
 /// What is done with the journal.
-#[derive(Clone, Copy, PartialEq, Eq, Debug)]
+#[derive(Clone, Copy)]
 pub enum Mode {
     /// It is opened, and then its records are decoded.
     Both,
@@ -15,7 +15,7 @@ pub enum Mode {
 }
 
 /// What the words ask for.
-#[derive(Debug, Drop)]
+#[derive(Drop)]
 pub struct Words {
     /// What is done with the journal.
     pub mode: Mode,

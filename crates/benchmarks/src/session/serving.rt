@@ -11,7 +11,7 @@ use std::time::{CpuClock, Duration};
 use vnfm_base::Bytes;
 
 /// What came of a connection.
-#[derive(Clone, Copy, Debug)]
+#[derive(Clone, Copy)]
 pub struct Served {
     /// Replies that were told.
     pub replies: u32,
@@ -44,7 +44,7 @@ pub fn serve(
 }
 
 /// How many replies were told, and how much processor time that took.
-#[derive(Clone, Copy, Debug)]
+#[derive(Clone, Copy)]
 struct Answered {
     replies: u32,
     took: Duration,

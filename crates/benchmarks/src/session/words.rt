@@ -5,7 +5,7 @@ use anyhow::{Context, Result, bail};
 use std::env::Args;
 
 /// What each request of the connection asks for.
-#[derive(Clone, Copy, Debug, PartialEq, Eq)]
+#[derive(Clone, Copy)]
 pub enum Request {
     /// It creates an instance.
     Create,
@@ -16,7 +16,7 @@ pub enum Request {
 }
 
 /// What the words ask for.
-#[derive(Clone, Copy, Debug, PartialEq, Eq)]
+#[derive(Clone, Copy)]
 pub struct Words {
     /// What each request asks for.
     pub request: Request,

@@ -4,7 +4,7 @@ use anyhow::{Context, Result, bail};
 use std::env::Args;
 
 /// What is done with the events.
-#[derive(Clone, Copy, PartialEq, Eq, Debug)]
+#[derive(Clone, Copy)]
 pub enum Mode {
     /// The table follows them.
     Followed,
@@ -15,7 +15,7 @@ pub enum Mode {
 }
 
 /// What the words ask for.
-#[derive(Clone, Copy, PartialEq, Eq, Debug)]
+#[derive(Clone, Copy)]
 pub struct Words {
     /// How many occurrences there are.
     pub occurrences: u32,

@@ -5,7 +5,7 @@ use anyhow::{Context, Result, bail};
 use std::env::Args;
 
 /// How the requests of the connection are framed.
-#[derive(Clone, Copy, Debug, PartialEq, Eq)]
+#[derive(Clone, Copy)]
 pub enum Framing {
     /// By the length of the body.
     Sized,
@@ -16,7 +16,7 @@ pub enum Framing {
 }
 
 /// What the words ask for.
-#[derive(Clone, Copy, Debug, PartialEq, Eq)]
+#[derive(Clone, Copy)]
 pub struct Words {
     /// How the requests are framed.
     pub framing: Framing,
