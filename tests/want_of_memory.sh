@@ -118,7 +118,7 @@ turn "a turn of a move and a try"
 # toolchain proves and builds it.
 turn="the acts before a want of memory stand"
 python3 -B "$here/tests/runs.py" "$turn" >"$room/turn" || exit 1
-(cd "$here/crates/lcm_cases" && exec rt run) >"$room/out" 2>&1 </dev/null || { cat "$room/out" >&2; exit 1; }
+(cd "$here/crates/lcm_cases" && exec rt run) <"$room/turn" >"$room/out" 2>&1 || { cat "$room/out" >&2; exit 1; }
 count=1
 played=0
 while rm -f "$room/failed"
