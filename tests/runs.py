@@ -286,7 +286,7 @@ def held(count):
     return {"scaleStatus": [{"aspectId": "workers", "scaleLevel": 1}], **lists}
 
 
-# ---- Steps of occurrence 1, as crates/lcm_cases/src/steps.rt reads them
+# ---- Steps of occurrence 1, as crates/case_lives/src/steps.rt reads them
 
 def each_step(steps):
     """The steps, each by itself: those of an attempt as their way, change, end and job."""

@@ -1,13 +1,12 @@
 //! Acts that compare: what a command told, printed and left with what it is to.
 
-use crate::calls::calls_of;
 use crate::objects::ask;
 use crate::preparing::{refusal, shown};
-use crate::records::{Step, front_of, front_with, journal_with};
-use crate::sound::{agrees, change_done, standing};
-use crate::stage::{Stage, plain_site};
-use crate::steps::steps_of;
-use crate::work::{makes, removes};
+use crate::stage::Stage;
+use case_lives::{
+    Step, agrees, calls_of, change_done, changes_standing, front_of, front_with, journal_with,
+    makes, plain_site, removes, steps_of,
+};
 use case_words::{CaseFault, behind, code, count, number, part, small, word};
 use lcm_events::{Tag, Way};
 use serde_json::Value;
@@ -223,7 +222,7 @@ impl Stage {
 
     /// `["jobs", N, STANDING]`: there are so many jobs, and so many changes stand by them.
     pub fn has_jobs(&self, act: &[Value]) -> Result<bool, CaseFault> {
-        Ok(count(act, 1)? == self.site.jobs() && count(act, 2)? == standing(&self.site))
+        Ok(count(act, 1)? == self.site.jobs() && count(act, 2)? == changes_standing(&self.site))
     }
 
     /// `["done jobs", CHANGE..]`: the jobs are all done, and are for these changes, in this order.

@@ -1,9 +1,8 @@
 //! Acts that run a command or make a turn, and what stops a life.
 
-use crate::calls::opening;
 use crate::objects::{clock_at, run_over, words_of};
 use crate::stage::Stage;
-use crate::stops::Earlier;
+use case_lives::{Earlier, opening};
 use case_words::{CaseFault, behind, code, count, number, part};
 use executor::Manager;
 use grant_desk::GrantAll;

@@ -1,10 +1,7 @@
 //! Whole lives, which are stopped or of which a call fails, and short ones, of which each is stopped at another of its calls.
 
-use crate::calls::{calls_of, opening};
-use crate::records::front_of;
-use crate::stage::{Stage, plain_site};
-use crate::steps::steps_of;
-use crate::stops::Whole;
+use crate::stage::Stage;
+use case_lives::{Whole, calls_of, front_of, opening, plain_site, steps_of};
 use case_words::{CaseFault, count, list, part};
 use grant_desk::GrantAll;
 use serde_json::Value;

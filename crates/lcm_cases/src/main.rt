@@ -5,7 +5,6 @@
 //! line says how many runs were played and how many of them went wrong.
 #![tactic(auto)]
 
-mod calls;
 mod checks;
 mod commands;
 mod lives;
@@ -14,14 +13,8 @@ mod peers;
 mod playing;
 mod preparing;
 mod program;
-mod records;
-mod sound;
 mod spelling;
 mod stage;
-mod steps;
-mod stops;
-mod texts;
-mod work;
 
 use crate::playing::play_act;
 use crate::stage::Stage;

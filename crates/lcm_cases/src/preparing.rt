@@ -1,8 +1,8 @@
 //! Acts that prepare a command: texts, the site, the connections and the answers of the outside.
 
 use crate::objects::connection;
-use crate::records::front_of;
 use crate::stage::Stage;
+use case_lives::front_of;
 use case_words::{CaseFault, behind, code, count, entries, number, part, small, word};
 use lcm_events::Role;
 use serde_json::Value;

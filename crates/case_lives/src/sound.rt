@@ -190,7 +190,7 @@ pub fn agrees(alloc: Global, site: &MemSite, steps: &[Step]) -> Result<bool, All
 }
 
 /// How many changes stand by the done jobs of this site.
-pub fn standing(site: &MemSite) -> usize {
+pub fn changes_standing(site: &MemSite) -> usize {
     let mut count: usize = 0;
     for change in 0..CHANGES {
         let made = jobs_done(site, change, Way::Forward);

@@ -4,7 +4,7 @@ use crate::records::{At, Step};
 use site_traits::{Choice, MemSite, SiteCall};
 
 /// The disk calls of one record: a write and a sync of it, and a write and a sync of its gate.
-pub const CALLS: usize = 4;
+const CALLS: usize = 4;
 
 /// What is on a site's record: how many calls on the disk, begins, looks and aborts.
 #[derive(Clone, Copy)]
@@ -58,13 +58,13 @@ pub fn opening(site: &MemSite) -> usize {
 /// whose gates are open on the disk.
 pub fn left_behind(calls: usize, choice: Choice) -> usize {
     match choice {
-        Choice::New => standing(calls),
+        Choice::New => records_standing(calls),
         Choice::Old | Choice::Torn => calls / CALLS,
     }
 }
 
 /// How many of the operation's records stand behind so many disk calls of them: a record stands once its gate was written.
-pub fn standing(calls: usize) -> usize {
+pub fn records_standing(calls: usize) -> usize {
     let whole = calls / CALLS;
     if calls % CALLS == 3 {
         return whole.saturating_add(1);

@@ -1,8 +1,8 @@
 //! Lives that are stopped at each moment, or of which each disk call fails in turn: what is left, and which attempt had no job yet.
 
-use crate::calls::{calls_of, calls_until, left_behind, not_begun, opening, standing};
+use crate::calls::{calls_of, calls_until, left_behind, not_begun, opening, records_standing};
+use crate::plan::plain_site;
 use crate::records::{At, Step};
-use crate::stage::plain_site;
 use site_traits::{Choice, MemSite};
 use std::alloc::{AllocError, Global};
 
@@ -95,7 +95,7 @@ impl Whole {
     /// What is there of it where this disk call of its own, from 0, fails, and so many begins were made.
     pub fn fault(&self, call: usize, begins: usize) -> Stop {
         let behind = call.checked_sub(opening(&self.site));
-        let records = standing(behind.unwrap_or(0));
+        let records = records_standing(behind.unwrap_or(0));
         self.behind(call, behind, records, begins)
     }
 
