@@ -31,7 +31,7 @@ pub(crate) struct PlanCase<'a> {
 }
 
 /// What becomes of the machines of one VDU.
-#[derive(Debug, Drop)]
+#[derive(Drop)]
 pub(crate) struct Roll {
     /// The serials that stay, rising.
     pub(crate) staying: Listed<u32>,

@@ -13,7 +13,7 @@ use vnfm_base::{Line, LineFault};
 /// What an answer to a grant request, or to a poll, says.
 ///
 /// Source: SOL 003 9.4.2 (Grants), 9.4.3 (Individual grant).
-#[derive(Debug, Drop)]
+#[derive(Drop)]
 pub enum GrantAnswer {
     /// 200 or 201 with a grant that can be read.
     Granted(GrantRows),

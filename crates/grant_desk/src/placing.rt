@@ -18,7 +18,7 @@ use std::alloc::{AllocError, Global};
 /// What a grant gives the changes of a plan, as its event records it.
 ///
 /// Source: SOL 003 9.5.2.3 (Grant); own format.
-#[derive(Debug, Drop)]
+#[derive(Drop)]
 pub struct Placing {
     /// The distinct places, in the order of the first change that has them.
     pub places: Listed<Place>,

@@ -11,7 +11,7 @@ pub type GrantRow = (Name, Place);
 /// A grant as it was read: its identifier, and its rows in order. What a row names may be any name, and may be named twice.
 ///
 /// Source: SOL 003 9.5.2.3 (Grant).
-#[derive(Debug)]
+
 pub struct GrantRows {
     /// The grant's identifier.
     pub grant: Name,

@@ -29,7 +29,7 @@ fn made(def: Def, resource: &Name, place: &Place) -> Held
 /// for one more.
 ///
 /// A contract sees how many items the editor has room for.
-#[derive(Debug, Drop)]
+#[derive(Drop)]
 pub struct Editor {
     room: Vec<Held>,
 }

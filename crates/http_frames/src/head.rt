@@ -8,7 +8,7 @@ use httparse::Status;
 use httparse::spans::{self, HeaderSpan, RequestSpans, Span};
 
 /// What a request's head says of the body.
-#[derive(Clone, Copy, Debug, PartialEq, Eq)]
+#[derive(Clone, Copy, PartialEq, Eq)]
 pub enum Body {
     /// There is none.
     Empty,
@@ -19,7 +19,7 @@ pub enum Body {
 }
 
 /// Where the parts of a request's head are.
-#[derive(Clone, Copy, Debug, PartialEq, Eq)]
+#[derive(Clone, Copy, PartialEq, Eq)]
 pub struct HeadParts {
     /// Bytes of the head, with the empty lines in front of it and the one at its end.
     pub len: usize,
@@ -33,7 +33,7 @@ pub struct HeadParts {
 }
 
 /// What the bytes begin with.
-#[derive(Clone, Copy, Debug, PartialEq, Eq)]
+#[derive(Clone, Copy, PartialEq, Eq)]
 pub enum Head {
     /// A head within the limits, of a sound framing.
     Whole(HeadParts),

@@ -36,7 +36,7 @@ impl<D: Door> Model for Intake<D> {
 }
 
 /// What came of one read.
-#[derive(Clone, Copy, Debug, PartialEq, Eq)]
+#[derive(Clone, Copy, PartialEq, Eq)]
 pub enum Came {
     /// Bytes.
     Bytes,

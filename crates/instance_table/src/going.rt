@@ -12,7 +12,7 @@ use std::alloc::{AllocError, Global};
 /// What the end of an operation says of its instance, where it says something.
 ///
 /// Source: SOL 003 5.5.2.2 (VnfInstance).
-#[derive(Clone, Copy, PartialEq, Eq, Debug)]
+#[derive(Clone, Copy, PartialEq, Eq)]
 pub struct Ending {
     /// Whether it is INSTANTIATED.
     pub instantiated: Option<bool>,
@@ -25,7 +25,7 @@ pub struct Ending {
 /// The places that a grant gave to the changes of an operation.
 ///
 /// Source: SOL 003 9.5.2.3 (Grant).
-#[derive(Debug, Drop)]
+#[derive(Drop)]
 pub struct Placing {
     /// The distinct places.
     pub places: Listed<Place>,
@@ -50,7 +50,7 @@ impl Placing {
 /// An operation that goes on.
 ///
 /// Source: SOL 003 5.5.2.13 (VnfLcmOpOcc).
-#[derive(Debug, Drop)]
+#[derive(Drop)]
 pub struct Going {
     /// The number of its occurrence.
     pub occ: u64,

@@ -18,7 +18,7 @@ const TRIES: u8 = 5;
 /// What the history says of a live instance.
 ///
 /// Source: SOL 003 5.5.2.2 (VnfInstance).
-#[derive(Debug, Drop)]
+#[derive(Drop)]
 pub struct InstanceRow {
     /// Its number, from 1.
     pub number: u64,
@@ -131,7 +131,7 @@ impl InstanceRow {
 /// What the history says of a live subscription.
 ///
 /// Source: SOL 003 5.5.2.16 (LccnSubscription).
-#[derive(Debug, Drop)]
+#[derive(Drop)]
 pub struct SubscriptionRow {
     /// Its number, from 1.
     pub number: u64,

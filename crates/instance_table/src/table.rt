@@ -31,7 +31,7 @@ use vnfm_base::{Kind, Line, Name};
 /// The table of descriptors, live instances and live subscriptions, and of the operations that go on.
 ///
 /// A contract sees its rows, and beside them what is reserved for an event.
-#[derive(Debug)]
+
 pub struct InstanceTable {
     descriptors: Vec<Vnfd>,
     instances: Vec<InstanceRow>,

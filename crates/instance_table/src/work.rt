@@ -14,7 +14,7 @@ use std::alloc::{AllocError, Global};
 use vnfm_base::Name;
 
 /// What an attempt that is done did.
-#[derive(Clone, Copy, PartialEq, Eq, Debug)]
+#[derive(Clone, Copy, PartialEq, Eq)]
 pub struct Work {
     /// The number of the instance.
     pub instance: u64,

@@ -12,7 +12,7 @@ use crate::through::bytes_at;
 use site_traits::{DiskFailed, Site};
 
 /// Why a record could not be read back.
-#[derive(Debug, Drop)]
+#[derive(Drop)]
 pub enum BackFault {
     /// The file has no record n any more. It never comes where the site tells its content.
     Broken(u64),

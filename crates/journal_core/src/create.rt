@@ -13,7 +13,7 @@ use crate::through::write_through;
 use site_traits::{DiskFailed, Site};
 
 /// Why a journal file could not be made.
-#[derive(Debug, Drop)]
+#[derive(Drop)]
 pub enum CreateFault {
     /// The file isn't unfinished for this manager. It is as it was.
     Taken,
@@ -32,7 +32,7 @@ impl From<DiskFailed> for CreateFault {
 }
 
 /// How far the making of a file has come.
-#[derive(Clone, Copy, Debug)]
+#[derive(Clone, Copy)]
 pub enum Stage {
     /// It has at most one byte.
     Empty,

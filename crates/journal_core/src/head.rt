@@ -8,7 +8,7 @@ use crate::journal::{MAX_FILE, MAX_RECORD};
 use site_traits::{DiskFailed, Site};
 
 /// What stands at the place of a gate.
-#[derive(Clone, Copy, Debug)]
+#[derive(Clone, Copy)]
 pub enum Head {
     /// A closed gate.
     Closed,

@@ -12,7 +12,7 @@ pub const HEADER: [u8; 32] = [
 ];
 
 /// What the first bytes of a file say of its header.
-#[derive(Clone, Copy, Debug)]
+#[derive(Clone, Copy)]
 pub enum Verdict {
     /// The header of the manager of this number.
     Made(u32),

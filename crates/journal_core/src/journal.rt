@@ -67,7 +67,7 @@ impl<S: Site> Model for Journal<S> {
 }
 
 /// Why a record could not be appended.
-#[derive(Debug, Drop)]
+#[derive(Drop)]
 pub enum AppendFault {
     /// Behind the closed gate at `end` the file has no room for `more` bytes of content. Nothing has changed.
     Full {

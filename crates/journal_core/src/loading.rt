@@ -16,7 +16,7 @@ use std::alloc::{AllocError, Global};
 use std::marker::{Model, PhantomData};
 
 /// Why a journal could not be loaded. Each but `Disk` and `Memory` comes exactly where the file's bytes say so.
-#[derive(Debug, Drop)]
+#[derive(Drop)]
 pub enum LoadFault {
     /// The file is unfinished: at most one byte long, or beginning with `v`, or all of a made file but its first byte.
     Unmade,
@@ -51,7 +51,7 @@ impl From<AllocError> for LoadFault {
 }
 
 /// What a step of a loading found.
-#[derive(Clone, Copy, Debug, PartialEq, Eq)]
+#[derive(Clone, Copy, PartialEq, Eq)]
 pub enum Found {
     /// One record more.
     Record,

@@ -9,7 +9,7 @@ use std::marker::Model;
 pub const MARKS: usize = 65_536;
 
 /// A place of the file at which a gate stands, and how many records stand before it.
-#[derive(Clone, Copy, Debug)]
+#[derive(Clone, Copy)]
 pub struct Mark {
     /// How many records stand before it.
     pub before: u64,

@@ -10,8 +10,8 @@ use Rattle.site_traits.specs.Site.{Pair, SiteState}
 use Rattle.lcm_api.specs.Outcome.{outcome}
 use Rattle.lcm_api.specs.Replies.{Outcome}
 use Rattle.lcm_api.specs.declared.reply.Reply.{Reply}
-use Rattle.lcm_api.specs.declared.answer.ApiFault.{ApiFault}
-use Rattle.lcm_api.specs.declared.answer.ApiFault.TheVariants as fault
+use Rattle.lcm_api.specs.declared.answering.ApiFault.{ApiFault}
+use Rattle.lcm_api.specs.declared.answering.ApiFault.TheVariants as fault
 
 -- the work of a request, by its answer: what it adds is in the history, or the disk failed on the way there, or nothing was done
 abbrev pub answered : Outcome → List Event → Result Reply ApiFault → Work

@@ -16,9 +16,7 @@ pub mod Refusals
 pub mod Replies
 pub mod Response
 pub mod Routes
-pub mod Session
-pub mod Step
-pub mod Talking
 pub mod Tasks
 pub mod Telling
 pub mod Waiting
+pub mod World

@@ -11,7 +11,7 @@ ghost use Rattle.lcm_api.specs.Judging.{IsVerdict};
 ghost use Rattle.lcm_api.specs.Recording.{IsPlanned};
 ghost use Rattle.vnfm_base.specs.Ident.{IsIdentNumber};
 
-use crate::answer::ApiFault;
+use crate::answering::ApiFault;
 use crate::bodies::refused_body;
 use crate::media::is_json;
 use crate::record::{Planned, carry_out};

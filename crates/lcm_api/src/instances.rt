@@ -12,7 +12,7 @@ ghost use Rattle.lcm_api.specs.Recording.{IsPlanned};
 ghost use Rattle.lcm_api.specs.Replies.{told};
 ghost use Rattle.lcm_model.specs.Lives.{is_live};
 
-use crate::answer::ApiFault;
+use crate::answering::ApiFault;
 use crate::record::{Planned, carry_out};
 use crate::reply::{Reply, refusal, refusal_for, shown};
 use executor::{Manager, works_add_up};

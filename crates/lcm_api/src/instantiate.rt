@@ -14,7 +14,7 @@ ghost use Rattle.change_planner.specs.Records.{NamesFew};
 ghost use Rattle.lcm_model.specs.Lives.{descriptor, is_live};
 ghost use Rattle.vnfm_base.specs.Ident.{IsIdentNumber};
 
-use crate::answer::ApiFault;
+use crate::answering::ApiFault;
 use crate::bodies::refused_body;
 use crate::instances::{asked_id, named_instance, no_instance};
 use crate::media::is_json;

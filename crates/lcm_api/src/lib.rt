@@ -1,7 +1,7 @@
 //! Requests and their replies.
 #![tactic(auto)]
 
-mod answer;
+mod answering;
 mod bodies;
 mod create;
 mod door;
@@ -16,11 +16,10 @@ mod outgoing;
 mod record;
 mod reply;
 mod route;
-mod session;
 mod tasks;
 mod tell;
 
-pub use answer::ApiFault;
+pub use answering::{ApiFault, answer};
 pub use create::MAX_INSTANCES;
 pub use door::DoorFailed;
 pub use http_wire::{Request, WireFault};
@@ -28,5 +27,4 @@ pub use laws::{a_reply_is_last_where_its_request_is, limits_are_fixed};
 pub use listen::Reading;
 pub use mouth::Mouth;
 pub use record::MAX_REQUESTED;
-pub use reply::Reply;
-pub use session::{Closed, answer_session};
+pub use reply::{Reply, bare, malformed, too_large};

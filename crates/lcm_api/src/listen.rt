@@ -6,7 +6,7 @@ ghost use Rattle.lcm_api.specs.Hearing.{Hears};
 use site_traits::{Door, ReadAnswer};
 
 /// How far a reading came.
-#[derive(Clone, Copy, Debug, PartialEq, Eq)]
+#[derive(Clone, Copy, PartialEq, Eq)]
 pub struct Reading {
     /// The bytes that were read.
     pub count: usize,

@@ -9,7 +9,7 @@ ghost use Rattle.lcm_api.specs.Answering.{answered};
 ghost use Rattle.lcm_api.specs.Recording.{FitsBehind, IsPlanned};
 ghost use Rattle.lcm_api.specs.Replies.{Outcome, room_outcome};
 
-use crate::answer::ApiFault;
+use crate::answering::ApiFault;
 use crate::reply::{Reply, refusal};
 use executor::{Manager, WorkFault, works_add_up};
 use lcm_events::Event;

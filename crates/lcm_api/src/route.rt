@@ -14,7 +14,7 @@ use vnfm_base::Name;
 /// What a request asks for.
 ///
 /// Source: SOL 003 5.4.2.3 to 5.4.17.3.
-#[derive(Clone, Copy, Debug, PartialEq, Eq)]
+#[derive(Clone, Copy, PartialEq, Eq)]
 pub enum Route {
     /// It lists the instances.
     ListInstances,
@@ -37,7 +37,7 @@ pub enum Route {
 }
 
 /// Where a request goes.
-#[derive(Clone, Copy, Debug, PartialEq, Eq)]
+#[derive(Clone, Copy, PartialEq, Eq)]
 pub enum Routing {
     /// No resource that is served has its path.
     Nowhere,

@@ -15,7 +15,7 @@ ghost use Rattle.lcm_model.specs.Operations.{operation};
 ghost use Rattle.occ_table.specs.Rows.{occurrence};
 ghost use Rattle.occ_table.specs.Steps.{after_move};
 
-use crate::answer::ApiFault;
+use crate::answering::ApiFault;
 use crate::bodies::refused_body;
 use crate::instances::asked_id;
 use crate::media::is_json;
@@ -35,7 +35,7 @@ use vnfm_base::{Bytes, Moment};
 /// A task that is asked of an occurrence, with what its body says.
 ///
 /// Source: SOL 003 5.4.14 to 5.4.17 (Retry, Rollback, Fail, Cancel operation task).
-#[derive(Clone, Copy, PartialEq, Eq, Debug)]
+#[derive(Clone, Copy, PartialEq, Eq)]
 pub enum AskedTask {
     /// Take the work up again.
     Retry,

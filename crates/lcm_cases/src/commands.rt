@@ -6,8 +6,9 @@ use case_lives::{Earlier, opening};
 use case_words::{CaseFault, behind, code, count, number, part};
 use executor::Manager;
 use grant_desk::GrantAll;
-use lcm_api::{Mouth, answer_session};
+use lcm_api::Mouth;
 use lcm_events::Role;
+use lcm_sessions::answer_session;
 use occ_work::{Turn, turn};
 use serde_json::Value;
 use site_traits::{

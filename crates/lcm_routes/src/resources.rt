@@ -5,7 +5,7 @@ use lcm_events::{OpKind, Task};
 /// What a path names.
 ///
 /// Source: SOL 003 5.3 (Resource structure and methods).
-#[derive(Clone, Copy, PartialEq, Eq, Debug)]
+#[derive(Clone, Copy, PartialEq, Eq)]
 pub enum Resource {
     /// All instances.
     Instances,

@@ -11,7 +11,7 @@ use std::alloc::{AllocError, Global};
 use subscription_filter::NoticeFacts;
 
 /// The tables of a manager's history.
-#[derive(Debug)]
+
 pub struct Tables {
     /// The number of the manager.
     pub manager: u32,

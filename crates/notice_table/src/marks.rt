@@ -13,7 +13,7 @@ const WORD: u8 = 64;
 /// Marks that are set or not, the oldest first.
 ///
 /// A contract sees them as a list, and beside it for how many more words there is room.
-#[derive(Debug, Drop)]
+#[derive(Drop)]
 pub struct Marks {
     /// The oldest marks, the oldest in the lowest bit.
     front: u64,

@@ -22,7 +22,7 @@ use subscription_filter::{NoticeFacts, matches};
 const TRIES: u8 = 5;
 
 /// What waits for a live subscription.
-#[derive(Debug, Drop)]
+#[derive(Drop)]
 pub struct QueueRow {
     /// The subscription's number.
     pub number: u64,

@@ -19,7 +19,7 @@ use subscription_filter::NoticeFacts;
 /// the last of them.
 ///
 /// A contract sees for each subscription the queue of its places, and beside the queues what is reserved for an event.
-#[derive(Debug)]
+
 pub struct NoticeTable {
     /// The places, the oldest first. When a notice is heard, those that no queue waits for any more are dropped from the front.
     places: VecDeque<u64>,

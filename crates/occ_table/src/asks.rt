@@ -10,7 +10,6 @@ ghost use Rattle.occ_table.specs.PackedAsks.{aimed_at, asked_for};
 use crate::names::{PackedName, name_where, packed_where};
 use lcm_events::{Aim, Ask, AspectLevel, Listed, OpKind, ScaleWay, StopType, Vnfc};
 use std::alloc::{AllocError, Global};
-use std::fmt;
 use std::marker::Model;
 use vnfm_base::{Line, Name};
 
@@ -54,14 +53,8 @@ impl PackedLevel {
     }
 }
 
-impl fmt::Debug for PackedLevel {
-    fn fmt<W: fmt::Write>(&self, f: &mut fmt::Formatter<W>) -> fmt::Result {
-        fmt::Debug::fmt(&self.unpack(), f)
-    }
-}
-
 /// What SCALE_TO_LEVEL aims at.
-#[derive(Debug, Drop)]
+#[derive(Drop)]
 pub enum PackedAim {
     /// The instantiation level of this name.
     Level(PackedName),
@@ -70,7 +63,7 @@ pub enum PackedAim {
 }
 
 /// What an operation is asked to do, by its kind.
-#[derive(Debug, Drop)]
+#[derive(Drop)]
 pub enum PackedParts {
     /// INSTANTIATE.
     Instantiate {
@@ -332,11 +325,5 @@ impl PackedAsk {
         ensures { result ≡ is_terminate self.now }
     {
         matches!(self.parts, PackedParts::Terminate { .. })
-    }
-}
-
-impl fmt::Debug for PackedAsk {
-    fn fmt<W: fmt::Write>(&self, f: &mut fmt::Formatter<W>) -> fmt::Result {
-        fmt::Debug::fmt(&self.parts, f)
     }
 }

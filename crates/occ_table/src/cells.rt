@@ -5,7 +5,7 @@ ghost use Rattle.std.specs.Prelude.{◌≡◌, [], slice_set, vec_capacity, vec_
 use std::marker::Model;
 
 /// A list whose entries are set in place, and which gives its memory back once it is cleared.
-#[derive(Debug, Drop)]
+#[derive(Drop)]
 pub struct Cells<T> {
     entries: Vec<T>,
 }

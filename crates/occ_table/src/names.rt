@@ -5,7 +5,7 @@ ghost use Rattle.vnfm_base.specs.Text.{IsName};
 
 use std::alloc::{AllocError, Global};
 use std::marker::Model;
-use std::{fmt, str};
+use std::str;
 use vnfm_base::Name;
 
 /// A name on the heap, in as many bytes as it has.
@@ -114,12 +114,6 @@ impl PackedName {
         ensures { result ≡ self.now }
     {
         name_of(self.bytes.as_slice())
-    }
-}
-
-impl fmt::Debug for PackedName {
-    fn fmt<W: fmt::Write>(&self, f: &mut fmt::Formatter<W>) -> fmt::Result {
-        fmt::Debug::fmt(self.as_str(), f)
     }
 }
 

@@ -14,7 +14,7 @@ use std::mem;
 const ROOM: usize = 4;
 
 /// An open attempt.
-#[derive(Clone, Copy, PartialEq, Eq, Debug)]
+#[derive(Clone, Copy, PartialEq, Eq)]
 pub struct Pending {
     /// Its tag.
     pub tag: Tag,
@@ -41,7 +41,7 @@ impl Pending {
 /// Room for the open attempts of an occurrence, which lies beside them while none is open.
 ///
 /// A contract sees for how many attempts there is room.
-#[derive(Debug, Drop)]
+#[derive(Drop)]
 pub struct AttemptRoom {
     entries: Vec<Pending>,
 }
@@ -73,7 +73,7 @@ impl AttemptRoom {
 }
 
 /// Open attempts in the order in which they began. Where one is open, there is room for 4; where none is, no memory is held.
-#[derive(Debug, Drop)]
+#[derive(Drop)]
 pub struct Pendings {
     entries: Vec<Pending>,
 }

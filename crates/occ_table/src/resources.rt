@@ -32,7 +32,7 @@ pub struct Deed {
 }
 
 /// The name of a definition of an instance.
-#[derive(Clone, Copy, PartialEq, Eq, Hash, Debug)]
+#[derive(Clone, Copy, PartialEq, Eq, Hash)]
 pub struct Key {
     /// The number of the instance.
     pub instance: u64,
@@ -74,7 +74,7 @@ impl Key {
 }
 
 /// What is kept of a definition.
-#[derive(Debug, Drop)]
+#[derive(Drop)]
 pub struct Entry {
     /// Its resource, with its place.
     pub used: PackedUsed,
@@ -85,7 +85,7 @@ pub struct Entry {
 /// What is kept of definitions.
 ///
 /// A contract sees what is kept by each key, and what is laid aside for one more.
-#[derive(Debug, Drop)]
+#[derive(Drop)]
 pub struct Resources {
     entries: HashMap<Key, Entry>,
     names: Rooms,

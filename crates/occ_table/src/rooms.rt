@@ -15,7 +15,7 @@ const LONGEST: usize = 765;
 /// 36 bytes.
 ///
 /// A contract sees how many bytes there is room for at least.
-#[derive(Debug, Drop)]
+#[derive(Drop)]
 pub struct Rooms {
     short: Option<Vec<u8>>,
     middle: Option<Vec<u8>>,

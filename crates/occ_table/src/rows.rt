@@ -33,7 +33,7 @@ const TRIES: u8 = 5;
 /// What a grant gave to an occurrence.
 ///
 /// Source: SOL 003 9.5.2.3 (Grant).
-#[derive(Debug, Drop)]
+#[derive(Drop)]
 pub struct Grant {
     /// Its identifier.
     pub name: PackedName,
@@ -103,7 +103,7 @@ fn copied_grant(alloc: Global, grant: &Option<Grant>) -> Result<Option<Grant>, A
 /// What the history says of an occurrence.
 ///
 /// Source: SOL 003 5.5.2.13 (VnfLcmOpOcc).
-#[derive(Debug)]
+
 pub struct OccRow {
     /// The number of its instance.
     pub instance: u64,

@@ -15,7 +15,7 @@ use vnfm_base::{Line, Moment};
 /// A row, with the room for its open attempts beside it until its occurrence is over.
 ///
 /// A contract sees the row.
-#[derive(Debug, Drop)]
+#[derive(Drop)]
 pub struct Slot {
     row: OccRow,
     room: AttemptRoom,

@@ -37,7 +37,7 @@ use vnfm_base::{Line, Moment, Name};
 /// stands or is in work, and what is reserved for an event.
 /// Each row has a place among the active numbers, so that a move needs no memory, and until its occurrence is over room for four open attempts,
 /// so that an attempt needs none to begin.
-#[derive(Debug)]
+
 pub struct OccTable {
     rows: Vec<Slot>,
     active: Vec<u64>,

@@ -15,7 +15,7 @@ use vnfm_base::Name;
 /// A resource that a change made, removed or powered, and where it stands.
 ///
 /// Source: SOL 003 5.5.2.13 (VnfLcmOpOcc, resourceChanges).
-#[derive(Clone, Copy, PartialEq, Eq, Debug)]
+#[derive(Clone, Copy, PartialEq, Eq)]
 pub struct Used {
     /// The infrastructure's name of the resource.
     pub resource: Name,
@@ -36,7 +36,7 @@ impl Used {
 /// What a change used, in as many bytes as its names have.
 ///
 /// A contract sees the resource with its place.
-#[derive(Debug, Drop)]
+#[derive(Drop)]
 pub struct PackedUsed {
     names: Vec<u8>,
     resource: u8,
@@ -125,7 +125,7 @@ fn copied_used(alloc: Global, used: &Option<PackedUsed>) -> Result<Option<Packed
 /// A contract sees a list with an entry for each change.
 ///
 /// Source: SOL 003 5.5.2.13 (VnfLcmOpOcc, resourceChanges).
-#[derive(Debug, Drop)]
+#[derive(Drop)]
 pub struct Uses {
     entries: Vec<Option<PackedUsed>>,
 }

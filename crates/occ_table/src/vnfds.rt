@@ -66,7 +66,7 @@ fn put_among(names: &mut Vec<Name>, name: Name) -> usize
 /// Which descriptor each instance was made of.
 ///
 /// A contract sees the identifier of each instance's descriptor, in the order of the instances' numbers, and for how many more there is room.
-#[derive(Debug, Drop)]
+#[derive(Drop)]
 pub struct Vnfds {
     names: Vec<Name>,
     numbers: Vec<usize>,

@@ -24,7 +24,7 @@ use Rattle.occ_work.specs.Around.{Counts, DiskFails, Exchanges, Tells, outside}
 use Rattle.occ_work.specs.Attempting.{Attempts, IsWithoutPeer}
 use Rattle.occ_work.specs.Deeds.{Deed, Exchange, aborted, answer_heard, asked, began, ending, looked, nothing, polled}
 use Rattle.occ_work.specs.Requests.{grant_request}
-use Rattle.occ_work.specs.Steps.{exchanging, kinds_for}
+use Rattle.occ_work.specs.Exchanges.{exchanging, kinds_for}
 use Rattle.occ_work.specs.declared.ends.Acted.{Acted}
 use Rattle.occ_work.specs.declared.ends.Acted.TheVariants.{Recorded}
 use Rattle.occ_work.proofs.AttemptLemmas.{alike_disk, alike_refl}

@@ -5,8 +5,8 @@ use Rattle.executor.specs.Managed.{IsReady, KeepsOn, Managed}
 use Rattle.journal_core.specs.Journal.{Ledger, Stands}
 use Rattle.lcm_laws.specs.Acting.{IsAnswer, NextActionsAreAllowed}
 use Rattle.lcm_model.specs.Attempts.{is_open}
-use Rattle.occ_work.specs.Active.{IsActive}
-use Rattle.occ_work.proofs.ActiveLemmas.{active_asked}
+use Rattle.occ_steps.specs.Active.{IsActive}
+use Rattle.occ_steps.proofs.ActiveLemmas.{active_asked}
 use Rattle.executor.specs.Work.{Extends, StaysSound, Work, Works, WorksAtFile, WorksWithJobs, aimed, recorded, stood, went}
 use Rattle.executor.specs.declared.manager.WorkFault.{WorkFault}
 use Rattle.executor.specs.declared.manager.WorkFault.TheVariants as fault

@@ -30,7 +30,7 @@ use Rattle.executor.specs.declared.manager.WorkFault.{WorkFault}
 use Rattle.executor.specs.declared.manager.WorkFault.TheVariants as fault
 use Rattle.journal_core.specs.declared.journal.TheConstants.{MAX_FILE}
 use Rattle.occ_work.specs.Attempting.{is_of_attempt}
-use Rattle.occ_work.specs.Steps.{is_of_act}
+use Rattle.occ_work.specs.Exchanges.{is_of_act}
 
 length-u16 : (n : ℕ) → length (spell.u16 n) ≡ 2
 unfolding u16

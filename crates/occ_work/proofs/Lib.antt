@@ -1,6 +1,4 @@
 mod LiveLemmas
-mod ActiveLemmas
-mod StepLemmas
 mod RequestLemmas
 mod WorkLemmas
 mod TagLemmas

@@ -24,7 +24,7 @@ use Rattle.occ_table.specs.Going.{Rises, active, is_worked_on}
 use Rattle.occ_table.proofs.PendingSteps.{filter_reverse}
 use Rattle.std.proofs.lemmas.List.{length-map, length-reverse}
 use Rattle.occ_work.proofs.RequestLemmas.{few_operations}
-use Rattle.occ_work.specs.Active.{IsActive}
+use Rattle.occ_steps.specs.Active.{IsActive}
 use Rattle.occ_work.specs.Turns.{above}
 
 -- all numbers are above this one

@@ -27,9 +27,9 @@ use Rattle.occ_table.specs.Rows.{occurrence}
 use Rattle.occ_table.specs.declared.rows.OccRow.{OccRow}
 use Rattle.occ_table.proofs.JudgeLaws.{found_row}
 use Rattle.vnfm_base.specs.Ident.{IsIdentNumber}
-use Rattle.occ_work.specs.Active.{IsActive}
+use Rattle.occ_steps.specs.Active.{IsActive}
 use Rattle.occ_work.specs.Requests.{grant_request, request_over}
-use Rattle.occ_work.proofs.ActiveLemmas.{active_asked, active_on}
+use Rattle.occ_steps.proofs.ActiveLemmas.{active_asked, active_on}
 use Rattle.occ_work.proofs.LiveLemmas.{living}
 
 -- the instance of an active occurrence is live

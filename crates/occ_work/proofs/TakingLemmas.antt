@@ -47,15 +47,15 @@ use Rattle.site_traits.specs.declared.orchestrator.Call.{Call}
 use Rattle.site_traits.specs.declared.orchestrator.Call.TheVariants as call
 use Rattle.occ_work.specs.Acting.{Records}
 use Rattle.occ_work.specs.Acting.{TellsRoomFor, recording}
-use Rattle.occ_work.specs.Active.{IsActive}
+use Rattle.occ_steps.specs.Active.{IsActive}
 use Rattle.occ_work.proofs.AttemptLemmas.{AreFew}
-use Rattle.occ_work.proofs.ActiveLemmas.{active_asked}
+use Rattle.occ_steps.proofs.ActiveLemmas.{active_asked}
 use Rattle.executor.proofs.WorkLemmas.{with_jobs}
 use Rattle.occ_work.specs.declared.ends.Acted.{Acted}
 use Rattle.occ_work.specs.declared.ends.Acted.TheVariants.{Recorded, Waiting}
-use Rattle.occ_work.proofs.StepLemmas.{changes_of_row}
+use Rattle.occ_steps.proofs.StepLemmas.{changes_of_row}
 use Rattle.occ_work.specs.Deeds.{answer_heard, answer_with, ending}
-use Rattle.occ_work.specs.Steps.{exchanging, kinds_for}
+use Rattle.occ_work.specs.Exchanges.{exchanging, kinds_for}
 
 -- what follows from a value that was found
 bound : {A B : Type 0} → (f : A → Option B) (x : Option A) (y : B) → option_and_then f x ≡ Some y → (a : A) × (x ≡ Some a) × (f a ≡ Some y)

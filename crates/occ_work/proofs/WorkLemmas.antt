@@ -50,10 +50,10 @@ use Rattle.occ_table.specs.declared.rows.Grant.{Grant}
 use Rattle.occ_table.specs.declared.rows.OccRow.{OccRow}
 use Rattle.occ_table.proofs.JudgeLaws.{found_row}
 use Rattle.occ_table.proofs.PhaseLaws.{some_within}
-use Rattle.occ_work.specs.Active.{IsActive}
-use Rattle.occ_work.proofs.ActiveLemmas.{active_asked, active_on}
+use Rattle.occ_steps.specs.Active.{IsActive}
+use Rattle.occ_steps.proofs.ActiveLemmas.{active_asked, active_on}
 use Rattle.occ_work.proofs.RequestLemmas.{descriptor_of_row, holding_of_row}
-use Rattle.occ_work.proofs.StepLemmas.{changes_of_row}
+use Rattle.occ_steps.proofs.StepLemmas.{changes_of_row}
 
 -- The attempt begins next over a history, by the laws.
 pub record Begins (m : ℕ) (H : List Event) (t : Tag) : Type 0 where

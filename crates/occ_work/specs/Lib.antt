@@ -1,9 +1,8 @@
 pub mod Requests
-pub mod Active
 pub mod Deeds
 pub mod Around
 pub mod Acting
 pub mod Attempting
 pub mod Counting
 pub mod Turns
-pub mod Steps
+pub mod Exchanges

@@ -8,14 +8,15 @@ ghost use Rattle.lcm_model.specs.declared.actions.Action.TheVariants as actions;
 ghost use Rattle.occ_work.specs.Acting.{Acts};
 ghost use Rattle.occ_work.specs.Around.{DiskFails, outside, telling};
 ghost use Rattle.occ_work.specs.Deeds.{Deed};
-ghost use Rattle.occ_work.specs.Active.{IsActive};
+ghost use Rattle.occ_steps.specs.Active.{IsActive};
 
 use crate::attempts::{abort_and_look, begin, look};
 use crate::ends::Acted;
 use crate::requests::request;
-use crate::steps::{Step, location_of, next_step};
+use crate::steps::{location_of, next_step};
 use crate::taking::{move_to, take};
 use executor::{Manager, WorkFault, works_add_up, works_with_jobs_add_up};
+use occ_steps::Step;
 use site_traits::{Heard, Orchestrator, Site};
 use std::alloc::Global;
 use vnfm_base::Moment;

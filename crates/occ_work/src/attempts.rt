@@ -17,7 +17,7 @@ ghost use Rattle.site_traits.specs.Site.{KeepsJobs};
 ghost use Rattle.occ_work.specs.Around.{DiskFails};
 ghost use Rattle.occ_work.specs.Attempting.{Attempts, Puts, following, is_of_attempt};
 ghost use Rattle.occ_work.specs.Deeds.{Deed, answer_looked, ending};
-ghost use Rattle.occ_work.specs.Active.{IsActive};
+ghost use Rattle.occ_steps.specs.Active.{IsActive};
 
 use crate::ends::Acted;
 use crate::work::work_of;

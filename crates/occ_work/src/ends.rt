@@ -5,7 +5,7 @@ ghost use Rattle.occ_work.specs.Counting.{CountsEndings};
 /// How an act ended.
 ///
 /// Source: own rule.
-#[derive(Clone, Copy, Debug, PartialEq, Eq)]
+#[derive(Clone, Copy, PartialEq, Eq)]
 pub enum Acted {
     /// What it did is in the journal.
     Recorded,
@@ -18,7 +18,7 @@ pub enum Acted {
 /// How the acts of a turn ended.
 ///
 /// Source: own rule.
-#[derive(Clone, Copy, Debug, PartialEq, Eq)]
+#[derive(Clone, Copy, PartialEq, Eq)]
 pub struct Turn {
     /// How many acts were recorded.
     pub acted: u32,

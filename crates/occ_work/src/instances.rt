@@ -5,7 +5,7 @@ ghost use Rattle.instance_table.specs.Rows.{instance};
 ghost use Rattle.lcm_events.specs.declared.events.Event.{Event};
 ghost use Rattle.lcm_model.specs.Lives.{descriptor_named};
 ghost use Rattle.occ_table.specs.Rows.{occurrence};
-ghost use Rattle.occ_work.specs.Active.{IsActive};
+ghost use Rattle.occ_steps.specs.Active.{IsActive};
 
 use executor::Manager;
 use instance_table::{InstanceRow, rows_have_holdings};

@@ -2,7 +2,7 @@
 ghost use Rattle.std.specs.Prelude.{◌≡◌, List, IfOk, Some, false};
 ghost use Rattle.executor.specs.Managed.{Keeps};
 ghost use Rattle.lcm_events.specs.declared.events.Event.{Event};
-ghost use Rattle.occ_work.specs.Active.{IsActive};
+ghost use Rattle.occ_steps.specs.Active.{IsActive};
 ghost use Rattle.occ_work.specs.Requests.{grant_request};
 
 use crate::instances::{instance_of, vnfd_of};

@@ -12,8 +12,8 @@ ghost use Rattle.site_traits.specs.Counts.{OnlyDiskFails};
 ghost use Rattle.site_traits.specs.Site.{KeepsJobs};
 ghost use Rattle.occ_work.specs.Acting.{Records};
 ghost use Rattle.occ_work.specs.Deeds.{answer_heard, answer_with, ending};
-ghost use Rattle.occ_work.specs.Active.{IsActive};
-ghost use Rattle.occ_work.specs.Steps.{exchanging, is_of_act, kinds_for, listed};
+ghost use Rattle.occ_steps.specs.Active.{IsActive};
+ghost use Rattle.occ_work.specs.Exchanges.{exchanging, is_of_act, kinds_for, listed};
 
 use crate::attempts::event_of;
 use crate::ends::Acted;

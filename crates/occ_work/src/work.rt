@@ -7,7 +7,7 @@ ghost use Rattle.lcm_model.specs.Next.{next_action};
 ghost use Rattle.lcm_model.specs.declared.actions.Action.TheVariants as actions;
 ghost use Rattle.occ_table.specs.Needed.{needed};
 ghost use Rattle.occ_table.specs.Resources.{place_by};
-ghost use Rattle.occ_work.specs.Active.{IsActive};
+ghost use Rattle.occ_steps.specs.Active.{IsActive};
 
 use crate::instances::{instance_of, vnfd_of};
 use crate::steps::row_of;

@@ -5,7 +5,7 @@ use Rattle.executor.specs.Work.{Idles, Works}
 use Rattle.lcm_api.specs.Failing.{counts_by}
 use Rattle.lcm_api.specs.Hearing.{heard_of}
 use Rattle.lcm_api.specs.Mouth.{MouthState}
-use Rattle.lcm_api.specs.Talking.{Tells, World, world}
+use Rattle.lcm_api.specs.World.{Tells, World, world}
 use Rattle.lcm_events.specs.declared.events.Event.{Event}
 use Rattle.lcm_events.specs.declared.states.Role.{Role}
 use Rattle.onboarding.specs.Doing.{Brings, BringsNothing, HearsDescriptor, OnboardingAtDoor, Onboards, OnlyDoorFails}

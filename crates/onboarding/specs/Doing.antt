@@ -5,7 +5,7 @@ use Rattle.executor.specs.Work.{Works}
 use Rattle.lcm_api.specs.Failing.{FailsOnce}
 use Rattle.lcm_api.specs.Hearing.{Hears}
 use Rattle.lcm_api.specs.Mouth.{MouthState}
-use Rattle.lcm_api.specs.Talking.{Tells, Peers, World, peers_of}
+use Rattle.lcm_api.specs.World.{Tells, Peers, World, peers_of}
 use Rattle.lcm_api.specs.Waiting.{IsNobody, IsUnreached}
 use Rattle.lcm_events.specs.declared.events.Event.{Event}
 use Rattle.lcm_events.specs.declared.states.Role.{Role}

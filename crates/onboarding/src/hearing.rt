@@ -1,7 +1,7 @@
 //! Onboarding: a connection's bytes are heard, and their descriptor is taken in.
 ghost use Rattle.std.specs.Prelude.{◌≡◌, ◌≤◌, List, length, IfOk};
 ghost use Rattle.executor.specs.Managed.{IsReady};
-ghost use Rattle.lcm_api.specs.Talking.{telling, world};
+ghost use Rattle.lcm_api.specs.World.{telling, world};
 ghost use Rattle.lcm_events.specs.declared.events.Event.{Event};
 ghost use Rattle.onboarding.specs.Doing.{HearsDescriptor, Onboards, OnlyDoorFails};
 ghost use Rattle.onboarding.specs.Onboarding.{Onboarding, answer_of};

@@ -16,7 +16,7 @@ use std::io;
 use std::io::ErrorKind;
 
 /// When the folder of the journal's file is synced, so that the file's name is on the disk.
-#[derive(Clone, Copy, Debug, PartialEq, Eq)]
+#[derive(Clone, Copy, PartialEq, Eq)]
 pub enum FolderSync {
     /// Each time, since the name of a file that is there already may never have reached the disk.
     Always,
@@ -25,7 +25,7 @@ pub enum FolderSync {
 }
 
 /// Why the journal's file couldn't be had.
-#[derive(Clone, Copy, Debug, PartialEq, Eq)]
+#[derive(Clone, Copy, PartialEq, Eq)]
 pub enum WhyLost {
     /// Another has its lock.
     Locked,

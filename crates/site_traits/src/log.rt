@@ -12,7 +12,7 @@ pub const CALLS: usize = 1_048_576;
 pub const BYTES: usize = 67_108_864;
 
 /// A call on record: what it was, and where its bytes stand.
-#[derive(Clone, Copy, Debug)]
+#[derive(Clone, Copy)]
 pub struct Entry<T> {
     /// What it was.
     pub what: T,

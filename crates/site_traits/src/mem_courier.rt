@@ -8,7 +8,7 @@ use std::alloc::{AllocError, Global};
 use vnfm_base::Line;
 
 /// What a courier in memory does with a post.
-#[derive(Clone, Copy, Debug, PartialEq, Eq)]
+#[derive(Clone, Copy, PartialEq, Eq)]
 pub enum PostPlan {
     /// It fails.
     Fail,
@@ -17,7 +17,7 @@ pub enum PostPlan {
 }
 
 /// What a post on record was: how many of its bytes are the callback, and its status.
-#[derive(Clone, Copy, Debug)]
+#[derive(Clone, Copy)]
 pub struct PostMark {
     /// Bytes of the callback, which stand in front of the body.
     pub uri: usize,

@@ -12,7 +12,7 @@ use std::mem;
 use vnfm_base::Bytes;
 
 /// What a door in memory does at one `next`.
-#[derive(Debug, Drop)]
+#[derive(Drop)]
 pub enum DoorPlan {
     /// Nobody comes.
     Nobody,

@@ -9,7 +9,7 @@ use std::alloc::{AllocError, Global};
 use vnfm_base::Name;
 
 /// What comes of a begin.
-#[derive(Clone, Copy, Debug, PartialEq, Eq)]
+#[derive(Clone, Copy, PartialEq, Eq)]
 pub enum Arrival {
     /// It is answered Begun, and the job is put.
     Taken,
@@ -22,7 +22,7 @@ pub enum Arrival {
 }
 
 /// How a job ends by itself.
-#[derive(Clone, Copy, Debug, PartialEq, Eq)]
+#[derive(Clone, Copy, PartialEq, Eq)]
 pub enum JobEnd {
     /// It does its work.
     Done,
@@ -31,7 +31,7 @@ pub enum JobEnd {
 }
 
 /// What comes of a begin, and how its job goes on.
-#[derive(Clone, Copy, Debug, PartialEq, Eq)]
+#[derive(Clone, Copy, PartialEq, Eq)]
 pub struct JobPlan {
     /// What comes of the begin.
     pub arrival: Arrival,
@@ -44,7 +44,7 @@ pub struct JobPlan {
 }
 
 /// What a look found.
-#[derive(Clone, Copy, Debug, PartialEq, Eq)]
+#[derive(Clone, Copy, PartialEq, Eq)]
 pub enum Found {
     /// There is no such job.
     Absent,

@@ -14,7 +14,7 @@ use lcm_events::{Act, Tag};
 use std::alloc::{AllocError, Global};
 
 /// What a stop leaves of the writes and cuts that are not synced.
-#[derive(Clone, Copy, Debug, PartialEq, Eq)]
+#[derive(Clone, Copy, PartialEq, Eq)]
 pub enum Choice {
     /// The file before them.
     Old,
@@ -25,7 +25,7 @@ pub enum Choice {
 }
 
 /// How a site in memory is made.
-#[derive(Debug, Drop)]
+#[derive(Drop)]
 pub struct SitePlan {
     /// The bytes that the file has room for. A write past them fails.
     pub bytes: usize,

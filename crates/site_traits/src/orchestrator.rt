@@ -6,7 +6,7 @@ use crate::heard::Heard;
 use vnfm_base::Line;
 
 /// Whether an answer came.
-#[derive(Clone, Copy, Debug, PartialEq, Eq)]
+#[derive(Clone, Copy, PartialEq, Eq)]
 pub enum Call {
     /// It stands in the `Heard` that was lent.
     Came,

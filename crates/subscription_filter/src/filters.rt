@@ -13,7 +13,7 @@ use vnfm_base::{Kind, Name, ident, ident_text};
 /// What a filter asks of a notice.
 ///
 /// Source: SOL 003 5.5.3 (LifecycleChangeNotificationsFilter).
-#[derive(Clone, Copy, Debug)]
+#[derive(Clone, Copy)]
 pub struct NoticeFacts {
     /// The kind of the notice.
     pub which: NoticeKind,

@@ -5,8 +5,8 @@ use Rattle.executor.specs.declared.manager.OpenFault.TheVariants as opening
 use Rattle.journal_core.specs.declared.create.CreateFault.TheVariants as creating
 use Rattle.lcm_api.specs.Failing.{counts_by}
 use Rattle.lcm_api.specs.Mouth.{MouthState}
-use Rattle.lcm_api.specs.Session.{Ending as Closing, Talk, counts_behind, is_cut, is_lost, life}
-use Rattle.lcm_api.specs.Talking.{Peers, Tells}
+use Rattle.lcm_sessions.specs.Session.{Ending as Closing, Talk, counts_behind, is_cut, is_lost, life}
+use Rattle.lcm_api.specs.World.{Peers, Tells}
 use Rattle.lcm_events.specs.declared.events.Event.{Event}
 use Rattle.lcm_events.specs.declared.states.Role.{Role}
 use Rattle.onboarding.specs.Doing.{Brings, BringsNothing, OnboardingAtDoor}

@@ -5,8 +5,9 @@ use Rattle.executor.specs.declared.manager.WorkFault.{WorkFault}
 use Rattle.executor.specs.declared.manager.WorkFault.TheVariants as working
 use Rattle.executor.specs.Work.{Idles, Work, Works, WorksAreWithJobs, WorksWithJobs, WorksWithJobsJoin, WorksWithJobsLeadOn, LeadsOn, went, stood}
 use Rattle.lcm_api.specs.Mouth.{MouthState, Begins}
-use Rattle.lcm_api.specs.Session.{Last, Ending, Talk, over as no_more, unheard, untold, starving, breaking, breaks, is_breaking, life, work_by, work_last, work_of}
-use Rattle.lcm_api.specs.Talking.{Peers, Tells, World, peers_of, world, Serves}
+use Rattle.lcm_sessions.specs.Session.{Last, Ending, Talk, over as no_more, unheard, untold, starving, breaking, breaks, is_breaking, life, work_by, work_last, work_of}
+use Rattle.lcm_api.specs.World.{Peers, Tells, World, peers_of, world}
+use Rattle.lcm_sessions.specs.Talking.{Serves}
 use Rattle.lcm_events.specs.declared.events.Event.{Event}
 use Rattle.lcm_events.specs.declared.states.Role.{Role}
 use Rattle.occ_work.specs.Around.{Around, Outside, Tells as Asking, around, outside, telling as asking}

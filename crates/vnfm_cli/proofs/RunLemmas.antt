@@ -7,7 +7,7 @@ use Rattle.executor.specs.Work.{Follows, LeavesJobs, Stays, Work, WorksAreWithJo
 use Rattle.executor.specs.declared.manager.OpenFault.{OpenFault}
 use Rattle.journal_core.specs.Load.{SyncsAndReads}
 use Rattle.lcm_api.specs.Mouth.{MouthState}
-use Rattle.lcm_api.specs.Talking.{Peers, Tells, World, peers_of, world}
+use Rattle.lcm_api.specs.World.{Peers, Tells, World, peers_of, world}
 use Rattle.lcm_events.specs.declared.events.Event.{Event}
 use Rattle.onboarding.specs.Onboarding.{onboarding_work}
 use Rattle.site_traits.specs.Site.{SiteState}

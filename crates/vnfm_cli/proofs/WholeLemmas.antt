@@ -3,8 +3,9 @@ use Rattle.std.proofs.Common.{◌≡◌, ◌∙◌, ℕ, List, [], ◌++◌, ◌
 use Rattle.std.specs.Prelude.{is_some}
 use Rattle.std.specs.Result.{is_err}
 use Rattle.lcm_api.specs.Failing.{counts_by}
-use Rattle.lcm_api.specs.Session.{Ending as Closing, Last, over, unheard, untold, starving, breaking, counts_behind, has_reply, is_cut, is_lost, life, once_answered, replies, reply_last, said}
-use Rattle.lcm_api.specs.Talking.{IsSaid, SaysLast, Tells}
+use Rattle.lcm_sessions.specs.Session.{Ending as Closing, Last, over, unheard, untold, starving, breaking, counts_behind, has_reply, is_cut, is_lost, life, once_answered, replies, reply_last, said}
+use Rattle.lcm_api.specs.World.{Tells}
+use Rattle.lcm_sessions.specs.Talking.{IsSaid, SaysLast}
 use Rattle.lcm_api.specs.declared.door.DoorFailed.{DoorFailed}
 use Rattle.lcm_api.specs.declared.reply.Reply.{Reply}
 use Rattle.lcm_events.specs.declared.events.Event.{Event}

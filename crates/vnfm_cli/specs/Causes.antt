@@ -2,7 +2,7 @@
 use Rattle.std.specs.Prelude.{◌≡◌, ◌⊎◌, ◌↔◌, ℕ, List, None}
 use Rattle.executor.specs.Open.{IsBadRecord}
 use Rattle.journal_core.specs.Header.{IsUnfinished}
-use Rattle.lcm_api.specs.Talking.{World}
+use Rattle.lcm_api.specs.World.{World}
 use Rattle.site_traits.specs.Counts.{CallCounts, Rose, one_more}
 use Rattle.site_traits.specs.Door.{DoorCounts}
 use Rattle.vnfm_cli.specs.Ending.{IsStatus}

@@ -7,7 +7,7 @@ use Rattle.executor.specs.declared.manager.OpenFault.{OpenFault}
 use Rattle.executor.specs.declared.manager.OpenFault.TheVariants as opening
 use Rattle.journal_core.specs.declared.create.CreateFault.{CreateFault}
 use Rattle.journal_core.specs.declared.create.CreateFault.TheVariants as creating
-use Rattle.lcm_api.specs.Session.{Talk, life, work_of}
+use Rattle.lcm_sessions.specs.Session.{Talk, life, work_of}
 use Rattle.lcm_events.specs.declared.events.Event.{Event}
 use Rattle.lcm_events.specs.declared.states.Role.{Role}
 use Rattle.occ_work.specs.Deeds.{Deed as Act}

@@ -1,6 +1,6 @@
 -- Which calls of the door failed in a run, and how they are counted.
 use Rattle.std.specs.Prelude.{◌≡◌, ℕ, Bool, List, [], ◌∷◌, ◌++◌, Option, Some, None, if◌then◌else◌}
-use Rattle.lcm_api.specs.Session.{Ending as Closing, is_cut, is_lost}
+use Rattle.lcm_sessions.specs.Session.{Ending as Closing, is_cut, is_lost}
 use Rattle.onboarding.specs.Onboarding.{unheard, cut_off}
 use Rattle.site_traits.specs.Counts.{one_more}
 use Rattle.site_traits.specs.Door.{DoorCounts}

@@ -4,8 +4,8 @@ use Rattle.executor.specs.Work.{Extends}
 use Rattle.journal_core.specs.Create.{IsMade}
 use Rattle.lcm_api.specs.Mouth.{MouthState}
 use Rattle.lcm_api.specs.Response.{text}
-use Rattle.lcm_api.specs.Session.{Ending as Closing, Talk, life, once_answered, replies, reply_last, said}
-use Rattle.lcm_api.specs.Talking.{Tells, Peers, world}
+use Rattle.lcm_sessions.specs.Session.{Ending as Closing, Talk, life, once_answered, replies, reply_last, said}
+use Rattle.lcm_api.specs.World.{Tells, Peers, world}
 use Rattle.lcm_api.specs.declared.reply.Reply.{Reply}
 use Rattle.lcm_events.specs.declared.events.Event.{Event}
 use Rattle.lcm_events.specs.declared.states.Role.{Role}

@@ -3,8 +3,9 @@ use Rattle.std.specs.Prelude.{◌≡◌, ℕ, true, false, List, [], ◌∷◌, 
 use Rattle.executor.specs.Managed.{Managed}
 use Rattle.executor.specs.Work.{Work, Works, WorksWithJobs, went}
 use Rattle.lcm_api.specs.Mouth.{MouthState, Begins}
-use Rattle.lcm_api.specs.Session.{Talk, breaks, life}
-use Rattle.lcm_api.specs.Talking.{Tells, Peers, World, peers_of, Attends}
+use Rattle.lcm_sessions.specs.Session.{Talk, breaks, life}
+use Rattle.lcm_api.specs.World.{Tells, Peers, World, peers_of}
+use Rattle.lcm_sessions.specs.Talking.{Attends}
 use Rattle.lcm_api.specs.Waiting.{IsNobody, IsUnreached}
 use Rattle.lcm_events.specs.declared.events.Event.{Event}
 use Rattle.lcm_events.specs.declared.states.Role.{Role}

@@ -8,7 +8,7 @@ use Rattle.executor.specs.declared.manager.OpenFault.{OpenFault}
 use Rattle.journal_core.specs.Create.{Creates}
 use Rattle.journal_core.specs.Header.{IsUnmade, IsForeign}
 use Rattle.journal_core.specs.Load.{SyncsAndReads}
-use Rattle.lcm_api.specs.Talking.{Tells, Peers, World, peers_of}
+use Rattle.lcm_api.specs.World.{Tells, Peers, World, peers_of}
 use Rattle.lcm_events.specs.declared.events.Event.{Event}
 use Rattle.lcm_jobs.specs.Sound.{IsSound}
 use Rattle.lcm_model.specs.Allowed.{IsLegal}

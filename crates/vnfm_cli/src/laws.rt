@@ -1,5 +1,5 @@
 //! What holds of every run, as contracts of calls that do nothing.
-ghost use Rattle.lcm_api.specs.Talking.{telling};
+ghost use Rattle.lcm_api.specs.World.{telling};
 ghost use Rattle.vnfm_cli.specs.Headline.{SoundJobsMakeSoundPairs};
 ghost use Rattle.vnfm_cli.specs.Laws.{AnswersAreWhole, DiskFaultsAreTold, DoorFaultsAreCounted, InitMakes, LivesGoOn, MadeJournalsBeginSoundly, OneLineIsPut};
 

@@ -1,7 +1,7 @@
 //! Rounds: in each the door is asked for a connection, which is served; then the clock is read, and a turn is made.
 ghost use Rattle.std.specs.Prelude.{◌≡◌, ◌≢◌, ℕ, List, Some, length, option_map};
 ghost use Rattle.executor.specs.Managed.{IsReady};
-ghost use Rattle.lcm_api.specs.Talking.{telling, world};
+ghost use Rattle.lcm_api.specs.World.{telling, world};
 ghost use Rattle.lcm_events.specs.declared.events.Event.{Event};
 ghost use Rattle.occ_work.specs.Around.{DiskFails, outside, telling as asking};
 ghost use Rattle.occ_work.specs.Turns.{TurnEnd, Turns};
@@ -12,8 +12,9 @@ ghost use Rattle.vnfm_cli.specs.Rounds.{IsMet, IsOne, Makes, MakesOne, Meets, Me
 
 use crate::ending::{Ending, Failure, Report};
 use executor::{Manager, WorkFault, works_add_up, works_with_jobs_add_up};
-use lcm_api::{Closed, Mouth, answer_session};
+use lcm_api::Mouth;
 use lcm_events::Role;
+use lcm_sessions::{Closed, answer_session};
 use occ_work::turn;
 use site_traits::{Clock, Door, NextAnswer, Orchestrator, Site};
 use std::alloc::Global;

@@ -6,7 +6,7 @@ ghost use Rattle.lcm_events.specs.declared.events.Event.{Event};
 ghost use Rattle.occ_work.specs.Around.{CountJobsAlike, DiskFails, telling as asking};
 ghost use Rattle.site_traits.specs.Counts.{OnlyDiskFails, Rose};
 ghost use Rattle.site_traits.specs.Site.{KeepsJobs, LeavesOnly};
-ghost use Rattle.lcm_api.specs.Talking.{telling, world};
+ghost use Rattle.lcm_api.specs.World.{telling, world};
 ghost use Rattle.executor.specs.Managed.{IsReady};
 ghost use Rattle.vnfm_cli.specs.Course.{Course, Deed, IsDeedOf, IsOf, deed_ending, ending_of, making_ending};
 ghost use Rattle.vnfm_cli.specs.Ending.{Ends};

@@ -3,7 +3,7 @@ use Rattle.std.specs.Prelude.{◌≡◌, ◌⊎◌, ◌<◌, ℕ, List, Bool, tr
 use Rattle.std.specs.declared.alloc.AllocError.{AllocError}
 use Rattle.host_calls.specs.Files.{FilesState, Hold}
 use Rattle.lcm_api.specs.Mouth.{MouthState}
-use Rattle.lcm_api.specs.Talking.{Tells as WorldTells, World, telling, world}
+use Rattle.lcm_api.specs.World.{Tells as WorldTells, World, telling, world}
 use Rattle.outside_edges.specs.Site.{IsExplained, IsHeld, counts_of, state_in}
 use Rattle.outside_edges.specs.declared.real_site.FolderSync.{FolderSync}
 use Rattle.outside_edges.specs.declared.real_site.FolderSync.TheVariants.{Always, WhereMade}

@@ -1,7 +1,7 @@
 //! The program's one call.
 ghost use Rattle.std.specs.Prelude.{◌≡◌, ◌⊎◌, IfErr, IfSome, None, Some};
 ghost use Rattle.std.specs.IoError.{error_kind};
-ghost use Rattle.lcm_api.specs.Talking.{telling, world};
+ghost use Rattle.lcm_api.specs.World.{telling, world};
 ghost use Rattle.outside_edges.specs.Site.{counts_of, state_in};
 ghost use Rattle.program_words.specs.Pages.{page_of};
 ghost use Rattle.program_words.specs.Reasons.{reason_of};

@@ -3,8 +3,9 @@
 use crate::session::words::Request;
 use anyhow::{Result, bail};
 use executor::Manager;
-use lcm_api::{Mouth, answer_session};
+use lcm_api::Mouth;
 use lcm_events::Role;
+use lcm_sessions::answer_session;
 use site_traits::{DoorPlan, MemDoor, MemSite, NextAnswer, SetClock};
 use std::alloc::{AllocError, AllocGlobal, Global};
 use std::time::{CpuClock, Duration};

@@ -1,9 +1,9 @@
 -- The act is that of the next step.
 use Rattle.std.proofs.Common.{Some, ap, ◌∙◌}
-use Rattle.occ_work.specs.Steps.{action_of}
-use Rattle.occ_work.specs.declared.steps.Step.{Step}
+use Rattle.occ_steps.specs.Steps.{action_of}
+use Rattle.occ_steps.specs.declared.steps.Step.{Step}
 use Rattle.occ_work.proofs.ActLemmas.{attempting_act, disk_of, moving_act}
-use Rattle.occ_work.proofs.StepLemmas.{begins_own, begins_there}
+use Rattle.occ_steps.proofs.StepLemmas.{begins_own, begins_there}
 use Rattle.occ_work.proofs.acts.act.Goals as goal
 
 pub move_to-requires : goal.move_to-requires

@@ -1,6 +1,6 @@
 -- The location is that of the row.
 use Rattle.std.proofs.Common.{◌∙◌}
-use Rattle.occ_work.proofs.StepLemmas.{location_of_row, polled_row}
+use Rattle.occ_steps.proofs.StepLemmas.{location_of_row, polled_row}
 use Rattle.occ_work.proofs.steps.location_of.Goals as goal
 
 pub unreachable-requires : goal.unreachable-requires

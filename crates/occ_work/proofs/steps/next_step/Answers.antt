@@ -1,6 +1,6 @@
 -- The next action is that of the row, whose numbers fit a tag.
 use Rattle.std.proofs.Common.{Some, ap, sym, ◌∙◌}
-use Rattle.occ_work.proofs.StepLemmas.{next_of_row, row_fits}
+use Rattle.occ_steps.proofs.StepLemmas.{next_of_row, row_fits}
 use Rattle.occ_work.proofs.steps.next_step.Goals as goal
 
 pub step_by-requires : goal.step_by-requires

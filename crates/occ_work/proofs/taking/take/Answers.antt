@@ -2,7 +2,7 @@
 use Rattle.std.proofs.Common.{Err, ap, ◌∙◌}
 use Rattle.std.proofs.lemmas.Result.{err_from_is_err_and}
 use Rattle.lcm_model.specs.Operations.{changes}
-use Rattle.occ_work.specs.Steps.{listed}
+use Rattle.occ_work.specs.Exchanges.{listed}
 use Rattle.occ_work.proofs.TakingLemmas.{ended_as, ends_recorded, ends_waiting, few_kinds, kinds_by_row, may_take_event, records_as, records_none, records_starved}
 use Rattle.occ_work.proofs.taking.take.Goals as goal
 

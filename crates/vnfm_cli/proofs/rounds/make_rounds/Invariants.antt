@@ -1,6 +1,6 @@
 -- The rounds so far were made, and no disk call failed.
 use Rattle.std.proofs.Common.{◌-◌, ◌≡◌, ◌≤◌}
-use Rattle.lcm_api.specs.Talking.{telling, world}
+use Rattle.lcm_api.specs.World.{telling, world}
 use Rattle.occ_work.specs.Around.{DiskFails}
 use Rattle.vnfm_cli.specs.Rounds.{beside}
 use Rattle.vnfm_cli.proofs.RoundLemmas.{RoundsSoFar}

@@ -1,6 +1,6 @@
 -- A connection came and was served, or none came, or waiting failed.
 use Rattle.std.proofs.Common.{inl, inr, refl}
-use Rattle.lcm_api.specs.Talking.{World, world}
+use Rattle.lcm_api.specs.World.{World, world}
 use Rattle.site_traits.specs.Counts.{fails_as}
 use Rattle.site_traits.specs.declared.door.NextAnswer.TheVariants.{Nobody, Ended}
 use Rattle.vnfm_cli.specs.Course.{served, stopped, unasked, unreached}

@@ -1,0 +1,85 @@
+//! Answering one request: its reply, and at most one event, which is on the disk before the reply is given.
+ghost use Rattle.std.specs.Prelude.{◌≡◌, List, IfOk};
+ghost use Rattle.executor.specs.Managed.{IsReady, Keeps};
+ghost use Rattle.executor.specs.Work.{Works};
+ghost use Rattle.lcm_api.specs.Answering.{answered};
+ghost use Rattle.lcm_api.specs.Outcome.{outcome};
+ghost use Rattle.lcm_events.specs.declared.events.Event.{Event};
+ghost use Rattle.site_traits.specs.Counts.{OnlyDiskFails};
+
+use crate::create::create;
+use crate::instantiate::instantiate;
+use crate::reply::{Reply, refusal};
+use crate::route::{Route, Routing, not_allowed, route_of};
+use crate::{instances, occurrences, tasks};
+use executor::{Manager, works_add_up};
+use http_wire::Request;
+use lcm_events::Role;
+use lcm_routes::Routes;
+use site_traits::Site;
+use std::alloc::{AllocError, Global};
+use thiserror::Error;
+use vnfm_base::Moment;
+
+/// Why a request wasn't answered.
+#[derive(Debug, Drop, Error)]
+pub enum ApiFault {
+    /// A disk call failed: 500 is told. Whether the event is kept is known once the journal is loaded again.
+    #[error("journal fault")]
+    Disk,
+    /// There is no memory: 503 is told. Nothing has changed.
+    #[error("no memory")]
+    Memory,
+}
+
+/// Answers a request of this role, taken at this moment.
+///
+/// Refusals of the request are replies. Refusals of the call: `Memory`, after which nothing has changed; `Disk`, after which
+/// the manager is closed.
+/// Source: SOL 003 5.4 (Resources of the VNF Lifecycle Management interface).
+pub fn answer<S: Site>(
+    alloc: Global,
+    manager: &mut Manager<S>,
+    site: &mut S,
+    routes: &Routes,
+    role: Role,
+    request: &Request,
+    now: Moment,
+) -> Result<Reply, ApiFault>
+    requires ready { (H : List Event) × IsReady S.tells manager.old H (S.state site.old) }
+    ensures reply { (H : List Event) → Keeps manager.old H → IfOk result (λ given. given ≡ (outcome manager.old.ledger.manager H now role request.now).reply) }
+    ensures works { (H : List Event) → IsReady S.tells manager.old H (S.state site.old) → Works S.tells manager.old.ledger.manager H
+        (answered (outcome manager.old.ledger.manager H now role request.now) H result) manager.new (S.state site.old) (S.state site.new) }
+    ensures counts { OnlyDiskFails (result ≡ Err ApiFault.Disk) (S.counts site.old) (S.counts site.new) }
+{
+    works_add_up::<S>();
+    match route_of(routes, request) {
+        Routing::Nowhere => Ok(refusal(alloc, 404, "no such resource", request.last)?),
+        Routing::NotAllowed(resource) => Ok(not_allowed(alloc, resource, request.last)?),
+        Routing::Served(Route::ListInstances) => Ok(instances::list(alloc, manager, request)?),
+        Routing::Served(Route::CreateInstance) => create(alloc, manager, site, request, now),
+        Routing::Served(Route::ShowInstance) => Ok(instances::show(alloc, manager, request)?),
+        Routing::Served(Route::DeleteInstance) => {
+            instances::delete(alloc, manager, site, request, now)
+        }
+        Routing::Served(Route::Instantiate) => {
+            instantiate(alloc, manager, site, role, request, now)
+        }
+        Routing::Served(Route::InstanceTask) => Ok(instances::task(alloc, manager, request)?),
+        Routing::Served(Route::ListOccurrences) => Ok(occurrences::list(alloc, manager, request)?),
+        Routing::Served(Route::ShowOccurrence) => Ok(occurrences::show(alloc, manager, request)?),
+        Routing::Served(Route::OccurrenceTask(task)) => {
+            tasks::task(alloc, manager, site, task, request, now)
+        }
+    }
+}
+
+impl From<AllocError> for ApiFault {
+    ghost use Rattle.lcm_api.specs.declared.answering.ApiFault.TheVariants.{Memory};
+
+    ghost from_gives = { λ _ fault. fault ≡ Memory };
+
+    fn from(_: AllocError) -> ApiFault {
+        ApiFault::Memory
+    }
+}

@@ -1,0 +1,2 @@
+mod StepsLemmas
+pub mod TalkLemmas

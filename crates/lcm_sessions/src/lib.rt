@@ -1,0 +1,6 @@
+//! Sessions: the requests of one connection, answered one after the other.
+#![tactic(auto)]
+
+mod session;
+
+pub use session::{Closed, answer_session};

@@ -1,0 +1,2 @@
+pub mod ActiveLemmas
+pub mod StepLemmas
