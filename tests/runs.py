@@ -13,6 +13,7 @@ import json
 import sys
 
 import cases
+import runs_edges
 from cases import latin, name, u8, u16, u32, u64
 
 NOW = 1_700_000_000_000
@@ -2103,34 +2104,10 @@ for n in range(5):
     )
 
 
-# ---- The words of a command line, and the program that is started with them
+# ---- The words of a command line
 
-USAGE = "usage: vnfm init|onboard|once|serve|check|trial\n"
 WORDS_END = "; vnfm --help says more\n"
 ONCE = ["once", "--journal", "j"]
-
-
-def starts(words, status, printed, errors, made, word="start"):
-    return [word, words, status, printed, errors, made]
-
-
-run("a page opens nothing", starts(["--version"], 0, "vnfm 0.1.0\n", "", 0))
-run(
-    "init makes its file and says so",
-    starts(["init", "--journal", "j", "--manager", "7"], 0, "journal made for manager 7\n", "", 1),
-)
-run(
-    "a surplus word opens nothing",
-    starts(["init", "--journal", "j", "--manager", "7", "8"], 2, USAGE, "vnfm: \"8\" isn't understood" + WORDS_END, 0),
-)
-run(
-    "once is told on standard error",
-    starts(ONCE, 5, "", "no journal\nvnfm: \"j\": it is not a journal that init has finished\n", 1),
-)
-run(
-    "no room for a mouth is want of memory",
-    starts(ONCE, 6, "", "no memory\nvnfm: there was no memory\n", 0, "start without a mouth"),
-)
 
 
 def explained(words, status, line, lost="", undelivered=False):
@@ -2449,6 +2426,7 @@ for number in range(1, 13):
 
 def main():
     texts = ["the texts of all runs", *TEXTS]
+    RUNS.extend(runs_edges.RUNS)
     # (with a title behind it, the run of that title alone, and of the texts those that it names)
     if sys.argv[1:]:
         found = [it for it in RUNS if it[0] == sys.argv[1]]

@@ -21,8 +21,8 @@ use std::alloc::Global;
 /// Plays an act on the words of a command line, or on the program that is started with them.
 fn spells(stage: &Stage, alloc: Global, act: &[Value]) -> Result<bool, CaseFault> {
     match word(act, 0)? {
-        "start" => stage.starts(alloc, act),
-        "start without a mouth" => stage.starts_without_a_mouth(alloc, act),
+        "start" => stage.starts(alloc, act, true),
+        "start without a mouth" => stage.starts(alloc, act, false),
         "set" => stage.is_set(alloc, act),
         "line" => stage.is_explained(alloc, act),
         "page" => stage.is_page(alloc, act),

@@ -1,20 +1,52 @@
-//! Acts that start the program over objects in memory: its status, what it prints, and whether it makes a file.
+//! Acts that start the program over a file and streams in memory, of whose calls some go wrong: its status, what it prints and tells, and the file
+//! that it leaves.
 ghost use Rattle.std.specs.Prelude.{◌≡◌, ◌≤◌, ◌+◌, length, true};
 
 use crate::stage::Stage;
-use case_words::{CaseFault, list, number, word};
-use host_calls::{HostFile, HostFiles, InStream, OutStream};
+use case_words::{CaseFault, count, entries, list, number, word};
+use host_calls::{HostFile, HostFiles, InStream, OutStream, TimeOfDay};
 use lcm_api::Mouth;
 use lcm_events::Role;
-use outside_edges::{RealDoor, RealSite};
+use outside_edges::{RealClock, RealDoor, RealSink, RealSite};
 use serde_json::Value;
-use site_traits::{MemSink, SetClock};
+use site_traits::Site;
 use standard_streams::{HeldStreams, NullDevice};
 use std::alloc::{AllocError, Global};
 use std::io;
 use std::io::ErrorKind;
-use vnfm_base::Bytes;
+use std::time::Duration;
 use vnfm_program::start;
+
+/// Which calls go wrong, and how many bytes a stream handles at once. Each object has its own, and counts its own calls.
+#[derive(Clone, Copy)]
+struct Wrong<'a> {
+    /// The most bytes that a call on a stream takes or gives. A read gives one at least, where there is one.
+    piece: usize,
+    /// The name of the calls that go wrong.
+    call: &'a str,
+    /// The first of these that does, from 1.
+    first: u64,
+    /// The last of these that does.
+    last: u64,
+    /// How they fail.
+    kind: ErrorKind,
+    /// How many calls of this name were made.
+    calls: u64,
+}
+
+impl Wrong<'_> {
+    /// Fails where a call of this name goes wrong now.
+    fn pass(&mut self, call: &str) -> io::Result<()> {
+        if call != self.call {
+            return Ok(());
+        }
+        self.calls = self.calls.saturating_add(1);
+        if self.first <= self.calls && self.calls <= self.last {
+            return Err(io::Error::from(self.kind));
+        }
+        Ok(())
+    }
+}
 
 /// What holds a number.
 #[derive(Drop)]
@@ -38,11 +70,12 @@ impl NullDevice for Null {
 
 /// A file in memory.
 #[derive(Drop)]
-struct MemFile {
+struct MemFile<'a> {
     bytes: Vec<u8>,
+    wrong: Wrong<'a>,
 }
 
-impl HostFile for MemFile {
+impl HostFile for MemFile<'_> {
     ghost use Rattle.site_traits.specs.Site.{untold};
     ghost use Rattle.host_calls.specs.Files.{free};
 
@@ -55,14 +88,17 @@ impl HostFile for MemFile {
     ghost calls = { λ _. 0 };
 
     fn is_regular(&mut self) -> io::Result<bool> {
-        Ok(true)
+        self.wrong.pass("kind")?;
+        Ok(self.wrong.pass("regular").is_ok())
     }
 
     fn length(&mut self) -> io::Result<u64> {
+        self.wrong.pass("length")?;
         Ok(self.bytes.len() as u64)
     }
 
     fn read_exact_at(&mut self, into: &mut [u8], at: u64) -> io::Result<()> {
+        self.wrong.pass("read")?;
         let place = place_of(at);
         if !has(&self.bytes, place, into.len()) {
             return Err(io::Error::from(ErrorKind::UnexpectedEof));
@@ -72,6 +108,7 @@ impl HostFile for MemFile {
     }
 
     fn write_all_at(&mut self, bytes: &[u8], at: u64) -> io::Result<()> {
+        self.wrong.pass("write")?;
         let place = place_of(at);
         if has(&self.bytes, place, bytes.len()) {
             self.bytes[place..place + bytes.len()].copy_from_slice(bytes);
@@ -88,15 +125,15 @@ impl HostFile for MemFile {
     }
 
     fn sync_data(&mut self) -> io::Result<()> {
-        Ok(())
+        self.wrong.pass("sync")
     }
 
     fn try_lock(&mut self) -> io::Result<()> {
-        Ok(())
+        self.wrong.pass("lock")
     }
 
     fn forget_pages(&mut self) -> io::Result<()> {
-        Ok(())
+        self.wrong.pass("pages")
     }
 }
 
@@ -112,90 +149,190 @@ fn place_of(at: u64) -> usize {
     usize::try_from(at).unwrap_or(usize::MAX)
 }
 
-/// A place where no file is, and where each can be made.
+/// A folder with this file or with none, whatever its path, and where one can be made.
 #[derive(Drop)]
-struct MemFiles {
+struct MemFiles<'a> {
     alloc: Global,
+    file: Option<&'a [u8]>,
+    wrong: Wrong<'a>,
     made: u64,
 }
 
-impl HostFiles for MemFiles {
+impl<'a> HostFiles for MemFiles<'a> {
     ghost use Rattle.host_calls.specs.Files.{nothing};
 
-    type File = MemFile;
+    type File = MemFile<'a>;
 
     ghost tells = { ⊥ };
 
     ghost state = { λ _. nothing };
 
-    fn open<T: Drop>(&mut self, _streams: &HeldStreams<T>, _path: &str) -> io::Result<MemFile> {
-        Err(io::Error::from(ErrorKind::NotFound))
+    fn open<T: Drop>(&mut self, _streams: &HeldStreams<T>, _path: &str) -> io::Result<MemFile<'a>> {
+        self.wrong.pass("open")?;
+        let Some(file) = self.file else {
+            return Err(io::Error::from(ErrorKind::NotFound));
+        };
+        Ok(MemFile {
+            bytes: file.to_vec(self.alloc)?,
+            wrong: self.wrong,
+        })
     }
 
     fn create_new<T: Drop>(
         &mut self,
         _streams: &HeldStreams<T>,
         _path: &str,
-    ) -> io::Result<MemFile> {
+    ) -> io::Result<MemFile<'a>> {
+        self.wrong.pass("create")?;
         self.made = self.made.saturating_add(1);
         Ok(MemFile {
             bytes: Vec::new(self.alloc),
+            wrong: self.wrong,
         })
     }
 
     fn sync_folder<T: Drop>(&mut self, _streams: &HeldStreams<T>, _path: &str) -> io::Result<()> {
-        Ok(())
+        self.wrong.pass("folder")
     }
 }
 
-/// A stream in which nothing comes in.
+/// A stream that these bytes come in.
 #[derive(Drop)]
-struct NoInput;
+struct Coming<'a> {
+    left: &'a [u8],
+    wrong: Wrong<'a>,
+}
 
-impl InStream for NoInput {
+impl InStream for Coming<'_> {
     ghost use Rattle.host_calls.specs.Streams.{nothing};
 
     ghost tells = { ⊥ };
 
     ghost state = { λ _. nothing };
 
-    fn read(&mut self, _into: &mut [u8]) -> io::Result<usize> {
-        Ok(0)
+    fn read(&mut self, into: &mut [u8]) -> io::Result<usize> {
+        self.wrong.pass("receive")?;
+        let left = self.left;
+        let count = self.wrong.piece.max(1).min(left.len().min(into.len()));
+        into[..count].copy_from_slice(&left[..count]);
+        self.left = &left[count..];
+        Ok(count)
     }
 }
 
-/// A stream to which nothing can be written.
+/// A stream to which bytes are written by calls of this name.
 #[derive(Drop)]
-struct NoOutput;
+struct Going<'a> {
+    name: &'a str,
+    out: &'a mut Vec<u8>,
+    wrong: Wrong<'a>,
+}
 
-impl OutStream for NoOutput {
+impl OutStream for Going<'_> {
     ghost use Rattle.std.specs.Prelude.{[]};
 
     ghost tells = { ⊥ };
 
     ghost state = { λ _. [] };
 
-    fn write(&mut self, _bytes: &[u8]) -> io::Result<usize> {
-        Err(io::Error::from(ErrorKind::BrokenPipe))
+    fn write(&mut self, bytes: &[u8]) -> io::Result<usize> {
+        self.wrong.pass(self.name)?;
+        let count = self.wrong.piece.min(bytes.len());
+        self.out.extend_from_slice(&bytes[..count])?;
+        Ok(count)
     }
 
-    fn write_all(&mut self, _bytes: &[u8]) -> io::Result<()> {
-        Err(io::Error::from(ErrorKind::BrokenPipe))
+    fn write_all(&mut self, bytes: &[u8]) -> io::Result<()> {
+        let answer = self.wrong.pass(self.name);
+        let most = if answer.is_ok() {
+            bytes.len()
+        } else {
+            self.wrong.piece
+        };
+        let count = most.min(bytes.len());
+        self.out.extend_from_slice(&bytes[..count])?;
+        answer
     }
+}
+
+/// A time of day, 999,999 ns past a whole millisecond.
+#[derive(Drop)]
+struct Day;
+
+impl TimeOfDay for Day {
+    ghost use Rattle.std.specs.Prelude.{None};
+
+    ghost tells = { ⊥ };
+
+    ghost reading = { λ _. None };
+
+    fn since_1970(&mut self) -> Option<Duration> {
+        Some(Duration::new(1_700_000_000, 999_999))
+    }
+}
+
+/// What the program is started over.
+#[derive(Clone, Copy)]
+struct Before<'a> {
+    /// The file that stands at the path, where one does.
+    file: Option<&'a [u8]>,
+    /// What comes in.
+    input: &'a [u8],
+    /// The calls that go wrong.
+    wrong: Wrong<'a>,
+    /// Whether there is memory for the mouth.
+    has_mouth: bool,
 }
 
 /// What came of a run.
-#[derive(Drop)]
 struct Seen {
+    /// The program's status.
     status: u8,
-    lines: Bytes,
-    errors: Bytes,
+    /// How many files were made.
     made: u64,
+    /// Standard output, of the connection.
+    told: Vec<u8>,
+    /// Standard output, of lines.
+    lines: Vec<u8>,
+    /// Standard error.
+    errors: Vec<u8>,
+    /// The file's bytes, where it was had.
+    left: Option<Vec<u8>>,
 }
 
-/// A mouth over the streams.
-fn mouth_at(alloc: Global) -> Result<Mouth<RealDoor<NoInput, NoOutput>>, AllocError> {
-    Mouth::new(alloc, RealDoor::made(NoInput, NoOutput, Role::Orchestrator))
+impl Drop for Seen {
+    // Written out, so that the proof of a caller calls it and doesn't take the value apart at each of its ends.
+    fn drop(self) {
+        let Seen {
+            status: _,
+            made: _,
+            told: _,
+            lines: _,
+            errors: _,
+            left: _,
+        } = self;
+    }
+}
+
+/// A mouth over the streams, which puts what it tells here.
+fn mouth_at<'a>(
+    alloc: Global,
+    before: Before<'a>,
+    told: &'a mut Vec<u8>,
+) -> Result<Mouth<RealDoor<Coming<'a>, Going<'a>>>, AllocError> {
+    if !before.has_mouth {
+        return Err(AllocError);
+    }
+    let input = Coming {
+        left: before.input,
+        wrong: before.wrong,
+    };
+    let output = Going {
+        name: "send",
+        out: told,
+        wrong: before.wrong,
+    };
+    Mouth::new(alloc, RealDoor::made(input, output, Role::Orchestrator))
 }
 
 /// The program's name, and the words behind it.
@@ -211,63 +348,176 @@ fn arguments_of(alloc: Global, words: &[Value]) -> Result<Vec<String>, CaseFault
     Ok(all)
 }
 
-/// What comes of these arguments over this mouth.
-fn seen_at(
-    alloc: Global,
-    arguments: Vec<String>,
-    mut mouth: Result<Mouth<RealDoor<NoInput, NoOutput>>, AllocError>,
-) -> Result<Seen, AllocError> {
-    let mut files = MemFiles { alloc, made: 0 };
-    let mut clock = SetClock::new(alloc, Vec::new(alloc))?;
-    let mut lines = MemSink::new(alloc, None)?;
-    let mut errors = MemSink::new(alloc, None)?;
-    let status = start(
+/// The bytes of this site's file, where it was had.
+fn content<S: Site>(alloc: Global, site: &mut S) -> Option<Vec<u8>> {
+    let Ok(length) = site.length() else {
+        return None;
+    };
+    let mut bytes = Vec::new(alloc);
+    let Ok(()) = bytes.resize(length as usize, 0) else {
+        return None;
+    };
+    match site.read_at(0, &mut bytes) {
+        Ok(()) => Some(bytes),
+        Err(_) => None,
+    }
+}
+
+/// Starts the program with these arguments over this.
+fn play(alloc: Global, arguments: Vec<String>, before: Before<'_>, seen: &mut Seen) {
+    let wrong = before.wrong;
+    let mut files = MemFiles {
+        alloc,
+        file: before.file,
+        wrong,
+        made: 0,
+    };
+    let mut site = RealSite::made();
+    let mut mouth = mouth_at(alloc, before, &mut seen.told);
+    let mut lines = RealSink::made(Going {
+        name: "print",
+        out: &mut seen.lines,
+        wrong,
+    });
+    let mut errors = RealSink::made(Going {
+        name: "tell",
+        out: &mut seen.errors,
+        wrong,
+    });
+    seen.status = start(
         alloc,
         Ok(arguments.into_iter()),
         &mut Null,
         &mut files,
-        &mut RealSite::made(),
+        &mut site,
         &mut mouth,
-        &mut clock,
+        &mut RealClock::made(Day),
         &mut lines,
         &mut errors,
     );
-    Ok(Seen {
-        status,
-        lines: Bytes::of(alloc, lines.bytes())?,
-        errors: Bytes::of(alloc, errors.bytes())?,
-        made: files.made,
+    seen.made = files.made;
+    seen.left = content(alloc, &mut site);
+}
+
+/// What comes of these arguments over this.
+fn seen_of(alloc: Global, arguments: Vec<String>, before: Before<'_>) -> Seen {
+    let mut seen = Seen {
+        status: 0,
+        made: 0,
+        told: Vec::new(alloc),
+        lines: Vec::new(alloc),
+        errors: Vec::new(alloc),
+        left: None,
+    };
+    play(alloc, arguments, before, &mut seen);
+    seen
+}
+
+/// The kind of fault of this name.
+fn kind_of(name: &str) -> Result<ErrorKind, CaseFault> {
+    match name {
+        "NotFound" => Ok(ErrorKind::NotFound),
+        "NotADirectory" => Ok(ErrorKind::NotADirectory),
+        "IsADirectory" => Ok(ErrorKind::IsADirectory),
+        "PermissionDenied" => Ok(ErrorKind::PermissionDenied),
+        "ReadOnlyFilesystem" => Ok(ErrorKind::ReadOnlyFilesystem),
+        "WouldBlock" => Ok(ErrorKind::WouldBlock),
+        "OutOfMemory" => Ok(ErrorKind::OutOfMemory),
+        "Interrupted" => Ok(ErrorKind::Interrupted),
+        "Other" => Ok(ErrorKind::Other),
+        _ => Err(CaseFault::Spelling),
+    }
+}
+
+/// What goes wrong by a plan: the pieces, the name of the calls, the first and the last of them, and their fault.
+fn wrong_of(plan: &Value) -> Result<Wrong<'_>, CaseFault> {
+    let Some(wrong) = plan.get("wrong") else {
+        return Ok(Wrong {
+            piece: usize::MAX,
+            call: "",
+            first: 0,
+            last: 0,
+            kind: ErrorKind::Other,
+            calls: 0,
+        });
+    };
+    let wrong = entries(wrong)?;
+    Ok(Wrong {
+        piece: count(wrong, 0)?,
+        call: word(wrong, 1)?,
+        first: number(wrong, 2)?,
+        last: number(wrong, 3)?,
+        kind: kind_of(word(wrong, 4)?)?,
+        calls: 0,
     })
 }
 
 /// Whether an act has this behind its words.
-fn is_seen(seen: &Seen, act: &[Value]) -> Result<bool, CaseFault> {
+fn is_said(seen: &Seen, act: &[Value]) -> Result<bool, CaseFault> {
     let status = number(act, 2)? == u64::from(seen.status);
     let lines = word(act, 3)?.as_bytes() == seen.lines.as_slice();
     let errors = word(act, 4)?.as_bytes() == seen.errors.as_slice();
     Ok(status && lines && errors && number(act, 5)? == seen.made)
 }
 
-/// Whether the program with the words of this act, over this mouth, comes to what it has behind them.
-fn comes_out(
-    alloc: Global,
-    act: &[Value],
-    mouth: Result<Mouth<RealDoor<NoInput, NoOutput>>, AllocError>,
-) -> Result<bool, CaseFault> {
-    let arguments = arguments_of(alloc, list(act, 1)?)?;
-    let seen = seen_at(alloc, arguments, mouth)?;
-    is_seen(&seen, act)
-}
-
 impl Stage {
-    /// `["start", WORDS, STATUS, PRINTED, ERRORS, MADE]`: the program with these words ends with this status, prints this to standard output and that
-    /// to standard error, and makes so many files.
-    pub fn starts(&self, alloc: Global, act: &[Value]) -> Result<bool, CaseFault> {
-        comes_out(alloc, act, mouth_at(alloc))
+    /// The text that a plan has under this name, where it has one.
+    fn planned(
+        &self,
+        alloc: Global,
+        plan: &Value,
+        name: &str,
+    ) -> Result<Option<Vec<u8>>, CaseFault> {
+        match plan.get(name) {
+            Some(text) => Ok(Some(self.names.text(alloc, text)?)),
+            None => Ok(None),
+        }
     }
 
-    /// `["start without a mouth", WORDS, STATUS, PRINTED, ERRORS, MADE]`: the same, where there was no memory for the mouth.
-    pub fn starts_without_a_mouth(&self, alloc: Global, act: &[Value]) -> Result<bool, CaseFault> {
-        comes_out(alloc, act, Err(AllocError))
+    /// Whether a plan has this as what is told and left.
+    fn is_planned(&self, alloc: Global, seen: &Seen, plan: &Value) -> Result<bool, CaseFault> {
+        let told = self.planned(alloc, plan, "told")?;
+        if told.as_deref().unwrap_or(b"") != seen.told.as_slice() {
+            return Ok(false);
+        }
+        let left = self.planned(alloc, plan, "left")?;
+        Ok(left.as_deref() == seen.left.as_deref())
+    }
+
+    /// Whether the program with the words of this act, over this, comes to what the act and its plan have.
+    fn comes_out(
+        &self,
+        alloc: Global,
+        act: &[Value],
+        plan: &Value,
+        before: Before<'_>,
+    ) -> Result<bool, CaseFault> {
+        let arguments = arguments_of(alloc, list(act, 1)?)?;
+        let seen = seen_of(alloc, arguments, before);
+        Ok(is_said(&seen, act)? && self.is_planned(alloc, &seen, plan)?)
+    }
+
+    /// `["start", WORDS, STATUS, PRINTED, ERRORS, MADE, PLAN]`: the program with these words ends with this status, prints this to standard output and
+    /// that to standard error, and makes so many files. Where the plan, an object, has a `file`, that stands at the path, and what it has as `input`
+    /// comes in. What it has as `told` is told on the connection, and `left` are the bytes of the file, which it has exactly where that was had.
+    ///
+    /// `"wrong": [PIECE, CALL, FIRST, LAST, KIND]` in it: streams take and give PIECE bytes at once at most, and of the calls of this name on an object
+    /// the FIRST to the LAST fail with this `ErrorKind`: of the folder `open`, `create` and `folder`, a sync of it; of the file `kind`, `lock`, `pages`,
+    /// `length`, `read`, `write` and `sync`, and `regular`, where it isn't; of the streams `receive` and `send` on the connection, `print` and `tell` on
+    /// standard output and standard error, which write a piece before they fail.
+    ///
+    /// `["start without a mouth", ..]` is the same where there was no memory for the mouth.
+    pub fn starts(&self, alloc: Global, act: &[Value], has_mouth: bool) -> Result<bool, CaseFault> {
+        let plan = act.get(6).unwrap_or(&Value::Null);
+        let wrong = wrong_of(plan)?;
+        let file = self.planned(alloc, plan, "file")?;
+        let input = self.planned(alloc, plan, "input")?;
+        let before = Before {
+            file: file.as_deref(),
+            input: input.as_deref().unwrap_or(b""),
+            wrong,
+            has_mouth,
+        };
+        self.comes_out(alloc, act, plan, before)
     }
 }

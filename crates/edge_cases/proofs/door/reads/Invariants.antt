@@ -1,5 +1,0 @@
-use Rattle.std.proofs.Common.{◌≡◌, true}
-use Rattle.edge_cases.proofs.door.reads.Given as goal
-
-abbrev pub invariant-reads : goal.invariant-reads
-invariant-reads g l = (g.D.Door.counts l.door).up ≡ true

@@ -1,0 +1,154 @@
+"""The runs that start the program over a file and streams in memory, of whose calls some go wrong. tests/runs.py writes them behind its own, and
+names their texts.
+"""
+import cases
+from cases import latin, name, u8, u32, u64
+
+RUNS = []
+NOW = 1_700_000_000_000
+USAGE = "usage: vnfm init|onboard|once|serve|check|trial\n"
+INIT = ["init", "--journal", "j", "--manager", "7"]
+ONBOARD = ["onboard", "--journal", "j"]
+ONCE = ["once", "--journal", "j"]
+IS_MADE = "journal made for manager 7\n"
+IS_ONBOARDED = "onboarded vnfd-1: 0 vdus, 0 aspects, 1 levels\n"
+DONE = "done after 1 rounds\n"
+NO_MEMORY = "no memory\nvnfm: there was no memory\n"
+TAKEN = "vnfm: \"j\": it is a journal already, or no file of this program's; give another path, or move it away\n"
+NO_LINE = "vnfm: the last line couldn't be written\n"
+UNDELIVERED = "vnfm: the answer couldn't be delivered; what it says is recorded\n"
+MADE, JOURNAL, JOURNAL_1, DESCRIPTOR = "$MADE", "$JOURNAL", "$JOURNAL_1", "$DESCRIPTOR"
+CREATE, CREATED, FAULT = "$CREATE", "$CREATED_1", "$FAULT"
+CREATION = cases.event(2, u64(1), name("vnfd-1"), u8(1), name("edge-1"), u8(0), moment=NOW)
+# The journal behind an append whose first sync failed: the record stands behind a gate that is closed.
+UNSAFE = ["$HEADER", "$ONBOARDED", latin(u8(0) + u32(len(CREATION)) + CREATION + u8(0))]
+WHOLE = 1_000_000
+
+
+def run(title, *acts):
+    RUNS.append([title, *acts])
+
+
+def starts(words, status, printed, errors, made=0, word="start", **plan):
+    return [word, words, status, printed, errors, made, *([plan] if plan else [])]
+
+
+def wrong(call, kind="Other", first=1, last=None, piece=WHOLE):
+    """The calls of this name from the first to the last go wrong so."""
+    return [piece, call, first, last or first, kind]
+
+
+def site_fault(words, why, made=0, **plan):
+    """A disk call fails. `once` tells its line on standard error, the others on standard output."""
+    reason = 'vnfm: "j": %s\n' % why
+    printed, errors = ("", "site fault\n" + reason) if words == ONCE else ("site fault\n", reason)
+    return starts(words, 3, printed, errors, made, **plan)
+
+
+# ---- What is opened and made
+
+run("a page opens nothing", starts(["--version"], 0, "vnfm 0.1.0\n", ""))
+run("init makes its file and says so", starts(INIT, 0, IS_MADE, "", 1, left=MADE))
+run(
+    "a surplus word opens nothing",
+    starts([*INIT, "8"], 2, USAGE, "vnfm: \"8\" isn't understood; vnfm --help says more\n"),
+)
+run(
+    "once is told on standard error",
+    starts(ONCE, 5, "", "no journal\nvnfm: \"j\": it is not a journal that init has finished\n", 1, left=""),
+)
+run("no room for a mouth is want of memory", starts(ONCE, 6, "", NO_MEMORY, word="start without a mouth"))
+run(
+    "what is written is read back by the next command",
+    starts(INIT, 0, IS_MADE, "", 1, left=MADE),
+    starts(ONBOARD, 0, IS_ONBOARDED, "", file=MADE, input=DESCRIPTOR, left=JOURNAL),
+    starts(ONCE, 0, "", DONE, file=JOURNAL, input=CREATE, told=CREATED, left=JOURNAL_1),
+    starts(ONCE, 0, "", DONE, file=JOURNAL_1, left=JOURNAL_1),
+    starts(INIT, 11, "taken\n", TAKEN, file=JOURNAL_1, left=JOURNAL_1),
+)
+
+# ---- A file that can't be had
+
+DISK, NO_FOLDER = "the disk failed; the kernel's log says how", "there is no such folder"
+NOT_PERMITTED, NOT_A_FILE = "there is no permission to read and write it", "it is not a regular file"
+LOCKED = "another manager holds its lock"
+CAUSES = [("PermissionDenied", NOT_PERMITTED), ("ReadOnlyFilesystem", NOT_PERMITTED), ("NotADirectory", NO_FOLDER)]
+CAUSES += [("IsADirectory", NOT_A_FILE), ("WouldBlock", LOCKED), ("Other", DISK)]
+for kind, why in CAUSES:
+    run(
+        "why a file can't be had is told by the fault: %s" % kind,
+        *[site_fault(ONCE, why, file=JOURNAL, wrong=wrong(call, kind)) for call in ("open", "kind", "lock", "pages")],
+        *[site_fault(INIT, why, file="", wrong=wrong(call, kind)) for call in ("open", "folder", "kind", "lock", "pages")],
+        *[site_fault(ONCE, why, wrong=wrong("create", kind)), site_fault(ONCE, why, 1, wrong=wrong("folder", kind))],
+    )
+run(
+    "a file can't be made where there is no folder",
+    *[site_fault(words, NO_FOLDER, wrong=wrong("create", "NotFound")) for words in (INIT, ONBOARD, ONCE)],
+)
+run("what is no regular file can't be had", site_fault(ONCE, NOT_A_FILE, file=JOURNAL, wrong=wrong("regular")))
+run(
+    "the folder is synced each time by init alone",
+    starts(INIT, 0, IS_MADE, "", file="", left=MADE),
+    starts(ONCE, 0, "", DONE, file=JOURNAL, left=JOURNAL, wrong=wrong("folder")),
+    starts(ONBOARD, 0, IS_ONBOARDED, "", file=MADE, input=DESCRIPTOR, left=JOURNAL, wrong=wrong("folder")),
+)
+run(
+    "want of memory to open a file is told as that",
+    *[starts(ONCE, 6, "", NO_MEMORY, file=JOURNAL, wrong=wrong(call, "OutOfMemory")) for call in ("open", "kind", "lock", "pages")],
+    *[starts(ONCE, 6, "", NO_MEMORY, wrong=wrong("create", "OutOfMemory")), starts(ONCE, 6, "", NO_MEMORY, 1, wrong=wrong("folder", "OutOfMemory"))],
+    starts(INIT, 6, "", NO_MEMORY, file="", wrong=wrong("folder", "OutOfMemory")),
+)
+
+# ---- Calls that go wrong behind that
+
+run(
+    "each disk call that fails is told: on a journal",
+    *[site_fault(ONCE, DISK, file=JOURNAL, input=CREATE, left=JOURNAL, wrong=wrong(call)) for call in ("length", "read", "sync")],
+    site_fault(ONCE, DISK, file=JOURNAL, input=CREATE, told=FAULT, left=JOURNAL, wrong=wrong("write")),
+    site_fault(ONBOARD, DISK, file=MADE, input=DESCRIPTOR, left=MADE, wrong=wrong("write")),
+    # The first sync is the loading's, the second the record's.
+    site_fault(ONCE, DISK, file=JOURNAL, input=CREATE, told=FAULT, left=UNSAFE, wrong=wrong("sync", first=2)),
+)
+run(
+    "each disk call that fails is told: as a file is made",
+    *[site_fault(INIT, DISK, file="", left="", wrong=wrong(call)) for call in ("length", "sync", "write")],
+    site_fault(INIT, DISK, file=MADE, left=MADE, wrong=wrong("read")),
+)
+for piece in 1, 7, WHOLE:
+    run(
+        "streams go on behind short and interrupted calls, in pieces of %d" % piece,
+        *[
+            starts(ONCE, 0, "", DONE, file=JOURNAL, input=CREATE, told=CREATED, left=JOURNAL_1, wrong=wrong(call, "Interrupted", *calls, piece))
+            for call, calls in [("", (1, 1)), ("receive", (1, 2)), ("receive", (2, 4)), ("send", (1, 3)), ("send", (2, 2))]
+        ],
+        starts(ONBOARD, 0, IS_ONBOARDED, "", file=MADE, input=DESCRIPTOR, left=JOURNAL, wrong=wrong("receive", "Interrupted", 1, 3, piece)),
+    )
+run(
+    "a read that fails ends the connection",
+    *[starts(ONCE, 0, "", DONE, file=JOURNAL, input=CREATE, left=JOURNAL, wrong=wrong("receive", "Other", n, n, 20)) for n in (1, 3)],
+    # Two reads of 100 bytes give the first request and a part of the second.
+    starts(ONCE, 0, "", DONE, file=JOURNAL, input=[CREATE, CREATE], told=CREATED, left=JOURNAL_1, wrong=wrong("receive", "Other", 3, 3, 100)),
+    *[
+        starts(ONBOARD, 4, "door fault\n", "vnfm: standard input couldn't be read\n", file=MADE, input=DESCRIPTOR, left=MADE, wrong=it)
+        for it in (wrong("receive"), wrong("receive", "Other", 2, 2, 20))
+    ],
+)
+run(
+    "an answer that is not delivered is told",
+    *[
+        starts(ONCE, 0, "", DONE + UNDELIVERED, file=JOURNAL, input=CREATE, told=told, left=JOURNAL_1, wrong=it)
+        for told, it in [
+            *[("", wrong("send")), ("HTTP/1.1 201", wrong("send", "Other", 2, 2, 12))],
+            # A write that takes nothing is one that fails.
+            ("", wrong("", piece=0)),
+        ]
+    ],
+)
+run(
+    "a line that is cut short is not put",
+    starts(INIT, 7, "journal m", NO_LINE, 1, left=MADE, wrong=wrong("print", piece=9)),
+    starts(ONCE, 7, "", "done" + NO_LINE, file=JOURNAL, left=JOURNAL, wrong=wrong("tell", piece=4)),
+    starts(ONCE, 5, "", 'no journal\nvnfm: "j', 1, left="", wrong=wrong("tell", first=2, piece=8)),
+    starts(["--version"], 7, "vnfm", "", wrong=wrong("print", piece=4)),
+    starts(["never"], 2, USAGE, "vnfm", wrong=wrong("tell", piece=4)),
+)
