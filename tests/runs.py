@@ -2427,11 +2427,14 @@ for number in range(1, 13):
 def main():
     texts = ["the texts of all runs", *TEXTS]
     RUNS.extend(runs_edges.RUNS)
-    # (with a title behind it, the run of that title alone, and of the texts those that it names)
+    # (with a title behind it, the run of that title alone, and of the texts those that it names, and that they name in turn)
     if sys.argv[1:]:
         found = [it for it in RUNS if it[0] == sys.argv[1]]
-        named = json.dumps(found)
-        write([[texts[0], *[it for it in TEXTS if '"$%s"' % it[1] in named]], *found])
+        named, kept = json.dumps(found), []
+        for it in reversed(TEXTS):
+            if '"$%s"' % it[1] in named:
+                named, kept = named + json.dumps(it), [it, *kept]
+        write([[texts[0], *kept], *found])
     else:
         write([texts, *RUNS])
 
@@ -2445,4 +2448,8 @@ def write(runs):
 
 
 if __name__ == "__main__":
-    main()
+    # The modules beside this one that add runs take their forms from it by its name, so the runs are those of the module of that name.
+    import runs
+    import runs_words
+
+    runs.main()
