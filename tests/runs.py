@@ -6,39 +6,26 @@ usage: tests/runs.py >crates/lcm_cases/stdin     from the top; `tests/runs.py | 
        tests/runs.py TITLE                       the run of this title alone
 
 A run is an array of its title and its acts, which the files of crates/lcm_cases/src say. What is to be told, printed and left is written out here
-by hand, or by the rules of docs/FORMATS.md and docs/EVENTS.md in another language; nothing of it comes from the program.
+by hand, or by the rules of docs/FORMATS.md and docs/EVENTS.md in another language; nothing of it comes from the program. Runs over journals that
+are opened, and judge what stands in them, are written in runs_histories.py and runs_journals.py; all of these stand on run_parts.py.
 """
 import itertools
 import json
 import sys
 
+sys.dont_write_bytecode = True
 import cases
 import runs_edges
+import runs_histories
+import runs_journals
 from cases import latin, name, u8, u16, u32, u64
+from run_parts import *
 
-NOW = 1_700_000_000_000
 CHANGES = 13
 CHOICES = "old", "new", "torn"
-RUNS = []
-TEXTS = []
 
 
 # ---- Texts
-
-def in_record(event):
-    """A record behind its open gate: its length and the event."""
-    return latin(u8(1) + u32(len(event)) + event)
-
-
-def record(kind, *fields, moment=NOW):
-    """The record of an event of this kind, with its moment and its fields."""
-    return in_record(cases.event(kind, *fields, moment=moment))
-
-
-def let(title, text):
-    TEXTS.append(["let", title, text])
-    return "$" + title
-
 
 def problem(title, line, detail, word="problem"):
     TEXTS.append([word, title, line, detail])
@@ -50,7 +37,6 @@ def shows(title, body):
     return "$" + title
 
 
-HEADER = let("HEADER", latin(b"VNFM-LCM" + u8(1) + u32(7) + bytes(19)))
 MADE = let("MADE", [HEADER, "\0"])
 # A descriptor without a machine.
 SIMPLE_VNFD = name("vnfd-1") + name("Example") + name("Edge Router") + name("1.0") + name("1.0") + name("simple")
@@ -373,10 +359,6 @@ def unmake(first, last, attempt, job):
 
 
 # ---- Acts
-
-def run(title, *acts):
-    RUNS.append([title, *acts])
-
 
 def plan(*job):
     """What comes of a begin, in the words of crates/lcm_cases/src/preparing.rt."""
@@ -2329,11 +2311,6 @@ run(
 )
 
 
-def calls_to_open(records):
-    """The disk calls that open a journal: a sync, the length, the header, the head and the bytes of each record, and the closed gate."""
-    return 4 + 2 * records
-
-
 def with_fault(instances, call, granted, *turns):
     """Turns where this disk call of the site fails; each ends so, and behind it the journal has these events, up to its closed gate."""
     acts = [["fault", call], ["site", links_asked(2, instances)], *[SAYS_GRANT] * granted, ["peer"]]
@@ -2342,7 +2319,6 @@ def with_fault(instances, call, granted, *turns):
     return acts
 
 
-UNOPENED = "unopened: site fault"
 for number in range(1, 31):
     first, second = calls_to_open(3), calls_to_open(3) + 4 + calls_to_open(4)
     grant, work_too = [LINKS_GRANTED[0]], [LINKS_GRANTED[0], WORKING[0]]
@@ -2383,45 +2359,8 @@ run(
     ],
 )
 
-# ---- Journals that are opened
-
-D, OTHER = "d", "e"
-D_ONBOARDED, D_CREATED = cases.onboarded(cases.descriptor(D, levels=[cases.level("l")])), cases.created(1, D)
-D_GONE, NEVER_ASKED, NO_EVENT = cases.deleted(1), cases.denied(1), b"\0"
-
-
-def with_records(*events):
-    return ["site", [HEADER, *map(in_record, events), "\0"]]
-
-
-def opens(events, text):
-    return [with_records(*events), ["opened", text]]
-
-
-run(
-    "each record is allowed after those before it",
-    ["no fault"],
-    *opens([], "0 records, 0 descriptors, 0 instances, 0 live"),
-    *opens([D_ONBOARDED, D_CREATED], "2 records, 1 descriptors, 1 instances, 1 live"),
-    *opens([D_ONBOARDED, D_CREATED, D_GONE], "3 records, 1 descriptors, 1 instances, 0 live"),
-    *opens([D_CREATED], "bad record 1"),
-    *opens([D_ONBOARDED, D_ONBOARDED], "bad record 2"),
-    *opens([D_ONBOARDED, D_CREATED, D_CREATED], "bad record 3"),
-    *opens([D_ONBOARDED, NEVER_ASKED, D_CREATED], "bad record 2"),
-    *opens([D_ONBOARDED, NO_EVENT], "bad record 2"),
-)
-run(
-    "a manager answers from its history",
-    *[["no fault"], with_records(D_ONBOARDED, D_CREATED, D_GONE), ["descriptor", D, True], ["descriptor", OTHER, False]],
-)
-for number in range(1, 13):
-    first = calls_to_open(2)
-    made = 'Created { instance: 1, vnfd: "d", name: None, text: None }'
-    run(
-        "an event is read back from the file: call %d fails" % number,
-        *[["fault", number], with_records(D_ONBOARDED, D_CREATED)],
-        ["read back", 2, UNOPENED if number <= first else "site fault" if number <= first + 2 else made],
-    )
+runs_histories.write()
+runs_journals.write()
 
 
 def main():
@@ -2448,8 +2387,8 @@ def write(runs):
 
 
 if __name__ == "__main__":
-    # The modules beside this one that add runs take their forms from it by its name, so the runs are those of the module of that name.
-    import runs
+    # The module of runs that takes forms of this one takes them by its name.
+    sys.modules["runs"] = sys.modules["__main__"]
     import runs_words
 
-    runs.main()
+    main()

@@ -1,18 +1,17 @@
-"""A random legal history of 600 events, with events that aren't allowed between them, and what the tables say after each event that happens.
+"""The events of a manager's history by the rules of docs/MODEL.md, in another language: which is allowed next, and what each changes.
 
-tests/table_cases.py takes it from `stored`, and writes it as a case of `table_cases`.
+`stored` draws a legal history of 600 events by lot, with events that aren't allowed between them; tests/runs_histories.py lets the program judge it,
+and others that are written out by hand.
 
 Instances of one descriptor live side by side: each is created, asked for operations of all six kinds, and maybe deleted. Subscriptions of both
-roles come and go, and their notices are posted. What may come next, and what the tables say after it, is told here by the rules of
-docs/MODEL.md, written once more in another language; one attempt of an occurrence may be open at once. An entry is a byte, 1 where the event is allowed and happens, 0 where it isn't allowed and doesn't; the length of its spelling in four bytes, the high
-one first; and the spelling. The history is the same each time: its numbers are drawn from one seed.
+roles come and go, and their notices are posted; one attempt of an occurrence may be open at once. An entry is a byte, 1 where the event happens, 0
+where it doesn't; the length of its spelling in four bytes, the high one first; and the spelling. The history is the same each time: its numbers are
+drawn from one seed.
 """
 import collections
 import random
 import struct
 import uuid
-
-import texts
 
 EVENTS = 600
 SEED = 291
@@ -38,7 +37,7 @@ LINK, STORAGE, COMPUTE, PORT = range(4)
 NO_VDU = 65_535
 OCCURRENCE, CREATION, DELETION = range(3)
 DELIVERED, NOT_TAKEN = range(2)
-MANAGER = 1
+MANAGER = 7
 VALUES = 64
 POSTS = 5
 OPERATIONS = {"instantiate": 1, "scale": 2, "level": 3, "aspects": 3, "heal": 4, "operate": 5, "terminate": 6}
@@ -122,9 +121,9 @@ SPELLED = {
 }
 
 
-def instance_id(number):
-    """The identifier of an instance: the manager's number, "vm", version 8, the kind 1, and the number under the variant's bit."""
-    return str(uuid.UUID(bytes=u32(MANAGER) + b"vm\x80\x01" + u64(2**63 + number)))
+def identifier(number, kind=1):
+    """The identifier of an instance, whose kind is 1, or of an occurrence, 2: the manager's number, "vm", version 8, the kind, and the number."""
+    return str(uuid.UUID(bytes=u32(MANAGER) + b"vm\x80" + u8(kind) + u64(2**63 + number)))
 
 
 class Instance:
@@ -263,9 +262,8 @@ def refuses(held, busy, ask):
 class Occurrence:
     """What is so of an occurrence."""
 
-    def __init__(self, instance, role, ask, changes, moment):
+    def __init__(self, instance, ask, changes, moment):
         self.instance = instance
-        self.role = role
         self.ask = ask
         self.changes = changes
         self.asked = self.entered = moment
@@ -320,7 +318,7 @@ class Occurrence:
 def is_let_through(f, notice):
     """Whether a filter lets a notice through: each of its lists does, and one without values does."""
     return (
-        (not f.vnfds or notice.vnfd in f.vnfds) and (not f.instances or instance_id(notice.instance) in f.instances)
+        (not f.vnfds or notice.vnfd in f.vnfds) and (not f.instances or identifier(notice.instance) in f.instances)
         and (not f.names or notice.name in f.names) and (not f.notices or notice.which in f.notices)
         and (not f.operations or notice.op is None or notice.op in f.operations)
         and (not f.states or notice.state is None or notice.state in f.states))
@@ -329,9 +327,7 @@ def is_let_through(f, notice):
 class Subscription:
     """What is so of a subscription: the place of the event that made it, those of its notices, and how each was posted."""
 
-    def __init__(self, role, callback, asked, made):
-        self.role = role
-        self.callback = callback
+    def __init__(self, asked, made):
         self.filter = asked
         self.made = made
         self.live = True
@@ -376,7 +372,6 @@ class History:
         self.subscriptions = []
         self.moment = FIRST_MOMENT
         self.entries = []
-        self.told = []
         self.seen = collections.Counter()
         self.events = self.wrong = 0
 
@@ -492,7 +487,6 @@ class History:
         notice = self.notice(kind, *fields)
         if notice is not None:
             self.hear(notice)
-        self.told += texts.after(self, kind, fields[0].occ if isinstance(fields[0], Tag) else fields[0])
 
     def hear(self, notice):
         """The last event's notice waits for each subscription whose filter lets it through."""
@@ -510,14 +504,14 @@ class History:
         elif kind == "deleted":
             self.instance(fields[0]).live = False
         elif kind == "asked":
-            _, instance, role, ask, changes = fields
-            self.occurrences.append(Occurrence(instance, role, ask, changes, self.moment))
+            _, instance, _, ask, changes = fields
+            self.occurrences.append(Occurrence(instance, ask, changes, self.moment))
             held = self.instance(instance)
             for change in changes:
                 if change.vdu != NO_VDU:
                     held.top[change.vdu] = max(held.top[change.vdu], change.serial)
         elif kind == "subscribed":
-            self.subscriptions.append(Subscription(*fields[1:], self.events))
+            self.subscriptions.append(Subscription(fields[3], self.events))
         elif kind == "unsubscribed":
             self.subscription(fields[0]).live = False
         elif kind == "posted":
@@ -535,7 +529,7 @@ class History:
             occurrence.grant = (what, *rest)
         elif kind == "denied":
             occurrence.ended = True
-            occurrence.cause = "Denied"
+            occurrence.cause = "grant denied"
         elif kind == "intent":
             occurrence.attempts[t.change] += 1
             occurrence.open[t] = False
@@ -549,7 +543,7 @@ class History:
             self.follow_end(self.instance(occurrence.instance), occurrence.ask, what)
         else:
             occurrence.cancel = FORCEFUL if FORCEFUL in (what, occurrence.cancel) else GRACEFUL
-            occurrence.cause = "Cancelled"
+            occurrence.cause = "cancelled"
 
     def follow_try(self, occurrence, answer, at):
         if answer == 0:
@@ -557,16 +551,16 @@ class History:
         occurrence.tries += answer == 1
         occurrence.ended |= answer == 2 or occurrence.tries >= 5
         if answer == 2:
-            occurrence.cause = "NotCovering"
+            occurrence.cause = "grant does not cover the request"
         elif answer == 1 and occurrence.tries == 5:
-            occurrence.cause = "NoGrant"
+            occurrence.cause = "no grant after five tries"
 
     def follow_settled(self, occurrence, t, outcome, what=None):
         failed = occurrence.open.pop(t)
         cause = {
-            1: f"Broken {{ change: {t.change}, code: {what} }}",
-            2: f"Aborted {{ change: {t.change} }}",
-            3: f"CallFailed {{ change: {t.change} }}" if failed else None,
+            1: f"change {t.change}: broken {what}",
+            2: f"change {t.change}: aborted",
+            3: f"change {t.change}: call failed" if failed else None,
         }.get(outcome)
         if cause is not None:
             occurrence.trouble = True
@@ -709,7 +703,7 @@ class History:
             Filter(),
             Filter(vnfds=["vnfd-0", "vnfd-1"]),
             Filter(vnfds=["vnfd-2"]),
-            Filter(instances=[instance_id(draw.randrange(1, len(self.instances) + 2)) for _ in range(2)]),
+            Filter(instances=[identifier(draw.randrange(1, len(self.instances) + 2)) for _ in range(2)]),
             Filter(names=["edge-1"]),
             Filter(notices=[CREATION, DELETION]),
             Filter(notices=[OCCURRENCE], states=[COMPLETED, FAILED_TEMP, ROLLED_BACK]),
@@ -797,17 +791,17 @@ WANTED = (
 )
 
 
-def history(seed):
-    h = History(random.Random(seed))
+def history(seed, kind=History):
+    h = kind(random.Random(seed))
     h.happen("onboarded", DESCRIPTOR)
     while h.events < EVENTS:
         h.step()
     return h
 
 
-def stored():
+def stored(kind=History):
     """The history that is stored."""
-    h = history(SEED)
+    h = history(SEED, kind)
     missing = [what for what in WANTED if not h.seen[what]]
     assert not missing, missing
     return h
