@@ -6,7 +6,8 @@ usage: tests/runs.py >crates/lcm_cases/stdin     from the top; `tests/runs.py | 
        tests/runs.py TITLE                       the run of this title alone
 
 A run is an array of its title and its acts, which the files of crates/lcm_cases/src say. What is to be told, printed and left is written out here
-by hand, or by the rules of docs/FORMATS.md and docs/EVENTS.md in another language; nothing of it comes from the program.
+by hand, or by the rules of docs/FORMATS.md and docs/EVENTS.md in another language; nothing of it comes from the program. Those of plans and of grants
+stand in tests/runs_plans.py and tests/runs_grants.py.
 """
 import itertools
 import json
@@ -14,42 +15,14 @@ import sys
 
 import cases
 from cases import latin, name, u8, u16, u32, u64
+from run_words import HEADER, NOW, RUNS, TEXTS, in_record, let, problem, record, run, shows
 
-NOW = 1_700_000_000_000
 CHANGES = 13
 CHOICES = "old", "new", "torn"
-RUNS = []
-TEXTS = []
 
 
 # ---- Texts
 
-def in_record(event):
-    """A record behind its open gate: its length and the event."""
-    return latin(u8(1) + u32(len(event)) + event)
-
-
-def record(kind, *fields, moment=NOW):
-    """The record of an event of this kind, with its moment and its fields."""
-    return in_record(cases.event(kind, *fields, moment=moment))
-
-
-def let(title, text):
-    TEXTS.append(["let", title, text])
-    return "$" + title
-
-
-def problem(title, line, detail, word="problem"):
-    TEXTS.append([word, title, line, detail])
-    return "$" + title
-
-
-def shows(title, body):
-    TEXTS.append(["json", title, body])
-    return "$" + title
-
-
-HEADER = let("HEADER", latin(b"VNFM-LCM" + u8(1) + u32(7) + bytes(19)))
 MADE = let("MADE", [HEADER, "\0"])
 # A descriptor without a machine.
 SIMPLE_VNFD = name("vnfd-1") + name("Example") + name("Edge Router") + name("1.0") + name("1.0") + name("simple")
@@ -372,10 +345,6 @@ def unmake(first, last, attempt, job):
 
 
 # ---- Acts
-
-def run(title, *acts):
-    RUNS.append([title, *acts])
-
 
 def plan(*job):
     """What comes of a begin, in the words of crates/lcm_cases/src/preparing.rt."""
@@ -2447,15 +2416,30 @@ for number in range(1, 13):
     )
 
 
+# ---- Plans and grants over journals, whose runs stand behind these
+
+import runs_plans
+import runs_grants
+
+
+def texts_of(runs):
+    """The texts that these runs name, and those that they are spelled with."""
+    named, texts = json.dumps(runs), []
+    for text in reversed(TEXTS):
+        if '"$%s"' % text[1] in named:
+            texts.insert(0, text)
+            named += json.dumps(text)
+    return texts
+
+
 def main():
-    texts = ["the texts of all runs", *TEXTS]
-    # (with a title behind it, the run of that title alone, and of the texts those that it names)
+    title = "the texts of all runs"
+    # (with a title behind it, the run of that title alone, and of the texts those that it needs)
     if sys.argv[1:]:
         found = [it for it in RUNS if it[0] == sys.argv[1]]
-        named = json.dumps(found)
-        write([[texts[0], *[it for it in TEXTS if '"$%s"' % it[1] in named]], *found])
+        write([[title, *texts_of(found)], *found])
     else:
-        write([texts, *RUNS])
+        write([[title, *TEXTS], *RUNS])
 
 
 def write(runs):
