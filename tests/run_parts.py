@@ -29,6 +29,16 @@ def record(kind, *fields, moment=NOW):
     return in_record(cases.event(kind, *fields, moment=moment))
 
 
+def problem(title, line, detail, word="problem"):
+    TEXTS.append([word, title, line, detail])
+    return "$" + title
+
+
+def shows(title, body):
+    TEXTS.append(["json", title, body])
+    return "$" + title
+
+
 HEADER = let("HEADER", latin(b"VNFM-LCM" + u8(1) + u32(7) + bytes(19)))
 UNOPENED = "unopened: site fault"
 

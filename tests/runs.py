@@ -6,8 +6,9 @@ usage: tests/runs.py >crates/lcm_cases/stdin     from the top; `tests/runs.py | 
        tests/runs.py TITLE                       the run of this title alone
 
 A run is an array of its title and its acts, which the files of crates/lcm_cases/src say. What is to be told, printed and left is written out here
-by hand, or by the rules of docs/FORMATS.md and docs/EVENTS.md in another language; nothing of it comes from the program. Runs over journals that
-are opened, and judge what stands in them, are written in runs_histories.py and runs_journals.py; all of these stand on run_parts.py.
+by hand, or by the rules of docs/FORMATS.md and docs/EVENTS.md in another language; nothing of it comes from the program. More runs are written by
+the modules runs_*.py beside this one: of the program over files and streams, of histories and journals that are opened, of plans, of grants, and of
+words and views. All stand on run_parts.py.
 """
 import itertools
 import json
@@ -26,16 +27,6 @@ CHOICES = "old", "new", "torn"
 
 
 # ---- Texts
-
-def problem(title, line, detail, word="problem"):
-    TEXTS.append([word, title, line, detail])
-    return "$" + title
-
-
-def shows(title, body):
-    TEXTS.append(["json", title, body])
-    return "$" + title
-
 
 MADE = let("MADE", [HEADER, "\0"])
 # A descriptor without a machine.
@@ -2363,19 +2354,30 @@ runs_histories.write()
 runs_journals.write()
 
 
+# ---- Plans and grants over journals, whose runs stand behind these
+
+import runs_plans
+import runs_grants
+
+
+def texts_of(runs):
+    """The texts that these runs name, and those that they are spelled with."""
+    named, texts = json.dumps(runs), []
+    for text in reversed(TEXTS):
+        if '"$%s"' % text[1] in named:
+            texts.insert(0, text)
+            named += json.dumps(text)
+    return texts
+
+
 def main():
-    texts = ["the texts of all runs", *TEXTS]
-    RUNS.extend(runs_edges.RUNS)
-    # (with a title behind it, the run of that title alone, and of the texts those that it names, and that they name in turn)
+    title = "the texts of all runs"
+    # (with a title behind it, the run of that title alone, and of the texts those that it needs)
     if sys.argv[1:]:
         found = [it for it in RUNS if it[0] == sys.argv[1]]
-        named, kept = json.dumps(found), []
-        for it in reversed(TEXTS):
-            if '"$%s"' % it[1] in named:
-                named, kept = named + json.dumps(it), [it, *kept]
-        write([[texts[0], *kept], *found])
+        write([[title, *texts_of(found)], *found])
     else:
-        write([texts, *RUNS])
+        write([[title, *TEXTS], *RUNS])
 
 
 def write(runs):

@@ -39,15 +39,10 @@ pub fn descriptor(event: &Event) -> Result<&Vnfd, CaseFault> {
     }
 }
 
-/// The name that is this text.
-pub fn named(text: &str) -> Result<Name, CaseFault> {
-    match Name::of(text.as_bytes()) {
+/// The name at this place of an act.
+pub fn name(act: &[Value], place: usize) -> Result<Name, CaseFault> {
+    match Name::of(word(act, place)?.as_bytes()) {
         Some(name) => Ok(name),
         None => Err(CaseFault::Spelling),
     }
-}
-
-/// The name at this place of an act.
-pub fn name(act: &[Value], place: usize) -> Result<Name, CaseFault> {
-    named(word(act, place)?)
 }

@@ -2,13 +2,11 @@
 #![tactic(auto)]
 
 mod events;
-mod holdings;
 mod telling;
 mod texts;
 mod words;
 
-pub use events::{descriptor, event, event_of, name, named, operation};
-pub use holdings::{holding, numbers, place};
+pub use events::{descriptor, event, event_of, name, operation};
 pub use telling::{Teller, tell_each};
 pub use texts::text;
 pub use words::{

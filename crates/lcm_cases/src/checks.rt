@@ -256,6 +256,17 @@ impl Stage {
         Ok(work.serial == code(act, 2)?)
     }
 
+    /// `["does", PLACE, TEXT]`: the work of the job at this place, from 0, is this.
+    pub fn job_does(&self, alloc: Global, act: &[Value]) -> Result<bool, CaseFault> {
+        let place = count(act, 1)?;
+        if place >= self.site.jobs() {
+            return Ok(false);
+        }
+        let (_, work, _) = self.site.job(place);
+        let text = format!(in alloc; "{work:?}")?;
+        Ok(text.as_str() == word(act, 2)?)
+    }
+
     /// `["makes", PLACE, CHANGE]`: the job at this place, from 0, does the work that makes this change at its first attempt.
     pub fn job_makes(&self, act: &[Value]) -> Result<bool, CaseFault> {
         Ok(makes(&self.site, count(act, 1)?, count(act, 2)?))

@@ -7,6 +7,7 @@
 
 mod checks;
 mod commands;
+mod levels;
 mod lives;
 mod objects;
 mod peers;

@@ -1,14 +1,45 @@
-//! Acts that make turns with an orchestrator whose answers are planned, and that open a journal and ask its manager.
+//! Acts that make turns with an orchestrator whose answers are planned or that gives none, and that open a journal and ask its manager.
 
 use crate::stage::Stage;
-use case_words::{CaseFault, count, list, number, truth, word};
+use case_words::{CaseFault, count, list, name, number, part, truth, word};
 use executor::{Manager, WorkFault};
 use occ_work::{Turn, turn};
 use serde_json::Value;
-use site_traits::{GrantPlan, MemOrchestrator, MemSite};
+use site_traits::{Call, GrantPlan, Heard, MemOrchestrator, MemSite, Orchestrator};
 use std::alloc::{AllocError, Global};
 use std::mem;
-use vnfm_base::{Kind, Moment, Name};
+use vnfm_base::{Kind, Line, Moment, Name};
+
+/// An orchestrator that gives no answer, and keeps the body that it was asked with last.
+#[derive(Drop)]
+struct Listener {
+    body: Vec<u8>,
+    faults: u64,
+}
+
+impl Orchestrator for Listener {
+    ghost use Rattle.std.specs.Prelude.{[]};
+
+    ghost tells = { ⊥ };
+
+    ghost state = { λ _. record { answers = []; asked = []; polled = [] } };
+
+    ghost counts = { λ o. record { calls = o.faults; faults = o.faults } };
+
+    fn ask(&mut self, body: &[u8], _heard: &mut Heard) -> Call {
+        self.faults = self.faults.saturating_add(1);
+        self.body.truncate(0);
+        if self.body.extend_from_slice(body).is_err() {
+            self.body.truncate(0);
+        }
+        Call::Failed
+    }
+
+    fn poll(&mut self, _location: &Line, _heard: &mut Heard) -> Call {
+        self.faults = self.faults.saturating_add(1);
+        Call::Failed
+    }
+}
 
 /// How a turn ended: what it acted, waited for and didn't reach, or why it was ended.
 fn end_text(alloc: Global, end: &Result<Turn, WorkFault>) -> Result<String, AllocError> {
@@ -19,10 +50,10 @@ fn end_text(alloc: Global, end: &Result<Turn, WorkFault>) -> Result<String, Allo
 }
 
 /// Opens the journal and makes a turn with this orchestrator: how that ended.
-fn turn_text(
+fn turn_text<O: Orchestrator>(
     alloc: Global,
     site: &mut MemSite,
-    peer: &mut MemOrchestrator,
+    peer: &mut O,
 ) -> Result<String, AllocError> {
     let mut manager = match Manager::load(alloc, site) {
         Ok(manager) => manager,
@@ -166,6 +197,17 @@ impl Stage {
         Ok(text.as_str() == word(act, 1)?)
     }
 
+    /// `["asks", TEXT]`: opens the journal and makes a turn with an orchestrator that gives no answer, which is asked last with this body.
+    pub fn asks(&mut self, alloc: Global, act: &[Value]) -> Result<bool, CaseFault> {
+        let mut listener = Listener {
+            body: Vec::new(alloc),
+            faults: 0,
+        };
+        let _end = turn_text(alloc, &mut self.site, &mut listener)?;
+        let body = self.names.text(alloc, part(act, 1)?)?;
+        Ok(listener.body.as_slice() == body.as_slice())
+    }
+
     /// `["peer calls", ASKED, POLLED, FAULTS]`: that orchestrator answered so many asks and polls, and so many calls of it failed.
     pub fn has_peer_calls(&self, act: &[Value]) -> Result<bool, CaseFault> {
         Ok(
@@ -183,10 +225,7 @@ impl Stage {
 
     /// `["descriptor", NAME, TRUTH]`: the journal is opened, and its manager has the descriptor of this name, or hasn't.
     pub fn has_descriptor(&mut self, alloc: Global, act: &[Value]) -> Result<bool, CaseFault> {
-        let Some(name) = Name::of(word(act, 1)?.as_bytes()) else {
-            return Err(CaseFault::Spelling);
-        };
-        let has = has_descriptor(alloc, &mut self.site, &name);
+        let has = has_descriptor(alloc, &mut self.site, &name(act, 1)?);
         Ok(has == Some(truth(act, 2)?))
     }
 

@@ -18,7 +18,7 @@ use serde_json::Value;
 use site_traits::{Choice, DoorPlan};
 use std::alloc::Global;
 
-/// Plays an act on the words of a command line, or on the program that is started with them.
+/// Plays an act on the words of a command line, on the program that is started with them, or on levels.
 fn spells(stage: &Stage, alloc: Global, act: &[Value]) -> Result<bool, CaseFault> {
     match word(act, 0)? {
         "start" => stage.starts(alloc, act, true),
@@ -26,6 +26,8 @@ fn spells(stage: &Stage, alloc: Global, act: &[Value]) -> Result<bool, CaseFault
         "set" => stage.is_set(alloc, act),
         "line" => stage.is_explained(alloc, act),
         "page" => stage.is_page(alloc, act),
+        "named" => stage.has_level(alloc, act),
+        "aims" => stage.aims(alloc, act),
         _ => Err(CaseFault::Spelling),
     }
 }
@@ -70,6 +72,7 @@ fn finds(stage: &mut Stage, alloc: Global, act: &[Value]) -> Result<bool, CaseFa
         "job" => stage.has_job(act),
         "serial" => stage.has_serial(act),
         "makes" => stage.job_makes(act),
+        "does" => stage.job_does(alloc, act),
         "removes" => stage.job_removes(act),
         "steps" => stage.has_steps(alloc, act),
         "left" => stage.is_left(alloc),
@@ -89,6 +92,7 @@ fn runs(stage: &mut Stage, alloc: Global, act: &[Value]) -> Result<bool, CaseFau
         "turn" => stage.turn(alloc, act),
         "fallen" => stage.fallen(alloc),
         "peer turn" => stage.makes_turn(alloc, act),
+        "asks" => stage.asks(alloc, act),
         "starved" => stage.is_starved(alloc, act),
         "opened" => stage.is_opened(alloc, act),
         "descriptor" => stage.has_descriptor(alloc, act),
