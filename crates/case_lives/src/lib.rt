@@ -1,21 +1,26 @@
 //! Lives of an instantiation of the edge router, as runs have them: the steps that are recorded and their records, the calls on a site, what a stop
-//! among them leaves, and whether the jobs agree with what is recorded. Beside them the texts that runs ask with and compare with.
+//! among them leaves, and whether the jobs agree with what is recorded. Beside them the words, numbers and lists that acts are spelled in, and the texts that
+//! runs ask with and compare with.
 #![tactic(auto)]
 
 mod calls;
+mod events;
 mod plan;
 mod records;
 mod sound;
 mod steps;
 mod stops;
 mod texts;
+mod words;
 mod work;
 
 pub use calls::{Calls, calls_of, opening};
+pub use events::{descriptor, event_of, name, operation};
 pub use plan::{Plan, plain_site};
 pub use records::{At, Step, front_of, front_with, journal_with};
 pub use sound::{agrees, change_done, changes_standing};
 pub use steps::steps_of;
 pub use stops::{Earlier, Stop, Whole};
 pub use texts::Names;
+pub use words::{CaseFault, behind, code, count, entries, list, number, part, small, truth, word};
 pub use work::{makes, removes};

@@ -7,7 +7,7 @@
 //! the last of them first.
 
 use crate::records::{At, Step};
-use case_words::{CaseFault, code, entries, small, word};
+use crate::words::{CaseFault, code, entries, small, word};
 use lcm_events::{CancelMode, OpState};
 use serde_json::Value;
 use std::alloc::{AllocError, Global};

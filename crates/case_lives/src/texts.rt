@@ -4,7 +4,7 @@
 //! the other. `{"times": N, "of": T}` is T so many times; `{"from": A, "to": B, "of": [..]}` is what stands there for each number from A to before B,
 //! where `{"digits": W}` are its decimal digits, W with zeros in front, and `{"bytes": W}` its last W bytes, the greatest first.
 
-use case_words::{CaseFault, entries, put_bytes};
+use crate::words::{CaseFault, entries, put_bytes};
 use serde_json::Value;
 use std::alloc::{AllocError, Global};
 

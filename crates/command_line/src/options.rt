@@ -4,7 +4,7 @@ use thiserror::Error;
 use vnfm_base::Text;
 
 /// A command.
-#[derive(Clone, Copy, PartialEq, Eq)]
+#[derive(Clone, Copy, Debug, PartialEq, Eq)]
 pub enum Command {
     /// Makes a journal.
     Init,

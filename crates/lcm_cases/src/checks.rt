@@ -4,10 +4,10 @@ use crate::objects::ask;
 use crate::preparing::{refusal, shown};
 use crate::stage::Stage;
 use case_lives::{
-    Step, agrees, calls_of, change_done, changes_standing, front_of, front_with, journal_with,
-    makes, plain_site, removes, steps_of,
+    CaseFault, Step, agrees, behind, calls_of, change_done, changes_standing, code, count,
+    front_of, front_with, journal_with, makes, number, part, plain_site, removes, small, steps_of,
+    word,
 };
-use case_words::{CaseFault, behind, code, count, number, part, small, word};
 use lcm_events::{Tag, Way};
 use serde_json::Value;
 use std::alloc::Global;

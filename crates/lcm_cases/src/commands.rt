@@ -2,8 +2,7 @@
 
 use crate::objects::{clock_at, run_over, words_of};
 use crate::stage::Stage;
-use case_lives::{Earlier, opening};
-use case_words::{CaseFault, behind, code, count, number, part};
+use case_lives::{CaseFault, Earlier, behind, code, count, number, opening, part};
 use executor::Manager;
 use grant_desk::GrantAll;
 use lcm_api::Mouth;

@@ -3,7 +3,7 @@
 //! A descriptor is the text of an Onboarded, and an ask that of an Asked (docs/EVENTS.md).
 
 use crate::stage::Stage;
-use case_words::{CaseFault, code, descriptor, event_of, list, name, operation, part, word};
+use case_lives::{CaseFault, code, descriptor, event_of, list, name, operation, part, word};
 use lcm_events::{Ask, Event, Holding, Listed, Vnfd};
 use lcm_model::are_levels_in;
 use scaling_levels::{level_of, target, vnfd_valid};

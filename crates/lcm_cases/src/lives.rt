@@ -1,8 +1,9 @@
 //! Whole lives, which are stopped or of which a call fails, and short ones, of which each is stopped at another of its calls.
 
 use crate::stage::Stage;
-use case_lives::{Whole, calls_of, front_of, opening, plain_site, steps_of};
-use case_words::{CaseFault, count, list, part};
+use case_lives::{
+    CaseFault, Whole, calls_of, count, front_of, list, opening, part, plain_site, steps_of,
+};
 use grant_desk::GrantAll;
 use serde_json::Value;
 use site_traits::Choice;

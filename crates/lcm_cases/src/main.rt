@@ -20,7 +20,7 @@ mod stage;
 use crate::playing::play_act;
 use crate::stage::Stage;
 use anyhow::{Result, bail};
-use case_words::{CaseFault, entries, word};
+use case_lives::{CaseFault, entries, word};
 use serde_json::Value;
 use std::alloc::{AllocGlobal, Global};
 use std::io::{Input, Print, Read};

@@ -1,7 +1,7 @@
 //! Acts that make turns with an orchestrator whose answers are planned or that gives none, and that open a journal and ask its manager.
 
 use crate::stage::Stage;
-use case_words::{CaseFault, count, list, name, number, part, truth, word};
+use case_lives::{CaseFault, count, list, name, number, part, truth, word};
 use executor::{Manager, WorkFault};
 use occ_work::{Turn, turn};
 use serde_json::Value;

@@ -13,7 +13,7 @@
 //! `["at last", ACT]` at the first moment and at the last. Everywhere, `["times", N, ACT]` plays the act so many times.
 
 use crate::stage::Stage;
-use case_words::{CaseFault, behind, count, entries, list, number, part, word};
+use case_lives::{CaseFault, behind, count, entries, list, number, part, word};
 use serde_json::Value;
 use site_traits::{Choice, DoorPlan};
 use std::alloc::Global;

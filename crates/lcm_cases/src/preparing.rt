@@ -2,8 +2,7 @@
 
 use crate::objects::connection;
 use crate::stage::Stage;
-use case_lives::front_of;
-use case_words::{CaseFault, behind, code, count, entries, number, part, small, word};
+use case_lives::{CaseFault, behind, code, count, entries, front_of, number, part, small, word};
 use lcm_events::Role;
 use serde_json::Value;
 use site_traits::{Arrival, DoorPlan, GrantPlan, JobEnd, JobPlan};

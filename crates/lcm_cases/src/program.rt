@@ -3,7 +3,7 @@
 ghost use Rattle.std.specs.Prelude.{◌≡◌, ◌≤◌, ◌+◌, length, true};
 
 use crate::stage::Stage;
-use case_words::{CaseFault, count, entries, list, number, word};
+use case_lives::{CaseFault, count, entries, list, number, word};
 use host_calls::{HostFile, HostFiles, InStream, OutStream, TimeOfDay};
 use lcm_api::Mouth;
 use lcm_events::Role;

@@ -2,7 +2,7 @@
 
 use crate::commands::command_of;
 use crate::stage::Stage;
-use case_words::{CaseFault, list, part, truth, word};
+use case_lives::{CaseFault, list, part, truth, word};
 use command_line::{Settings, SettingsFault, settings};
 use outside_edges::WhyLost;
 use program_words::{page_of, reason_of};

@@ -1,7 +1,6 @@
 //! Events and their parts, which are handed over as the bytes of events.
 
-use crate::texts::text;
-use crate::words::{CaseFault, part, word};
+use crate::words::{CaseFault, word};
 use event_codec::{DecodeFault, decode};
 use lcm_events::{Event, EventKind, Operation, Vnfd};
 use serde_json::Value;
@@ -15,12 +14,6 @@ pub fn event_of(alloc: Global, bytes: &[u8]) -> Result<Event, CaseFault> {
         Err(DecodeFault::NotEvent) => Err(CaseFault::Spelling),
         Err(DecodeFault::Memory) => Err(CaseFault::Memory),
     }
-}
-
-/// The event whose bytes the text at this place of an act has.
-pub fn event(alloc: Global, act: &[Value], place: usize) -> Result<Event, CaseFault> {
-    let bytes = text(alloc, part(act, place)?)?;
-    event_of(alloc, &bytes)
 }
 
 /// The operation that an event says was asked for.

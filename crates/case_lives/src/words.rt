@@ -1,7 +1,7 @@
 //! What a case is spelled in: words, numbers, lists and bytes.
 
 use serde_json::Value;
-use std::alloc::{AllocError, AllocFailed, Global};
+use std::alloc::{AllocError, AllocFailed};
 use thiserror::Error;
 
 /// Why a case isn't read.
@@ -110,11 +110,4 @@ pub fn put_bytes(into: &mut Vec<u8>, string: &str) -> Result<(), CaseFault> {
         }
     }
     Ok(())
-}
-
-/// The bytes that are the characters of the string at this place of an act.
-pub fn bytes(alloc: Global, act: &[Value], place: usize) -> Result<Vec<u8>, CaseFault> {
-    let mut bytes = Vec::new(alloc);
-    put_bytes(&mut bytes, word(act, place)?)?;
-    Ok(bytes)
 }
