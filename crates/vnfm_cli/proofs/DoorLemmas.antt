@@ -16,12 +16,12 @@ use Rattle.site_traits.specs.Counts.{one_more}
 use Rattle.site_traits.specs.Door.{DoorCounts, closed, opened as has_come}
 use Rattle.command_line.specs.declared.options.Command.TheVariants.{Onboard, Once}
 use Rattle.vnfm_cli.specs.Causes.{FailsAtDoor}
-use Rattle.vnfm_cli.specs.Course.{Course, misused, starved, making, unopened, opened, Opening, serving, onboarding, Visit, unasked, served, Round, Close, finished, unreached, stopped, halted, full, starving, broken, IsOfWords, close_ending, ending_of, once_made, onboarding_ending}
+use Rattle.vnfm_commands.specs.Course.{Course, misused, starved, making, unopened, opened, Opening, serving, onboarding, Visit, unasked, served, Round, Close, finished, unreached, stopped, halted, full, starving, broken, IsOfWords, close_ending, ending_of, once_made, onboarding_ending}
 use Rattle.vnfm_cli.specs.DoorFaults.{AreCounted, DoorFault, waiting, calling, where_failed, closing_faults, visit_faults, rounds_faults, close_faults, door_faults, faults_with, waits_with}
-use Rattle.vnfm_cli.specs.Rounds.{CloseDoes, Receives, RoundsDo, VisitDoes}
-use Rattle.vnfm_cli.specs.Runs.{AtPeers}
-use Rattle.vnfm_cli.specs.Words.{AreWordsOf}
-use Rattle.vnfm_cli.specs.declared.ending.Failure.TheVariants.{DoorFault as DoorFailure}
+use Rattle.vnfm_commands.specs.Rounds.{CloseDoes, Receives, RoundsDo, VisitDoes}
+use Rattle.vnfm_commands.specs.Runs.{AtPeers}
+use Rattle.vnfm_commands.specs.Words.{AreWordsOf}
+use Rattle.vnfm_commands.specs.declared.ending.Failure.TheVariants.{DoorFault as DoorFailure}
 
 -- later calls and earlier ones
 faults_more : (late early : List DoorFault) (n : ℕ) → faults_with (late ++ early) n ≡ faults_with late (faults_with early n)

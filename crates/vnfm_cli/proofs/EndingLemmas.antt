@@ -2,10 +2,10 @@
 use Rattle.std.proofs.Common.{◌≡◌, ◌≢◌, ◌≤◌, ℕ, Bool, true, false, refl, sym, subst, ap, ◌∙◌, arith, inl, inr, ⊎_elim, ◌⊎◌, Ok, Err}
 use Rattle.std.specs.Prelude.{◌==◌, if◌then◌else◌}
 use Rattle.std.proofs.lemmas.Bool.{ne_eqb}
-use Rattle.vnfm_cli.specs.Ending.{Ending, failure_status, status_of, told_status, IsStatus}
-use Rattle.vnfm_cli.specs.Runs.{IsOrYields}
-use Rattle.vnfm_cli.specs.declared.ending.Failure.{Failure}
-use Rattle.vnfm_cli.specs.declared.ending.Failure.TheVariants.{Usage, SiteFault, DoorFault, NoJournal, NotAJournal, NoMemory, BadRecord, JournalFull, DescriptorRefused, Taken}
+use Rattle.vnfm_commands.specs.Ending.{Ending, failure_status, status_of, told_status, IsStatus}
+use Rattle.vnfm_commands.specs.Runs.{IsOrYields}
+use Rattle.vnfm_commands.specs.declared.ending.Failure.{Failure}
+use Rattle.vnfm_commands.specs.declared.ending.Failure.TheVariants.{Usage, SiteFault, DoorFault, NoJournal, NotAJournal, NoMemory, BadRecord, JournalFull, DescriptorRefused, Taken}
 
 -- a status but 7 is the ending's
 pub status_told : (put : Bool) (s n : ℕ) → told_status put s ≡ n → n ≢ 7 → s ≡ n

@@ -15,20 +15,20 @@ use Rattle.site_traits.specs.Counts.{one_more}
 use Rattle.site_traits.specs.Door.{DoorCounts}
 use Rattle.site_traits.specs.Site.{SiteState}
 use Rattle.vnfm_cli.specs.Causes.{FailsAtDoor}
-use Rattle.vnfm_cli.specs.Course.{Course, misused, starved, making, unopened, opened, Close, finished, unreached, stopped, halted, full, starving, broken, serving, onboarding, close_ending, ending_of, onboarding_ending, unopened_failure, IsOf, IsOfSettings, IsOfWords}
-use Rattle.vnfm_cli.specs.Ending.{failure_status, status_of}
-use Rattle.vnfm_cli.specs.Runs.{AtFile, IsDoorCause, IsLegalCourse, IsNoJournal, IsOrYields, IsSoundStart, IsStartOf, MayEndWith}
+use Rattle.vnfm_commands.specs.Course.{Course, misused, starved, making, unopened, opened, Close, finished, unreached, stopped, halted, full, starving, broken, serving, onboarding, close_ending, ending_of, onboarding_ending, unopened_failure, IsOf, IsOfSettings, IsOfWords}
+use Rattle.vnfm_commands.specs.Ending.{failure_status, status_of}
+use Rattle.vnfm_commands.specs.Runs.{AtFile, IsDoorCause, IsLegalCourse, IsNoJournal, IsOrYields, IsSoundStart, IsStartOf, MayEndWith}
 use Rattle.journal_core.specs.Create.{IsMade}
 use Rattle.journal_core.specs.Header.{IsUnfinished}
 use Rattle.journal_core.specs.declared.create.CreateFault.{CreateFault}
 use Rattle.journal_core.specs.declared.create.CreateFault.TheVariants as creating
 use Rattle.command_line.specs.Words.{settings_of}
-use Rattle.vnfm_cli.specs.Words.{AreInit, AreLoading, AreWordsOf, loads}
+use Rattle.vnfm_commands.specs.Words.{AreInit, AreLoading, AreWordsOf, loads}
 use Rattle.command_line.specs.declared.options.Command.{Command}
 use Rattle.command_line.specs.declared.options.Command.TheVariants.{Init, Onboard, Once}
 use Rattle.command_line.specs.declared.options.Settings.{Settings}
-use Rattle.vnfm_cli.specs.declared.ending.Failure.TheVariants.{SiteFault, DoorFault}
-use Rattle.vnfm_cli.proofs.DiskLemmas.{one_fault}
+use Rattle.vnfm_commands.specs.declared.ending.Failure.TheVariants.{SiteFault, DoorFault}
+use Rattle.vnfm_commands.proofs.DiskLemmas.{one_fault}
 
 -- words set one thing
 set_once : (words : List (List ℕ)) (s t : Settings) → settings_of words ≡ Some s → settings_of words ≡ Some t → s ≡ t

@@ -15,10 +15,10 @@ use Rattle.lcm_model.specs.Work.{window}
 use Rattle.site_traits.specs.Jobs.{Advances, Job}
 use Rattle.site_traits.specs.Moments.{goes_on, joined, started, weakened}
 use Rattle.site_traits.specs.Site.{FileStep, HasItsJobs, KeepsJobs, LeavesOnly, Pair, Same, SiteState}
-use Rattle.vnfm_cli.specs.Course.{Course, misused, starved, making, unopened, opened, serving, onboarding, deed_work, IsOfWords}
+use Rattle.vnfm_commands.specs.Course.{Course, misused, starved, making, unopened, opened, serving, onboarding, deed_work, IsOfWords}
 use Rattle.vnfm_cli.specs.Headline.{IsFresh, IsFreshPair, IsLeftWith, IsSoundBeginning, IsSoundPair, SoundJobsMakeSoundPairs}
-use Rattle.vnfm_cli.specs.Runs.{AtFile, AtJobs, IsLegalCourse, IsUntouched, Recovers}
-use Rattle.vnfm_cli.specs.Words.{AreInit}
+use Rattle.vnfm_commands.specs.Runs.{AtFile, AtJobs, IsLegalCourse, IsUntouched, Recovers}
+use Rattle.vnfm_commands.specs.Words.{AreInit}
 use Rattle.vnfm_cli.proofs.ExactLemmas.{commanded, never_served, never_unopened, of_init}
 
 -- a site that wasn't called leaves what it left

@@ -1,9 +1,6 @@
 mod AnswerLemmas
-mod DiskLemmas
 mod DoorLemmas
 mod EndingLemmas
 mod ExactLemmas
 mod HeadlineLemmas
-mod RoundLemmas
-mod RunLemmas
 mod WholeLemmas

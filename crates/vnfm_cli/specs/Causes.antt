@@ -5,10 +5,10 @@ use Rattle.journal_core.specs.Header.{IsUnfinished}
 use Rattle.lcm_api.specs.World.{World}
 use Rattle.site_traits.specs.Counts.{CallCounts, Rose, one_more}
 use Rattle.site_traits.specs.Door.{DoorCounts}
-use Rattle.vnfm_cli.specs.Ending.{IsStatus}
-use Rattle.vnfm_cli.specs.Runs.{IsNoJournal, IsOrYields}
+use Rattle.vnfm_commands.specs.Ending.{IsStatus}
+use Rattle.vnfm_commands.specs.Runs.{IsNoJournal, IsOrYields}
 use Rattle.command_line.specs.Words.{settings_of}
-use Rattle.vnfm_cli.specs.Words.{AreInit, AreLoading, AreWordsOf}
+use Rattle.vnfm_commands.specs.Words.{AreInit, AreLoading, AreWordsOf}
 use Rattle.command_line.specs.declared.options.Command.TheVariants.{Onboard, Once}
 
 -- Where this holds of a run of these words a wait for a connection failed, and is counted once, or for `onboard` a read of one; else no wait failed.

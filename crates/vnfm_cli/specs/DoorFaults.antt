@@ -4,7 +4,7 @@ use Rattle.lcm_sessions.specs.Session.{Ending as Closing, is_cut, is_lost}
 use Rattle.onboarding.specs.Onboarding.{unheard, cut_off}
 use Rattle.site_traits.specs.Counts.{one_more}
 use Rattle.site_traits.specs.Door.{DoorCounts}
-use Rattle.vnfm_cli.specs.Course.{Course, opened, Deed, serving, onboarding, Visit, unasked, served, Round, Close, finished, unreached, stopped, halted}
+use Rattle.vnfm_commands.specs.Course.{Course, opened, Deed, serving, onboarding, Visit, unasked, served, Round, Close, finished, unreached, stopped, halted}
 
 -- a call of the door that failed: a wait for a connection, or a read or a write on one
 pub data DoorFault : Type 0 where

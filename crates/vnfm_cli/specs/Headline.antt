@@ -17,7 +17,7 @@ use Rattle.lcm_model.specs.Operations.{ongoing}
 use Rattle.lcm_model.specs.Words.{IsIn}
 use Rattle.site_traits.specs.Jobs.{Advances, Job}
 use Rattle.site_traits.specs.Site.{IsJobless, IsSettled, Pair, SiteState}
-use Rattle.vnfm_cli.specs.Runs.{IsSoundStart}
+use Rattle.vnfm_commands.specs.Runs.{IsSoundStart}
 
 -- What is read, and whatever a stop now may leave, is a journal of manager m with this legal history, and the jobs are sound with it (own rule).
 pub record IsSoundBeginning (m : ℕ) (H : List Event) (s : SiteState) : Type 0 where

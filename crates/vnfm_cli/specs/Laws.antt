@@ -12,13 +12,13 @@ use Rattle.lcm_events.specs.declared.states.Role.{Role}
 use Rattle.occ_work.specs.Around.{DiskFails}
 use Rattle.site_traits.specs.Counts.{CallCounts, Rose, SiteCounts, one_more}
 use Rattle.site_traits.specs.Site.{Pair, SiteState}
-use Rattle.vnfm_cli.specs.Course.{Course, ending_of}
+use Rattle.vnfm_commands.specs.Course.{Course, ending_of}
 use Rattle.vnfm_cli.specs.DoorFaults.{AreCounted, door_faults}
-use Rattle.vnfm_cli.specs.Ending.{Ending, Ends}
+use Rattle.vnfm_commands.specs.Ending.{Ending, Ends}
 use Rattle.vnfm_cli.specs.Headline.{IsLeftWith, IsSoundBeginning, IsSoundPair}
-use Rattle.vnfm_cli.specs.Rounds.{Receives}
-use Rattle.vnfm_cli.specs.Runs.{AtPeers, Runs}
-use Rattle.vnfm_cli.specs.Words.{AreInit}
+use Rattle.vnfm_commands.specs.Rounds.{Receives}
+use Rattle.vnfm_commands.specs.Runs.{AtPeers, Runs}
+use Rattle.vnfm_commands.specs.Words.{AreInit}
 
 -- where the count of disk faults is greater behind a run, its status is 3
 abbrev pub DiskFaultsAreTold : Type 0

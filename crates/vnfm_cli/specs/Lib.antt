@@ -1,9 +1,4 @@
 pub mod Causes
-pub mod Course
 pub mod DoorFaults
-pub mod Ending
 pub mod Headline
 pub mod Laws
-pub mod Rounds
-pub mod Runs
-pub mod Words

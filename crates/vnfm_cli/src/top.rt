@@ -1,39 +1,29 @@
 //! The top call: one command over the objects that it is handed.
-ghost use Rattle.std.specs.Prelude.{◌≡◌, ◌≢◌, ◌↔◌, ℕ, List, None, Result, true};
-ghost use Rattle.journal_core.specs.Create.{Creates};
-ghost use Rattle.journal_core.specs.declared.create.CreateFault.{CreateFault};
-ghost use Rattle.lcm_events.specs.declared.events.Event.{Event};
-ghost use Rattle.occ_work.specs.Around.{CountJobsAlike, DiskFails, telling as asking};
-ghost use Rattle.site_traits.specs.Counts.{OnlyDiskFails, Rose};
-ghost use Rattle.site_traits.specs.Site.{KeepsJobs, LeavesOnly};
-ghost use Rattle.lcm_api.specs.World.{telling, world};
-ghost use Rattle.executor.specs.Managed.{IsReady};
-ghost use Rattle.vnfm_cli.specs.Course.{Course, Deed, IsDeedOf, IsOf, deed_ending, ending_of, making_ending};
-ghost use Rattle.vnfm_cli.specs.Ending.{Ends};
-ghost use Rattle.vnfm_cli.specs.Causes.{HasCauses};
-ghost use Rattle.vnfm_cli.specs.Headline.{IsFresh, IsFreshPair, IsSoundBeginning, IsSoundPair};
-ghost use Rattle.vnfm_cli.specs.Rounds.{beside};
-ghost use Rattle.vnfm_cli.specs.Runs.{Deeds, Does, IsDoorCause, IsStartOf, MayEndWith, AtOutside, AtOutsideBy, Runs};
-ghost use Rattle.command_line.specs.Words.{settings_of};
-ghost use Rattle.vnfm_cli.specs.Words.{AreInit, AreWordsOf, loads};
+ghost use Rattle.std.specs.Prelude.{◌≡◌, ℕ, List};
 ghost use Rattle.command_line.specs.declared.options.Command.{Command};
 ghost use Rattle.command_line.specs.declared.options.Command.TheVariants.{Once};
+ghost use Rattle.lcm_api.specs.World.{telling, world};
+ghost use Rattle.lcm_events.specs.declared.events.Event.{Event};
+ghost use Rattle.occ_work.specs.Around.{CountJobsAlike, DiskFails, telling as asking};
+ghost use Rattle.site_traits.specs.Counts.{Rose};
+ghost use Rattle.site_traits.specs.Site.{LeavesOnly};
+ghost use Rattle.vnfm_cli.specs.Causes.{HasCauses};
+ghost use Rattle.vnfm_cli.specs.Headline.{IsFresh, IsFreshPair, IsSoundBeginning, IsSoundPair};
+ghost use Rattle.vnfm_commands.specs.Course.{Course, ending_of};
+ghost use Rattle.vnfm_commands.specs.Ending.{Ends};
+ghost use Rattle.vnfm_commands.specs.Rounds.{beside};
+ghost use Rattle.vnfm_commands.specs.Runs.{IsDoorCause, IsStartOf, MayEndWith, AtOutside, Runs};
+ghost use Rattle.vnfm_commands.specs.Words.{AreInit, AreWordsOf};
 
-use crate::ending::{Ending, Failure, Report, finish};
 use crate::laws::sound_jobs_make_sound_pairs;
-use crate::rounds::make_rounds;
-use command_line::{Command, Settings, settings};
-use executor::{
-    Manager, a_file_has_one_history, a_legal_history_has_no_bad_record, works_add_up,
-    works_with_jobs_add_up,
-};
-use journal_core::{Journal, faults_are_counted, files_are_one_thing};
+use executor::{a_file_has_one_history, a_legal_history_has_no_bad_record};
+use journal_core::files_are_one_thing;
 use lcm_api::Mouth;
 use lcm_jobs::jobs_may_end;
-use onboarding::onboard;
 use site_traits::{Clock, Courier, Door, Orchestrator, Sink, Site};
 use std::alloc::Global;
 use vnfm_base::Text;
+use vnfm_commands::{finish, obey};
 
 /// Obeys the words, and gives the program's status. One line is put to `out` but for a failed put.
 ///
@@ -94,131 +84,4 @@ pub fn run<S: Site, D: Door, O: Orchestrator, C: Courier, K: Clock, W: Sink>(
     sound_jobs_make_sound_pairs();
     let ending = obey(alloc, words, site, mouth, orchestrator, clock);
     finish(ending, out)
-}
-
-/// Obeys the words, but for the line.
-fn obey<S: Site, D: Door, O: Orchestrator, K: Clock>(
-    alloc: Global,
-    words: &[Text],
-    site: &mut S,
-    mouth: &mut Mouth<D>,
-    orchestrator: &mut O,
-    clock: &mut K,
-) -> Ending
-    ensures runs { (course : Course) × Runs (telling S.tells D.tells K.tells) words.now course
-        (world (S.state site.old) mouth.old (K.state clock.old)) (world (S.state site.new) mouth.new (K.state clock.new))
-        × AtOutside (asking S.tells O.tells) course (beside (S.state site.old) (S.counts site.old) (O.state orchestrator.old) (O.counts orchestrator.old)) (beside (S.state site.new) (S.counts site.new) (O.state orchestrator.new) (O.counts orchestrator.new))
-        × (result ≡ ending_of course) }
-    ensures unasked { ¬ (AreWordsOf Once words.now) → orchestrator.new ≡ orchestrator.old }
-    ensures usage { (result ≡ Err Failure.Usage) ↔ (settings_of words.now ≡ None) }
-    ensures disk { DiskFails (result ≡ Err Failure.SiteFault) (S.counts site.old) (S.counts site.new) }
-    ensures untouched_jobs { ¬ (AreWordsOf Once words.now) → CountJobsAlike (S.counts site.old) (S.counts site.new) }
-{
-    works_add_up::<S>();
-    let settings = settings(alloc, words)?;
-    perform(alloc, &settings, site, mouth, orchestrator, clock)
-}
-
-/// Performs the command.
-fn perform<S: Site, D: Door, O: Orchestrator, K: Clock>(
-    alloc: Global,
-    settings: &Settings,
-    site: &mut S,
-    mouth: &mut Mouth<D>,
-    orchestrator: &mut O,
-    clock: &mut K,
-) -> Ending
-    ensures does { (course : Course) × IsOf settings.now course × Does (telling S.tells D.tells K.tells) course
-        (world (S.state site.old) mouth.old (K.state clock.old)) (world (S.state site.new) mouth.new (K.state clock.new))
-        × AtOutside (asking S.tells O.tells) course (beside (S.state site.old) (S.counts site.old) (O.state orchestrator.old) (O.counts orchestrator.old)) (beside (S.state site.new) (S.counts site.new) (O.state orchestrator.new) (O.counts orchestrator.new))
-        × (result ≡ ending_of course) }
-    ensures unasked { settings.now.command ≢ Once → orchestrator.new ≡ orchestrator.old }
-    ensures disk { DiskFails (result ≡ Err Failure.SiteFault) (S.counts site.old) (S.counts site.new) }
-    ensures untouched_jobs { settings.now.command ≢ Once → CountJobsAlike (S.counts site.old) (S.counts site.new) }
-{
-    match settings.command {
-        Command::Init => init(settings.manager, site),
-        Command::Onboard => open(alloc, settings, site, mouth, orchestrator, clock),
-        Command::Once => open(alloc, settings, site, mouth, orchestrator, clock),
-    }
-}
-
-/// Makes the journal of this manager.
-fn init<S: Site>(manager: u32, site: &mut S) -> Ending
-    ensures makes { (making : Result (Unit {0}) CreateFault) × (S.tells → Creates manager making (S.state site.old) (S.state site.new)) × (result ≡ making_ending manager making) }
-    ensures jobs { S.tells → KeepsJobs (S.state site.old) (S.state site.new) }
-    ensures disk { OnlyDiskFails (result ≡ Err Failure.SiteFault) (S.counts site.old) (S.counts site.new) }
-{
-    faults_are_counted();
-    Journal::create(site, manager)?;
-    Ok(Report::Made(manager))
-}
-
-/// Opens the journal, and does with it what the command says.
-fn open<S: Site, D: Door, O: Orchestrator, K: Clock>(
-    alloc: Global,
-    settings: &Settings,
-    site: &mut S,
-    mouth: &mut Mouth<D>,
-    orchestrator: &mut O,
-    clock: &mut K,
-) -> Ending
-    requires loading { loads settings.now.command ≡ true }
-    ensures does { (course : Course) × IsOf settings.now course × Does (telling S.tells D.tells K.tells) course
-        (world (S.state site.old) mouth.old (K.state clock.old)) (world (S.state site.new) mouth.new (K.state clock.new))
-        × AtOutside (asking S.tells O.tells) course (beside (S.state site.old) (S.counts site.old) (O.state orchestrator.old) (O.counts orchestrator.old)) (beside (S.state site.new) (S.counts site.new) (O.state orchestrator.new) (O.counts orchestrator.new))
-        × (result ≡ ending_of course) }
-    ensures unasked { settings.now.command ≢ Once → orchestrator.new ≡ orchestrator.old }
-    ensures disk { DiskFails (result ≡ Err Failure.SiteFault) (S.counts site.old) (S.counts site.new) }
-    ensures untouched_jobs { settings.now.command ≢ Once → CountJobsAlike (S.counts site.old) (S.counts site.new) }
-{
-    works_add_up::<S>();
-    works_with_jobs_add_up::<S>();
-    let mut manager = Manager::load(alloc, site)?;
-    work(
-        alloc,
-        settings,
-        &mut manager,
-        site,
-        mouth,
-        orchestrator,
-        clock,
-    )
-}
-
-/// Onboards a descriptor, or makes the rounds that the words set.
-fn work<S: Site, D: Door, O: Orchestrator, K: Clock>(
-    alloc: Global,
-    settings: &Settings,
-    manager: &mut Manager<S>,
-    site: &mut S,
-    mouth: &mut Mouth<D>,
-    orchestrator: &mut O,
-    clock: &mut K,
-) -> Ending
-    requires loading { loads settings.now.command ≡ true }
-    requires ready { (H : List Event) × IsReady S.tells manager.old H (S.state site.old) }
-    ensures deeds { (H : List Event) → IsReady S.tells manager.old H (S.state site.old) → (deed : Deed) × IsDeedOf settings.now deed
-        × Deeds (telling S.tells D.tells K.tells) manager.old.ledger.manager H deed manager.new
-        (world (S.state site.old) mouth.old (K.state clock.old)) (world (S.state site.new) mouth.new (K.state clock.new))
-        × AtOutsideBy (asking S.tells O.tells) manager.old.ledger.manager H deed (beside (S.state site.old) (S.counts site.old) (O.state orchestrator.old) (O.counts orchestrator.old)) (beside (S.state site.new) (S.counts site.new) (O.state orchestrator.new) (O.counts orchestrator.new))
-        × (result ≡ deed_ending H deed) }
-    ensures unasked { settings.now.command ≢ Once → orchestrator.new ≡ orchestrator.old }
-    ensures disk { DiskFails (result ≡ Err Failure.SiteFault) (S.counts site.old) (S.counts site.new) }
-    ensures untouched_jobs { settings.now.command ≢ Once → CountJobsAlike (S.counts site.old) (S.counts site.new) }
-{
-    match settings.command {
-        Command::Init => unreachable!(),
-        Command::Onboard => Ok(Report::Onboarded(onboard(alloc, manager, site, mouth, clock)?)),
-        Command::Once => make_rounds(
-            alloc,
-            manager,
-            site,
-            mouth,
-            orchestrator,
-            clock,
-            settings.role,
-            settings.rounds,
-        ),
-    }
 }

@@ -19,12 +19,12 @@ use Rattle.site_traits.specs.Counts.{Rose, SiteCounts}
 use Rattle.site_traits.specs.Site.{LeavesOnly, SiteState}
 use Rattle.standard_streams.specs.Numbers.{AreStreamsTaken, Numbers}
 use Rattle.vnfm_cli.specs.Causes.{HasCauses}
-use Rattle.vnfm_cli.specs.Course.{Course, ending_of}
-use Rattle.vnfm_cli.specs.Ending.{Ends}
+use Rattle.vnfm_commands.specs.Course.{Course, ending_of}
+use Rattle.vnfm_commands.specs.Ending.{Ends}
 use Rattle.vnfm_cli.specs.Headline.{IsFresh, IsFreshPair, IsSoundBeginning, IsSoundPair}
-use Rattle.vnfm_cli.specs.Runs.{IsDoorCause, IsStartOf, MayEndWith, Runs}
+use Rattle.vnfm_commands.specs.Runs.{IsDoorCause, IsStartOf, MayEndWith, Runs}
 use Rattle.command_line.specs.Words.{settings_of}
-use Rattle.vnfm_cli.specs.Words.{AreInit, AreWordsOf}
+use Rattle.vnfm_commands.specs.Words.{AreInit, AreWordsOf}
 use Rattle.command_line.specs.declared.options.Command.{Command}
 use Rattle.command_line.specs.declared.options.Command.TheVariants.{Init, Onboard, Once}
 use Rattle.command_line.specs.declared.options.Settings.{Settings}

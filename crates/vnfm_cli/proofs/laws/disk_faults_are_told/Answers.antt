@@ -1,4 +1,4 @@
-use Rattle.vnfm_cli.proofs.DiskLemmas.{rises_where}
+use Rattle.vnfm_commands.proofs.DiskLemmas.{rises_where}
 use Rattle.vnfm_cli.proofs.laws.disk_faults_are_told.Goals as goal
 
 pub returns : goal.returns

@@ -1,4 +1,4 @@
-use Rattle.vnfm_cli.specs.Course.{ending_of}
+use Rattle.vnfm_commands.specs.Course.{ending_of}
 use Rattle.vnfm_cli.proofs.EndingLemmas.{done_status}
 use Rattle.vnfm_cli.proofs.ExactLemmas.{made_ending}
 use Rattle.vnfm_cli.proofs.laws.init_makes_the_journal.Goals as goal

@@ -1,4 +1,4 @@
-use Rattle.vnfm_cli.proofs.DiskLemmas.{one_put}
+use Rattle.vnfm_commands.proofs.DiskLemmas.{one_put}
 use Rattle.vnfm_cli.proofs.laws.one_line_is_put.Goals as goal
 
 pub returns : goal.returns

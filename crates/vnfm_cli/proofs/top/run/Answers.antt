@@ -1,8 +1,8 @@
 -- What the status says, from the way that the run went.
 use Rattle.std.proofs.Common.{◌∙◌, ℕ, ap, subst, sym, arith}
-use Rattle.vnfm_cli.specs.Ending.{status_of}
-use Rattle.vnfm_cli.specs.Runs.{MayEndWith}
-use Rattle.vnfm_cli.proofs.DiskLemmas.{disk_as, lost_line, one_fault}
+use Rattle.vnfm_commands.specs.Ending.{status_of}
+use Rattle.vnfm_commands.specs.Runs.{MayEndWith}
+use Rattle.vnfm_commands.proofs.DiskLemmas.{disk_as, lost_line, one_fault}
 use Rattle.vnfm_cli.proofs.DoorLemmas.{course_fails, fails_with}
 use Rattle.vnfm_cli.proofs.EndingLemmas.{is_status, put_result, seven_lost, status_result, status_told, told_by, told_same, yields_result}
 use Rattle.vnfm_cli.proofs.ExactLemmas.{bad_record_ending, complete_ending, door_cause, no_journal_ending, taken_ending, told_bad_record, told_full, told_no_journal, told_refused, told_taken}

@@ -1,0 +1,3 @@
+pub mod DiskLemmas
+mod RoundLemmas
+mod RunLemmas

@@ -1,0 +1,213 @@
+-- How a run goes: what the words were, and what came of the command (own rule, docs/FORMATS.md).
+use Rattle.std.specs.Prelude.{◌≡◌, ◌<◌, ℕ, true, List, length, min, Option, Result, Ok, Err, Some, None}
+use Rattle.executor.specs.Work.{Work, went, stood}
+use Rattle.executor.specs.declared.manager.WorkFault.{WorkFault}
+use Rattle.executor.specs.declared.manager.WorkFault.TheVariants as working
+use Rattle.executor.specs.declared.manager.OpenFault.{OpenFault}
+use Rattle.executor.specs.declared.manager.OpenFault.TheVariants as opening
+use Rattle.journal_core.specs.declared.create.CreateFault.{CreateFault}
+use Rattle.journal_core.specs.declared.create.CreateFault.TheVariants as creating
+use Rattle.lcm_sessions.specs.Session.{Talk, life, work_of}
+use Rattle.lcm_events.specs.declared.events.Event.{Event}
+use Rattle.lcm_events.specs.declared.states.Role.{Role}
+use Rattle.occ_work.specs.Deeds.{Deed as Act}
+use Rattle.occ_work.specs.Turns.{TurnEnd, once_all_done, turn_work}
+use Rattle.onboarding.specs.Onboarding.{Onboarding, answer_of, onboarding_work}
+use Rattle.onboarding.specs.declared.answer.Onboarded.{Onboarded as Said}
+use Rattle.onboarding.specs.declared.answer.OnboardFault.{OnboardFault}
+use Rattle.onboarding.specs.declared.answer.OnboardFault.TheVariants as fault
+use Rattle.vnfm_commands.specs.Ending.{Ending}
+use Rattle.command_line.specs.Words.{settings_of}
+use Rattle.vnfm_commands.specs.Words.{IsCommand, loads}
+use Rattle.vnfm_commands.specs.declared.ending.Failure.{Failure}
+use Rattle.vnfm_commands.specs.declared.ending.Failure.TheVariants.{Usage, SiteFault, DoorFault, NoJournal, NotAJournal, NoMemory, BadRecord, JournalFull, DescriptorRefused, Taken}
+use Rattle.vnfm_commands.specs.declared.ending.Report.TheVariants.{Done, Made, Onboarded}
+use Rattle.command_line.specs.declared.options.Command.TheVariants.{Init, Onboard, Once}
+use Rattle.command_line.specs.declared.options.Settings.{Settings}
+use Rattle.command_line.specs.declared.options.SettingsFault.{SettingsFault}
+use Rattle.command_line.specs.declared.options.SettingsFault.TheVariants as setting
+
+-- What came of asking the door in a round: no connection came, or one came, from this role as the door tells, and this talk was held on it.
+pub data Visit : Type 0 where
+  unasked : Visit
+  served : Role → Talk → Visit
+
+-- the turn of a round: what the clock gave for it, in milliseconds, and the acts that were made, the latest first
+pub record Turning : Type 0 where
+  pub value : ℕ
+  pub acts : List Act
+
+-- what came of a round: a visit, and then a turn that went through
+pub record Round : Type 0 where
+  pub visit : Visit
+  pub turn : Turning
+
+-- why a turn didn't go through: the closed gate stands at this place, and behind it there is no room for so many bytes of an act's event; there is
+-- no memory; or the disk failed
+pub data Halt : Type 0 where
+  full : ℕ → ℕ → Halt
+  starving broken : Halt
+
+-- How the rounds ended: all were made, waiting for a connection failed, the disk failed in a talk on a connection from this role, or behind
+-- this visit the turn with these acts ended so, for this cause.
+pub data Close : Type 0 where
+  finished unreached : Close
+  stopped : Role → Talk → Close
+  halted : Visit → Turning → TurnEnd → Halt → Close
+
+-- the rounds that were made for whoever asks, the latest first, and how they ended
+pub record Service : Type 0 where
+  pub role : Role
+  pub rounds : List Round
+  pub close : Close
+
+-- what was done with a journal that was opened
+pub data Deed : Type 0 where
+  serving : Service → Deed
+  onboarding : Onboarding → Deed
+
+-- the manager's number and the history that its journal had when it was opened, the latest event first
+pub record Opening : Type 0 where
+  pub number : ℕ
+  pub history : List Event
+
+-- How a run went: the words were no command, there was no memory for what they set, a journal was to be made for this
+-- manager, a journal wasn't opened, or it was opened and this was done.
+pub data Course : Type 0 where
+  misused starved : Course
+  making : ℕ → Result (Unit {0}) CreateFault → Course
+  unopened : OpenFault → Course
+  opened : Opening → Deed → Course
+
+-- the history once a visit was served
+abbrev pub once_served : ℕ → List Event → Visit → List Event
+once_served m H unasked = H
+once_served m H (served came talk) = stood (work_of m H talk)
+
+-- the moment of a turn: that of the clock's value, which is the last of the year 9999 at most
+abbrev pub moment_of : Turning → ℕ
+moment_of turn = min turn.value 253402300799999
+
+-- the history once a round was made: its requests were answered, and then its acts were made
+abbrev pub once_made : ℕ → List Event → Round → List Event
+once_made m H r = once_all_done (moment_of r.turn) (once_served m H r.visit) r.turn.acts
+
+-- the work of the last talk or turn, behind the rounds that were made
+abbrev pub close_work : ℕ → List Event → Close → Work
+close_work m H finished = went H
+close_work m H unreached = went H
+close_work m H (stopped came talk) = work_of m H talk
+close_work m H (halted visit turn end why) = turn_work (moment_of turn) (once_served m H visit) turn.acts end
+
+-- the work of the rounds behind history H of manager m
+abbrev pub service_work : ℕ → List Event → Service → Work
+service_work m H service = close_work m (life (once_made m) H service.rounds) service.close
+
+-- the work of a deed
+abbrev pub deed_work : ℕ → List Event → Deed → Work
+deed_work m H (serving service) = service_work m H service
+deed_work m H (onboarding o) = onboarding_work H o
+
+-- which failure a fault of the settings is
+abbrev pub unset : SettingsFault → Failure
+unset setting.Usage = Usage
+unset setting.Memory = NoMemory
+
+-- which failure a fault of the making of a journal is
+abbrev pub unmade : CreateFault → Failure
+unmade creating.Taken = Taken
+unmade creating.Disk = SiteFault
+
+-- which failure a journal is that wasn't opened
+abbrev pub unopened_failure : OpenFault → Failure
+unopened_failure opening.Unmade = NoJournal
+unopened_failure (opening.Foreign place) = NotAJournal place
+unopened_failure (opening.BadRecord n) = BadRecord n
+unopened_failure opening.Disk = SiteFault
+unopened_failure opening.Memory = NoMemory
+
+-- which failure a descriptor is that wasn't onboarded
+abbrev pub unonboarded : OnboardFault → Failure
+unonboarded fault.Door = DoorFault
+unonboarded (fault.Refused why) = DescriptorRefused why
+unonboarded (fault.Full end more) = JournalFull end more
+unonboarded fault.Memory = NoMemory
+unonboarded fault.Disk = SiteFault
+
+-- which failure a turn is that didn't go through
+abbrev pub halting : Halt → Failure
+halting (full end more) = JournalFull end more
+halting starving = NoMemory
+halting broken = SiteFault
+
+-- the cause of a turn that ended in this fault; an event of an act always fits a record
+abbrev pub halt_of : WorkFault → Option Halt
+halt_of (working.Full end more) = Some (full end more)
+halt_of working.Memory = Some starving
+halt_of working.Disk = Some broken
+halt_of (working.TooLong n) = None
+
+-- how a run ends after so many rounds
+abbrev pub close_ending : ℕ → Close → Ending
+close_ending n finished = Ok (Done n)
+close_ending n unreached = Err DoorFault
+close_ending n (stopped came talk) = Err SiteFault
+close_ending n (halted visit turn end why) = Err (halting why)
+
+-- how a run ends after onboarding
+abbrev pub onboarding_ending : Result Said OnboardFault → Ending
+onboarding_ending (Ok said) = Ok (Onboarded said)
+onboarding_ending (Err why) = Err (unonboarded why)
+
+-- how a run ends after a deed
+abbrev pub deed_ending : List Event → Deed → Ending
+deed_ending H (serving service) = close_ending (length service.rounds) service.close
+deed_ending H (onboarding o) = onboarding_ending (answer_of H o)
+
+-- how a run ends where a journal was to be made
+abbrev pub making_ending : ℕ → Result (Unit {0}) CreateFault → Ending
+making_ending manager (Ok done) = Ok (Made manager)
+making_ending manager (Err why) = Err (unmade why)
+
+-- how a run ends
+abbrev pub ending_of : Course → Ending
+ending_of misused = Err Usage
+ending_of starved = Err NoMemory
+ending_of (making manager result) = making_ending manager result
+ending_of (unopened why) = Err (unopened_failure why)
+ending_of (opened start deed) = deed_ending start.history deed
+
+-- so many rounds were made where all were, and fewer where they ended before
+abbrev pub IsCount : ℕ → ℕ → Close → Type 0
+IsCount wanted n finished = n ≡ wanted
+IsCount wanted n other = n < wanted
+
+-- the deed is one of these settings
+pub record ServesAs (s : Settings) (service : Service) : Type 0 where
+  pub command : s.command ≡ Once
+  pub role : service.role ≡ s.role
+  pub count : IsCount s.rounds (length service.rounds) service.close
+
+abbrev pub IsDeedOf : Settings → Deed → Type 0
+IsDeedOf s (serving service) = ServesAs s service
+IsDeedOf s (onboarding o) = s.command ≡ Onboard
+
+-- the course is one of these settings
+abbrev pub IsOf : Settings → Course → Type 0
+IsOf s misused = ⊥
+IsOf s starved = ⊥
+IsOf s (making number result) = (s.command ≡ Init) × (number ≡ s.manager)
+IsOf s (unopened why) = loads s.command ≡ true
+IsOf s (opened start deed) = IsDeedOf s deed
+
+-- the course is one of what the words set
+pub record IsOfSettings (words : List (List ℕ)) (course : Course) : Type 0 where
+  pub settings : Settings
+  pub set : settings_of words ≡ Some settings
+  pub is : IsOf settings course
+
+-- the course is one of these words: misused exactly where they are no command, else of what they set
+abbrev pub IsOfWords : List (List ℕ) → Course → Type 0
+IsOfWords words misused = settings_of words ≡ None
+IsOfWords words starved = IsCommand words
+IsOfWords words course = IsOfSettings words course

@@ -1,0 +1,5 @@
+pub mod Course
+pub mod Ending
+pub mod Rounds
+pub mod Runs
+pub mod Words

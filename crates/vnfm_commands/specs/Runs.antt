@@ -1,0 +1,159 @@
+-- What a run does to the journal's file, the door and the clock, and with the orchestrator and the infrastructure.
+use Rattle.std.specs.Prelude.{◌≡◌, ◌<◌, ◌⊎◌, ℕ, List, false}
+use Rattle.executor.specs.History.{HasHistory}
+use Rattle.executor.specs.Open.{Refuses}
+use Rattle.executor.specs.Work.{Work, Works, WorksWithJobs, Grows, HasSome, StaysSound, aimed, failed, stood}
+use Rattle.executor.specs.Managed.{Managed}
+use Rattle.executor.specs.declared.manager.OpenFault.{OpenFault}
+use Rattle.journal_core.specs.Create.{Creates}
+use Rattle.journal_core.specs.Header.{IsUnmade, IsForeign}
+use Rattle.journal_core.specs.Load.{SyncsAndReads}
+use Rattle.lcm_api.specs.World.{Tells, Peers, World, peers_of}
+use Rattle.lcm_events.specs.declared.events.Event.{Event}
+use Rattle.lcm_jobs.specs.Sound.{IsSound}
+use Rattle.lcm_model.specs.Allowed.{IsLegal}
+use Rattle.site_traits.specs.Counts.{Rose}
+use Rattle.site_traits.specs.Door.{DoorCounts}
+use Rattle.site_traits.specs.Site.{Pair, SiteState, IsSettled, KeepsJobs, LeavesOnly}
+use Rattle.onboarding.specs.Doing.{BringsIn}
+use Rattle.vnfm_commands.specs.Course.{Course, misused, starved, making, unopened, opened, Deed, serving, onboarding, Opening, deed_work, service_work, IsOfWords}
+use Rattle.occ_work.specs.Around.{Around, Tells as Asking}
+use Rattle.onboarding.specs.Onboarding.{onboarding_work}
+use Rattle.vnfm_commands.specs.Rounds.{AsksNobody, AsksOutside, Attended}
+use Rattle.command_line.specs.declared.options.Command.{Command}
+use Rattle.command_line.specs.declared.options.Command.TheVariants.{Init, Onboard, Once}
+
+-- a site that wasn't called: what is read and what a stop may leave are as they were
+pub record IsUntouched (a b : SiteState) : Type 0 where
+  pub image : b.image ≡ a.image
+  pub moment : b.moment ≡ a.moment
+  pub since : (t : ℕ) (p : Pair) → b.since t p → a.since t p
+  pub still : (t : ℕ) (p : Pair) → a.since t p → b.since t p
+
+-- the journal wasn't opened: its bytes are the cause, and they are as they were at every moment
+pub record IsRefused (why : OpenFault) (a b : SiteState) : Type 0 where
+  pub because : Refuses why a.image
+  pub reads : SyncsAndReads a b
+
+-- what is read, and whatever a stop now may leave, is a file of manager m with this history
+pub record IsStart (m : ℕ) (H : List Event) (s : SiteState) : Type 0 where
+  pub number : m < 4294967296
+  pub file : HasHistory m H s.image
+  pub left : (p : Pair) → s.since s.moment p → HasHistory m H p.image
+
+-- the file is unfinished, or its header differs at some place
+abbrev pub IsNoJournal : List ℕ → Type 0
+IsNoJournal image = IsUnmade image ⊎ ((place : ℕ) × IsForeign place image)
+
+-- the status is this one, or yields to a disk fault or to want of memory
+abbrev pub IsOrYields : ℕ → ℕ → Type 0
+IsOrYields wanted status = (status ≡ wanted) ⊎ ((status ≡ 3) ⊎ (status ≡ 6))
+
+-- the same, and the history is legal
+pub record IsSoundStart (m : ℕ) (H : List Event) (s : SiteState) : Type 0 where
+  pub start : IsStart m H s
+  pub legal : IsLegal m H
+
+-- why the door failed for a command: waiting for a connection failed, or for `onboard` a read did
+abbrev pub IsDoorCause : Command → DoorCounts → DoorCounts → Type 0
+IsDoorCause Onboard a b = Rose a.next b.next ⊎ Rose a.faults b.faults
+IsDoorCause other a b = Rose a.next b.next
+
+-- a sound start of a command: of `init` a file that is unfinished for some manager or not, else a journal with a legal history
+abbrev pub IsStartOf : Command → SiteState → Type 0
+IsStartOf Init s = Unit {0}
+IsStartOf other s = (m : ℕ) × (H : List Event) × IsSoundStart m H s
+
+-- the command may end with this status from a sound start where no call fails
+abbrev pub MayEndWith : Command → ℕ → Type 0
+MayEndWith Init status = (status ≡ 0) ⊎ ((status ≡ 6) ⊎ (status ≡ 11))
+MayEndWith Onboard status = (status ≡ 0) ⊎ ((status ≡ 6) ⊎ ((status ≡ 9) ⊎ (status ≡ 10)))
+MayEndWith Once status = (status ≡ 0) ⊎ ((status ≡ 6) ⊎ (status ≡ 9))
+
+-- nothing is pending, and the file has this history
+pub record IsAtRest (m : ℕ) (H : List Event) (s : SiteState) : Type 0 where
+  pub settled : IsSettled s
+  pub file : HasHistory m H s.image
+
+-- The journal was opened with history H, and this work was done. At every moment a stop leaves a history from H to what the work aimed
+-- at; at its end one that has all that was acknowledged; and unless the disk failed, nothing is pending and the file has just that. Where the
+-- jobs were sound with H, a stop leaves sound ones at every moment.
+pub record Recovers (m : ℕ) (H : List Event) (w : Work) (a b : SiteState) : Type 0 where
+  pub found : HasHistory m H a.image
+  pub any_moment : IsStart m H a → LeavesOnly (HasSome m H (aimed w)) a b
+  pub sound : IsStart m H a → IsSound m H a.jobs → StaysSound m H w a b
+  pub at_exit : (p : Pair) → b.since b.moment p → HasSome m (stood w) (aimed w) p
+  pub rests : failed w ≡ false → IsAtRest m (stood w) b
+
+-- what a run does to the journal's file
+abbrev pub AtFile : Course → SiteState → SiteState → Type 0
+AtFile misused a b = IsUntouched a b
+AtFile starved a b = IsUntouched a b
+AtFile (making manager result) a b = Creates manager result a b
+AtFile (unopened why) a b = IsRefused why a b
+AtFile (opened start deed) a b = Recovers start.number start.history (deed_work start.number start.history deed) a b
+
+-- what a deed does to both
+abbrev pub AtPeersBy : Tells → Opening → Deed → Peers → Peers → Type 0
+AtPeersBy t start (serving service) a b = Attended t start.number start.history service a b
+AtPeersBy t start (onboarding o) a b = BringsIn t o a b
+
+-- what a deed does to the journal: rounds have jobs begun and looked at, and onboarding leaves the jobs alone
+abbrev pub DeedWorks : Type 0 → ℕ → List Event → Deed → Managed → SiteState → SiteState → Type 0
+DeedWorks tells m H (serving service) n a b = WorksWithJobs tells m H (service_work m H service) n a b
+DeedWorks tells m H (onboarding o) n a b = Works tells m H (onboarding_work H o) n a b
+
+-- what a deed does, behind the opening; the manager is now n
+pub record Deeds (t : Tells) (m : ℕ) (H : List Event) (deed : Deed) (n : Managed) (w v : World) : Type 0 where
+  pub works : DeedWorks t.site m H deed n w.site v.site
+  pub peers : AtPeersBy t (record { number = m; history = H }) deed (peers_of w) (peers_of v)
+
+-- what a run does to both
+abbrev pub AtPeers : Tells → Course → Peers → Peers → Type 0
+AtPeers t (opened start deed) a b = AtPeersBy t start deed a b
+AtPeers t other a b = b ≡ a
+
+-- what a deed does with the orchestrator and the infrastructure, over history H of manager m: onboarding asks nobody
+abbrev pub AtOutsideBy : Asking → ℕ → List Event → Deed → Around → Around → Type 0
+AtOutsideBy t m H (serving service) a b = AsksOutside t m H service a b
+AtOutsideBy t m H (onboarding o) a b = AsksNobody t a b
+
+-- what a run does with them: the making and the opening of a journal ask nobody
+abbrev pub AtOutside : Asking → Course → Around → Around → Type 0
+AtOutside t misused a b = b ≡ a
+AtOutside t starved a b = b ≡ a
+AtOutside t (making manager result) a b = AsksNobody t a b
+AtOutside t (unopened why) a b = AsksNobody t a b
+AtOutside t (opened start deed) a c = (b : Around) × AsksNobody t a b × AtOutsideBy t start.number start.history deed b c
+
+-- the history is legal, and grows by the work as a legal one
+pub record IsLegalRun (m : ℕ) (H : List Event) (w : Work) : Type 0 where
+  pub number : m < 4294967296
+  pub before : IsLegal m H
+  pub grows : Grows m H w
+
+-- what was opened is a legal history, and stays one
+abbrev pub IsLegalCourse : Course → Type 0
+IsLegalCourse (opened start deed) = IsLegalRun start.number start.history (deed_work start.number start.history deed)
+IsLegalCourse other = Unit {0}
+
+-- what a run does to the jobs: it leaves them alone, but for rounds, whose acts `AtOutside` tells
+abbrev pub AtJobsBy : Deed → SiteState → SiteState → Type 0
+AtJobsBy (serving service) a b = Unit {0}
+AtJobsBy (onboarding o) a b = KeepsJobs a b
+
+abbrev pub AtJobs : Course → SiteState → SiteState → Type 0
+AtJobs (opened start deed) a b = AtJobsBy deed a b
+AtJobs other a b = KeepsJobs a b
+
+-- what a run does, by the way that it went
+pub record Does (t : Tells) (course : Course) (w v : World) : Type 0 where
+  pub legal : IsLegalCourse course
+  pub site : t.site → AtFile course w.site v.site
+  pub jobs : t.site → AtJobs course w.site v.site
+  pub peers : AtPeers t course (peers_of w) (peers_of v)
+
+-- a run of these words went so
+pub record Runs (t : Tells) (words : List (List ℕ)) (course : Course) (w v : World) : Type 0 where
+  pub words_are : IsOfWords words course
+  pub does : Does t course w v

@@ -1,0 +1,147 @@
+//! Rounds: in each the door is asked for a connection, which is served; then the clock is read, and a turn is made.
+ghost use Rattle.std.specs.Prelude.{◌≡◌, ◌≢◌, ℕ, List, Some, length, option_map};
+ghost use Rattle.executor.specs.Managed.{IsReady};
+ghost use Rattle.lcm_api.specs.World.{telling, world};
+ghost use Rattle.lcm_events.specs.declared.events.Event.{Event};
+ghost use Rattle.occ_work.specs.Around.{DiskFails, outside, telling as asking};
+ghost use Rattle.occ_work.specs.Turns.{TurnEnd, Turns};
+ghost use Rattle.site_traits.specs.Clock.{Gives};
+ghost use Rattle.site_traits.specs.Counts.{OnlyDiskFails};
+ghost use Rattle.vnfm_commands.specs.Course.{IsCount, Service, Turning, close_ending, halt_of, halting, moment_of};
+ghost use Rattle.vnfm_commands.specs.Rounds.{IsMet, IsOne, Makes, MakesOne, Meets, Met, MetFor, One, OneFor, IsTurned, beside};
+
+use crate::ending::{Ending, Failure, Report};
+use executor::{Manager, WorkFault, works_add_up, works_with_jobs_add_up};
+use lcm_api::Mouth;
+use lcm_events::Role;
+use lcm_sessions::{Closed, answer_session};
+use occ_work::turn;
+use site_traits::{Clock, Door, NextAnswer, Orchestrator, Site};
+use std::alloc::Global;
+use vnfm_base::Moment;
+
+/// Makes so many rounds, for whoever asks in this role, and says how the run ends.
+///
+/// A round is: the door is asked for a connection once; one that came is served; then the clock is read, and a turn is made: one act for each
+/// occurrence whose grant is asked for or whose changes are made. The first round in which waiting for a connection fails, or the disk, or a
+/// turn finds the journal full or no memory, is the last, and the acts before that stand.
+/// Source: SOL 003 clauses 5 and 9; rounds are an own rule, docs/FORMATS.md.
+pub fn make_rounds<S: Site, D: Door, O: Orchestrator, K: Clock>(
+    alloc: Global,
+    manager: &mut Manager<S>,
+    site: &mut S,
+    mouth: &mut Mouth<D>,
+    orchestrator: &mut O,
+    clock: &mut K,
+    role: Role,
+    count: u32,
+) -> Ending
+    requires ready { (H : List Event) × IsReady S.tells manager.old H (S.state site.old) }
+    ensures makes { (H : List Event) → IsReady S.tells manager.old H (S.state site.old) → (service : Service)
+        × Makes (telling S.tells D.tells K.tells) O.tells manager.old.ledger.manager H service manager.new
+        (world (S.state site.old) mouth.old (K.state clock.old)) (world (S.state site.new) mouth.new (K.state clock.new))
+        (beside (S.state site.old) (S.counts site.old) (O.state orchestrator.old) (O.counts orchestrator.old)) (beside (S.state site.new) (S.counts site.new) (O.state orchestrator.new) (O.counts orchestrator.new))
+        × (service.role ≡ role) × IsCount count (length service.rounds) service.close × (result ≡ close_ending (length service.rounds) service.close) }
+    ensures disk { DiskFails (result ≡ Err Failure.SiteFault) (S.counts site.old) (S.counts site.new) }
+{
+    works_add_up::<S>();
+    works_with_jobs_add_up::<S>();
+    let mut made = 0;
+    'rounds: while made < count {
+        match make_round(alloc, manager, site, mouth, orchestrator, clock, role) {
+            Ok(()) => made += 1,
+            Err(why) => return Err(why),
+        }
+    }
+    Ok(Report::Done(made))
+}
+
+/// Asks for one connection, serves it, and makes the turn of the round.
+fn make_round<S: Site, D: Door, O: Orchestrator, K: Clock>(
+    alloc: Global,
+    manager: &mut Manager<S>,
+    site: &mut S,
+    mouth: &mut Mouth<D>,
+    orchestrator: &mut O,
+    clock: &mut K,
+    role: Role,
+) -> Result<(), Failure>
+    requires ready { (H : List Event) × IsReady S.tells manager.old H (S.state site.old) }
+    ensures makes { (H : List Event) → IsReady S.tells manager.old H (S.state site.old) → (one : One)
+        × MakesOne (telling S.tells D.tells K.tells) O.tells manager.old.ledger.manager H one manager.new
+        (world (S.state site.old) mouth.old (K.state clock.old)) (world (S.state site.new) mouth.new (K.state clock.new))
+        (beside (S.state site.old) (S.counts site.old) (O.state orchestrator.old) (O.counts orchestrator.old)) (beside (S.state site.new) (S.counts site.new) (O.state orchestrator.new) (O.counts orchestrator.new))
+        × OneFor role one × IsOne result one }
+    ensures disk { DiskFails (result ≡ Err Failure.SiteFault) (S.counts site.old) (S.counts site.new) }
+{
+    works_add_up::<S>();
+    works_with_jobs_add_up::<S>();
+    match meet(alloc, manager, site, mouth, clock, role) {
+        Ok(()) => take_turn(alloc, manager, site, orchestrator, clock),
+        Err(why) => Err(why),
+    }
+}
+
+/// Asks the door for one connection, and serves one that came.
+fn meet<S: Site, D: Door, K: Clock>(
+    alloc: Global,
+    manager: &mut Manager<S>,
+    site: &mut S,
+    mouth: &mut Mouth<D>,
+    clock: &mut K,
+    role: Role,
+) -> Result<(), Failure>
+    requires ready { (H : List Event) × IsReady S.tells manager.old H (S.state site.old) }
+    ensures meets { (H : List Event) → IsReady S.tells manager.old H (S.state site.old) → (met : Met)
+        × Meets (telling S.tells D.tells K.tells) manager.old.ledger.manager H met manager.new
+        (world (S.state site.old) mouth.old (K.state clock.old)) (world (S.state site.new) mouth.new (K.state clock.new))
+        × MetFor role met × IsMet result met }
+    ensures disk { OnlyDiskFails (result ≡ Err Failure.SiteFault) (S.counts site.old) (S.counts site.new) }
+    ensures untouched { result ≡ Err Failure.DoorFault → site.new ≡ site.old }
+{
+    works_add_up::<S>();
+    match mouth.next() {
+        NextAnswer::Came(_) => match answer_session(alloc, manager, site, mouth, clock, role) {
+            Ok(_) => Ok(()),
+            Err(Closed) => Err(Failure::SiteFault),
+        },
+        NextAnswer::Nobody => Ok(()),
+        NextAnswer::Ended => Ok(()),
+        NextAnswer::Failed => Err(Failure::DoorFault),
+    }
+}
+
+/// Reads the clock, and makes a turn at that moment.
+fn take_turn<S: Site, O: Orchestrator, K: Clock>(
+    alloc: Global,
+    manager: &mut Manager<S>,
+    site: &mut S,
+    orchestrator: &mut O,
+    clock: &mut K,
+) -> Result<(), Failure>
+    requires ready { (H : List Event) × IsReady S.tells manager.old H (S.state site.old) }
+    ensures turns { (H : List Event) → IsReady S.tells manager.old H (S.state site.old) → (turning : Turning) × (end : TurnEnd)
+        × Turns (asking S.tells O.tells) manager.old.ledger.manager (moment_of turning) H turning.acts end manager.new
+        (outside (S.state site.old) (S.counts site.old) (O.state orchestrator.old) (O.counts orchestrator.old)) (outside (S.state site.new) (S.counts site.new) (O.state orchestrator.new) (O.counts orchestrator.new))
+        × (K.tells → Gives turning.value (K.state clock.old) (K.state clock.new)) × IsTurned result end }
+    ensures disk { DiskFails (result ≡ Err Failure.SiteFault) (S.counts site.old) (S.counts site.new) }
+{
+    let now = Moment::of(clock.now());
+    match turn(alloc, manager, site, orchestrator, now) {
+        Ok(_) => Ok(()),
+        Err(fault) => Err(failure_of(fault)),
+    }
+}
+
+/// The failure of a run whose turn ended in this fault.
+fn failure_of(fault: WorkFault) -> Failure
+    requires short { (n : ℕ) → fault ≢ WorkFault.TooLong n }
+    ensures { option_map halting (halt_of fault) ≡ Some result }
+{
+    match fault {
+        WorkFault::Full { end, more } => Failure::JournalFull { end, more },
+        WorkFault::Memory => Failure::NoMemory,
+        WorkFault::Disk => Failure::SiteFault,
+        WorkFault::TooLong(_) => unreachable!(),
+    }
+}
