@@ -8,7 +8,7 @@ use Rattle.journal_core.specs.Asking.{FailsWhere}
 use Rattle.journal_core.specs.Room.{HasRoom}
 use Rattle.journal_core.specs.declared.journal.AppendFault.{AppendFault}
 use Rattle.journal_core.specs.declared.journal.AppendFault.TheVariants as appending
-use Rattle.journal_core.specs.declared.journal.TheConstants.{MAX_FILE}
+use Rattle.journal_records.specs.declared.limits.TheConstants.{MAX_FILE}
 use Rattle.journal_core.specs.declared.loading.Found.{Found}
 use Rattle.journal_core.specs.declared.loading.LoadFault.{LoadFault}
 use Rattle.journal_core.specs.declared.loading.LoadFault.TheVariants as loading

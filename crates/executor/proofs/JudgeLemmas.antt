@@ -2,12 +2,12 @@
 use Rattle.std.proofs.Common.{◌≡◌, ◌+◌, ℕ, List, [], ◌∷◌, ◌++◌, ◌<◌, length, Option, Some, None, Result, Ok, Err, ap, ◌∙◌, sym, subst, refl, arith, rules, append_assoc}
 use Rattle.std.specs.List.{AllByRecursion}
 use Rattle.event_codec.specs.Valid.{IsEvent}
-use Rattle.journal_core.specs.File.{size}
+use Rattle.journal_records.specs.File.{size}
 use Rattle.journal_core.specs.Room.{Adds, AddsUp, TakesMore}
 use Rattle.journal_core.specs.Load.{Finds, Grows, Progress, IsBegun, Loads, LoadsAll, ReadsOn}
 use Rattle.journal_core.specs.declared.loading.Found.{Found}
 use Rattle.journal_core.specs.declared.loading.Found.TheVariants as found
-use Rattle.journal_core.specs.declared.journal.TheConstants.{MAX_FILE}
+use Rattle.journal_records.specs.declared.limits.TheConstants.{MAX_FILE}
 use Rattle.instance_table.specs.Rows.{Rows}
 use Rattle.lcm_events.specs.declared.events.Event.{Event}
 use Rattle.lcm_laws.specs.Serials.{SerialsAreCounted}

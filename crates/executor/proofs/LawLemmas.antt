@@ -5,8 +5,8 @@ use Rattle.std.proofs.lemmas.Bool.{cases_lt}
 use Rattle.std.proofs.lemmas.List.{length-map, length-reverse, same_from_push}
 use Rattle.event_codec.specs.Spell.{spelling}
 use Rattle.event_codec.specs.Valid.{IsEvent}
-use Rattle.journal_core.specs.File.{records, HasRecords}
-use Rattle.journal_core.specs.Head.{IsBrokenAt}
+use Rattle.journal_records.specs.File.{records, HasRecords}
+use Rattle.journal_records.specs.Head.{IsBrokenAt}
 use Rattle.event_codec.specs.Prefix.{NoSpellingBeginsAnother}
 use Rattle.journal_core.specs.Exclusion.{BreaksOnce, IsHeadedOnce, IsWholeOnce, IsWholeOrBroken, ReadsItsRecords}
 use Rattle.lcm_events.specs.declared.events.Event.{Event}

@@ -3,7 +3,7 @@ use Rattle.std.proofs.Common.{◌≡◌, ◌≤◌, ◌<◌, ◌+◌, ℕ, List,
 use Rattle.std.specs.Result.{IsErrAnd}
 use Rattle.event_codec.specs.Spell.{spelling}
 use Rattle.event_codec.specs.Valid.{IsEvent}
-use Rattle.journal_core.specs.File.{records, size, HasRecords}
+use Rattle.journal_records.specs.File.{records, size, HasRecords}
 use Rattle.journal_core.specs.Header.{HasHeader}
 use Rattle.journal_core.specs.Room.{Adds, AddsUp}
 use Rattle.journal_core.specs.Journal as journal

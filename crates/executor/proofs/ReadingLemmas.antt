@@ -7,7 +7,7 @@ use mathlib.Core.List.{reverse-cons}
 use Rattle.event_codec.specs.Spell.{spelling}
 use Rattle.event_codec.specs.Valid.{IsEvent}
 use Rattle.journal_core.specs.Back.{KeepsRecords}
-use Rattle.journal_core.specs.File.{records}
+use Rattle.journal_records.specs.File.{records}
 use Rattle.journal_core.specs.Journal.{Stands}
 use Rattle.lcm_events.specs.declared.events.Event.{Event}
 use Rattle.lcm_model.specs.Allowed.{IsLegal}

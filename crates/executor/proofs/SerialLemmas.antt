@@ -5,7 +5,7 @@ use Rattle.event_codec.specs.Numbers as number
 use Rattle.event_codec.specs.Spell as spell
 use Rattle.event_codec.specs.Spell.{u16, u32, spelling}
 use Rattle.journal_core.specs.Room.{TakesMore}
-use Rattle.journal_core.specs.declared.journal.TheConstants.{MAX_FILE}
+use Rattle.journal_records.specs.declared.limits.TheConstants.{MAX_FILE}
 use Rattle.lcm_events.specs.declared.changes.Change.{Change}
 use Rattle.lcm_events.specs.declared.events.Event.{Event}
 use Rattle.lcm_events.specs.declared.events.EventKind.{EventKind}

@@ -3,7 +3,7 @@ use Rattle.std.proofs.Common.{◌≡◌, ◌∙◌, ℕ, List, [], ◌∷◌, �
 use Rattle.executor.specs.History.{HasHistory}
 use Rattle.executor.specs.Managed.{Managed, StandsFor, IsReady}
 use Rattle.executor.specs.Work.{Extends, HasEverywhere, HasSome, HasSomeSound, StaysSound, Work, Works, WorksAtFile, WorksWithJobs, aimed, failed, stood, went}
-use Rattle.journal_core.specs.File.{HasRecords}
+use Rattle.journal_records.specs.File.{HasRecords}
 use Rattle.lcm_events.specs.declared.events.Event.{Event}
 use Rattle.lcm_jobs.specs.Sound.{IsSound}
 use Rattle.lcm_jobs.proofs.KeepLemmas.{sound_on}

@@ -4,7 +4,7 @@ use Rattle.std.specs.Prelude.{ℕ, List, map, reverse}
 use Rattle.std.specs.List.{AllByRecursion}
 use Rattle.event_codec.specs.Spell.{spelling}
 use Rattle.event_codec.specs.Valid.{IsEvent}
-use Rattle.journal_core.specs.File.{HasRecords}
+use Rattle.journal_records.specs.File.{HasRecords}
 use Rattle.lcm_events.specs.declared.events.Event.{Event}
 
 -- the spellings of the events, the oldest first

@@ -3,7 +3,7 @@ use Rattle.std.specs.Prelude.{◌≡◌, ℕ, Bool, true, false, List, ◌∷◌
 use Rattle.std.specs.List.{AllByRecursion}
 use Rattle.event_codec.specs.Spell.{spelling}
 use Rattle.event_codec.specs.Valid.{IsEvent}
-use Rattle.journal_core.specs.Head.{IsBrokenAt}
+use Rattle.journal_records.specs.Head.{IsBrokenAt}
 use Rattle.journal_core.specs.Header.{HasHeader}
 use Rattle.journal_core.specs.Load.{Progress, Loads, LoadsAll}
 use Rattle.site_traits.specs.Site.{SiteState, Reads}

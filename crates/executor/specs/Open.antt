@@ -3,8 +3,8 @@ use Rattle.std.specs.Prelude.{◌≡◌, ◌⊎◌, ℕ, ◌+◌, List, ◌∷�
 use Rattle.std.specs.List.{AllByRecursion}
 use Rattle.event_codec.specs.Spell.{spelling}
 use Rattle.event_codec.specs.Valid.{IsEvent}
-use Rattle.journal_core.specs.File.{records, HasRecords}
-use Rattle.journal_core.specs.Head.{IsBrokenAt}
+use Rattle.journal_records.specs.File.{records, HasRecords}
+use Rattle.journal_records.specs.Head.{IsBrokenAt}
 use Rattle.journal_core.specs.Header.{IsUnmade, IsForeign, HasHeader}
 use Rattle.lcm_events.specs.declared.events.Event.{Event}
 use Rattle.lcm_model.specs.Allowed.{IsAllowed, IsLegal}

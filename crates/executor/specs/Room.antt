@@ -1,9 +1,9 @@
 -- How full the journal of a history is, and what an answer of recording tells of that (own rule, docs/JOURNAL.md).
 use Rattle.std.specs.Prelude.{◌≡◌, ◌≤◌, ◌<◌, ℕ, List, ◌∷◌, length, nat_le, Bool, true, false, Result, Err}
 use Rattle.event_codec.specs.Spell.{spelling}
-use Rattle.journal_core.specs.File.{size}
+use Rattle.journal_records.specs.File.{size}
 use Rattle.journal_core.specs.Room.{HasRoom}
-use Rattle.journal_core.specs.declared.journal.TheConstants.{MAX_FILE, MAX_RECORD}
+use Rattle.journal_records.specs.declared.limits.TheConstants.{MAX_FILE, MAX_RECORD}
 use Rattle.lcm_events.specs.declared.events.Event.{Event}
 use Rattle.executor.specs.History.{spellings}
 use Rattle.executor.specs.declared.manager.WorkFault.{WorkFault}

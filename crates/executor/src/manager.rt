@@ -7,7 +7,7 @@ ghost use Rattle.executor.specs.Open.{Opens};
 ghost use Rattle.executor.specs.Room.{TellsRoom};
 ghost use Rattle.instance_table.specs.Rows.{StandsFor, live};
 ghost use Rattle.instance_table.specs.Table.{is_counted};
-ghost use Rattle.journal_core.specs.declared.journal.TheConstants.{MAX_FILE};
+ghost use Rattle.journal_records.specs.declared.limits.TheConstants.{MAX_FILE};
 ghost use Rattle.lcm_events.specs.declared.events.Event.{Event};
 ghost use Rattle.vnfm_base.specs.Ident.{IsIdentNumber};
 ghost use Rattle.lcm_model.specs.Lives.{descriptor_named, descriptors, instances_made, is_live};

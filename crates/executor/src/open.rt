@@ -2,7 +2,7 @@
 ghost use Rattle.std.specs.Prelude.{◌≡◌, ◌<◌, List, [], IfOk, OnOk, None, true};
 ghost use Rattle.journal_core.specs.Load.{IsBegun, Loads};
 ghost use Rattle.journal_core.specs.Asking.{FailsWhere};
-ghost use Rattle.journal_core.specs.declared.journal.TheConstants.{MAX_FILE};
+ghost use Rattle.journal_records.specs.declared.limits.TheConstants.{MAX_FILE};
 ghost use Rattle.executor.specs.Loading.{IsThrough, Judges, JudgesNext, JudgesAll};
 ghost use Rattle.lcm_tables.specs.Tables.{HasSmallHistory};
 

@@ -7,7 +7,7 @@ ghost use Rattle.executor.specs.Asking.{CommitAsks};
 ghost use Rattle.executor.specs.Managed.{IsReady, IsWithinFile, KeepsOn, KeepsOne, MayPut, managed};
 ghost use Rattle.executor.specs.Room.{IsRecordOf, TellsRoom, journal_end};
 ghost use Rattle.executor.specs.Work.{WorksAtFile, recorded};
-ghost use Rattle.journal_core.specs.declared.journal.TheConstants.{MAX_FILE, MAX_RECORD};
+ghost use Rattle.journal_records.specs.declared.limits.TheConstants.{MAX_FILE, MAX_RECORD};
 ghost use Rattle.lcm_events.specs.declared.events.Event.{Event};
 ghost use Rattle.lcm_tables.specs.Tables.{HasRoom};
 ghost use Rattle.site_traits.specs.Counts.{OnlyDiskFails};

@@ -5,7 +5,7 @@ use Rattle.std.specs.Result.{IsErr}
 use Rattle.std.proofs.lemmas.Result.{IfOk-from_err}
 use Rattle.site_traits.specs.Site.{Pair, SiteState, LeavesOnly, IsSettled, Torn, Holds, FileStep, WritesThrough}
 use Rattle.site_traits.specs.Moments.{started, goes_on}
-use Rattle.journal_core.specs.File.{records, piece, size, IsRecord, HasRecords}
+use Rattle.journal_records.specs.File.{records, piece, size, IsRecord, HasRecords}
 use Rattle.journal_core.specs.declared.marks.Mark.{Mark}
 use Rattle.journal_core.specs.Marks.{IsMark}
 use Rattle.journal_core.proofs.MarkLemmas.{mark_end, marks_more}

@@ -4,7 +4,7 @@ use Rattle.std.proofs.lemmas.List.{drop_at, take_at, take_more, drop-drop}
 use Rattle.std.proofs.lemmas.Nat.{from_be_bytes-to_be_bytes_4}
 use Rattle.std.specs.Int.{w32, to_be_bytes, from_be_bytes}
 use Rattle.site_traits.specs.Site.{SiteState, Reads}
-use Rattle.journal_core.specs.File.{header, framed, blocks, records, size, IsRecord, HasRecords}
+use Rattle.journal_records.specs.File.{header, framed, blocks, records, size, IsRecord, HasRecords}
 use Rattle.journal_core.specs.Marks.{IsMark}
 use Rattle.journal_core.specs.Journal.{Ledger, Stands}
 use Rattle.journal_core.specs.Back.{HasAt, HasRecord}

@@ -6,7 +6,7 @@ use Rattle.std.proofs.lemmas.Bool.Decides.{eqb_tells}
 use Rattle.std.proofs.lemmas.List.{take-append-drop, take_at, drop_more, get_or-take, append-nil}
 use Rattle.site_traits.specs.Site.{SiteState, LeavesOnly, IsSettled, Same, Torn, Holds, FileStep, WritesThrough}
 use Rattle.site_traits.specs.Moments.{started, goes_on, followed, keeps_one, keeps_then}
-use Rattle.journal_core.specs.File.{header, HasRecords}
+use Rattle.journal_records.specs.File.{header, HasRecords}
 use Rattle.journal_core.specs.Header.{made, first, IsUnfinished}
 use Rattle.site_traits.specs.declared.site.DiskFailed.{DiskFailed}
 use Rattle.journal_core.specs.declared.create.CreateFault.{CreateFault}

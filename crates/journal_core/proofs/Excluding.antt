@@ -4,9 +4,9 @@ use Rattle.std.specs.Int.{w32, to_be_bytes, from_be_bytes}
 use Rattle.std.proofs.lemmas.Nat.{from_be_bytes-to_be_bytes_4}
 use Rattle.std.proofs.lemmas.Bool.{cases_lt, cases_order}
 use Rattle.std.proofs.lemmas.List.{take_at, drop_at, get_or-take, get_or-drop}
-use Rattle.journal_core.specs.File.{header, cut_records, framed, blocks, size, IsRecord, HasRecords}
+use Rattle.journal_records.specs.File.{header, cut_records, framed, blocks, size, IsRecord, HasRecords}
 use Rattle.journal_core.specs.Header.{MayStand}
-use Rattle.journal_core.specs.Head.{number, IsBody, IsBroken, BeginsWith}
+use Rattle.journal_records.specs.Head.{number, IsBody, IsBroken, BeginsWith}
 use Rattle.journal_core.specs.Exclusion.{IsWholeOrUnmade, IsWholeOrForeign, IsWholeOrBroken, IsWholeOnce, IsHeadedOrNot, IsForeignOnce, BreaksOnce}
 use Rattle.journal_core.proofs.Records.{header_length, framed_length, each_first, each_rest, open_cut, records_of}
 use Rattle.journal_core.proofs.HeaderLemmas.{made_not_unmade}

@@ -4,7 +4,7 @@ use Rattle.std.specs.Int.{w32, to_be_bytes}
 use Rattle.std.proofs.lemmas.List.{take_at, take_more_set}
 use Rattle.std.proofs.lemmas.Slice.{take-put_mid}
 use borrow.Rule.Slice.PartMut.{put_mid}
-use Rattle.journal_core.specs.File.{piece}
+use Rattle.journal_records.specs.File.{piece}
 
 -- a number at the front, these bytes behind it and a zero behind them
 pub framed_in : (buffer four ys bytes : List ℕ) (k : ℕ) → length bytes + 5 ≤ length buffer → four ≡ to_be_bytes w32 (length bytes) → ys ≡ bytes → k ≡ length bytes

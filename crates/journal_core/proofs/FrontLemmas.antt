@@ -3,7 +3,7 @@ use Rattle.std.proofs.Common.{◌≡◌, ◌⊎◌, ◌∙◌, sym, ap, subst, i
 use Rattle.std.proofs.lemmas.List.{take-take, drop-take, get_or-take, length-take}
 use Rattle.journal_core.specs.declared.header.Verdict.{Verdict}
 use Rattle.journal_core.specs.declared.header.Verdict.TheVariants.{Made, Unmade, Foreign}
-use Rattle.journal_core.specs.File.{header}
+use Rattle.journal_records.specs.File.{header}
 use Rattle.journal_core.specs.Header.{made, first, IsUnfinished, MayStand}
 use Rattle.journal_core.specs.Judged.{Judged}
 

@@ -1,11 +1,12 @@
 -- Headers by their parts and by their places.
-use Rattle.std.proofs.Common.{◌≡◌, ◌⊎◌, ◌∙◌, sym, ap, subst, ⊎_elim, ℕ, zero, suc, ◌+◌, ◌≤◌, ◌<◌, Bool, true, false, not, List, [], ◌∷◌, ◌++◌, length, take, drop, get_or, replicate, length-take, length-drop, refl, arith}
+use Rattle.std.proofs.Common.{◌≡◌, ◌⊎◌, ◌∙◌, sym, ap, ⊎_elim, ℕ, ◌+◌, ◌≤◌, ◌<◌, Bool, true, false, not, List, [], ◌∷◌, ◌++◌, length, take, drop, get_or, replicate, length-take, length-drop, refl, arith}
 use Rattle.std.specs.Int.{w32, to_be_bytes, from_be_bytes}
 use Rattle.std.proofs.lemmas.Bool.{false≢true}
 use Rattle.std.proofs.lemmas.Nat.{be_bytes_4}
-use Rattle.std.proofs.lemmas.List.{take-take, drop-drop, drop-take, get_or-take, get_or-drop, ext_get_or, length-take-le, drop_more}
+use Rattle.std.proofs.lemmas.List.{take-take, drop-drop, drop-take, get_or-take, get_or-drop, ext_get_or, length-take-le}
 use Rattle.std.proofs.Math.Seq.{take-add}
-use Rattle.journal_core.specs.File.{header}
+use Rattle.journal_records.specs.File.{header}
+use Rattle.journal_records.proofs.ByteLemmas.{below_take, below_drop}
 use Rattle.journal_core.specs.Header.{made, first, IsUnfinished, MayStand, IsForeign, HasHeader}
 
 -- a test that isn't false is true
@@ -21,16 +22,6 @@ not_true false h k = false≢true k
 -- what stands behind the first byte of every header, up to its number
 abbrev pub name : List ℕ
 name = 78 ∷ 70 ∷ 77 ∷ 45 ∷ 76 ∷ 67 ∷ 77 ∷ 1 ∷ []
-
--- bytes of a part of a list are bytes
-pub below_take : (n : ℕ) (xs : List ℕ) → ((i : ℕ) → get_or xs i 0 < 256) → (i : ℕ) → get_or (take n xs) i 0 < 256
-below_take zero xs small i = omega arith
-below_take (suc n) [] small i = omega arith
-below_take (suc n) (x ∷ xs) small zero = small 0
-below_take (suc n) (x ∷ xs) small (suc i) = below_take n xs (λ k. small (suc k)) i
-
-pub below_drop : (n : ℕ) (xs : List ℕ) → ((i : ℕ) → get_or xs i 0 < 256) → (i : ℕ) → get_or (drop n xs) i 0 < 256
-below_drop n xs small i = let P : ℕ → Type 0 = λ v. v < 256 in subst P (sym (get_or-drop n xs i 0)) (small (n + i))
 
 -- the four bytes of a number are those of their number
 pub number_back : (bytes : List ℕ) (k : ℕ) → ((i : ℕ) → get_or bytes i 0 < 256) → k + 4 ≤ length bytes
@@ -106,14 +97,6 @@ made_not_unmade m n image is unfinished =
     (λ (rest : (first image ≡ 118) ⊎ ((first image ≡ 86 → ⊥) × (take 32 (drop 1 image) ≡ drop 1 (made n)))).
     ⊎_elim (λ (v : first image ≡ 118). omega (arith, v)) (λ (other : (first image ≡ 86 → ⊥) × (take 32 (drop 1 image) ≡ drop 1 (made n))). other.0 begins) rest)
     unfinished
-
--- four bytes in a row
-pub four_at : (k : ℕ) (xs : List ℕ) → k + 4 ≤ length xs → take 4 (drop k xs) ≡ get_or xs k 0 ∷ get_or xs (k + 1) 0 ∷ get_or xs (k + 2) 0 ∷ get_or xs (k + 3) 0 ∷ []
-four_at k xs room =
-    let one : drop (k + 1) xs ≡ get_or xs (k + 1) 0 ∷ drop (k + 2) xs = drop_more xs (k + 1) 0 (omega arith) ∙ ap (λ v. get_or xs (k + 1) 0 ∷ drop v xs) (let e : k + 1 + 1 ≡ k + 2 = omega arith in e) in
-    let two : drop (k + 2) xs ≡ get_or xs (k + 2) 0 ∷ drop (k + 3) xs = drop_more xs (k + 2) 0 (omega arith) ∙ ap (λ v. get_or xs (k + 2) 0 ∷ drop v xs) (let e : k + 2 + 1 ≡ k + 3 = omega arith in e) in
-    ap (take 4) (drop_more xs k 0 (omega arith)
-    ∙ ap (λ v. get_or xs k 0 ∷ v) (one ∙ ap (λ v. get_or xs (k + 1) 0 ∷ v) (two ∙ ap (λ v. get_or xs (k + 2) 0 ∷ v) (drop_more xs (k + 3) 0 (omega arith)))))
 
 -- A file that begins neither with `v` nor with `V`, and not with the rest of a made file, is foreign at its first byte.
 pub foreign_at_first : (front : List ℕ) → 2 ≤ length front → (first front ≡ 118 → ⊥) → (first front ≡ 86 → ⊥) → (((m : ℕ) × (take 32 (drop 1 front) ≡ drop 1 (made m))) → ⊥)

@@ -2,7 +2,6 @@ pub mod Appending
 pub mod AskLemmas
 pub mod Frame
 pub mod FrontLemmas
-pub mod HeadLemmas
 pub mod HeaderLemmas
 pub mod Records
 pub mod LoadLemmas

@@ -6,9 +6,9 @@ use Rattle.std.proofs.lemmas.List.{take-append-drop, drop-drop, length_push, app
 use Rattle.std.proofs.lemmas.List.Elements.{All-push, All-cons, All-nil}
 use Rattle.site_traits.specs.Site.{SiteState, IsSettled, KeepsJobs, Same, Syncs, Reads}
 use Rattle.site_traits.specs.Moments.{keeps_one, on_file-reads, reads-then}
-use Rattle.journal_core.specs.File.{header, framed, blocks, size, IsRecord, HasRecords}
+use Rattle.journal_records.specs.File.{header, framed, blocks, size, IsRecord, HasRecords}
 use Rattle.journal_core.specs.Header.{HasHeader}
-use Rattle.journal_core.specs.Head.{number, IsClosed, IsOpen, BeginsWith}
+use Rattle.journal_records.specs.Head.{number, IsClosed, IsOpen, BeginsWith}
 use Rattle.journal_core.specs.Load.{Progress, Loads, LoadsAll, SyncsAndReads, Finds, Loaded}
 use Rattle.site_traits.specs.Counts.{SiteCounts}
 use Rattle.journal_core.specs.Asking.{FailsWhere}

@@ -3,7 +3,7 @@ use Rattle.std.proofs.Common.{◌≡◌, ◌∙◌, sym, ap, ℕ, List, [], ◌�
 use Rattle.std.proofs.lemmas.List.{take_at, take-append-le}
 use Rattle.std.proofs.lemmas.List.Elements.{All-weaker}
 use Rattle.journal_core.specs.declared.marks.Mark.{Mark}
-use Rattle.journal_core.specs.File.{size}
+use Rattle.journal_records.specs.File.{size}
 use Rattle.journal_core.specs.Marks.{IsMark, first_mark}
 
 -- the place of the first gate is one, whatever the records

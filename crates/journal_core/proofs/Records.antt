@@ -10,7 +10,7 @@ use Rattle.std.proofs.lemmas.List.{take_at, drop_at, append-nil}
 use Rattle.std.proofs.lemmas.List.Elements.{All-push}
 use Rattle.site_traits.specs.Site.{Torn, Holds}
 use Rattle.site_traits.proofs.Writes.{torn_behind, written_behind, torn_gate, written_gate}
-use Rattle.journal_core.specs.File.{header, cut_records, records, framed, piece, blocks, size, IsRecord, HasRecords}
+use Rattle.journal_records.specs.File.{header, cut_records, records, framed, piece, blocks, size, IsRecord, HasRecords}
 
 -- one block more
 pub blocks_push : (rs : List (List ℕ)) (bytes : List ℕ) → blocks (rs ++ bytes ∷ []) ≡ blocks rs ++ framed bytes

@@ -3,7 +3,7 @@ use Rattle.std.specs.Prelude.{◌≡◌, ◌≤◌, ℕ, ◌+◌, ◌-◌, List,
 use Rattle.site_traits.specs.Site.{SiteState, Reads}
 use Rattle.journal_core.specs.declared.back.BackFault.{BackFault}
 use Rattle.journal_core.specs.declared.back.BackFault.TheVariants as fault
-use Rattle.journal_core.specs.File.{framed, records, size, IsRecord, HasRecords}
+use Rattle.journal_records.specs.File.{framed, records, size, IsRecord, HasRecords}
 use Rattle.journal_core.specs.Journal.{Ledger, Stands}
 
 -- an open record of these bytes stands at this place and ends at or before `end`

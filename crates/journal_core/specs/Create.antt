@@ -5,7 +5,7 @@ use Rattle.journal_core.specs.declared.create.CreateFault.{CreateFault}
 use Rattle.journal_core.specs.declared.create.CreateFault.TheVariants as fault
 use Rattle.journal_core.specs.declared.create.Stage.{Stage}
 use Rattle.journal_core.specs.declared.create.Stage.TheVariants as stage
-use Rattle.journal_core.specs.File.{HasRecords}
+use Rattle.journal_records.specs.File.{HasRecords}
 use Rattle.journal_core.specs.Header.{made, first, IsUnfinished}
 use Rattle.journal_core.specs.Load.{SyncsAndReads}
 

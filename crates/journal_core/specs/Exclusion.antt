@@ -1,8 +1,8 @@
 -- A file is one at most of the things that a load may find: whole, unmade, foreign or broken (own rule, docs/JOURNAL.md).
 use Rattle.std.specs.Prelude.{◌≡◌, ◌<◌, ℕ, List}
-use Rattle.journal_core.specs.File.{records, HasRecords}
+use Rattle.journal_records.specs.File.{records, HasRecords}
 use Rattle.journal_core.specs.Header.{IsUnmade, IsForeign, HasHeader}
-use Rattle.journal_core.specs.Head.{IsBrokenAt}
+use Rattle.journal_records.specs.Head.{IsBrokenAt}
 
 -- a whole file isn't unfinished
 abbrev pub IsWholeOrUnmade : Type 0

@@ -1,6 +1,6 @@
 -- The header of a journal file: what an unfinished file is, and where a header differs (own rule, docs/JOURNAL.md).
 use Rattle.std.specs.Prelude.{◌≡◌, ◌⊎◌, ◌≤◌, ◌<◌, ℕ, List, [], ◌∷◌, ◌++◌, length, take, drop, get_or}
-use Rattle.journal_core.specs.File.{header}
+use Rattle.journal_records.specs.File.{header}
 
 -- a made file of this manager with no record, whose closed gate is 00
 abbrev pub made : ℕ → List ℕ

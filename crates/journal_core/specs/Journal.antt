@@ -2,7 +2,7 @@
 use Rattle.std.specs.Prelude.{◌≡◌, ◌⊎◌, ℕ, Bool, List, [], ◌∷◌, ◌++◌, length, Result, OnOk, All}
 use Rattle.site_traits.specs.Site.{Pair, SiteState, LeavesOnly, IsSettled}
 use Rattle.journal_core.specs.declared.marks.Mark.{Mark}
-use Rattle.journal_core.specs.File.{records, size, HasRecords}
+use Rattle.journal_records.specs.File.{records, size, HasRecords}
 use Rattle.journal_core.specs.Marks.{IsMark}
 
 -- a journal: whose it is, how many records it has, where its closed gate stands, whether a disk call failed on it, the

@@ -2,8 +2,6 @@ pub mod Asking
 pub mod Back
 pub mod Create
 pub mod Exclusion
-pub mod File
-pub mod Head
 pub mod Header
 pub mod Journal
 pub mod Judged

@@ -5,9 +5,9 @@ use Rattle.journal_core.specs.declared.loading.LoadFault.{LoadFault}
 use Rattle.journal_core.specs.declared.loading.LoadFault.TheVariants as fault
 use Rattle.journal_core.specs.declared.loading.Found.{Found}
 use Rattle.journal_core.specs.declared.loading.Found.TheVariants as found
-use Rattle.journal_core.specs.File.{records, size, IsRecord}
+use Rattle.journal_records.specs.File.{records, size, IsRecord}
 use Rattle.journal_core.specs.Header.{IsUnmade, IsForeign, HasHeader}
-use Rattle.journal_core.specs.Head.{BeginsWith, IsBrokenAt}
+use Rattle.journal_records.specs.Head.{BeginsWith, IsBrokenAt}
 use Rattle.journal_core.specs.declared.marks.Mark.{Mark}
 use Rattle.journal_core.specs.Marks.{IsMark, first_mark}
 use Rattle.journal_core.specs.Journal.{Ledger, Stands}

@@ -1,7 +1,7 @@
 -- The places of a file that a journal keeps (own rule, docs/JOURNAL.md).
 use Rattle.std.specs.Prelude.{◌≡◌, ◌≤◌, ◌<◌, ℕ, ◌+◌, ◌-◌, ◌*◌, List, length, take, get_or}
 use Rattle.journal_core.specs.declared.marks.Mark.{Mark}
-use Rattle.journal_core.specs.File.{size}
+use Rattle.journal_records.specs.File.{size}
 
 -- so many of these records stand before this place, and there the next one begins or the closed gate stands
 pub record IsMark (rs : List (List ℕ)) (m : Mark) : Type 0 where

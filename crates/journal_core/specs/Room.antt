@@ -1,6 +1,6 @@
 -- How far records reach in a journal's file, and which room is left behind them (own rule, docs/JOURNAL.md).
 use Rattle.std.specs.Prelude.{◌≡◌, ◌≤◌, ◌<◌, ◌↔◌, ◌+◌, ℕ, List, [], ◌∷◌, ◌++◌, length}
-use Rattle.journal_core.specs.File.{size}
+use Rattle.journal_records.specs.File.{size}
 
 -- one record more of these bytes moves the closed gate from the first place to the second
 abbrev pub Adds : List ℕ → ℕ → ℕ → Type 0

@@ -2,13 +2,13 @@
 ghost use Rattle.std.specs.Prelude.{◌≡◌, ◌≤◌, ◌<◌, ◌+◌, ◌-◌, ◌*◌, ◌++◌, List, ℕ, IfOk, IfSome, Some, Result, IsTrue, ◌↔◌, length, take, drop, get_or, []};
 ghost use Rattle.site_traits.specs.Counts.{DiskCause};
 ghost use Rattle.site_traits.specs.Site.{Reads};
-ghost use Rattle.journal_core.specs.File.{framed, records, size, IsRecord};
+ghost use Rattle.journal_records.specs.File.{framed, records, size, IsRecord};
 ghost use Rattle.journal_core.specs.Marks.{IsMark};
 ghost use Rattle.journal_core.specs.Back.{HasAt, FitsAt, HasRecord, IsFound};
 
-use crate::journal::MAX_RECORD;
 use crate::marks::Mark;
 use crate::through::bytes_at;
+use journal_records::MAX_RECORD;
 use site_traits::{DiskFailed, Site};
 
 /// Why a record could not be read back.

@@ -2,7 +2,7 @@
 ghost use Rattle.std.specs.Prelude.{◌≡◌, ◌≤◌, ◌<◌, ◌↔◌, [], ℕ, List, IsTrue, IfOk, OnOk, length, take, drop};
 ghost use Rattle.site_traits.specs.Counts.{Ask, asked, Asks, DiskCause};
 ghost use Rattle.site_traits.specs.Site.{KeepsJobs, Reads};
-ghost use Rattle.journal_core.specs.File.{HasRecords};
+ghost use Rattle.journal_records.specs.File.{HasRecords};
 ghost use Rattle.journal_core.specs.Header.{made};
 ghost use Rattle.journal_core.specs.Load.{SyncsAndReads};
 ghost use Rattle.journal_core.specs.Asking.{CreateAsks, left_to_ask, through};
@@ -62,7 +62,7 @@ impl<S: Site> Journal<S> {
 }
 
 // The bytes of a made file with no record.
-#[tactic(auto, unfolding(crate::specs::File::header))]
+#[tactic(auto, unfolding(journal_records::specs::File::header))]
 fn made_bytes(manager: u32) -> [u8; 33]
     ensures { result ≡ made manager }
 {

@@ -1,7 +1,7 @@
 // The header of a journal file.
 ghost use Rattle.std.specs.Prelude.{◌≡◌, ◌⊎◌, ◌≤◌, ◌<◌, ◌↔◌, ℕ, IsTrue, length, take, drop, get_or, MatchOption};
 ghost use Rattle.std.specs.Int.{w32, from_be_bytes};
-ghost use Rattle.journal_core.specs.File.{header};
+ghost use Rattle.journal_records.specs.File.{header};
 ghost use Rattle.journal_core.specs.Header.{made, MayStand, DiffersAt, HasHeader};
 ghost use Rattle.journal_core.specs.Judged.{Judged, LongEnough};
 

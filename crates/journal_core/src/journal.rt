@@ -2,7 +2,7 @@
 ghost use Rattle.std.specs.Prelude.{◌≡◌, ◌≤◌, ◌<◌, ◌↔◌, ◌+◌, ◌-◌, ◌*◌, ℕ, List, [], ◌∷◌, All, IsTrue, true, false, take, length, OnOk};
 ghost use Rattle.site_traits.specs.Site.{KeepsJobs};
 ghost use Rattle.journal_core.specs.Asking.{AppendAsks, FailsWhere};
-ghost use Rattle.journal_core.specs.File.{piece};
+ghost use Rattle.journal_records.specs.File.{piece};
 ghost use Rattle.journal_core.specs.Journal.{Stands, Appends};
 ghost use Rattle.journal_core.specs.Marks.{IsMark, first_mark};
 ghost use Rattle.journal_core.specs.Back.{ReadsBack, KeepsRecords};
@@ -11,14 +11,9 @@ ghost use Rattle.journal_core.specs.Room.{Adds, HasRoom};
 use crate::back::{BackFault, record_from};
 use crate::marks::{FIRST, Mark, Marks};
 use crate::through::write_through;
+use journal_records::MAX_FILE;
 use site_traits::{DiskFailed, Site};
 use std::marker::{Model, PhantomData};
-
-/// Bytes of the largest file. The closed gate stands before this place.
-pub const MAX_FILE: u64 = 268_435_456;
-
-/// Bytes of a record's content. The largest plan fits.
-pub const MAX_RECORD: usize = 65_536;
 
 // Bytes of the first write of the largest append: a length, the content and a closed gate.
 pub const ROOM: usize = 65_541;

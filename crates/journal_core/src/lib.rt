@@ -4,7 +4,6 @@
 mod back;
 mod create;
 mod exclusion;
-mod head;
 mod header;
 mod journal;
 mod limits;
@@ -15,6 +14,7 @@ mod through;
 pub use back::BackFault;
 pub use create::CreateFault;
 pub use exclusion::files_are_one_thing;
-pub use journal::{AppendFault, Journal, MAX_FILE, MAX_RECORD};
+pub use journal::{AppendFault, Journal};
+pub use journal_records::{MAX_FILE, MAX_RECORD};
 pub use limits::{faults_are_counted, limits_are_fixed, records_add_up};
 pub use loading::{Found, LoadFault, Loading};

@@ -3,8 +3,9 @@ ghost use Rattle.std.specs.Prelude.{◌≡◌};
 ghost use Rattle.journal_core.specs.Asking.{AppendsCount, CreatesCount};
 ghost use Rattle.journal_core.specs.Room.{AddsUp, HasRoomBefore, TakesMore};
 
-use crate::journal::{MAX_FILE, MAX_RECORD, ROOM};
+use crate::journal::ROOM;
 use crate::marks::MARKS;
+use journal_records::{MAX_FILE, MAX_RECORD};
 
 /// That the limits of a journal's file are these. It does nothing, and its contract is the law.
 ///

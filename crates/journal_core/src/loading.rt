@@ -6,11 +6,11 @@ ghost use Rattle.journal_core.specs.Asking.{FailsWhere};
 ghost use Rattle.journal_core.specs.Judged.{Judged, LongEnough, FrontIs};
 ghost use Rattle.journal_core.specs.Load.{Loads, Opened, IsBegun, Finds, Grows, ledger_of, Loaded, SyncsAndReads};
 
-use crate::head::{Head, head_at};
 use crate::header::{Verdict, judge};
 use crate::journal::{Journal, ROOM};
 use crate::marks::{Mark, Marks};
 use crate::through::bytes_at;
+use journal_records::{Head, head_at};
 use site_traits::{DiskFailed, Site};
 use std::alloc::{AllocError, Global};
 use std::marker::{Model, PhantomData};

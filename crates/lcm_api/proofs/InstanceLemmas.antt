@@ -17,7 +17,7 @@ use Rattle.json_views.specs.Instances.{CanBeShown, IsShowable}
 use Rattle.executor.specs.Managed.{Managed}
 use Rattle.event_codec.specs.Spell.{spelling, u64}
 use Rattle.http_wire.specs.declared.request.Request.{Request}
-use Rattle.journal_core.specs.declared.journal.TheConstants.{MAX_RECORD}
+use Rattle.journal_records.specs.declared.limits.TheConstants.{MAX_RECORD}
 use Rattle.lcm_api.specs.Instances.{asked_id, delete_found, delete_instance, delete_judged, deleted, deletion, named_instance, row_text, show_found}
 use Rattle.lcm_api.proofs.IdentLemmas.{IsReading, agrees, differs, find_none, find_same}
 use Rattle.lcm_api.specs.Recording.{IsPlanned}

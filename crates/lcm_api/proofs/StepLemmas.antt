@@ -13,7 +13,7 @@ use Rattle.lcm_events.specs.declared.events.Event.{Event}
 use Rattle.lcm_events.specs.declared.events.EventKind.TheVariants.{Created}
 use Rattle.lcm_events.specs.declared.descriptor.Vnfd.{Vnfd}
 use Rattle.lcm_model.specs.Lives.{descriptor_named, instances_made, live_instances}
-use Rattle.journal_core.specs.declared.journal.TheConstants.{MAX_RECORD}
+use Rattle.journal_records.specs.declared.limits.TheConstants.{MAX_RECORD}
 use Rattle.lcm_api.specs.Creating.{create_outcome, creation, created}
 use Rattle.lcm_api.specs.Recording.{IsPlanned}
 use Rattle.lcm_api.specs.declared.create.TheConstants.{MAX_INSTANCES}

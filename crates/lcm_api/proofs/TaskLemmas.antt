@@ -7,7 +7,7 @@ use Rattle.event_codec.specs.Typed.{TypedEvent}
 use Rattle.event_codec.specs.Valid.{IsEvent}
 use Rattle.executor.specs.Managed.{Managed, is_settled}
 use Rattle.instance_table.specs.Rows as instances
-use Rattle.journal_core.specs.declared.journal.TheConstants.{MAX_RECORD}
+use Rattle.journal_records.specs.declared.limits.TheConstants.{MAX_RECORD}
 use Rattle.json_views.specs.Occurrences.{IsOccurrenceShowable}
 use Rattle.json_views.specs.Words.{state_word}
 use Rattle.lcm_events.proofs.SameLaws.{same_state-true}

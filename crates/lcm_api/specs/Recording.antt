@@ -4,7 +4,7 @@ use Rattle.event_codec.specs.Spell.{spelling}
 use Rattle.event_codec.specs.Valid.{IsEvent}
 use Rattle.executor.specs.Managed.{Managed, MayRecord}
 use Rattle.executor.specs.Room.{is_full}
-use Rattle.journal_core.specs.declared.journal.TheConstants.{MAX_RECORD}
+use Rattle.journal_records.specs.declared.limits.TheConstants.{MAX_RECORD}
 use Rattle.lcm_events.specs.declared.events.Event.{Event}
 use Rattle.lcm_api.specs.Replies.{Outcome, room_outcome, told}
 use Rattle.lcm_api.specs.declared.record.TheConstants.{MAX_REQUESTED}

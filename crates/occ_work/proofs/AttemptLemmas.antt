@@ -13,7 +13,7 @@ use Rattle.executor.specs.declared.manager.WorkFault.TheVariants as fault
 use Rattle.executor.proofs.CommitLemmas.{between_one}
 use Rattle.executor.proofs.WorkLemmas.{extends_back, extends_one, extends_refl, extends_trans, file_of, idle, joined_at_file, kept_sound, stays_joined, with_jobs}
 use Rattle.executor.specs.Room.{TellsRoom}
-use Rattle.journal_core.specs.declared.journal.TheConstants.{MAX_FILE}
+use Rattle.journal_records.specs.declared.limits.TheConstants.{MAX_FILE}
 use Rattle.lcm_events.specs.declared.acts.Act.{Act}
 use Rattle.lcm_events.specs.declared.attempts.Tag.{Tag}
 use Rattle.lcm_events.specs.declared.events.Event.{Event}

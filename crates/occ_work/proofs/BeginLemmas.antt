@@ -5,7 +5,7 @@ use Rattle.executor.specs.History.{HasHistory, spellings}
 use Rattle.executor.specs.Managed.{IsReady, Managed, StandsFor}
 use Rattle.executor.specs.Work.{HasSome, HasSomeSound, StaysSound, Works, WorksAtFile, went}
 use Rattle.executor.proofs.WorkLemmas.{everywhere, extends_one, extends_refl, extends_trans, some_everywhere, sound_everywhere, sound_now}
-use Rattle.journal_core.specs.File.{HasRecords, records, size}
+use Rattle.journal_records.specs.File.{HasRecords, records, size}
 use Rattle.journal_core.specs.Marks.{IsMark}
 use Rattle.lcm_events.specs.declared.acts.Act.{Act}
 use Rattle.lcm_events.specs.declared.attempts.Tag.{Tag}

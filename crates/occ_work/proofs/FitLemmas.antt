@@ -28,7 +28,7 @@ use Rattle.lcm_model.specs.Work.{window}
 use Rattle.executor.specs.Room.{TellsRoom}
 use Rattle.executor.specs.declared.manager.WorkFault.{WorkFault}
 use Rattle.executor.specs.declared.manager.WorkFault.TheVariants as fault
-use Rattle.journal_core.specs.declared.journal.TheConstants.{MAX_FILE}
+use Rattle.journal_records.specs.declared.limits.TheConstants.{MAX_FILE}
 use Rattle.occ_work.specs.Attempting.{is_of_attempt}
 use Rattle.occ_work.specs.Exchanges.{is_of_act}
 

@@ -11,7 +11,7 @@ use Rattle.event_codec.specs.Valid.{IsEvent, IsMoved}
 use Rattle.executor.specs.Managed.{IsReady, Managed, MayRecord, is_settled}
 use Rattle.executor.specs.Room.{TellsRoom}
 use Rattle.executor.specs.Work.{Idles, Work, WorksAtFile, WorksWithJobs, recorded, went}
-use Rattle.journal_core.specs.declared.journal.TheConstants.{MAX_FILE}
+use Rattle.journal_records.specs.declared.limits.TheConstants.{MAX_FILE}
 use Rattle.executor.specs.declared.manager.WorkFault.{WorkFault}
 use Rattle.executor.specs.declared.manager.WorkFault.TheVariants as fault
 use Rattle.lcm_events.specs.declared.changes.Change.{Change}

@@ -5,7 +5,7 @@ use Rattle.executor.specs.Room.{TellsRoom}
 use Rattle.executor.specs.Work.{Work, WorksWithJobs, broke, went}
 use Rattle.executor.specs.declared.manager.WorkFault.{WorkFault}
 use Rattle.executor.specs.declared.manager.WorkFault.TheVariants as fault
-use Rattle.journal_core.specs.declared.journal.TheConstants.{MAX_FILE}
+use Rattle.journal_records.specs.declared.limits.TheConstants.{MAX_FILE}
 use Rattle.lcm_events.specs.declared.events.Event.{Event}
 use Rattle.lcm_events.specs.declared.events.EventKind.{EventKind}
 use Rattle.lcm_laws.specs.Acting.{with_events}

@@ -3,7 +3,7 @@ ghost use Rattle.std.specs.Prelude.{◌≡◌, ◌≢◌, ◌∷◌, [], ℕ, If
 ghost use Rattle.executor.specs.Managed.{HasNoNotice, IsReady, Keeps};
 ghost use Rattle.executor.specs.Room.{TellsRoom};
 ghost use Rattle.executor.specs.Work.{Works, recorded};
-ghost use Rattle.journal_core.specs.declared.journal.TheConstants.{MAX_FILE};
+ghost use Rattle.journal_records.specs.declared.limits.TheConstants.{MAX_FILE};
 ghost use Rattle.lcm_events.specs.declared.events.Event.{Event};
 ghost use Rattle.lcm_events.specs.declared.events.EventKind.TheVariants as events;
 ghost use Rattle.lcm_laws.specs.Acting.{with_events};

@@ -1,7 +1,7 @@
 //! The next action of an active occurrence, and what its row says of it.
 ghost use Rattle.std.specs.Prelude.{◌≡◌, ◌<◌, List, Some, false, length};
 ghost use Rattle.executor.specs.Managed.{Keeps};
-ghost use Rattle.journal_core.specs.declared.journal.TheConstants.{MAX_FILE};
+ghost use Rattle.journal_records.specs.declared.limits.TheConstants.{MAX_FILE};
 ghost use Rattle.lcm_events.specs.declared.events.Event.{Event};
 ghost use Rattle.lcm_model.specs.Grants.{location};
 ghost use Rattle.lcm_model.specs.Next.{next_action};

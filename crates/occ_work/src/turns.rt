@@ -1,7 +1,7 @@
 //! A turn: one act for each occurrence that is active when it begins, in the order of their numbers.
 ghost use Rattle.std.specs.Prelude.{◌≡◌, ◌≢◌, ◌<◌, ℕ, List, Err, IfSome, length, false};
 ghost use Rattle.executor.specs.Managed.{IsReady, Keeps};
-ghost use Rattle.journal_core.specs.declared.journal.TheConstants.{MAX_FILE};
+ghost use Rattle.journal_records.specs.declared.limits.TheConstants.{MAX_FILE};
 ghost use Rattle.occ_table.specs.Going.{next_active};
 ghost use Rattle.lcm_events.specs.declared.events.Event.{Event};
 ghost use Rattle.occ_work.specs.Around.{DiskFails, outside, telling};

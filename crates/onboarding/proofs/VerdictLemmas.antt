@@ -8,7 +8,7 @@ use Rattle.executor.specs.Room.{HasRoomFor, TellsRoom}
 use Rattle.executor.specs.Work.{Work, Works, recorded}
 use Rattle.executor.specs.declared.manager.WorkFault.{WorkFault}
 use Rattle.executor.specs.declared.manager.WorkFault.TheVariants as work
-use Rattle.journal_core.specs.declared.journal.TheConstants.{MAX_FILE, MAX_RECORD}
+use Rattle.journal_records.specs.declared.limits.TheConstants.{MAX_FILE, MAX_RECORD}
 use Rattle.lcm_events.specs.declared.descriptor.Vnfd.{Vnfd}
 use Rattle.lcm_events.specs.declared.events.Event.{Event}
 use Rattle.lcm_model.specs.Allowed.{MayOnboard}

@@ -2,7 +2,7 @@
 use Rattle.std.specs.Prelude.{◌∷◌, ℕ, List, [], length, nat_le, nat_lt, if◌then◌else◌, is_some, Result, Ok, Err}
 use Rattle.event_codec.specs.Spell.{spelling}
 use Rattle.executor.specs.Room.{is_full, journal_end}
-use Rattle.journal_core.specs.declared.journal.TheConstants.{MAX_FILE, MAX_RECORD}
+use Rattle.journal_records.specs.declared.limits.TheConstants.{MAX_FILE, MAX_RECORD}
 use Rattle.lcm_events.specs.declared.descriptor.Vnfd.{Vnfd}
 use Rattle.lcm_events.specs.declared.events.Event.{Event}
 use Rattle.lcm_events.specs.declared.events.EventKind.TheVariants as kind

@@ -9,7 +9,7 @@ ghost use Rattle.lcm_model.specs.Descriptors.{IsValid};
 ghost use Rattle.onboarding.specs.Judging.{Judges, JudgesNew};
 ghost use Rattle.onboarding.specs.Onboarding.{ended_by, judged_answer, worked};
 ghost use Rattle.onboarding.specs.Verdict.{onboarded, verdict};
-ghost use Rattle.journal_core.specs.declared.journal.TheConstants.{MAX_FILE};
+ghost use Rattle.journal_records.specs.declared.limits.TheConstants.{MAX_FILE};
 ghost use Rattle.site_traits.specs.Counts.{OnlyDiskFails};
 
 use crate::answer::{DescriptorRefusal, OnboardFault, Onboarded};

@@ -5,7 +5,7 @@ use Rattle.executor.specs.Laws.{HasNoBadRecord}
 use Rattle.executor.specs.Open.{IsBadRecord}
 use Rattle.executor.specs.declared.manager.OpenFault.{OpenFault}
 use Rattle.executor.specs.declared.manager.OpenFault.TheVariants as opening
-use Rattle.journal_core.specs.File.{HasRecords}
+use Rattle.journal_records.specs.File.{HasRecords}
 use Rattle.journal_core.specs.Header.{IsForeign, IsUnmade}
 use Rattle.journal_core.specs.Exclusion.{IsHeadedOrNot, IsWholeOrForeign, IsWholeOrUnmade}
 use Rattle.onboarding.specs.Onboarding.{Onboarding, answer_of, unready, unheard, cut_off, heard, done, starving as no_memory, breaking, verdict_answer}

@@ -1,6 +1,6 @@
 use Rattle.std.proofs.Common.{◌≡◌, ◌<◌, ◌-◌}
 use Rattle.site_traits.specs.Site.{Reads}
-use Rattle.journal_core.specs.declared.journal.TheConstants.{MAX_FILE}
+use Rattle.journal_records.specs.declared.limits.TheConstants.{MAX_FILE}
 use Rattle.executor.specs.Loading.{IsUnderWay}
 use Rattle.executor.proofs.open.judge_all.Given as goal
 

@@ -2,7 +2,7 @@ use Rattle.std.proofs.Common.{refl}
 use Rattle.site_traits.specs.Moments.{reads-refl}
 use Rattle.std.proofs.Common.{◌≡◌, ◌∙◌, sym, ℕ, [], length, get_or, Option, Some, None, arith}
 use Rattle.site_traits.specs.Moments.{reads-then}
-use Rattle.journal_core.specs.File.{records}
+use Rattle.journal_records.specs.File.{records}
 use Rattle.journal_core.proofs.BackLemmas.{stands_at, mark_next}
 use Rattle.journal_core.proofs.back.place_of.Goals as goal
 

@@ -1,6 +1,6 @@
 use Rattle.std.proofs.Common.{◌≡◌}
 use Rattle.site_traits.specs.Site.{Reads}
-use Rattle.journal_core.specs.File.{records}
+use Rattle.journal_records.specs.File.{records}
 use Rattle.journal_core.specs.Marks.{IsMark}
 use Rattle.journal_core.proofs.back.place_of.Given as goal
 

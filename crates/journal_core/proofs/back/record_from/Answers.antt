@@ -1,6 +1,6 @@
 use Rattle.std.proofs.Common.{◌≡◌, ◌∙◌, ◌-◌, sym, ℕ, [], length, take, get_or, Option, Some, arith}
 use Rattle.site_traits.specs.Moments.{reads-then}
-use Rattle.journal_core.specs.File.{records, size}
+use Rattle.journal_records.specs.File.{records, size}
 use Rattle.journal_core.proofs.BackLemmas.{stands_at, bytes_behind, bytes_within}
 use Rattle.journal_core.proofs.back.record_from.Goals as goal
 

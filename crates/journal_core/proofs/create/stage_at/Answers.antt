@@ -1,5 +1,5 @@
 use Rattle.std.proofs.Common.{◌≡◌, ◌≤◌, min, length, replicate, arith}
-use Rattle.journal_core.proofs.HeadLemmas.{read_front}
+use Rattle.journal_records.proofs.ByteLemmas.{read_front}
 use Rattle.journal_core.proofs.create.stage_at.Goals.{then-len-lt33, else-len-lt33}
 use Rattle.journal_core.proofs.create.stage_at.Goals as goal
 

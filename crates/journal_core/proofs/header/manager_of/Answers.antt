@@ -1,6 +1,6 @@
 use Rattle.std.proofs.Common.{◌∙◌, sym, ap, arith}
 use Rattle.std.proofs.Math.Facts.{Fits-lt-pow}
-use Rattle.journal_core.specs.File.{header}
+use Rattle.journal_records.specs.File.{header}
 use Rattle.journal_core.proofs.HeaderLemmas.{header_from_places}
 use Rattle.journal_core.proofs.header.manager_of.Goals as goal
 

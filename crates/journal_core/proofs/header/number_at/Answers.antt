@@ -1,6 +1,6 @@
 use Rattle.std.proofs.Common.{◌∙◌, sym, ap}
 use Rattle.std.specs.Int.{w32, from_be_bytes}
-use Rattle.journal_core.proofs.HeaderLemmas.{four_at}
+use Rattle.journal_records.proofs.ByteLemmas.{four_at}
 use Rattle.journal_core.proofs.header.number_at.Goals as goal
 
 pub returns : goal.returns

@@ -1,7 +1,7 @@
 use Rattle.std.proofs.Common.{◌≡◌, inr, ⊎_elim, sym, ◌∙◌, ◌≤◌, get_or}
 use Rattle.std.proofs.lemmas.Bool.{false≢true}
 use Rattle.std.proofs.lemmas.Bool.Decides.{Decides-eqb}
-use Rattle.journal_core.specs.File.{header}
+use Rattle.journal_records.specs.File.{header}
 use Rattle.journal_core.proofs.header.stands.Goals as goal
 
 pub returns : goal.returns

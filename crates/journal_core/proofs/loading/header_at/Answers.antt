@@ -1,6 +1,6 @@
 use Rattle.std.proofs.Common.{◌≡◌, ◌≤◌, min, length, replicate, arith, ℕ, subst, List}
 use Rattle.journal_core.specs.Judged.{Judged}
-use Rattle.journal_core.proofs.HeadLemmas.{read_front}
+use Rattle.journal_records.proofs.ByteLemmas.{read_front}
 use Rattle.journal_core.proofs.FrontLemmas.{judged_front}
 use Rattle.journal_core.proofs.loading.header_at.Goals.{then-len-lt33, else-len-lt33}
 use Rattle.journal_core.proofs.loading.header_at.Goals as goal

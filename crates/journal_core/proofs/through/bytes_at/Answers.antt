@@ -1,7 +1,7 @@
 use Rattle.std.proofs.Common.{◌≡◌, min, length, take, drop, arith}
 use Rattle.std.proofs.lemmas.List.{length-drop}
 use Rattle.std.proofs.lemmas.Result.{on_ok_weaker}
-use Rattle.journal_core.proofs.HeadLemmas.{read_front}
+use Rattle.journal_records.proofs.ByteLemmas.{read_front}
 use Rattle.journal_core.proofs.through.bytes_at.Goals as goal
 
 pub returns-clause-bytes : goal.returns-clause-bytes

@@ -1,7 +1,7 @@
 use Rattle.std.proofs.Common.{◌≡◌, ◌∙◌, ap, ◌+◌, ◌≤◌, take, length, arith}
 use Rattle.std.proofs.lemmas.List.{take_at}
 use Rattle.std.proofs.Common.{[], ◌∷◌, ◌++◌}
-use Rattle.journal_core.specs.File.{piece, records, IsRecord}
+use Rattle.journal_records.specs.File.{piece, records, IsRecord}
 use Rattle.journal_core.specs.Journal.{Ledger}
 use Rattle.std.proofs.Common.{sym, subst, Result, Err}
 use Rattle.std.proofs.lemmas.Result.{err_from_is_err_and}

@@ -3,7 +3,7 @@ use Rattle.std.proofs.lemmas.Result.{err_from_is_err_and, IfOk-from_err}
 use Rattle.std.specs.Prelude.{Option, [], ◌∷◌, Result}
 use Rattle.journal_core.specs.declared.create.Stage.{Stage}
 use Rattle.journal_core.specs.Create.{FoundIs, StandsSo}
-use Rattle.journal_core.specs.File.{HasRecords}
+use Rattle.journal_records.specs.File.{HasRecords}
 use Rattle.site_traits.specs.Counts.Ask.{sync}
 use Rattle.journal_core.specs.declared.create.CreateFault.{CreateFault}
 use Rattle.journal_core.specs.declared.create.Stage.TheVariants as stage

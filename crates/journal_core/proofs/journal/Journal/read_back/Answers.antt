@@ -2,7 +2,7 @@ use Rattle.std.proofs.Common.{◌≡◌, ◌∙◌, ◌+◌, ◌++◌, take, dro
 use Rattle.std.proofs.lemmas.List.{take_at}
 use Rattle.std.proofs.lemmas.List.Elements.{All-cons, All-tail}
 use Rattle.journal_core.specs.declared.marks.Mark.{Mark}
-use Rattle.journal_core.specs.File.{records}
+use Rattle.journal_records.specs.File.{records}
 use Rattle.journal_core.specs.Marks.{IsMark}
 use Rattle.journal_core.specs.Back.{IsFound}
 use Rattle.journal_core.specs.Journal.{Ledger}

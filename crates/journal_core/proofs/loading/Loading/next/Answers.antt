@@ -1,7 +1,7 @@
 use Rattle.std.proofs.Common.{◌≡◌, ◌∙◌, ◌+◌, sym, ap, subst, refl, take, drop, length, ◌++◌, ◌∷◌, [], arith, true, false}
 use Rattle.std.proofs.lemmas.List.{take_at}
-use Rattle.journal_core.specs.declared.head.Head.{Head}
-use Rattle.journal_core.specs.Head.{HeadIs}
+use Rattle.journal_records.specs.declared.head.Head.{Head}
+use Rattle.journal_records.specs.Head.{HeadIs}
 use Rattle.journal_core.specs.Load.{Progress, Loads}
 use Rattle.journal_core.proofs.LoadLemmas.{loads_more, loads_end}
 use Rattle.site_traits.specs.Moments.{reads-then}

@@ -1,9 +1,9 @@
 use Rattle.site_traits.specs.Moments.{reads-refl}
 use Rattle.std.proofs.Common.{◌≡◌, ◌+◌, min, ◌≤◌, length, drop, [], ◌∷◌, arith}
 use Rattle.std.proofs.lemmas.List.{length-drop}
-use Rattle.journal_core.proofs.HeadLemmas.{read_front}
-use Rattle.journal_core.proofs.head.head_at.Goals.{then-len-end-lt5, else-len-end-lt5}
-use Rattle.journal_core.proofs.head.head_at.Goals as goal
+use Rattle.journal_records.proofs.ByteLemmas.{read_front}
+use Rattle.journal_records.proofs.head.head_at.Goals.{then-len-end-lt5, else-len-end-lt5}
+use Rattle.journal_records.proofs.head.head_at.Goals as goal
 
 pub returns-clause-head : goal.returns-clause-head
 returns-clause-head g c = λ tells.

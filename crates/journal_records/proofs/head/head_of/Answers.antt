@@ -1,8 +1,8 @@
 use Rattle.std.proofs.Common.{◌∙◌, sym}
 use Rattle.std.proofs.lemmas.Bool.{false≢true}
 use Rattle.std.proofs.Math.Facts.{Fits-lt-pow}
-use Rattle.journal_core.proofs.HeadLemmas.{head_open, head_broken}
-use Rattle.journal_core.proofs.head.head_of.Goals as goal
+use Rattle.journal_records.proofs.HeadLemmas.{head_open, head_broken}
+use Rattle.journal_records.proofs.head.head_of.Goals as goal
 
 pub returns-then-ends_within-clause-head : goal.returns-then-ends_within-clause-head
 returns-then-ends_within-clause-head c = λ rest is whole.

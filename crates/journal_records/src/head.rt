@@ -2,9 +2,9 @@
 ghost use Rattle.std.specs.Prelude.{◌≡◌, ◌≤◌, ◌<◌, ◌↔◌, ◌+◌, ◌^◌, ℕ, List, IsTrue, IfOk, length, take, drop};
 ghost use Rattle.site_traits.specs.Counts.{DiskCause};
 ghost use Rattle.site_traits.specs.Site.{Reads};
-ghost use Rattle.journal_core.specs.Head.{HeadIs, HeadEnds, EndsWithin};
+ghost use Rattle.journal_records.specs.Head.{HeadIs, HeadEnds, EndsWithin};
 
-use crate::journal::{MAX_FILE, MAX_RECORD};
+use crate::limits::{MAX_FILE, MAX_RECORD};
 use site_traits::{DiskFailed, Site};
 
 /// What stands at the place of a gate.

@@ -1,9 +1,9 @@
 -- What stands at the place of a gate: a closed gate, a record behind an open one, or neither (own rule, docs/JOURNAL.md).
 use Rattle.std.specs.Prelude.{◌≡◌, ◌≢◌, ◌⊎◌, ◌≤◌, ◌<◌, ℕ, ◌+◌, List, [], ◌∷◌, ◌++◌, length, take, get_or, All}
 use Rattle.std.specs.Int.{w32, from_be_bytes}
-use Rattle.journal_core.specs.declared.head.Head.{Head}
-use Rattle.journal_core.specs.declared.head.Head.TheVariants.{Closed, Open, Broken}
-use Rattle.journal_core.specs.File.{header, blocks, size, IsRecord}
+use Rattle.journal_records.specs.declared.head.Head.{Head}
+use Rattle.journal_records.specs.declared.head.Head.TheVariants.{Closed, Open, Broken}
+use Rattle.journal_records.specs.File.{header, blocks, size, IsRecord}
 
 -- the number in front of these bytes
 unfoldable pub number : List ℕ → ℕ

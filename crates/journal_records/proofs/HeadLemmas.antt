@@ -1,9 +1,9 @@
 -- What the first bytes at the place of a gate say of what stands there.
-use Rattle.std.proofs.Common.{◌≡◌, ◌∙◌, min, sym, ap, subst, inl, inr, ℕ, ◌+◌, ◌≤◌, ◌<◌, List, [], ◌∷◌, ◌++◌, length, take, drop, get_or, refl, arith}
+use Rattle.std.proofs.Common.{◌≡◌, ◌∙◌, sym, ap, subst, inl, inr, ℕ, ◌+◌, ◌≤◌, ◌<◌, List, [], ◌∷◌, length, take, drop, get_or, refl, arith}
 use Rattle.std.specs.Int.{w32, from_be_bytes}
-use Rattle.std.proofs.lemmas.List.{take-take, take_at, take_min, length-take}
-use Rattle.journal_core.specs.Head.{number, IsOpen, IsBroken, EndsWithin}
-use Rattle.journal_core.proofs.HeaderLemmas.{four_at, below_drop}
+use Rattle.std.proofs.lemmas.List.{take-take}
+use Rattle.journal_records.specs.Head.{number, IsOpen, IsBroken, EndsWithin}
+use Rattle.journal_records.proofs.ByteLemmas.{below_drop, four_at}
 
 -- five bytes in front of a body: its number is theirs
 pub number_of : (bytes body : List ℕ) (gate n : ℕ) → bytes ≡ gate ∷ take 4 body → 5 ≤ length bytes
@@ -39,12 +39,3 @@ head_broken end len n bytes (g ∷ body) is whole gate long size not =
       ap (λ v. v ∷ body) is_open,
       λ good. not (record { some = omega (arith, n_is, good.some); fits = omega (arith, n_is, good.fits); whole = omega (arith, n_is, good.whole); small = omega (arith, n_is, good.small) }),
     )
-
--- what a read to the front of an array gives: the first bytes from a place on, as many as the array holds or as there are
-pub read_front : (held most : ℕ) (put zeros rest : List ℕ) → put ≡ take (length (take held zeros)) rest → held ≤ length zeros → held ≡ min most (length rest)
-    → take held (put ++ drop held zeros) ≡ take most rest
-read_front held most put zeros rest is room many =
-    let e : length (take held zeros) ≡ held = (let t = length-take held zeros in omega arith) in
-    let put_is : put ≡ take held rest = is ∙ ap (λ v. take v rest) e in
-    let long : length put ≡ held = ap length put_is ∙ (let t = length-take held rest in omega arith) in
-    take_at put (drop held zeros) held long ∙ put_is ∙ ap (λ v. take v rest) many ∙ take_min most rest

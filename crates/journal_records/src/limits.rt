@@ -1,0 +1,7 @@
+// How long a journal's file and its records may be.
+
+/// Bytes of the largest file. The closed gate stands before this place.
+pub const MAX_FILE: u64 = 268_435_456;
+
+/// Bytes of a record's content. The largest plan fits.
+pub const MAX_RECORD: usize = 65_536;
