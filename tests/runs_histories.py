@@ -2,13 +2,10 @@
 
 Opening judges each record by the tables of those before it. So an event that is allowed is one behind which the journal opens, with as many records,
 descriptors, instances and live ones as the history then has; and one that isn't is a bad record, at its own place. What is allowed comes from the
-model in bench/table/history.py, the rules of docs/MODEL.md in another language, and in all but the long history is written out by hand as well.
+model in tests/history.py, the rules of docs/MODEL.md in another language, and in all but the long history is written out by hand as well.
 """
-import os
 import random
-import sys
 
-sys.path.append(os.path.join(os.path.dirname(os.path.abspath(__file__)), "..", "bench", "table"))
 import cases
 import history
 import views

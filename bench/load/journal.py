@@ -1,7 +1,7 @@
 #!/usr/bin/env python3
-"""Writes a journal of so many events to standard output, after docs/JOURNAL.md and docs/EVENTS.md.
+"""Writes a journal of so many events, after docs/JOURNAL.md and docs/EVENTS.md.
 
-usage: journal.py SHAPE EVENTS [NUMBER]
+usage: journal.py SHAPE EVENTS [NUMBER]     to standard output
 
 Its history is legal: one descriptor with one kind of machine is onboarded, and then
 
@@ -17,6 +17,7 @@ Its history is legal: one descriptor with one kind of machine is onboarded, and 
   busy NUMBER         so many instances are created, and instantiated up to the work; then the work on the first one fails and is tried
                       again, without end
   large NUMBER        an instance of so many machines is created, instantiated, terminated and deleted, then the next one
+  asked NUMBER        an instance is asked to be instantiated with so many machines, which is denied, without end
   healed NUMBER       an instance of so many machines is created and instantiated; then its first machine is asked to be healed, which is
                       denied, without end
 """
@@ -245,6 +246,13 @@ def large(journal, _):
         journal.delete(journal.instance)
 
 
+def asked(journal, _):
+    journal.create()
+    while True:
+        journal.ask(journal.instantiate)
+        journal.deny()
+
+
 def healed(journal, number):
     journal.create()
     journal.work(journal.instantiate)
@@ -265,16 +273,18 @@ SHAPES = {
     "oldest": lambda journal, number: in_turn(journal, number, False),
     "busy": busy,
     "large": large,
+    "asked": asked,
     "healed": healed,
 }
 
 
-def main(shape, events, number="1"):
-    out = sys.stdout.buffer
+def write(out, shape, events, number=1):
+    """Writes the journal of this shape with so many events."""
     try:
-        SHAPES[shape](Journal(out, int(events), int(number) if shape in ("large", "healed") else 1), int(number))
+        SHAPES[shape](Journal(out, events, number if shape in ("large", "asked", "healed") else 1), number)
     except Ends:
         out.write(u8(0))
 
 
-main(*sys.argv[1:])
+if __name__ == "__main__":
+    write(sys.stdout.buffer, sys.argv[1], *map(int, sys.argv[2:]))

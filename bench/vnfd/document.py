@@ -467,15 +467,13 @@ def many_levels(size):
     return front + ",".join(parts) + behind
 
 
-def main():
-    if len(sys.argv) == 1:
-        print("\n".join(SHAPES))
-        return
-    name, size = sys.argv[1], int(sys.argv[2])
+def spelled(name, size):
+    """The document of this shape, with so many bytes."""
     text = SHAPES[name](size)
     if len(text) > size:
         sys.exit(f"{name}: {len(text)} bytes, and room for {size}")
-    sys.stdout.write(text + " " * (size - len(text)))
+    return text + " " * (size - len(text))
 
 
-main()
+if __name__ == "__main__":
+    print("\n".join(SHAPES)) if len(sys.argv) == 1 else sys.stdout.write(spelled(sys.argv[1], int(sys.argv[2])))
