@@ -42,35 +42,43 @@ fn at(step: &[Value]) -> Result<At, CaseFault> {
     })
 }
 
-/// The changes from this one to before that one are made, each at the attempt of this number, by this job and those behind it.
-fn make(
-    steps: &mut Vec<Step>,
+/// Changes that are attempted one after the other: from this one to before that one, each by the attempt of this number, by this job and those behind
+/// it.
+#[derive(Clone, Copy)]
+struct Attempts {
     from: u16,
     to: u16,
     attempt: u32,
     first: u16,
-) -> Result<(), AllocError> {
-    let mut job = first;
-    for change in from..to {
-        steps.push(Step::Forward(change, attempt, At::Intent))?;
-        steps.push(Step::Forward(change, attempt, At::Done(job)))?;
+}
+
+/// The attempts that a step spells from its second place on.
+fn attempts_of(step: &[Value]) -> Result<Attempts, CaseFault> {
+    Ok(Attempts {
+        from: small(step, 1)?,
+        to: small(step, 2)?,
+        attempt: code(step, 3)?,
+        first: small(step, 4)?,
+    })
+}
+
+/// These changes are made.
+fn make(steps: &mut Vec<Step>, attempts: Attempts) -> Result<(), AllocError> {
+    let mut job = attempts.first;
+    for change in attempts.from..attempts.to {
+        steps.push(Step::Forward(change, attempts.attempt, At::Intent))?;
+        steps.push(Step::Forward(change, attempts.attempt, At::Done(job)))?;
         job = job.saturating_add(1);
     }
     Ok(())
 }
 
-/// The same changes are undone, the last of them first.
-fn unmake(
-    steps: &mut Vec<Step>,
-    from: u16,
-    to: u16,
-    attempt: u32,
-    first: u16,
-) -> Result<(), AllocError> {
-    let mut job = first;
-    for change in (from..to).rev() {
-        steps.push(Step::Undo(change, attempt, At::Intent))?;
-        steps.push(Step::Undo(change, attempt, At::Done(job)))?;
+/// They are undone, the last of them first.
+fn unmake(steps: &mut Vec<Step>, attempts: Attempts) -> Result<(), AllocError> {
+    let mut job = attempts.first;
+    for change in (attempts.from..attempts.to).rev() {
+        steps.push(Step::Undo(change, attempts.attempt, At::Intent))?;
+        steps.push(Step::Undo(change, attempts.attempt, At::Done(job)))?;
         job = job.saturating_add(1);
     }
     Ok(())
@@ -81,29 +89,33 @@ fn made(steps: &mut Vec<Step>, changes: u16) -> Result<(), AllocError> {
     steps.push(Step::Asked)?;
     steps.push(Step::Granted)?;
     steps.push(Step::Moved(OpState::Processing))?;
-    make(steps, 0, changes, 1, 1)
+    let attempts = Attempts {
+        from: 0,
+        to: changes,
+        attempt: 1,
+        first: 1,
+    };
+    make(steps, attempts)
+}
+
+/// The step of an attempt forward that a list spells.
+fn forward_of(step: &[Value]) -> Result<Step, CaseFault> {
+    Ok(Step::Forward(small(step, 1)?, code(step, 2)?, at(step)?))
+}
+
+/// The step of an attempt to undo that a list spells.
+fn undo_of(step: &[Value]) -> Result<Step, CaseFault> {
+    Ok(Step::Undo(small(step, 1)?, code(step, 2)?, at(step)?))
 }
 
 /// Puts the step or the steps of this list.
 fn put_listed(steps: &mut Vec<Step>, step: &[Value]) -> Result<(), CaseFault> {
     match word(step, 0)? {
         "made" => made(steps, small(step, 1)?)?,
-        "make" => make(
-            steps,
-            small(step, 1)?,
-            small(step, 2)?,
-            code(step, 3)?,
-            small(step, 4)?,
-        )?,
-        "unmake" => unmake(
-            steps,
-            small(step, 1)?,
-            small(step, 2)?,
-            code(step, 3)?,
-            small(step, 4)?,
-        )?,
-        "forward" => steps.push(Step::Forward(small(step, 1)?, code(step, 2)?, at(step)?))?,
-        "undo" => steps.push(Step::Undo(small(step, 1)?, code(step, 2)?, at(step)?))?,
+        "make" => make(steps, attempts_of(step)?)?,
+        "unmake" => unmake(steps, attempts_of(step)?)?,
+        "forward" => steps.push(forward_of(step)?)?,
+        "undo" => steps.push(undo_of(step)?)?,
         _ => return Err(CaseFault::Spelling),
     }
     Ok(())
