@@ -16,7 +16,7 @@ import tempfile
 import time
 
 TOP = pathlib.Path(__file__).resolve().parent.parent
-TIMES = 7
+TIMES = 5
 HEADER = b"VNFM-LCM\1" + (7).to_bytes(4, "big") + bytes(19)
 
 

@@ -12,25 +12,25 @@ sys.path.append(str(pathlib.Path(__file__).resolve().parent.parent))
 import journal
 import measuring
 
-# The operations and the workers of each; a file in memory has room for 200,000 bytes.
-OPERATIONS = [(1, 10), (10, 10), (50, 10), (100, 10)]
-PLANS = [(100, 1), (40, 10), (8, 100), (4, 200), (2, 400), (1, 600)]
-ROUNDS = [0, 8, 16, 24]
-# How often each round is made over a new site.
-SITES = 400
+# The operations, the workers of each, and the most rounds, each of which makes an act for each operation; a file in memory has room for 200,000 bytes.
+OPERATIONS = [(1, 10, 96), (10, 10, 96), (50, 10, 24), (100, 10, 24)]
+PLANS = [(100, 1, 24), (40, 10, 60), (8, 100, 300), (4, 200, 600), (2, 400, 1_200), (1, 600, 2_400)]
+# How many acts are made at most, and for how many changes grants are asked, over new sites one behind the other.
+ACTS = 9_600
+ASKED = 24_000
 lcm_cases = measuring.built("lcm_cases")
 
 
-def acts(start, operations, rounds, sites=1):
-    """So many rounds over the journal of this name, on each of so many sites, one behind the other."""
-    return [["room", operations * 50]] + [["site", start], ["rounds", rounds], ["status", 0]] * sites
+def acts(operations, rounds, sites=1):
+    """So many rounds over the journal, on each of so many sites, one behind the other."""
+    return [["room", operations * (rounds + 1)]] + [["site", "$START"], ["rounds", rounds], ["status", 0]] * sites
 
 
 class Operations:
     """So many operations of one journal, in rounds of one act for each."""
 
-    def __init__(self, room, starting, operations, workers):
-        self.room, self.operations, self.sites = room, operations, max(1, SITES // operations)
+    def __init__(self, room, starting, operations, workers, sites):
+        self.room, self.operations, self.sites = room, operations, sites
         text = measuring.HEADER + journal.journal(starting, operations, workers)
         self.named = ["let", "START", text.decode("latin-1")]
 
@@ -40,35 +40,34 @@ class Operations:
         return measuring.cases_seconds(lcm_cases, path)
 
     def check(self, rounds, jobs):
-        """Each round makes an act for each operation, of which this part begins a job, and as many look at one."""
-        self.play([*acts("$START", self.operations, rounds), ["calls", jobs * self.operations, jobs * self.operations, 0], ["faults", 0, 0, 0, 0]])
+        """Makes so many rounds, in which so many jobs of each operation are begun, and as many looked at, and no call fails."""
+        self.play([*acts(self.operations, rounds), ["calls", jobs * self.operations, jobs * self.operations, 0], ["faults", 0, 0, 0, 0]])
 
     def seconds(self, rounds):
-        return self.play(acts("$START", self.operations, rounds, self.sites)) / self.sites / self.operations
+        return self.play(acts(self.operations, rounds, self.sites)) / self.sites / self.operations
 
 
-def rows(room, sizes):
-    for operations, workers in sizes:
-        going = Operations(room, False, operations, workers)
-        going.check(ROUNDS[-1], ROUNDS[-1] // 2)
-        for less, more, found in measuring.slopes(going.seconds, ROUNDS):
+def rows(room, title, sizes):
+    print(title)
+    measuring.head("Operations", "Changes of each", "Rounds, from", "to", "us an act")
+    for operations, workers, rounds in sizes:
+        going = Operations(room, False, operations, workers, ACTS // rounds // operations)
+        going.check(rounds, rounds // 2)
+        for less, more, found in measuring.slopes(going.seconds, [0, rounds // 3, 2 * rounds // 3, rounds]):
             measuring.row(operations, 4 * workers + 9, less, more, measuring.cell(found))
 
 
 def main():
     with measuring.room() as room:
-        print("By the number of operations that go on:")
-        measuring.head("Operations", "Changes of each", "Rounds, from", "to", "us an act")
-        rows(room, OPERATIONS)
-        print("\nBy the size of the plan:")
-        measuring.head("Operations", "Changes of each", "Rounds, from", "to", "us an act")
-        rows(room, PLANS)
+        rows(room, "By the number of operations that go on:", OPERATIONS)
+        rows(room, "\nBy the size of the plan:", PLANS)
         print("\nThe round that asks for the grants and records them:")
-        measuring.head("Operations", "Changes of each", "ms an operation")
-        for operations, workers in PLANS:
-            asking = Operations(room, True, operations, workers)
+        measuring.head("Operations", "Changes of each", "us an operation", "us a change")
+        for operations, workers, _ in PLANS:
+            changes = 4 * workers + 9
+            asking = Operations(room, True, operations, workers, ASKED // changes // operations)
             for _, _, found in measuring.slopes(asking.seconds, [0, 1]):
-                measuring.row(operations, 4 * workers + 9, measuring.cell(found, 1e-3))
+                measuring.row(operations, changes, measuring.cell(found, digits=0), measuring.cell([it / changes for it in found]))
 
 
 main()

@@ -23,7 +23,7 @@ SERVED = [
 ]
 STATUS = {"create": {"201"}, "lived": {"201", "204"}, "unknown": {"422"}, "show": {"200"}, "missed": {"404"}, "nowhere": {"404"}, "list": {"200"}}
 BODIES = [131_072, 262_144, 524_288, 1_048_576]
-REQUESTS = 8
+REQUESTS = 4
 vnfm = measuring.built("vnfm")
 lcm_cases = measuring.built("lcm_cases", 2)
 
@@ -74,7 +74,7 @@ def bodies(room):
     print(f"\n{REQUESTS} refused requests on one connection:")
     measuring.head("Refused", "Bytes of a body, from", "to", "ns a byte")
     for kind in list(stream.REFUSED)[2:]:
-        for less, more, found in measuring.slopes(lambda size: at.seconds(stream.refused(kind, REQUESTS, size)) / REQUESTS, BODIES, 5):
+        for less, more, found in measuring.slopes(lambda size: at.seconds(stream.refused(kind, REQUESTS, size)) / REQUESTS, BODIES):
             measuring.row(kind, less, more, measuring.cell(found, 1e-9))
     print(f"\nThe peak of memory, with bodies of {stream.LONGEST:,} bytes:")
     measuring.head("Refused", "Of one, KiB", "Of 50 on one connection, KiB")
@@ -102,7 +102,7 @@ def pieces(room):
     for title, framed in framings.items():
         for piece in 1, 16, 4_096:
             cost = lambda size: in_pieces(room, piece, framed, size, 1) - in_pieces(room, piece, framed, size, 0)
-            for less, more, found in measuring.slopes(cost, BODIES, 5):
+            for less, more, found in measuring.slopes(cost, BODIES):
                 measuring.row(title, piece, less, more, measuring.cell(found, 1e-9))
 
 
