@@ -1,7 +1,8 @@
 """What the scripts that measure share: built programs that are run, what that took, and what more of something costs.
 
 What is told is a difference between two sizes, so that what doesn't depend on the size, the start of the program among it, falls out. All sizes are
-measured in turn, and that several times, so that what else the machine does is spread over all of them.
+measured in turn, and that several times, so that what else the machine does is spread over all of them: where that is much, one time may be twice another
+of the same work.
 """
 import contextlib
 import itertools
@@ -16,7 +17,7 @@ import tempfile
 import time
 
 TOP = pathlib.Path(__file__).resolve().parent.parent
-TIMES = 5
+TIMES = 7
 HEADER = b"VNFM-LCM\1" + (7).to_bytes(4, "big") + bytes(19)
 
 

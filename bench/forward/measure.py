@@ -67,7 +67,7 @@ def main():
             changes = 4 * workers + 9
             asking = Operations(room, True, operations, workers, ASKED // changes // operations)
             for _, _, found in measuring.slopes(asking.seconds, [0, 1]):
-                measuring.row(operations, changes, measuring.cell(found, digits=0), measuring.cell([it / changes for it in found]))
+                measuring.row(operations, changes, measuring.cell(found, digits=0), measuring.cell([it / changes for it in found], digits=1))
 
 
 main()

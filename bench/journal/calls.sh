@@ -20,7 +20,7 @@ for _ in 1 2 3 4 5 6 7 8 9 10 11; do cat examples/create.http; done >"$room/requ
 strace -c -o "$room/post" "$vnfm" once --journal "$room/one" <examples/create.http >"$room/answer" 2>/dev/null
 head -n 1 "$room/answer"
 strace -c -o "$room/posts" "$vnfm" once --journal "$room/more" <"$room/requests" >"$room/answer" 2>/dev/null
-grep -c '^HTTP/1.1 201' "$room/answer"
+grep -a -o '^HTTP/1.1 201\|}HTTP/1.1 201' "$room/answer" | wc -l
 
 echo "| Calls | One POST, with its load | Ten POSTs more |"
 echo "|---|---|---|"

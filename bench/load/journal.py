@@ -17,7 +17,7 @@ Its history is legal: one descriptor with one kind of machine is onboarded, and 
   busy NUMBER         so many instances are created, and instantiated up to the work; then the work on the first one fails and is tried
                       again, without end
   large NUMBER        an instance of so many machines is created, instantiated, terminated and deleted, then the next one
-  asked NUMBER        an instance is asked to be instantiated with so many machines, which is denied, without end
+  asked NUMBER        an instance is created, asked to be instantiated with so many machines, which is denied, and deleted, then the next one
   healed NUMBER       an instance of so many machines is created and instantiated; then its first machine is asked to be healed, which is
                       denied, without end
 """
@@ -247,10 +247,11 @@ def large(journal, _):
 
 
 def asked(journal, _):
-    journal.create()
     while True:
+        journal.create()
         journal.ask(journal.instantiate)
         journal.deny()
+        journal.delete(journal.instance)
 
 
 def healed(journal, number):

@@ -19,11 +19,12 @@ SERVED = [
     ("create", 0, [250, 500, 1_000]), ("lived", 0, [1_000, 2_000, 4_000, 8_000]), ("unknown", 0, [2_000, 4_000, 8_000, 16_000]),
     ("show", 1, [2_000, 4_000, 8_000, 16_000]), ("show", 1_000, [4_000, 8_000, 16_000]), ("missed", 1_000, [4_000, 8_000, 16_000]),
     ("nowhere", 0, [4_000, 8_000, 16_000]),
-    ("list", 1, [2_000, 4_000, 8_000]), ("list", 10, [200, 400, 800]), ("list", 100, [20, 40, 80]), ("list", 1_000, [10, 20, 40]),
+    ("list", 1, [2_000, 4_000, 8_000]), ("list", 10, [500, 1_000, 2_000]), ("list", 100, [100, 200, 400]), ("list", 1_000, [10, 20, 40]),
 ]
 STATUS = {"create": {"201"}, "lived": {"201", "204"}, "unknown": {"422"}, "show": {"200"}, "missed": {"404"}, "nowhere": {"404"}, "list": {"200"}}
 BODIES = [131_072, 262_144, 524_288, 1_048_576]
 REQUESTS = 4
+CONNECTIONS = 4
 vnfm = measuring.built("vnfm")
 lcm_cases = measuring.built("lcm_cases", 2)
 
@@ -33,6 +34,7 @@ class Connections:
 
     def __init__(self, room, instances):
         self.room, self.made, self.journal = room, room / f"made {instances}", room / "journal"
+        self.made.unlink(missing_ok=True)
         measuring.run([vnfm, "init", "--journal", self.made, "--manager", "7"])
         measuring.run([vnfm, "onboard", "--journal", self.made], measuring.TOP / "examples" / "vnfd.json")
         if instances:
@@ -75,7 +77,7 @@ def bodies(room):
     measuring.head("Refused", "Bytes of a body, from", "to", "ns a byte")
     for kind in list(stream.REFUSED)[2:]:
         for less, more, found in measuring.slopes(lambda size: at.seconds(stream.refused(kind, REQUESTS, size)) / REQUESTS, BODIES):
-            measuring.row(kind, less, more, measuring.cell(found, 1e-9))
+            measuring.row(kind, less, more, measuring.cell(found, 1e-9, 1))
     print(f"\nThe peak of memory, with bodies of {stream.LONGEST:,} bytes:")
     measuring.head("Refused", "Of one, KiB", "Of 50 on one connection, KiB")
     for kind in stream.REFUSED:
@@ -83,11 +85,12 @@ def bodies(room):
 
 
 def in_pieces(room, piece, framed, body, rounds):
-    """The processor time of lcm_cases over a connection in pieces of this size, which is served in the one round, or made and not served in none."""
-    acts = [["pieces", piece], ["site", measuring.HEADER.decode("latin-1") + "\0"], ["rounds", rounds, framed(body)], ["status", 0]]
+    """The processor time of lcm_cases for a connection in pieces of this size, which is served in its one round, or made and not served in none."""
+    made = ["site", measuring.HEADER.decode("latin-1") + "\0"]
+    acts = [["let", "REQUEST", framed(body)], ["pieces", piece], made, ["times", CONNECTIONS, ["rounds", rounds, "$REQUEST"]], ["status", 0]]
     path = room / "runs"
     path.write_text(json.dumps([["pieces", *acts]]))
-    return measuring.cases_seconds(lcm_cases, path)
+    return measuring.cases_seconds(lcm_cases, path) / CONNECTIONS
 
 
 def pieces(room):
@@ -100,10 +103,10 @@ def pieces(room):
     print("\nIn pieces, over the objects in memory:")
     measuring.head("Body", "Pieces", "Bytes of a body, from", "to", "ns a byte")
     for title, framed in framings.items():
-        for piece in 1, 16, 4_096:
+        for piece in 16, 256, 4_096:
             cost = lambda size: in_pieces(room, piece, framed, size, 1) - in_pieces(room, piece, framed, size, 0)
-            for less, more, found in measuring.slopes(cost, BODIES):
-                measuring.row(title, piece, less, more, measuring.cell(found, 1e-9))
+            for less, more, found in measuring.slopes(cost, BODIES[1:]):
+                measuring.row(title, piece, less, more, measuring.cell(found, 1e-9, 1))
 
 
 def main():

@@ -42,7 +42,7 @@ class Onboarding:
 
 def main():
     with measuring.room() as room:
-        measuring.head("Shape", "Bytes, from", "to", "Onboarding, ns a byte", "Answer")
+        measuring.head("Shape", "Bytes, from", "to", "ns a byte", "Answer")
         for shape in GROWING:
             sized = {size: Onboarding(room, document.spelled(shape, size)) for size in SIZES}
             for less, more, found in measuring.slopes(lambda size: sized[size].seconds(), SIZES):
@@ -50,10 +50,10 @@ def main():
 
         none, size = Onboarding(room, "{}"), SIZES[-1]
         print(f"\nOf {size:,} bytes, less a document of two:")
-        measuring.head("Shape", "Onboarding, ms", "Peak of memory, MB", "Answer")
+        measuring.head("Shape", "ms", "Peak of memory, MB", "Answer")
         for shape in document.SHAPES:
             one = Onboarding(room, document.spelled(shape, size))
-            found = [whole - less for whole, less in measuring.in_turn([one.seconds, none.seconds], 3)]
+            (_, _, found), = measuring.slopes(lambda more: (one if more else none).seconds(), [0, 1], 3)
             measuring.row(shape, measuring.cell(found, 1e-3, 0), f"{one.peak() / 2**20:.1f}", one.answer)
 
 
