@@ -14,7 +14,6 @@ import statistics
 import subprocess
 import sys
 import tempfile
-import time
 
 TOP = pathlib.Path(__file__).resolve().parent.parent
 TIMES = 7
@@ -73,13 +72,6 @@ def cases_seconds(program, runs):
     if not said.endswith(b", 0 wrong\n") or said.count(b"\n") > 1:
         sys.exit(f"{runs}: {said.decode()}")
     return took
-
-
-def passed(command, heard=os.devnull):
-    """The time that passes while a command runs."""
-    begun = time.monotonic()
-    run(command, heard)
-    return time.monotonic() - begun
 
 
 def peak(command, heard=os.devnull, status=0):

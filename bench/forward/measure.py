@@ -21,9 +21,9 @@ ASKED = 24_000
 lcm_cases = measuring.built("lcm_cases")
 
 
-def acts(operations, rounds, sites=1):
-    """So many rounds over the journal, on each of so many sites, one behind the other."""
-    return [["room", operations * (rounds + 1)]] + [["site", "$START"], ["rounds", rounds], ["status", 0]] * sites
+def acts(rounds, sites=1):
+    """So many rounds over the journal, on each of so many sites, one behind the other. Each has room for the same number of jobs."""
+    return [["room", 1_300]] + [["site", "$START"], ["rounds", rounds], ["status", 0]] * sites
 
 
 class Operations:
@@ -41,10 +41,10 @@ class Operations:
 
     def check(self, rounds, jobs):
         """Makes so many rounds, in which so many jobs of each operation are begun, and as many looked at, and no call fails."""
-        self.play([*acts(self.operations, rounds), ["calls", jobs * self.operations, jobs * self.operations, 0], ["faults", 0, 0, 0, 0]])
+        self.play([*acts(rounds), ["calls", jobs * self.operations, jobs * self.operations, 0], ["faults", 0, 0, 0, 0]])
 
     def seconds(self, rounds):
-        return self.play(acts(self.operations, rounds, self.sites)) / self.sites / self.operations
+        return self.play(acts(rounds, self.sites)) / self.sites / self.operations
 
 
 def rows(room, title, sizes):
