@@ -29,14 +29,51 @@ def record(kind, *fields, moment=NOW):
     return in_record(cases.event(kind, *fields, moment=moment))
 
 
-def problem(title, line, detail, word="problem"):
-    TEXTS.append([word, title, line, detail])
-    return "$" + title
+def refusal(line, detail, between=""):
+    """The answer that refuses a request with this status line and this detail; between the length and the body stands what a connection ends with."""
+    body = '{"detail":"%s","status":%s}' % (detail, line.split(" ", 1)[0])
+    head = "HTTP/1.1 %s\r\nContent-Type: application/problem+json\r\nContent-Length: %d\r\n%s\r\n"
+    return head % (line, len(body), between) + body
+
+
+def showing_front(length):
+    """The front of the answer that shows so many bytes."""
+    return "HTTP/1.1 200 OK\r\nContent-Type: application/json\r\nContent-Length: %d\r\n\r\n" % length
+
+
+def showing(body):
+    """The answer that shows this."""
+    return showing_front(len(body)) + body
+
+
+def problem(title, line, detail, between=""):
+    return let(title, refusal(line, detail, between))
 
 
 def shows(title, body):
-    TEXTS.append(["json", title, body])
-    return "$" + title
+    return let(title, showing(body))
+
+
+# What is said of an event that is read back, by the number of its kind.
+HAPPENED = (
+    *["", "onboarded", "created", "deleted", "asked", "grant tried", "granted", "denied", "intent", "call failed", "settled", "moved"],
+    *["cancel asked", "subscribed", "unsubscribed", "posted"],
+)
+
+
+def told_back(event):
+    """What is said of this event: what happened, to the one of which number, and when."""
+    moment, number = (int.from_bytes(event[at : at + 8], "big") for at in (1, 9))
+    return "%s %d at %d" % (HAPPENED[event[0]], number if event[0] != 1 else 0, moment)
+
+
+SIZES = dict(STO_A=(10_000_000_000, 0), STO_B=(1_000_000_000, 0), VDU_A=(2_147_483_648, 2), VDU_B=(512_000_000, 1))
+
+
+def does(place, verb, kind, template, vdu, serial, *on):
+    """The job at this place, from 0, does this work at `vim1` on these resources."""
+    size, cpus = SIZES.get(template, (0, 0))
+    return ["does", place, " ".join([verb, kind, template, vdu, str(serial), "vim1", "", str(size), str(cpus), *on])]
 
 
 HEADER = let("HEADER", latin(b"VNFM-LCM" + u8(1) + u32(7) + bytes(19)))

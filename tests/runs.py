@@ -117,14 +117,37 @@ def change(kind, template, vdu, serial):
     return u8(kind) + u8(0) + u8(kind) + u16(template) + u16(vdu) + u32(serial)
 
 
+TEMPLATES = ("net_data", "net_mgmt"), ("STO_A", "STO_B"), ("VDU_A", "VDU_B"), ("CP_A_data", "CP_A_mgmt", "CP_B_mgmt")
+MACHINES = "VDU_A", "VDU_B"
+# Of what each change of it is made: the number of the change that makes the disk of a machine, and the machine and the network of a port.
+MADE_OF = [(), (), (), (), (), (2,), (3,), (4,), (5, 0), (5, 1), (6, 0), (6, 1), (7, 1)]
+
+
+def does_change(place, verb, number, serial, *on):
+    """The job at this place does this to what a change of that plan makes."""
+    kind, template, vdu, _ = PLAN[number]
+    kinds = "link", "storage", "compute", "port"
+    return does(place, verb, kinds[kind], TEMPLATES[kind][template], "" if vdu == NO_VDU else MACHINES[vdu], serial, *on)
+
+
+def makes(place, number, serial=None, jobs=0):
+    """The job at this place makes the change of this number, of that serial number, where each change before it was made by one job, behind so many."""
+    return does_change(place, "create", number, PLAN[number][3] if serial is None else serial, *["r%d" % (jobs + it + 1) for it in MADE_OF[number]])
+
+
+def removes(place, number, resource):
+    """The job at this place removes this resource, which the change of that number made."""
+    return does_change(place, "remove", number, PLAN[number][3], resource)
+
+
 PLANNED = b"".join(change(*it) for it in PLAN)
 ROUTER_ASKED = let("ROUTER_ASKED", record(4, u64(1), u64(1), u8(0), u8(1), name("simple"), u8(0), u16(CHANGES), PLANNED))
 ROUTER_GRANTED = let("ROUTER_GRANTED", record(6, u64(1), name("g1"), u8(1), name("vim1"), u8(0), u16(CHANGES), bytes(CHANGES)))
 
-MALFORMED = problem("MALFORMED", "400 Bad Request", "malformed request", "last problem")
-TOO_LARGE = problem("TOO_LARGE", "413 Content Too Large", "request too large", "last problem")
-FAULT = problem("FAULT", "500 Internal Server Error", "journal fault", "last problem")
-LAST_NO_RESOURCE = problem("LAST_NO_RESOURCE", "404 Not Found", "no such resource", "last problem")
+MALFORMED = problem("MALFORMED", "400 Bad Request", "malformed request", CLOSE)
+TOO_LARGE = problem("TOO_LARGE", "413 Content Too Large", "request too large", CLOSE)
+FAULT = problem("FAULT", "500 Internal Server Error", "journal fault", CLOSE)
+LAST_NO_RESOURCE = problem("LAST_NO_RESOURCE", "404 Not Found", "no such resource", CLOSE)
 BAD, NOT_FOUND, CONFLICT, UNPROCESSABLE = "400 Bad Request", "404 Not Found", "409 Conflict", "422 Unprocessable Content"
 NOT_ALLOWED, UNSUPPORTED = "405 Method Not Allowed\r\nAllow: ", "415 Unsupported Media Type"
 NO_RESOURCE = problem("NO_RESOURCE", NOT_FOUND, "no such resource")
@@ -317,13 +340,14 @@ def face(state, steps, detail="", mode=None):
     granted = "granted" in list(each_step(steps))
     view = occurrence_view(state, error, mode, granted, changed(jobs_by(steps)))
     if compact(view) not in FACES:
-        FACES[compact(view)] = let("VIEW_%d" % (len(FACES) + 1), in_pieces_of(view))
+        front = showing_front(len(compact(view)))
+        FACES[compact(view)] = let("VIEW_%d" % (len(FACES) + 1), [front, *in_pieces_of(view)])
     return ["face", FACES[compact(view)]]
 
 
-HOLDINGS = [let("HOLDING_%d" % n, compact(instance_view(held(n)))) for n in range(CHANGES + 1)]
+HOLDINGS = [shows("HOLDING_%d" % n, compact(instance_view(held(n)))) for n in range(CHANGES + 1)]
 IDLE_VIEW = compact(instance_view())
-IDLE = let("IDLE", IDLE_VIEW)
+IDLE = shows("IDLE", IDLE_VIEW)
 idle = ["instance", IDLE]
 
 
@@ -409,7 +433,8 @@ def once(text, *more):
 
 
 def refused(line, detail):
-    return ["refused", line, detail]
+    """The last command ended with 0, and its connection was told this refusal and hung up; the file stays."""
+    return ["only answered", refusal(line, detail)]
 
 
 def answers(text, answer, now=NOW):
@@ -612,12 +637,6 @@ run(
     "a creation is told once it is on the disk, in one write",
     *[["site", JOURNAL], answers(CREATE, CREATED[1]), ["file length", 149], ["file", JOURNALS[1]]],
 )
-
-
-def refusal(line, detail, more=""):
-    """A refusal, byte by byte."""
-    body = '{"detail":"%s","status":%s}' % (detail, line[:3])
-    return "HTTP/1.1 %s\r\nContent-Type: application/problem+json\r\nContent-Length: %d\r\n%s\r\n%s" % (line, len(body), more, body)
 
 
 run(
@@ -829,11 +848,11 @@ def gets(path):
     return once(request("GET", path, head=HOST))
 
 
-LISTED = ["shown", ["[", IDLE, "]"]]
+NONE_LISTED, LISTED = ["only answered", showing("[]")], ["only answered", showing("[%s]" % IDLE_VIEW)]
 run(
     "instances are listed and shown",
-    *[["site", JOURNAL], gets(INSTANCES), ["shown", "[]"], ["site", JOURNALS[1]], gets(INSTANCES), LISTED],
-    *[gets(INSTANCES + "?x=filter="), LISTED, gets(INSTANCE % 1), ["shown", IDLE]],
+    *[["site", JOURNAL], gets(INSTANCES), NONE_LISTED, ["site", JOURNALS[1]], gets(INSTANCES), LISTED],
+    *[gets(INSTANCES + "?x=filter="), LISTED, gets(INSTANCE % 1), ["only answered", IDLE]],
 )
 IN_PROCESSING = [CREATION[1], ASKED, GRANTED, MOVED["PROCESSING"]]
 IN_FAILED_TEMP = [*IN_PROCESSING, CANCELLED, MOVED["FAILED_TEMP"]]
@@ -842,7 +861,7 @@ IN_COMPLETED = [*IN_PROCESSING, MOVED["COMPLETED"]]
 EMPTY = {it: [] for it in ("scaleStatus", *HELD.values())}
 run(
     "an instance that is instantiated is shown whole",
-    *[["site", journal(*IN_COMPLETED)], gets(INSTANCE % 1 + "?filter=x"), ["shown", compact(instance_view(EMPTY))]],
+    *[["site", journal(*IN_COMPLETED)], gets(INSTANCE % 1 + "?filter=x"), ["only answered", showing(compact(instance_view(EMPTY)))]],
 )
 run(
     "an instance is not deleted while it is in use",
@@ -879,7 +898,7 @@ run(
     ),
     ["file", journal(CREATION[1], ASKED, TROUBLE)],
 )
-run("no occurrence is listed where none was asked for", ["site", JOURNALS[1]], gets(OCCURRENCES), ["shown", "[]"])
+run("no occurrence is listed where none was asked for", ["site", JOURNALS[1]], gets(OCCURRENCES), NONE_LISTED)
 
 
 def instantiation(number, body, media=JSON):
@@ -1272,9 +1291,9 @@ for title, text, records, behind in [
 def fails(records, media, view):
     """The occurrence is given up a second later, and shown so then and later."""
     return [
-        *[["json", "FAILED_THEN", view], ["site", [*records, "\0"]]],
+        *[["let", "FAILED_THEN", showing(view)], ["site", [*records, "\0"]]],
         answers(task_of(1, "fail", "{", media), "$FAILED_THEN", NOW + 1000),
-        *[["file", [*records, FAILED_LATER, "\0"]], gets(OCCURRENCE % 1), ["shown", view]],
+        *[["file", [*records, FAILED_LATER, "\0"]], gets(OCCURRENCE % 1), ["only answered", "$FAILED_THEN"]],
     ]
 
 
@@ -1307,7 +1326,7 @@ for title, records, mode in [
     view = compact(occurrence_view("PROCESSING", ("cancelled", 500), mode))
     run(
         "a cancel is shown while it is in force: %s" % title,
-        *[["json", "WORKING", view], ["site", journal(*records)], answers(SHOW, "$WORKING"), ["stays"]],
+        *[["let", "WORKING", showing(view)], ["site", journal(*records)], answers(SHOW, "$WORKING"), ["stays"]],
     )
 TERMINATION = [*IN_COMPLETED, TERMINATING, GRANTED_2, MOVED_2["PROCESSING"]]
 STOPPED_TERMINATION = [*TERMINATION, CANCELLED_2, MOVED_2["FAILED_TEMP"]]
@@ -1371,7 +1390,7 @@ for count, said, detail, status in [
     *[(6, [(500, "", "")] * 5, "no grant after five tries", 500), (6, [], "no grant after five tries", 500)],
 ]:
     view = compact(occurrence_view("ROLLED_BACK", (detail, status), granted=False))
-    run("an occurrence without a grant says why: %s, %d answers" % (detail, len(said)), *with_answers(count, *said), once(SHOW), ["shown", view])
+    run("an occurrence without a grant says why: %s, %d answers" % (detail, len(said)), *with_answers(count, *said), once(SHOW), ["only answered", showing(view)])
 TWO_TURNS = [GRANTED, MOVED["PROCESSING"]]
 run(
     "a disk call that fails in a turn ends the run",
@@ -1384,7 +1403,7 @@ run(
 run(
     "a granted instantiation of the edge router is processed",
     *[*router_site(), rounds(2, INSTANTIATE, ACCEPTED), ["file end", [ROUTER_ASKED, ROUTER_GRANTED, MOVED["PROCESSING"], "\0"]]],
-    *[once(SHOW), ["told shown", compact(occurrence_view("PROCESSING"))]],
+    *[once(SHOW), ["answered", showing(compact(occurrence_view("PROCESSING")))]],
 )
 
 # ---- Hostile connections, cut at every place
@@ -1542,7 +1561,7 @@ run(
     *[SITE, asks(28), steps(["made", CHANGES]), idle, face("PROCESSING", [["made", CHANGES]])],
     *[rounds(1), steps(*COMPLETED), ["jobs", 13, 13], face("COMPLETED", COMPLETED), instantiated(13)],
 )
-run("each job does the work of its change", SITE, asks(29), *[["makes", n, n] for n in range(CHANGES)], ["jobs", 13, 13])
+run("each job does the work of its change", SITE, asks(29), *[makes(n, n) for n in range(CHANGES)], ["jobs", 13, 13])
 
 # What stops the work at a change: what comes of its begin, what is recorded of the attempt behind its intent, the rounds from there to FAILED_TEMP,
 # the cause, the jobs that it leaves, and the calls on jobs that failed and the begins that were refused.
@@ -1724,7 +1743,7 @@ for n in range(CHANGES):
     refusals = [(FAIL, IS["FAILED"]), (RETRY, IS["FAILED"]), (ROLLBACK, IS["FAILED"]), (CANCEL, IS["FAILED"])]
     run(
         "an operation that is given up at change %d keeps what stands" % n,
-        *[*refused_at(n), rounds(3, FAIL), ["told shown", failed_face[1]]],
+        *[*refused_at(n), rounds(3, FAIL), ["answered", failed_face[1]]],
         *[talk(3, *refusals, (INSTANTIATE, INSTANTIATED), (DELETE, INSTANTIATED)), steps(*given_up), ["jobs", n, n]],
         *[failed_face, instantiated(n)],
     )
@@ -1742,7 +1761,7 @@ for count in range(1, 14):
 run(
     "each undo removes the resource of its change",
     *[SITE, asks(28), task(1, CANCEL), task(27, ROLLBACK), ["grants", 1], ["jobs", 26, 0]],
-    *[["removes", 25 - n, n, "r%d" % (n + 1)] for n in range(CHANGES)],
+    *[removes(25 - n, n, "r%d" % (n + 1)) for n in range(CHANGES)],
 )
 
 
@@ -1784,14 +1803,14 @@ comes_to(
 run(
     "a change that was made again is undone on its new resource",
     *[WORK, SITE, *TO_CANCEL, task(2, RETRY), task(1, CANCEL), task(11, ROLLBACK), ["grants", 1], ["jobs", 12, 0]],
-    *[["removes", 5, 4, "r5"], ["removes", 7, 4, "r7"], ["removes", 8, 3, "r4"]],
+    *[removes(5, 4, "r5"), removes(7, 4, "r7"), removes(8, 3, "r4")],
 )
 SERIALS = [0, 0, 3, 4, 2, 3, 4, 2, 3, 3, 4, 4, 2]
 run(
     "an instance that was rolled back is instantiated anew",
     *[*refused_at(5), task(11, ROLLBACK), rounds(29, INSTANTIATE, accepted(2)), ["file end", SECOND_COMPLETED], ["job count", 23]],
     *[["job", 10 + n, 2, n, 1, "forward"] for n in range(CHANGES)],
-    *[["serial", 10 + n, serial] for n, serial in enumerate(SERIALS)],
+    *[makes(10 + n, n, serial, 10) for n, serial in enumerate(SERIALS)],
 )
 for state, acts in [
     ("STARTING", [talk(1, (INSTANTIATE, ACCEPTED), *[(it, IS["STARTING"]) for it in (RETRY, ROLLBACK, FAIL)], (DELETE, ONGOING))]),

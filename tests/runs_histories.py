@@ -11,7 +11,7 @@ import history
 import views
 from history import COMPLETED, FAILED, FAILED_TEMP, FORCEFUL, FORWARD, GRACEFUL, PROCESSING, ROLLED_BACK, ROLLING_BACK, UNDO
 from history import COMPUTE, CREATE, CREATION, DELETION, DELIVERED, LINK, NOT_TAKEN, PORT, STORAGE, Change, Filter, Tag
-from run_parts import HEADER, NOW, in_record, opens, run, says
+from run_parts import HEADER, NOW, in_record, opens, run, says, showing
 
 LATER, TROUBLE, MISSES = range(3)
 DONE, BROKEN, ABORTED, NOT_BEGUN = range(4)
@@ -81,7 +81,7 @@ def lists(instances, occurrences):
     """The acts that ask for the instances and occurrences, and are told these."""
     acts = []
     for at, told in (views.INSTANCES, instances), (views.OCCURRENCES, occurrences):
-        acts += [["json", "LIST", told], ["answers", NOW, "GET %s HTTP/1.1\r\n\r\n" % at, "$LIST"], ["stays"]]
+        acts += [["answers", NOW, "GET %s HTTP/1.1\r\n\r\n" % at, showing(told)], ["stays"]]
     return acts
 
 

@@ -4,7 +4,7 @@ What a file's bytes mean is docs/JOURNAL.md's to say.
 """
 import cases
 from cases import latin
-from run_parts import HEADER, UNOPENED, calls_to_open, in_record, opens, run, says, with_records
+from run_parts import HEADER, NOW, UNOPENED, calls_to_open, in_record, opens, run, says, told_back, with_records
 
 D, OTHER = "d", "e"
 D_ONBOARDED, D_CREATED = cases.onboarded(cases.descriptor(D, levels=[cases.level("l")])), cases.created(1, D)
@@ -76,7 +76,7 @@ def write():
     )
     for number in range(1, 13):
         first = calls_to_open(2)
-        made = 'Created { instance: 1, vnfd: "d", name: None, text: None }'
+        made = told_back(D_CREATED)
         run(
             "an event is read back from the file: call %d fails" % number,
             *[["fault", number], with_records(D_ONBOARDED, D_CREATED)],
@@ -85,8 +85,8 @@ def write():
     run(
         "each event is read back as it was recorded",
         *[["no fault"], with_records(D_ONBOARDED, D_CREATED, cases.created(2, D), D_GONE)],
-        *[["read back", 4, "Deleted { instance: 1 }"], ["read back", 2, made], ["read back", 5, "no such record"]],
-        *[["read back", 3, made.replace("1", "2")], ["read back", 0, "no such record"]],
+        *[["read back", 4, told_back(D_GONE)], ["read back", 2, made], ["read back", 5, "no such record"]],
+        *[["read back", 3, told_back(cases.created(2, D))], ["read back", 0, "no such record"]],
     )
     many_records()
 
@@ -97,7 +97,7 @@ MANY = 70_000
 
 def many_records():
     front = [in_record(it) for it in (D_ONBOARDED, D_CREATED, cases.asked(1, cases.instantiate("l")))]
-    graceful, forceful = (in_record(cases.cancel_asked(1, mode)) for mode in ("GRACEFUL", "FORCEFUL"))
-    file = [HEADER, *front, {"times": MANY - 5, "of": graceful}, forceful, graceful, "\0"]
-    told = "CancelAsked { occ: 1, mode: Forceful }"
-    run("a record of many is read back from a place near it", ["no fault"], ["site", file], ["read back", MANY - 1, told])
+    now, later = (in_record(cases.cancel_asked(1, "FORCEFUL", moment=NOW + it)) for it in (0, 1))
+    file = [HEADER, *front, {"times": MANY - 5, "of": now}, later, now, "\0"]
+    read = ["read back", MANY - 1, told_back(cases.cancel_asked(1, "FORCEFUL", moment=NOW + 1))]
+    run("a record of many is read back from a place near it", ["no fault"], ["site", file], read)

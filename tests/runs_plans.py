@@ -8,7 +8,7 @@ import json
 
 import cases
 from cases import aspect, heal, instantiate, latin, level, operate, port, scale, scale_aspects, scale_to, storage, terminate, u8, u16, u32, vdu
-from run_parts import HEADER, in_record, let, run
+from run_parts import HEADER, does, in_record, let, run
 
 NO_VDU = cases.NO_VDU
 UNBOUNDED = 4_294_967_295
@@ -432,17 +432,6 @@ run(
 
 # ---- Work: what the jobs of an operation do, of which each turn records an event
 
-SIZES = dict(STO_A=(10_000_000_000, 0), STO_B=(1_000_000_000, 0), VDU_A=(2_147_483_648, 2), VDU_B=(512_000_000, 1))
-
-
-def does(place, verb, kind, template, vdu, serial, *on):
-    """The job at this place, from 0, does this work at these resources."""
-    size, cpus = SIZES.get(template, (0, 0))
-    target = '"%s", vdu: "%s", serial: %d, vim: "vim1", zone: "", size: %d, cpus: %d' % (template, vdu, serial, size, cpus)
-    resources = ", ".join('"%s"' % it for it in on)
-    return ["does", place, "Act { verb: %s, kind: %s, template: %s, on: Listed { entries: [%s] } }" % (verb, kind, target, resources)]
-
-
 def plays(story, ask, changes, *acts):
     """Turns over an operation that is asked for behind this history lead to its end, and its jobs do this."""
     begun = story.asks(ask, changes)
@@ -460,34 +449,34 @@ def granted_first(number, changes):
 run(
     "the jobs of a scaling out make a machine on its disk and the networks that stand",
     *plays(
-        *[TWO, OUT(1), ONE_MORE, does(0, "Create", "Storage", "STO_A", "VDU_A", 3), does(1, "Create", "Compute", "VDU_A", "VDU_A", 3, "r1")],
-        does(2, "Create", "Port", "CP_A_data", "VDU_A", 3, "r2", "n1"),
-        does(3, "Create", "Port", "CP_A_mgmt", "VDU_A", 3, "r2", "n2"),
+        *[TWO, OUT(1), ONE_MORE, does(0, "create", "storage", "STO_A", "VDU_A", 3), does(1, "create", "compute", "VDU_A", "VDU_A", 3, "r1")],
+        does(2, "create", "port", "CP_A_data", "VDU_A", 3, "r2", "n1"),
+        does(3, "create", "port", "CP_A_mgmt", "VDU_A", 3, "r2", "n2"),
     ),
 )
 run(
     "the jobs of a scaling in remove the greatest machine",
     *plays(
-        *[TWO, IN(1), ONE_LESS, does(0, "Remove", "Port", "CP_A_data", "VDU_A", 2, "n11")],
-        *[does(1, "Remove", "Port", "CP_A_mgmt", "VDU_A", 2, "n12"), does(2, "Remove", "Compute", "VDU_A", "VDU_A", 2, "n7")],
-        does(3, "Remove", "Storage", "STO_A", "VDU_A", 2, "n4"),
+        *[TWO, IN(1), ONE_LESS, does(0, "remove", "port", "CP_A_data", "VDU_A", 2, "n11")],
+        *[does(1, "remove", "port", "CP_A_mgmt", "VDU_A", 2, "n12"), does(2, "remove", "compute", "VDU_A", "VDU_A", 2, "n7")],
+        does(3, "remove", "storage", "STO_A", "VDU_A", 2, "n4"),
     ),
 )
 run(
     "the jobs of a termination stop and remove what stands",
     *plays(
         *[TWO, terminate("GRACEFUL"), changes_of([STOPPING, *TERMINATED])],
-        *[does(0, "Stop", "Compute", "VDU_A", "VDU_A", 1, "n6"), does(2, "Stop", "Compute", "VDU_B", "VDU_B", 1, "n8")],
-        *[does(7, "Remove", "Port", "CP_B_mgmt", "VDU_B", 1, "n13"), does(10, "Remove", "Compute", "VDU_B", "VDU_B", 1, "n8")],
-        *[does(13, "Remove", "Storage", "STO_B", "VDU_B", 1, "n5"), does(14, "Remove", "Link", "net_data", "", 0, "n1")],
-        does(15, "Remove", "Link", "net_mgmt", "", 0, "n2"),
+        *[does(0, "stop", "compute", "VDU_A", "VDU_A", 1, "n6"), does(2, "stop", "compute", "VDU_B", "VDU_B", 1, "n8")],
+        *[does(7, "remove", "port", "CP_B_mgmt", "VDU_B", 1, "n13"), does(10, "remove", "compute", "VDU_B", "VDU_B", 1, "n8")],
+        *[does(13, "remove", "storage", "STO_B", "VDU_B", 1, "n5"), does(14, "remove", "link", "net_data", "", 0, "n1")],
+        does(15, "remove", "link", "net_mgmt", "", 0, "n2"),
     ),
 )
 run(
     "the jobs of a start start what is stopped",
     *plays(
-        *[STOPPED, operate(True), THREE_STARTS, does(0, "Start", "Compute", "VDU_A", "VDU_A", 1, "n6")],
-        *[does(1, "Start", "Compute", "VDU_A", "VDU_A", 2, "n7"), does(2, "Start", "Compute", "VDU_B", "VDU_B", 1, "n8")],
+        *[STOPPED, operate(True), THREE_STARTS, does(0, "start", "compute", "VDU_A", "VDU_A", 1, "n6")],
+        *[does(1, "start", "compute", "VDU_A", "VDU_A", 2, "n7"), does(2, "start", "compute", "VDU_B", "VDU_B", 1, "n8")],
     ),
 )
 
@@ -512,17 +501,17 @@ def undone(story, ask, changes, made, *acts):
 run(
     "what was removed is made again by an undo, on what stands, and what was made is removed",
     *undone(
-        *[TWO, heal((0, 1)), changes_of([*making(3), *removing(1)]), 7, does(0, "Create", "Compute", "VDU_A", "VDU_A", 1, "n3")],
-        *[does(1, "Create", "Port", "CP_A_mgmt", "VDU_A", 1, "r1", "n2"), does(2, "Create", "Port", "CP_A_data", "VDU_A", 1, "r1", "n1")],
-        *[does(3, "Remove", "Port", "CP_A_mgmt", "VDU_A", 3, "m3"), does(4, "Remove", "Port", "CP_A_data", "VDU_A", 3, "m2")],
-        *[does(5, "Remove", "Compute", "VDU_A", "VDU_A", 3, "m1"), does(6, "Remove", "Storage", "STO_A", "VDU_A", 3, "m0")],
+        *[TWO, heal((0, 1)), changes_of([*making(3), *removing(1)]), 7, does(0, "create", "compute", "VDU_A", "VDU_A", 1, "n3")],
+        *[does(1, "create", "port", "CP_A_mgmt", "VDU_A", 1, "r1", "n2"), does(2, "create", "port", "CP_A_data", "VDU_A", 1, "r1", "n1")],
+        *[does(3, "remove", "port", "CP_A_mgmt", "VDU_A", 3, "m3"), does(4, "remove", "port", "CP_A_data", "VDU_A", 3, "m2")],
+        *[does(5, "remove", "compute", "VDU_A", "VDU_A", 3, "m1"), does(6, "remove", "storage", "STO_A", "VDU_A", 3, "m0")],
     ),
 )
 run(
     "what was stopped is started by an undo, and what was started is stopped",
     *undone(
-        *[TWO, operate(False), THREE_STOPS, 2, does(0, "Start", "Compute", "VDU_A", "VDU_A", 2, "n7")],
-        does(1, "Start", "Compute", "VDU_A", "VDU_A", 1, "n6"),
+        *[TWO, operate(False), THREE_STOPS, 2, does(0, "start", "compute", "VDU_A", "VDU_A", 2, "n7")],
+        does(1, "start", "compute", "VDU_A", "VDU_A", 1, "n6"),
     ),
-    *undone(STOPPED, operate(True), THREE_STARTS, 1, does(0, "Stop", "Compute", "VDU_A", "VDU_A", 1, "n6")),
+    *undone(STOPPED, operate(True), THREE_STARTS, 1, does(0, "stop", "compute", "VDU_A", "VDU_A", 1, "n6")),
 )

@@ -9,7 +9,7 @@ import json
 from cases import *
 from runs import ACCEPTED, BAD, EMPTY_LIST, HEADER, INSTANCE, INSTANCES, INSTANTIATE, JOURNAL, JOURNALS, MADE, NOT_ALLOWED, NOW, NO_FILTER
 from runs import NO_INSTANCE, NO_OCCURRENCE, NO_RESOURCE, NO_TASK, OCCURRENCE, OCCURRENCES, ONBOARD, ONLY_DELETE_GET, ONLY_POST
-from runs import answers, creation, idle, in_record, let, not_onboarded, occurrence_view, once, opens, problem, refused, request, run
+from runs import answers, creation, idle, in_record, let, not_onboarded, occurrence_view, once, opens, problem, refused, request, run, showing, told_back
 
 ONLY_GET = problem("ONLY_GET", NOT_ALLOWED + "GET", "method not allowed")
 ONLY_GET_POST = problem("ONLY_GET_POST", NOT_ALLOWED + "GET, POST", "method not allowed")
@@ -42,7 +42,7 @@ def site(*events, manager=7):
 
 def view_at(path, view):
     """The resource is shown so, without a turn behind it."""
-    return [["json", "VIEW", view if isinstance(view, str) else written(view)], answers(request("GET", path), "$VIEW"), ["stays"]]
+    return [answers(request("GET", path), showing(view if isinstance(view, str) else written(view))), ["stays"]]
 
 
 # ---- Identifiers, moments and texts
@@ -196,41 +196,6 @@ run(
 
 # ---- Events: one of each kind, in a journal that may have each where it stands, and what is read back of it
 
-def spelled(title, **fields):
-    """A value as it is told of an event that is read back: its type and its fields."""
-    return "%s { %s }" % (title, ", ".join("%s: %s" % it for it in fields.items()))
-
-
-def listed(*entries):
-    return spelled("Listed", entries="[%s]" % ", ".join(map(str, entries)))
-
-
-def quoted(text):
-    return '"%s"' % text
-
-
-def told_change(phase, verb, kind, item, vdu, serial):
-    definition = spelled("Def", kind=kind.capitalize(), item=item, vdu=vdu, serial=serial)
-    return spelled("Change", phase=phase, verb=verb.capitalize(), **{"def": definition})
-
-
-def told_asked(occurrence, ask, changes=(), instance=1, role="Orchestrator"):
-    told = listed(*(told_change(*it) for it in changes))
-    return "Asked(%s)" % spelled("Operation", occ=occurrence, instance=instance, role=role, ask=ask, changes=told)
-
-
-def told_tag(change, attempt, way="Forward"):
-    return spelled("Tag", occ=1, change=change, attempt=attempt, way=way)
-
-
-def told_settled(tag, outcome):
-    return spelled("Settled", tag=tag, outcome=outcome)
-
-
-def told_moved(occurrence, to):
-    return spelled("Moved", occ=occurrence, to=to)
-
-
 def planned(changes):
     return [change(*it) for it in changes]
 
@@ -239,16 +204,6 @@ MACHINE_VNFD = onboarded(descriptor(
     "d", [vdu("V", [0], 1_024, 2, 4_294_967_295)], [storage("s", 5)], ["l"], [port("c", 0, 0), port("m", 0)], [aspect("a", 3, 1, (0, [2]))],
     [level("x", 0)], names=("p", "n", "1", "2"), flavour="f",
 ))
-TOLD_VNFD = "Onboarded(%s)" % spelled(
-    "Vnfd", descriptor_id=quoted("d"), provider=quoted("p"), product_name=quoted("n"), software_version=quoted("1"),
-    descriptor_version=quoted("2"), flavour_id=quoted("f"),
-    vdus=listed(spelled("Vdu", name=quoted("V"), memory=1_024, cpus=2, maximum=4_294_967_295, initial=1, storages=listed(0))),
-    storages=listed(spelled("Storage", name=quoted("s"), size=5)), links=listed(quoted("l")),
-    ports=listed(spelled("Port", name=quoted("c"), vdu=0, link="Some(0)"), spelled("Port", name=quoted("m"), vdu=0, link="None")),
-    aspects=listed(spelled("Aspect", name=quoted("a"), maximum=3, steps=1, rows=listed(spelled("Row", vdu=0, deltas=listed(2))))),
-    levels=listed(spelled("Level", name=quoted("x"), numbers=listed(0))), default_level=0,
-)
-
 
 def of_machine(serial, *link):
     """The changes that make the machine of this serial number, behind its link where that doesn't stand yet."""
@@ -259,79 +214,53 @@ def of_machine(serial, *link):
 
 FIRST, SECOND, THIRD = (of_machine(serial, (0, "create", "LINK", 0, NO_VDU, 0)) for serial in (1, 2, 3))
 ASKED_FILTER = let_through(["d"], (), ["edge-1", "edge-2"], [0, 2], [1, 7, 9], [0, 6])
-TOLD_FILTER = spelled(
-    "Filter", vnfds=listed(quoted("d")), instances=listed(), names=listed(quoted("edge-1"), quoted("edge-2")),
-    notices=listed("Occurrence", "Deletion"), operations=listed("Of(Instantiate)", "Of(ChangeFlavour)", "ModifyInfo"),
-    states=listed("Starting", "RolledBack"),
-)
-TOLD_LINE = lambda text: spelled("Line", text=quoted(text))
-# Each event, and what is read back of it.
-EACH_KIND = [
-    (MACHINE_VNFD, TOLD_VNFD),
-    (created(1, "d", "edge-1"), 'Created { instance: 1, vnfd: "d", name: Some("edge-1"), text: None }'),
-    (
-        subscribed(1, "http://h/x", "element", ASKED_FILTER),
-        spelled("Subscribed", subscription=1, role="Element", callback=TOLD_LINE("http://h/x"), filter=TOLD_FILTER),
-    ),
-    (
-        asked(1, instantiate("x", "f"), planned(FIRST)),
-        told_asked(1, spelled("Instantiate", flavour=quoted("f"), level='Some("x")'), FIRST),
-    ),
-    (posted(1, 4, False), "Posted { subscription: 1, place: 4, outcome: NotTaken }"),
-    (grant_later(1, "/g1"), spelled("GrantTried", occ=1, answer="Later(%s)" % TOLD_LINE("/g1"))),
-    (
-        granted(1, "g1", [("v", ""), ("w", "z")], [0, 1, 1, 0, 0]),
-        spelled(
-            "Granted", occ=1, grant=quoted("g1"),
-            places=listed(spelled("Place", vim='"v"', zone='""'), spelled("Place", vim='"w"', zone='"z"')), spots=listed(0, 1, 1, 0, 0),
-        ),
-    ),
-    (moved(1, "PROCESSING"), told_moved(1, "Processing")),
-    (intent(tag(1, 0, 1)), "Intent(%s)" % told_tag(0, 1)),
-    (done(tag(1, 0, 1), "r1"), told_settled(told_tag(0, 1), 'Done("r1")')),
-    (intent(tag(1, 1, 1)), "Intent(%s)" % told_tag(1, 1)),
-    (call_failed(tag(1, 1, 1)), "CallFailed(%s)" % told_tag(1, 1)),
-    (not_begun(tag(1, 1, 1)), told_settled(told_tag(1, 1), "NotBegun")),
-    (moved(1, "FAILED_TEMP"), told_moved(1, "FailedTemp")),
-    (moved(1, "PROCESSING"), told_moved(1, "Processing")),
-    (intent(tag(1, 1, 2)), "Intent(%s)" % told_tag(1, 2)),
-    (broken(tag(1, 1, 2), 4_294_967_295), told_settled(told_tag(1, 2), "Broken(4294967295)")),
-    (cancel_asked(1, "GRACEFUL"), "CancelAsked { occ: 1, mode: Graceful }"),
-    (moved(1, "FAILED_TEMP"), told_moved(1, "FailedTemp")),
-    (moved(1, "PROCESSING"), told_moved(1, "Processing")),
-    (intent(tag(1, 1, 3)), "Intent(%s)" % told_tag(1, 3)),
-    (cancel_asked(1, "FORCEFUL"), "CancelAsked { occ: 1, mode: Forceful }"),
-    (aborted(tag(1, 1, 3)), told_settled(told_tag(1, 3), "Aborted")),
-    (moved(1, "FAILED_TEMP"), told_moved(1, "FailedTemp")),
-    (moved(1, "ROLLING_BACK"), told_moved(1, "RollingBack")),
-    (intent(tag(1, 0, 2, "undo")), "Intent(%s)" % told_tag(0, 2, "Undo")),
-    (done(tag(1, 0, 2, "undo"), ""), told_settled(told_tag(0, 2, "Undo"), 'Done("")')),
-    (moved(1, "ROLLED_BACK"), told_moved(1, "RolledBack")),
-    (
-        asked(2, instantiate(flavour="f"), planned(SECOND), role="element"),
-        told_asked(2, spelled("Instantiate", flavour=quoted("f"), level="None"), SECOND, role="Element"),
-    ),
-    (grant_trouble(2), spelled("GrantTried", occ=2, answer="Trouble")),
-    (grant_misses(2), spelled("GrantTried", occ=2, answer="NotCovering")),
-    (moved(2, "ROLLED_BACK"), told_moved(2, "RolledBack")),
-    (posted(1, 4, True), "Posted { subscription: 1, place: 4, outcome: Delivered }"),
-    (
-        asked(3, instantiate(flavour="f"), planned(THIRD)),
-        told_asked(3, spelled("Instantiate", flavour=quoted("f"), level="None"), THIRD),
-    ),
-    (denied(3), "Denied { occ: 3 }"),
-    (moved(3, "ROLLED_BACK"), told_moved(3, "RolledBack")),
-    (unsubscribed(1), "Unsubscribed { subscription: 1 }"),
-    (deleted(1), "Deleted { instance: 1 }"),
+EVENTS = [
+    MACHINE_VNFD,
+    created(1, "d", "edge-1"),
+    subscribed(1, "http://h/x", "element", ASKED_FILTER),
+    asked(1, instantiate("x", "f"), planned(FIRST)),
+    posted(1, 4, False),
+    grant_later(1, "/g1"),
+    granted(1, "g1", [("v", ""), ("w", "z")], [0, 1, 1, 0, 0]),
+    moved(1, "PROCESSING"),
+    intent(tag(1, 0, 1)),
+    done(tag(1, 0, 1), "r1"),
+    intent(tag(1, 1, 1)),
+    call_failed(tag(1, 1, 1)),
+    not_begun(tag(1, 1, 1)),
+    moved(1, "FAILED_TEMP"),
+    moved(1, "PROCESSING"),
+    intent(tag(1, 1, 2)),
+    broken(tag(1, 1, 2), 4_294_967_295),
+    cancel_asked(1, "GRACEFUL"),
+    moved(1, "FAILED_TEMP"),
+    moved(1, "PROCESSING"),
+    intent(tag(1, 1, 3)),
+    cancel_asked(1, "FORCEFUL"),
+    aborted(tag(1, 1, 3)),
+    moved(1, "FAILED_TEMP"),
+    moved(1, "ROLLING_BACK"),
+    intent(tag(1, 0, 2, "undo")),
+    done(tag(1, 0, 2, "undo"), ""),
+    moved(1, "ROLLED_BACK"),
+    asked(2, instantiate(flavour="f"), planned(SECOND), role="element"),
+    grant_trouble(2),
+    grant_misses(2),
+    moved(2, "ROLLED_BACK"),
+    posted(1, 4, True),
+    asked(3, instantiate(flavour="f"), planned(THIRD)),
+    denied(3),
+    moved(3, "ROLLED_BACK"),
+    unsubscribed(1),
+    deleted(1, moment=LATER),
 ]
-EVENTS = [it for it, _ in EACH_KIND]
 RECORDS = [let("EVENT_%d" % number, in_record(it)) for number, it in enumerate(EVENTS, 1)]
 KINDS = [next(number for number, it in enumerate(EVENTS) if it[0] == kind) for kind in range(1, 16)]
 ALL_EVENTS = ["site", [HEADER, *RECORDS, "\0"]]
 run(
     "one event of each kind is read back as it was recorded",
     *[ALL_EVENTS, ["opened", "%d records, 1 descriptors, 1 instances, 0 live" % len(EVENTS)]],
-    *[["read back", number, told_event] for number, (_, told_event) in enumerate(EACH_KIND, 1)],
+    *[["read back", number, told_back(it)] for number, it in enumerate(EVENTS, 1)],
     *[["read back", 0, "no such record"], ["read back", len(EVENTS) + 1, "no such record"]],
 )
 
@@ -660,58 +589,32 @@ GONE_PLAN = removing(1, 1, NETWORKS)
 LEVELS = [{"aspectId": "workers", "scaleLevel": 3}, {"aspectId": "readers", "scaleLevel": 0}]
 
 
-def told_aspect(aspect, number):
-    return spelled("AspectLevel", aspect=quoted(aspect), level=number)
-
-
-def told_machine(vdu, serial):
-    return spelled("Vnfc", vdu=vdu, serial=serial)
-
-
 ASKS = [
-    (scale("in", "workers", 10), [], 'Scale { way: In, aspect: "workers", steps: 10 }',
-        "SCALE", {"aspectId": "workers", "numberOfSteps": 10, "type": "SCALE_IN"}),
-    (scale("out", "readers", 1), [], 'Scale { way: Out, aspect: "readers", steps: 1 }',
-        "SCALE", {"aspectId": "readers", "numberOfSteps": 1, "type": "SCALE_OUT"}),
-    (scale_to("normal"), [], 'ScaleToLevel(Level("normal"))', "SCALE_TO_LEVEL", {"instantiationLevelId": "normal"}),
-    (
-        scale_aspects(("workers", 3), ("readers", 0)), [], "ScaleToLevel(Aspects(%s))" % listed(told_aspect("workers", 3), told_aspect("readers", 0)),
-        "SCALE_TO_LEVEL", {"scaleInfo": LEVELS},
-    ),
-    (
-        heal((0, 1), (1, 1), cause='disk "full"'), RENEWED,
-        spelled("Heal", cause="Some(%s)" % TOLD_LINE('disk \\"full\\"'), named=listed(told_machine(0, 1), told_machine(1, 1))),
-        "HEAL", {"cause": 'disk "full"', "vnfcInstanceId": ["VDU_A-1", "VDU_B-1"]},
-    ),
-    (heal(), RENEWED, spelled("Heal", cause="None", named=listed()), "HEAL", {}),
-    (operate(False, "GRACEFUL"), STOPS, "Operate { started: false, stop: Some(Graceful) }",
-        "OPERATE", {"changeStateTo": "STOPPED", "stopType": "GRACEFUL"}),
-    (terminate(timeout=30), GONE_PLAN, "Terminate { mode: Forceful, timeout: Some(30) }", *FORCEFUL),
-    (terminate("GRACEFUL"), STOPS + GONE_PLAN, "Terminate { mode: Graceful, timeout: None }", "TERMINATE", {"terminationType": "GRACEFUL"}),
+    (scale("in", "workers", 10), [], "SCALE", {"aspectId": "workers", "numberOfSteps": 10, "type": "SCALE_IN"}),
+    (scale("out", "readers", 1), [], "SCALE", {"aspectId": "readers", "numberOfSteps": 1, "type": "SCALE_OUT"}),
+    (scale_to("normal"), [], "SCALE_TO_LEVEL", {"instantiationLevelId": "normal"}),
+    (scale_aspects(("workers", 3), ("readers", 0)), [], "SCALE_TO_LEVEL", {"scaleInfo": LEVELS}),
+    (heal((0, 1), (1, 1), cause='disk "full"'), RENEWED, "HEAL", {"cause": 'disk "full"', "vnfcInstanceId": ["VDU_A-1", "VDU_B-1"]}),
+    (heal(), RENEWED, "HEAL", {}),
+    (operate(False, "GRACEFUL"), STOPS, "OPERATE", {"changeStateTo": "STOPPED", "stopType": "GRACEFUL"}),
+    (terminate(timeout=30), GONE_PLAN, *FORCEFUL),
+    (terminate("GRACEFUL"), STOPS + GONE_PLAN, "TERMINATE", {"terminationType": "GRACEFUL"}),
 ]
 
 
-def asked_for(before, number, ask, changes, told_ask, *shown_as):
+def asked_for(before, number, ask, changes, *shown_as):
     """An operation is asked for behind these records, and is shown and read back so."""
-    return [
-        *[site(before, asked(number, ask, planned(changes)))],
-        *view_at(OCCURRENCE % number, occurrence(number, "cancel", "STARTING", *shown_as, entered=START)),
-        ["read back", BEFORE[before] + 1, told_asked(number, told_ask, changes)],
-    ]
+    event = asked(number, ask, planned(changes))
+    view = occurrence(number, "cancel", "STARTING", *shown_as, entered=START)
+    return [site(before, event), *view_at(OCCURRENCE % number, view), ["read back", BEFORE[before] + 1, told_back(event)]]
 
 
 run(
     "what an operation was asked for with is shown, and read back",
     *[act for it in ASKS for act in asked_for(SCALED, 3, *it)],
-    *asked_for(
-        STOPPED_ROUTER, 3, operate(True), changes_of("start", (4, computes_of(1, 1))), "Operate { started: true, stop: None }",
-        "OPERATE", {"changeStateTo": "STARTED"},
-    ),
-    *asked_for(FRESH, 1, instantiate("normal"), FIRST_PLAN, spelled("Instantiate", flavour=quoted("simple"), level='Some("normal")'), *NORMAL),
-    *asked_for(
-        FRESH, 1, instantiate(), FIRST_PLAN, spelled("Instantiate", flavour=quoted("simple"), level="None"),
-        "INSTANTIATE", {"flavourId": "simple"},
-    ),
+    *asked_for(STOPPED_ROUTER, 3, operate(True), changes_of("start", (4, computes_of(1, 1))), "OPERATE", {"changeStateTo": "STARTED"}),
+    *asked_for(FRESH, 1, instantiate("normal"), FIRST_PLAN, *NORMAL),
+    *asked_for(FRESH, 1, instantiate(), FIRST_PLAN, "INSTANTIATE", {"flavourId": "simple"}),
 )
 ASKED_TO_GO = asked(3, terminate(timeout=30), planned(GONE_PLAN))
 ENDED = later(moved, 3, "ROLLED_BACK")

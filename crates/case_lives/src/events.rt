@@ -39,3 +39,25 @@ pub fn name(act: &[Value], place: usize) -> Result<Name, CaseFault> {
         None => Err(CaseFault::Spelling),
     }
 }
+
+/// The word for what an event says that happened, and the number of what it happened to: of an instance, an occurrence or a subscription; 0 for a
+/// descriptor.
+pub fn about(event: &Event) -> (&'static str, u64) {
+    match &event.kind {
+        EventKind::Onboarded(_) => ("onboarded", 0),
+        EventKind::Created { instance, .. } => ("created", *instance),
+        EventKind::Deleted { instance } => ("deleted", *instance),
+        EventKind::Asked(operation) => ("asked", operation.occ),
+        EventKind::GrantTried { occ, .. } => ("grant tried", *occ),
+        EventKind::Granted { occ, .. } => ("granted", *occ),
+        EventKind::Denied { occ } => ("denied", *occ),
+        EventKind::Intent(tag) => ("intent", tag.occ),
+        EventKind::CallFailed(tag) => ("call failed", tag.occ),
+        EventKind::Settled { tag, .. } => ("settled", tag.occ),
+        EventKind::Moved { occ, .. } => ("moved", *occ),
+        EventKind::CancelAsked { occ, .. } => ("cancel asked", *occ),
+        EventKind::Subscribed { subscription, .. } => ("subscribed", *subscription),
+        EventKind::Unsubscribed { subscription } => ("unsubscribed", *subscription),
+        EventKind::Posted { subscription, .. } => ("posted", *subscription),
+    }
+}

@@ -15,7 +15,7 @@ mod words;
 mod work;
 
 pub use calls::{Calls, calls_of, opening};
-pub use events::{descriptor, event_of, name, operation};
+pub use events::{about, descriptor, event_of, name, operation};
 pub use plan::{Plan, plain_site};
 pub use records::{At, Step, front_of, front_with, journal_with};
 pub use sound::{agrees, change_done, changes_standing};
@@ -23,4 +23,4 @@ pub use steps::steps_of;
 pub use stops::{Earlier, Stop, Whole};
 pub use texts::Names;
 pub use words::{CaseFault, behind, code, count, entries, list, number, part, small, truth, word};
-pub use work::{makes, removes};
+pub use work::work_text;

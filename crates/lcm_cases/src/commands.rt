@@ -121,13 +121,18 @@ impl Stage {
         }
     }
 
-    /// Whether the command ended with 0 and was told what stands at this place, where something does.
-    fn went_well(&self, alloc: Global, act: &[Value], place: usize) -> Result<bool, CaseFault> {
-        let Some(told) = act.get(place) else {
-            return Ok(true);
-        };
-        let told = self.names.text(alloc, told)?;
+    /// Whether the last command ended with 0, and its connection was told this and hung up.
+    pub fn is_answered(&self, alloc: Global, text: &Value) -> Result<bool, CaseFault> {
+        let told = self.names.text(alloc, text)?;
         Ok(self.ran.status == 0 && self.ran.ended && self.ran.told.as_slice() == told.as_slice())
+    }
+
+    /// Whether it was answered with what stands at this place, where something does.
+    fn went_well(&self, alloc: Global, act: &[Value], place: usize) -> Result<bool, CaseFault> {
+        match act.get(place) {
+            Some(text) => self.is_answered(alloc, text),
+            None => Ok(true),
+        }
     }
 
     /// `["go", WORD..]`: runs these words.

@@ -6,7 +6,7 @@ use crate::stage::Stage;
 use case_lives::{CaseFault, code, descriptor, event_of, list, name, operation, part, word};
 use lcm_events::{Ask, Event, Holding, Listed, Vnfd};
 use lcm_model::are_levels_in;
-use scaling_levels::{level_of, target, vnfd_valid};
+use lcm_plans::{level_of, target, vnfd_valid};
 use serde_json::Value;
 use std::alloc::{AllocError, Global};
 use vnfm_base::Name;

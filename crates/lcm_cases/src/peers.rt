@@ -1,11 +1,12 @@
 //! Acts that make turns with an orchestrator whose answers are planned or that gives none, and that open a journal and ask its manager.
 
 use crate::stage::Stage;
-use case_lives::{CaseFault, count, list, name, number, part, truth, word};
+use case_lives::{CaseFault, about, list, name, number, part, truth, word};
 use executor::{Manager, WorkFault};
+use lcm_events::Event;
 use occ_work::{Turn, turn};
 use serde_json::Value;
-use site_traits::{Call, GrantPlan, Heard, MemOrchestrator, MemSite, Orchestrator};
+use site_traits::{Call, Heard, MemOrchestrator, MemSite, Orchestrator};
 use std::alloc::{AllocError, Global};
 use std::mem;
 use vnfm_base::{Kind, Line, Moment, Name};
@@ -74,6 +75,13 @@ fn opened_text(alloc: Global, site: &mut MemSite) -> Result<String, AllocError> 
     format!(in alloc; "{records} records, {descriptors} descriptors, {made} instances, {live} live")
 }
 
+/// An event, as acts spell it: what happened, to the one of which number, and when.
+fn told_event(alloc: Global, event: &Event) -> Result<String, AllocError> {
+    let (word, number) = about(event);
+    let moment = event.moment.milliseconds();
+    format!(in alloc; "{word} {number} at {moment}")
+}
+
 /// What a manager reads back at this place of its history.
 fn event_text(alloc: Global, site: &mut MemSite, place: u64) -> Result<String, AllocError> {
     let mut manager = match Manager::load(alloc, site) {
@@ -84,7 +92,7 @@ fn event_text(alloc: Global, site: &mut MemSite, place: u64) -> Result<String, A
         return String::from_str(alloc, "no such record");
     }
     match manager.event_at(alloc, site, place) {
-        Ok(event) => format!(in alloc; "{:?}", event.kind),
+        Ok(event) => told_event(alloc, &event),
         Err(fault) => format!(in alloc; "{fault}"),
     }
 }
@@ -173,17 +181,6 @@ impl Stage {
         Ok(self.stands(alloc, &granted, &turned))
     }
 
-    /// `["says nothing"]`: the call of the next command's orchestrator that comes next fails.
-    pub fn plan_silence(&mut self) -> Result<(), CaseFault> {
-        Ok(self.outside.says.push(GrantPlan::Fail)?)
-    }
-
-    /// `["fault", K]`: the disk call of this number, from 1, fails on the next site.
-    pub fn plan_fault(&mut self, act: &[Value]) -> Result<(), CaseFault> {
-        self.plan.failing = Some(number(act, 1)?);
-        Ok(())
-    }
-
     /// `["peer"]`: the orchestrator of the turns that follow gives the answers that are planned.
     pub fn make_peer(&mut self, alloc: Global) -> Result<(), CaseFault> {
         let says = mem::replace(&mut self.outside.says, Vec::new(alloc));
@@ -206,15 +203,6 @@ impl Stage {
         let _end = turn_text(alloc, &mut self.site, &mut listener)?;
         let body = self.names.text(alloc, part(act, 1)?)?;
         Ok(listener.body.as_slice() == body.as_slice())
-    }
-
-    /// `["peer calls", ASKED, POLLED, FAULTS]`: that orchestrator answered so many asks and polls, and so many calls of it failed.
-    pub fn has_peer_calls(&self, act: &[Value]) -> Result<bool, CaseFault> {
-        Ok(
-            count(act, 1)? == self.peer.asked()
-                && count(act, 2)? == self.peer.polled()
-                && number(act, 3)? == self.peer.faults(),
-        )
     }
 
     /// `["opened", TEXT]`: the journal is opened, and its manager has so many records, descriptors and instances, or it isn't, for this cause.

@@ -1,6 +1,6 @@
 //! Runs, act by act.
 //!
-//! An act is an array of a word and of what it takes, told by the method that does it. A run goes well where all its acts do. Of those that have
+//! An act is an array of a word and of what it takes, told by the method or the function that does it. A run goes well where all its acts do. Of those that have
 //! acts in them,
 //!
 //! - `["each stop", CHOICE, ACT..]` lets the site be what a stop of the whole life leaves at each moment in turn, where what isn't synced is `old`,
@@ -12,10 +12,13 @@
 //! or so many of its disk calls were made behind its opening; `["unopened", ACT]` where a call of the opening failed; `["at first", ACT]` and
 //! `["at last", ACT]` at the first moment and at the last. Everywhere, `["times", N, ACT]` plays the act so many times.
 
+use crate::checks::{Standing, are};
 use crate::stage::Stage;
-use case_lives::{CaseFault, behind, count, entries, list, number, part, word};
+use case_lives::{
+    CaseFault, behind, calls_of, changes_standing, count, entries, list, number, part, word,
+};
 use serde_json::Value;
-use site_traits::{Choice, DoorPlan};
+use site_traits::{Choice, DoorPlan, GrantPlan};
 use std::alloc::Global;
 
 /// Plays an act on the words of a command line, on the program that is started with them, or on levels.
@@ -32,53 +35,87 @@ fn spells(stage: &Stage, alloc: Global, act: &[Value]) -> Result<bool, CaseFault
     }
 }
 
-/// Plays an act that compares what was told or printed.
-fn hears(stage: &mut Stage, alloc: Global, act: &[Value]) -> Result<bool, CaseFault> {
+/// Plays an act that compares numbers: how many, since a site was made, there are of
+///
+/// - `["moment", N]` calls on its record; `["calls", BEGINS, LOOKS, ABORTS]` those on jobs among them; `["faults", DISK, JOBS, LOOKS, REFUSALS]` failed
+///   disk calls, failed calls on jobs, failed looks among these, and refused begins; `["clock", N]` readings of the clock by the last command;
+/// - `["file length", N]` bytes of the file; `["grown", N]` bytes of it that the last command put;
+/// - `["job count", N]` jobs; `["jobs", N, STANDING]` jobs and changes that stand by them; `["lost", N]` stops that found an attempt without a job;
+/// - `["alike", N]` connections of the last command, each of which was told the same and hung up;
+/// - `["grants", N]` asks of the orchestrator that grants all, in this run; `["peer calls", ASKED, POLLED, FAULTS]` answered asks and polls and failed
+///   calls of that with planned answers.
+fn counts(stage: &Stage, alloc: Global, act: &[Value]) -> Result<bool, CaseFault> {
+    let (site, peer) = (&stage.site, &stage.peer);
     match word(act, 0)? {
-        "status" => stage.has_status(act),
-        "told" => stage.is_told(alloc, act),
-        "told front" => stage.is_told_front(alloc, act),
-        "told part" => stage.is_told_part(alloc, act),
-        "told shown" => stage.is_told_shown(alloc, act),
-        "printed" => stage.has_printed(alloc, act),
-        "ended" => stage.has_ended(),
-        "clock" => stage.has_read_the_clock(act),
-        "alike" => stage.are_told_alike(act),
-        "refused" => stage.is_refused(alloc, act),
-        "shown" => stage.is_shown(alloc, act),
-        "face" => stage.has_face(alloc, act),
-        "instance" => stage.has_instance(alloc, act),
-        "grants" => stage.has_asked(act),
-        "peer calls" => stage.has_peer_calls(act),
+        "moment" => are(act, &[site.moment() as u64]),
+        "calls" => {
+            let made = calls_of(site);
+            are(
+                act,
+                &[made.begins as u64, made.looks as u64, made.aborts as u64],
+            )
+        }
+        "faults" => are(
+            act,
+            &[
+                site.faults(),
+                site.vim_faults(),
+                site.look_faults(),
+                site.refusals(),
+            ],
+        ),
+        "clock" => are(act, &[stage.ran.clock]),
+        "file length" => are(act, &[site.file().len() as u64]),
+        "grown" => are(act, &[stage.grown()]),
+        "job count" => are(act, &[site.jobs() as u64]),
+        "jobs" => are(act, &[site.jobs() as u64, changes_standing(site) as u64]),
+        "lost" => are(act, &[stage.lost as u64]),
+        "alike" => are(act, &[stage.ran.alike as u64]),
+        "grants" => are(act, &[stage.granting.asked() as u64]),
+        "peer calls" => are(
+            act,
+            &[peer.asked() as u64, peer.polled() as u64, peer.faults()],
+        ),
         _ => spells(stage, alloc, act),
     }
 }
 
-/// Plays an act that compares what stands.
+/// Plays an act that compares bytes with a text: of what the last connection was told, all with `["told", TEXT]`, the front with `["told front", TEXT]`
+/// and a part with `["told part", TEXT]`; what the last command printed with `["printed", TEXT]`; of the file all with `["file", TEXT]`, the front
+/// with `["file front", TEXT]` and the end with `["file end", TEXT]`.
+fn reads(stage: &Stage, alloc: Global, act: &[Value]) -> Result<bool, CaseFault> {
+    let (told, file) = (stage.ran.told.as_slice(), stage.site.file());
+    match word(act, 0)? {
+        "told" => stage.has_text(alloc, act, told, Standing::Whole),
+        "told front" => stage.has_text(alloc, act, told, Standing::Front),
+        "told part" => stage.has_text(alloc, act, told, Standing::Within),
+        "printed" => stage.has_text(alloc, act, &stage.ran.printed, Standing::Whole),
+        "file" => stage.has_text(alloc, act, file, Standing::Whole),
+        "file front" => stage.has_text(alloc, act, file, Standing::Front),
+        "file end" => stage.has_text(alloc, act, file, Standing::End),
+        _ => counts(stage, alloc, act),
+    }
+}
+
+/// Plays an act that compares what stands. `["stays"]`: the file is as it was before the last command; `["ended"]`: the last connection was hung up;
+/// `["answered", TEXT]`: the last command ended with 0, and its connection was told this and hung up; `["only answered", TEXT]`: the same, and the file
+/// is as it was before.
 fn finds(stage: &mut Stage, alloc: Global, act: &[Value]) -> Result<bool, CaseFault> {
     match word(act, 0)? {
-        "stays" => stage.file_stays(),
-        "file" => stage.has_file(alloc, act),
-        "file front" => stage.has_file_front(alloc, act),
-        "file end" => stage.has_file_end(alloc, act),
-        "file length" => stage.has_file_length(act),
-        "grown" => stage.has_grown(act),
-        "moment" => stage.is_at_moment(act),
-        "calls" => stage.has_called(act),
-        "faults" => stage.has_faults(act),
-        "job count" => stage.has_job_count(act),
-        "jobs" => stage.has_jobs(act),
+        "stays" => Ok(stage.stays()),
+        "ended" => Ok(stage.ran.ended),
+        "answered" => stage.is_answered(alloc, part(act, 1)?),
+        "only answered" => Ok(stage.stays() && stage.is_answered(alloc, part(act, 1)?)?),
+        "status" => stage.has_status(act),
         "done jobs" => stage.are_done(act),
         "job" => stage.has_job(act),
-        "serial" => stage.has_serial(act),
-        "makes" => stage.job_makes(act),
         "does" => stage.job_does(alloc, act),
-        "removes" => stage.job_removes(act),
         "steps" => stage.has_steps(alloc, act),
         "left" => stage.is_left(alloc),
         "again" => stage.is_again(alloc),
-        "lost" => stage.has_lost(act),
-        _ => hears(stage, alloc, act),
+        "face" => stage.has_face(alloc, act),
+        "instance" => stage.has_instance(alloc, act),
+        _ => reads(stage, alloc, act),
     }
 }
 
@@ -102,37 +139,54 @@ fn runs(stage: &mut Stage, alloc: Global, act: &[Value]) -> Result<bool, CaseFau
     }
 }
 
-/// Plays an act that prepares a command, or another.
+/// Plays an act that says what goes otherwise on the site or at the command that is next, or another. On the next site
+///
+/// - `["room", N]` there is room for so many jobs;
+/// - `["fault", N]` the disk call of that number, from 1, fails, and with `["no fault"]` none does;
+/// - `["blind", N]` the look or abort of that number, from 1 over both, fails; its file is empty.
+///
+/// At the next command
+///
+/// - `["sink", N]` the put of a line of that number, from 1, fails;
+/// - `["pieces", N]` connections come in pieces of so many bytes, from now on;
+/// - `["nobody"]` nobody comes, and with `["no door"]` the door fails;
+/// - `["says nothing"]` the call of its orchestrator that comes next fails.
+fn plans(stage: &mut Stage, alloc: Global, act: &[Value]) -> Result<bool, CaseFault> {
+    match word(act, 0)? {
+        "room" => stage.plan.jobs = count(act, 1)?,
+        "fault" => stage.plan.failing = Some(number(act, 1)?),
+        "no fault" => stage.plan.failing = None,
+        "blind" => stage.plan.blind = Some(number(act, 1)?),
+        "sink" => stage.outside.put = Some(number(act, 1)?),
+        "pieces" => stage.outside.piece = count(act, 1)?,
+        "nobody" => stage.outside.door.push(DoorPlan::Nobody)?,
+        "no door" => stage.outside.door.push(DoorPlan::NextFails)?,
+        "says nothing" => stage.outside.says.push(GrantPlan::Fail)?,
+        _ => return runs(stage, alloc, act),
+    }
+    Ok(true)
+}
+
+/// Plays an act that prepares a command, or another. `["keep", NAME]`: the site's file has that name; `["base"]`: steps are compared behind the file as
+/// it is now.
 fn plays(stage: &mut Stage, alloc: Global, act: &[Value]) -> Result<bool, CaseFault> {
     match word(act, 0)? {
         "let" => stage.name_text(alloc, act)?,
-        "keep" => stage.name_file(alloc, act)?,
+        "keep" => stage.names.put(alloc, word(act, 1)?, stage.site.file())?,
         "keep records" => stage.name_records(alloc, act)?,
-        "problem" => stage.name_problem(alloc, act, "")?,
-        "last problem" => stage.name_problem(alloc, act, "Connection: close\r\n")?,
-        "json" => stage.name_shown(alloc, act)?,
         "work" => stage.plan_work(alloc, act)?,
-        "room" => stage.plan_room(act)?,
-        "no fault" => stage.plan_no_fault(),
-        "blind" => stage.plan_blind(act)?,
         "site" => stage.make_site(alloc, act)?,
-        "base" => stage.take_base(alloc)?,
-        "pieces" => stage.plan_pieces(act)?,
+        "base" => stage.base = stage.site.file().to_vec(alloc)?,
         "door" => stage.plan_door(alloc, part(act, 1)?)?,
         "bad door" => stage.plan_bad_door(alloc, act)?,
-        "nobody" => stage.plan_absence(DoorPlan::Nobody)?,
-        "no door" => stage.plan_absence(DoorPlan::NextFails)?,
         "cuts" => stage.plan_cuts(alloc, act)?,
-        "sink" => stage.plan_sink(act)?,
         "says" => stage.plan_answer(alloc, act)?,
+        "peer" => stage.make_peer(alloc)?,
         "renew" => stage.renew(alloc)?,
         "life" => stage.take_life(alloc, act)?,
         "stop behind" => stage.stop_behind(alloc, act)?,
         "stop behind the begin" => stage.stop_behind_the_begin(alloc)?,
-        "says nothing" => stage.plan_silence()?,
-        "fault" => stage.plan_fault(act)?,
-        "peer" => stage.make_peer(alloc)?,
-        _ => return runs(stage, alloc, act),
+        _ => return plans(stage, alloc, act),
     }
     Ok(true)
 }

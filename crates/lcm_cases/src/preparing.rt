@@ -17,35 +17,6 @@ const TAKEN: JobPlan = JobPlan {
     abortable: true,
 };
 
-/// The answer that says what is wrong, with this status line and what stands between the length and the body.
-fn problem(alloc: Global, line: &str, detail: &str, between: &str) -> Result<String, AllocError> {
-    let status = line.split_once(' ').map_or(line, |(status, _)| status);
-    let body = format!(in alloc; "{{\"detail\":\"{detail}\",\"status\":{status}}}")?;
-    let length = body.len();
-    format!(in alloc;
-        "HTTP/1.1 {line}\r\nContent-Type: application/problem+json\r\nContent-Length: {length}\r\n{between}\r\n{body}"
-    )
-}
-
-/// The front of the answer that shows a body of this length.
-fn shown_front(alloc: Global, length: usize) -> Result<String, AllocError> {
-    format!(in alloc;
-        "HTTP/1.1 200 OK\r\nContent-Type: application/json\r\nContent-Length: {length}\r\n\r\n"
-    )
-}
-
-/// The answer that refuses a request with this status line and this detail, behind which the connection goes on.
-pub fn refusal(alloc: Global, line: &str, detail: &str) -> Result<String, AllocError> {
-    problem(alloc, line, detail, "")
-}
-
-/// The answer that shows this body.
-pub fn shown(alloc: Global, body: &[u8]) -> Result<Vec<u8>, AllocError> {
-    let mut answer = shown_front(alloc, body.len())?.into_bytes();
-    answer.extend_from_slice(body)?;
-    Ok(answer)
-}
-
 /// The connection with these bytes in two pieces.
 fn in_two(alloc: Global, front: &[u8], back: &[u8]) -> Result<DoorPlan, AllocError> {
     let mut pieces = Vec::new(alloc);
@@ -112,34 +83,10 @@ impl Stage {
         Ok(self.names.put(alloc, word(act, 1)?, &text)?)
     }
 
-    /// `["keep", NAME]`: the site's file has that name.
-    pub fn name_file(&mut self, alloc: Global, act: &[Value]) -> Result<(), CaseFault> {
-        Ok(self.names.put(alloc, word(act, 1)?, self.site.file())?)
-    }
-
     /// `["keep records", NAME]`: the site's file up to its closed gate has that name.
     pub fn name_records(&mut self, alloc: Global, act: &[Value]) -> Result<(), CaseFault> {
         let records = front_of(self.site.file());
         Ok(self.names.put(alloc, word(act, 1)?, records)?)
-    }
-
-    /// `["problem", NAME, LINE, DETAIL]` and `["last problem", NAME, LINE, DETAIL]`: the answer with this status line and this detail has that
-    /// name; the second is its connection's last.
-    pub fn name_problem(
-        &mut self,
-        alloc: Global,
-        act: &[Value],
-        between: &str,
-    ) -> Result<(), CaseFault> {
-        let answer = problem(alloc, word(act, 2)?, word(act, 3)?, between)?;
-        Ok(self.names.put(alloc, word(act, 1)?, answer.as_bytes())?)
-    }
-
-    /// `["json", NAME, TEXT]`: the answer that shows this text has that name.
-    pub fn name_shown(&mut self, alloc: Global, act: &[Value]) -> Result<(), CaseFault> {
-        let body = self.names.text(alloc, part(act, 2)?)?;
-        let answer = shown(alloc, &body)?;
-        Ok(self.names.put(alloc, word(act, 1)?, &answer)?)
     }
 
     /// `["work", N, PLAN..]`: what comes of the begins on the next site: N are taken, and those behind them come out by these plans.
@@ -154,39 +101,10 @@ impl Stage {
         Ok(())
     }
 
-    /// `["room", N]`: the next site has room for so many jobs.
-    pub fn plan_room(&mut self, act: &[Value]) -> Result<(), CaseFault> {
-        self.plan.jobs = count(act, 1)?;
-        Ok(())
-    }
-
-    /// `["no fault"]`: no disk call fails on the next site.
-    pub fn plan_no_fault(&mut self) {
-        self.plan.failing = None;
-    }
-
-    /// `["blind", N]`: the look or abort of that number, from 1 over both, fails on the next site, whose file is empty.
-    pub fn plan_blind(&mut self, act: &[Value]) -> Result<(), CaseFault> {
-        self.plan.blind = Some(number(act, 1)?);
-        Ok(())
-    }
-
     /// `["site", TEXT]`: a site with this file, by the plan.
     pub fn make_site(&mut self, alloc: Global, act: &[Value]) -> Result<(), CaseFault> {
         self.base = self.names.text(alloc, part(act, 1)?)?;
         self.site = self.plan.site(alloc, &self.base)?;
-        Ok(())
-    }
-
-    /// `["base"]`: steps are compared behind the file as it is now.
-    pub fn take_base(&mut self, alloc: Global) -> Result<(), CaseFault> {
-        self.base = self.site.file().to_vec(alloc)?;
-        Ok(())
-    }
-
-    /// `["pieces", N]`: the connections that are planned from now on come in pieces of so many bytes.
-    pub fn plan_pieces(&mut self, act: &[Value]) -> Result<(), CaseFault> {
-        self.outside.piece = count(act, 1)?;
         Ok(())
     }
 
@@ -225,12 +143,6 @@ impl Stage {
         self.plan_connection(alloc, part(act, 3)?, count(act, 1)?, count(act, 2)?)
     }
 
-    /// `["nobody"]` and `["no door"]`: nobody comes, or the door fails.
-    pub fn plan_absence(&mut self, plan: DoorPlan) -> Result<(), CaseFault> {
-        self.outside.door.push(plan)?;
-        Ok(())
-    }
-
     /// `["cuts", TEXT]`: connections come with this text in pieces of one byte, and in two pieces, cut at each place.
     pub fn plan_cuts(&mut self, alloc: Global, act: &[Value]) -> Result<(), CaseFault> {
         let bytes = self.names.text(alloc, part(act, 1)?)?;
@@ -241,12 +153,6 @@ impl Stage {
             let (front, back) = bytes.split_at(cut);
             self.outside.door.push(in_two(alloc, front, back)?)?;
         }
-        Ok(())
-    }
-
-    /// `["sink", N]`: the put of a line of that number, from 1, fails.
-    pub fn plan_sink(&mut self, act: &[Value]) -> Result<(), CaseFault> {
-        self.outside.put = Some(number(act, 1)?);
         Ok(())
     }
 
