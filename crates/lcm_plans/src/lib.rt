@@ -4,10 +4,12 @@
 
 mod aims;
 mod changes;
+mod levels;
 mod plans;
 mod refusals;
 
 pub use aims::target_in;
 pub use changes::are_same;
+pub use levels::{LevelFault, StepFault, count, level_of, stepped, target, vnfd_valid};
 pub use plans::plan_standing;
 pub use refusals::content_refusal_in;

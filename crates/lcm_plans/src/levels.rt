@@ -1,11 +1,10 @@
 //! How many machines a level means, and which levels steps lead to: each answer equals the definition of lcm_model.
-#![tactic(auto)]
-
 ghost use Rattle.std.specs.Prelude.{◌≡◌, ◌↔◌, ◌<◌, ◌+◌, IsTrue, IfErr, IfOk, IsSomeAnd, length, true, ℕ};
 ghost use Rattle.lcm_model.specs.Levels.{aspect_at, at_aspect, count, level_of as levels_named, moved_by, target};
 ghost use Rattle.lcm_model.specs.Descriptors.{IsValid, are_levels_of};
-ghost use Rattle.scaling_levels.specs.Steps.{IsAbove, IsBelow, LacksAspect, LeadsAbove, LeadsBelow};
+ghost use Rattle.lcm_plans.specs.Steps.{IsAbove, IsBelow, LacksAspect, LeadsAbove, LeadsBelow};
 
+use crate::aims::target_in;
 use lcm_events::{Ask, Holding, Levels, Listed, ScaleWay, Vnfd};
 use std::alloc::Global;
 use thiserror::Error;
@@ -154,7 +153,7 @@ fn unmoved(alloc: Global, vnfd: &Vnfd, holding: &Holding, ask: &Ask) -> Result<L
     ensures target { IfOk result (λ levels. levels ≡ target vnfd.now holding.now.levels ask.now) }
     ensures memory { IfErr result (λ fault. fault ≡ StepFault.Memory) }
 {
-    match lcm_plans::target_in(alloc, vnfd, holding.levels.as_slice(), ask) {
+    match target_in(alloc, vnfd, holding.levels.as_slice(), ask) {
         Ok(levels) => Ok(Listed::of(levels)),
         Err(_) => Err(StepFault::Memory),
     }

@@ -3,7 +3,7 @@ ghost use Rattle.std.specs.Prelude.{◌≡◌, IfOk, false, true};
 ghost use Rattle.site_traits.specs.Counts.{one_more};
 ghost use Rattle.site_traits.specs.MemSite.{state_of};
 
-use host_calls::{HostFile, HostFiles};
+use crate::files::{HostFile, HostFiles};
 use site_traits::{DiskFailed, MemSite, Site, SitePlan};
 use standard_streams::HeldStreams;
 use std::alloc::{AllocError, Global};
@@ -136,7 +136,7 @@ impl Folder {
 }
 
 impl HostFiles for Folder {
-    ghost use Rattle.told_edges.specs.Folder.{folder_state};
+    ghost use Rattle.host_calls.specs.Folder.{folder_state};
 
     type File = MemFile;
 

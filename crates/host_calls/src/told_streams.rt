@@ -1,7 +1,7 @@
 //! Streams in memory.
 ghost use Rattle.std.specs.Prelude.{◌≡◌, ◌≤◌, ◌++◌, OnOk, OnErr, IsTrue, length, take, drop};
 
-use host_calls::{InStream, OutStream};
+use crate::streams::{InStream, OutStream};
 use std::io;
 use std::io::ErrorKind;
 

@@ -1,7 +1,7 @@
 -- The bytes that were due stand behind those that were taken.
 use Rattle.std.proofs.Common.{List, ℕ, ◌++◌, take, ap, sym, ◌∙◌}
 use Rattle.std.proofs.Math.Seq.{take-add}
-use Rattle.told_edges.proofs.streams.Drain.take.Goals as goal
+use Rattle.host_calls.proofs.told_streams.Drain.take.Goals as goal
 
 pub returns-clause-ok : goal.returns-clause-ok
 returns-clause-ok c =
