@@ -1,16 +1,18 @@
 //! What the changes of an occurrence did to resources, as its view shows it.
-ghost use Rattle.std.specs.Prelude.{◌≡◌, ◌==◌, IfOk, None, Some, option_map, true};
-ghost use Rattle.serde_json.specs.View.{view};
+ghost use Rattle.std.specs.Prelude.{◌≡◌, ◌==◌, IfOk, None, OnOk, Some, codes, option_map, true};
+ghost use Rattle.serde_json.specs.Data.{put as with_member, string};
+ghost use Rattle.serde_json.specs.View.{members_view, view};
 ghost use Rattle.lcm_events.specs.Same.{same_kind};
 ghost use Rattle.lcm_events.specs.declared.changes.DefKind.TheVariants.{Compute, Link, Storage};
 ghost use Rattle.json_views.specs.Affected.{affected, affected_link, affected_machine, affected_storage, changes_value, is_made, made_at, resource_changes, used_handle, used_once_made};
+ghost use Rattle.json_views.specs.Words.{change_word};
 
-use crate::members::{Shows, array_of};
-use crate::rows::{handle_of, link_name, machine_id, storage_id, storage_name, vdu_name};
+use crate::members::{Shows, put_array, put_text};
+use crate::rows::{handle_of, link_name, put_machine_id, put_storage_id, storage_name, vdu_name};
 use crate::words::change_word;
 use lcm_events::{Change, DefKind, Vnfd};
 use occ_table::{OccRow, Used};
-use serde_json::{Map, Value, json, put};
+use serde_json::{Map, Value, put};
 use std::alloc::{AllocError, Global};
 
 /// A change that is made, and what it used last.
@@ -37,12 +39,27 @@ fn changes_value(alloc: Global, vnfd: &Vnfd, affected: &[Affected]) -> Result<Va
     ensures { IfOk result (λ value. view value ≡ changes_value vnfd.now affected.now) }
 {
     let mut members = Map::new(alloc);
-    let links = array_of(alloc, affected, &AffectedLinks { vnfd })?;
-    put(&mut members, alloc, "affectedVirtualLinks", links)?;
-    let storages = array_of(alloc, affected, &AffectedStorages { vnfd })?;
-    put(&mut members, alloc, "affectedVirtualStorages", storages)?;
-    let machines = array_of(alloc, affected, &AffectedMachines { vnfd })?;
-    put(&mut members, alloc, "affectedVnfcs", machines)?;
+    put_array(
+        &mut members,
+        alloc,
+        "affectedVirtualLinks",
+        affected,
+        &AffectedLinks { vnfd },
+    )?;
+    put_array(
+        &mut members,
+        alloc,
+        "affectedVirtualStorages",
+        affected,
+        &AffectedStorages { vnfd },
+    )?;
+    put_array(
+        &mut members,
+        alloc,
+        "affectedVnfcs",
+        affected,
+        &AffectedMachines { vnfd },
+    )?;
     Ok(Value::Object(members))
 }
 
@@ -90,11 +107,34 @@ fn is_made(row: &OccRow, number: usize) -> bool
     }
 }
 
-/// The infrastructure's name of what a change used, and the connection to where it stands.
-fn used_handle(alloc: Global, affected: &Affected) -> Result<Value, AllocError>
-    ensures { IfOk result (λ value. view value ≡ used_handle affected.now) }
+/// Puts the infrastructure's name of what a change used, and the connection to where it stands.
+fn put_used(
+    members: &mut Map<String, Value>,
+    alloc: Global,
+    name: &str,
+    affected: &Affected,
+) -> Result<(), AllocError>
+    ensures { OnOk result (members_view members.new.entries ≡ with_member name.now (used_handle affected.now) (members_view members.old.entries)) }
 {
-    handle_of(alloc, &affected.used.resource, &affected.used.place)
+    let used = &affected.used;
+    let resource = handle_of(alloc, &used.resource, &used.place)?;
+    put(members, alloc, name, resource)
+}
+
+/// Puts what was done.
+fn put_change(
+    members: &mut Map<String, Value>,
+    alloc: Global,
+    affected: &Affected,
+) -> Result<(), AllocError>
+    ensures { OnOk result (members_view members.new.entries ≡ with_member (codes "changeType") (string (change_word affected.now.change.verb)) (members_view members.old.entries)) }
+{
+    put_text(
+        members,
+        alloc,
+        "changeType",
+        change_word(affected.change.verb),
+    )
 }
 
 /// The links that changes are about.
@@ -116,9 +156,12 @@ impl Shows<Affected> for AffectedLinks<'_> {
 
     fn show(&self, alloc: Global, affected: &Affected) -> Result<Value, AllocError> {
         let name = link_name(self.vnfd, affected.change.def.item);
-        let resource = used_handle(alloc, affected)?;
-        let word = change_word(affected.change.verb);
-        json!(in alloc; {"changeType": word, "id": name, "networkResource": resource, "vnfVirtualLinkDescId": name})
+        let mut members = Map::new(alloc);
+        put_change(&mut members, alloc, affected)?;
+        put_text(&mut members, alloc, "id", name)?;
+        put_used(&mut members, alloc, "networkResource", affected)?;
+        put_text(&mut members, alloc, "vnfVirtualLinkDescId", name)?;
+        Ok(Value::Object(members))
     }
 }
 
@@ -141,11 +184,13 @@ impl Shows<Affected> for AffectedStorages<'_> {
 
     fn show(&self, alloc: Global, affected: &Affected) -> Result<Value, AllocError> {
         let def = affected.change.def;
-        let id = storage_id(alloc, self.vnfd, def.vdu, def.serial, def.item)?;
         let name = storage_name(self.vnfd, def.item);
-        let resource = used_handle(alloc, affected)?;
-        let word = change_word(affected.change.verb);
-        json!(in alloc; {"changeType": word, "id": id.as_str(), "storageResource": resource, "virtualStorageDescId": name})
+        let mut members = Map::new(alloc);
+        put_change(&mut members, alloc, affected)?;
+        put_storage_id(&mut members, alloc, self.vnfd, &def)?;
+        put_used(&mut members, alloc, "storageResource", affected)?;
+        put_text(&mut members, alloc, "virtualStorageDescId", name)?;
+        Ok(Value::Object(members))
     }
 }
 
@@ -168,10 +213,12 @@ impl Shows<Affected> for AffectedMachines<'_> {
 
     fn show(&self, alloc: Global, affected: &Affected) -> Result<Value, AllocError> {
         let def = affected.change.def;
-        let id = machine_id(alloc, self.vnfd, def.vdu, def.serial)?;
         let name = vdu_name(self.vnfd, def.vdu);
-        let resource = used_handle(alloc, affected)?;
-        let word = change_word(affected.change.verb);
-        json!(in alloc; {"changeType": word, "computeResource": resource, "id": id.as_str(), "vduId": name})
+        let mut members = Map::new(alloc);
+        put_change(&mut members, alloc, affected)?;
+        put_used(&mut members, alloc, "computeResource", affected)?;
+        put_machine_id(&mut members, alloc, self.vnfd, &def)?;
+        put_text(&mut members, alloc, "vduId", name)?;
+        Ok(Value::Object(members))
     }
 }

@@ -12,7 +12,7 @@ ghost use Rattle.json_views.specs.Made.{needed_members, with_product};
 
 use crate::body::CreateBody;
 use crate::links::links_value;
-use crate::members::{name_where, put_where, text_value, text_where};
+use crate::members::{put_line_where, put_name_where, put_text, put_where};
 use crate::resources::info_where;
 use instance_table::InstanceRow;
 use lcm_events::{Holding, Listed, Vnfd};
@@ -154,10 +154,8 @@ fn instance_members(
     let mut members = needed_members(alloc, manager, n, row, vnfd)?;
     let info = info_where(alloc, vnfd, &row.holding)?;
     put_where(&mut members, alloc, "instantiatedVnfInfo", info)?;
-    let text = text_where(alloc, &row.text)?;
-    put_where(&mut members, alloc, "vnfInstanceDescription", text)?;
-    let name = name_where(alloc, &row.name)?;
-    put_where(&mut members, alloc, "vnfInstanceName", name)?;
+    put_line_where(&mut members, alloc, "vnfInstanceDescription", &row.text)?;
+    put_name_where(&mut members, alloc, "vnfInstanceName", &row.name)?;
     Ok(members)
 }
 
@@ -178,14 +176,21 @@ fn needed_members(
     let links = links_value(alloc, instantiated, path.as_str())?;
     let mut members = Map::new(alloc);
     put(&mut members, alloc, "_links", links)?;
-    put(&mut members, alloc, "id", text_value(alloc, id.as_str())?)?;
-    let state = text_value(alloc, instantiation_state(instantiated))?;
-    put(&mut members, alloc, "instantiationState", state)?;
+    put_text(&mut members, alloc, "id", id.as_str())?;
+    put_text(
+        &mut members,
+        alloc,
+        "instantiationState",
+        instantiation_state(instantiated),
+    )?;
     put_product(&mut members, alloc, vnfd)?;
-    let vnfd_id = text_value(alloc, row.vnfd.as_str())?;
-    put(&mut members, alloc, "vnfdId", vnfd_id)?;
-    let version = text_value(alloc, vnfd.descriptor_version.as_str())?;
-    put(&mut members, alloc, "vnfdVersion", version)?;
+    put_text(&mut members, alloc, "vnfdId", row.vnfd.as_str())?;
+    put_text(
+        &mut members,
+        alloc,
+        "vnfdVersion",
+        vnfd.descriptor_version.as_str(),
+    )?;
     Ok(members)
 }
 
@@ -207,10 +212,12 @@ fn put_product(
 ) -> Result<(), AllocError>
     ensures { OnOk result (members_view members.new.entries ≡ with_product vnfd.now (members_view members.old.entries)) }
 {
-    let name = text_value(alloc, vnfd.product_name.as_str())?;
-    put(members, alloc, "vnfProductName", name)?;
-    let provider = text_value(alloc, vnfd.provider.as_str())?;
-    put(members, alloc, "vnfProvider", provider)?;
-    let version = text_value(alloc, vnfd.software_version.as_str())?;
-    put(members, alloc, "vnfSoftwareVersion", version)
+    put_text(members, alloc, "vnfProductName", vnfd.product_name.as_str())?;
+    put_text(members, alloc, "vnfProvider", vnfd.provider.as_str())?;
+    put_text(
+        members,
+        alloc,
+        "vnfSoftwareVersion",
+        vnfd.software_version.as_str(),
+    )
 }

@@ -1,5 +1,6 @@
 //! The links of an instance.
-ghost use Rattle.std.specs.Prelude.{◌≡◌, ◌++◌, codes, IfOk};
+ghost use Rattle.std.specs.Prelude.{◌≡◌, ◌++◌, codes, IfOk, OnOk};
+ghost use Rattle.serde_json.specs.Data.{put as with_member};
 ghost use Rattle.serde_json.specs.View.{view, members_view};
 ghost use Rattle.json_views.specs.Links.{active_links, idle_links, link, links, task_link};
 
@@ -24,9 +25,8 @@ fn idle_links(alloc: Global, path: &str) -> Result<Map<String, Value>, AllocErro
     ensures { IfOk result (λ members. members_view members.entries ≡ idle_links path.now) }
 {
     let mut members = Map::new(alloc);
-    let instantiate = task_link(alloc, path, "instantiate")?;
-    put(&mut members, alloc, "instantiate", instantiate)?;
-    put(&mut members, alloc, "self", link_value(alloc, path)?)?;
+    put_task(&mut members, alloc, "instantiate", path, "instantiate")?;
+    put_link(&mut members, alloc, "self", path)?;
     Ok(members)
 }
 
@@ -34,16 +34,12 @@ fn active_links(alloc: Global, path: &str) -> Result<Map<String, Value>, AllocEr
     ensures { IfOk result (λ members. members_view members.entries ≡ active_links path.now) }
 {
     let mut members = Map::new(alloc);
-    put(&mut members, alloc, "heal", task_link(alloc, path, "heal")?)?;
-    let operate = task_link(alloc, path, "operate")?;
-    put(&mut members, alloc, "operate", operate)?;
-    let scale = task_link(alloc, path, "scale")?;
-    put(&mut members, alloc, "scale", scale)?;
-    let to_level = task_link(alloc, path, "scale_to_level")?;
-    put(&mut members, alloc, "scaleToLevel", to_level)?;
-    put(&mut members, alloc, "self", link_value(alloc, path)?)?;
-    let terminate = task_link(alloc, path, "terminate")?;
-    put(&mut members, alloc, "terminate", terminate)?;
+    put_task(&mut members, alloc, "heal", path, "heal")?;
+    put_task(&mut members, alloc, "operate", path, "operate")?;
+    put_task(&mut members, alloc, "scale", path, "scale")?;
+    put_task(&mut members, alloc, "scaleToLevel", path, "scale_to_level")?;
+    put_link(&mut members, alloc, "self", path)?;
+    put_task(&mut members, alloc, "terminate", path, "terminate")?;
     Ok(members)
 }
 
@@ -62,4 +58,31 @@ pub fn link_value(alloc: Global, path: &str) -> Result<Value, AllocError>
     ensures { IfOk result (λ value. view value ≡ link path.now) }
 {
     json!(in alloc; {"href": path})
+}
+
+/// Puts the link to a path.
+pub fn put_link(
+    members: &mut Map<String, Value>,
+    alloc: Global,
+    name: &str,
+    path: &str,
+) -> Result<(), AllocError>
+    ensures { OnOk result (members_view members.new.entries ≡ with_member name.now (link path.now) (members_view members.old.entries)) }
+{
+    let link = link_value(alloc, path)?;
+    put(members, alloc, name, link)
+}
+
+/// Puts the link to a task of what is at this path.
+pub fn put_task(
+    members: &mut Map<String, Value>,
+    alloc: Global,
+    name: &str,
+    path: &str,
+    task: &str,
+) -> Result<(), AllocError>
+    ensures { OnOk result (members_view members.new.entries ≡ with_member name.now (task_link path.now task.now) (members_view members.old.entries)) }
+{
+    let link = task_link(alloc, path, task)?;
+    put(members, alloc, name, link)
 }

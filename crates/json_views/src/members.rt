@@ -1,7 +1,7 @@
 //! Members and lists of a view.
 ghost use Rattle.std.specs.Prelude.{◌≡◌, All, IfOk, OnOk, filter, map, option_map};
 ghost use Rattle.serde_json.specs.View.{items_of, members_view, view};
-ghost use Rattle.serde_json.specs.Data.{array, string};
+ghost use Rattle.serde_json.specs.Data.{array, put as with_member, string};
 ghost use Rattle.json_views.specs.Views.{array_of, put_where};
 
 use serde_json::{Map, Value, put};
@@ -15,23 +15,46 @@ pub fn text_value(alloc: Global, text: &str) -> Result<Value, AllocError>
     Ok(Value::String(String::from_str(alloc, text)?))
 }
 
-/// A text that may be absent, as a value.
-pub fn text_where(alloc: Global, text: &Option<Line>) -> Result<Option<Value>, AllocError>
-    ensures { IfOk result (λ value. option_map view value ≡ option_map string text.now) }
+/// Puts a member whose value is a text.
+pub fn put_text(
+    members: &mut Map<String, Value>,
+    alloc: Global,
+    name: &str,
+    text: &str,
+) -> Result<(), AllocError>
+    ensures { OnOk result (members_view members.new.entries ≡ with_member name.now (string text.now) (members_view members.old.entries)) }
 {
-    match text {
-        Some(text) => Ok(Some(text_value(alloc, text.as_str())?)),
-        None => Ok(None),
+    let value = text_value(alloc, text)?;
+    put(members, alloc, name, value)
+}
+
+/// Puts a member whose value is a name that may be absent.
+pub fn put_name_where(
+    members: &mut Map<String, Value>,
+    alloc: Global,
+    name: &str,
+    value: &Option<Name>,
+) -> Result<(), AllocError>
+    ensures { OnOk result (members_view members.new.entries ≡ put_where name.now (option_map string value.now) (members_view members.old.entries)) }
+{
+    match value {
+        Some(value) => put_text(members, alloc, name, value.as_str()),
+        None => Ok(()),
     }
 }
 
-/// A name that may be absent, as a value.
-pub fn name_where(alloc: Global, name: &Option<Name>) -> Result<Option<Value>, AllocError>
-    ensures { IfOk result (λ value. option_map view value ≡ option_map string name.now) }
+/// Puts a member whose value is a line that may be absent.
+pub fn put_line_where(
+    members: &mut Map<String, Value>,
+    alloc: Global,
+    name: &str,
+    value: &Option<Line>,
+) -> Result<(), AllocError>
+    ensures { OnOk result (members_view members.new.entries ≡ put_where name.now (option_map string value.now) (members_view members.old.entries)) }
 {
-    match name {
-        Some(name) => Ok(Some(text_value(alloc, name.as_str())?)),
-        None => Ok(None),
+    match value {
+        Some(value) => put_text(members, alloc, name, value.as_str()),
+        None => Ok(()),
     }
 }
 
@@ -87,6 +110,22 @@ pub fn array_of<T, S: Shows<T>>(
     ensures { IfOk result (λ value. view value ≡ array_of (S.shown shows.now) (filter (S.has shows.now) entries.now)) }
 {
     Ok(Value::Array(values_of(alloc, entries, shows)?))
+}
+
+/// Puts a member whose value is that array.
+pub fn put_array<T, S: Shows<T>>(
+    members: &mut Map<String, Value>,
+    alloc: Global,
+    name: &str,
+    entries: &[T],
+    shows: &S,
+) -> Result<(), AllocError>
+    requires ready { S.IsReady shows.now }
+    requires each { All (S.MayShow shows.now) entries.now }
+    ensures { OnOk result (members_view members.new.entries ≡ with_member name.now (array_of (S.shown shows.now) (filter (S.has shows.now) entries.now)) (members_view members.old.entries)) }
+{
+    let value = array_of(alloc, entries, shows)?;
+    put(members, alloc, name, value)
 }
 
 fn values_of<T, S: Shows<T>>(

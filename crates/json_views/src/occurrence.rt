@@ -1,23 +1,25 @@
 //! The view of an operation occurrence.
-ghost use Rattle.std.specs.Prelude.{◌≡◌, List, codes, string_bytes, IfOk, IfSome, OnOk, is_some, option_map, ℕ};
+ghost use Rattle.std.specs.Prelude.{◌≡◌, List, codes, false, string_bytes, IfOk, IfSome, OnOk, is_some, option_map, ℕ};
 ghost use Rattle.serde_json.specs.View.{view, members_view};
-ghost use Rattle.serde_json.specs.Data.{object, string};
+ghost use Rattle.serde_json.specs.Data.{boolean, object, put as with_member, string};
 ghost use Rattle.vnfm_base.specs.Ident.{IsIdentNumber};
 ghost use Rattle.vnfm_base.specs.Text.{IsLine};
 ghost use Rattle.json_views.specs.Instance.{instance_id, instance_path};
 ghost use Rattle.json_views.specs.MadeOccurrence.{occurrence_members, with_moments, with_operation};
 ghost use Rattle.json_views.specs.Moments.{moment_text};
 ghost use Rattle.json_views.specs.Occurrence.{error_where, occurrence_id, occurrence_links, occurrence_path, occurrence_shown, occurrence_text, occurrence_value};
-ghost use Rattle.json_views.specs.Words.{cancel_word};
+ghost use Rattle.json_views.specs.Affected.{resource_changes};
+ghost use Rattle.json_views.specs.Params.{params};
+ghost use Rattle.json_views.specs.Words.{cancel_word, operation_word};
 
 use crate::affected::resource_changes;
 use crate::errors::error_where;
 use crate::instance::{identifier, instance_id, instance_path};
-use crate::members::{put_where, text_value};
+use crate::members::{put_text, put_where, text_value};
 use crate::occurrence_links::links_by_state;
 use crate::params::params_value;
 use crate::words::{cancel_word, operation_word, state_word};
-use lcm_events::{CancelMode, Vnfd};
+use lcm_events::{Ask, CancelMode, Vnfd};
 use occ_table::{Grant, OccRow};
 use serde_json::{Map, Value, put};
 use std::alloc::{AllocError, Global};
@@ -194,31 +196,91 @@ fn occurrence_members(
     requires instance { IsIdentNumber row.now.instance }
     ensures { IfOk result (λ members. members_view members.entries ≡ occurrence_members (occurrence_id manager n) (object (occurrence_links row.now.state row.now.ask (occurrence_path manager n) (instance_path manager row.now.instance))) (instance_id manager row.now.instance) row.now vnfd.now start.now entered.now) }
 {
-    let id = occurrence_id(alloc, manager, n)?;
-    let links = links_value(alloc, manager, n, row)?;
-    let instance = instance_id(alloc, manager, row.instance)?;
     let mut members = Map::new(alloc);
-    put(&mut members, alloc, "_links", links)?;
-    put(&mut members, alloc, "id", text_value(alloc, id.as_str())?)?;
-    put(
-        &mut members,
-        alloc,
-        "isAutomaticInvocation",
-        Value::Bool(false),
-    )?;
-    put(
-        &mut members,
-        alloc,
-        "isCancelPending",
-        Value::Bool(row.cancel.is_some()),
-    )?;
+    put_identity(&mut members, alloc, manager, n, row)?;
     put_operation(&mut members, alloc, vnfd, row)?;
-    let changes = resource_changes(alloc, vnfd, row)?;
-    put(&mut members, alloc, "resourceChanges", changes)?;
+    put_changes(&mut members, alloc, vnfd, row)?;
     put_moments(&mut members, alloc, start, entered)?;
-    let instance = text_value(alloc, instance.as_str())?;
-    put(&mut members, alloc, "vnfInstanceId", instance)?;
+    put_instance(&mut members, alloc, manager, row.instance)?;
     Ok(members)
+}
+
+/// Puts the links and the identifier of occurrence `n`, that it was asked for, and whether a cancel is in force.
+fn put_identity(
+    members: &mut Map<String, Value>,
+    alloc: Global,
+    manager: u32,
+    n: u64,
+    row: &OccRow,
+) -> Result<(), AllocError>
+    requires number { IsIdentNumber n }
+    requires instance { IsIdentNumber row.now.instance }
+    ensures { OnOk result (members_view members.new.entries ≡ with_member (codes "isCancelPending") (boolean (is_some row.now.cancel)) (with_member (codes "isAutomaticInvocation") (boolean false)
+        (with_member (codes "id") (string (occurrence_id manager n)) (with_member (codes "_links") (object (occurrence_links row.now.state row.now.ask (occurrence_path manager n) (instance_path manager row.now.instance))) (members_view members.old.entries))))) }
+{
+    put_links(members, alloc, manager, n, row)?;
+    put_id(members, alloc, manager, n)?;
+    let automatic = Value::Bool(false);
+    put(members, alloc, "isAutomaticInvocation", automatic)?;
+    let pending = Value::Bool(row.cancel.is_some());
+    put(members, alloc, "isCancelPending", pending)
+}
+
+/// Puts the identifier of occurrence `n`.
+fn put_id(
+    members: &mut Map<String, Value>,
+    alloc: Global,
+    manager: u32,
+    n: u64,
+) -> Result<(), AllocError>
+    requires { IsIdentNumber n }
+    ensures { OnOk result (members_view members.new.entries ≡ with_member (codes "id") (string (occurrence_id manager n)) (members_view members.old.entries)) }
+{
+    let id = occurrence_id(alloc, manager, n)?;
+    put_text(members, alloc, "id", id.as_str())
+}
+
+/// Puts the identifier of the instance.
+fn put_instance(
+    members: &mut Map<String, Value>,
+    alloc: Global,
+    manager: u32,
+    instance: u64,
+) -> Result<(), AllocError>
+    requires { IsIdentNumber instance }
+    ensures { OnOk result (members_view members.new.entries ≡ with_member (codes "vnfInstanceId") (string (instance_id manager instance)) (members_view members.old.entries)) }
+{
+    let id = instance_id(alloc, manager, instance)?;
+    put_text(members, alloc, "vnfInstanceId", id.as_str())
+}
+
+/// Puts what the changes did to resources.
+fn put_changes(
+    members: &mut Map<String, Value>,
+    alloc: Global,
+    vnfd: &Vnfd,
+    row: &OccRow,
+) -> Result<(), AllocError>
+    ensures { OnOk result (members_view members.new.entries ≡ with_member (codes "resourceChanges") (resource_changes vnfd.now row.now) (members_view members.old.entries)) }
+{
+    let changes = resource_changes(alloc, vnfd, row)?;
+    put(members, alloc, "resourceChanges", changes)
+}
+
+/// Puts the links of occurrence `n`.
+fn put_links(
+    members: &mut Map<String, Value>,
+    alloc: Global,
+    manager: u32,
+    n: u64,
+    row: &OccRow,
+) -> Result<(), AllocError>
+    requires number { IsIdentNumber n }
+    requires instance { IsIdentNumber row.now.instance }
+    ensures { OnOk result (members_view members.new.entries ≡ with_member (codes "_links") (object (occurrence_links row.now.state row.now.ask (occurrence_path manager n) (instance_path manager row.now.instance))) (members_view members.old.entries)) }
+{
+    let links = links_value(alloc, manager, n, row)?;
+    put(members, alloc, "_links", links)
 }
 
 /// The links of occurrence `n`.
@@ -251,12 +313,22 @@ fn put_operation(
     ensures { OnOk result (members_view members.new.entries ≡ with_operation vnfd.now row.now (members_view members.old.entries)) }
 {
     let ask = row.ask.unpack(alloc)?;
-    let operation = text_value(alloc, operation_word(&ask))?;
-    put(members, alloc, "operation", operation)?;
-    let params = params_value(alloc, vnfd, &ask)?;
-    put(members, alloc, "operationParams", params)?;
-    let state = text_value(alloc, state_word(row.state))?;
-    put(members, alloc, "operationState", state)
+    put_ask(members, alloc, vnfd, &ask)?;
+    put_text(members, alloc, "operationState", state_word(row.state))
+}
+
+/// Puts what was asked for.
+fn put_ask(
+    members: &mut Map<String, Value>,
+    alloc: Global,
+    vnfd: &Vnfd,
+    ask: &Ask,
+) -> Result<(), AllocError>
+    ensures { OnOk result (members_view members.new.entries ≡ with_member (codes "operationParams") (object (params vnfd.now ask.now)) (with_member (codes "operation") (string (operation_word ask.now)) (members_view members.old.entries))) }
+{
+    put_text(members, alloc, "operation", operation_word(ask))?;
+    let params = params_value(alloc, vnfd, ask)?;
+    put(members, alloc, "operationParams", params)
 }
 
 #[tactic(auto, unfolding(crate::specs::MadeOccurrence::with_moments))]
@@ -268,11 +340,6 @@ fn put_moments(
 ) -> Result<(), AllocError>
     ensures { OnOk result (members_view members.new.entries ≡ with_moments start.now entered.now (members_view members.old.entries)) }
 {
-    put(members, alloc, "startTime", text_value(alloc, start)?)?;
-    put(
-        members,
-        alloc,
-        "stateEnteredTime",
-        text_value(alloc, entered)?,
-    )
+    put_text(members, alloc, "startTime", start)?;
+    put_text(members, alloc, "stateEnteredTime", entered)
 }

@@ -4,10 +4,10 @@ ghost use Rattle.serde_json.specs.View.{members_view, view};
 ghost use Rattle.lcm_model.specs.Refusals.{is_terminate};
 ghost use Rattle.json_views.specs.Occurrence.{active_links, ended_links, occurrence_links, rollback_where, stopped_links};
 
-use crate::links::{link_value, task_link};
+use crate::links::{put_link, put_task, task_link};
 use crate::members::put_where;
 use lcm_events::{Ask, OpState};
-use serde_json::{Map, Value, put};
+use serde_json::{Map, Value};
 use std::alloc::{AllocError, Global};
 
 /// The links of the occurrence at this path, whose instance is at that one.
@@ -38,13 +38,8 @@ fn ended_links(alloc: Global, path: &str, instance: &str) -> Result<Map<String, 
     ensures { IfOk result (λ members. members_view members.entries ≡ ended_links path.now instance.now) }
 {
     let mut members = Map::new(alloc);
-    put(&mut members, alloc, "self", link_value(alloc, path)?)?;
-    put(
-        &mut members,
-        alloc,
-        "vnfInstance",
-        link_value(alloc, instance)?,
-    )?;
+    put_link(&mut members, alloc, "self", path)?;
+    put_link(&mut members, alloc, "vnfInstance", instance)?;
     Ok(members)
 }
 
@@ -53,8 +48,7 @@ fn active_links(alloc: Global, path: &str, instance: &str) -> Result<Map<String,
     ensures { IfOk result (λ members. members_view members.entries ≡ active_links path.now instance.now) }
 {
     let mut members = ended_links(alloc, path, instance)?;
-    let cancel = task_link(alloc, path, "cancel")?;
-    put(&mut members, alloc, "cancel", cancel)?;
+    put_task(&mut members, alloc, "cancel", path, "cancel")?;
     Ok(members)
 }
 
@@ -70,10 +64,8 @@ fn stopped_links(
     let mut members = ended_links(alloc, path, instance)?;
     let rollback = rollback_where(alloc, ask, path)?;
     put_where(&mut members, alloc, "rollback", rollback)?;
-    let retry = task_link(alloc, path, "retry")?;
-    put(&mut members, alloc, "retry", retry)?;
-    let fail = task_link(alloc, path, "fail")?;
-    put(&mut members, alloc, "fail", fail)?;
+    put_task(&mut members, alloc, "retry", path, "retry")?;
+    put_task(&mut members, alloc, "fail", path, "fail")?;
     Ok(members)
 }
 

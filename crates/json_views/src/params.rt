@@ -1,11 +1,14 @@
 //! What an operation was asked for with, as its view shows it.
-ghost use Rattle.std.specs.Prelude.{◌≡◌, IfOk, option_map, true};
+ghost use Rattle.std.specs.Prelude.{◌≡◌, [], IfOk, OnOk, codes, option_map, true};
 ghost use Rattle.serde_json.specs.View.{members_view, view};
 ghost use Rattle.serde_json.specs.Data.{object};
 ghost use Rattle.lcm_events.specs.declared.asks.Aim.TheVariants.{Aspects, Level};
+ghost use Rattle.json_views.specs.Views.{put_where};
 ghost use Rattle.json_views.specs.Params.{aim_params, heal_params, instantiate_params, machine_value, named_where, operate_params, params, scale_params, stop_where, terminate_params};
 
-use crate::members::{Shows, array_of, name_where, put_where, text_value, text_where};
+use crate::members::{
+    Shows, put_array, put_line_where, put_name_where, put_text, put_where, text_value,
+};
 use crate::resources::vnf_state;
 use crate::rows::{Levels, machine_id};
 use crate::words::{stop_word, way_word};
@@ -20,146 +23,149 @@ use vnfm_base::{Line, Name};
 pub fn params_value(alloc: Global, vnfd: &Vnfd, ask: &Ask) -> Result<Value, AllocError>
     ensures { IfOk result (λ value. view value ≡ object (params vnfd.now ask.now)) }
 {
-    Ok(Value::Object(params(alloc, vnfd, ask)?))
+    let mut members = Map::new(alloc);
+    put_params(&mut members, alloc, vnfd, ask)?;
+    Ok(Value::Object(members))
 }
 
-fn params(alloc: Global, vnfd: &Vnfd, ask: &Ask) -> Result<Map<String, Value>, AllocError>
-    ensures { IfOk result (λ members. members_view members.entries ≡ params vnfd.now ask.now) }
+/// Puts these members, where there is none.
+fn put_params(
+    members: &mut Map<String, Value>,
+    alloc: Global,
+    vnfd: &Vnfd,
+    ask: &Ask,
+) -> Result<(), AllocError>
+    requires empty { members.old.entries ≡ [] }
+    ensures { OnOk result (members_view members.new.entries ≡ params vnfd.now ask.now) }
 {
     match ask {
-        Ask::Instantiate { flavour, level } => instantiate_params(alloc, flavour, level),
-        Ask::Scale { way, aspect, steps } => scale_params(alloc, *way, aspect, *steps),
-        Ask::ScaleToLevel(aim) => aim_params(alloc, aim),
-        Ask::Heal { cause, named } => heal_params(alloc, vnfd, cause, named.as_slice()),
-        Ask::Operate { started, stop } => operate_params(alloc, *started, *stop),
-        Ask::Terminate { mode, timeout } => terminate_params(alloc, *mode, *timeout),
+        Ask::Instantiate { flavour, level } => put_instantiate(members, alloc, flavour, level),
+        Ask::Scale { way, aspect, steps } => put_scale(members, alloc, *way, aspect, *steps),
+        Ask::ScaleToLevel(aim) => put_aim(members, alloc, aim),
+        Ask::Heal { cause, named } => put_heal(members, alloc, vnfd, cause, named.as_slice()),
+        Ask::Operate { started, stop } => put_operate(members, alloc, *started, *stop),
+        Ask::Terminate { mode, timeout } => put_terminate(members, alloc, *mode, *timeout),
     }
 }
 
-fn instantiate_params(
+fn put_instantiate(
+    members: &mut Map<String, Value>,
     alloc: Global,
     flavour: &Name,
     level: &Option<Name>,
-) -> Result<Map<String, Value>, AllocError>
-    ensures { IfOk result (λ members. members_view members.entries ≡ instantiate_params flavour.now level.now) }
+) -> Result<(), AllocError>
+    requires empty { members.old.entries ≡ [] }
+    ensures { OnOk result (members_view members.new.entries ≡ instantiate_params flavour.now level.now) }
 {
-    let mut members = Map::new(alloc);
-    let flavour = text_value(alloc, flavour.as_str())?;
-    put(&mut members, alloc, "flavourId", flavour)?;
-    let level = name_where(alloc, level)?;
-    put_where(&mut members, alloc, "instantiationLevelId", level)?;
-    Ok(members)
+    put_text(members, alloc, "flavourId", flavour.as_str())?;
+    put_name_where(members, alloc, "instantiationLevelId", level)
 }
 
-fn scale_params(
+fn put_scale(
+    members: &mut Map<String, Value>,
     alloc: Global,
     way: ScaleWay,
     aspect: &Name,
     steps: u32,
-) -> Result<Map<String, Value>, AllocError>
-    ensures { IfOk result (λ members. members_view members.entries ≡ scale_params way aspect.now steps) }
+) -> Result<(), AllocError>
+    requires empty { members.old.entries ≡ [] }
+    ensures { OnOk result (members_view members.new.entries ≡ scale_params way aspect.now steps) }
 {
-    let mut members = Map::new(alloc);
-    let aspect = text_value(alloc, aspect.as_str())?;
-    put(&mut members, alloc, "aspectId", aspect)?;
-    put(&mut members, alloc, "numberOfSteps", Value::from(steps))?;
-    let way = text_value(alloc, way_word(way))?;
-    put(&mut members, alloc, "type", way)?;
-    Ok(members)
+    put_text(members, alloc, "aspectId", aspect.as_str())?;
+    put(members, alloc, "numberOfSteps", Value::from(steps))?;
+    put_text(members, alloc, "type", way_word(way))
 }
 
-fn aim_params(alloc: Global, aim: &Aim) -> Result<Map<String, Value>, AllocError>
-    ensures { IfOk result (λ members. members_view members.entries ≡ aim_params aim.now) }
+fn put_aim(members: &mut Map<String, Value>, alloc: Global, aim: &Aim) -> Result<(), AllocError>
+    requires empty { members.old.entries ≡ [] }
+    ensures { OnOk result (members_view members.new.entries ≡ aim_params aim.now) }
 {
     match aim {
-        Aim::Level(level) => level_params(alloc, level),
-        Aim::Aspects(levels) => aspects_params(alloc, levels.as_slice()),
+        Aim::Level(level) => put_text(members, alloc, "instantiationLevelId", level.as_str()),
+        Aim::Aspects(levels) => put_aspects(members, alloc, levels.as_slice()),
     }
 }
 
-fn level_params(alloc: Global, level: &Name) -> Result<Map<String, Value>, AllocError>
-    ensures { IfOk result (λ members. members_view members.entries ≡ aim_params (Level level.now)) }
+fn put_aspects(
+    members: &mut Map<String, Value>,
+    alloc: Global,
+    levels: &[AspectLevel],
+) -> Result<(), AllocError>
+    requires empty { members.old.entries ≡ [] }
+    ensures { OnOk result (members_view members.new.entries ≡ aim_params (Aspects levels.now)) }
 {
-    let mut members = Map::new(alloc);
-    let level = text_value(alloc, level.as_str())?;
-    put(&mut members, alloc, "instantiationLevelId", level)?;
-    Ok(members)
+    put_array(members, alloc, "scaleInfo", levels, &Levels {})
 }
 
-fn aspects_params(alloc: Global, levels: &[AspectLevel]) -> Result<Map<String, Value>, AllocError>
-    ensures { IfOk result (λ members. members_view members.entries ≡ aim_params (Aspects levels.now)) }
-{
-    let mut members = Map::new(alloc);
-    let levels = array_of(alloc, levels, &Levels {})?;
-    put(&mut members, alloc, "scaleInfo", levels)?;
-    Ok(members)
-}
-
-fn heal_params(
+fn put_heal(
+    members: &mut Map<String, Value>,
     alloc: Global,
     vnfd: &Vnfd,
     cause: &Option<Line>,
     named: &[Vnfc],
-) -> Result<Map<String, Value>, AllocError>
-    ensures { IfOk result (λ members. members_view members.entries ≡ heal_params vnfd.now cause.now named.now) }
+) -> Result<(), AllocError>
+    requires empty { members.old.entries ≡ [] }
+    ensures { OnOk result (members_view members.new.entries ≡ heal_params vnfd.now cause.now named.now) }
 {
-    let mut members = Map::new(alloc);
-    let cause = text_where(alloc, cause)?;
-    put_where(&mut members, alloc, "cause", cause)?;
-    let named = named_where(alloc, vnfd, named)?;
-    put_where(&mut members, alloc, "vnfcInstanceId", named)?;
-    Ok(members)
+    put_line_where(members, alloc, "cause", cause)?;
+    put_named(members, alloc, vnfd, named)
 }
 
-/// The machines that are named, where some are.
-fn named_where(alloc: Global, vnfd: &Vnfd, named: &[Vnfc]) -> Result<Option<Value>, AllocError>
-    ensures { IfOk result (λ value. option_map view value ≡ named_where vnfd.now named.now) }
+/// Puts the machines that are named, where some are.
+fn put_named(
+    members: &mut Map<String, Value>,
+    alloc: Global,
+    vnfd: &Vnfd,
+    named: &[Vnfc],
+) -> Result<(), AllocError>
+    ensures { OnOk result (members_view members.new.entries ≡ put_where (codes "vnfcInstanceId") (named_where vnfd.now named.now) (members_view members.old.entries)) }
 {
     if named.is_empty() {
-        Ok(None)
+        Ok(())
     } else {
-        Ok(Some(array_of(alloc, named, &Machines { vnfd })?))
+        put_array(members, alloc, "vnfcInstanceId", named, &Machines { vnfd })
     }
 }
 
-fn operate_params(
+fn put_operate(
+    members: &mut Map<String, Value>,
     alloc: Global,
     started: bool,
     stop: Option<StopType>,
-) -> Result<Map<String, Value>, AllocError>
-    ensures { IfOk result (λ members. members_view members.entries ≡ operate_params started stop) }
+) -> Result<(), AllocError>
+    requires empty { members.old.entries ≡ [] }
+    ensures { OnOk result (members_view members.new.entries ≡ operate_params started stop) }
 {
-    let mut members = Map::new(alloc);
-    let state = text_value(alloc, vnf_state(started))?;
-    put(&mut members, alloc, "changeStateTo", state)?;
-    let stop = stop_where(alloc, stop)?;
-    put_where(&mut members, alloc, "stopType", stop)?;
-    Ok(members)
+    put_text(members, alloc, "changeStateTo", vnf_state(started))?;
+    put_stop(members, alloc, stop)
 }
 
-/// How to stop, where that was said.
-fn stop_where(alloc: Global, stop: Option<StopType>) -> Result<Option<Value>, AllocError>
-    ensures { IfOk result (λ value. option_map view value ≡ stop_where stop) }
+/// Puts how to stop, where that was said.
+fn put_stop(
+    members: &mut Map<String, Value>,
+    alloc: Global,
+    stop: Option<StopType>,
+) -> Result<(), AllocError>
+    ensures { OnOk result (members_view members.new.entries ≡ put_where (codes "stopType") (stop_where stop) (members_view members.old.entries)) }
 {
     match stop {
-        Some(stop) => Ok(Some(text_value(alloc, stop_word(stop))?)),
-        None => Ok(None),
+        Some(stop) => put_text(members, alloc, "stopType", stop_word(stop)),
+        None => Ok(()),
     }
 }
 
-fn terminate_params(
+fn put_terminate(
+    members: &mut Map<String, Value>,
     alloc: Global,
     mode: StopType,
     timeout: Option<u32>,
-) -> Result<Map<String, Value>, AllocError>
-    ensures { IfOk result (λ members. members_view members.entries ≡ terminate_params mode timeout) }
+) -> Result<(), AllocError>
+    requires empty { members.old.entries ≡ [] }
+    ensures { OnOk result (members_view members.new.entries ≡ terminate_params mode timeout) }
 {
-    let mut members = Map::new(alloc);
-    let mode = text_value(alloc, stop_word(mode))?;
-    put(&mut members, alloc, "terminationType", mode)?;
+    put_text(members, alloc, "terminationType", stop_word(mode))?;
     let timeout = timeout.map(Value::from);
-    put_where(&mut members, alloc, "gracefulTerminationTimeout", timeout)?;
-    Ok(members)
+    put_where(members, alloc, "gracefulTerminationTimeout", timeout)
 }
 
 /// Machines by their identifiers.

@@ -1,14 +1,14 @@
 //! What stands of an instance, as its view shows it.
-ghost use Rattle.std.specs.Prelude.{◌≡◌, codes, string_bytes, IfOk, option_map};
+ghost use Rattle.std.specs.Prelude.{◌≡◌, codes, string_bytes, IfOk, OnOk, option_map};
 ghost use Rattle.serde_json.specs.View.{view, members_view};
-ghost use Rattle.serde_json.specs.Data.{object, string};
+ghost use Rattle.serde_json.specs.Data.{object, put as with_member, string};
 ghost use Rattle.held_items.specs.Items.{AreInOrder};
 ghost use Rattle.lcm_model.specs.Vnfcs.{storages_of};
 ghost use Rattle.lcm_events.specs.declared.changes.DefKind.TheVariants.{Compute, Link, Storage};
 ghost use Rattle.json_views.specs.Views.{array_of};
 ghost use Rattle.json_views.specs.Resources.{aspect_levels, compute_info, handle, info_where, instantiated_info, link_info, link_name, machine_id, scale_info, standing, standing_storages, storage_id, storage_info, storage_name, vdu_name, vnf_state};
 
-use crate::members::{array_of, text_value};
+use crate::members::{put_array, put_text};
 use crate::rows::{Computes, Levels, Links, Storages};
 use lcm_events::{AspectLevel, Holding, Vnfd};
 use serde_json::{Map, Value, put};
@@ -37,21 +37,34 @@ fn instantiated_info(alloc: Global, vnfd: &Vnfd, holding: &Holding) -> Result<Va
     requires { AreInOrder holding.now.items }
     ensures { IfOk result (λ value. view value ≡ instantiated_info vnfd.now holding.now) }
 {
+    let items = holding.items.as_slice();
     let mut members = Map::new(alloc);
     let points = Value::Array(Vec::new(alloc));
     put(&mut members, alloc, "extCpInfo", points)?;
-    let flavour = text_value(alloc, vnfd.flavour_id.as_str())?;
-    put(&mut members, alloc, "flavourId", flavour)?;
-    let levels = levels_value(alloc, vnfd, holding)?;
-    put(&mut members, alloc, "scaleStatus", levels)?;
-    let storages = storages_value(alloc, vnfd, holding)?;
-    put(&mut members, alloc, "virtualStorageResourceInfo", storages)?;
-    let state = text_value(alloc, vnf_state(holding.started))?;
-    put(&mut members, alloc, "vnfState", state)?;
-    let links = links_value(alloc, vnfd, holding)?;
-    put(&mut members, alloc, "vnfVirtualLinkResourceInfo", links)?;
-    let computes = computes_value(alloc, vnfd, holding)?;
-    put(&mut members, alloc, "vnfcResourceInfo", computes)?;
+    put_text(&mut members, alloc, "flavourId", vnfd.flavour_id.as_str())?;
+    put_levels(&mut members, alloc, vnfd, holding)?;
+    put_array(
+        &mut members,
+        alloc,
+        "virtualStorageResourceInfo",
+        items,
+        &Storages { vnfd },
+    )?;
+    put_text(&mut members, alloc, "vnfState", vnf_state(holding.started))?;
+    put_array(
+        &mut members,
+        alloc,
+        "vnfVirtualLinkResourceInfo",
+        items,
+        &Links { vnfd },
+    )?;
+    put_array(
+        &mut members,
+        alloc,
+        "vnfcResourceInfo",
+        items,
+        &Computes { vnfd, holding },
+    )?;
     Ok(Value::Object(members))
 }
 
@@ -62,11 +75,17 @@ pub fn vnf_state(started: bool) -> &'static str
     if started { "STARTED" } else { "STOPPED" }
 }
 
-fn levels_value(alloc: Global, vnfd: &Vnfd, holding: &Holding) -> Result<Value, AllocError>
-    ensures { IfOk result (λ value. view value ≡ array_of scale_info (aspect_levels vnfd.now holding.now)) }
+/// Puts the levels of the aspects.
+fn put_levels(
+    members: &mut Map<String, Value>,
+    alloc: Global,
+    vnfd: &Vnfd,
+    holding: &Holding,
+) -> Result<(), AllocError>
+    ensures { OnOk result (members_view members.new.entries ≡ with_member (codes "scaleStatus") (array_of scale_info (aspect_levels vnfd.now holding.now)) (members_view members.old.entries)) }
 {
     let levels = aspect_levels(alloc, vnfd, holding)?;
-    array_of(alloc, levels.as_slice(), &Levels {})
+    put_array(members, alloc, "scaleStatus", levels.as_slice(), &Levels {})
 }
 
 /// The levels of the aspects, by name.
@@ -90,23 +109,4 @@ fn aspect_levels(
         })?;
     }
     Ok(levels)
-}
-
-fn storages_value(alloc: Global, vnfd: &Vnfd, holding: &Holding) -> Result<Value, AllocError>
-    ensures { IfOk result (λ value. view value ≡ array_of (storage_info vnfd.now) (standing Storage holding.now)) }
-{
-    array_of(alloc, holding.items.as_slice(), &Storages { vnfd })
-}
-
-fn links_value(alloc: Global, vnfd: &Vnfd, holding: &Holding) -> Result<Value, AllocError>
-    ensures { IfOk result (λ value. view value ≡ array_of (link_info vnfd.now) (standing Link holding.now)) }
-{
-    array_of(alloc, holding.items.as_slice(), &Links { vnfd })
-}
-
-fn computes_value(alloc: Global, vnfd: &Vnfd, holding: &Holding) -> Result<Value, AllocError>
-    requires { AreInOrder holding.now.items }
-    ensures { IfOk result (λ value. view value ≡ array_of (compute_info vnfd.now holding.now) (standing Compute holding.now)) }
-{
-    array_of(alloc, holding.items.as_slice(), &Computes { vnfd, holding })
 }

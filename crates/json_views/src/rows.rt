@@ -1,7 +1,7 @@
 //! The entries of the lists of a view: levels of aspects, and resources that stand.
-ghost use Rattle.std.specs.Prelude.{◌≡◌, ◌++◌, codes, decimal, string_bytes, IfOk, is_some, true};
-ghost use Rattle.serde_json.specs.View.{view};
-ghost use Rattle.serde_json.specs.Data.{array, string};
+ghost use Rattle.std.specs.Prelude.{◌≡◌, ◌++◌, codes, decimal, string_bytes, IfOk, OnOk, is_some, true};
+ghost use Rattle.serde_json.specs.View.{members_view, view};
+ghost use Rattle.serde_json.specs.Data.{array, put as with_member, string};
 ghost use Rattle.held_items.specs.Items.{AreInOrder, item_of};
 ghost use Rattle.lcm_events.specs.Same.{same_kind};
 ghost use Rattle.lcm_events.specs.declared.changes.DefKind.TheVariants.{Compute, Link, Storage};
@@ -9,11 +9,11 @@ ghost use Rattle.lcm_model.specs.Vnfcs.{def_of, storages_of};
 ghost use Rattle.json_views.specs.Views.{array_of};
 ghost use Rattle.json_views.specs.Resources.{compute_info, handle, handle_of, link_info, link_name, machine_id, scale_info, storage_id, storage_ids, storage_info, storage_name, vdu_name};
 
-use crate::members::{Shows, array_of, text_value};
+use crate::members::{Shows, put_array, put_text, text_value};
 use held_items::find;
 use itoa::Buffer;
 use lcm_events::{AspectLevel, Def, DefKind, Held, Holding, Place, Vnfd};
-use serde_json::{Value, json};
+use serde_json::{Map, Value, json, put};
 use std::alloc::{AllocError, Global};
 use vnfm_base::Name;
 
@@ -83,11 +83,43 @@ pub fn handle_of(alloc: Global, resource: &Name, place: &Place) -> Result<Value,
     json!(in alloc; {"resourceId": resource.as_str(), "vimConnectionId": place.vim.as_str()})
 }
 
-/// That of an item.
-fn handle(alloc: Global, item: &Held) -> Result<Value, AllocError>
-    ensures { IfOk result (λ value. view value ≡ handle item.now) }
+/// Puts that of an item.
+fn put_handle(
+    members: &mut Map<String, Value>,
+    alloc: Global,
+    name: &str,
+    item: &Held,
+) -> Result<(), AllocError>
+    ensures { OnOk result (members_view members.new.entries ≡ with_member name.now (handle item.now) (members_view members.old.entries)) }
 {
-    handle_of(alloc, &item.resource, &item.place)
+    let handle = handle_of(alloc, &item.resource, &item.place)?;
+    put(members, alloc, name, handle)
+}
+
+/// Puts the identifier of the machine that a definition is of.
+pub fn put_machine_id(
+    members: &mut Map<String, Value>,
+    alloc: Global,
+    vnfd: &Vnfd,
+    def: &Def,
+) -> Result<(), AllocError>
+    ensures { OnOk result (members_view members.new.entries ≡ with_member (codes "id") (string (machine_id vnfd.now def.now.vdu def.now.serial)) (members_view members.old.entries)) }
+{
+    let id = machine_id(alloc, vnfd, def.vdu, def.serial)?;
+    put_text(members, alloc, "id", id.as_str())
+}
+
+/// Puts the identifier of the storage that a definition is of.
+pub fn put_storage_id(
+    members: &mut Map<String, Value>,
+    alloc: Global,
+    vnfd: &Vnfd,
+    def: &Def,
+) -> Result<(), AllocError>
+    ensures { OnOk result (members_view members.new.entries ≡ with_member (codes "id") (string (storage_id vnfd.now def.now.vdu def.now.serial def.now.item)) (members_view members.old.entries)) }
+{
+    let id = storage_id(alloc, vnfd, def.vdu, def.serial, def.item)?;
+    put_text(members, alloc, "id", id.as_str())
 }
 
 /// The levels of all aspects.
@@ -128,11 +160,12 @@ impl Shows<Held> for Storages<'_> {
     }
 
     fn show(&self, alloc: Global, item: &Held) -> Result<Value, AllocError> {
-        let def = item.def;
-        let id = storage_id(alloc, self.vnfd, def.vdu, def.serial, def.item)?;
-        let name = storage_name(self.vnfd, def.item);
-        let resource = handle(alloc, item)?;
-        json!(in alloc; {"id": id.as_str(), "storageResource": resource, "virtualStorageDescId": name})
+        let name = storage_name(self.vnfd, item.def.item);
+        let mut members = Map::new(alloc);
+        put_storage_id(&mut members, alloc, self.vnfd, &item.def)?;
+        put_handle(&mut members, alloc, "storageResource", item)?;
+        put_text(&mut members, alloc, "virtualStorageDescId", name)?;
+        Ok(Value::Object(members))
     }
 }
 
@@ -155,8 +188,11 @@ impl Shows<Held> for Links<'_> {
 
     fn show(&self, alloc: Global, item: &Held) -> Result<Value, AllocError> {
         let name = link_name(self.vnfd, item.def.item);
-        let resource = handle(alloc, item)?;
-        json!(in alloc; {"id": name, "networkResource": resource, "vnfVirtualLinkDescId": name})
+        let mut members = Map::new(alloc);
+        put_text(&mut members, alloc, "id", name)?;
+        put_handle(&mut members, alloc, "networkResource", item)?;
+        put_text(&mut members, alloc, "vnfVirtualLinkDescId", name)?;
+        Ok(Value::Object(members))
     }
 }
 
@@ -202,25 +238,32 @@ fn storages_of<'a>(vnfd: &'a Vnfd, vdu: u16) -> &'a [u16]
     }
 }
 
-/// The identifiers of the storages that stand for a machine, as a value.
+/// Puts the identifiers of the storages that stand for a machine.
 #[tactic(auto, unfolding(crate::specs::Resources::storage_ids))]
-fn storage_ids(
+fn put_storage_ids(
+    members: &mut Map<String, Value>,
     alloc: Global,
     vnfd: &Vnfd,
     holding: &Holding,
-    vdu: u16,
-    serial: u32,
-) -> Result<Value, AllocError>
+    machine: &Def,
+) -> Result<(), AllocError>
     requires { AreInOrder holding.now.items }
-    ensures { IfOk result (λ value. view value ≡ storage_ids vnfd.now holding.now vdu serial) }
+    ensures { OnOk result (members_view members.new.entries ≡ with_member (codes "storageResourceIds") (storage_ids vnfd.now holding.now machine.now.vdu machine.now.serial) (members_view members.old.entries)) }
 {
+    let (vdu, serial) = (machine.vdu, machine.serial);
     let ids = StorageIds {
         vnfd,
         holding,
         vdu,
         serial,
     };
-    array_of(alloc, storages_of(vnfd, vdu), &ids)
+    put_array(
+        members,
+        alloc,
+        "storageResourceIds",
+        storages_of(vnfd, vdu),
+        &ids,
+    )
 }
 
 /// The computes that stand.
@@ -242,11 +285,12 @@ impl Shows<Held> for Computes<'_> {
     }
 
     fn show(&self, alloc: Global, item: &Held) -> Result<Value, AllocError> {
-        let def = item.def;
-        let storages = storage_ids(alloc, self.vnfd, self.holding, def.vdu, def.serial)?;
-        let id = machine_id(alloc, self.vnfd, def.vdu, def.serial)?;
-        let name = vdu_name(self.vnfd, def.vdu);
-        let resource = handle(alloc, item)?;
-        json!(in alloc; {"computeResource": resource, "id": id.as_str(), "storageResourceIds": storages, "vduId": name})
+        let name = vdu_name(self.vnfd, item.def.vdu);
+        let mut members = Map::new(alloc);
+        put_handle(&mut members, alloc, "computeResource", item)?;
+        put_machine_id(&mut members, alloc, self.vnfd, &item.def)?;
+        put_storage_ids(&mut members, alloc, self.vnfd, self.holding, &item.def)?;
+        put_text(&mut members, alloc, "vduId", name)?;
+        Ok(Value::Object(members))
     }
 }

@@ -1,5 +1,4 @@
 -- The path is a line.
-use Rattle.std.proofs.Common.{◌≡◌}
 use Rattle.json_views.proofs.PathLemmas.{instance_line}
 use Rattle.json_views.proofs.instance.instance_path.Goals as goal
 

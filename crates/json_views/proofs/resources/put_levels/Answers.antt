@@ -1,7 +1,7 @@
 -- Every level is shown.
 use Rattle.std.proofs.Common.{rules}
 use Rattle.json_views.proofs.ListLemmas.{filter-all}
-use Rattle.json_views.proofs.params.aspects_params.Goals as goal
+use Rattle.json_views.proofs.resources.put_levels.Goals as goal
 
 pub returns : goal.returns
 returns c = search (rules, filter-all)

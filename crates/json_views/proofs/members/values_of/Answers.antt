@@ -1,0 +1,7 @@
+-- A turn of the loop.
+use Rattle.std.proofs.Common.{arith}
+use Rattle.std.proofs.lemmas.Grind.{common_steps}
+use Rattle.json_views.proofs.members.values_of.Goals as goal
+
+pub loop-entry-preserved : goal.loop-entry-preserved
+loop-entry-preserved g c = grind (arith, common_steps)
