@@ -4,7 +4,7 @@ ghost use Rattle.std.specs.Option.{option_map_or};
 ghost use Rattle.occ_table.specs.Phases.{is_clear, phase_at, shifted, tally_after};
 ghost use Rattle.lcm_model.specs.Moves.{is_final};
 ghost use Rattle.lcm_model.specs.Work.{net_after, net_before, works_in};
-ghost use Rattle.std.specs.Prelude.{◌≡◌, ◌&&◌, ◌↔◌, IfOk, IsTrue, None, Some, false, map, true, ◌==◌, ◌+◌, min, option_map, slice_get, slice_set};
+ghost use Rattle.std.specs.Prelude.{◌≡◌, ◌&&◌, ◌↔◌, IfOk, IsTrue, None, OnOk, Some, [], false, length, map, replicate, true, ◌==◌, ◌+◌, min, option_map, slice_get, slice_set};
 ghost use Rattle.lcm_model.specs.Words.{otherwise, when};
 ghost use Rattle.occ_table.specs.declared.causes.Cause.TheVariants as causes;
 ghost use Rattle.occ_table.specs.Ended.{stripped};
@@ -20,8 +20,8 @@ use crate::phases::{PHASES, are_clear, are_none, count_phases, shift};
 use crate::resources::Deed;
 use crate::used::{PackedUsed, Uses};
 use lcm_events::{
-    CancelMode, Changes, EventKind, GrantTry, Listed, OpState, Operation, Outcome, Place, Role,
-    Tag, Way,
+    CancelMode, Change, Changes, EventKind, GrantTry, Listed, OpState, Operation, Outcome, Place,
+    Role, Tag, Way,
 };
 use lcm_model::{Effect, ends, is_placing, place_in, verb_in_way};
 use std::alloc::{AllocError, Global};
@@ -213,22 +213,34 @@ impl OccRow {
     pub fn first(alloc: Global, moment: Moment, operation: &Operation) -> Result<OccRow, AllocError>
         ensures { IfOk result (λ r. r ≡ first_row moment operation.now) }
     {
+        let changes = operation.changes.as_slice();
         let ask = PackedAsk::of(alloc, &operation.ask)?;
-        let changes = operation.changes.as_slice().to_vec(alloc)?;
-        let nets = vec![in alloc; 0u8; changes.len()]?;
-        let attempts = vec![in alloc; 0u32; changes.len()]?;
         let used = Uses::none(alloc, changes.len())?;
-        let waiting = count_phases(changes.as_slice());
-        Ok(OccRow {
+        let mut row = OccRow::asked(alloc, moment, operation, ask, used);
+        row.put_changes(alloc, changes)?;
+        Ok(row)
+    }
+
+    /// That row with this ask and these uses, and without its changes.
+    fn asked(
+        alloc: Global,
+        moment: Moment,
+        operation: &Operation,
+        ask: PackedAsk,
+        used: Uses,
+    ) -> OccRow
+        ensures { result ≡ record (first_row moment operation.now) { ask = ask; used = used; changes = []; nets = []; attempts = [] } }
+    {
+        OccRow {
             instance: operation.instance,
             vnfd: PackedName::none(alloc),
             role: operation.role,
             ask,
-            changes: Listed::of(changes),
-            nets: Cells::of(nets),
-            waiting,
+            changes: Listed::new(alloc),
+            nets: Cells::of(Vec::new(alloc)),
+            waiting: count_phases(operation.changes.as_slice()),
             made: [0; PHASES],
-            attempts: Cells::of(attempts),
+            attempts: Cells::of(Vec::new(alloc)),
             used,
             state: OpState::Starting,
             asked: moment,
@@ -241,7 +253,17 @@ impl OccRow {
             cause: None,
             pending: Pendings::none(alloc),
             grant: None,
-        })
+        }
+    }
+
+    /// Puts the changes of the plan, none of which is made or was attempted.
+    fn put_changes(&mut self, alloc: Global, changes: &[Change]) -> Result<(), AllocError>
+        ensures { OnOk result (self.new ≡ record self.old { changes = changes.now; nets = replicate (length changes.now) 0; attempts = replicate (length changes.now) 0 }) }
+    {
+        self.changes = Listed::of(changes.to_vec(alloc)?);
+        self.nets = Cells::of(vec![in alloc; 0u8; changes.len()]?);
+        self.attempts = Cells::of(vec![in alloc; 0u32; changes.len()]?);
+        Ok(())
     }
 
     /// An equal row, for a view that is made before its event is appended.
@@ -250,38 +272,62 @@ impl OccRow {
     pub fn copy(&self, alloc: Global) -> Result<OccRow, AllocError>
         ensures { IfOk result (λ r. r ≡ self.now) }
     {
-        let vnfd = self.vnfd.copy(alloc)?;
         let ask = self.ask.copy(alloc)?;
-        let changes = self.changes.as_slice().to_vec(alloc)?;
-        let nets = self.nets.as_slice().to_vec(alloc)?;
-        let attempts = self.attempts.as_slice().to_vec(alloc)?;
         let used = self.used.copy(alloc)?;
-        let location = copied_line(&self.location)?;
-        let pending = self.pending.copy(alloc)?;
-        let grant = copied_grant(alloc, &self.grant)?;
-        Ok(OccRow {
+        let mut row = self.bare(alloc, ask, used);
+        row.copy_plan(alloc, self)?;
+        row.copy_work(alloc, self)?;
+        Ok(row)
+    }
+
+    /// An equal row but for this ask and these uses, and without what takes memory besides.
+    fn bare(&self, alloc: Global, ask: PackedAsk, used: Uses) -> OccRow
+        ensures { result ≡ record self.now { vnfd = []; ask = ask; changes = []; nets = []; attempts = []; used = used; location = None; pending = []; grant = None } }
+    {
+        OccRow {
             instance: self.instance,
-            vnfd,
+            vnfd: PackedName::none(alloc),
             role: self.role,
             ask,
-            changes: Listed::of(changes),
-            nets: Cells::of(nets),
+            changes: Listed::new(alloc),
+            nets: Cells::of(Vec::new(alloc)),
             waiting: self.waiting,
             made: self.made,
-            attempts: Cells::of(attempts),
+            attempts: Cells::of(Vec::new(alloc)),
             used,
             state: self.state,
             asked: self.asked,
             entered: self.entered,
-            location,
+            location: None,
             tries: self.tries,
             ended: self.ended,
             cancel: self.cancel,
             trouble: self.trouble,
             cause: self.cause,
-            pending,
-            grant,
-        })
+            pending: Pendings::none(alloc),
+            grant: None,
+        }
+    }
+
+    /// Puts the descriptor, the changes and what each has come to, as another row has them.
+    fn copy_plan(&mut self, alloc: Global, from: &OccRow) -> Result<(), AllocError>
+        ensures { OnOk result (self.new ≡ record self.old { vnfd = from.now.vnfd; changes = from.now.changes; nets = from.now.nets; attempts = from.now.attempts }) }
+    {
+        self.vnfd = from.vnfd.copy(alloc)?;
+        self.changes = Listed::of(from.changes.as_slice().to_vec(alloc)?);
+        self.nets = Cells::of(from.nets.as_slice().to_vec(alloc)?);
+        self.attempts = Cells::of(from.attempts.as_slice().to_vec(alloc)?);
+        Ok(())
+    }
+
+    /// Puts the location, the open attempts and the grant, as another row has them.
+    fn copy_work(&mut self, alloc: Global, from: &OccRow) -> Result<(), AllocError>
+        ensures { OnOk result (self.new ≡ record self.old { location = from.now.location; pending = from.now.pending; grant = from.now.grant }) }
+    {
+        self.location = copied_line(&from.location)?;
+        self.pending = from.pending.copy(alloc)?;
+        self.grant = copied_grant(alloc, &from.grant)?;
+        Ok(())
     }
 
     /// A try of the exchange was in trouble.
