@@ -1,0 +1,7 @@
+-- A turn of the loop.
+use Rattle.std.proofs.Common.{arith}
+use Rattle.std.proofs.lemmas.Grind.{common_steps}
+use Rattle.lcm_model.proofs.valid.are_sorted_names.Goals as goal
+
+pub loop-at-preserved : goal.loop-at-preserved
+loop-at-preserved g c = grind (arith, common_steps)
