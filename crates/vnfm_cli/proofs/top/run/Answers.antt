@@ -1,5 +1,5 @@
 -- What the status says, from the way that the run went.
-use Rattle.std.proofs.Common.{◌∙◌, ℕ, ap, subst, sym, arith}
+use Rattle.std.proofs.Common.{◌∙◌, ℕ, ap, arith, rules, subst, sym}
 use Rattle.vnfm_commands.specs.Ending.{status_of}
 use Rattle.vnfm_commands.specs.Runs.{MayEndWith}
 use Rattle.vnfm_commands.proofs.DiskLemmas.{disk_as, lost_line, one_fault}
@@ -8,6 +8,18 @@ use Rattle.vnfm_cli.proofs.EndingLemmas.{is_status, put_result, seven_lost, stat
 use Rattle.vnfm_cli.proofs.ExactLemmas.{bad_record_ending, complete_ending, door_cause, no_journal_ending, taken_ending, told_bad_record, told_full, told_no_journal, told_refused, told_taken}
 use Rattle.vnfm_cli.proofs.HeadlineLemmas.{leaves_fresh, leaves_sound}
 use Rattle.vnfm_cli.proofs.top.run.Goals as goal
+
+pub returns-clause-runs : goal.returns-clause-runs
+returns-clause-runs g c = search rules
+
+pub returns-clause-unasked : goal.returns-clause-unasked
+returns-clause-unasked g c = search rules
+
+pub returns-clause-untouched : goal.returns-clause-untouched
+returns-clause-untouched g c = search rules
+
+pub returns-clause-untouched_jobs : goal.returns-clause-untouched_jobs
+returns-clause-untouched_jobs g c = search rules
 
 pub returns-clause-causes : goal.returns-clause-causes
 returns-clause-causes g c =
