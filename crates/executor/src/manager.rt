@@ -45,11 +45,21 @@ use vnfm_base::{Kind, Name};
 /// The manager of one journal. It never owns the site of its file, which is lent to each call.
 ///
 /// A contract sees its journal's ledger and its tables; which histories it keeps is told by both (`Keeps`).
-#[derive(Drop)]
 pub struct Manager<S: Site> {
     journal: Journal<S>,
     tables: Tables,
     record: RecordBuf,
+}
+
+impl<S: Site> Drop for Manager<S> {
+    // Written out, so that the proof of a caller calls it and doesn't take the value apart at each of its ends.
+    fn drop(self) {
+        let Manager {
+            journal: _,
+            tables: _,
+            record: _,
+        } = self;
+    }
 }
 
 impl<S: Site> Model for Manager<S> {

@@ -12,7 +12,6 @@ use vnfm_base::{Bytes, Line, Name};
 /// An answer to a request.
 ///
 /// Source: RFC 9110 15 (Status Codes).
-#[derive(Drop)]
 pub struct Reply {
     /// The status code.
     pub status: u16,
@@ -26,6 +25,20 @@ pub struct Reply {
     pub body: Bytes,
     /// Whether the connection ends with it.
     pub last: bool,
+}
+
+impl Drop for Reply {
+    // Written out, so that the proof of a caller calls it and doesn't take the value apart at each of its ends.
+    fn drop(self) {
+        let Reply {
+            status: _,
+            location: _,
+            allow: _,
+            problem: _,
+            body: _,
+            last: _,
+        } = self;
+    }
 }
 
 /// A refusal with this status and this detail, and whether the connection ends with it.
