@@ -15,7 +15,7 @@ use lcm_events::{Ask, Change, Def, DefKind, Held, Port, StopType, Verb, Vnfd};
 use std::alloc::{AllocError, Global};
 
 /// Which items a phase of a plan is about.
-#[derive(Clone, Copy, PartialEq, Eq)]
+#[derive(Clone, Copy)]
 pub(crate) enum Pick {
     /// Those of one kind whose machines leave.
     Leaving(DefKind),

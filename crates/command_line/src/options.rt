@@ -4,7 +4,7 @@ use thiserror::Error;
 use vnfm_base::Text;
 
 /// A command.
-#[derive(Clone, Copy, Debug, PartialEq, Eq)]
+#[derive(Clone, Copy, Debug)]
 pub enum Command {
     /// Makes a journal.
     Init,

@@ -7,7 +7,7 @@ use lcm_events::Verb;
 /// A part of a grant request, and of a grant.
 ///
 /// Source: SOL 003 9.5.2.2 (GrantRequest), 9.5.2.3 (Grant).
-#[derive(Clone, Copy, PartialEq, Eq)]
+#[derive(Clone, Copy)]
 pub enum Part {
     /// `addResources`: what is created.
     Add,

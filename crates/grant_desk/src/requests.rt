@@ -20,7 +20,7 @@ use vnfm_base::{Bytes, Kind, ident};
 /// Who asks for a grant: the manager's number, and the numbers of the instance and the occurrence.
 ///
 /// Source: SOL 003 9.5.2.2 (GrantRequest).
-#[derive(Clone, Copy, PartialEq, Eq)]
+#[derive(Clone, Copy)]
 pub struct GrantAsker {
     /// The number of the manager.
     pub manager: u32,

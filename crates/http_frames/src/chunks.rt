@@ -21,7 +21,7 @@ pub struct Decoder {
 }
 
 /// What the bytes behind a head are, as a chunked body.
-#[derive(Clone, Copy, PartialEq, Eq)]
+#[derive(Clone, Copy)]
 pub enum Verdict {
     /// The body is whole, and the framing has so many bytes.
     Whole(usize),
@@ -109,7 +109,7 @@ impl Decoder {
 }
 
 /// What stands at the front of the bytes where a chunk is due.
-#[derive(Clone, Copy, PartialEq, Eq)]
+#[derive(Clone, Copy)]
 enum Step {
     /// A chunk, with its content in these places, and the bytes behind it from `next` on.
     Chunk {
@@ -164,7 +164,7 @@ fn behind_line(bytes: &[u8], len: usize, size: u64, taken: usize) -> Step
 }
 
 /// A line at the front of the bytes of a trailer, with its bytes.
-#[derive(Clone, Copy, PartialEq, Eq)]
+#[derive(Clone, Copy)]
 enum TrailerLine {
     /// No line feed has come.
     More,

@@ -11,7 +11,7 @@ use crate::BODY_BYTES;
 use httparse::spans::{HeaderSpan, Span};
 
 /// How a request's body is framed.
-#[derive(Clone, Copy, PartialEq, Eq)]
+#[derive(Clone, Copy)]
 pub enum Frame {
     /// No field announces a body.
     NoBody,
@@ -26,7 +26,7 @@ pub enum Frame {
 }
 
 /// Where the values of the fields of one name are.
-#[derive(Clone, Copy, PartialEq, Eq)]
+#[derive(Clone, Copy)]
 pub enum Values {
     Absent,
     Once(Span),

@@ -33,7 +33,7 @@ pub struct HeadParts {
 }
 
 /// What the bytes begin with.
-#[derive(Clone, Copy, PartialEq, Eq)]
+#[derive(Clone, Copy)]
 pub enum Head {
     /// A head within the limits, of a sound framing.
     Whole(HeadParts),

@@ -12,7 +12,7 @@ use std::alloc::{AllocError, Global};
 /// What the end of an operation says of its instance, where it says something.
 ///
 /// Source: SOL 003 5.5.2.2 (VnfInstance).
-#[derive(Clone, Copy, PartialEq, Eq)]
+#[derive(Clone, Copy)]
 pub struct Ending {
     /// Whether it is INSTANTIATED.
     pub instantiated: Option<bool>,

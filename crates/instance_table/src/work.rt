@@ -14,7 +14,7 @@ use std::alloc::{AllocError, Global};
 use vnfm_base::Name;
 
 /// What an attempt that is done did.
-#[derive(Clone, Copy, PartialEq, Eq)]
+#[derive(Clone, Copy)]
 pub struct Work {
     /// The number of the instance.
     pub instance: u64,

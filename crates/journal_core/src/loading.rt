@@ -51,7 +51,7 @@ impl From<AllocError> for LoadFault {
 }
 
 /// What a step of a loading found.
-#[derive(Clone, Copy, PartialEq, Eq)]
+#[derive(Clone, Copy)]
 pub enum Found {
     /// One record more.
     Record,

@@ -7,7 +7,7 @@ ghost use Rattle.lcm_api.specs.Telling.{Tells};
 use site_traits::{Door, WriteAnswer};
 
 /// A write failed: the door's count of faults rose by one, and a front of the bytes went out.
-#[derive(Clone, Copy, PartialEq, Eq)]
+#[derive(Clone, Copy)]
 pub struct DoorFailed;
 
 /// Writes the bytes, with as few writes as the door takes. After one that failed there is no other.

@@ -6,7 +6,7 @@ ghost use Rattle.lcm_api.specs.Hearing.{Hears};
 use site_traits::{Door, ReadAnswer};
 
 /// How far a reading came.
-#[derive(Clone, Copy, PartialEq, Eq)]
+#[derive(Clone, Copy)]
 pub struct Reading {
     /// The bytes that were read.
     pub count: usize,

@@ -37,7 +37,7 @@ pub enum Route {
 }
 
 /// Where a request goes.
-#[derive(Clone, Copy, PartialEq, Eq)]
+#[derive(Clone, Copy)]
 pub enum Routing {
     /// No resource that is served has its path.
     Nowhere,

@@ -35,7 +35,7 @@ use vnfm_base::{Bytes, Moment};
 /// A task that is asked of an occurrence, with what its body says.
 ///
 /// Source: SOL 003 5.4.14 to 5.4.17 (Retry, Rollback, Fail, Cancel operation task).
-#[derive(Clone, Copy, PartialEq, Eq)]
+#[derive(Clone, Copy)]
 pub enum AskedTask {
     /// Take the work up again.
     Retry,

@@ -5,7 +5,7 @@ use crate::listed::Names;
 use vnfm_base::Name;
 
 /// One piece of work at one resource.
-#[derive(Debug, Drop)]
+#[derive(Drop)]
 pub struct Act {
     /// What is done.
     pub verb: Verb,

@@ -6,7 +6,7 @@ use vnfm_base::{Line, Name};
 /// Out or in.
 ///
 /// Source: SOL 003 5.5.2.5 (ScaleVnfRequest).
-#[derive(Clone, Copy, PartialEq, Eq, Debug)]
+#[derive(Clone, Copy)]
 pub enum ScaleWay {
     /// SCALE_OUT.
     Out,
@@ -17,7 +17,7 @@ pub enum ScaleWay {
 /// Whether what runs is stopped at once or first brought to rest.
 ///
 /// Source: SOL 003 5.5.2.10 (OperateVnfRequest), 5.5.2.8 (TerminateVnfRequest).
-#[derive(Clone, Copy, PartialEq, Eq, Debug)]
+#[derive(Clone, Copy)]
 pub enum StopType {
     /// FORCEFUL: at once.
     Forceful,
@@ -28,7 +28,7 @@ pub enum StopType {
 /// The kind of an operation.
 ///
 /// Source: SOL 003 5.5.2.13 (VnfLcmOpOcc).
-#[derive(Clone, Copy, PartialEq, Eq, Debug)]
+#[derive(Clone, Copy, PartialEq, Eq)]
 pub enum OpKind {
     /// INSTANTIATE.
     Instantiate,
@@ -47,7 +47,7 @@ pub enum OpKind {
 }
 
 /// A machine of an instance with its disks and connection points: a VDU's number and a serial number.
-#[derive(Clone, Copy, PartialEq, Eq, Debug)]
+#[derive(Clone, Copy)]
 pub struct Vnfc {
     /// The number of the VDU.
     pub vdu: u16,
@@ -58,7 +58,7 @@ pub struct Vnfc {
 /// A level of an aspect.
 ///
 /// Source: SOL 003 5.5.2.6 (ScaleVnfToLevelRequest).
-#[derive(Clone, Copy, PartialEq, Eq, Debug)]
+#[derive(Clone, Copy)]
 pub struct AspectLevel {
     /// The aspect's name.
     pub aspect: Name,
@@ -69,7 +69,7 @@ pub struct AspectLevel {
 /// What SCALE_TO_LEVEL aims at.
 ///
 /// Source: SOL 003 5.5.2.6 (ScaleVnfToLevelRequest).
-#[derive(Debug, Drop)]
+#[derive(Drop)]
 pub enum Aim {
     /// The instantiation level of this name.
     Level(Name),
@@ -80,7 +80,6 @@ pub enum Aim {
 /// What an operation is asked to do.
 ///
 /// Source: SOL 003 5.5.2.4 to 5.5.2.10 (InstantiateVnfRequest to OperateVnfRequest).
-#[derive(Debug)]
 pub enum Ask {
     /// INSTANTIATE: make the first resources.
     Instantiate {

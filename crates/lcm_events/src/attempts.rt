@@ -3,7 +3,7 @@
 use vnfm_base::Name;
 
 /// Whether an attempt makes its change or undoes it.
-#[derive(Clone, Copy, PartialEq, Eq, Debug)]
+#[derive(Clone, Copy, PartialEq, Eq)]
 pub enum Way {
     /// The change is made.
     Forward,
@@ -12,7 +12,7 @@ pub enum Way {
 }
 
 /// The name of one attempt: change `change`, from 0, of occurrence `occ`.
-#[derive(Clone, Copy, PartialEq, Eq, Debug)]
+#[derive(Clone, Copy, PartialEq, Eq)]
 pub struct Tag {
     /// The number of the occurrence, from 1.
     pub occ: u64,
@@ -25,7 +25,7 @@ pub struct Tag {
 }
 
 /// How an attempt ended.
-#[derive(Clone, Copy, PartialEq, Eq, Debug)]
+#[derive(Clone, Copy)]
 pub enum Outcome {
     /// Done, and the resource's name.
     Done(Name),

@@ -5,7 +5,7 @@ use crate::listed::Listed;
 /// What a definition names.
 ///
 /// Source: SOL 003 9.5.2.2 (GrantRequest), whose resource definitions have these types.
-#[derive(Clone, Copy, PartialEq, Eq, Debug)]
+#[derive(Clone, Copy, PartialEq, Eq)]
 pub enum DefKind {
     /// A virtual link.
     Link,
@@ -21,7 +21,7 @@ pub enum DefKind {
 ///
 /// `item` is the number of the link, storage or port in the descriptor, and 0 for a compute. A link has `vdu` 65,535
 /// and `serial` 0.
-#[derive(Clone, Copy, PartialEq, Eq, Debug)]
+#[derive(Clone, Copy, PartialEq, Eq)]
 pub struct Def {
     /// What it is.
     pub kind: DefKind,
@@ -34,7 +34,7 @@ pub struct Def {
 }
 
 /// What a change does to its resource.
-#[derive(Clone, Copy, PartialEq, Eq, Debug)]
+#[derive(Clone, Copy, PartialEq, Eq)]
 pub enum Verb {
     /// Makes it.
     Create,
@@ -47,7 +47,7 @@ pub enum Verb {
 }
 
 /// A change of a plan. Phases go from 0, links created, to 8, links removed.
-#[derive(Clone, Copy, PartialEq, Eq, Debug)]
+#[derive(Clone, Copy, PartialEq, Eq)]
 pub struct Change {
     /// When it is its turn, from 0 to 8.
     pub phase: u8,

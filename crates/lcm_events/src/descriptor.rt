@@ -6,7 +6,6 @@ use vnfm_base::Name;
 /// A descriptor.
 ///
 /// Source: SOL 001, the node type of a VNF and its properties.
-#[derive(Debug)]
 pub struct Vnfd {
     /// Its identifier, `vnfdId`.
     pub descriptor_id: Name,
@@ -60,7 +59,7 @@ impl Drop for Vnfd {
 /// A virtualisation deployment unit: a kind of machine.
 ///
 /// Source: SOL 001, tosca.nodes.nfv.Vdu.Compute.
-#[derive(Debug, Drop)]
+#[derive(Drop)]
 pub struct Vdu {
     /// Its name.
     pub name: Name,
@@ -79,7 +78,7 @@ pub struct Vdu {
 /// A kind of disk.
 ///
 /// Source: SOL 001, tosca.nodes.nfv.Vdu.VirtualBlockStorage.
-#[derive(Clone, Copy, PartialEq, Eq, Debug)]
+#[derive(Clone, Copy)]
 pub struct Storage {
     /// Its name.
     pub name: Name,
@@ -90,7 +89,7 @@ pub struct Storage {
 /// A connection point of a VDU.
 ///
 /// Source: SOL 001, tosca.nodes.nfv.VduCp.
-#[derive(Clone, Copy, PartialEq, Eq, Debug)]
+#[derive(Clone, Copy)]
 pub struct Port {
     /// Its name.
     pub name: Name,
@@ -103,7 +102,7 @@ pub struct Port {
 /// A scaling aspect.
 ///
 /// Source: SOL 001, tosca.policies.nfv.ScalingAspects.
-#[derive(Debug, Drop)]
+#[derive(Drop)]
 pub struct Aspect {
     /// Its name.
     pub name: Name,
@@ -118,7 +117,7 @@ pub struct Aspect {
 /// What the steps of an aspect add to one VDU. A single delta holds for every step.
 ///
 /// Source: SOL 001, tosca.policies.nfv.VduScalingAspectDeltas.
-#[derive(Debug, Drop)]
+#[derive(Drop)]
 pub struct Row {
     /// The number of the VDU.
     pub vdu: u16,
@@ -129,7 +128,7 @@ pub struct Row {
 /// An instantiation level.
 ///
 /// Source: SOL 001, tosca.policies.nfv.InstantiationLevels.
-#[derive(Debug, Drop)]
+#[derive(Drop)]
 pub struct Level {
     /// Its name.
     pub name: Name,

@@ -13,7 +13,7 @@ use crate::states::{CancelMode, OpState, Role};
 use vnfm_base::{Line, Moment, Name};
 
 /// An operation that was asked for, with its plan.
-#[derive(Debug, Drop)]
+#[derive(Drop)]
 pub struct Operation {
     /// The number of the occurrence, from 1.
     pub occ: u64,
@@ -28,7 +28,7 @@ pub struct Operation {
 }
 
 /// An answer to a grant request that is no grant.
-#[derive(Debug, Drop)]
+#[derive(Drop)]
 pub enum GrantTry {
     /// It comes later, at this location.
     Later(Line),
@@ -39,7 +39,7 @@ pub enum GrantTry {
 }
 
 /// How the post of a notice ended.
-#[derive(Clone, Copy, PartialEq, Eq, Debug)]
+#[derive(Clone, Copy)]
 pub enum PostOutcome {
     /// The receiver took it.
     Delivered,
@@ -48,7 +48,6 @@ pub enum PostOutcome {
 }
 
 /// What happened.
-#[derive(Debug)]
 pub enum EventKind {
     /// A descriptor was onboarded.
     Onboarded(Vnfd),
@@ -188,7 +187,7 @@ impl Drop for EventKind {
 }
 
 /// An event of the journal: what happened, and when.
-#[derive(Debug, Drop)]
+#[derive(Drop)]
 pub struct Event {
     /// When, as the clock said.
     pub moment: Moment,

@@ -7,7 +7,7 @@ use crate::states::OpState;
 /// The kind of a notification.
 ///
 /// Source: SOL 003 5.5.2.17 to 5.5.2.19 (the three notifications).
-#[derive(Clone, Copy, PartialEq, Eq, Debug)]
+#[derive(Clone, Copy, PartialEq, Eq)]
 pub enum NoticeKind {
     /// An operation occurrence changed.
     Occurrence,
@@ -20,7 +20,7 @@ pub enum NoticeKind {
 /// An operation type that a filter may name.
 ///
 /// Source: SOL 003 5.5.3 (LifecycleChangeNotificationsFilter).
-#[derive(Clone, Copy, PartialEq, Eq, Debug)]
+#[derive(Clone, Copy)]
 pub enum OperationType {
     /// One that an occurrence may have.
     Of(OpKind),
@@ -33,7 +33,6 @@ pub enum OperationType {
 /// The filter of a subscription. The values of a list are alternatives, and an empty list asks nothing.
 ///
 /// Source: SOL 003 5.5.3 (LifecycleChangeNotificationsFilter).
-#[derive(Debug)]
 pub struct Filter {
     /// The descriptors' identifiers.
     pub vnfds: Names,

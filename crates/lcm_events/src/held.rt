@@ -7,7 +7,7 @@ use crate::places::Place;
 use vnfm_base::Name;
 
 /// A resource that stands.
-#[derive(Clone, Copy, PartialEq, Eq, Debug)]
+#[derive(Clone, Copy)]
 pub struct Held {
     /// Its definition.
     pub def: Def,
@@ -20,7 +20,6 @@ pub struct Held {
 }
 
 /// What stands of an instance, and how it is meant to stand.
-#[derive(Debug)]
 pub struct Holding {
     /// INSTANTIATED, not NOT_INSTANTIATED.
     pub instantiated: bool,

@@ -7,7 +7,6 @@ use std::marker::Model;
 use vnfm_base::Name;
 
 /// A list on the heap.
-#[derive(Debug)]
 pub struct Listed<T> {
     entries: Vec<T>,
 }

@@ -3,7 +3,7 @@
 /// The state of an operation occurrence.
 ///
 /// Source: SOL 003 5.6.2 (States and state transitions of a VNF LCM operation occurrence).
-#[derive(Clone, Copy, PartialEq, Eq, Debug)]
+#[derive(Clone, Copy, PartialEq, Eq)]
 pub enum OpState {
     /// STARTING: the grant is being asked for.
     Starting,
@@ -24,7 +24,7 @@ pub enum OpState {
 /// How a cancel ends the work that is under way.
 ///
 /// Source: SOL 003 5.5.2.14 (CancelMode).
-#[derive(Clone, Copy, PartialEq, Eq, Debug)]
+#[derive(Clone, Copy, PartialEq, Eq)]
 pub enum CancelMode {
     /// GRACEFUL: the attempts under way are waited for.
     Graceful,
@@ -35,7 +35,7 @@ pub enum CancelMode {
 /// What may be asked of an occurrence.
 ///
 /// Source: SOL 003 5.4.14 to 5.4.17 (Retry, Rollback, Fail, Cancel operation task).
-#[derive(Clone, Copy, PartialEq, Eq, Debug)]
+#[derive(Clone, Copy, PartialEq, Eq)]
 pub enum Task {
     /// Take the work up again.
     Retry,
@@ -50,7 +50,7 @@ pub enum Task {
 /// Who asks: the NFV orchestrator or the element manager.
 ///
 /// Source: SOL 003 clause 5 for the orchestrator, SOL 002 clause 5 for the element manager.
-#[derive(Clone, Copy, PartialEq, Eq, Debug)]
+#[derive(Clone, Copy, PartialEq, Eq)]
 pub enum Role {
     /// The NFV orchestrator.
     Orchestrator,

@@ -5,7 +5,7 @@ use lcm_events::{OpState, Tag};
 /// The next action of an active occurrence.
 ///
 /// Source: own rule.
-#[derive(Clone, Copy, PartialEq, Eq)]
+#[derive(Clone, Copy)]
 pub enum Action {
     /// Move to this state.
     MoveTo(OpState),

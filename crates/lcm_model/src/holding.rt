@@ -6,7 +6,7 @@ use vnfm_base::Name;
 /// What an attempt that ended as done did, and to which resource of which instance.
 ///
 /// Source: own rule.
-#[derive(Clone, Copy, PartialEq, Eq)]
+#[derive(Clone, Copy)]
 pub struct Effect {
     /// The attempt.
     pub tag: Tag,

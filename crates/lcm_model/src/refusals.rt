@@ -5,7 +5,7 @@ use lcm_events::OpState;
 /// Why an operation isn't begun. The order of the variants is the order of the refusals.
 ///
 /// Source: SOL 003 5.4.4 to 5.4.10 (the tasks of an individual VNF instance); the order is an own rule.
-#[derive(Clone, Copy, Debug, PartialEq, Eq)]
+#[derive(Clone, Copy, Debug)]
 pub enum Refusal {
     /// The flavour isn't in the descriptor.
     UnknownFlavour,
@@ -46,7 +46,7 @@ pub enum Refusal {
 /// Why a task on an occurrence is refused.
 ///
 /// Source: SOL 003 5.4.14 to 5.4.17 (Retry, Rollback, Fail, Cancel operation task).
-#[derive(Clone, Copy, PartialEq, Eq)]
+#[derive(Clone, Copy)]
 pub enum TaskRefusal {
     /// The operation has no such task.
     NotSupported,

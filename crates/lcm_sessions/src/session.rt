@@ -19,11 +19,11 @@ use std::alloc::{AllocError, Global};
 use vnfm_base::Moment;
 
 /// The disk failed, and the manager is closed. Whether the last request's event is kept is known once the journal is loaded again.
-#[derive(Clone, Copy, PartialEq, Eq)]
+#[derive(Clone, Copy)]
 pub struct Closed;
 
 /// What came of one step of a session.
-#[derive(Clone, Copy, PartialEq, Eq)]
+#[derive(Clone, Copy)]
 pub enum Step {
     /// A request was answered, its reply was told whole, and the session goes on.
     Told,

@@ -9,7 +9,7 @@ use occ_table::OccRow;
 use rollback_plan::next_undo;
 
 /// The next action of an active occurrence.
-#[derive(Clone, Copy, PartialEq, Eq)]
+#[derive(Clone, Copy)]
 pub enum Step {
     /// Move to this state.
     Move(OpState),

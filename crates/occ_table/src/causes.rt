@@ -3,7 +3,7 @@
 /// Why the work on an occurrence stopped.
 ///
 /// Source: SOL 003 5.5.2.13 (VnfLcmOpOcc, error).
-#[derive(Clone, Copy, PartialEq, Eq)]
+#[derive(Clone, Copy)]
 pub enum Cause {
     /// The grant was denied.
     Denied,

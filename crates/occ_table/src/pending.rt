@@ -14,7 +14,7 @@ use std::mem;
 const ROOM: usize = 4;
 
 /// An open attempt.
-#[derive(Clone, Copy, PartialEq, Eq)]
+#[derive(Clone, Copy)]
 pub struct Pending {
     /// Its tag.
     pub tag: Tag,

@@ -15,7 +15,7 @@ use vnfm_base::Name;
 /// A resource that a change made, removed or powered, and where it stands.
 ///
 /// Source: SOL 003 5.5.2.13 (VnfLcmOpOcc, resourceChanges).
-#[derive(Clone, Copy, PartialEq, Eq)]
+#[derive(Clone, Copy)]
 pub struct Used {
     /// The infrastructure's name of the resource.
     pub resource: Name,

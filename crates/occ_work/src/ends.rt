@@ -5,7 +5,7 @@ ghost use Rattle.occ_work.specs.Counting.{CountsEndings};
 /// How an act ended.
 ///
 /// Source: own rule.
-#[derive(Clone, Copy, PartialEq, Eq)]
+#[derive(Clone, Copy)]
 pub enum Acted {
     /// What it did is in the journal.
     Recorded,

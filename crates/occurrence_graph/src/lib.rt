@@ -62,7 +62,7 @@ pub fn task_allowed(op: OpKind, state: OpState, task: Task) -> Result<(), TaskRe
 /// What is done first with an occurrence that is cancelled.
 ///
 /// Source: SOL 003 5.4.17 (Cancel operation task).
-#[derive(Clone, Copy, PartialEq, Eq)]
+#[derive(Clone, Copy)]
 pub enum CancelStep {
     /// It leaves its state now: STARTING for ROLLED_BACK, PROCESSING and ROLLING_BACK for FAILED_TEMP.
     Leave,

@@ -25,7 +25,7 @@ pub enum FolderSync {
 }
 
 /// Why the journal's file couldn't be had.
-#[derive(Clone, Copy, PartialEq, Eq)]
+#[derive(Clone, Copy)]
 pub enum WhyLost {
     /// Another has its lock.
     Locked,

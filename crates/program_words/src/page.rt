@@ -5,7 +5,7 @@ ghost use Rattle.program_words.specs.Pages.{command_page, page_of, sole_page, te
 use vnfm_base::Text;
 
 /// A text that the program prints and then ends.
-#[derive(Clone, Copy, PartialEq, Eq)]
+#[derive(Clone, Copy)]
 pub enum Page {
     /// What the program's words are.
     Help,

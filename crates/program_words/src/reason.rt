@@ -13,7 +13,7 @@ use std::alloc::{AllocError, Global};
 use vnfm_base::Text;
 
 /// Why a run ended as it did, where there is something to say.
-#[derive(Clone, Copy, PartialEq, Eq)]
+#[derive(Clone, Copy)]
 pub enum Reason {
     /// A word wasn't understood, or some are missing.
     Words,

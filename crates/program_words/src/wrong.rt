@@ -6,7 +6,7 @@ use command_line::{Command, command_named, has_option, takes};
 use vnfm_base::Text;
 
 /// What is wrong first with words that are no command.
-#[derive(Clone, Copy, PartialEq, Eq)]
+#[derive(Clone, Copy)]
 pub enum Wrong {
     /// The word at this place, from 0, isn't understood there.
     Word(usize),

@@ -6,7 +6,7 @@ ghost use Rattle.site_traits.specs.Peers.{Post, Posts, PostCause};
 use vnfm_base::Line;
 
 /// What came of a post.
-#[derive(Clone, Copy, PartialEq, Eq)]
+#[derive(Clone, Copy)]
 pub enum PostAnswer {
     /// It was answered with this status.
     Status(u16),

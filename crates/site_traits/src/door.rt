@@ -5,7 +5,7 @@ ghost use Rattle.site_traits.specs.Door.{DoorState, DoorCounts, Nexts, ReadsIn, 
 use lcm_events::Role;
 
 /// What came of waiting for a connection.
-#[derive(Clone, Copy, PartialEq, Eq)]
+#[derive(Clone, Copy)]
 pub enum NextAnswer {
     /// A connection of this role is at hand.
     Came(Role),
@@ -18,7 +18,7 @@ pub enum NextAnswer {
 }
 
 /// What came of a read.
-#[derive(Clone, Copy, PartialEq, Eq)]
+#[derive(Clone, Copy)]
 pub enum ReadAnswer {
     /// So many bytes, at least one, stand at the front of the piece.
     Got(usize),
@@ -29,7 +29,7 @@ pub enum ReadAnswer {
 }
 
 /// What came of a write.
-#[derive(Clone, Copy, PartialEq, Eq)]
+#[derive(Clone, Copy)]
 pub enum WriteAnswer {
     /// So many bytes, at least one, went out.
     Took(usize),

@@ -2,7 +2,7 @@
 use vnfm_base::Name;
 
 /// How a job stands.
-#[derive(Clone, Copy, PartialEq, Eq)]
+#[derive(Clone, Copy)]
 pub enum Phase {
     /// It goes on.
     Running,
@@ -15,7 +15,7 @@ pub enum Phase {
 }
 
 /// What `begin` answers.
-#[derive(Clone, Copy, PartialEq, Eq)]
+#[derive(Clone, Copy)]
 pub enum BeginAnswer {
     /// The job was put last.
     Begun,
@@ -26,7 +26,7 @@ pub enum BeginAnswer {
 }
 
 /// What `look` answers.
-#[derive(Clone, Copy, PartialEq, Eq)]
+#[derive(Clone, Copy)]
 pub enum LookAnswer {
     /// There is no such job.
     Absent,
@@ -43,7 +43,7 @@ pub enum LookAnswer {
 }
 
 /// What `abort` answers.
-#[derive(Clone, Copy, PartialEq, Eq)]
+#[derive(Clone, Copy)]
 pub enum AbortAnswer {
     /// The job was asked to end. It may have ended otherwise before.
     Asked,

@@ -8,7 +8,7 @@ use std::alloc::{AllocError, Global};
 use vnfm_base::Line;
 
 /// What a courier in memory does with a post.
-#[derive(Clone, Copy, PartialEq, Eq)]
+#[derive(Clone, Copy)]
 pub enum PostPlan {
     /// It fails.
     Fail,

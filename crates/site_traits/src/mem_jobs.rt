@@ -31,7 +31,7 @@ pub enum JobEnd {
 }
 
 /// What comes of a begin, and how its job goes on.
-#[derive(Clone, Copy, PartialEq, Eq)]
+#[derive(Clone, Copy)]
 pub struct JobPlan {
     /// What comes of the begin.
     pub arrival: Arrival,

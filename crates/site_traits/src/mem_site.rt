@@ -14,7 +14,7 @@ use lcm_events::{Act, Tag};
 use std::alloc::{AllocError, Global};
 
 /// What a stop leaves of the writes and cuts that are not synced.
-#[derive(Clone, Copy, PartialEq, Eq)]
+#[derive(Clone, Copy)]
 pub enum Choice {
     /// The file before them.
     Old,

@@ -10,7 +10,7 @@ use lcm_events::{Act, Tag};
 use std::alloc::{AllocError, Global};
 
 /// A call on a site, as it stands on record.
-#[derive(Clone, Copy, PartialEq, Eq)]
+#[derive(Clone, Copy)]
 pub enum SiteCall {
     /// The length was asked.
     Length,

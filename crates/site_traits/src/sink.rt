@@ -4,7 +4,7 @@ ghost use Rattle.site_traits.specs.Counts.{CallCounts};
 ghost use Rattle.site_traits.specs.Sink.{Puts, SinkCause};
 
 /// A put failed. The sink's count of faults rose by one in that call, or stands at its greatest value.
-#[derive(Clone, Copy, PartialEq, Eq, Drop)]
+#[derive(Clone, Copy, Drop)]
 pub struct SinkFailed;
 
 /// Takes the lines that the program prints.

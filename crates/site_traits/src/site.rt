@@ -7,7 +7,7 @@ use crate::jobs::{AbortAnswer, BeginAnswer, LookAnswer};
 use lcm_events::{Act, Tag};
 
 /// A disk call failed. The site's count of disk faults rose by one in that call, or stands at its greatest value.
-#[derive(Clone, Copy, PartialEq, Eq, Drop)]
+#[derive(Clone, Copy, Drop)]
 pub struct DiskFailed;
 
 /// The journal's file, and the jobs that an infrastructure does for the manager, in one, so that a stop leaves both of one moment.

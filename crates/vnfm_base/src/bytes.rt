@@ -7,7 +7,6 @@ use std::marker::Model;
 /// Bytes of any length.
 ///
 /// A contract sees them as a list.
-#[derive(Debug)]
 pub struct Bytes {
     content: Vec<u8>,
 }

@@ -7,7 +7,7 @@ ghost use Rattle.vnfm_base.specs.Ident.{ident, ident_text, IsIdentNumber, kind_b
 use uuid::Uuid;
 
 /// What an identifier names.
-#[derive(Clone, Copy, Debug, PartialEq, Eq)]
+#[derive(Clone, Copy, PartialEq, Eq)]
 pub enum Kind {
     Instance = 1,
     Occurrence = 2,

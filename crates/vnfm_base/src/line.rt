@@ -18,7 +18,6 @@ pub const LINE_MAX: usize = 2_048;
 /// A contract sees its bytes as a list.
 ///
 /// Source: own rule.
-#[derive(Debug)]
 pub struct Line {
     text: String,
 }

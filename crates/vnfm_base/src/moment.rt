@@ -15,7 +15,7 @@ pub const MAX_MOMENT: u64 = 253_402_300_799_999;
 /// A contract sees it as that number.
 ///
 /// Source: RFC 3339, whose years have four digits.
-#[derive(Clone, Copy, Debug, PartialEq, Eq, PartialOrd, Ord)]
+#[derive(Clone, Copy, PartialEq, Eq, PartialOrd, Ord)]
 pub struct Moment {
     milliseconds: u64,
 }

@@ -10,7 +10,6 @@ use thiserror::Error;
 /// A UTF-8 text of any length.
 ///
 /// A contract sees its bytes as a list.
-#[derive(Debug)]
 pub struct Text {
     text: String,
 }
