@@ -16,7 +16,9 @@ pub fn copied_line(line: &Option<Line>) -> Result<Option<Line>, AllocError>
     }
 }
 
-/// A copy of a filter.
+/// A copy of a filter, in memory of its own.
+///
+/// Source: own rule.
 pub fn copied_filter(alloc: Global, filter: &Filter) -> Result<Filter, AllocError>
     ensures { IfOk result (λ f. f ≡ filter.now) }
 {

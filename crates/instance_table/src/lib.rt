@@ -11,6 +11,7 @@ mod table;
 mod tops;
 mod work;
 
+pub use copies::copied_filter;
 pub use deliveries::tries_are_of_the_next_notice;
 pub use going::{Ending, Going, Placing};
 pub use rows::{InstanceRow, SubscriptionRow};
