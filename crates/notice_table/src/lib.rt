@@ -1,7 +1,6 @@
 //! The notices that wait for each live subscription: which place a post may name, event by event.
 #![tactic(auto)]
 
-mod copies;
 mod marks;
 mod queues;
 mod table;

@@ -11,8 +11,8 @@ ghost use Rattle.notice_table.specs.Rows.{IsWithin, after_row_post, asked, first
 ghost use Rattle.subscription_filter.specs.Facts.{facts_in};
 ghost use Rattle.vnfm_base.specs.Ident.{IsIdentNumber};
 
-use crate::copies::copied_filter;
 use crate::marks::Marks;
+use instance_table::copied_filter;
 use lcm_events::{Filter, PostOutcome};
 use std::alloc::{AllocError, Global};
 use std::collections::VecDeque;
