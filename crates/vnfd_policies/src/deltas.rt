@@ -1,10 +1,11 @@
 //! What each step of an aspect adds to a VDU, and why that is refused.
-ghost use Rattle.std.specs.Prelude.{◌≡◌, IfOk, IfSome, codes, find, is_some, map, option_map, option_and_then, [], unwrap_or, if◌then◌else◌, Some, None};
+ghost use Rattle.std.specs.Prelude.{◌≡◌, ◌++◌, IfOk, IfSome, codes, find, is_some, map, option_map, option_and_then, [], unwrap_or, if◌then◌else◌, Some, None};
 ghost use Rattle.std.specs.List.{list_all, list_any};
 ghost use Rattle.std.specs.Option.{option_map_or};
 ghost use Rattle.serde_json.specs.Find.{as_str, get};
 ghost use Rattle.serde_json.specs.View.{items_view, view};
 ghost use Rattle.vnfd_document.specs.Checks.{Refuses, fault_of, first_failing};
+ghost use Rattle.vnfd_document.specs.declared.fault.VnfdFault.TheVariants.{Wrong};
 ghost use Rattle.vnfd_document.specs.Json.{items_in};
 ghost use Rattle.vnfd_document.specs.Members.{needed};
 ghost use Rattle.vnfd_document.specs.Places.{property as the_property, targets as the_targets};
@@ -69,12 +70,26 @@ fn refuse_each<'a>(
     let mut taken: Vec<Cell> = Vec::new(alloc);
     for policy in policies {
         refuse_policy(alloc, vdus, aspects, steps, policy.value)?;
-        let cells = cells(alloc, vdus, policy.value)?;
-        if is_any_taken(taken.as_slice(), cells.as_slice()) {
-            return Err(VnfdFault::Wrong(label("deltas")));
-        }
-        taken.extend_from_slice(cells.as_slice())?;
+        take_cells(alloc, vdus, policy.value, &mut taken)?;
     }
+    Ok(())
+}
+
+/// Takes the aspects and VDUs that a policy gives deltas for. None of them is taken already.
+fn take_cells<'a>(
+    alloc: Global,
+    vdus: &[Entry<'a>],
+    policy: &'a Value,
+    taken: &mut Vec<Cell<'a>>,
+) -> Result<(), VnfdFault>
+    ensures refuses { Refuses result (if list_any (is_cell_in (map cell taken.old.items)) (the_cells (map seen vdus.now) (view policy.now)) then Some (Wrong (codes "deltas")) else None) }
+    ensures taken { IfOk result (λ done. map cell taken.new.items ≡ map cell taken.old.items ++ the_cells (map seen vdus.now) (view policy.now)) }
+{
+    let cells = cells(alloc, vdus, policy)?;
+    if is_any_taken(taken.as_slice(), cells.as_slice()) {
+        return Err(VnfdFault::Wrong(label("deltas")));
+    }
+    taken.extend_from_slice(cells.as_slice())?;
     Ok(())
 }
 
