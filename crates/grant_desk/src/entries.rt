@@ -3,7 +3,7 @@ ghost use Rattle.std.specs.Prelude.{◌≡◌, [], IfOk, OnOk, filter, map, opti
 ghost use Rattle.std.specs.List.{enumerate_from};
 ghost use Rattle.std.specs.Option.{option_map_or};
 ghost use Rattle.serde_json.specs.View.{members_view, view};
-ghost use Rattle.serde_json.specs.Data.{string};
+ghost use Rattle.serde_json.specs.Data.{put as with_member, string};
 ghost use Rattle.change_planner.specs.Acts.{template_name};
 ghost use Rattle.held_items.specs.Items.{AreInOrder, item_of};
 ghost use Rattle.lcm_model.specs.Grants.{change_id};
@@ -82,12 +82,28 @@ fn needed_members(
 {
     let id = change_id(alloc, k)?;
     let mut members = Map::new(alloc);
-    put(&mut members, alloc, "id", text_value(alloc, id.as_str())?)?;
-    let template = text_value(alloc, template_name(vnfd, def))?;
-    put(&mut members, alloc, "resourceTemplateId", template)?;
-    let word = text_value(alloc, type_word(def.kind))?;
-    put(&mut members, alloc, "type", word)?;
+    put_text(&mut members, alloc, "id", id.as_str())?;
+    put_text(
+        &mut members,
+        alloc,
+        "resourceTemplateId",
+        template_name(vnfd, def),
+    )?;
+    put_text(&mut members, alloc, "type", type_word(def.kind))?;
     Ok(members)
+}
+
+/// Puts a member that is a text.
+pub fn put_text(
+    members: &mut Map<String, Value>,
+    alloc: Global,
+    name: &str,
+    text: &str,
+) -> Result<(), AllocError>
+    ensures { OnOk result (members_view members.new.entries ≡ with_member name.now (string text.now) (members_view members.old.entries)) }
+{
+    let value = text_value(alloc, text)?;
+    put(members, alloc, name, value)
 }
 
 /// Puts a member that is there where there is a value of it.
@@ -106,7 +122,7 @@ fn put_where(
 }
 
 /// A text as a value.
-pub fn text_value(alloc: Global, text: &str) -> Result<Value, AllocError>
+fn text_value(alloc: Global, text: &str) -> Result<Value, AllocError>
     ensures { IfOk result (λ value. view value ≡ string text.now) }
 {
     Ok(Value::String(String::from_str(alloc, text)?))

@@ -8,7 +8,7 @@ ghost use Rattle.lcm_model.specs.Operations.{kind_of};
 ghost use Rattle.grant_desk.specs.Made.{text_members};
 ghost use Rattle.grant_desk.specs.Requests.{instance_id, links, occurrence_id, operation_word, request, request_text};
 
-use crate::entries::{entries_value, text_value};
+use crate::entries::{entries_value, put_text};
 use crate::parts::Part;
 use lcm_events::{Ask, Change, Holding, OpKind, Vnfd};
 use lcm_model::op_kind;
@@ -97,26 +97,18 @@ fn text_members(
     ensures { IfOk result (λ members. members_view members.entries ≡ text_members vnfd.now.flavour_id (operation_word (kind_of ask.now)) instance.now occ.now vnfd.now.descriptor_id) }
 {
     let mut members = Map::new(alloc);
-    let flavour = text_value(alloc, vnfd.flavour_id.as_str())?;
-    put(&mut members, alloc, "flavourId", flavour)?;
+    put_text(&mut members, alloc, "flavourId", vnfd.flavour_id.as_str())?;
     put(
         &mut members,
         alloc,
         "isAutomaticInvocation",
         Value::Bool(false),
     )?;
-    let operation = text_value(alloc, operation_word(op_kind(ask)))?;
-    put(&mut members, alloc, "operation", operation)?;
-    let instance = text_value(alloc, instance)?;
-    put(&mut members, alloc, "vnfInstanceId", instance)?;
-    put(
-        &mut members,
-        alloc,
-        "vnfLcmOpOccId",
-        text_value(alloc, occ)?,
-    )?;
-    let descriptor = text_value(alloc, vnfd.descriptor_id.as_str())?;
-    put(&mut members, alloc, "vnfdId", descriptor)?;
+    let operation = operation_word(op_kind(ask));
+    put_text(&mut members, alloc, "operation", operation)?;
+    put_text(&mut members, alloc, "vnfInstanceId", instance)?;
+    put_text(&mut members, alloc, "vnfLcmOpOccId", occ)?;
+    put_text(&mut members, alloc, "vnfdId", vnfd.descriptor_id.as_str())?;
     Ok(members)
 }
 
