@@ -1,0 +1,10 @@
+-- One step of the loop, and its end.
+use Rattle.std.proofs.Common.{arith}
+use Rattle.std.proofs.lemmas.Grind.{common_steps}
+use Rattle.vnfd_nodes.proofs.templates.described.Goals as goal
+
+pub loop-template-preserved : goal.loop-template-preserved
+loop-template-preserved c = grind (arith, common_steps)
+
+pub returns : goal.returns
+returns c = grind (arith, common_steps)
