@@ -1,0 +1,10 @@
+-- One step of the loop, and its end.
+use Rattle.std.proofs.Common.{arith}
+use Rattle.std.proofs.lemmas.Grind.{common_steps}
+use Rattle.change_planner.proofs.rolls.whole_without.Goals as goal
+
+pub loop-serial-preserved : goal.loop-serial-preserved
+loop-serial-preserved c = grind (arith, common_steps)
+
+pub returns : goal.returns
+returns c = grind (arith, common_steps)
