@@ -23,12 +23,15 @@ use Rattle.http_frames.proofs.GrowLaws.{message_more, chunked_within}
 use Rattle.http_frames.proofs.MessageLaws.{bad_grows, big_grows, head_cut, sized_cut, chunked_cut, chunked_bad, chunked_much, chunked_long}
 use Rattle.std.proofs.Common.{Bool, inr}
 use Rattle.std.specs.Prelude.{◌||◌}
+use Rattle.site_traits.specs.Counts.{Rose}
 use Rattle.site_traits.specs.Door.{DoorState, DoorCounts, NoNextFault}
 use Rattle.http_frames.specs.declared.chunks.Verdict.TheVariants as verdict
 use Rattle.http_frames.specs.Steps.{VerdictIs}
 use Rattle.http_wire.specs.declared.request.Request.{Request}
+use Rattle.http_wire.specs.declared.request.WireFault.{WireFault}
+use Rattle.http_wire.specs.declared.request.WireFault.TheVariants as fault
 use Rattle.http_wire.specs.Intake.{IntakeState, TakesIn, OnlyReads, NeedsMore}
-use Rattle.http_wire.specs.Wire.{bytes_of, window, HasParts, TakesRequest, OnlyTakesIn, WantsMemory}
+use Rattle.http_wire.specs.Wire.{bytes_of, window, FaultIs, HasParts, TakesRequest, OnlyTakesIn, WantsMemory}
 use Rattle.http_wire.specs.Wire.WantsMemory.{to_read_on, for_chunks, for_request}
 
 -- where no byte is left, the bytes are those that are held
@@ -59,6 +62,9 @@ pub head_breaks_off : (b : IntakeState) → HeadIs b.held answer.More → (b.hel
     → IsCut (bytes_of b) ⊎ EndsInTarget (bytes_of b)
 head_breaks_off b more some e =
     subst (λ (x : List ℕ). IsCut x ⊎ EndsInTarget x) (sym (all_held b e)) (head_cut b.held some more.0 more.1 more.2)
+
+pub malformed_grows : (b : IntakeState) → HeadIs b.held answer.Malformed → BeginsBad (bytes_of b)
+malformed_grows b h = head_is_grows b.held b.door.conn.left answer.Malformed (λ e. cc) h
 
 pub too_large_grows : (b : IntakeState) → HeadIs b.held answer.TooLarge → BeginsBig (bytes_of b) ⊎ IsLongTarget (bytes_of b)
 too_large_grows b h = head_is_grows b.held b.door.conn.left answer.TooLarge (λ e. cc) h
@@ -191,6 +197,14 @@ pub request_held : (b : IntakeState) (p : HeadParts) (content : List ℕ) (end :
     → ReadsMessage (bytes_of b) (record { head = h.head; body = content }) (drop end b.held ++ b.door.conn.left)
 request_held b p content end h has =
     message_more b.held (record { head = h.head; body = content }) (drop end b.held) b.door.conn.left (held_request b.held p content end h has)
+
+-- what a fault says of the bytes and of the counts, where none was counted before it
+pub fault_since : (tells : Type 0) (a m b : IntakeState) (f : WireFault) → m.counts ≡ a.counts → FaultIs tells m b f → FaultIs tells a b f
+fault_since tells a m b fault.Malformed same is = is
+fault_since tells a m b fault.TooLarge same is = is
+fault_since tells a m b fault.Unfinished same is = is
+fault_since tells a m b fault.Read same is = (subst (λ (c : DoorCounts). Rose c.faults b.counts.faults) same is.0, is.1)
+fault_since tells a m b fault.Memory same is = is
 
 -- ---- want of memory
 

@@ -19,12 +19,23 @@ use std::marker::Model;
 ///
 /// A contract sees what the door tells, its counts, the bytes that were read and belong to no request yet, the number of
 /// requests so far, and whether the last of them was the connection's last.
-#[derive(Drop)]
 pub struct Wire<D: Door> {
     intake: Intake<D>,
     room: Vec<HeaderSpan>,
     taken: u32,
     ended: bool,
+}
+
+impl<D: Door + Drop> Drop for Wire<D> {
+    // Written out, so that the proof of a caller calls it and doesn't take the value apart at each of its ends.
+    fn drop(self) {
+        let Wire {
+            intake: _,
+            room: _,
+            taken: _,
+            ended: _,
+        } = self;
+    }
 }
 
 impl<D: Door> Model for Wire<D> {

@@ -1,7 +1,7 @@
-use Rattle.std.proofs.Common.{List, ℕ, subst}
-use Rattle.http_wire.specs.Wire.{HasParts}
+use Rattle.std.proofs.Common.{List, ℕ, sym, ◌∙◌, subst}
+use Rattle.http_wire.specs.Wire.{HasParts, KeepsBytes}
 use Rattle.http_wire.proofs.IntakeLaws.{takes_on}
-use Rattle.http_wire.proofs.TakeLaws.{only_takes, only_takes_and_passes, takes_request, bytes_stay, wants_request}
+use Rattle.http_wire.proofs.TakeLaws.{only_takes, only_takes_and_passes, takes_request, bytes_stay, wants_request, fault_since}
 use Rattle.http_wire.proofs.take.take.Goals as goal
 
 pub returns-in-Err-take_body-clause-reads : goal.returns-in-Err-take_body-clause-reads
@@ -29,4 +29,22 @@ returns-in-Err-request_of-clause-came g c = (
   bytes_stay g.D.Door.tells c.args.intake.now c.take_body.new.intake
       (takes_on g.D.Door.tells c.args.intake.now c.take_head.new.intake c.take_body.new.intake c.in-Ok-Some.ensures.takes c.in-Ok.ensures.takes),
   wants_request c.take_body.new.intake.held c.in-Ok-Some.head c.in-Ok.whole.body.items c.in-Ok.whole.end c.in-Ok.ensures.head c.in-Ok.ensures.came.0,
+)
+
+pub returns-in-Ok-None-clause-came : goal.returns-in-Ok-None-clause-came
+returns-in-Ok-None-clause-came g c =
+    let stay : KeepsBytes g.D.Door.tells c.args.intake.now c.take_head.new.intake =
+    bytes_stay g.D.Door.tells c.args.intake.now c.take_head.new.intake c.in-Ok-None.ensures.takes in
+    let came = rw c.in-Ok-None.field-0-is at c.in-Ok-None.ensures.came in
+    (stay, λ told. sym (stay told) ∙ came told)
+
+pub returns-in-Err-clause-came : goal.returns-in-Err-clause-came
+returns-in-Err-clause-came g c = (bytes_stay g.D.Door.tells c.args.intake.now c.take_head.new.intake c.in-Err.ensures.takes, c.in-Err.ensures.came)
+
+pub returns-in-Err-take_body-clause-came : goal.returns-in-Err-take_body-clause-came
+returns-in-Err-take_body-clause-came g c = (
+  bytes_stay g.D.Door.tells c.args.intake.now c.take_body.new.intake
+      (takes_on g.D.Door.tells c.args.intake.now c.take_head.new.intake c.take_body.new.intake c.in-Ok-Some.ensures.takes c.in-Err-take_body.ensures.takes),
+  fault_since g.D.Door.tells c.args.intake.now c.take_head.new.intake c.take_body.new.intake c.in-Err-take_body.fault c.in-Ok-Some.ensures.counts
+      c.in-Err-take_body.ensures.came,
 )

@@ -18,3 +18,21 @@ returns-in-Err-from_slice-clause-came g c =
 pub returns-in-Chunked-clause-head : goal.returns-in-Chunked-clause-head
 returns-in-Chunked-clause-head g c =
     head_stays g.D.Door.tells c.args.intake.now c.take_chunked.new.intake c.args.head c.take_chunked.ensures.takes c.requires.head
+
+pub returns-in-Err-clause-takes : goal.returns-in-Err-clause-takes
+returns-in-Err-clause-takes g c = c.in-Err.ensures.takes
+
+pub returns-in-Err-clause-head : goal.returns-in-Err-clause-head
+returns-in-Err-clause-head g c = head_stays g.D.Door.tells c.args.intake.now c.take_sized.new.intake c.args.head c.in-Err.ensures.takes c.requires.head
+
+pub returns-in-Err-clause-came : goal.returns-in-Err-clause-came
+returns-in-Err-clause-came g c = c.in-Err.ensures.came
+
+pub returns-in-Err-clause-counts : goal.returns-in-Err-clause-counts
+returns-in-Err-clause-counts g c = c.in-Err.ensures.counts
+
+pub returns-in-Ok-from_slice-clause-head : goal.returns-in-Ok-from_slice-clause-head
+returns-in-Ok-from_slice-clause-head g c = head_stays g.D.Door.tells c.args.intake.now c.take_sized.new.intake c.args.head c.in-Ok.ensures.takes c.requires.head
+
+pub returns-in-Err-from_slice-clause-head : goal.returns-in-Err-from_slice-clause-head
+returns-in-Err-from_slice-clause-head g c = head_stays g.D.Door.tells c.args.intake.now c.take_sized.new.intake c.args.head c.in-Ok.ensures.takes c.requires.head

@@ -1,7 +1,8 @@
 use Rattle.std.proofs.Common.{List, ℕ, length, ap, sym, ◌∙◌, subst}
 use Rattle.http_frames.specs.Heads.{HeadIs}
 use Rattle.http_frames.specs.declared.head.Head.TheVariants as answer
-use Rattle.http_wire.proofs.TakeLaws.{too_large_grows, head_needs_more, head_breaks_off, no_byte, wants_to_read}
+use Rattle.http_wire.proofs.IntakeLaws.{takes_on}
+use Rattle.http_wire.proofs.TakeLaws.{malformed_grows, too_large_grows, head_needs_more, head_breaks_off, no_byte, wants_to_read}
 use Rattle.http_wire.proofs.take.take_head.Goals as goal
 
 pub returns-in-TooLarge-clause-came : goal.returns-in-TooLarge-clause-came
@@ -29,3 +30,22 @@ read_on-requires-clause-up g c = c.looks.invariant.0.counts.up ∙ c.requires.up
 pub returns-in-Err-clause-came : goal.returns-in-Err-clause-came
 returns-in-Err-clause-came g c = wants_to_read c.looks.intake c.read_on.new.self c.in-Err.ensures.came
     (head_needs_more c.looks.intake.held (subst (λ (x : List ℕ). HeadIs x answer.More) c.held-held.ensures c.in-More.ensures))
+
+pub returns-in-Malformed-clause-came : goal.returns-in-Malformed-clause-came
+returns-in-Malformed-clause-came g c = λ told.
+    malformed_grows c.looks.intake (subst (λ (x : List ℕ). HeadIs x answer.Malformed) c.held-held.ensures c.in-Malformed.ensures)
+
+pub looks-preserved : goal.looks-preserved
+looks-preserved g c = (
+  takes_on g.D.Door.tells c.args.intake.now c.looks.intake c.read_on.new.self c.looks.invariant.0 c.in-Ok-Bytes.ensures.takes,
+  (rw c.in-Ok-Bytes.field-0-is at c.in-Ok-Bytes.ensures.came).1 ∙ c.looks.invariant.1,
+)
+
+pub returns-in-Ok-End-clause-takes : goal.returns-in-Ok-End-clause-takes
+returns-in-Ok-End-clause-takes g c = takes_on g.D.Door.tells c.args.intake.now c.looks.intake c.read_on.new.self c.looks.invariant.0 c.in-Ok-End.ensures.takes
+
+pub returns-in-Ok-End-2-clause-takes : goal.returns-in-Ok-End-2-clause-takes
+returns-in-Ok-End-2-clause-takes g c = takes_on g.D.Door.tells c.args.intake.now c.looks.intake c.read_on.new.self c.looks.invariant.0 c.in-Ok-End.ensures.takes
+
+pub returns-in-Ok-Failed-clause-takes : goal.returns-in-Ok-Failed-clause-takes
+returns-in-Ok-Failed-clause-takes g c = takes_on g.D.Door.tells c.args.intake.now c.looks.intake c.read_on.new.self c.looks.invariant.0 c.in-Ok-Failed.ensures.takes
