@@ -1,5 +1,5 @@
 -- Where the records of a file stand.
-use Rattle.std.proofs.Common.{◌≡◌, ◌∙◌, sym, ap, subst, ℕ, zero, suc, ◌+◌, ◌-◌, ◌≤◌, ◌<◌, List, [], ◌∷◌, ◌++◌, length, take, drop, get_or, All, append_assoc, length-append, length-drop, refl, arith}
+use Rattle.std.proofs.Common.{◌≡◌, ◌∙◌, sym, ap, subst, ℕ, zero, suc, ◌+◌, ◌-◌, ◌≤◌, ◌<◌, List, [], ◌∷◌, ◌++◌, length, take, drop, get_or, All, Option, Some, append_assoc, length-append, length-drop, refl, arith}
 use Rattle.std.proofs.lemmas.List.{drop_at, take_at, take_more, drop-drop}
 use Rattle.std.proofs.lemmas.Nat.{from_be_bytes-to_be_bytes_4}
 use Rattle.std.specs.Int.{w32, to_be_bytes, from_be_bytes}
@@ -72,6 +72,18 @@ stands_at n end k place a b has reads lt is =
     let P : List ℕ → Type 0 = λ v. HasAt place end bytes v in
     let Q : ℕ → Type 0 = λ v. HasAt v end bytes a.image in
     subst P (sym reads.same) (subst Q (sym is) (has_at has.manager k end (records a.image) a.image has.file lt has.gate))
+
+-- what was found is one number
+pub one_number : (found : Option ℕ) (n m : ℕ) → found ≡ Some n → found ≡ Some m → n ≡ m
+one_number found n m is other = cc
+
+-- and so does record n, where its place was found
+pub record_at : (n end place : ℕ) (found : Option ℕ) (a b : SiteState) → HasRecord n end a.image → Reads a b → found ≡ Some place
+    → found ≡ Some (size (take (n - 1) (records a.image))) → HasAt place end (get_or (records a.image) (n - 1) []) b.image
+record_at n end place found a b has reads is found_is =
+    let some = has.some in
+    let within = has.within in
+    stands_at n end (n - 1) place a b has reads (omega arith) (one_number found place _ is found_is)
 
 -- its bytes stand behind its head
 pub bytes_behind : (place end n : ℕ) (bytes image : List ℕ) → HasAt place end bytes image → n ≡ length bytes → take n (drop (place + 5) image) ≡ bytes

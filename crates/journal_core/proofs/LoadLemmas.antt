@@ -1,5 +1,5 @@
 -- The steps of a loading: one record more, the end, and what a read keeps.
-use Rattle.std.proofs.Common.{Result, Err, ◌≡◌, ◌∙◌, sym, ap, subst, ℕ, ◌+◌, List, [], ◌∷◌, ◌++◌, length, take, drop, append_assoc, All, length-take, length-drop, refl, arith}
+use Rattle.std.proofs.Common.{Result, Err, ◌≡◌, ◌≤◌, ◌<◌, ◌∙◌, sym, ap, subst, false, ℕ, ◌+◌, ◌*◌, List, [], ◌∷◌, ◌++◌, length, take, drop, append_assoc, All, length-take, length-drop, refl, arith}
 use Rattle.std.specs.Int.{w32, to_be_bytes}
 use Rattle.std.proofs.lemmas.Nat.{be_bytes_4}
 use Rattle.std.proofs.lemmas.List.{take-append-drop, drop-drop, length_push, append-nil}
@@ -8,8 +8,8 @@ use Rattle.site_traits.specs.Site.{SiteState, IsSettled, KeepsJobs, Same, Syncs,
 use Rattle.site_traits.specs.Moments.{keeps_one, on_file-reads, reads-then}
 use Rattle.journal_records.specs.File.{header, framed, blocks, size, IsRecord, HasRecords}
 use Rattle.journal_core.specs.Header.{HasHeader}
-use Rattle.journal_records.specs.Head.{number, IsClosed, IsOpen, BeginsWith}
-use Rattle.journal_core.specs.Load.{Progress, Loads, LoadsAll, SyncsAndReads, Finds, Loaded}
+use Rattle.journal_records.specs.Head.{number, IsClosed, IsOpen, EndsWithin, BeginsWith}
+use Rattle.journal_core.specs.Load.{Progress, Loads, LoadsAll, ReadsOn, SyncsAndReads, Finds, Loaded}
 use Rattle.site_traits.specs.Counts.{SiteCounts}
 use Rattle.journal_core.specs.Asking.{FailsWhere}
 use Rattle.journal_core.specs.declared.loading.LoadFault.{LoadFault}
@@ -95,6 +95,23 @@ loads_more rs l k n a b loads reads open_gate is manager count end len keeps =
       marks = keeps (marks_more rs bytes l.marks loads.marks) (mark_end rs bytes (mark_behind l) loads.count loads.end);
     } in
     loads_kept (rs ++ bytes ∷ []) mid k a b more reads manager refl refl refl refl
+
+-- what one record more leaves, by what its head said of it
+pub grows_more : (l k : Progress) (n : ℕ) → EndsWithin l.end l.len n → length k.record_bytes ≡ n → k.manager ≡ l.manager → k.count ≡ l.count + 1 → k.end ≡ l.end + (5 + n)
+    → k.ended ≡ false → ReadsOn l k
+grows_more l k n ends many manager count end ended = record {
+  manager = manager;
+  record_is = record { some = omega (arith, ends.some); fits = omega (arith, ends.fits) };
+  count = count;
+  end = omega arith;
+  small = omega (arith, ends.small);
+  ended = ended;
+}
+
+-- its place and the number of records stay within the file and its limit
+pub within_more : (count end len n : ℕ) → count * 6 ≤ end → EndsWithin end len n
+    → (end + (5 + n) < 268435456) × ((count + 1) * 6 ≤ end + (5 + n)) × (end + (5 + n) ≤ len) × (n ≤ 65536)
+within_more count end len n few ends = (omega (arith, ends.small), omega (arith, ends.some), omega (arith, ends.whole), ends.fits)
 
 -- the closed gate behind the records
 pub loads_end : (rs : List (List ℕ)) (l k : Progress) (a b : SiteState) → Loads rs l a → Reads a b → IsClosed (drop l.end a.image)

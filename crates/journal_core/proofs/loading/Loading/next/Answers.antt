@@ -1,9 +1,9 @@
 use Rattle.std.proofs.Common.{◌≡◌, ◌∙◌, ◌+◌, sym, ap, subst, refl, take, drop, length, ◌++◌, ◌∷◌, [], arith, true, false}
-use Rattle.std.proofs.lemmas.List.{take_at}
+use Rattle.std.proofs.lemmas.List.{take_at, length-take-le}
 use Rattle.journal_records.specs.declared.head.Head.{Head}
-use Rattle.journal_records.specs.Head.{HeadIs}
-use Rattle.journal_core.specs.Load.{Progress, Loads}
-use Rattle.journal_core.proofs.LoadLemmas.{loads_more, loads_end}
+use Rattle.journal_records.specs.Head.{HeadIs, HeadEnds}
+use Rattle.journal_core.specs.Load.{Progress, Loads, ReadsOn}
+use Rattle.journal_core.proofs.LoadLemmas.{loads_more, loads_end, grows_more, within_more}
 use Rattle.site_traits.specs.Moments.{reads-then}
 use Rattle.journal_core.proofs.loading.Loading.next.Goals as goal
 
@@ -42,3 +42,31 @@ returns-in_err-bytes_at-in-Open-clause-told g c = λ tells. reads-then _ _ _ (c.
 
 pub returns-in_ok-bytes_at-in-Open-clause-told : goal.returns-in_ok-bytes_at-in-Open-clause-told
 returns-in_ok-bytes_at-in-Open-clause-told g c = λ tells. reads-then _ _ _ (c.head_at.ensures.told tells) (c.bytes_at.ensures.told tells)
+
+pub returns-in_ok-bytes_at-in-Open-clause-grown : goal.returns-in_ok-bytes_at-in-Open-clause-grown
+returns-in_ok-bytes_at-in-Open-clause-grown g c =
+    let i = c.self.inside in
+    let n = c.in-Open.size in
+    let buffer = take i.buffer.len (c.bytes_at.new.buffer ++ drop (length c.bytes_at.new.buffer) i.buffer.items) in
+    let l : Progress = record { manager = i.manager; count = i.count; end = i.end; len = i.len; record_bytes = take i.size i.buffer.items; ended = i.ended; marks = i.marks.places } in
+    let k : Progress = record { manager = i.manager; count = i.count + 1; end = i.end + (5 + n); len = i.len; record_bytes = take n buffer; ended = false; marks = c.keep.new.self.places } in
+    let P : Progress → Type 0 = λ v. ReadsOn v k in
+    let Q : Head → Type 0 = λ v. HeadEnds i.end i.len v in
+    let ends = subst Q c.in-Open.is c.in_ok-head_at.ensures.ends in
+    let fits = ends.fits in
+    let whole : length buffer ≡ 65541 = ap length (take_at c.bytes_at.new.buffer (drop (length c.bytes_at.new.buffer) i.buffer.items) i.buffer.len (omega arith)) ∙ omega arith in
+    subst P c.self.view_is (grows_more l k n ends (length-take-le n buffer (omega arith)) refl refl refl refl)
+
+pub invariant_of-self-in-Open : goal.invariant_of-self-in-Open
+invariant_of-self-in-Open g c =
+    let i = c.self.inside in
+    let Q : Head → Type 0 = λ v. HeadEnds i.end i.len v in
+    let within = within_more i.count i.end i.len c.in-Open.size c.self.invariant.2 (subst Q c.in-Open.is c.in_ok-head_at.ensures.ends) in
+    rw (take_at c.bytes_at.new.buffer (drop (length c.bytes_at.new.buffer) i.buffer.items) i.buffer.len (omega arith))
+    (omega arith, within.0, within.1, within.2, within.3, omega arith)
+
+pub invariant_of-self-in_err-bytes_at-in-Open : goal.invariant_of-self-in_err-bytes_at-in-Open
+invariant_of-self-in_err-bytes_at-in-Open g c =
+    let i = c.self.inside in
+    rw (take_at c.bytes_at.new.buffer (drop (length c.bytes_at.new.buffer) i.buffer.items) i.buffer.len (omega arith))
+    (omega arith, c.self.invariant.1, c.self.invariant.2, c.self.invariant.3, c.self.invariant.4, c.self.invariant.5)
