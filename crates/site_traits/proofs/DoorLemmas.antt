@@ -1,14 +1,18 @@
 -- The plans of a door, one after the other made ready from the last on.
-use Rattle.std.proofs.Common.{◌≡◌, ◌≤◌, ◌<◌, ◌⊎◌, ◌∙◌, ap, sym, subst, inl, inr, ℕ, ◌+◌, ◌-◌, List, [], ◌∷◌, ◌++◌, length, take, get_or, refl, arith, Bool, not}
+use Rattle.std.proofs.Common.{◌≡◌, ◌≤◌, ◌<◌, ◌⊎◌, ◌∙◌, ap, sym, subst, inl, inr, ℕ, ◌+◌, ◌-◌, List, [], ◌∷◌, ◌++◌, length, take, get_or, refl, arith, Bool, not, Option, Some}
 use Rattle.std.proofs.lemmas.List.{take_at, take-take, get_or-take, get_or_push, get_or_append_left, length_push}
 use Rattle.std.proofs.lemmas.Bool.{cases_lt}
+use Rattle.std.proofs.lemmas.Option.{slice_get_read}
 use Rattle.site_traits.specs.declared.mem_door.DoorPlan.{DoorPlan}
 use Rattle.site_traits.specs.declared.mem_door.Planned.{Planned}
 use Rattle.site_traits.specs.Counts.{one_more}
 use Rattle.site_traits.specs.Door.{DoorCounts, ReadCause, WriteCause, call_failed}
 use Rattle.site_traits.specs.declared.door.ReadAnswer.TheVariants as read
 use Rattle.site_traits.specs.declared.door.WriteAnswer.TheVariants as write
-use Rattle.site_traits.specs.DoorPlans.{IsReady}
+use Rattle.site_traits.specs.declared.door.NextAnswer.{NextAnswer}
+use Rattle.site_traits.specs.declared.mem_door.MemDoor.{MemDoor}
+use Rattle.site_traits.specs.DoorPlans.{IsReady, Does, next_of, rest_of, calls_after}
+use Rattle.site_traits.specs.MemDoor.{RunsNext}
 
 -- the plans that are left, once the last of them is taken
 pub left-less : (all left rest : List DoorPlan) (plan : DoorPlan) → left ≡ rest ++ plan ∷ [] → left ≡ take (length left) all → rest ≡ take (length rest) all
@@ -69,3 +73,24 @@ pub failed_counts : (faults more next : ℕ) (was is : Bool) → more ≡ one_mo
 failed_counts faults more next was is rose same =
     let P : ℕ → Type 0 = λ v. ◌≡◌ {A = DoorCounts} (record { faults = v; next = next; up = not is }) (call_failed (record { faults = faults; next = next; up = not was })) in
     subst P (sym rose) (ap (λ (v : Bool). record { faults = one_more faults; next = next; up = not v }) same)
+
+-- what was taken from the end comes next, and the others are left
+next_popped : (all rest : List Planned) (p : Planned) → all ≡ rest ++ p ∷ [] → (next_of all ≡ Some p) × (rest ≡ rest_of all)
+next_popped all rest p split =
+    let long : length all ≡ length rest + 1 = ap length split ∙ length_push rest p in
+    let last : length all - 1 ≡ length rest = omega (arith, long) in (
+      slice_get_read all (length all) (length all - 1) p refl (omega (arith, long))
+          (sym (ap (λ (v : List Planned). get_or v (length all - 1) p) split ∙ get_or_push rest p p (length all - 1) (sym last))),
+      sym (ap (take (length all - 1)) split ∙ take_at rest (p ∷ []) (length all - 1) (sym last)),
+    )
+
+-- `next` does what comes next where the calls aren't spent
+pub runs_next : (answer : NextAnswer) (old new : MemDoor) (p : Planned) → ¬ (1048576 ≤ old.calls) → old.plans.items ≡ new.plans.items ++ p ∷ [] → Does (Some p) answer new.conn
+    → new.calls ≡ calls_after old.calls → RunsNext answer old new
+runs_next answer old new p more split does calls =
+    let popped = next_popped old.plans.items new.plans.items p split in
+    record {
+      spent = λ spent. absurd (more spent);
+      does = λ _. (subst (λ (v : Option Planned). Does v answer new.conn) (sym popped.0) does, popped.1);
+      calls = calls;
+    }

@@ -1,5 +1,5 @@
 -- What a site in memory tells of a call on its jobs, by what is on record of it.
-use Rattle.std.proofs.Common.{◌⊎◌, ◌∙◌, sym, ap, subst, ⊎_elim, refl, ℕ, ◌+◌, List, [], map, length}
+use Rattle.std.proofs.Common.{◌⊎◌, ◌∙◌, sym, ap, subst, ⊎_elim, refl, ℕ, ◌≡◌, ◌+◌, List, [], ◌∷◌, ◌++◌, map, length}
 use Rattle.std.proofs.lemmas.List.{length-map}
 use Rattle.lcm_events.specs.declared.acts.Act.{Act}
 use Rattle.lcm_events.specs.declared.attempts.Tag.{Tag}
@@ -18,7 +18,8 @@ use Rattle.site_traits.specs.Log.{Recorded}
 use Rattle.site_traits.specs.Site.{SiteState, Begins, Looks, Aborts}
 use Rattle.site_traits.specs.Disk.{kept, change_of, told_by}
 use Rattle.site_traits.specs.Jobs.{begin_answered, look_answered, abort_answered}
-use Rattle.site_traits.specs.KeptJobs.{begin_of, look_of, found_of, latest_of, latest_changed, looked, aborted_at}
+use Rattle.site_traits.specs.declared.mem_jobs.KeptJob.{KeptJob}
+use Rattle.site_traits.specs.KeptJobs.{arrived, begin_of, look_of, found_of, latest_of, latest_changed, looked, aborted_at}
 use Rattle.site_traits.specs.Past.{Stays, IsBegun, IsNotBegun, BeginsBy, IsLookedAt, IsAborted, answers_of, arrival_by}
 use Rattle.site_traits.specs.Book.{LooksAt, LooksInVain, AbortsAt, AbortsInVain}
 use Rattle.site_traits.proofs.DiskLemmas.{jobs_with, begin_push, look_push, abort_push, on_record, unchanged, early_calls}
@@ -109,3 +110,8 @@ aborts_told first tag answer old new aborts =
     ⊎_elim (λ (at : AbortsAt tag answer old new). aborted_told first tag answer old.past new.past at.aborts)
     (λ (vain : AbortsInVain answer old new). subst P (sym vain.answered) (past_stays (λ s. Aborts tag abort.Failed a s) first old.past new.past vain.stays (lost_abort tag a)))
     aborts
+
+-- the job that is put last is the one that arrives
+pub arrives_last : (tag : Tag) (act copy : Act) (plan : JobPlan) (now at place : ℕ) (jobs : List KeptJob) → copy ≡ act → at ≡ now → place ≡ length jobs + 1
+    → jobs ++ record (arrived tag copy plan at jobs) { place = place } ∷ [] ≡ jobs ++ arrived tag act plan now jobs ∷ []
+arrives_last tag act copy plan now at place jobs same moment behind = cc
