@@ -1,10 +1,13 @@
 -- One plan more of an orchestrator in memory.
-use Rattle.std.proofs.Common.{◌≡◌, ◌∷◌, ◌++◌, [], ℕ, List, take, get_or, length, ◌<◌, ◌+◌, ap, ◌∙◌, Option, Some, None, refl, option_to_list}
+use Rattle.std.proofs.Common.{◌≡◌, ◌∷◌, ◌++◌, [], ℕ, List, take, get_or, length, ◌<◌, ◌+◌, ap, ◌∙◌, ◌↔◌, Option, Some, None, IsSome, sym, subst, refl, arith, option_to_list}
+use Rattle.std.specs.Prelude.{option_and_then}
 use Rattle.std.specs.List.{filter_map}
+use Rattle.std.proofs.lemmas.Option.{slice_get_read}
 use Rattle.std.proofs.lemmas.List.{take_more, append-nil, map_push}
 use Rattle.std.proofs.lemmas.List.Elements.{filter_map-append}
 use Rattle.site_traits.specs.Answer.{Answer}
-use Rattle.site_traits.specs.MemPeers.{answer_of, answers_of, bytes_of}
+use Rattle.site_traits.specs.MemPeers.{answer_of, answers_of, bytes_of, next_answer, place_after}
+use Rattle.site_traits.specs.declared.orchestrator.Call.TheVariants as call
 use Rattle.site_traits.specs.declared.mem_orchestrator.GrantPlan.{GrantPlan}
 
 -- the answer of one plan
@@ -39,3 +42,23 @@ answers-failed plans i plan lt is gives =
 pub bytes-more : {T : Type 0} (calls new : List (T × List ℕ)) (what : T) (bytes : List ℕ) → new ≡ calls ++ (what, bytes ++ []) ∷ [] → bytes_of new ≡ bytes_of calls ++ bytes ∷ []
 bytes-more {T} calls new what bytes is =
     ap bytes_of is ∙ map_push (λ (c : T × List ℕ). c.1) calls (what, bytes ++ []) ∙ ap (λ (b : List ℕ). bytes_of calls ++ b ∷ []) (append-nil bytes)
+
+-- the answer that the plan at this place has
+pub answer-here : (plans : List GrantPlan) (i : ℕ) (plan : GrantPlan) → i < length plans → get_or plans i plan ≡ plan → next_answer plans i ≡ answer_of plan
+answer-here plans i plan lt is = ap (option_and_then answer_of) (slice_get_read plans (length plans) i plan refl lt (sym is))
+
+-- a plan without an answer is used, and serves no call
+pub place-used : (plans : List GrantPlan) (i : ℕ) → i < length plans → next_answer plans i ≡ None → i + 1 ≡ place_after call.Failed (next_answer plans i) i (length plans)
+place-used plans i lt none =
+    let P : Option Answer → Type 0 = λ o. i + 1 ≡ place_after call.Failed o i (length plans) in
+    subst P (sym none) (omega arith)
+
+pub none-served : (P : Type 0) (o : Option Answer) → o ≡ None → (call.Failed ≡ call.Came) ↔ (IsSome o × P)
+none-served P None none = (λ came. absurd (cc came), λ both. absurd (cc both.0))
+none-served P (Some answer) none = absurd (cc none)
+
+-- one with an answer stays where the call fails
+pub place-stays : (plans : List GrantPlan) (i : ℕ) (answer : Answer) → next_answer plans i ≡ Some answer → i ≡ place_after call.Failed (next_answer plans i) i (length plans)
+place-stays plans i answer some =
+    let P : Option Answer → Type 0 = λ o. i ≡ place_after call.Failed o i (length plans) in
+    subst P (sym some) refl
