@@ -19,6 +19,7 @@ use Rattle.site_traits.specs.declared.mem_site.Choice.{Choice}
 use Rattle.site_traits.specs.declared.mem_site.Choice.TheVariants as choice
 use Rattle.site_traits.specs.Jobs.{Job, Advances, Arrives, MayArrive, BeginsAs, LooksAs, Answered, unanswered, begin_answered, look_answered, abort_answered}
 use Rattle.site_traits.specs.KeptJobs.{jobs_of, jobs_at, IsEarly, begin_of, arrives, arrived, look_of, found_of, latest_of, latest_changed, looked, aborted_at, is_of, first_changed}
+use Rattle.site_traits.specs.Log.{Recorded, with_call}
 use Rattle.site_traits.specs.Past.{answered_by, answers_of}
 use Rattle.site_traits.specs.Advancing.{advances-refl}
 use Rattle.site_traits.proofs.KeptLemmas.{GoesTo, AllGo, all_same, all_changed, all_reversed, jobs_advance, jobs_before, jobs_there, jobs_later, looks_as, go_looked, go_aborted}
@@ -452,3 +453,12 @@ stopped_allowed ch first image log js jobs k le is jobs_are =
       reached = (let P : List ℕ → Type 0 = λ v. Reaches d.base d.pending v in subst P (sym (is ∙ ap (stopped_image ch first) same)) (chosen_reached ch d.base d.pending));
       jobs_are = jobs_are;
     }
+
+-- what a read gives stays, whether a call that leaves it is put on record or not
+pub seen_stays : (first file : List ℕ) (what : SiteCall) (came : Bool) (old new : Recorded SiteCall) → ((d : Disk) → (after d (change_of (what, []))).seen ≡ d.seen)
+    → new ≡ (if came then with_call what [] old else old) → file ≡ (disk first (map change_of old.calls)).seen → file ≡ (disk first (map change_of new.calls)).seen
+seen_stays first file what true old new same is was =
+    was ∙ sym (ap (λ (r : Recorded SiteCall). (disk first (map change_of r.calls)).seen) is
+    ∙ ap (λ (cs : List Change). (disk first cs).seen) (map_push change_of old.calls (what, []))
+    ∙ seen_push first (map change_of old.calls) (change_of (what, [])) ∙ same (disk first (map change_of old.calls)))
+seen_stays first file what false old new same is was = was ∙ sym (ap (λ (r : Recorded SiteCall). (disk first (map change_of r.calls)).seen) is)
