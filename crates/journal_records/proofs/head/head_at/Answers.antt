@@ -1,6 +1,6 @@
 use Rattle.site_traits.specs.Moments.{reads-refl}
-use Rattle.std.proofs.Common.{◌≡◌, ◌+◌, min, ◌≤◌, length, drop, [], ◌∷◌, arith}
-use Rattle.std.proofs.lemmas.List.{length-drop}
+use Rattle.std.proofs.Common.{◌≡◌, ◌+◌, min, ◌≤◌, length, drop, [], ◌∷◌, inl, arith}
+use Rattle.std.proofs.lemmas.List.{length-drop, nil_from_length}
 use Rattle.journal_records.proofs.ByteLemmas.{read_front}
 use Rattle.journal_records.proofs.head.head_at.Goals.{then-len-end-lt5, else-len-end-lt5}
 use Rattle.journal_records.proofs.head.head_at.Goals as goal
@@ -19,3 +19,9 @@ returns-clause-head g c = λ tells.
 
 pub returns-then-end-len-clause-told : goal.returns-then-end-len-clause-told
 returns-then-end-len-clause-told g c = λ tells. reads-refl _
+
+pub returns-then-end-len-clause-head : goal.returns-then-end-len-clause-head
+returns-then-end-len-clause-head g c = λ tells.
+    let image = (g.S.Site.state c.args.site.now).image in
+    let long = c.requires.long tells in
+    inl (nil_from_length (drop c.args.end image) (omega (arith, length-drop c.args.end image)))
