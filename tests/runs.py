@@ -117,7 +117,7 @@ def change(kind, template, vdu, serial):
     return u8(kind) + u8(0) + u8(kind) + u16(template) + u16(vdu) + u32(serial)
 
 
-TEMPLATES = ("net_data", "net_mgmt"), ("STO_A", "STO_B"), ("VDU_A", "VDU_B"), ("CP_A_data", "CP_A_mgmt", "CP_B_mgmt")
+TEMPLATES = dict(link=("net_data", "net_mgmt"), storage=("STO_A", "STO_B"), port=("CP_A_data", "CP_A_mgmt", "CP_B_mgmt"))
 MACHINES = "VDU_A", "VDU_B"
 # Of what each change of it is made: the number of the change that makes the disk of a machine, and the machine and the network of a port.
 MADE_OF = [(), (), (), (), (), (2,), (3,), (4,), (5, 0), (5, 1), (6, 0), (6, 1), (7, 1)]
@@ -126,8 +126,10 @@ MADE_OF = [(), (), (), (), (), (2,), (3,), (4,), (5, 0), (5, 1), (6, 0), (6, 1),
 def does_change(place, verb, number, serial, *on):
     """The job at this place does this to what a change of that plan makes."""
     kind, template, vdu, _ = PLAN[number]
-    kinds = "link", "storage", "compute", "port"
-    return does(place, verb, kinds[kind], TEMPLATES[kind][template], "" if vdu == NO_VDU else MACHINES[vdu], serial, *on)
+    word = ("link", "storage", "compute", "port")[kind]
+    machine = "" if vdu == NO_VDU else MACHINES[vdu]
+    # (what a machine is made of is the VDU itself)
+    return does(place, verb, word, TEMPLATES[word][template] if word in TEMPLATES else machine, machine, serial, *on)
 
 
 def makes(place, number, serial=None, jobs=0):

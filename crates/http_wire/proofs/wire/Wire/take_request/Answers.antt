@@ -32,9 +32,12 @@ few_so_far tells n a b r within takes goes_on = let last = takes.last in grind (
 pub invariant_of-self : goal.invariant_of-self
 invariant_of-self g c =
     let within : c.self.inside.taken + 1 ≤ CONNECTION_REQUESTS = omega (arith, c.self.invariant.2 c.if-self.false) in
-    rw (take_at c.take.new.room (drop (length c.take.new.room) c.self.inside.room.items) c.self.inside.room.len (omega arith))
-    (omega arith, within, few_so_far g.D.Door.tells (c.self.inside.taken + 1) c.self.inside.intake c.take.new.intake c.in-Ok-Some.request within
-        (rw c.in-Ok-Some.field-0-is at c.in-Ok-Some.ensures.came))
+    rw (take_at c.take.new.room (drop (length c.take.new.room) c.self.inside.room.items) c.self.inside.room.len (omega arith)) (
+      omega arith,
+      within,
+      few_so_far g.D.Door.tells (c.self.inside.taken + 1) c.self.inside.intake c.take.new.intake c.in-Ok-Some.request within
+          (rw c.in-Ok-Some.field-0-is at c.in-Ok-Some.ensures.came),
+    )
 
 pub invariant_of-self-in-Ok-None : goal.invariant_of-self-in-Ok-None
 invariant_of-self-in-Ok-None g c =

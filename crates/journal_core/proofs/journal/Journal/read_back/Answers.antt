@@ -1,3 +1,4 @@
+use Rattle.std.proofs.lemmas.Grind.{common_steps}
 use Rattle.std.proofs.Common.{◌≡◌, ◌∙◌, ◌+◌, ◌++◌, take, drop, length, ℕ, List, All, Option, sym, ap, subst, arith}
 use Rattle.std.proofs.lemmas.List.{take_at}
 use Rattle.std.proofs.lemmas.List.Elements.{All-cons, All-tail}
@@ -39,3 +40,12 @@ returns-clause-jobs g c = λ tells. reading_keeps _ _ (c.in_ok-found.ensures.tol
 
 pub returns-in_err-found-clause-jobs : goal.returns-in_err-found-clause-jobs
 returns-in_err-found-clause-jobs g c = λ tells. reading_keeps _ _ (c.record_from.ensures.told tells)
+
+pub invariant_of-self : goal.invariant_of-self
+invariant_of-self g c = grind (arith, common_steps)
+
+pub invariant_of-self-in_default : goal.invariant_of-self-in_default
+invariant_of-self-in_default g c = grind (arith, common_steps)
+
+pub invariant_of-self-2 : goal.invariant_of-self-2
+invariant_of-self-2 g c = grind (arith, common_steps)

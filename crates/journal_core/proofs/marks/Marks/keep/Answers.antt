@@ -1,3 +1,4 @@
+use Rattle.std.proofs.lemmas.Grind.{common_steps}
 use Rattle.std.proofs.Common.{◌≡◌, ◌∙◌, ap, sym, subst, refl, ℕ, ◌+◌, List, All, arith}
 use Rattle.std.proofs.lemmas.List.Elements.{All-push}
 use Rattle.journal_core.specs.declared.marks.Mark.{Mark}
@@ -22,3 +23,6 @@ returns-clause-marks c = λ rs all mark.
     let P : List Mark → Type 0 = λ v. All (IsMark rs) v in
     let was = subst P (sym (ap (λ (k : Kept). k.places) c.self.view_is)) all in
     subst P (sym c.push_reserved.ensures.items) (All-push (IsMark rs) c.make_room-self-inside.new.kept.items c.args.mark (c.make_room-self-inside.ensures.marks rs was) mark)
+
+pub make_room-self-inside-requires-clause-next : goal.make_room-self-inside-requires-clause-next
+make_room-self-inside-requires-clause-next c = grind (arith, common_steps)

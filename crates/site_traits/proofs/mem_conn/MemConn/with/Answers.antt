@@ -1,3 +1,4 @@
+use Rattle.std.proofs.lemmas.Grind.{common_steps}
 use Rattle.std.proofs.Common.{◌≡◌, ◌∙◌, ◌∷◌, [], ◌++◌, ap, sym, length, arith}
 use Rattle.std.specs.List.{concat}
 use Rattle.std.proofs.lemmas.List.{take_all}
@@ -31,3 +32,6 @@ invariant_of-result c =
           (was.bytes ∙ ap concat (take_all c.loop-piece.piece-index pieces (omega (arith, all)))) have;
       passed = λ k lt. omega (arith, lt);
     }
+
+pub returns-clause-plan : goal.returns-clause-plan
+returns-clause-plan c = grind (arith, common_steps)
