@@ -4,11 +4,20 @@ use crate::commands::command_of;
 use crate::stage::Stage;
 use case_lives::{CaseFault, list, part, truth, word};
 use command_line::{Settings, SettingsFault, settings};
+use lcm_events::Role;
 use outside_edges::WhyLost;
 use program_words::{page_of, reason_of};
 use serde_json::Value;
 use std::alloc::{AllocError, Global};
 use vnfm_base::Text;
+
+/// The word of a role.
+fn role_word(role: Role) -> &'static str {
+    match role {
+        Role::Orchestrator => "Orchestrator",
+        Role::Element => "Element",
+    }
+}
 
 /// What is set, as an act spells it: the command, the journal, the manager, the role, the rounds, both addresses, the orchestrator, the
 /// infrastructure, and the start and the steps of a trial.
@@ -17,13 +26,13 @@ fn spelled(alloc: Global, set: &Settings) -> Result<String, AllocError> {
         set.command,
         set.journal.as_str(),
         set.manager,
-        set.role,
+        role_word(set.role),
     );
     let (rounds, listen, em_listen) = (set.rounds, set.listen.as_str(), set.em_listen.as_str());
     let (orchestrator, vim) = (set.orchestrator.as_str(), set.vim.as_str());
     let (start, count) = (set.start, set.count);
     format!(in alloc;
-        "{command:?} {journal:?} {manager} {role:?} {rounds} {listen:?} {em_listen:?} {orchestrator:?} {vim:?} {start} {count}"
+        "{command:?} {journal:?} {manager} {role} {rounds} {listen:?} {em_listen:?} {orchestrator:?} {vim:?} {start} {count}"
     )
 }
 
