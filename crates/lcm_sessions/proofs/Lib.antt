@@ -1,2 +1,5 @@
+mod HeardLemmas
 mod StepsLemmas
 pub mod TalkLemmas
+mod ValidLemmas
+mod VerdictLemmas

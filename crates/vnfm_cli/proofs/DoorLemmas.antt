@@ -9,9 +9,9 @@ use Rattle.lcm_sessions.specs.Session.{Ending as Closing, Talk, counts_behind, i
 use Rattle.lcm_api.specs.World.{Peers, Tells}
 use Rattle.lcm_events.specs.declared.events.Event.{Event}
 use Rattle.lcm_events.specs.declared.states.Role.{Role}
-use Rattle.onboarding.specs.Doing.{Brings, BringsNothing, OnboardingAtDoor}
-use Rattle.onboarding.specs.Onboarding.{Ended, done, starving as lacking, breaking, Onboarding, unready, unheard, cut_off, heard, judged_answer}
-use Rattle.onboarding.specs.Verdict.{Verdict, refused, full as no_room, accepted, verdict}
+use Rattle.lcm_sessions.specs.Doing.{Brings, BringsNothing, OnboardingAtDoor}
+use Rattle.lcm_sessions.specs.Onboarding.{Ended, done, starving as lacking, breaking, Onboarding, unready, unheard, cut_off, heard, judged_answer}
+use Rattle.lcm_sessions.specs.Verdict.{Verdict, refused, full as no_room, accepted, verdict}
 use Rattle.site_traits.specs.Counts.{one_more}
 use Rattle.site_traits.specs.Door.{DoorCounts, closed, opened as has_come}
 use Rattle.command_line.specs.declared.options.Command.TheVariants.{Onboard, Once}

@@ -8,8 +8,8 @@ use Rattle.executor.specs.declared.manager.OpenFault.TheVariants as opening
 use Rattle.journal_records.specs.File.{HasRecords}
 use Rattle.journal_core.specs.Header.{IsForeign, IsUnmade}
 use Rattle.journal_core.specs.Exclusion.{IsHeadedOrNot, IsWholeOrForeign, IsWholeOrUnmade}
-use Rattle.onboarding.specs.Onboarding.{Onboarding, answer_of, unready, unheard, cut_off, heard, done, starving as no_memory, breaking, verdict_answer}
-use Rattle.onboarding.specs.Verdict.{Verdict, refused, full as no_room, accepted, verdict}
+use Rattle.lcm_sessions.specs.Onboarding.{Onboarding, answer_of, unready, unheard, cut_off, heard, done, starving as no_memory, breaking, verdict_answer}
+use Rattle.lcm_sessions.specs.Verdict.{Verdict, refused, full as no_room, accepted, verdict}
 use Rattle.lcm_events.specs.declared.events.Event.{Event}
 use Rattle.site_traits.specs.Counts.{one_more}
 use Rattle.site_traits.specs.Door.{DoorCounts}

@@ -1,7 +1,7 @@
 -- Which calls of the door failed in a run, and how they are counted.
 use Rattle.std.specs.Prelude.{◌≡◌, ℕ, Bool, List, [], ◌∷◌, ◌++◌, Option, Some, None, if◌then◌else◌}
 use Rattle.lcm_sessions.specs.Session.{Ending as Closing, is_cut, is_lost}
-use Rattle.onboarding.specs.Onboarding.{unheard, cut_off}
+use Rattle.lcm_sessions.specs.Onboarding.{unheard, cut_off}
 use Rattle.site_traits.specs.Counts.{one_more}
 use Rattle.site_traits.specs.Door.{DoorCounts}
 use Rattle.vnfm_commands.specs.Course.{Course, opened, Deed, serving, onboarding, Visit, unasked, served, Round, Close, finished, unreached, stopped, halted}

@@ -12,8 +12,8 @@ use Rattle.journal_core.specs.Asking.{FailsWhere, CreateAsks, CreatesCount}
 use Rattle.journal_core.specs.declared.create.CreateFault.{CreateFault}
 use Rattle.journal_core.specs.declared.create.CreateFault.TheVariants as creating
 use Rattle.occ_work.specs.Around.{CountJobsAlike, DiskFails}
-use Rattle.onboarding.specs.declared.answer.OnboardFault.{OnboardFault}
-use Rattle.onboarding.specs.declared.answer.OnboardFault.TheVariants as fault
+use Rattle.lcm_sessions.specs.declared.answer.OnboardFault.{OnboardFault}
+use Rattle.lcm_sessions.specs.declared.answer.OnboardFault.TheVariants as fault
 use Rattle.vnfm_commands.specs.Course.{halt_of, halting, making_ending, unonboarded, unopened_failure}
 use Rattle.vnfm_commands.specs.Ending.{Ending}
 use Rattle.vnfm_commands.specs.declared.ending.Failure.{Failure}

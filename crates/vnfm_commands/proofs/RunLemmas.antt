@@ -9,7 +9,7 @@ use Rattle.journal_core.specs.Load.{SyncsAndReads}
 use Rattle.lcm_api.specs.Mouth.{MouthState}
 use Rattle.lcm_api.specs.World.{Peers, Tells, World, peers_of, world}
 use Rattle.lcm_events.specs.declared.events.Event.{Event}
-use Rattle.onboarding.specs.Onboarding.{onboarding_work}
+use Rattle.lcm_sessions.specs.Onboarding.{onboarding_work}
 use Rattle.site_traits.specs.Site.{SiteState}
 use Rattle.vnfm_commands.specs.Course.{Course, misused, starved, making, opened, unopened, Deed, serving, onboarding, IsOf, IsOfWords, Opening, deed_work}
 use Rattle.command_line.specs.Words.{settings_of}

@@ -12,10 +12,10 @@ use Rattle.lcm_events.specs.declared.events.Event.{Event}
 use Rattle.lcm_events.specs.declared.states.Role.{Role}
 use Rattle.occ_work.specs.Deeds.{Deed as Act}
 use Rattle.occ_work.specs.Turns.{TurnEnd, once_all_done, turn_work}
-use Rattle.onboarding.specs.Onboarding.{Onboarding, answer_of, onboarding_work}
-use Rattle.onboarding.specs.declared.answer.Onboarded.{Onboarded as Said}
-use Rattle.onboarding.specs.declared.answer.OnboardFault.{OnboardFault}
-use Rattle.onboarding.specs.declared.answer.OnboardFault.TheVariants as fault
+use Rattle.lcm_sessions.specs.Onboarding.{Onboarding, answer_of, onboarding_work}
+use Rattle.lcm_sessions.specs.declared.answer.Onboarded.{Onboarded as Said}
+use Rattle.lcm_sessions.specs.declared.answer.OnboardFault.{OnboardFault}
+use Rattle.lcm_sessions.specs.declared.answer.OnboardFault.TheVariants as fault
 use Rattle.vnfm_commands.specs.Ending.{Ending}
 use Rattle.command_line.specs.Words.{settings_of}
 use Rattle.vnfm_commands.specs.Words.{IsCommand, loads}

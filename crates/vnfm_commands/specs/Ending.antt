@@ -1,8 +1,8 @@
 -- How a run ends: its status, and the line that it prints (own rule, docs/FORMATS.md).
 use Rattle.std.specs.Prelude.{◌≡◌, ◌≤◌, ◌⊎◌, ℕ, ◌==◌, List, [], ◌∷◌, ◌++◌, codes, decimal, if◌then◌else◌, Bool, true, false, Result, Ok, Err}
-use Rattle.onboarding.specs.declared.answer.DescriptorRefusal.{DescriptorRefusal}
-use Rattle.onboarding.specs.declared.answer.DescriptorRefusal.TheVariants.{Unread, IsOnboarded, TooMany, TooLong}
-use Rattle.onboarding.specs.declared.answer.Onboarded.{Onboarded as Said}
+use Rattle.lcm_sessions.specs.declared.answer.DescriptorRefusal.{DescriptorRefusal}
+use Rattle.lcm_sessions.specs.declared.answer.DescriptorRefusal.TheVariants.{Unread, IsOnboarded, TooMany, TooLong}
+use Rattle.lcm_sessions.specs.declared.answer.Onboarded.{Onboarded as Said}
 use Rattle.site_traits.specs.Counts.{CallCounts, called, called_in_vain}
 use Rattle.vnfd_document.specs.Texts.{fault_text}
 use Rattle.vnfm_commands.specs.declared.ending.Failure.{Failure}

@@ -15,10 +15,10 @@ use Rattle.lcm_model.specs.Allowed.{IsLegal}
 use Rattle.site_traits.specs.Counts.{Rose}
 use Rattle.site_traits.specs.Door.{DoorCounts}
 use Rattle.site_traits.specs.Site.{Pair, SiteState, IsSettled, KeepsJobs, LeavesOnly}
-use Rattle.onboarding.specs.Doing.{BringsIn}
+use Rattle.lcm_sessions.specs.Doing.{BringsIn}
 use Rattle.vnfm_commands.specs.Course.{Course, misused, starved, making, unopened, opened, Deed, serving, onboarding, Opening, deed_work, service_work, IsOfWords}
 use Rattle.occ_work.specs.Around.{Around, Tells as Asking}
-use Rattle.onboarding.specs.Onboarding.{onboarding_work}
+use Rattle.lcm_sessions.specs.Onboarding.{onboarding_work}
 use Rattle.vnfm_commands.specs.Rounds.{AsksNobody, AsksOutside, Attended}
 use Rattle.command_line.specs.declared.options.Command.{Command}
 use Rattle.command_line.specs.declared.options.Command.TheVariants.{Init, Onboard, Once}

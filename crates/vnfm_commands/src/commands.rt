@@ -21,7 +21,7 @@ use command_line::{Command, Settings, settings};
 use executor::{Manager, works_add_up, works_with_jobs_add_up};
 use journal_core::{Journal, faults_are_counted};
 use lcm_api::Mouth;
-use onboarding::onboard;
+use lcm_sessions::onboard;
 use site_traits::{Clock, Door, Orchestrator, Site};
 use std::alloc::Global;
 use vnfm_base::Text;

@@ -10,7 +10,7 @@ use command_line::SettingsFault;
 use executor::OpenFault;
 use itoa::Buffer;
 use journal_core::CreateFault;
-use onboarding::{DescriptorRefusal, OnboardFault, Onboarded};
+use lcm_sessions::{DescriptorRefusal, OnboardFault, Onboarded};
 use site_traits::{Sink, SinkFailed};
 use vnfd_reader::VnfdFault;
 use vnfm_base::Name;

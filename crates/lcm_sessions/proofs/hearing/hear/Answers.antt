@@ -1,7 +1,7 @@
 -- A read failed behind these bytes.
 use Rattle.std.proofs.Common.{take}
-use Rattle.onboarding.proofs.HeardLemmas.{brought_out}
-use Rattle.onboarding.proofs.hearing.hear.Goals as goal
+use Rattle.lcm_sessions.proofs.HeardLemmas.{brought_out}
+use Rattle.lcm_sessions.proofs.hearing.hear.Goals as goal
 
 pub returns-then-reading-clause-heard : goal.returns-then-reading-clause-heard
 returns-then-reading-clause-heard g c = (

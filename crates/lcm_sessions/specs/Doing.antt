@@ -9,10 +9,10 @@ use Rattle.lcm_api.specs.World.{Tells, Peers, World, peers_of}
 use Rattle.lcm_api.specs.Waiting.{IsNobody, IsUnreached}
 use Rattle.lcm_events.specs.declared.events.Event.{Event}
 use Rattle.lcm_events.specs.declared.states.Role.{Role}
-use Rattle.onboarding.specs.Onboarding.{Onboarding, unready, unheard, cut_off, heard, onboarding_work}
-use Rattle.onboarding.specs.declared.limits.TheConstants.{MAX_READ}
-use Rattle.onboarding.specs.declared.hearing.Unheard.{Unheard}
-use Rattle.onboarding.specs.declared.hearing.Unheard.TheVariants.{Waiting, Reading}
+use Rattle.lcm_sessions.specs.Onboarding.{Onboarding, unready, unheard, cut_off, heard, onboarding_work}
+use Rattle.lcm_sessions.specs.declared.limits.TheConstants.{MAX_READ}
+use Rattle.lcm_sessions.specs.declared.hearing.Unheard.{Unheard}
+use Rattle.lcm_sessions.specs.declared.hearing.Unheard.TheVariants.{Waiting, Reading}
 use Rattle.site_traits.specs.Clock.{Gives}
 use Rattle.site_traits.specs.Counts.{one_more}
 use Rattle.site_traits.specs.Door.{Comes, DoorCounts, HangsUp, closed, opened as has_come}

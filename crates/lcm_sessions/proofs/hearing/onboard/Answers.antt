@@ -1,6 +1,6 @@
 -- A call of the door failed exactly where that is the answer.
-use Rattle.onboarding.proofs.HeardLemmas.{onboarding_fails}
-use Rattle.onboarding.proofs.hearing.onboard.Goals as goal
+use Rattle.lcm_sessions.proofs.HeardLemmas.{onboarding_fails}
+use Rattle.lcm_sessions.proofs.hearing.onboard.Goals as goal
 
 pub returns-clause-door : goal.returns-clause-door
 returns-clause-door g c =

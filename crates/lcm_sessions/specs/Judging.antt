@@ -3,9 +3,9 @@ use Rattle.std.specs.Prelude.{◌≡◌, ℕ, List, Result, Ok, Err}
 use Rattle.lcm_events.specs.declared.descriptor.Vnfd.{Vnfd}
 use Rattle.lcm_events.specs.declared.events.Event.{Event}
 use Rattle.lcm_model.specs.Allowed.{MayOnboard}
-use Rattle.onboarding.specs.Verdict.{refused, new_verdict, room_verdict, verdict}
-use Rattle.onboarding.specs.declared.answer.OnboardFault.{OnboardFault}
-use Rattle.onboarding.specs.declared.answer.OnboardFault.TheVariants as fault
+use Rattle.lcm_sessions.specs.Verdict.{refused, new_verdict, room_verdict, verdict}
+use Rattle.lcm_sessions.specs.declared.answer.OnboardFault.{OnboardFault}
+use Rattle.lcm_sessions.specs.declared.answer.OnboardFault.TheVariants as fault
 
 -- what a descriptor that was read comes to but for its room, whenever it is judged: it is refused, or it may be onboarded
 abbrev pub JudgesNew : List Event → Vnfd → Result Vnfd OnboardFault → Type 0

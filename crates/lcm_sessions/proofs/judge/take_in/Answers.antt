@@ -1,11 +1,11 @@
 -- What the commit answered is what becomes of the descriptor.
 use Rattle.std.proofs.Common.{◌≡◌, Result, subst, sym}
-use Rattle.onboarding.specs.Onboarding.{ended_by, judged_answer}
-use Rattle.onboarding.specs.Verdict.{verdict}
-use Rattle.onboarding.specs.declared.answer.Onboarded.{Onboarded}
-use Rattle.onboarding.specs.declared.answer.OnboardFault.{OnboardFault}
-use Rattle.onboarding.proofs.VerdictLemmas.{err_is, may_record, recorded_done, recorded_not, works_as}
-use Rattle.onboarding.proofs.judge.take_in.Goals as goal
+use Rattle.lcm_sessions.specs.Onboarding.{ended_by, judged_answer}
+use Rattle.lcm_sessions.specs.Verdict.{verdict}
+use Rattle.lcm_sessions.specs.declared.answer.Onboarded.{Onboarded}
+use Rattle.lcm_sessions.specs.declared.answer.OnboardFault.{OnboardFault}
+use Rattle.lcm_sessions.proofs.VerdictLemmas.{err_is, may_record, recorded_done, recorded_not, works_as}
+use Rattle.lcm_sessions.proofs.judge.take_in.Goals as goal
 
 pub record_event-recorded-requires : goal.record_event-recorded-requires
 record_event-recorded-requires g c =

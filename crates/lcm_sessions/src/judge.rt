@@ -6,9 +6,9 @@ ghost use Rattle.executor.specs.Work.{Works, recorded};
 ghost use Rattle.lcm_events.specs.declared.events.Event.{Event};
 ghost use Rattle.lcm_events.specs.declared.events.EventKind.TheVariants.{Onboarded as OnboardedKind};
 ghost use Rattle.lcm_model.specs.Descriptors.{IsValid};
-ghost use Rattle.onboarding.specs.Judging.{Judges, JudgesNew};
-ghost use Rattle.onboarding.specs.Onboarding.{ended_by, judged_answer, worked};
-ghost use Rattle.onboarding.specs.Verdict.{onboarded, verdict};
+ghost use Rattle.lcm_sessions.specs.Judging.{Judges, JudgesNew};
+ghost use Rattle.lcm_sessions.specs.Onboarding.{ended_by, judged_answer, worked};
+ghost use Rattle.lcm_sessions.specs.Verdict.{onboarded, verdict};
 ghost use Rattle.journal_records.specs.declared.limits.TheConstants.{MAX_FILE};
 ghost use Rattle.site_traits.specs.Counts.{OnlyDiskFails};
 

@@ -8,14 +8,14 @@ use Rattle.lcm_api.specs.Mouth.{MouthState}
 use Rattle.lcm_api.specs.World.{Tells, World, world}
 use Rattle.lcm_events.specs.declared.events.Event.{Event}
 use Rattle.lcm_events.specs.declared.states.Role.{Role}
-use Rattle.onboarding.specs.Doing.{Brings, BringsNothing, HearsDescriptor, OnboardingAtDoor, Onboards, OnlyDoorFails}
-use Rattle.onboarding.specs.Onboarding.{Ended, done, starving, breaking, Onboarding, unready, unheard, cut_off, heard, answer_of, ended_by, judged_answer, worked}
-use Rattle.onboarding.specs.Verdict.{Verdict, refused, full, accepted, onboarded, verdict}
-use Rattle.onboarding.specs.declared.answer.Onboarded.{Onboarded}
-use Rattle.onboarding.specs.declared.answer.OnboardFault.{OnboardFault}
-use Rattle.onboarding.specs.declared.answer.OnboardFault.TheVariants as fault
-use Rattle.onboarding.specs.declared.hearing.Unheard.{Unheard}
-use Rattle.onboarding.specs.declared.hearing.Unheard.TheVariants.{Waiting, Reading}
+use Rattle.lcm_sessions.specs.Doing.{Brings, BringsNothing, HearsDescriptor, OnboardingAtDoor, Onboards, OnlyDoorFails}
+use Rattle.lcm_sessions.specs.Onboarding.{Ended, done, starving, breaking, Onboarding, unready, unheard, cut_off, heard, answer_of, ended_by, judged_answer, worked}
+use Rattle.lcm_sessions.specs.Verdict.{Verdict, refused, full, accepted, onboarded, verdict}
+use Rattle.lcm_sessions.specs.declared.answer.Onboarded.{Onboarded}
+use Rattle.lcm_sessions.specs.declared.answer.OnboardFault.{OnboardFault}
+use Rattle.lcm_sessions.specs.declared.answer.OnboardFault.TheVariants as fault
+use Rattle.lcm_sessions.specs.declared.hearing.Unheard.{Unheard}
+use Rattle.lcm_sessions.specs.declared.hearing.Unheard.TheVariants.{Waiting, Reading}
 use Rattle.site_traits.specs.Clock.{Gives}
 use Rattle.site_traits.specs.Door.{Conn, DoorState, Comes, ConnIs, HangsUp, closed, opened}
 use Rattle.site_traits.specs.Site.{SiteState}

@@ -7,9 +7,9 @@ use Rattle.lcm_events.specs.declared.descriptor.Vnfd.{Vnfd}
 use Rattle.lcm_events.specs.declared.events.Event.{Event}
 use Rattle.lcm_events.specs.declared.events.EventKind.TheVariants as kind
 use Rattle.lcm_model.specs.Lives.{descriptor_named, descriptors}
-use Rattle.onboarding.specs.declared.answer.DescriptorRefusal.{DescriptorRefusal}
-use Rattle.onboarding.specs.declared.answer.DescriptorRefusal.TheVariants.{Unread, IsOnboarded, TooMany, TooLong}
-use Rattle.onboarding.specs.declared.limits.TheConstants.{MAX_DESCRIPTORS}
+use Rattle.lcm_sessions.specs.declared.answer.DescriptorRefusal.{DescriptorRefusal}
+use Rattle.lcm_sessions.specs.declared.answer.DescriptorRefusal.TheVariants.{Unread, IsOnboarded, TooMany, TooLong}
+use Rattle.lcm_sessions.specs.declared.limits.TheConstants.{MAX_DESCRIPTORS}
 use Rattle.vnfd_document.specs.declared.fault.VnfdFault.{VnfdFault}
 use Rattle.vnfd_reader.specs.Answer.{answer}
 

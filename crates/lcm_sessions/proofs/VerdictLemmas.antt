@@ -14,13 +14,13 @@ use Rattle.lcm_events.specs.declared.events.Event.{Event}
 use Rattle.lcm_model.specs.Allowed.{MayOnboard}
 use Rattle.lcm_model.specs.Descriptors.{IsValid}
 use Rattle.lcm_model.specs.Lives.{descriptor_named, descriptors}
-use Rattle.onboarding.specs.Judging.{JudgesNew}
-use Rattle.onboarding.specs.Onboarding.{ended_by, judged_answer, said_of, work_fault, worked}
-use Rattle.onboarding.specs.Verdict.{Verdict, accepted, onboarded, onboarding, room_verdict}
-use Rattle.onboarding.specs.declared.answer.Onboarded.{Onboarded}
-use Rattle.onboarding.specs.declared.answer.OnboardFault.{OnboardFault}
-use Rattle.onboarding.specs.declared.limits.TheConstants.{MAX_DESCRIPTORS}
-use Rattle.onboarding.proofs.ValidLemmas.{valid_event}
+use Rattle.lcm_sessions.specs.Judging.{JudgesNew}
+use Rattle.lcm_sessions.specs.Onboarding.{ended_by, judged_answer, said_of, work_fault, worked}
+use Rattle.lcm_sessions.specs.Verdict.{Verdict, accepted, onboarded, onboarding, room_verdict}
+use Rattle.lcm_sessions.specs.declared.answer.Onboarded.{Onboarded}
+use Rattle.lcm_sessions.specs.declared.answer.OnboardFault.{OnboardFault}
+use Rattle.lcm_sessions.specs.declared.limits.TheConstants.{MAX_DESCRIPTORS}
+use Rattle.lcm_sessions.proofs.ValidLemmas.{valid_event}
 use Rattle.site_traits.specs.Site.{SiteState}
 use Rattle.std.specs.Result.{IsErrAnd}
 

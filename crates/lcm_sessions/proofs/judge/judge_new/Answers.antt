@@ -2,8 +2,8 @@
 use Rattle.std.proofs.Common.{◌≡◌, false, arith, rules}
 use Rattle.std.specs.Prelude.{is_some}
 use Rattle.lcm_model.specs.Lives.{descriptor_named}
-use Rattle.onboarding.proofs.VerdictLemmas.{judges_new}
-use Rattle.onboarding.proofs.judge.judge_new.Goals as goal
+use Rattle.lcm_sessions.proofs.VerdictLemmas.{judges_new}
+use Rattle.lcm_sessions.proofs.judge.judge_new.Goals as goal
 
 pub returns : goal.returns
 returns g c = record {

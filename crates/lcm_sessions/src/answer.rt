@@ -52,7 +52,7 @@ pub enum OnboardFault {
 
 impl From<AllocError> for OnboardFault {
     ghost use Rattle.std.specs.Prelude.{◌≡◌};
-    ghost use Rattle.onboarding.specs.declared.answer.OnboardFault.TheVariants.{Memory};
+    ghost use Rattle.lcm_sessions.specs.declared.answer.OnboardFault.TheVariants.{Memory};
 
     ghost from_gives = { λ _ fault. fault ≡ Memory };
 
@@ -63,7 +63,7 @@ impl From<AllocError> for OnboardFault {
 
 impl From<WorkFault> for OnboardFault {
     ghost use Rattle.std.specs.Prelude.{◌≡◌};
-    ghost use Rattle.onboarding.specs.Onboarding.{work_fault};
+    ghost use Rattle.lcm_sessions.specs.Onboarding.{work_fault};
 
     ghost from_gives = { λ work fault. fault ≡ work_fault work };
 

@@ -1,8 +1,8 @@
 -- What was heard is judged and recorded.
 use Rattle.std.proofs.Common.{◌∙◌, Err, ap}
 use Rattle.std.proofs.lemmas.Result.{err_from_is_err_and}
-use Rattle.onboarding.proofs.HeardLemmas.{onboards_heard, onboards_unheard}
-use Rattle.onboarding.proofs.hearing.onboard_into.Goals as goal
+use Rattle.lcm_sessions.proofs.HeardLemmas.{onboards_heard, onboards_unheard}
+use Rattle.lcm_sessions.proofs.hearing.onboard_into.Goals as goal
 
 pub returns-clause-onboards : goal.returns-clause-onboards
 returns-clause-onboards g c = λ H ready.

@@ -5,11 +5,11 @@ use Rattle.executor.specs.declared.manager.WorkFault.{WorkFault}
 use Rattle.executor.specs.declared.manager.WorkFault.TheVariants as work
 use Rattle.lcm_events.specs.declared.descriptor.Vnfd.{Vnfd}
 use Rattle.lcm_events.specs.declared.events.Event.{Event}
-use Rattle.onboarding.specs.Verdict.{Verdict, refused, full, accepted, verdict, onboarded}
-use Rattle.onboarding.specs.declared.answer.DescriptorRefusal.TheVariants.{TooLong}
-use Rattle.onboarding.specs.declared.answer.Onboarded.{Onboarded}
-use Rattle.onboarding.specs.declared.answer.OnboardFault.{OnboardFault}
-use Rattle.onboarding.specs.declared.answer.OnboardFault.TheVariants as fault
+use Rattle.lcm_sessions.specs.Verdict.{Verdict, refused, full, accepted, verdict, onboarded}
+use Rattle.lcm_sessions.specs.declared.answer.DescriptorRefusal.TheVariants.{TooLong}
+use Rattle.lcm_sessions.specs.declared.answer.Onboarded.{Onboarded}
+use Rattle.lcm_sessions.specs.declared.answer.OnboardFault.{OnboardFault}
+use Rattle.lcm_sessions.specs.declared.answer.OnboardFault.TheVariants as fault
 
 -- how the work on the journal ended: it was done, there was no memory, or the disk failed
 pub data Ended : Type 0 where

@@ -3,8 +3,8 @@ ghost use Rattle.std.specs.Prelude.{◌≡◌, ◌≤◌, List, length, IfOk};
 ghost use Rattle.executor.specs.Managed.{IsReady};
 ghost use Rattle.lcm_api.specs.World.{telling, world};
 ghost use Rattle.lcm_events.specs.declared.events.Event.{Event};
-ghost use Rattle.onboarding.specs.Doing.{HearsDescriptor, Onboards, OnlyDoorFails};
-ghost use Rattle.onboarding.specs.Onboarding.{Onboarding, answer_of};
+ghost use Rattle.lcm_sessions.specs.Doing.{HearsDescriptor, Onboards, OnlyDoorFails};
+ghost use Rattle.lcm_sessions.specs.Onboarding.{Onboarding, answer_of};
 ghost use Rattle.site_traits.specs.Counts.{OnlyDiskFails};
 
 use crate::answer::{OnboardFault, Onboarded};
@@ -76,7 +76,7 @@ enum Unheard {
 }
 
 impl From<Unheard> for OnboardFault {
-    ghost use Rattle.onboarding.specs.declared.answer.OnboardFault.TheVariants.{Door};
+    ghost use Rattle.lcm_sessions.specs.declared.answer.OnboardFault.TheVariants.{Door};
 
     ghost from_gives = { λ _ fault. fault ≡ Door };
 

@@ -15,7 +15,7 @@ use Rattle.lcm_events.specs.declared.descriptor.Storage.{Storage}
 use Rattle.lcm_events.specs.declared.descriptor.Vdu.{Vdu}
 use Rattle.lcm_events.specs.declared.descriptor.Vnfd.{Vnfd}
 use Rattle.lcm_model.specs.Descriptors.{IsValid, has_sorted_names, has_valid_counts, is_valid_aspect, is_valid_level, is_valid_port, is_valid_row, is_valid_vdu}
-use Rattle.onboarding.specs.Verdict.{onboarding}
+use Rattle.lcm_sessions.specs.Verdict.{onboarding}
 
 and_front : (a b : Bool) → (a && b) ≡ true → a ≡ true
 and_front a b is = (both a b is).0

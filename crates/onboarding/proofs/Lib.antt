@@ -1,3 +1,0 @@
-mod HeardLemmas
-mod ValidLemmas
-mod VerdictLemmas

@@ -1,4 +1,0 @@
-pub mod Doing
-pub mod Judging
-pub mod Onboarding
-pub mod Verdict
