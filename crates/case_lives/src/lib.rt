@@ -22,5 +22,8 @@ pub use sound::{agrees, change_done, changes_standing};
 pub use steps::steps_of;
 pub use stops::{Earlier, Stop, Whole};
 pub use texts::Names;
-pub use words::{CaseFault, behind, code, count, entries, list, number, part, small, truth, word};
+pub use words::{
+    CaseFault, behind, code, count, entries, has_number, has_word, list, number, part, small,
+    truth, word,
+};
 pub use work::work_text;

@@ -61,11 +61,10 @@ impl Plan {
 
 /// The calls that fail: this one, where there is one.
 fn failing(alloc: Global, call: Option<u64>) -> Result<Vec<u64>, AllocError> {
-    let mut calls = Vec::new(alloc);
-    if let Some(call) = call {
-        calls.push(call)?;
+    match call {
+        Some(call) => [call].to_vec(alloc),
+        None => Ok(Vec::new(alloc)),
     }
-    Ok(calls)
 }
 
 /// A site with this file, on which each call comes through.

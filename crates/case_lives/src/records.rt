@@ -37,11 +37,8 @@ pub enum Step {
     Cancelled(CancelMode),
 }
 
-/// The moment of each record: the clock's 1,700,000,000,000.
-const MOMENT: [u8; 8] = [0, 0, 1, 139, 207, 229, 104, 0];
-
-/// The number of occurrence 1.
-const OCCURRENCE: [u8; 8] = [0, 0, 0, 0, 0, 0, 0, 1];
+/// The moment of each record, the clock's 1,700,000,000,000, and behind it the number of occurrence 1.
+const ABOUT: [u8; 16] = [0, 0, 1, 139, 207, 229, 104, 0, 0, 0, 0, 0, 0, 0, 0, 1];
 
 /// What is asked behind the number of the occurrence: instance 1, by the orchestrator, in the flavour `simple` at the default level; 2 links,
 /// 3 storages, 3 machines and 5 ports are made.
@@ -72,87 +69,89 @@ fn number_of_mode(mode: CancelMode) -> u8 {
     }
 }
 
-/// What stands behind the number of the occurrence for this attempt at this change in the way of this number, with this behind it.
-fn attempt(
-    alloc: Global,
-    change: u16,
-    attempt: u32,
-    way: u8,
-    behind: &[u8],
-) -> Result<Vec<u8>, AllocError> {
-    let mut fields = Vec::new(alloc);
-    fields.extend_from_slice(&change.to_be_bytes())?;
-    fields.extend_from_slice(&attempt.to_be_bytes())?;
-    fields.push(way)?;
-    fields.extend_from_slice(behind)?;
-    Ok(fields)
+/// The number of the kind of this record of an attempt.
+fn kind_of_attempt(at: At) -> u8 {
+    match at {
+        At::Intent => 8,
+        At::CallFailed => 9,
+        At::Done(_) | At::Broken(_) | At::Aborted | At::NotBegun => 10,
+    }
+}
+
+/// The number of the kind of this step's record.
+fn kind_of(step: Step) -> u8 {
+    match step {
+        Step::Asked => 4,
+        Step::Granted => 6,
+        Step::Moved(_) => 11,
+        Step::Forward(_, _, at) | Step::Undo(_, _, at) => kind_of_attempt(at),
+        Step::Cancelled(_) => 12,
+    }
+}
+
+/// These bytes, and those behind them.
+fn joined(alloc: Global, front: &[u8], behind: &[u8]) -> Result<Vec<u8>, AllocError> {
+    let mut whole = front.to_vec(alloc)?;
+    whole.extend_from_slice(behind)?;
+    Ok(whole)
 }
 
 /// How a done attempt ended, by the job at this place.
 fn done(alloc: Global, job: u16) -> Result<Vec<u8>, AllocError> {
     let name = format!(in alloc; "r{job}")?;
-    let mut end = Vec::new(alloc);
-    end.push(0)?;
-    end.push(u8::try_from(name.len()).unwrap_or(0))?;
-    end.extend_from_slice(name.as_bytes())?;
-    Ok(end)
+    let length = u8::try_from(name.len()).unwrap_or(0);
+    joined(alloc, &[0, length], name.as_bytes())
 }
 
-/// How a broken attempt ended.
-fn broken(alloc: Global, code: u32) -> Result<Vec<u8>, AllocError> {
-    let mut end = Vec::new(alloc);
-    end.push(1)?;
-    end.extend_from_slice(&code.to_be_bytes())?;
-    Ok(end)
+/// What stands behind an attempt in this record of it.
+fn end_of(alloc: Global, at: At) -> Result<Vec<u8>, AllocError> {
+    match at {
+        At::Intent | At::CallFailed => Ok(Vec::new(alloc)),
+        At::Done(job) => done(alloc, job),
+        At::Broken(code) => joined(alloc, &[1], &code.to_be_bytes()),
+        At::Aborted => [2].to_vec(alloc),
+        At::NotBegun => [3].to_vec(alloc),
+    }
 }
 
-/// The number of the kind of an attempt's record, and what stands behind the attempt.
-fn end_of(alloc: Global, at: At) -> Result<(u8, Vec<u8>), AllocError> {
-    Ok(match at {
-        At::Intent => (8, Vec::new(alloc)),
-        At::CallFailed => (9, Vec::new(alloc)),
-        At::Done(job) => (10, done(alloc, job)?),
-        At::Broken(code) => (10, broken(alloc, code)?),
-        At::Aborted => (10, vec![in alloc; 2]?),
-        At::NotBegun => (10, vec![in alloc; 3]?),
-    })
-}
-
-/// The number of the kind of this record of an attempt at this change in the way of this number, and what stands behind its moment and the
-/// number of the occurrence.
-fn attempted(
+/// What stands behind the number of the occurrence in this record of this attempt at this change in the way of this number.
+fn attempt(
     alloc: Global,
     change: u16,
-    number: u32,
+    attempt: u32,
     way: u8,
     at: At,
-) -> Result<(u8, Vec<u8>), AllocError> {
-    let (kind, end) = end_of(alloc, at)?;
-    Ok((kind, attempt(alloc, change, number, way, &end)?))
+) -> Result<Vec<u8>, AllocError> {
+    let ([a, b], [c, d, e, f]) = (change.to_be_bytes(), attempt.to_be_bytes());
+    let end = end_of(alloc, at)?;
+    joined(alloc, &[a, b, c, d, e, f, way], &end)
 }
 
-/// The number of a record's kind, and what stands behind its moment and the number of the occurrence.
-fn fields_of(alloc: Global, step: Step) -> Result<(u8, Vec<u8>), AllocError> {
-    Ok(match step {
-        Step::Asked => (4, PLAN.to_vec(alloc)?),
-        Step::Granted => (6, GRANT.to_vec(alloc)?),
-        Step::Moved(to) => (11, vec![in alloc; number_of(to)]?),
-        Step::Forward(change, number, at) => attempted(alloc, change, number, 0, at)?,
-        Step::Undo(change, number, at) => attempted(alloc, change, number, 1, at)?,
-        Step::Cancelled(mode) => (12, vec![in alloc; number_of_mode(mode)]?),
-    })
+/// What stands behind the moment of a record and the number of the occurrence.
+fn fields_of(alloc: Global, step: Step) -> Result<Vec<u8>, AllocError> {
+    match step {
+        Step::Asked => PLAN.to_vec(alloc),
+        Step::Granted => GRANT.to_vec(alloc),
+        Step::Moved(to) => [number_of(to)].to_vec(alloc),
+        Step::Forward(change, number, at) => attempt(alloc, change, number, 0, at),
+        Step::Undo(change, number, at) => attempt(alloc, change, number, 1, at),
+        Step::Cancelled(mode) => [number_of_mode(mode)].to_vec(alloc),
+    }
 }
 
 /// Puts the record of this step, with its open gate.
 fn put(alloc: Global, file: &mut Vec<u8>, step: Step) -> Result<(), AllocError> {
-    let (kind, fields) = fields_of(alloc, step)?;
+    let fields = fields_of(alloc, step)?;
+    put_record(file, kind_of(step), &fields)
+}
+
+/// Puts the record of the kind of this number with these fields, with its open gate.
+fn put_record(file: &mut Vec<u8>, kind: u8, fields: &[u8]) -> Result<(), AllocError> {
     let length = u32::try_from(fields.len()).unwrap_or(0).saturating_add(17);
-    file.push(1)?;
-    file.extend_from_slice(&length.to_be_bytes())?;
-    file.push(kind)?;
-    file.extend_from_slice(&MOMENT)?;
-    file.extend_from_slice(&OCCURRENCE)?;
-    file.extend_from_slice(&fields)
+    let [a, b, c, d] = length.to_be_bytes();
+    file.extend_from_slice(&[1, a, b, c, d, kind])?;
+    file.extend_from_slice(&ABOUT)?;
+    file.extend_from_slice(fields)
 }
 
 /// The records of this file, from its header up to its first closed gate, and these steps behind them.

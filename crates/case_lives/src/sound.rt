@@ -29,8 +29,9 @@ fn attempt_of(step: Step) -> Option<(Tag, At)> {
 
 /// The place, from this one on, of the step that says that this attempt is about to begin.
 fn intent_from(steps: &[Step], from: usize, tag: Tag) -> Option<usize> {
-    for (place, step) in steps.iter().enumerate().skip(from) {
-        if attempt_of(*step) == Some((tag, At::Intent)) {
+    let intent = Some((tag, At::Intent));
+    for place in from..steps.len() {
+        if attempt_of(steps[place]) == intent {
             return Some(place);
         }
     }

@@ -10,7 +10,7 @@ use crate::records::{At, Step};
 use crate::words::{CaseFault, code, entries, small, word};
 use lcm_events::{CancelMode, OpState};
 use serde_json::Value;
-use std::alloc::{AllocError, Global};
+use std::alloc::Global;
 
 /// The step of this word.
 fn named(word: &str) -> Option<Step> {
@@ -62,33 +62,44 @@ fn attempts_of(step: &[Value]) -> Result<Attempts, CaseFault> {
     })
 }
 
+/// Puts a step.
+fn put(steps: &mut Vec<Step>, step: Step) -> Result<(), CaseFault> {
+    steps.push(step)?;
+    Ok(())
+}
+
 /// These changes are made.
-fn make(steps: &mut Vec<Step>, attempts: Attempts) -> Result<(), AllocError> {
+fn make(steps: &mut Vec<Step>, attempts: Attempts) -> Result<(), CaseFault> {
     let mut job = attempts.first;
     for change in attempts.from..attempts.to {
-        steps.push(Step::Forward(change, attempts.attempt, At::Intent))?;
-        steps.push(Step::Forward(change, attempts.attempt, At::Done(job)))?;
+        put(steps, Step::Forward(change, attempts.attempt, At::Intent))?;
+        put(
+            steps,
+            Step::Forward(change, attempts.attempt, At::Done(job)),
+        )?;
         job = job.saturating_add(1);
     }
     Ok(())
 }
 
 /// They are undone, the last of them first.
-fn unmake(steps: &mut Vec<Step>, attempts: Attempts) -> Result<(), AllocError> {
+fn unmake(steps: &mut Vec<Step>, attempts: Attempts) -> Result<(), CaseFault> {
     let mut job = attempts.first;
-    for change in (attempts.from..attempts.to).rev() {
-        steps.push(Step::Undo(change, attempts.attempt, At::Intent))?;
-        steps.push(Step::Undo(change, attempts.attempt, At::Done(job)))?;
+    let mut change = attempts.to;
+    for _ in attempts.from..attempts.to {
+        change = change.saturating_sub(1);
+        put(steps, Step::Undo(change, attempts.attempt, At::Intent))?;
+        put(steps, Step::Undo(change, attempts.attempt, At::Done(job)))?;
         job = job.saturating_add(1);
     }
     Ok(())
 }
 
 /// The operation up to PROCESSING, with so many changes made.
-fn made(steps: &mut Vec<Step>, changes: u16) -> Result<(), AllocError> {
-    steps.push(Step::Asked)?;
-    steps.push(Step::Granted)?;
-    steps.push(Step::Moved(OpState::Processing))?;
+fn made(steps: &mut Vec<Step>, changes: u16) -> Result<(), CaseFault> {
+    put(steps, Step::Asked)?;
+    put(steps, Step::Granted)?;
+    put(steps, Step::Moved(OpState::Processing))?;
     let attempts = Attempts {
         from: 0,
         to: changes,
@@ -111,14 +122,13 @@ fn undo_of(step: &[Value]) -> Result<Step, CaseFault> {
 /// Puts the step or the steps of this list.
 fn put_listed(steps: &mut Vec<Step>, step: &[Value]) -> Result<(), CaseFault> {
     match word(step, 0)? {
-        "made" => made(steps, small(step, 1)?)?,
-        "make" => make(steps, attempts_of(step)?)?,
-        "unmake" => unmake(steps, attempts_of(step)?)?,
-        "forward" => steps.push(forward_of(step)?)?,
-        "undo" => steps.push(undo_of(step)?)?,
-        _ => return Err(CaseFault::Spelling),
+        "made" => made(steps, small(step, 1)?),
+        "make" => make(steps, attempts_of(step)?),
+        "unmake" => unmake(steps, attempts_of(step)?),
+        "forward" => put(steps, forward_of(step)?),
+        "undo" => put(steps, undo_of(step)?),
+        _ => Err(CaseFault::Spelling),
     }
-    Ok(())
 }
 
 /// Puts the step of this word, or those of this list.
@@ -127,7 +137,7 @@ fn put_step(steps: &mut Vec<Step>, value: &Value) -> Result<(), CaseFault> {
         return put_listed(steps, entries(value)?);
     };
     match named(word) {
-        Some(step) => Ok(steps.push(step)?),
+        Some(step) => put(steps, step),
         None => Err(CaseFault::Spelling),
     }
 }

@@ -133,19 +133,22 @@ fn put_again(steps: &mut Vec<Step>, step: Step, lost: Option<u16>) -> Result<(),
     match step {
         Step::Forward(change, attempt, At::Done(job)) if lost == Some(change) => {
             let next = attempt.saturating_add(1);
-            steps.push(Step::Forward(change, attempt, At::NotBegun))?;
-            steps.push(Step::Forward(change, next, At::Intent))?;
-            steps.push(Step::Forward(change, next, At::Done(job)))?;
+            steps.extend_from_slice(&[
+                Step::Forward(change, attempt, At::NotBegun),
+                Step::Forward(change, next, At::Intent),
+                Step::Forward(change, next, At::Done(job)),
+            ])
         }
         Step::Undo(change, attempt, At::Done(job)) if lost == Some(change) => {
             let next = attempt.saturating_add(1);
-            steps.push(Step::Undo(change, attempt, At::NotBegun))?;
-            steps.push(Step::Undo(change, next, At::Intent))?;
-            steps.push(Step::Undo(change, next, At::Done(job)))?;
+            steps.extend_from_slice(&[
+                Step::Undo(change, attempt, At::NotBegun),
+                Step::Undo(change, next, At::Intent),
+                Step::Undo(change, next, At::Done(job)),
+            ])
         }
-        _ => steps.push(step)?,
+        _ => steps.extend_from_slice(&[step]),
     }
-    Ok(())
 }
 
 /// What is there of a whole life behind a stop, or behind a disk call that failed.

@@ -43,21 +43,22 @@ impl Names {
 
     /// The text that has this name; the last one, where several were given it.
     fn get(&self, name: &str) -> Result<&[u8], CaseFault> {
-        for named in self.all.iter().rev() {
-            if named.name.as_str() == name {
-                return Ok(named.text.as_slice());
+        let mut place = self.all.len();
+        for _ in 0..self.all.len() {
+            place = place.saturating_sub(1);
+            if let Some(named) = self.all.get(place) {
+                if named.name.as_str() == name {
+                    return Ok(named.text.as_slice());
+                }
             }
         }
         Err(CaseFault::Spelling)
     }
 
     /// Gives this text a name.
-    pub fn put(&mut self, alloc: Global, name: &str, text: &[u8]) -> Result<(), AllocError> {
-        let named = Named {
-            name: String::from_str(alloc, name)?,
-            text: text.to_vec(alloc)?,
-        };
-        self.all.push(named)?;
+    pub fn put(&mut self, alloc: Global, name: &str, text: Vec<u8>) -> Result<(), AllocError> {
+        let name = String::from_str(alloc, name)?;
+        self.all.push(Named { name, text })?;
         Ok(())
     }
 
@@ -164,9 +165,9 @@ fn put_number(into: &mut Vec<u8>, object: &Value, number: u64) -> Result<(), Cas
 
 /// Puts so many decimal digits of a number, of which the first may be zeros.
 fn put_digits(into: &mut Vec<u8>, number: u64, width: u64) -> Result<(), CaseFault> {
-    for place in (0..width).rev() {
+    for place in 0..width {
         let mut left = number;
-        for _ in 0..place {
+        for _ in place.saturating_add(1)..width {
             left /= 10;
         }
         into.push(b'0'.saturating_add(u8::try_from(left % 10).unwrap_or(0)))?;

@@ -33,9 +33,15 @@ pub fn work_text(alloc: Global, work: &Act) -> Result<String, AllocError> {
     let mut text = format!(in alloc;
         "{verb} {kind} {template} {vdu} {serial} {vim} {zone} {size} {cpus}"
     )?;
+    put_resources(&mut text, work)?;
+    Ok(text)
+}
+
+/// Puts the resources that this work is done on, each behind a space.
+fn put_resources(text: &mut String, work: &Act) -> Result<(), AllocError> {
     for name in work.on.as_slice() {
         text.push_str(" ")?;
         text.push_str(name.as_str())?;
     }
-    Ok(text)
+    Ok(())
 }

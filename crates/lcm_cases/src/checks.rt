@@ -3,10 +3,10 @@
 use crate::objects::ask;
 use crate::stage::Stage;
 use case_lives::{
-    CaseFault, Step, agrees, behind, change_done, code, count, front_of, front_with, journal_with,
-    number, part, plain_site, small, steps_of, word, work_text,
+    CaseFault, Step, agrees, behind, change_done, count, front_of, front_with, has_number,
+    has_word, journal_with, part, plain_site, steps_of, work_text,
 };
-use lcm_events::{Tag, Way};
+use lcm_events::{Act, Tag, Way};
 use serde_json::Value;
 use std::alloc::Global;
 
@@ -37,10 +37,18 @@ fn stands(bytes: &[u8], text: &[u8], standing: Standing) -> bool {
         Standing::Whole => bytes == text,
         Standing::Front => bytes.starts_with(text),
         Standing::End => bytes.ends_with(text),
-        Standing::Within => bytes
-            .windows(text.len().max(1))
-            .any(|window| window == text),
+        Standing::Within => is_within(bytes, text),
     }
+}
+
+/// Whether these bytes have this text somewhere; an empty text is nowhere.
+fn is_within(bytes: &[u8], text: &[u8]) -> bool {
+    for place in 0..bytes.len() {
+        if !text.is_empty() && bytes[place..].starts_with(text) {
+            return true;
+        }
+    }
+    false
 }
 
 /// Whether this request over a site with this file is told this answer, with status 0.
@@ -55,33 +63,45 @@ fn is_told_over(
     Ok(ran.status == 0 && ran.told.as_slice() == answer)
 }
 
-/// The way of this word.
-fn way_of(word: &str) -> Result<Way, CaseFault> {
-    match word {
-        "forward" => Ok(Way::Forward),
-        "undo" => Ok(Way::Undo),
-        _ => Err(CaseFault::Spelling),
+/// The word of a way.
+fn word_of(way: Way) -> &'static str {
+    match way {
+        Way::Forward => "forward",
+        Way::Undo => "undo",
     }
 }
 
-/// The tag that stands from the second place of an act on: the occurrence, the change, the attempt and its way.
-fn tag_of(act: &[Value]) -> Result<Tag, CaseFault> {
-    Ok(Tag {
-        occ: number(act, 2)?,
-        change: small(act, 3)?,
-        attempt: code(act, 4)?,
-        way: way_of(word(act, 5)?)?,
-    })
+/// Whether this tag stands from the second place of an act on: the occurrence, the change, the attempt and its way.
+fn has_tag(act: &[Value], tag: Tag) -> bool {
+    has_number(act, 2, tag.occ)
+        && has_number(act, 3, u64::from(tag.change))
+        && has_number(act, 4, u64::from(tag.attempt))
+        && has_word(act, 5, word_of(tag.way).as_bytes())
 }
 
-/// Whether these are the numbers behind the first place of an act.
-pub fn are(act: &[Value], numbers: &[u64]) -> Result<bool, CaseFault> {
-    for (place, found) in numbers.iter().enumerate() {
-        if number(act, place.saturating_add(1))? != *found {
-            return Ok(false);
+/// Whether these are the numbers behind the first place of an act; they aren't where it is misspelled, so that it doesn't come out right.
+pub fn are(act: &[Value], numbers: &[u64]) -> bool {
+    for place in 0..numbers.len() {
+        if !has_number(act, place.saturating_add(1), numbers[place]) {
+            return false;
         }
     }
-    Ok(act.len() == numbers.len().saturating_add(1))
+    act.len() == numbers.len().saturating_add(1)
+}
+
+/// Whether these bytes are those.
+pub fn is_bytes(bytes: Vec<u8>, those: &[u8]) -> bool {
+    bytes.as_slice() == those
+}
+
+/// Whether this text is the word at this place of an act.
+pub fn is_text(text: String, act: &[Value], place: usize) -> bool {
+    has_word(act, place, text.as_bytes())
+}
+
+/// Whether the word at the second place of an act is what this work does.
+fn does(alloc: Global, work: &Act, act: &[Value]) -> Result<bool, CaseFault> {
+    Ok(is_text(work_text(alloc, work)?, act, 2))
 }
 
 impl Stage {
@@ -96,14 +116,14 @@ impl Stage {
     }
 
     /// `["status", N]`, or one of several numbers: the last command ended with this status.
-    pub fn has_status(&self, act: &[Value]) -> Result<bool, CaseFault> {
-        let status = u64::from(self.ran.status);
+    pub fn has_status(&self, act: &[Value]) -> bool {
+        let status = Some(u64::from(self.ran.status));
         for value in behind(act, 1) {
-            if value.as_u64() == Some(status) {
-                return Ok(true);
+            if value.as_u64() == status {
+                return true;
             }
         }
-        Ok(false)
+        false
     }
 
     /// Whether the text that stands behind the word of an act stands so in these bytes.
@@ -119,24 +139,25 @@ impl Stage {
     }
 
     /// `["done jobs", CHANGE..]`: the jobs are all done, and are for these changes, in this order.
-    pub fn are_done(&self, act: &[Value]) -> Result<bool, CaseFault> {
+    pub fn are_done(&self, act: &[Value]) -> bool {
         let changes = behind(act, 1);
-        for (place, change) in changes.iter().enumerate() {
-            if change.as_u64() != change_done(&self.site, place) {
-                return Ok(false);
+        for place in 0..changes.len() {
+            if changes[place].as_u64() != change_done(&self.site, place) {
+                return false;
             }
         }
-        Ok(self.site.jobs() == changes.len())
+        self.site.jobs() == changes.len()
     }
 
     /// `["job", PLACE, OCCURRENCE, CHANGE, ATTEMPT, WAY]`: the job at this place, from 0, is for this attempt.
-    pub fn has_job(&self, act: &[Value]) -> Result<bool, CaseFault> {
-        let place = count(act, 1)?;
-        if place >= self.site.jobs() {
-            return Ok(false);
+    pub fn has_job(&self, act: &[Value]) -> bool {
+        match count(act, 1) {
+            Ok(place) if place < self.site.jobs() => {
+                let (tag, _, _) = self.site.job(place);
+                has_tag(act, tag)
+            }
+            _ => false,
         }
-        let (tag, _, _) = self.site.job(place);
-        Ok(tag == tag_of(act)?)
     }
 
     /// `["does", PLACE, WORK]`: the work of the job at this place, from 0, is this.
@@ -146,13 +167,13 @@ impl Stage {
             return Ok(false);
         }
         let (_, work, _) = self.site.job(place);
-        Ok(work_text(alloc, &work)?.as_str() == word(act, 2)?)
+        does(alloc, &work, act)
     }
 
     /// Whether the file has these steps behind its base, and the jobs agree with them.
     fn has_left(&self, alloc: Global, steps: &[Step]) -> Result<bool, CaseFault> {
-        let file = journal_with(alloc, &self.base, steps)?;
-        Ok(self.site.file() == file.as_slice() && agrees(alloc, &self.site, steps)?)
+        let has_file = is_bytes(journal_with(alloc, &self.base, steps)?, self.site.file());
+        Ok(has_file && agrees(alloc, &self.site, steps)?)
     }
 
     /// `["steps", STEP..]`: the file has these steps behind its base, and the jobs agree with them.
@@ -164,13 +185,15 @@ impl Stage {
     /// `["left"]`: the file has the records that are left of the whole life, the jobs agree with them, and are as many as were begun.
     pub fn is_left(&self, alloc: Global) -> Result<bool, CaseFault> {
         let steps = self.whole.steps_to(alloc, self.stop.records)?;
-        let front = front_with(alloc, &self.base, &steps)?;
+        self.has_front(alloc, &steps)
+    }
+
+    /// Whether the file has these steps behind its base, the jobs agree with them, and are as many as were begun.
+    fn has_front(&self, alloc: Global, steps: &[Step]) -> Result<bool, CaseFault> {
         let jobs = self.whole.earlier.jobs.saturating_add(self.stop.begins);
-        Ok(
-            front_of(self.site.file()) == front.as_slice()
-                && self.site.jobs() == jobs
-                && agrees(alloc, &self.site, &steps)?,
-        )
+        let front = front_of(self.site.file());
+        let has_front = is_bytes(front_with(alloc, &self.base, steps)?, front);
+        Ok(has_front && self.site.jobs() == jobs && agrees(alloc, &self.site, steps)?)
     }
 
     /// `["again"]`: the file has all steps of the whole life, behind the records that were there before the last command, where an attempt that

@@ -1,8 +1,9 @@
 //! Acts that run a command or make a turn, and what stops a life.
 
-use crate::objects::{clock_at, run_over, words_of};
+use crate::checks::{are, is_bytes};
+use crate::objects::{clock_at, mouth_at, put_word, run_over, words_of};
 use crate::stage::Stage;
-use case_lives::{CaseFault, Earlier, behind, code, count, number, opening, part};
+use case_lives::{CaseFault, Earlier, behind, count, number, opening, part, word};
 use executor::Manager;
 use grant_desk::GrantAll;
 use lcm_api::Mouth;
@@ -20,11 +21,8 @@ use vnfm_base::{Moment, Text};
 /// The words of a command, as an act spells them.
 pub fn command_of(alloc: Global, values: &[Value]) -> Result<Vec<Text>, CaseFault> {
     let mut words = Vec::new(alloc);
-    for value in values {
-        let Some(word) = value.as_str() else {
-            return Err(CaseFault::Spelling);
-        };
-        words.push(Text::of_string(String::from_str(alloc, word)?))?;
+    for place in 0..values.len() {
+        put_word(alloc, &mut words, word(values, place)?)?;
     }
     Ok(words)
 }
@@ -73,6 +71,17 @@ fn behind_the_begin(site: &MemSite) -> usize {
         }
     }
     site.moment()
+}
+
+/// Whether a turn was made that came to the counts behind the first place of an act, and the file stays exactly where it acted nothing.
+fn has_made(act: &[Value], made: Option<Turn>, stays: bool) -> bool {
+    match made {
+        Some(turn) => {
+            let (acted, waiting) = (u64::from(turn.acted), u64::from(turn.waiting));
+            are(act, &[acted, waiting, u64::from(turn.unreached)]) && stays == (acted == 0)
+        }
+        None => false,
+    }
 }
 
 impl Stage {
@@ -163,8 +172,8 @@ impl Stage {
     /// Answers the session of the connection that is planned, at this moment: how many replies were told.
     fn answer(&mut self, alloc: Global, now: u64) -> Result<Option<u32>, AllocError> {
         let door = self.door(alloc);
+        let mut mouth = mouth_at(alloc, door)?;
         let mut clock = clock_at(alloc, now)?;
-        let mut mouth = Mouth::new(alloc, MemDoor::new(alloc, door)?)?;
         let replies = serve(alloc, &mut self.site, &mut mouth, &mut clock);
         self.ran.told = mouth.door().conn().out().to_vec(alloc)?;
         Ok(replies)
@@ -173,25 +182,20 @@ impl Stage {
     /// `["answers", NOW, TEXT, TOLD]`: the session of a connection with this text, whose second write fails, is answered at this moment with this
     /// one reply. No turn is made behind it.
     pub fn answers(&mut self, alloc: Global, act: &[Value]) -> Result<bool, CaseFault> {
+        let (now, asked, told) = (number(act, 1)?, part(act, 2)?, part(act, 3)?);
         self.keep_file(alloc)?;
-        self.plan_second_write(alloc, part(act, 2)?)?;
-        let replies = self.answer(alloc, number(act, 1)?)?;
-        let told = self.names.text(alloc, part(act, 3)?)?;
-        Ok(replies == Some(1) && self.ran.told.as_slice() == told.as_slice())
+        self.plan_second_write(alloc, asked)?;
+        let replies = self.answer(alloc, now)?;
+        let told = self.names.text(alloc, told)?;
+        Ok(is_bytes(told, &self.ran.told) && replies == Some(1))
     }
 
     /// `["turn", ACTED, WAITING, UNREACHED]`: opens the journal and makes a turn, which comes to these counts, and leaves the file where it records
     /// nothing.
     pub fn turn(&mut self, alloc: Global, act: &[Value]) -> Result<bool, CaseFault> {
-        let told = Turn {
-            acted: code(act, 1)?,
-            waiting: code(act, 2)?,
-            unreached: code(act, 3)?,
-        };
         self.keep_file(alloc)?;
         let made = one_turn(alloc, &mut self.site, &mut self.granting);
-        let stays = self.site.file() == self.before.as_slice();
-        Ok(made == Some(told) && stays == (told.acted == 0))
+        Ok(has_made(act, made, self.stays()))
     }
 
     /// `["renew"]`: the site behind what was done, with no call on its record.

@@ -2,8 +2,9 @@
 //!
 //! A descriptor is the text of an Onboarded, and an ask that of an Asked (docs/EVENTS.md).
 
+use crate::checks::is_text;
 use crate::stage::Stage;
-use case_lives::{CaseFault, code, descriptor, event_of, list, name, operation, part, word};
+use case_lives::{CaseFault, code, descriptor, event_of, list, name, operation, part};
 use lcm_events::{Ask, Event, Holding, Listed, Vnfd};
 use lcm_model::are_levels_in;
 use lcm_plans::{level_of, target, vnfd_valid};
@@ -20,6 +21,11 @@ fn named_text(alloc: Global, vnfd: &Vnfd, level: &Name) -> Result<String, AllocE
         Ok(levels) => format!(in alloc; "{:?}", levels.as_slice()),
         Err(fault) => format!(in alloc; "{fault}"),
     }
+}
+
+/// The levels of the instantiation level of this name of the descriptor that was onboarded, or why there are none.
+fn level_text(alloc: Global, onboarded: &Event, level: &Name) -> Result<String, CaseFault> {
+    Ok(named_text(alloc, descriptor(onboarded)?, level)?)
 }
 
 /// An instance at these levels, of which nothing stands.
@@ -62,18 +68,28 @@ impl Stage {
 
     /// `["named", ONBOARDED, NAME, TEXT]`: the descriptor's instantiation level of this name has these levels, or there are none, for this cause.
     pub fn has_level(&self, alloc: Global, act: &[Value]) -> Result<bool, CaseFault> {
+        let level = name(act, 2)?;
         let onboarded = self.event(alloc, act, 1)?;
-        let text = named_text(alloc, descriptor(&onboarded)?, &name(act, 2)?)?;
-        Ok(text.as_str() == word(act, 3)?)
+        Ok(is_text(level_text(alloc, &onboarded, &level)?, act, 3))
     }
 
     /// `["aims", ONBOARDED, LEVELS, ASKED, TEXT]`: from these levels the ask aims at those, or at none, for this cause.
     pub fn aims(&self, alloc: Global, act: &[Value]) -> Result<bool, CaseFault> {
-        let onboarded = self.event(alloc, act, 1)?;
-        let asked = self.event(alloc, act, 3)?;
         let from = at_levels(alloc, list(act, 2)?)?;
-        let ask = &operation(&asked)?.ask;
-        let text = aim_text(alloc, descriptor(&onboarded)?, &from, ask)?;
-        Ok(text.as_str() == word(act, 4)?)
+        let onboarded = self.event(alloc, act, 1)?;
+        Ok(is_text(self.aim(alloc, &onboarded, &from, act)?, act, 4))
+    }
+
+    /// What the ask whose text stands at the fourth place of an act aims at, of an instance of this descriptor at these levels.
+    fn aim(
+        &self,
+        alloc: Global,
+        onboarded: &Event,
+        from: &Holding,
+        act: &[Value],
+    ) -> Result<String, CaseFault> {
+        let vnfd = descriptor(onboarded)?;
+        let asked = self.event(alloc, act, 3)?;
+        Ok(aim_text(alloc, vnfd, from, &operation(&asked)?.ask)?)
     }
 }

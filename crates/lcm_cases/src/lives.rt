@@ -1,9 +1,7 @@
 //! Whole lives, which are stopped or of which a call fails, and short ones, of which each is stopped at another of its calls.
 
 use crate::stage::Stage;
-use case_lives::{
-    CaseFault, Whole, calls_of, count, front_of, list, opening, part, plain_site, steps_of,
-};
+use case_lives::{CaseFault, calls_of, count, front_of, list, opening, part, plain_site, steps_of};
 use grant_desk::GrantAll;
 use serde_json::Value;
 use site_traits::Choice;
@@ -28,15 +26,11 @@ impl Stage {
     /// `["life", [STEP..], [STEP..]]`: what was done on the site, since it was made or renewed, is a whole life of the second steps, behind the
     /// first ones.
     pub fn take_life(&mut self, alloc: Global, act: &[Value]) -> Result<(), CaseFault> {
-        let before = steps_of(alloc, list(act, 1)?)?;
-        let steps = steps_of(alloc, list(act, 2)?)?;
-        let site = mem::replace(&mut self.site, plain_site(alloc, &[])?);
-        self.whole = Whole {
-            site,
-            before,
-            steps,
-            earlier: self.earlier,
-        };
+        let (before, steps) = (list(act, 1)?, list(act, 2)?);
+        self.whole.before = steps_of(alloc, before)?;
+        self.whole.steps = steps_of(alloc, steps)?;
+        self.whole.site = mem::replace(&mut self.site, plain_site(alloc, &[])?);
+        self.whole.earlier = self.earlier;
         Ok(())
     }
 
@@ -82,7 +76,12 @@ impl Stage {
         let begins = made.saturating_sub(self.whole.earlier.begins);
         self.stop = self.whole.fault(self.stop.place, begins);
         self.granting = GrantAll::new(alloc)?;
-        Ok(self.ran.status == 3 && self.ran.printed.as_slice() == b"site fault\n".as_slice())
+        Ok(self.has_fallen())
+    }
+
+    /// Whether the last command ended with 3 and `site fault`.
+    fn has_fallen(&self) -> bool {
+        self.ran.status == 3 && self.ran.printed.as_slice() == b"site fault\n".as_slice()
     }
 
     /// Whether a short life of this number, stopped in its turn with this choice, leaves all records that were there.
@@ -104,10 +103,22 @@ impl Stage {
         act: &[Value],
         choice: Choice,
     ) -> Result<bool, CaseFault> {
-        let end = self.names.text(alloc, part(act, 3)?)?;
         let first = count(act, 1)?;
+        let end = self.names.text(alloc, part(act, 3)?)?;
+        self.lives_to(alloc, first, choice, &end)
+    }
+
+    /// Whether short lives, from the one of that number on, each stopped in its turn with that choice, keep each record that was there, and come to
+    /// records that end with this.
+    fn lives_to(
+        &mut self,
+        alloc: Global,
+        first: usize,
+        choice: Choice,
+        end: &[u8],
+    ) -> Result<bool, CaseFault> {
         for life in 0..LIVES {
-            if front_of(self.site.file()).ends_with(&end) {
+            if front_of(self.site.file()).ends_with(end) {
                 return Ok(true);
             }
             if !self.lives_on(alloc, first.saturating_add(life), choice)? {

@@ -28,8 +28,8 @@ use std::io::{Input, Print, Read};
 /// Plays a run: the number of the act that doesn't go well, from 1, where there is one.
 fn play(stage: &mut Stage, alloc: Global, run: &[Value]) -> Result<Option<usize>, CaseFault> {
     stage.begin(alloc)?;
-    for (place, act) in run.iter().enumerate().skip(1) {
-        if !play_act(stage, alloc, entries(act)?)? {
+    for place in 1..run.len() {
+        if !play_act(stage, alloc, entries(&run[place])?)? {
             return Ok(Some(place));
         }
     }

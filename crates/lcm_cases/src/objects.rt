@@ -83,13 +83,18 @@ fn objects_of(
     let clock = clock_at(alloc, 1_700_000_000_000)?;
     let sink = MemSink::new(alloc, failing_put)?;
     let courier = MemCourier::new(alloc, Vec::new(alloc))?;
-    let mouth = Mouth::new(alloc, MemDoor::new(alloc, door)?)?;
+    let mouth = mouth_at(alloc, door)?;
     Ok(Objects {
         mouth,
         courier,
         clock,
         sink,
     })
+}
+
+/// A mouth with this door.
+pub fn mouth_at(alloc: Global, door: Vec<DoorPlan>) -> Result<Mouth<MemDoor>, AllocError> {
+    Mouth::new(alloc, MemDoor::new(alloc, door)?)
 }
 
 /// A clock that always gives this.
@@ -112,15 +117,15 @@ fn report(alloc: Global, status: u8, objects: &Objects) -> Result<Ran, AllocErro
 
 /// How many connections came to the door, where each was told what the last was and was hung up; 0 where one wasn't.
 fn alike(door: &MemDoor) -> usize {
-    let told = door.conn().out();
+    let (told, past) = (door.conn().out(), door.past());
     // The first of the past ones is no connection, but stood there before any came.
-    for conn in door.past().iter().skip(1) {
-        if !has_heard(conn, told) {
+    for place in 1..past.len() {
+        if !has_heard(&past[place], told) {
             return 0;
         }
     }
     if has_heard(door.conn(), told) {
-        return door.past().len();
+        return past.len();
     }
     0
 }
@@ -157,9 +162,21 @@ pub fn run_over<O: Orchestrator>(
 pub fn words_of(alloc: Global, texts: &[&str]) -> Result<Vec<Text>, AllocError> {
     let mut words = Vec::new(alloc);
     for text in texts {
-        words.push(Text::of_string(String::from_str(alloc, text)?))?;
+        put_word(alloc, &mut words, text)?;
     }
     Ok(words)
+}
+
+/// Puts this word.
+pub fn put_word(alloc: Global, words: &mut Vec<Text>, word: &str) -> Result<(), AllocError> {
+    words.push(Text::of_string(String::from_str(alloc, word)?))?;
+    Ok(())
+}
+
+/// Puts a piece with these bytes.
+pub fn put_piece(alloc: Global, pieces: &mut Vec<Bytes>, piece: &[u8]) -> Result<(), AllocError> {
+    pieces.push(Bytes::of(alloc, piece)?)?;
+    Ok(())
 }
 
 /// The connection with these bytes, in pieces of this size.
@@ -172,7 +189,7 @@ pub fn connection(
 ) -> Result<DoorPlan, AllocError> {
     let mut pieces = Vec::new(alloc);
     for piece in bytes.chunks(size.max(1)) {
-        pieces.push(Bytes::of(alloc, piece)?)?;
+        put_piece(alloc, &mut pieces, piece)?;
     }
     Ok(DoorPlan::Conn {
         role: Role::Orchestrator,
@@ -185,8 +202,24 @@ pub fn connection(
 /// Runs `once` over this site for a connection with these bytes, with an orchestrator that is never reached.
 pub fn ask(alloc: Global, site: &mut MemSite, bytes: &[u8]) -> Result<Ran, AllocError> {
     let words = words_of(alloc, &["once", "--journal", "j"])?;
-    let mut door = Vec::new(alloc);
-    door.push(connection(alloc, bytes, bytes.len(), None, None)?)?;
+    ask_by(alloc, &words, site, bytes)
+}
+
+/// Runs these words over this site for a connection with these bytes, with an orchestrator that is never reached.
+fn ask_by(
+    alloc: Global,
+    words: &[Text],
+    site: &mut MemSite,
+    bytes: &[u8],
+) -> Result<Ran, AllocError> {
     let mut orchestrator = MemOrchestrator::new(alloc, Vec::new(alloc))?;
-    run_over(alloc, &words, site, door, &mut orchestrator, None)
+    let door = one_of(alloc, connection(alloc, bytes, bytes.len(), None, None)?)?;
+    run_over(alloc, words, site, door, &mut orchestrator, None)
+}
+
+/// What comes of a door to which one connection comes.
+fn one_of(alloc: Global, plan: DoorPlan) -> Result<Vec<DoorPlan>, AllocError> {
+    let mut door = Vec::new(alloc);
+    door.push(plan)?;
+    Ok(door)
 }

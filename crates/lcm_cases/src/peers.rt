@@ -1,7 +1,8 @@
 //! Acts that make turns with an orchestrator whose answers are planned or that gives none, and that open a journal and ask its manager.
 
+use crate::checks::{is_bytes, is_text};
 use crate::stage::Stage;
-use case_lives::{CaseFault, about, list, name, number, part, truth, word};
+use case_lives::{CaseFault, about, list, name, number, part, truth};
 use executor::{Manager, WorkFault};
 use lcm_events::Event;
 use occ_work::{Turn, turn};
@@ -62,6 +63,16 @@ fn turn_text<O: Orchestrator>(
     };
     let now = Moment::of(1_700_000_000_000);
     end_text(alloc, &turn(alloc, &mut manager, site, peer, now))
+}
+
+/// Opens the journal and makes a turn with an orchestrator that gives no answer: the body that it is asked with last.
+fn asked_last(alloc: Global, site: &mut MemSite) -> Result<Vec<u8>, AllocError> {
+    let mut listener = Listener {
+        body: Vec::new(alloc),
+        faults: 0,
+    };
+    let _end = turn_text(alloc, site, &mut listener)?;
+    Ok(listener.body)
 }
 
 /// Opens the journal: what its manager says of how much there is.
@@ -148,7 +159,12 @@ fn asked_as_said(end: Ended, stand: Option<usize>, asked: usize) -> bool {
 
 /// The place, from 0, of the text that these bytes are.
 fn place_among(texts: &[Vec<u8>], bytes: &[u8]) -> Option<usize> {
-    texts.iter().position(|text| text.as_slice() == bytes)
+    for place in 0..texts.len() {
+        if texts[place].as_slice() == bytes {
+            return Some(place);
+        }
+    }
+    None
 }
 
 impl Stage {
@@ -191,24 +207,19 @@ impl Stage {
     /// `["peer turn", TEXT]`: opens the journal and makes a turn with that orchestrator, which ends so: `ACTED WAITING UNREACHED`, or what ended it.
     pub fn makes_turn(&mut self, alloc: Global, act: &[Value]) -> Result<bool, CaseFault> {
         let text = turn_text(alloc, &mut self.site, &mut self.peer)?;
-        Ok(text.as_str() == word(act, 1)?)
+        Ok(is_text(text, act, 1))
     }
 
     /// `["asks", TEXT]`: opens the journal and makes a turn with an orchestrator that gives no answer, which is asked last with this body.
     pub fn asks(&mut self, alloc: Global, act: &[Value]) -> Result<bool, CaseFault> {
-        let mut listener = Listener {
-            body: Vec::new(alloc),
-            faults: 0,
-        };
-        let _end = turn_text(alloc, &mut self.site, &mut listener)?;
         let body = self.names.text(alloc, part(act, 1)?)?;
-        Ok(listener.body.as_slice() == body.as_slice())
+        Ok(is_bytes(body, &asked_last(alloc, &mut self.site)?))
     }
 
     /// `["opened", TEXT]`: the journal is opened, and its manager has so many records, descriptors and instances, or it isn't, for this cause.
     pub fn is_opened(&mut self, alloc: Global, act: &[Value]) -> Result<bool, CaseFault> {
         let text = opened_text(alloc, &mut self.site)?;
-        Ok(text.as_str() == word(act, 1)?)
+        Ok(is_text(text, act, 1))
     }
 
     /// `["descriptor", NAME, TRUTH]`: the journal is opened, and its manager has the descriptor of this name, or hasn't.
@@ -220,6 +231,6 @@ impl Stage {
     /// `["read back", PLACE, TEXT]`: the journal is opened, and its event at this place, from 1, is read back as this.
     pub fn is_read_back(&mut self, alloc: Global, act: &[Value]) -> Result<bool, CaseFault> {
         let text = event_text(alloc, &mut self.site, number(act, 1)?)?;
-        Ok(text.as_str() == word(act, 2)?)
+        Ok(is_text(text, act, 2))
     }
 }

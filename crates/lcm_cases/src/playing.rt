@@ -15,10 +15,10 @@
 use crate::checks::{Standing, are};
 use crate::stage::Stage;
 use case_lives::{
-    CaseFault, behind, calls_of, changes_standing, count, entries, list, number, part, word,
+    Calls, CaseFault, behind, calls_of, changes_standing, count, entries, list, number, part, word,
 };
 use serde_json::Value;
-use site_traits::{Choice, DoorPlan, GrantPlan};
+use site_traits::{Choice, DoorPlan, GrantPlan, MemSite};
 use std::alloc::Global;
 
 /// Plays an act on the words of a command line, on the program that is started with them, or on levels.
@@ -47,37 +47,37 @@ fn spells(stage: &Stage, alloc: Global, act: &[Value]) -> Result<bool, CaseFault
 fn counts(stage: &Stage, alloc: Global, act: &[Value]) -> Result<bool, CaseFault> {
     let (site, peer) = (&stage.site, &stage.peer);
     match word(act, 0)? {
-        "moment" => are(act, &[site.moment() as u64]),
-        "calls" => {
-            let made = calls_of(site);
-            are(
-                act,
-                &[made.begins as u64, made.looks as u64, made.aborts as u64],
-            )
-        }
-        "faults" => are(
-            act,
-            &[
-                site.faults(),
-                site.vim_faults(),
-                site.look_faults(),
-                site.refusals(),
-            ],
-        ),
-        "clock" => are(act, &[stage.ran.clock]),
-        "file length" => are(act, &[site.file().len() as u64]),
-        "grown" => are(act, &[stage.grown()]),
-        "job count" => are(act, &[site.jobs() as u64]),
-        "jobs" => are(act, &[site.jobs() as u64, changes_standing(site) as u64]),
-        "lost" => are(act, &[stage.lost as u64]),
-        "alike" => are(act, &[stage.ran.alike as u64]),
-        "grants" => are(act, &[stage.granting.asked() as u64]),
-        "peer calls" => are(
+        "moment" => Ok(are(act, &[site.moment() as u64])),
+        "calls" => Ok(are_calls(act, calls_of(site))),
+        "faults" => Ok(are_faults(act, site)),
+        "clock" => Ok(are(act, &[stage.ran.clock])),
+        "file length" => Ok(are(act, &[site.file().len() as u64])),
+        "grown" => Ok(are(act, &[stage.grown()])),
+        "job count" => Ok(are(act, &[site.jobs() as u64])),
+        "jobs" => Ok(are(act, &[site.jobs() as u64, changes_standing(site) as u64])),
+        "lost" => Ok(are(act, &[stage.lost as u64])),
+        "alike" => Ok(are(act, &[stage.ran.alike as u64])),
+        "grants" => Ok(are(act, &[stage.granting.asked() as u64])),
+        "peer calls" => Ok(are(
             act,
             &[peer.asked() as u64, peer.polled() as u64, peer.faults()],
-        ),
+        )),
         _ => spells(stage, alloc, act),
     }
+}
+
+/// Whether the numbers of an act are those of this site's failed calls on the disk and on jobs, failed looks and refused begins.
+fn are_faults(act: &[Value], site: &MemSite) -> bool {
+    let (disk, jobs) = (site.faults(), site.vim_faults());
+    are(act, &[disk, jobs, site.look_faults(), site.refusals()])
+}
+
+/// Whether the numbers of an act are those of these calls on jobs.
+fn are_calls(act: &[Value], calls: Calls) -> bool {
+    are(
+        act,
+        &[calls.begins as u64, calls.looks as u64, calls.aborts as u64],
+    )
 }
 
 /// Plays an act that compares bytes with a text: of what the last connection was told, all with `["told", TEXT]`, the front with `["told front", TEXT]`
@@ -106,9 +106,9 @@ fn finds(stage: &mut Stage, alloc: Global, act: &[Value]) -> Result<bool, CaseFa
         "ended" => Ok(stage.ran.ended),
         "answered" => stage.is_answered(alloc, part(act, 1)?),
         "only answered" => Ok(stage.stays() && stage.is_answered(alloc, part(act, 1)?)?),
-        "status" => stage.has_status(act),
-        "done jobs" => stage.are_done(act),
-        "job" => stage.has_job(act),
+        "status" => Ok(stage.has_status(act)),
+        "done jobs" => Ok(stage.are_done(act)),
+        "job" => Ok(stage.has_job(act)),
         "does" => stage.job_does(alloc, act),
         "steps" => stage.has_steps(alloc, act),
         "left" => stage.is_left(alloc),
@@ -134,7 +134,7 @@ fn runs(stage: &mut Stage, alloc: Global, act: &[Value]) -> Result<bool, CaseFau
         "opened" => stage.is_opened(alloc, act),
         "descriptor" => stage.has_descriptor(alloc, act),
         "read back" => stage.is_read_back(alloc, act),
-        "lives" => stage.lives(alloc, act, choice_of(word(act, 2)?)?),
+        "lives" => stage.lives(alloc, act, choice_at(act, 2)?),
         _ => finds(stage, alloc, act),
     }
 }
@@ -159,36 +159,40 @@ fn plans(stage: &mut Stage, alloc: Global, act: &[Value]) -> Result<bool, CaseFa
         "blind" => stage.plan.blind = Some(number(act, 1)?),
         "sink" => stage.outside.put = Some(number(act, 1)?),
         "pieces" => stage.outside.piece = count(act, 1)?,
-        "nobody" => stage.outside.door.push(DoorPlan::Nobody)?,
-        "no door" => stage.outside.door.push(DoorPlan::NextFails)?,
-        "says nothing" => stage.outside.says.push(GrantPlan::Fail)?,
+        "nobody" => stage.plan_door_as(DoorPlan::Nobody)?,
+        "no door" => stage.plan_door_as(DoorPlan::NextFails)?,
+        "says nothing" => stage.plan_grant(GrantPlan::Fail)?,
         _ => return runs(stage, alloc, act),
     }
     Ok(true)
 }
 
-/// Plays an act that prepares a command, or another. `["keep", NAME]`: the site's file has that name; `["base"]`: steps are compared behind the file as
-/// it is now.
+/// An act that ended so goes well, where it could be played.
+fn played(end: Result<(), CaseFault>) -> Result<bool, CaseFault> {
+    end?;
+    Ok(true)
+}
+
+/// Plays an act that prepares a command, or another.
 fn plays(stage: &mut Stage, alloc: Global, act: &[Value]) -> Result<bool, CaseFault> {
     match word(act, 0)? {
-        "let" => stage.name_text(alloc, act)?,
-        "keep" => stage.names.put(alloc, word(act, 1)?, stage.site.file())?,
-        "keep records" => stage.name_records(alloc, act)?,
-        "work" => stage.plan_work(alloc, act)?,
-        "site" => stage.make_site(alloc, act)?,
-        "base" => stage.base = stage.site.file().to_vec(alloc)?,
-        "door" => stage.plan_door(alloc, part(act, 1)?)?,
-        "bad door" => stage.plan_bad_door(alloc, act)?,
-        "cuts" => stage.plan_cuts(alloc, act)?,
-        "says" => stage.plan_answer(alloc, act)?,
-        "peer" => stage.make_peer(alloc)?,
-        "renew" => stage.renew(alloc)?,
-        "life" => stage.take_life(alloc, act)?,
-        "stop behind" => stage.stop_behind(alloc, act)?,
-        "stop behind the begin" => stage.stop_behind_the_begin(alloc)?,
-        _ => return plans(stage, alloc, act),
+        "let" => played(stage.name_text(alloc, act)),
+        "keep" => played(stage.keep(alloc, act)),
+        "keep records" => played(stage.keep_records(alloc, act)),
+        "work" => played(stage.plan_work(alloc, act)),
+        "site" => played(stage.make_site(alloc, act)),
+        "base" => played(stage.take_base(alloc)),
+        "door" => played(stage.plan_door(alloc, part(act, 1)?)),
+        "bad door" => played(stage.plan_bad_door(alloc, act)),
+        "cuts" => played(stage.plan_cuts(alloc, act)),
+        "says" => played(stage.plan_answer(alloc, act)),
+        "peer" => played(stage.make_peer(alloc)),
+        "renew" => played(stage.renew(alloc)),
+        "life" => played(stage.take_life(alloc, act)),
+        "stop behind" => played(stage.stop_behind(alloc, act)),
+        "stop behind the begin" => played(stage.stop_behind_the_begin(alloc)),
+        _ => plans(stage, alloc, act),
     }
-    Ok(true)
 }
 
 /// Plays the act so many times.
@@ -219,15 +223,25 @@ fn is_between(act: &[Value], number: usize) -> Result<bool, CaseFault> {
     Ok(count(act, 1)? <= number && number <= count(act, 2)?)
 }
 
-/// Plays the act where this holds.
+/// Whether there is a number and it is one of those.
+fn is_there(act: &[Value], number: Option<usize>) -> Result<bool, CaseFault> {
+    match number {
+        Some(number) => is_between(act, number),
+        None => Ok(false),
+    }
+}
+
+/// Plays the act at this place of an act where this holds.
 fn plays_where(
     stage: &mut Stage,
     alloc: Global,
     act: &[Value],
+    place: usize,
     holds: bool,
 ) -> Result<bool, CaseFault> {
+    let inner = list(act, place)?;
     if holds {
-        plays_it(stage, alloc, act)
+        plays_it(stage, alloc, inner)
     } else {
         Ok(true)
     }
@@ -235,40 +249,31 @@ fn plays_where(
 
 /// Plays an act, or one that is only played at some stops.
 fn plays_within(stage: &mut Stage, alloc: Global, act: &[Value]) -> Result<bool, CaseFault> {
-    let stop = stage.stop;
+    let (stop, last) = (stage.stop, stage.whole.site.moment());
     match word(act, 0)? {
-        "at records" => { plays_where(stage, alloc, list(act, 3)?, is_between(act, stop.records)?) }
-        "at calls" => {
-            let is_there = match stop.calls {
-                Some(calls) => is_between(act, calls)?,
-                None => false,
-            };
-            plays_where(stage, alloc, list(act, 3)?, is_there)
-        }
-        "unopened" => plays_where(stage, alloc, list(act, 1)?, stop.calls.is_none()),
-        "at first" => plays_where(stage, alloc, list(act, 1)?, stop.place == 0),
-        "at last" => {
-            let last = stage.whole.site.moment();
-            plays_where(stage, alloc, list(act, 1)?, stop.place == last)
-        }
+        "at records" => plays_where(stage, alloc, act, 3, is_between(act, stop.records)?),
+        "at calls" => plays_where(stage, alloc, act, 3, is_there(act, stop.calls)?),
+        "unopened" => plays_where(stage, alloc, act, 1, stop.calls.is_none()),
+        "at first" => plays_where(stage, alloc, act, 1, stop.place == 0),
+        "at last" => plays_where(stage, alloc, act, 1, stop.place == last),
         _ => plays_it(stage, alloc, act),
     }
 }
 
 /// Plays these acts, up to the first that doesn't go well.
 fn play_within(stage: &mut Stage, alloc: Global, acts: &[Value]) -> Result<bool, CaseFault> {
-    for (place, act) in acts.iter().enumerate() {
+    for place in 0..acts.len() {
         stage.stop.act = place;
-        if !plays_within(stage, alloc, entries(act)?)? {
+        if !plays_within(stage, alloc, entries(&acts[place])?)? {
             return Ok(false);
         }
     }
     Ok(true)
 }
 
-/// The choice of this word.
-fn choice_of(word: &str) -> Result<Choice, CaseFault> {
-    match word {
+/// The choice of the word at this place of an act.
+fn choice_at(act: &[Value], place: usize) -> Result<Choice, CaseFault> {
+    match word(act, place)? {
         "old" => Ok(Choice::Old),
         "new" => Ok(Choice::New),
         "torn" => Ok(Choice::Torn),
@@ -314,9 +319,11 @@ fn play_fronts(
 ) -> Result<bool, CaseFault> {
     for length in 0..text.len() {
         stage.stop.place = length;
-        stage
-            .names
-            .put(alloc, name, text.get(..length).unwrap_or(text))?;
+        stage.names.put(
+            alloc,
+            name,
+            text.get(..length).unwrap_or(text).to_vec(alloc)?,
+        )?;
         if !play_within(stage, alloc, acts)? {
             return Ok(false);
         }
@@ -324,15 +331,19 @@ fn play_fronts(
     Ok(true)
 }
 
+/// Plays the acts that stand from the fourth place of an act on for each front of its text.
+fn play_each_front(stage: &mut Stage, alloc: Global, act: &[Value]) -> Result<bool, CaseFault> {
+    let (name, value) = (word(act, 1)?, part(act, 2)?);
+    let text = stage.names.text(alloc, value)?;
+    play_fronts(stage, alloc, name, &text, behind(act, 3))
+}
+
 /// Plays an act of a run, or one with acts in it.
 pub fn play_act(stage: &mut Stage, alloc: Global, act: &[Value]) -> Result<bool, CaseFault> {
     match word(act, 0)? {
-        "each stop" => play_stops(stage, alloc, choice_of(word(act, 1)?)?, behind(act, 2)),
+        "each stop" => play_stops(stage, alloc, choice_at(act, 1)?, behind(act, 2)),
         "each fault" => play_faults(stage, alloc, behind(act, 1)),
-        "each front" => {
-            let text = stage.names.text(alloc, part(act, 2)?)?;
-            play_fronts(stage, alloc, word(act, 1)?, &text, behind(act, 3))
-        }
+        "each front" => play_each_front(stage, alloc, act),
         _ => plays_it(stage, alloc, act),
     }
 }

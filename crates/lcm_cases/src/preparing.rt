@@ -1,6 +1,6 @@
 //! Acts that prepare a command: texts, the site, the connections and the answers of the outside.
 
-use crate::objects::connection;
+use crate::objects::{connection, put_piece};
 use crate::stage::Stage;
 use case_lives::{CaseFault, behind, code, count, entries, front_of, number, part, small, word};
 use lcm_events::Role;
@@ -20,8 +20,8 @@ const TAKEN: JobPlan = JobPlan {
 /// The connection with these bytes in two pieces.
 fn in_two(alloc: Global, front: &[u8], back: &[u8]) -> Result<DoorPlan, AllocError> {
     let mut pieces = Vec::new(alloc);
-    pieces.push(Bytes::of(alloc, front)?)?;
-    pieces.push(Bytes::of(alloc, back)?)?;
+    put_piece(alloc, &mut pieces, front)?;
+    put_piece(alloc, &mut pieces, back)?;
     Ok(DoorPlan::Conn {
         role: Role::Orchestrator,
         pieces,
@@ -68,8 +68,8 @@ fn change_plan(
 /// looks find its job running, `broken` with a code how that ends, and `firm` that it can't be aborted.
 fn job_plan(words: &[Value]) -> Result<JobPlan, CaseFault> {
     let mut plan = TAKEN;
-    for (place, value) in words.iter().enumerate() {
-        if let Some(word) = value.as_str() {
+    for place in 0..words.len() {
+        if let Some(word) = words[place].as_str() {
             change_plan(&mut plan, words, place, word)?;
         }
     }
@@ -79,25 +79,47 @@ fn job_plan(words: &[Value]) -> Result<JobPlan, CaseFault> {
 impl Stage {
     /// `["let", NAME, TEXT]`: the text has that name.
     pub fn name_text(&mut self, alloc: Global, act: &[Value]) -> Result<(), CaseFault> {
-        let text = self.names.text(alloc, part(act, 2)?)?;
-        Ok(self.names.put(alloc, word(act, 1)?, &text)?)
+        let (name, value) = (word(act, 1)?, part(act, 2)?);
+        let text = self.names.text(alloc, value)?;
+        Ok(self.names.put(alloc, name, text)?)
+    }
+
+    /// `["keep", NAME]`: the site's file has that name.
+    pub fn keep(&mut self, alloc: Global, act: &[Value]) -> Result<(), CaseFault> {
+        let name = word(act, 1)?;
+        let file = self.site.file().to_vec(alloc)?;
+        Ok(self.names.put(alloc, name, file)?)
+    }
+
+    /// `["base"]`: steps are compared behind the file as it is now.
+    pub fn take_base(&mut self, alloc: Global) -> Result<(), CaseFault> {
+        self.base = self.site.file().to_vec(alloc)?;
+        Ok(())
     }
 
     /// `["keep records", NAME]`: the site's file up to its closed gate has that name.
-    pub fn name_records(&mut self, alloc: Global, act: &[Value]) -> Result<(), CaseFault> {
-        let records = front_of(self.site.file());
-        Ok(self.names.put(alloc, word(act, 1)?, records)?)
+    pub fn keep_records(&mut self, alloc: Global, act: &[Value]) -> Result<(), CaseFault> {
+        let name = word(act, 1)?;
+        let records = front_of(self.site.file()).to_vec(alloc)?;
+        Ok(self.names.put(alloc, name, records)?)
     }
 
     /// `["work", N, PLAN..]`: what comes of the begins on the next site: N are taken, and those behind them come out by these plans.
     pub fn plan_work(&mut self, alloc: Global, act: &[Value]) -> Result<(), CaseFault> {
+        let taken = number(act, 1)?;
         self.plan.work = Vec::new(alloc);
-        for _ in 0..number(act, 1)? {
-            self.plan.work.push(TAKEN)?;
+        for _ in 0..taken {
+            self.plan_begin(TAKEN)?;
         }
         for plan in behind(act, 2) {
-            self.plan.work.push(job_plan(entries(plan)?)?)?;
+            self.plan_begin(job_plan(entries(plan)?)?)?;
         }
+        Ok(())
+    }
+
+    /// Plans what comes of the begin on the next site that is behind those planned before.
+    fn plan_begin(&mut self, plan: JobPlan) -> Result<(), CaseFault> {
+        self.plan.work.push(plan)?;
         Ok(())
     }
 
@@ -116,14 +138,14 @@ impl Stage {
         failing_read: usize,
         failing_write: usize,
     ) -> Result<(), CaseFault> {
+        let (read, write) = (failing(failing_read), failing(failing_write));
         let bytes = self.names.text(alloc, text)?;
-        let plan = connection(
-            alloc,
-            &bytes,
-            self.outside.piece,
-            failing(failing_read),
-            failing(failing_write),
-        )?;
+        let plan = connection(alloc, &bytes, self.outside.piece, read, write)?;
+        self.plan_door_as(plan)
+    }
+
+    /// Plans what comes of the door behind what was planned before.
+    pub fn plan_door_as(&mut self, plan: DoorPlan) -> Result<(), CaseFault> {
         self.outside.door.push(plan)?;
         Ok(())
     }
@@ -146,25 +168,34 @@ impl Stage {
     /// `["cuts", TEXT]`: connections come with this text in pieces of one byte, and in two pieces, cut at each place.
     pub fn plan_cuts(&mut self, alloc: Global, act: &[Value]) -> Result<(), CaseFault> {
         let bytes = self.names.text(alloc, part(act, 1)?)?;
-        self.outside
-            .door
-            .push(connection(alloc, &bytes, 1, None, None)?)?;
+        self.plan_cuts_of(alloc, &bytes)
+    }
+
+    /// Plans connections with these bytes in pieces of one byte, and in two pieces, cut at each place.
+    fn plan_cuts_of(&mut self, alloc: Global, bytes: &[u8]) -> Result<(), CaseFault> {
+        self.plan_door_as(connection(alloc, bytes, 1, None, None)?)?;
         for cut in 0..bytes.len() {
             let (front, back) = bytes.split_at(cut);
-            self.outside.door.push(in_two(alloc, front, back)?)?;
+            self.plan_door_as(in_two(alloc, front, back)?)?;
         }
         Ok(())
     }
 
     /// `["says", STATUS, LOCATION, TEXT]`: the orchestrator of the next command answers this next; an empty location is none.
     pub fn plan_answer(&mut self, alloc: Global, act: &[Value]) -> Result<(), CaseFault> {
-        let body = self.names.text(alloc, part(act, 3)?)?;
-        let status = small(act, 1)?;
-        self.outside.says.push(GrantPlan::Raw {
+        let (status, location, text) = (small(act, 1)?, word(act, 2)?, part(act, 3)?);
+        let body = self.names.text(alloc, text)?;
+        let location = location_of(alloc, location);
+        self.plan_grant(GrantPlan::Raw {
             status,
-            location: location_of(alloc, word(act, 2)?),
+            location,
             body: Bytes::of_vec(body),
-        })?;
+        })
+    }
+
+    /// Plans what the orchestrator of the next command does behind what was planned before.
+    pub fn plan_grant(&mut self, plan: GrantPlan) -> Result<(), CaseFault> {
+        self.outside.says.push(plan)?;
         Ok(())
     }
 }

@@ -3,7 +3,7 @@
 ghost use Rattle.std.specs.Prelude.{◌≡◌, ◌≤◌, ◌+◌, length, true};
 
 use crate::stage::Stage;
-use case_lives::{CaseFault, count, entries, list, number, word};
+use case_lives::{CaseFault, count, entries, has_number, has_word, list, number, word};
 use host_calls::{HostFile, HostFiles, InStream, OutStream, TimeOfDay};
 use lcm_api::Mouth;
 use lcm_events::Role;
@@ -338,14 +338,17 @@ fn mouth_at<'a>(
 /// The program's name, and the words behind it.
 fn arguments_of(alloc: Global, words: &[Value]) -> Result<Vec<String>, CaseFault> {
     let mut all = Vec::new(alloc);
-    all.push(String::from_str(alloc, "vnfm")?)?;
-    for word in words {
-        let Some(word) = word.as_str() else {
-            return Err(CaseFault::Spelling);
-        };
-        all.push(String::from_str(alloc, word)?)?;
+    put_argument(alloc, &mut all, "vnfm")?;
+    for place in 0..words.len() {
+        put_argument(alloc, &mut all, word(words, place)?)?;
     }
     Ok(all)
+}
+
+/// Puts this word.
+fn put_argument(alloc: Global, into: &mut Vec<String>, word: &str) -> Result<(), AllocError> {
+    into.push(String::from_str(alloc, word)?)?;
+    Ok(())
 }
 
 /// The bytes of this site's file, where it was had.
@@ -365,14 +368,28 @@ fn content<S: Site>(alloc: Global, site: &mut S) -> Option<Vec<u8>> {
 
 /// Starts the program with these arguments over this.
 fn play(alloc: Global, arguments: Vec<String>, before: Before<'_>, seen: &mut Seen) {
-    let wrong = before.wrong;
     let mut files = MemFiles {
         alloc,
         file: before.file,
-        wrong,
+        wrong: before.wrong,
         made: 0,
     };
     let mut site = RealSite::made();
+    seen.status = play_on(alloc, arguments, before, &mut files, &mut site, seen);
+    seen.made = files.made;
+    seen.left = content(alloc, &mut site);
+}
+
+/// Starts the program with these arguments over these files and the streams of this: its status.
+fn play_on<'a>(
+    alloc: Global,
+    arguments: Vec<String>,
+    before: Before<'a>,
+    files: &mut MemFiles<'a>,
+    site: &mut RealSite<MemFile<'a>>,
+    seen: &mut Seen,
+) -> u8 {
+    let wrong = before.wrong;
     let mut mouth = mouth_at(alloc, before, &mut seen.told);
     let mut lines = RealSink::made(Going {
         name: "print",
@@ -384,19 +401,17 @@ fn play(alloc: Global, arguments: Vec<String>, before: Before<'_>, seen: &mut Se
         out: &mut seen.errors,
         wrong,
     });
-    seen.status = start(
+    start(
         alloc,
         Ok(arguments.into_iter()),
         &mut Null,
-        &mut files,
-        &mut site,
+        files,
+        site,
         &mut mouth,
         &mut RealClock::made(Day),
         &mut lines,
         &mut errors,
-    );
-    seen.made = files.made;
-    seen.left = content(alloc, &mut site);
+    )
 }
 
 /// What comes of these arguments over this.
@@ -452,12 +467,22 @@ fn wrong_of(plan: &Value) -> Result<Wrong<'_>, CaseFault> {
     })
 }
 
-/// Whether an act has this behind its words.
-fn is_said(seen: &Seen, act: &[Value]) -> Result<bool, CaseFault> {
-    let status = number(act, 2)? == u64::from(seen.status);
-    let lines = word(act, 3)?.as_bytes() == seen.lines.as_slice();
-    let errors = word(act, 4)?.as_bytes() == seen.errors.as_slice();
-    Ok(status && lines && errors && number(act, 5)? == seen.made)
+/// Whether the program told this; nothing, where there is no text.
+fn is_told(text: Option<Vec<u8>>, seen: &Seen) -> bool {
+    text.as_deref().unwrap_or(b"") == seen.told.as_slice()
+}
+
+/// Whether the program left this; no file, where there is no text.
+fn is_left(text: Option<Vec<u8>>, seen: &Seen) -> bool {
+    text.as_deref() == seen.left.as_deref()
+}
+
+/// Whether an act has this behind its words; it hasn't where it is misspelled.
+fn is_said(seen: &Seen, act: &[Value]) -> bool {
+    has_number(act, 2, u64::from(seen.status))
+        && has_word(act, 3, &seen.lines)
+        && has_word(act, 4, &seen.errors)
+        && has_number(act, 5, seen.made)
 }
 
 impl Stage {
@@ -476,12 +501,8 @@ impl Stage {
 
     /// Whether a plan has this as what is told and left.
     fn is_planned(&self, alloc: Global, seen: &Seen, plan: &Value) -> Result<bool, CaseFault> {
-        let told = self.planned(alloc, plan, "told")?;
-        if told.as_deref().unwrap_or(b"") != seen.told.as_slice() {
-            return Ok(false);
-        }
-        let left = self.planned(alloc, plan, "left")?;
-        Ok(left.as_deref() == seen.left.as_deref())
+        let is_told = is_told(self.planned(alloc, plan, "told")?, seen);
+        Ok(is_told && is_left(self.planned(alloc, plan, "left")?, seen))
     }
 
     /// Whether the program with the words of this act, over this, comes to what the act and its plan have.
@@ -494,7 +515,7 @@ impl Stage {
     ) -> Result<bool, CaseFault> {
         let arguments = arguments_of(alloc, list(act, 1)?)?;
         let seen = seen_of(alloc, arguments, before);
-        Ok(is_said(&seen, act)? && self.is_planned(alloc, &seen, plan)?)
+        Ok(is_said(&seen, act) && self.is_planned(alloc, &seen, plan)?)
     }
 
     /// `["start", WORDS, STATUS, PRINTED, ERRORS, MADE, PLAN]`: the program with these words ends with this status, prints this to standard output and

@@ -1,5 +1,6 @@
 //! Acts on the words of a command line: what they set, which page they ask for, and the line that explains how a run ended.
 
+use crate::checks::is_text;
 use crate::commands::command_of;
 use crate::stage::Stage;
 use case_lives::{CaseFault, list, part, truth, word};
@@ -93,22 +94,26 @@ impl Stage {
     /// `["set", WORDS, TEXT]`: these words set this.
     pub fn is_set(&self, alloc: Global, act: &[Value]) -> Result<bool, CaseFault> {
         let words = command_of(alloc, list(act, 1)?)?;
-        Ok(set_by(alloc, &words)?.as_str() == word(act, 2)?)
+        Ok(is_text(set_by(alloc, &words)?, act, 2))
     }
 
     /// `["line", WORDS, STATUS, LOST, UNDELIVERED, LINE]`: a run with these words that ended with this status, lost its journal so and couldn't deliver an
     /// answer, where it says so, is explained by this line.
     pub fn is_explained(&self, alloc: Global, act: &[Value]) -> Result<bool, CaseFault> {
+        let (status, lost, undelivered) = (
+            status(act, 2)?,
+            lost_by(word(act, 3)?)?,
+            truth(act, 4)?,
+        );
         let words = command_of(alloc, list(act, 1)?)?;
-        let lost = lost_by(word(act, 3)?)?;
-        let line = line_of(alloc, &words, status(act, 2)?, lost, truth(act, 4)?)?;
-        Ok(line.as_str() == word(act, 5)?)
+        Ok(is_text(line_of(alloc, &words, status, lost, undelivered)?, act, 5))
     }
 
     /// `["page", WORDS, FRONT]`: these words ask for a page that begins so; for none where that is empty.
     pub fn is_page(&self, alloc: Global, act: &[Value]) -> Result<bool, CaseFault> {
+        let front = word(act, 2)?;
         let words = command_of(alloc, list(act, 1)?)?;
-        let (text, front) = (page_text(&words), word(act, 2)?);
+        let text = page_text(&words);
         Ok(text.starts_with(front) && text.is_empty() == front.is_empty())
     }
 }
