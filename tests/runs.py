@@ -2393,6 +2393,7 @@ def texts_of(runs):
 
 def main():
     title = "the texts of all runs"
+    RUNS.extend(runs_edges.RUNS)
     # (with a title behind it, the run of that title alone, and of the texts those that it needs)
     if sys.argv[1:]:
         found = [it for it in RUNS if it[0] == sys.argv[1]]
