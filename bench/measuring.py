@@ -6,6 +6,7 @@ of the same work.
 """
 import contextlib
 import itertools
+import json
 import os
 import pathlib
 import resource
@@ -64,12 +65,18 @@ def seconds(command, heard=os.devnull, status=0):
     return used() - before
 
 
+def write_run(path, run):
+    """Writes a run of lcm_cases, behind the heading of a module that has it alone."""
+    line = json.dumps(run) + "\n"
+    path.write_text(json.dumps({"module": "bench", "runs": 1, "bytes": len(line)}) + "\n" + line)
+
+
 def cases_seconds(program, runs):
-    """The processor time of lcm_cases over the runs of this file, all of which must go well."""
+    """The processor time of lcm_cases over the run of this file, which must go well."""
     before = used()
     said = answers([program], runs)
     took = used() - before
-    if not said.endswith(b", 0 wrong\n") or said.count(b"\n") > 1:
+    if said != b"bench: 1 runs, 0 wrong\n1 runs, 0 wrong\n":
         sys.exit(f"{runs}: {said.decode()}")
     return took
 

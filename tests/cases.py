@@ -1,50 +1,5 @@
-"""What the scripts beside this one have in common, which write the cases of a program and what they are to come to.
-
-Each of them is named after its program, and is run from the top:
-
-    tests/NAME.py             writes crates/NAME/stdin and crates/NAME/stdout
-    tests/NAME.py --check     tells whether they are stored as they are written here, and ends with 1 where they aren't
-
-A case is a title and acts; an act is an array that begins with its word, and what it is to come to is a line. All that is written out by hand, or by
-the rules of docs/ in another language; nothing of it comes from the program. Below stand also the bytes of events (docs/EVENTS.md).
-"""
-import json
+"""The bytes of events, by docs/EVENTS.md, as the modules of runs spell them: none of it comes from the program."""
 import struct
-import sys
-
-
-class Cases:
-    """The cases of a program."""
-
-    def __init__(self, crate):
-        self.crate, self.cases, self.lines = crate, [], []
-
-    def case(self, title, *acts):
-        """Adds a case of this title; each of its acts is a list, and the line that it comes to."""
-        self.cases.append([title, *[act for act, _ in acts]])
-        self.lines += [title, *["  " + told for _, told in acts]]
-
-    def stdin(self):
-        written = [",\n  ".join(json.dumps(part) for part in case) for case in self.cases]
-        return "[\n" + ",\n".join("[%s]" % it for it in written) + "\n]\n"
-
-    def stdout(self):
-        return "".join(line + "\n" for line in self.lines)
-
-    def main(self):
-        """Writes both files, or compares them."""
-        status = 0
-        for name, text in ("stdin", self.stdin()), ("stdout", self.stdout()):
-            path = "crates/%s/%s" % (self.crate, name)
-            if "--check" in sys.argv[1:]:
-                with open(path, newline="") as it:
-                    if it.read() != text:
-                        print("%s isn't as it is written here" % path)
-                        status = 1
-            else:
-                with open(path, "w", newline="") as it:
-                    it.write(text)
-        sys.exit(status)
 
 
 def latin(data):

@@ -1,22 +1,47 @@
-"""What the scripts that write runs have in common: the runs and the texts that they name, records, and journals that are opened.
+"""What the modules that write runs have in common: the modules, their runs and the texts that they name, records, and journals that are opened.
 
-A run is an array of its title and its acts, which the files of crates/lcm_cases/src say; tests/runs.py writes all of them.
+A run is an array of its title and its acts, which the files of crates/lcm_cases/src say; tests/runs.py writes all of them, and tests/README.md says how.
 """
 import cases
 from cases import latin, u8, u32
 
 NOW = 1_700_000_000_000
-RUNS = []
-TEXTS = []
+
+
+class Module:
+    """A module: the texts that it names, its runs, and whether these are to go wrong."""
+
+    def __init__(self, title, wrong=False):
+        self.title, self.wrong, self.texts, self.runs = title, wrong, [], []
+
+
+# The modules in their order. What is said here and in run_texts.py stands in the first, which has no run.
+MODULES = [Module("run_texts")]
+
+
+def begin(title, wrong=False):
+    """Begins the module of this name, into which all runs and texts go that follow."""
+    MODULES.append(Module(title, wrong))
 
 
 def run(title, *acts):
-    RUNS.append([title, *acts])
+    MODULES[-1].runs.append([title, *acts])
 
 
 def let(title, text):
-    TEXTS.append(["let", title, text])
+    """Names a text: the act that asks with it or compares with it may say `$` and the name in its place."""
+    MODULES[-1].texts.append([title, text])
     return "$" + title
+
+
+NAMED = {}
+
+
+def shared(title, text):
+    """The name of this text, which stands in several runs: its first use names it, by this title and a number."""
+    if text not in NAMED:
+        NAMED[text] = let("%s_%d" % (title, len(NAMED) + 1), text)
+    return NAMED[text]
 
 
 def in_record(event):

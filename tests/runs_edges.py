@@ -1,11 +1,10 @@
-"""The runs that start the program over a file and streams in memory, of whose calls some go wrong. tests/runs.py writes them behind its own, and
-names their texts.
-"""
+"""The runs that start the program over a file and streams in memory, of whose calls some go wrong."""
 import cases
 from cases import latin, name, u8, u32, u64
+from run_parts import NOW, begin, run
 
-RUNS = []
-NOW = 1_700_000_000_000
+begin(__name__)
+
 USAGE = "usage: vnfm init|onboard|once|serve|check|trial\n"
 INIT = ["init", "--journal", "j", "--manager", "7"]
 ONBOARD = ["onboard", "--journal", "j"]
@@ -23,10 +22,6 @@ CREATION = cases.event(2, u64(1), name("vnfd-1"), u8(1), name("edge-1"), u8(0), 
 # The journal behind an append whose first sync failed: the record stands behind a gate that is closed.
 UNSAFE = ["$HEADER", "$ONBOARDED", latin(u8(0) + u32(len(CREATION)) + CREATION + u8(0))]
 WHOLE = 1_000_000
-
-
-def run(title, *acts):
-    RUNS.append([title, *acts])
 
 
 def starts(words, status, printed, errors, made=0, word="start", **plan):
@@ -57,7 +52,7 @@ run(
     "once is told on standard error",
     starts(ONCE, 5, "", "no journal\nvnfm: \"j\": it is not a journal that init has finished\n", 1, left=""),
 )
-run("no room for a mouth is want of memory", starts(ONCE, 6, "", NO_MEMORY, word="start without a mouth"))
+run("no room for a mouth is told as out of memory", starts(ONCE, 6, "", NO_MEMORY, word="start without a mouth"))
 run(
     "what is written is read back by the next command",
     starts(INIT, 0, IS_MADE, "", 1, left=MADE),
@@ -93,7 +88,7 @@ run(
     starts(ONBOARD, 0, IS_ONBOARDED, "", file=MADE, input=DESCRIPTOR, left=JOURNAL, wrong=wrong("folder")),
 )
 run(
-    "want of memory to open a file is told as that",
+    "out of memory as a file is opened is told as that",
     *[starts(ONCE, 6, "", NO_MEMORY, file=JOURNAL, wrong=wrong(call, "OutOfMemory")) for call in ("open", "kind", "lock", "pages")],
     *[starts(ONCE, 6, "", NO_MEMORY, wrong=wrong("create", "OutOfMemory")), starts(ONCE, 6, "", NO_MEMORY, 1, wrong=wrong("folder", "OutOfMemory"))],
     starts(INIT, 6, "", NO_MEMORY, file="", wrong=wrong("folder", "OutOfMemory")),

@@ -1,4 +1,4 @@
-"""The runs of grants, which tests/runs.py puts behind its own: what a turn asks an orchestrator for, and what comes of what that answers.
+"""The runs of grants: what a turn asks an orchestrator for, and what comes of what that answers.
 
 A turn behind a history in which an operation was asked for asks for its grant, or polls where that comes later, and records the answer. Bodies are
 SOL 003's JSON, written out by hand.
@@ -7,9 +7,11 @@ import json
 
 import cases
 from cases import heal, instantiate, latin, level, operate, scale_to, terminate, u8, u16, u32, utf8, vdu
-from run_parts import in_record, run
+from run_parts import begin, in_record, run
 from runs_plans import FRESH, IN, NO_VDU, ONE_LESS, ONE_MORE, OUT, PARTIAL, STOPPED, STOPPING, TERMINATED, THIRTEEN, THREE_STARTS, THREE_STOPS, TWO
 from runs_plans import WIDE, called, changes_of, granted_first, making, many, of, removing
+
+begin(__name__)
 
 ONE, WAITS = "1 0 0", "0 1 0"
 

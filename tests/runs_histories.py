@@ -11,7 +11,7 @@ import history
 import views
 from history import COMPLETED, FAILED, FAILED_TEMP, FORCEFUL, FORWARD, GRACEFUL, PROCESSING, ROLLED_BACK, ROLLING_BACK, UNDO
 from history import COMPUTE, CREATE, CREATION, DELETION, DELIVERED, LINK, NOT_TAKEN, PORT, STORAGE, Change, Filter, Tag
-from run_parts import HEADER, NOW, in_record, opens, run, says, showing
+from run_parts import HEADER, NOW, begin, in_record, opens, run, says, shared, showing
 
 LATER, TROUBLE, MISSES = range(3)
 DONE, BROKEN, ABORTED, NOT_BEGUN = range(4)
@@ -81,7 +81,7 @@ def lists(instances, occurrences):
     """The acts that ask for the instances and occurrences, and are told these."""
     acts = []
     for at, told in (views.INSTANCES, instances), (views.OCCURRENCES, occurrences):
-        acts += [["answers", NOW, "GET %s HTTP/1.1\r\n\r\n" % at, showing(told)], ["stays"]]
+        acts += [["answers", NOW, "GET %s HTTP/1.1\r\n\r\n" % at, shared("LISTED", showing(told))], ["stays"]]
     return acts
 
 
@@ -740,3 +740,7 @@ def write():
     )
     hundreds_of_notices()
     run("six hundred events that a script drew, and between them others that are not allowed", ["no fault"], *judged(history.stored(Shown)))
+
+
+begin(__name__)
+write()

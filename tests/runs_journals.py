@@ -4,7 +4,7 @@ What a file's bytes mean is docs/JOURNAL.md's to say.
 """
 import cases
 from cases import latin
-from run_parts import HEADER, NOW, UNOPENED, calls_to_open, in_record, opens, run, says, told_back, with_records
+from run_parts import HEADER, NOW, UNOPENED, begin, calls_to_open, in_record, opens, run, says, told_back, with_records
 
 D, OTHER = "d", "e"
 D_ONBOARDED, D_CREATED = cases.onboarded(cases.descriptor(D, levels=[cases.level("l")])), cases.created(1, D)
@@ -101,3 +101,7 @@ def many_records():
     file = [HEADER, *front, {"times": MANY - 5, "of": now}, later, now, "\0"]
     read = ["read back", MANY - 1, told_back(cases.cancel_asked(1, "FORCEFUL", moment=NOW + 1))]
     run("a record of many is read back from a place near it", ["no fault"], ["site", file], read)
+
+
+begin(__name__)
+write()

@@ -1,4 +1,4 @@
-"""The runs of plans, which tests/runs.py puts behind its own.
+"""The runs of plans.
 
 A history allows that an operation is asked for where nothing refuses it and its changes are its plan. So a plan is a journal that ends with its
 Asked, and is opened; one whose changes are others, or that is refused, has a bad record. What stands comes about by the history before it. The plans
@@ -8,7 +8,9 @@ import json
 
 import cases
 from cases import aspect, heal, instantiate, latin, level, operate, port, scale, scale_aspects, scale_to, storage, terminate, u8, u16, u32, vdu
-from run_parts import HEADER, does, in_record, let, run
+from run_parts import HEADER, begin, does, in_record, let, run
+
+begin(__name__)
 
 NO_VDU = cases.NO_VDU
 UNBOUNDED = 4_294_967_295

@@ -1,15 +1,20 @@
 """Runs of words, spellings, views and paths: identifiers, moments and texts at their bounds, one event of each kind, what an instance and an
 occurrence are shown as over journals that are written out here, and what paths and queries name.
 
-runs.py has the forms, and writes these runs behind its own. A journal of these runs is legal up to its last record, and a plan in it, its
+run_texts.py has the forms. A journal of these runs is legal up to its last record, and a plan in it, its
 places and a view are written out by hand.
 """
 import json
 
 from cases import *
-from runs import ACCEPTED, BAD, EMPTY_LIST, HEADER, INSTANCE, INSTANCES, INSTANTIATE, JOURNAL, JOURNALS, MADE, NOT_ALLOWED, NOW, NO_FILTER
-from runs import NO_INSTANCE, NO_OCCURRENCE, NO_RESOURCE, NO_TASK, OCCURRENCE, OCCURRENCES, ONBOARD, ONLY_DELETE_GET, ONLY_POST
-from runs import answers, creation, idle, in_record, let, not_onboarded, occurrence_view, once, opens, problem, refused, request, run, showing, told_back
+from run_parts import HEADER, NOW, begin, in_record, let, opens, problem, run, showing, told_back
+from run_texts import ACCEPTED, BAD, EMPTY_LIST, INSTANCE, INSTANCES, INSTANTIATE, JOURNAL, JOURNALS, MADE, NOT_ALLOWED, NO_FILTER, NO_INSTANCE
+from run_texts import NO_OCCURRENCE, NO_RESOURCE, NO_TASK, OCCURRENCE, OCCURRENCES, ONLY_DELETE_GET, ONLY_POST, answers, idle, occurrence_view
+from run_texts import once, refused, request
+from runs_commands import ONBOARD, not_onboarded
+from runs_sessions import creation
+
+begin(__name__)
 
 ONLY_GET = problem("ONLY_GET", NOT_ALLOWED + "GET", "method not allowed")
 ONLY_GET_POST = problem("ONLY_GET_POST", NOT_ALLOWED + "GET, POST", "method not allowed")

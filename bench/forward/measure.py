@@ -4,7 +4,6 @@ grants all and jobs that are done at the first look, all of them objects in memo
 
 usage: bench/forward/measure.py [LCM_CASES]
 """
-import json
 import pathlib
 import sys
 
@@ -36,7 +35,7 @@ class Operations:
 
     def play(self, acts):
         path = self.room / "runs"
-        path.write_text(json.dumps([["forward", self.named, *acts]]))
+        measuring.write_run(path, ["forward", self.named, *acts])
         return measuring.cases_seconds(lcm_cases, path)
 
     def check(self, rounds, jobs):

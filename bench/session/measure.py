@@ -5,7 +5,6 @@ time.
 
 usage: bench/session/measure.py [VNFM [LCM_CASES]]
 """
-import json
 import pathlib
 import shutil
 import sys
@@ -89,7 +88,7 @@ def in_pieces(room, piece, framed, body, rounds):
     made = ["site", measuring.HEADER.decode("latin-1") + "\0"]
     acts = [["let", "REQUEST", framed(body)], ["pieces", piece], made, ["times", CONNECTIONS, ["rounds", rounds, "$REQUEST"]], ["status", 0]]
     path = room / "runs"
-    path.write_text(json.dumps([["pieces", *acts]]))
+    measuring.write_run(path, ["pieces", *acts])
     return measuring.cases_seconds(lcm_cases, path) / CONNECTIONS
 
 

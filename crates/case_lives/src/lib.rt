@@ -4,7 +4,9 @@
 #![tactic(auto)]
 
 mod calls;
+mod differences;
 mod events;
+mod jobs;
 mod plan;
 mod records;
 mod sound;
@@ -15,15 +17,14 @@ mod words;
 mod work;
 
 pub use calls::{Calls, calls_of, opening};
+pub use differences::{ActFault, Difference, differs, quoted, same_file, same_text, same_word};
 pub use events::{about, descriptor, event_of, name, operation};
+pub use jobs::{calls_on_jobs, job_text, tag_text};
 pub use plan::{Plan, plain_site};
 pub use records::{At, Step, front_of, front_with, journal_with};
 pub use sound::{agrees, change_done, changes_standing};
 pub use steps::steps_of;
 pub use stops::{Earlier, Stop, Whole};
 pub use texts::Names;
-pub use words::{
-    CaseFault, behind, code, count, entries, has_number, has_word, list, number, part, small,
-    truth, word,
-};
+pub use words::{CaseFault, behind, code, count, entries, list, number, part, small, truth, word};
 pub use work::work_text;

@@ -15,8 +15,8 @@ pub struct Plan {
     pub work: Vec<JobPlan>,
     /// The jobs that there is room for.
     pub jobs: usize,
-    /// The disk call, from 1, that fails.
-    pub failing: Option<u64>,
+    /// The disk calls, from 1, that fail, in their order.
+    pub failing: Vec<u64>,
     /// The look or abort, from 1 over both, that fails.
     pub blind: Option<u64>,
 }
@@ -39,7 +39,7 @@ impl Plan {
         Plan {
             work: Vec::new(alloc),
             jobs: JOBS,
-            failing: None,
+            failing: Vec::new(alloc),
             blind: None,
         }
     }
@@ -49,21 +49,13 @@ impl Plan {
         let plan = SitePlan {
             bytes: ROOM,
             jobs: self.jobs,
-            failing: failing(alloc, self.failing)?,
+            failing: self.failing.to_vec(alloc)?,
             work: self.work.to_vec(alloc)?,
         };
         match self.blind {
             Some(call) => MemSite::unreachable(alloc, plan, vec![in alloc; call]?),
             None => MemSite::with_file(alloc, plan, file),
         }
-    }
-}
-
-/// The calls that fail: this one, where there is one.
-fn failing(alloc: Global, call: Option<u64>) -> Result<Vec<u64>, AllocError> {
-    match call {
-        Some(call) => [call].to_vec(alloc),
-        None => Ok(Vec::new(alloc)),
     }
 }
 

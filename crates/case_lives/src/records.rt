@@ -171,7 +171,7 @@ pub fn journal_with(alloc: Global, file: &[u8], steps: &[Step]) -> Result<Vec<u8
 }
 
 /// The bytes of the record at this place, with its gate and its length, where it is open.
-fn record_at(file: &[u8], at: usize) -> Option<usize> {
+pub fn record_at(file: &[u8], at: usize) -> Option<usize> {
     let behind = file.get(at..)?;
     match behind {
         [1, a, b, c, d, ..] => {

@@ -1,5 +1,7 @@
 //! Whether the jobs of a site agree with what is recorded of their attempts, and what stands by either.
 
+use crate::differences::{ActFault, differs};
+use crate::jobs::job_text;
 use crate::records::{At, Step};
 use lcm_events::{Tag, Way};
 use site_traits::{MemSite, Phase};
@@ -106,9 +108,19 @@ fn follows(
     }
 }
 
-/// Whether all jobs have their intents among the steps, in their order, and stand as their attempts ended, and each attempt that was settled
-/// Done or Aborted has its job.
-fn is_sound(alloc: Global, site: &MemSite, steps: &[Step]) -> Result<bool, AllocError> {
+/// The job at this place, from 0, is wanted behind its intent and as its attempt ended.
+fn unsound(alloc: Global, site: &MemSite, place: usize) -> Result<ActFault, AllocError> {
+    let number = place.saturating_add(1);
+    let came = job_text(alloc, site, place)?;
+    Ok(differs(
+        format!(in alloc; "job {number} behind its intent, and as its attempt ended")?,
+        format!(in alloc; "job {number}: {came}")?,
+    ))
+}
+
+/// All jobs have their intents among the steps, in their order, and stand as their attempts ended, and each attempt that was settled Done or
+/// Aborted has its job; or the first that is otherwise is told.
+fn are_sound(alloc: Global, site: &MemSite, steps: &[Step]) -> Result<(), ActFault> {
     let mut from = 0;
     let mut settled: usize = 0;
     for place in 0..site.jobs() {
@@ -117,10 +129,17 @@ fn is_sound(alloc: Global, site: &MemSite, steps: &[Step]) -> Result<bool, Alloc
                 from = behind;
                 settled = settled.saturating_add(usize::from(is_settled));
             }
-            None => return Ok(false),
+            None => return Err(unsound(alloc, site, place)?),
         }
     }
-    Ok(settled == with_jobs(steps))
+    let wanted = with_jobs(steps);
+    if settled != wanted {
+        return Err(differs(
+            format!(in alloc; "{wanted} jobs of attempts that ended done or aborted")?,
+            format!(in alloc; "{settled} jobs of attempts that ended done or aborted")?,
+        ));
+    }
+    Ok(())
 }
 
 /// How many jobs of this change in this way are done, whether that is recorded or not.
@@ -160,34 +179,42 @@ fn settled_done(steps: &[Step], change: u16, way: Way) -> usize {
     count
 }
 
-/// Whether the done jobs of this change are the attempts settled Done, and the open one where its job is done; and it stands at most once.
-fn stands_by_its_net(site: &MemSite, steps: &[Step], change: u16) -> bool {
-    let made = settled_done(steps, change, Way::Forward).saturating_add(usize::from(open_is_done(
-        site,
-        steps,
-        change,
-        Way::Forward,
-    )));
-    let undone = settled_done(steps, change, Way::Undo).saturating_add(usize::from(open_is_done(
-        site,
-        steps,
-        change,
-        Way::Undo,
-    )));
-    jobs_done(site, change, Way::Forward) == made
-        && jobs_done(site, change, Way::Undo) == undone
-        && (made == undone || made == undone.saturating_add(1))
+/// How many attempts at this change in this way are settled Done, and the open one where its job is done.
+fn done_by(site: &MemSite, steps: &[Step], change: u16, way: Way) -> usize {
+    let open = usize::from(open_is_done(site, steps, change, way));
+    settled_done(steps, change, way).saturating_add(open)
 }
 
-/// Whether the jobs of this site agree with these steps: each has its intent and stands as its attempt ended, and of each change there stands
-/// what is made by the steps, or by these and the open attempt whose job is done.
-pub fn agrees(alloc: Global, site: &MemSite, steps: &[Step]) -> Result<bool, AllocError> {
-    for change in 0..CHANGES {
-        if !stands_by_its_net(site, steps, change) {
-            return Ok(false);
-        }
+/// The done jobs of this change are the attempts settled Done, and the open one where its job is done; and it stands at most once. Else both are told.
+fn stands_by_its_net(
+    alloc: Global,
+    site: &MemSite,
+    steps: &[Step],
+    change: u16,
+) -> Result<(), ActFault> {
+    let made = done_by(site, steps, change, Way::Forward);
+    let undone = done_by(site, steps, change, Way::Undo);
+    let made_by_jobs = jobs_done(site, change, Way::Forward);
+    let undone_by_jobs = jobs_done(site, change, Way::Undo);
+    let is_once = made == undone || made == undone.saturating_add(1);
+    if made_by_jobs == made && undone_by_jobs == undone && is_once {
+        return Ok(());
     }
-    is_sound(alloc, site, steps)
+    Err(differs(
+        format!(in alloc;
+            "change {change}: made {made} times, undone {undone}, standing at most once"
+        )?,
+        format!(in alloc; "change {change}: made {made_by_jobs} times, undone {undone_by_jobs}")?,
+    ))
+}
+
+/// The jobs of this site agree with these steps: each has its intent and stands as its attempt ended, and of each change there stands what is made
+/// by the steps, or by these and the open attempt whose job is done. Else the first change or job that doesn't is told.
+pub fn agrees(alloc: Global, site: &MemSite, steps: &[Step]) -> Result<(), ActFault> {
+    for change in 0..CHANGES {
+        stands_by_its_net(alloc, site, steps, change)?;
+    }
+    are_sound(alloc, site, steps)
 }
 
 /// How many changes stand by the done jobs of this site.

@@ -101,30 +101,6 @@ pub fn truth(act: &[Value], place: usize) -> Result<bool, CaseFault> {
     }
 }
 
-/// Whether this number stands at this place of an act; it doesn't where the act is misspelled, so that it doesn't come out right.
-pub fn has_number(act: &[Value], place: usize, number: u64) -> bool {
-    match act.get(place) {
-        Some(value) => value.as_u64() == Some(number),
-        None => false,
-    }
-}
-
-/// Whether the word at this place of an act has these bytes; it hasn't where the act is misspelled, so that it doesn't come out right.
-pub fn has_word(act: &[Value], place: usize, bytes: &[u8]) -> bool {
-    match act.get(place) {
-        Some(value) => has_bytes(value, bytes),
-        None => false,
-    }
-}
-
-/// Whether a value is the string of these bytes.
-fn has_bytes(value: &Value, bytes: &[u8]) -> bool {
-    match value.as_str() {
-        Some(word) => word.as_bytes() == bytes,
-        None => false,
-    }
-}
-
 /// Puts the characters of a string, each as a byte, up to U+00FF.
 pub fn put_bytes(into: &mut Vec<u8>, string: &str) -> Result<(), CaseFault> {
     for character in string.chars() {

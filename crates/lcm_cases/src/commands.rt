@@ -1,9 +1,12 @@
 //! Acts that run a command or make a turn, and what stops a life.
 
-use crate::checks::{are, is_bytes};
+use crate::checks::{are, holds};
 use crate::objects::{clock_at, mouth_at, put_word, run_over, words_of};
+use crate::recorder::Recorder;
 use crate::stage::Stage;
-use case_lives::{CaseFault, Earlier, behind, count, number, opening, part, word};
+use case_lives::{
+    ActFault, CaseFault, Earlier, behind, count, differs, number, opening, part, same_text, word,
+};
 use executor::Manager;
 use grant_desk::GrantAll;
 use lcm_api::Mouth;
@@ -11,9 +14,7 @@ use lcm_events::Role;
 use lcm_sessions::answer_session;
 use occ_work::{Turn, turn};
 use serde_json::Value;
-use site_traits::{
-    Choice, DoorPlan, MemDoor, MemOrchestrator, MemSite, NextAnswer, SetClock, SiteCall,
-};
+use site_traits::{Choice, DoorPlan, MemDoor, MemSite, NextAnswer, SetClock, SiteCall};
 use std::alloc::{AllocError, Global};
 use std::mem;
 use vnfm_base::{Moment, Text};
@@ -73,14 +74,40 @@ fn behind_the_begin(site: &MemSite) -> usize {
     site.moment()
 }
 
-/// Whether a turn was made that came to the counts behind the first place of an act, and the file stays exactly where it acted nothing.
-fn has_made(act: &[Value], made: Option<Turn>, stays: bool) -> bool {
-    match made {
-        Some(turn) => {
-            let (acted, waiting) = (u64::from(turn.acted), u64::from(turn.waiting));
-            are(act, &[acted, waiting, u64::from(turn.unreached)]) && stays == (acted == 0)
-        }
-        None => false,
+/// Whether a turn that acted stays away from the file, or one that acted nothing doesn't.
+fn is_amiss(turn: Turn, stays: bool) -> bool {
+    stays != (turn.acted == 0)
+}
+
+/// A turn was made that came to the counts behind the first place of an act, and the file stays exactly where it acted nothing.
+fn has_made(alloc: Global, act: &[Value], made: Option<Turn>, stays: bool) -> Result<(), ActFault> {
+    let Some(turn) = made else {
+        return holds(
+            alloc,
+            false,
+            "a turn",
+            "the journal isn't opened, or the turn was ended",
+        );
+    };
+    let (acted, waiting) = (u64::from(turn.acted), u64::from(turn.waiting));
+    are(alloc, act, &[acted, waiting, u64::from(turn.unreached)])?;
+    holds(
+        alloc,
+        !is_amiss(turn, stays),
+        "a file that stays exactly where nothing was acted",
+        "another",
+    )
+}
+
+/// One reply was told in a session.
+fn has_replied(alloc: Global, replies: Option<u32>) -> Result<(), ActFault> {
+    match replies {
+        Some(1) => Ok(()),
+        Some(replies) => Err(differs(
+            String::from_str(alloc, "1 reply")?,
+            format!(in alloc; "{replies} replies")?,
+        )),
+        None => holds(alloc, false, "1 reply", "no session"),
     }
 }
 
@@ -101,9 +128,19 @@ impl Stage {
         self.keep_file(alloc)?;
         let says = mem::replace(&mut self.outside.says, Vec::new(alloc));
         let door = self.door(alloc);
-        let mut orchestrator = MemOrchestrator::new(alloc, says)?;
-        let put = self.outside.put;
-        self.ran = run_over(alloc, words, &mut self.site, door, &mut orchestrator, put)?;
+        let mut orchestrator = Recorder::new(alloc, says)?;
+        let (put, now) = (self.outside.put, self.outside.now);
+        self.ran = run_over(
+            alloc,
+            words,
+            &mut self.site,
+            door,
+            &mut orchestrator,
+            put,
+            now,
+        )?;
+        self.ran.bodies = mem::replace(&mut orchestrator.bodies, Vec::new(alloc));
+        self.ran.locations = mem::replace(&mut orchestrator.locations, Vec::new(alloc));
         Ok(())
     }
 
@@ -111,8 +148,16 @@ impl Stage {
     fn run_granted(&mut self, alloc: Global, words: &[Text]) -> Result<(), AllocError> {
         self.keep_file(alloc)?;
         let door = self.door(alloc);
-        let put = self.outside.put;
-        self.ran = run_over(alloc, words, &mut self.site, door, &mut self.granting, put)?;
+        let (put, now) = (self.outside.put, self.outside.now);
+        self.ran = run_over(
+            alloc,
+            words,
+            &mut self.site,
+            door,
+            &mut self.granting,
+            put,
+            now,
+        )?;
         Ok(())
     }
 
@@ -130,30 +175,23 @@ impl Stage {
         }
     }
 
-    /// Whether the last command ended with 0, and its connection was told this and hung up.
-    pub fn is_answered(&self, alloc: Global, text: &Value) -> Result<bool, CaseFault> {
-        let told = self.names.text(alloc, text)?;
-        Ok(self.ran.status == 0 && self.ran.ended && self.ran.told.as_slice() == told.as_slice())
-    }
-
-    /// Whether it was answered with what stands at this place, where something does.
-    fn went_well(&self, alloc: Global, act: &[Value], place: usize) -> Result<bool, CaseFault> {
+    /// It was answered with what stands at this place, where something does.
+    fn went_well(&self, alloc: Global, act: &[Value], place: usize) -> Result<(), ActFault> {
         match act.get(place) {
             Some(text) => self.is_answered(alloc, text),
-            None => Ok(true),
+            None => Ok(()),
         }
     }
 
     /// `["go", WORD..]`: runs these words.
-    pub fn go(&mut self, alloc: Global, act: &[Value]) -> Result<bool, CaseFault> {
+    pub fn go(&mut self, alloc: Global, act: &[Value]) -> Result<(), ActFault> {
         let words = command_of(alloc, behind(act, 1))?;
-        self.run_words(alloc, &words)?;
-        Ok(true)
+        Ok(self.run_words(alloc, &words)?)
     }
 
     /// `["once", TEXT, TOLD]`: runs `once` with a connection of this text, which is told that and hung up, with status 0. Both may be left out,
     /// or the second.
-    pub fn once(&mut self, alloc: Global, act: &[Value]) -> Result<bool, CaseFault> {
+    pub fn once(&mut self, alloc: Global, act: &[Value]) -> Result<(), ActFault> {
         self.plan_asked(alloc, act, 1)?;
         let words = words_of(alloc, &["once", "--journal", "j"])?;
         self.run_words(alloc, &words)?;
@@ -162,7 +200,7 @@ impl Stage {
 
     /// `["rounds", N, TEXT, TOLD]`: runs so many rounds of `once` with the orchestrator that grants all, the first with a connection of this
     /// text, which is told that and hung up, with status 0. The texts may be left out, or the second.
-    pub fn rounds(&mut self, alloc: Global, act: &[Value]) -> Result<bool, CaseFault> {
+    pub fn rounds(&mut self, alloc: Global, act: &[Value]) -> Result<(), ActFault> {
         self.plan_asked(alloc, act, 2)?;
         let words = rounds_words(alloc, number(act, 1)?)?;
         self.run_granted(alloc, &words)?;
@@ -181,21 +219,23 @@ impl Stage {
 
     /// `["answers", NOW, TEXT, TOLD]`: the session of a connection with this text, whose second write fails, is answered at this moment with this
     /// one reply. No turn is made behind it.
-    pub fn answers(&mut self, alloc: Global, act: &[Value]) -> Result<bool, CaseFault> {
+    pub fn answers(&mut self, alloc: Global, act: &[Value]) -> Result<(), ActFault> {
         let (now, asked, told) = (number(act, 1)?, part(act, 2)?, part(act, 3)?);
         self.keep_file(alloc)?;
         self.plan_second_write(alloc, asked)?;
         let replies = self.answer(alloc, now)?;
         let told = self.names.text(alloc, told)?;
-        Ok(is_bytes(told, &self.ran.told) && replies == Some(1))
+        same_text(alloc, &told, &self.ran.told)?;
+        has_replied(alloc, replies)
     }
 
     /// `["turn", ACTED, WAITING, UNREACHED]`: opens the journal and makes a turn, which comes to these counts, and leaves the file where it records
     /// nothing.
-    pub fn turn(&mut self, alloc: Global, act: &[Value]) -> Result<bool, CaseFault> {
+    pub fn turn(&mut self, alloc: Global, act: &[Value]) -> Result<(), ActFault> {
         self.keep_file(alloc)?;
         let made = one_turn(alloc, &mut self.site, &mut self.granting);
-        Ok(has_made(act, made, self.stays()))
+        let stays = self.site.file() == self.before.as_slice();
+        has_made(alloc, act, made, stays)
     }
 
     /// `["renew"]`: the site behind what was done, with no call on its record.

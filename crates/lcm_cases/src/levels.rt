@@ -4,7 +4,7 @@
 
 use crate::checks::is_text;
 use crate::stage::Stage;
-use case_lives::{CaseFault, code, descriptor, event_of, list, name, operation, part};
+use case_lives::{ActFault, CaseFault, code, descriptor, event_of, list, name, operation, part};
 use lcm_events::{Ask, Event, Holding, Listed, Vnfd};
 use lcm_model::are_levels_in;
 use lcm_plans::{level_of, target, vnfd_valid};
@@ -67,17 +67,17 @@ impl Stage {
     }
 
     /// `["named", ONBOARDED, NAME, TEXT]`: the descriptor's instantiation level of this name has these levels, or there are none, for this cause.
-    pub fn has_level(&self, alloc: Global, act: &[Value]) -> Result<bool, CaseFault> {
+    pub fn has_level(&self, alloc: Global, act: &[Value]) -> Result<(), ActFault> {
         let level = name(act, 2)?;
         let onboarded = self.event(alloc, act, 1)?;
-        Ok(is_text(level_text(alloc, &onboarded, &level)?, act, 3))
+        is_text(alloc, &level_text(alloc, &onboarded, &level)?, act, 3)
     }
 
     /// `["aims", ONBOARDED, LEVELS, ASKED, TEXT]`: from these levels the ask aims at those, or at none, for this cause.
-    pub fn aims(&self, alloc: Global, act: &[Value]) -> Result<bool, CaseFault> {
+    pub fn aims(&self, alloc: Global, act: &[Value]) -> Result<(), ActFault> {
         let from = at_levels(alloc, list(act, 2)?)?;
         let onboarded = self.event(alloc, act, 1)?;
-        Ok(is_text(self.aim(alloc, &onboarded, &from, act)?, act, 4))
+        is_text(alloc, &self.aim(alloc, &onboarded, &from, act)?, act, 4)
     }
 
     /// What the ask whose text stands at the fourth place of an act aims at, of an instance of this descriptor at these levels.

@@ -1,7 +1,10 @@
 //! Whole lives, which are stopped or of which a call fails, and short ones, of which each is stopped at another of its calls.
 
 use crate::stage::Stage;
-use case_lives::{CaseFault, calls_of, count, front_of, list, opening, part, plain_site, steps_of};
+use case_lives::{
+    ActFault, CaseFault, calls_of, count, differs, front_of, list, opening, part, plain_site,
+    quoted, same_text, steps_of,
+};
 use grant_desk::GrantAll;
 use serde_json::Value;
 use site_traits::Choice;
@@ -63,7 +66,7 @@ impl Stage {
             .disk
             .saturating_add(call)
             .saturating_add(1);
-        self.plan.failing = u64::try_from(number).ok();
+        self.plan.failing = [number as u64].to_vec(alloc)?;
         self.stop = self.whole.fault(call, 0);
         self.granting = GrantAll::new(alloc)?;
         Ok(())
@@ -71,44 +74,40 @@ impl Stage {
 
     /// `["fallen"]`: the last command ended with 3 and `site fault`. What is there of the whole life is counted, and the next command has another
     /// orchestrator.
-    pub fn fallen(&mut self, alloc: Global) -> Result<bool, CaseFault> {
+    pub fn fallen(&mut self, alloc: Global) -> Result<(), ActFault> {
         let made = calls_of(&self.site).begins;
         let begins = made.saturating_sub(self.whole.earlier.begins);
         self.stop = self.whole.fault(self.stop.place, begins);
         self.granting = GrantAll::new(alloc)?;
-        Ok(self.has_fallen())
+        self.has_fallen(alloc)
     }
 
-    /// Whether the last command ended with 3 and `site fault`.
-    fn has_fallen(&self) -> bool {
-        self.ran.status == 3 && self.ran.printed.as_slice() == b"site fault\n".as_slice()
+    /// The last command ended with 3 and `site fault`.
+    fn has_fallen(&self, alloc: Global) -> Result<(), ActFault> {
+        self.ended_with(alloc, 3)?;
+        same_text(alloc, b"site fault\n", &self.ran.printed)
     }
 
-    /// Whether a short life of this number, stopped in its turn with this choice, leaves all records that were there.
-    fn lives_on(&mut self, alloc: Global, life: usize, choice: Choice) -> Result<bool, CaseFault> {
+    /// A short life of this number, stopped in its turn with this choice, leaves all records that were there.
+    fn lives_on(&mut self, alloc: Global, life: usize, choice: Choice) -> Result<(), ActFault> {
         self.granting = GrantAll::new(alloc)?;
         self.quiet_rounds(alloc, SHORT_LIFE)?;
         let last = opening(&self.site).saturating_add(length_of(life));
         self.site = self
             .site
             .stopped(alloc, last.min(self.site.moment()), choice)?;
-        Ok(front_of(self.site.file()).starts_with(front_of(&self.before)))
+        self.keeps_records(alloc)
     }
 
     /// `["lives", FIRST, CHOICE, TEXT]`: short lives, from the one of that number on, each stopped in its turn with that choice, keep each record
     /// that was there, and come to records that end with this text.
-    pub fn lives(
-        &mut self,
-        alloc: Global,
-        act: &[Value],
-        choice: Choice,
-    ) -> Result<bool, CaseFault> {
+    pub fn lives(&mut self, alloc: Global, act: &[Value], choice: Choice) -> Result<(), ActFault> {
         let first = count(act, 1)?;
         let end = self.names.text(alloc, part(act, 3)?)?;
         self.lives_to(alloc, first, choice, &end)
     }
 
-    /// Whether short lives, from the one of that number on, each stopped in its turn with that choice, keep each record that was there, and come to
+    /// Short lives, from the one of that number on, each stopped in its turn with that choice, keep each record that was there, and come to
     /// records that end with this.
     fn lives_to(
         &mut self,
@@ -116,15 +115,17 @@ impl Stage {
         first: usize,
         choice: Choice,
         end: &[u8],
-    ) -> Result<bool, CaseFault> {
+    ) -> Result<(), ActFault> {
         for life in 0..LIVES {
             if front_of(self.site.file()).ends_with(end) {
-                return Ok(true);
+                return Ok(());
             }
-            if !self.lives_on(alloc, first.saturating_add(life), choice)? {
-                return Ok(false);
-            }
+            self.lives_on(alloc, first.saturating_add(life), choice)?;
         }
-        Ok(false)
+        let wanted = quoted(alloc, end)?;
+        Err(differs(
+            format!(in alloc; "records that end with {wanted}")?,
+            format!(in alloc; "others behind {LIVES} lives")?,
+        ))
     }
 }

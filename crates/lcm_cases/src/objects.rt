@@ -24,6 +24,10 @@ pub struct Ran {
     pub clock: u64,
     /// How many connections came that were all told the same and hung up; 0 where they weren't.
     pub alike: usize,
+    /// The bodies that the orchestrator with planned answers was asked with, each with a line feed behind it.
+    pub bodies: Vec<u8>,
+    /// The locations that it was polled at, each with a line feed behind it.
+    pub locations: Vec<u8>,
 }
 
 impl Drop for Ran {
@@ -36,6 +40,8 @@ impl Drop for Ran {
             ended: _,
             clock: _,
             alike: _,
+            bodies: _,
+            locations: _,
         } = self;
     }
 }
@@ -50,6 +56,8 @@ impl Ran {
             ended: false,
             clock: 0,
             alike: 0,
+            bodies: Vec::new(alloc),
+            locations: Vec::new(alloc),
         }
     }
 }
@@ -74,13 +82,14 @@ impl Drop for Objects {
     }
 }
 
-/// The objects with this door, and a sink of which this put fails.
+/// The objects with this door, a sink of which this put fails, and a clock that gives this.
 fn objects_of(
     alloc: Global,
     door: Vec<DoorPlan>,
     failing_put: Option<u64>,
+    now: u64,
 ) -> Result<Objects, AllocError> {
-    let clock = clock_at(alloc, 1_700_000_000_000)?;
+    let clock = clock_at(alloc, now)?;
     let sink = MemSink::new(alloc, failing_put)?;
     let courier = MemCourier::new(alloc, Vec::new(alloc))?;
     let mouth = mouth_at(alloc, door)?;
@@ -112,6 +121,8 @@ fn report(alloc: Global, status: u8, objects: &Objects) -> Result<Ran, AllocErro
         ended: door.conn().is_hung_up(),
         clock: objects.clock.calls(),
         alike: alike(door),
+        bodies: Vec::new(alloc),
+        locations: Vec::new(alloc),
     })
 }
 
@@ -135,7 +146,10 @@ fn has_heard(conn: &MemConn, told: &[u8]) -> bool {
     conn.is_hung_up() && conn.out() == told
 }
 
-/// Runs these words over this site, this door, this orchestrator and a sink of which this put fails.
+/// The moment that the clock gives where no act says so.
+pub const NOW: u64 = 1_700_000_000_000;
+
+/// Runs these words over this site, this door, this orchestrator, a sink of which this put fails, and a clock that gives this.
 pub fn run_over<O: Orchestrator>(
     alloc: Global,
     words: &[Text],
@@ -143,8 +157,9 @@ pub fn run_over<O: Orchestrator>(
     door: Vec<DoorPlan>,
     orchestrator: &mut O,
     failing_put: Option<u64>,
+    now: u64,
 ) -> Result<Ran, AllocError> {
-    let mut objects = objects_of(alloc, door, failing_put)?;
+    let mut objects = objects_of(alloc, door, failing_put, now)?;
     let status = run(
         alloc,
         words,
@@ -214,7 +229,7 @@ fn ask_by(
 ) -> Result<Ran, AllocError> {
     let mut orchestrator = MemOrchestrator::new(alloc, Vec::new(alloc))?;
     let door = one_of(alloc, connection(alloc, bytes, bytes.len(), None, None)?)?;
-    run_over(alloc, words, site, door, &mut orchestrator, None)
+    run_over(alloc, words, site, door, &mut orchestrator, None, NOW)
 }
 
 /// What comes of a door to which one connection comes.

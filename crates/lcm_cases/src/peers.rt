@@ -1,8 +1,8 @@
 //! Acts that make turns with an orchestrator whose answers are planned or that gives none, and that open a journal and ask its manager.
 
-use crate::checks::{is_bytes, is_text};
+use crate::checks::{holds, is_text};
 use crate::stage::Stage;
-use case_lives::{CaseFault, about, list, name, number, part, truth};
+use case_lives::{ActFault, CaseFault, about, differs, list, name, number, part, same_text, truth};
 use executor::{Manager, WorkFault};
 use lcm_events::Event;
 use occ_work::{Turn, turn};
@@ -157,6 +157,33 @@ fn asked_as_said(end: Ended, stand: Option<usize>, asked: usize) -> bool {
     }
 }
 
+/// The word for how a turn of two acts ended.
+fn ended_word(end: Ended) -> &'static str {
+    match end {
+        Ended::Through => "through",
+        Ended::Starved => "without memory",
+        Ended::Unopened => "unopened",
+        Ended::Otherwise => "otherwise",
+    }
+}
+
+/// A turn of two grants didn't leave what its end says.
+fn otherwise(
+    alloc: Global,
+    which: &str,
+    end: Ended,
+    stand: Option<usize>,
+) -> Result<ActFault, AllocError> {
+    let (word, stand) = (ended_word(end), stand.unwrap_or(usize::MAX));
+    Ok(differs(
+        String::from_str(
+            alloc,
+            "grants that stand and were asked for as the turns ended",
+        )?,
+        format!(in alloc; "{which} turn: {word}, {stand} grants stand behind the first")?,
+    ))
+}
+
 /// The place, from 0, of the text that these bytes are.
 fn place_among(texts: &[Vec<u8>], bytes: &[u8]) -> Option<usize> {
     for place in 0..texts.len() {
@@ -177,24 +204,35 @@ impl Stage {
         Ok(texts)
     }
 
-    /// Makes a turn of two grants and the turn behind it: whether the acts before a want of memory stand, and the next turn goes on from them.
-    fn stands(&mut self, alloc: Global, granted: &[Vec<u8>], turned: &[Vec<u8>]) -> bool {
+    /// Makes a turn of two grants and the turn behind it: the acts before one that is out of memory stand, and the next turn goes on from them.
+    fn stands(
+        &mut self,
+        alloc: Global,
+        granted: &[Vec<u8>],
+        turned: &[Vec<u8>],
+    ) -> Result<(), ActFault> {
         let first = end_of_turn(alloc, &mut self.site, &mut self.peer);
         let stand = place_among(granted, self.site.file());
-        let is_as_said = asked_as_said(first, stand, self.peer.asked());
+        let asked = self.peer.asked();
+        if !asked_as_said(first, stand, asked) {
+            return Err(otherwise(alloc, "first", first, stand)?);
+        }
         let second = end_of_turn(alloc, &mut self.site, &mut self.peer);
         let goes_on = second != Ended::Through || place_among(turned, self.site.file()) == stand;
-        is_as_said && goes_on && (first == Ended::Through || second == Ended::Through)
+        if goes_on && (first == Ended::Through || second == Ended::Through) {
+            return Ok(());
+        }
+        Err(otherwise(alloc, "second", second, stand)?)
     }
 
     /// `["starved", [TEXT, TEXT, TEXT], [TEXT, TEXT, TEXT]]`: opens the journal and makes a turn that grants two occurrences, and again, where at most one
     /// allocation of both fails. Behind the first the file is one of the first texts: none, one or both are granted, as the turn ended and asked; where it
-    /// didn't come through, the second does, and the file is then that of the same place of the other texts. tests/want_of_memory.sh lets each
+    /// didn't come through, the second does, and the file is then that of the same place of the other texts. tests/out_of_memory.sh lets each
     /// allocation fail in turn.
-    pub fn is_starved(&mut self, alloc: Global, act: &[Value]) -> Result<bool, CaseFault> {
+    pub fn is_starved(&mut self, alloc: Global, act: &[Value]) -> Result<(), ActFault> {
         let granted = self.texts(alloc, list(act, 1)?)?;
         let turned = self.texts(alloc, list(act, 2)?)?;
-        Ok(self.stands(alloc, &granted, &turned))
+        self.stands(alloc, &granted, &turned)
     }
 
     /// `["peer"]`: the orchestrator of the turns that follow gives the answers that are planned.
@@ -205,32 +243,38 @@ impl Stage {
     }
 
     /// `["peer turn", TEXT]`: opens the journal and makes a turn with that orchestrator, which ends so: `ACTED WAITING UNREACHED`, or what ended it.
-    pub fn makes_turn(&mut self, alloc: Global, act: &[Value]) -> Result<bool, CaseFault> {
+    pub fn makes_turn(&mut self, alloc: Global, act: &[Value]) -> Result<(), ActFault> {
         let text = turn_text(alloc, &mut self.site, &mut self.peer)?;
-        Ok(is_text(text, act, 1))
+        is_text(alloc, &text, act, 1)
     }
 
     /// `["asks", TEXT]`: opens the journal and makes a turn with an orchestrator that gives no answer, which is asked last with this body.
-    pub fn asks(&mut self, alloc: Global, act: &[Value]) -> Result<bool, CaseFault> {
+    pub fn asks(&mut self, alloc: Global, act: &[Value]) -> Result<(), ActFault> {
         let body = self.names.text(alloc, part(act, 1)?)?;
-        Ok(is_bytes(body, &asked_last(alloc, &mut self.site)?))
+        same_text(alloc, &body, &asked_last(alloc, &mut self.site)?)
     }
 
     /// `["opened", TEXT]`: the journal is opened, and its manager has so many records, descriptors and instances, or it isn't, for this cause.
-    pub fn is_opened(&mut self, alloc: Global, act: &[Value]) -> Result<bool, CaseFault> {
+    pub fn is_opened(&mut self, alloc: Global, act: &[Value]) -> Result<(), ActFault> {
         let text = opened_text(alloc, &mut self.site)?;
-        Ok(is_text(text, act, 1))
+        is_text(alloc, &text, act, 1)
     }
 
     /// `["descriptor", NAME, TRUTH]`: the journal is opened, and its manager has the descriptor of this name, or hasn't.
-    pub fn has_descriptor(&mut self, alloc: Global, act: &[Value]) -> Result<bool, CaseFault> {
+    pub fn has_descriptor(&mut self, alloc: Global, act: &[Value]) -> Result<(), ActFault> {
         let has = has_descriptor(alloc, &mut self.site, &name(act, 1)?);
-        Ok(has == Some(truth(act, 2)?))
+        let is_so = has == Some(truth(act, 2)?);
+        holds(
+            alloc,
+            is_so,
+            "the descriptor as it is said",
+            "the other, or no journal",
+        )
     }
 
     /// `["read back", PLACE, TEXT]`: the journal is opened, and its event at this place, from 1, is read back as this.
-    pub fn is_read_back(&mut self, alloc: Global, act: &[Value]) -> Result<bool, CaseFault> {
+    pub fn is_read_back(&mut self, alloc: Global, act: &[Value]) -> Result<(), ActFault> {
         let text = event_text(alloc, &mut self.site, number(act, 1)?)?;
-        Ok(is_text(text, act, 2))
+        is_text(alloc, &text, act, 2)
     }
 }

@@ -1,12 +1,14 @@
 //! Runs, act by act.
 //!
-//! An act is an array of a word and of what it takes, told by the method or the function that does it. A run goes well where all its acts do. Of those that have
-//! acts in them,
+//! An act is an array of a word and of what it takes, told by the method or the function that does it. A run goes well where all its acts do, and ends at the
+//! first that doesn't. Of those that have acts in them,
 //!
 //! - `["each stop", CHOICE, ACT..]` lets the site be what a stop of the whole life leaves at each moment in turn, where what isn't synced is `old`,
 //!   `new` or `torn`;
 //! - `["each fault", ACT..]` plans for the next site that each disk call of the whole life fails in turn;
 //! - `["each front", NAME, TEXT, ACT..]` gives that name to each front of the text in turn, but to the whole.
+//!
+//! They go on behind a stop, a fault or a front that goes wrong, and count the others that do.
 //!
 //! Within those, `["at records", FROM, TO, ACT]` and `["at calls", FROM, TO, ACT]` play the act where so many records of the whole life are there,
 //! or so many of its disk calls were made behind its opening; `["unopened", ACT]` where a call of the opening failed; `["at first", ACT]` and
@@ -15,14 +17,15 @@
 use crate::checks::{Standing, are};
 use crate::stage::Stage;
 use case_lives::{
-    Calls, CaseFault, behind, calls_of, changes_standing, count, entries, list, number, part, word,
+    ActFault, Calls, CaseFault, behind, calls_of, changes_standing, count, entries, list, number,
+    part, word,
 };
 use serde_json::Value;
-use site_traits::{Choice, DoorPlan, GrantPlan, MemSite};
-use std::alloc::Global;
+use site_traits::{Choice, DoorPlan, GrantPlan, MemOrchestrator, MemSite};
+use std::alloc::{AllocError, Global};
 
 /// Plays an act on the words of a command line, on the program that is started with them, or on levels.
-fn spells(stage: &Stage, alloc: Global, act: &[Value]) -> Result<bool, CaseFault> {
+fn spells(stage: &Stage, alloc: Global, act: &[Value]) -> Result<(), ActFault> {
     match word(act, 0)? {
         "start" => stage.starts(alloc, act, true),
         "start without a mouth" => stage.starts(alloc, act, false),
@@ -31,7 +34,7 @@ fn spells(stage: &Stage, alloc: Global, act: &[Value]) -> Result<bool, CaseFault
         "page" => stage.is_page(alloc, act),
         "named" => stage.has_level(alloc, act),
         "aims" => stage.aims(alloc, act),
-        _ => Err(CaseFault::Spelling),
+        _ => Err(ActFault::Unread(CaseFault::Spelling)),
     }
 }
 
@@ -44,83 +47,104 @@ fn spells(stage: &Stage, alloc: Global, act: &[Value]) -> Result<bool, CaseFault
 /// - `["alike", N]` connections of the last command, each of which was told the same and hung up;
 /// - `["grants", N]` asks of the orchestrator that grants all, in this run; `["peer calls", ASKED, POLLED, FAULTS]` answered asks and polls and failed
 ///   calls of that with planned answers.
-fn counts(stage: &Stage, alloc: Global, act: &[Value]) -> Result<bool, CaseFault> {
-    let (site, peer) = (&stage.site, &stage.peer);
+fn counts(stage: &Stage, alloc: Global, act: &[Value]) -> Result<(), ActFault> {
+    let site = &stage.site;
     match word(act, 0)? {
-        "moment" => Ok(are(act, &[site.moment() as u64])),
-        "calls" => Ok(are_calls(act, calls_of(site))),
-        "faults" => Ok(are_faults(act, site)),
-        "clock" => Ok(are(act, &[stage.ran.clock])),
-        "file length" => Ok(are(act, &[site.file().len() as u64])),
-        "grown" => Ok(are(act, &[stage.grown()])),
-        "job count" => Ok(are(act, &[site.jobs() as u64])),
-        "jobs" => Ok(are(act, &[site.jobs() as u64, changes_standing(site) as u64])),
-        "lost" => Ok(are(act, &[stage.lost as u64])),
-        "alike" => Ok(are(act, &[stage.ran.alike as u64])),
-        "grants" => Ok(are(act, &[stage.granting.asked() as u64])),
-        "peer calls" => Ok(are(
+        "moment" => are(alloc, act, &[site.moment() as u64]),
+        "calls" => are_calls(alloc, act, calls_of(site)),
+        "faults" => are_faults(alloc, act, site),
+        "clock" => are(alloc, act, &[stage.ran.clock]),
+        "file length" => are(alloc, act, &[site.file().len() as u64]),
+        "grown" => are(alloc, act, &[stage.grown()]),
+        "job count" => are(alloc, act, &[site.jobs() as u64]),
+        "jobs" => are(
+            alloc,
             act,
-            &[peer.asked() as u64, peer.polled() as u64, peer.faults()],
-        )),
+            &[site.jobs() as u64, changes_standing(site) as u64],
+        ),
+        "lost" => are(alloc, act, &[stage.lost as u64]),
+        "alike" => are(alloc, act, &[stage.ran.alike as u64]),
+        "grants" => are(alloc, act, &[stage.granting.asked() as u64]),
+        "peer calls" => are_peer_calls(alloc, act, &stage.peer),
         _ => spells(stage, alloc, act),
     }
 }
 
-/// Whether the numbers of an act are those of this site's failed calls on the disk and on jobs, failed looks and refused begins.
-fn are_faults(act: &[Value], site: &MemSite) -> bool {
-    let (disk, jobs) = (site.faults(), site.vim_faults());
-    are(act, &[disk, jobs, site.look_faults(), site.refusals()])
+/// The numbers of an act are those of this orchestrator's answered asks and polls and failed calls.
+fn are_peer_calls(alloc: Global, act: &[Value], peer: &MemOrchestrator) -> Result<(), ActFault> {
+    let (asked, polled) = (peer.asked() as u64, peer.polled() as u64);
+    are(alloc, act, &[asked, polled, peer.faults()])
 }
 
-/// Whether the numbers of an act are those of these calls on jobs.
-fn are_calls(act: &[Value], calls: Calls) -> bool {
+/// The numbers of an act are those of this site's failed calls on the disk and on jobs, failed looks and refused begins.
+fn are_faults(alloc: Global, act: &[Value], site: &MemSite) -> Result<(), ActFault> {
+    let (disk, jobs) = (site.faults(), site.vim_faults());
     are(
+        alloc,
         act,
-        &[calls.begins as u64, calls.looks as u64, calls.aborts as u64],
+        &[disk, jobs, site.look_faults(), site.refusals()],
     )
 }
 
+/// The numbers of an act are those of these calls on jobs.
+fn are_calls(alloc: Global, act: &[Value], calls: Calls) -> Result<(), ActFault> {
+    let (begins, looks) = (calls.begins as u64, calls.looks as u64);
+    are(alloc, act, &[begins, looks, calls.aborts as u64])
+}
+
 /// Plays an act that compares bytes with a text: of what the last connection was told, all with `["told", TEXT]`, the front with `["told front", TEXT]`
-/// and a part with `["told part", TEXT]`; what the last command printed with `["printed", TEXT]`; of the file all with `["file", TEXT]`, the front
-/// with `["file front", TEXT]` and the end with `["file end", TEXT]`.
-fn reads(stage: &Stage, alloc: Global, act: &[Value]) -> Result<bool, CaseFault> {
-    let (told, file) = (stage.ran.told.as_slice(), stage.site.file());
+/// and a part with `["told part", TEXT]`; what the last command printed with `["printed", TEXT]`; the bodies that the orchestrator with planned answers
+/// was asked with by it, with `["bodies", TEXT]`, and the locations that it was polled at, with `["polled", TEXT]`, each with a line feed behind it; of the
+/// file all with `["file", TEXT]`, the front with `["file front", TEXT]` and the end with `["file end", TEXT]`.
+fn reads(stage: &Stage, alloc: Global, act: &[Value]) -> Result<(), ActFault> {
+    let told = stage.ran.told.as_slice();
     match word(act, 0)? {
         "told" => stage.has_text(alloc, act, told, Standing::Whole),
         "told front" => stage.has_text(alloc, act, told, Standing::Front),
         "told part" => stage.has_text(alloc, act, told, Standing::Within),
         "printed" => stage.has_text(alloc, act, &stage.ran.printed, Standing::Whole),
-        "file" => stage.has_text(alloc, act, file, Standing::Whole),
-        "file front" => stage.has_text(alloc, act, file, Standing::Front),
-        "file end" => stage.has_text(alloc, act, file, Standing::End),
+        "bodies" => stage.has_text(alloc, act, &stage.ran.bodies, Standing::Whole),
+        "polled" => stage.has_text(alloc, act, &stage.ran.locations, Standing::Whole),
+        "file" => stage.has_file(alloc, act, false),
+        "file front" => stage.has_file(alloc, act, true),
+        "file end" => stage.has_text(alloc, act, stage.site.file(), Standing::End),
         _ => counts(stage, alloc, act),
+    }
+}
+
+/// Plays an act that compares jobs, and the calls on them.
+fn jobs(stage: &Stage, alloc: Global, act: &[Value]) -> Result<(), ActFault> {
+    match word(act, 0)? {
+        "done jobs" => stage.are_done(alloc, act),
+        "job" => stage.has_job(alloc, act),
+        "stands" => stage.job_stands(alloc, act),
+        "does" => stage.job_does(alloc, act),
+        "calls on jobs" => stage.has_calls(alloc, act),
+        _ => reads(stage, alloc, act),
     }
 }
 
 /// Plays an act that compares what stands. `["stays"]`: the file is as it was before the last command; `["ended"]`: the last connection was hung up;
 /// `["answered", TEXT]`: the last command ended with 0, and its connection was told this and hung up; `["only answered", TEXT]`: the same, and the file
 /// is as it was before.
-fn finds(stage: &mut Stage, alloc: Global, act: &[Value]) -> Result<bool, CaseFault> {
+fn finds(stage: &mut Stage, alloc: Global, act: &[Value]) -> Result<(), ActFault> {
     match word(act, 0)? {
-        "stays" => Ok(stage.stays()),
-        "ended" => Ok(stage.ran.ended),
+        "stays" => stage.stays(alloc),
+        "ended" => stage.has_hung_up(alloc),
         "answered" => stage.is_answered(alloc, part(act, 1)?),
-        "only answered" => Ok(stage.stays() && stage.is_answered(alloc, part(act, 1)?)?),
-        "status" => Ok(stage.has_status(act)),
-        "done jobs" => Ok(stage.are_done(act)),
-        "job" => Ok(stage.has_job(act)),
-        "does" => stage.job_does(alloc, act),
+        "only answered" => stage.is_only_answered(alloc, part(act, 1)?),
+        "status" => stage.has_status(alloc, act),
         "steps" => stage.has_steps(alloc, act),
         "left" => stage.is_left(alloc),
         "again" => stage.is_again(alloc),
         "face" => stage.has_face(alloc, act),
         "instance" => stage.has_instance(alloc, act),
-        _ => reads(stage, alloc, act),
+        _ => jobs(stage, alloc, act),
     }
 }
 
 /// Plays an act that runs a command, makes a turn or stops a life.
-fn runs(stage: &mut Stage, alloc: Global, act: &[Value]) -> Result<bool, CaseFault> {
+fn runs(stage: &mut Stage, alloc: Global, act: &[Value]) -> Result<(), ActFault> {
     match word(act, 0)? {
         "go" => stage.go(alloc, act),
         "once" => stage.once(alloc, act),
@@ -142,44 +166,45 @@ fn runs(stage: &mut Stage, alloc: Global, act: &[Value]) -> Result<bool, CaseFau
 /// Plays an act that says what goes otherwise on the site or at the command that is next, or another. On the next site
 ///
 /// - `["room", N]` there is room for so many jobs;
-/// - `["fault", N]` the disk call of that number, from 1, fails, and with `["no fault"]` none does;
+/// - `["no fault"]` no disk call fails that `["fault", N..]` said before;
 /// - `["blind", N]` the look or abort of that number, from 1 over both, fails; its file is empty.
 ///
 /// At the next command
 ///
 /// - `["sink", N]` the put of a line of that number, from 1, fails;
+/// - `["now", N]` the clock gives so many milliseconds, from now on;
 /// - `["pieces", N]` connections come in pieces of so many bytes, from now on;
 /// - `["nobody"]` nobody comes, and with `["no door"]` the door fails;
 /// - `["says nothing"]` the call of its orchestrator that comes next fails.
-fn plans(stage: &mut Stage, alloc: Global, act: &[Value]) -> Result<bool, CaseFault> {
+fn plans(stage: &mut Stage, alloc: Global, act: &[Value]) -> Result<(), ActFault> {
     match word(act, 0)? {
         "room" => stage.plan.jobs = count(act, 1)?,
-        "fault" => stage.plan.failing = Some(number(act, 1)?),
-        "no fault" => stage.plan.failing = None,
+        "no fault" => stage.plan.failing = Vec::new(alloc),
         "blind" => stage.plan.blind = Some(number(act, 1)?),
         "sink" => stage.outside.put = Some(number(act, 1)?),
+        "now" => stage.outside.now = number(act, 1)?,
         "pieces" => stage.outside.piece = count(act, 1)?,
         "nobody" => stage.plan_door_as(DoorPlan::Nobody)?,
         "no door" => stage.plan_door_as(DoorPlan::NextFails)?,
         "says nothing" => stage.plan_grant(GrantPlan::Fail)?,
         _ => return runs(stage, alloc, act),
     }
-    Ok(true)
+    Ok(())
 }
 
 /// An act that ended so goes well, where it could be played.
-fn played(end: Result<(), CaseFault>) -> Result<bool, CaseFault> {
-    end?;
-    Ok(true)
+fn played(end: Result<(), CaseFault>) -> Result<(), ActFault> {
+    Ok(end?)
 }
 
 /// Plays an act that prepares a command, or another.
-fn plays(stage: &mut Stage, alloc: Global, act: &[Value]) -> Result<bool, CaseFault> {
+fn plays(stage: &mut Stage, alloc: Global, act: &[Value]) -> Result<(), ActFault> {
     match word(act, 0)? {
         "let" => played(stage.name_text(alloc, act)),
         "keep" => played(stage.keep(alloc, act)),
         "keep records" => played(stage.keep_records(alloc, act)),
         "work" => played(stage.plan_work(alloc, act)),
+        "fault" => played(stage.plan_faults(alloc, act)),
         "site" => played(stage.make_site(alloc, act)),
         "base" => played(stage.take_base(alloc)),
         "door" => played(stage.plan_door(alloc, part(act, 1)?)),
@@ -201,17 +226,15 @@ fn plays_often(
     alloc: Global,
     act: &[Value],
     times: u64,
-) -> Result<bool, CaseFault> {
+) -> Result<(), ActFault> {
     for _ in 0..times {
-        if !plays(stage, alloc, act)? {
-            return Ok(false);
-        }
+        plays(stage, alloc, act)?;
     }
-    Ok(true)
+    Ok(())
 }
 
 /// Plays an act, or one so many times.
-fn plays_it(stage: &mut Stage, alloc: Global, act: &[Value]) -> Result<bool, CaseFault> {
+fn plays_it(stage: &mut Stage, alloc: Global, act: &[Value]) -> Result<(), ActFault> {
     match word(act, 0)? {
         "times" => plays_often(stage, alloc, list(act, 2)?, number(act, 1)?),
         _ => plays(stage, alloc, act),
@@ -238,17 +261,17 @@ fn plays_where(
     act: &[Value],
     place: usize,
     holds: bool,
-) -> Result<bool, CaseFault> {
+) -> Result<(), ActFault> {
     let inner = list(act, place)?;
     if holds {
         plays_it(stage, alloc, inner)
     } else {
-        Ok(true)
+        Ok(())
     }
 }
 
 /// Plays an act, or one that is only played at some stops.
-fn plays_within(stage: &mut Stage, alloc: Global, act: &[Value]) -> Result<bool, CaseFault> {
+fn plays_within(stage: &mut Stage, alloc: Global, act: &[Value]) -> Result<(), ActFault> {
     let (stop, last) = (stage.stop, stage.whole.site.moment());
     match word(act, 0)? {
         "at records" => plays_where(stage, alloc, act, 3, is_between(act, stop.records)?),
@@ -260,15 +283,109 @@ fn plays_within(stage: &mut Stage, alloc: Global, act: &[Value]) -> Result<bool,
     }
 }
 
+/// Where an act within another goes wrong.
+pub struct Inner {
+    /// The stop, the fault or the front, from 0.
+    pub place: usize,
+    /// The act there, from 1.
+    pub act: usize,
+    /// Its word.
+    pub word: String,
+}
+
+impl Drop for Inner {
+    // Written out, so that the proof of a caller calls it and doesn't take the value apart at each of its ends.
+    fn drop(self) {
+        let Inner {
+            place: _,
+            act: _,
+            word: _,
+        } = self;
+    }
+}
+
+/// What goes wrong in an act of a run.
+pub struct Failure {
+    /// Why.
+    pub fault: ActFault,
+    /// Where, in an act that has acts in it.
+    pub inner: Option<Inner>,
+    /// How many other stops, faults or fronts go wrong there.
+    pub others: usize,
+}
+
+impl Drop for Failure {
+    // Written out, so that the proof of a caller calls it and doesn't take the value apart at each of its ends.
+    fn drop(self) {
+        let Failure {
+            fault: _,
+            inner: _,
+            others: _,
+        } = self;
+    }
+}
+
+/// An act that has no acts in it goes wrong for this.
+fn plainly(fault: ActFault) -> Failure {
+    Failure {
+        fault,
+        inner: None,
+        others: 0,
+    }
+}
+
+/// The word that an act begins with, for a person; nothing where it begins with none.
+pub fn word_told(alloc: Global, act: &Value) -> Result<String, AllocError> {
+    match entries(act) {
+        Ok(act) => String::from_str(alloc, first_word(act)),
+        Err(_) => Ok(String::new(alloc)),
+    }
+}
+
+/// The word that an act begins with; nothing where it begins with none.
+fn first_word(act: &[Value]) -> &str {
+    word(act, 0).unwrap_or("")
+}
+
+/// These acts go wrong at the stop at hand for this.
+fn within(stage: &Stage, alloc: Global, acts: &[Value], fault: ActFault) -> Failure {
+    let act = stage.stop.act;
+    match word_told(alloc, acts.get(act).unwrap_or(&Value::Null)) {
+        Ok(word) => Failure {
+            fault,
+            inner: Some(Inner {
+                place: stage.stop.place,
+                act: act.saturating_add(1),
+                word,
+            }),
+            others: 0,
+        },
+        Err(_) => plainly(ActFault::Unread(CaseFault::Memory)),
+    }
+}
+
 /// Plays these acts, up to the first that doesn't go well.
-fn play_within(stage: &mut Stage, alloc: Global, acts: &[Value]) -> Result<bool, CaseFault> {
+fn play_within(stage: &mut Stage, alloc: Global, acts: &[Value]) -> Result<(), ActFault> {
     for place in 0..acts.len() {
         stage.stop.act = place;
-        if !plays_within(stage, alloc, entries(&acts[place])?)? {
-            return Ok(false);
-        }
+        plays_within(stage, alloc, entries(&acts[place])?)?;
     }
-    Ok(true)
+    Ok(())
+}
+
+/// Plays these acts at the stop at hand, and keeps what goes wrong first; behind that it counts.
+fn play_there(stage: &mut Stage, alloc: Global, acts: &[Value], first: &mut Option<Failure>) {
+    if let Err(fault) = play_within(stage, alloc, acts) {
+        keep(first, within(stage, alloc, acts, fault));
+    }
+}
+
+/// Keeps what goes wrong where nothing did before; else counts it.
+fn keep(first: &mut Option<Failure>, failure: Failure) {
+    match first {
+        Some(kept) => kept.others = kept.others.saturating_add(1),
+        None => *first = Some(failure),
+    }
 }
 
 /// The choice of the word at this place of an act.
@@ -281,42 +398,45 @@ fn choice_at(act: &[Value], place: usize) -> Result<Choice, CaseFault> {
     }
 }
 
-/// Plays these acts behind each stop of the whole life.
+/// Plays these acts behind each stop of the whole life: what goes wrong first, where something does.
 fn play_stops(
     stage: &mut Stage,
     alloc: Global,
     choice: Choice,
     acts: &[Value],
-) -> Result<bool, CaseFault> {
+) -> Result<Option<Failure>, CaseFault> {
     stage.lost = 0;
+    let mut first = None;
     for moment in 0..stage.whole.site.moment().saturating_add(1) {
         stage.stop_at(alloc, moment, choice)?;
-        if !play_within(stage, alloc, acts)? {
-            return Ok(false);
-        }
+        play_there(stage, alloc, acts, &mut first);
     }
-    Ok(true)
+    Ok(first)
 }
 
-/// Plays these acts for each disk call of the whole life, which is to fail.
-fn play_faults(stage: &mut Stage, alloc: Global, acts: &[Value]) -> Result<bool, CaseFault> {
+/// Plays these acts for each disk call of the whole life, which is to fail: what goes wrong first, where something does.
+fn play_faults(
+    stage: &mut Stage,
+    alloc: Global,
+    acts: &[Value],
+) -> Result<Option<Failure>, CaseFault> {
+    let mut first = None;
     for call in 0..stage.disk_calls() {
         stage.fail_at(alloc, call)?;
-        if !play_within(stage, alloc, acts)? {
-            return Ok(false);
-        }
+        play_there(stage, alloc, acts, &mut first);
     }
-    Ok(true)
+    Ok(first)
 }
 
-/// Plays these acts for each front of this text, which has that name.
+/// Plays these acts for each front of this text, which has that name: what goes wrong first, where something does.
 fn play_fronts(
     stage: &mut Stage,
     alloc: Global,
     name: &str,
     text: &[u8],
     acts: &[Value],
-) -> Result<bool, CaseFault> {
+) -> Result<Option<Failure>, CaseFault> {
+    let mut first = None;
     for length in 0..text.len() {
         stage.stop.place = length;
         stage.names.put(
@@ -324,26 +444,48 @@ fn play_fronts(
             name,
             text.get(..length).unwrap_or(text).to_vec(alloc)?,
         )?;
-        if !play_within(stage, alloc, acts)? {
-            return Ok(false);
-        }
+        play_there(stage, alloc, acts, &mut first);
     }
-    Ok(true)
+    Ok(first)
 }
 
-/// Plays the acts that stand from the fourth place of an act on for each front of its text.
-fn play_each_front(stage: &mut Stage, alloc: Global, act: &[Value]) -> Result<bool, CaseFault> {
+/// Plays the acts that stand from the fourth place of an act on for each front of its text: what goes wrong first, where something does.
+fn play_each_front(
+    stage: &mut Stage,
+    alloc: Global,
+    act: &[Value],
+) -> Result<Option<Failure>, CaseFault> {
     let (name, value) = (word(act, 1)?, part(act, 2)?);
     let text = stage.names.text(alloc, value)?;
     play_fronts(stage, alloc, name, &text, behind(act, 3))
 }
 
-/// Plays an act of a run, or one with acts in it.
-pub fn play_act(stage: &mut Stage, alloc: Global, act: &[Value]) -> Result<bool, CaseFault> {
+/// Plays an act that has no acts in it: what goes wrong, where something does.
+fn play_plain(stage: &mut Stage, alloc: Global, act: &[Value]) -> Option<Failure> {
+    match plays_it(stage, alloc, act) {
+        Ok(()) => None,
+        Err(fault) => Some(plainly(fault)),
+    }
+}
+
+/// Plays an act of a run, or one with acts in it: what goes wrong, where something does.
+fn play_any(stage: &mut Stage, alloc: Global, act: &[Value]) -> Result<Option<Failure>, CaseFault> {
     match word(act, 0)? {
         "each stop" => play_stops(stage, alloc, choice_at(act, 1)?, behind(act, 2)),
         "each fault" => play_faults(stage, alloc, behind(act, 1)),
         "each front" => play_each_front(stage, alloc, act),
-        _ => plays_it(stage, alloc, act),
+        _ => Ok(play_plain(stage, alloc, act)),
+    }
+}
+
+/// Plays an act of a run: what goes wrong, where something does.
+pub fn play_act(stage: &mut Stage, alloc: Global, act: &Value) -> Option<Failure> {
+    let played = match entries(act) {
+        Ok(act) => play_any(stage, alloc, act),
+        Err(fault) => Err(fault),
+    };
+    match played {
+        Ok(failure) => failure,
+        Err(fault) => Some(plainly(ActFault::Unread(fault))),
     }
 }

@@ -123,6 +123,15 @@ impl Stage {
         Ok(())
     }
 
+    /// `["fault", N..]`: on the next site the disk calls of these numbers, from 1, fail.
+    pub fn plan_faults(&mut self, alloc: Global, act: &[Value]) -> Result<(), CaseFault> {
+        self.plan.failing = Vec::new(alloc);
+        for place in 1..act.len() {
+            self.plan.failing.push(number(act, place)?)?;
+        }
+        Ok(())
+    }
+
     /// `["site", TEXT]`: a site with this file, by the plan.
     pub fn make_site(&mut self, alloc: Global, act: &[Value]) -> Result<(), CaseFault> {
         self.base = self.names.text(alloc, part(act, 1)?)?;

@@ -2,8 +2,9 @@
 //! that it leaves.
 ghost use Rattle.std.specs.Prelude.{◌≡◌, ◌≤◌, ◌+◌, length, true};
 
+use crate::checks::{holds, same_number};
 use crate::stage::Stage;
-use case_lives::{CaseFault, count, entries, has_number, has_word, list, number, word};
+use case_lives::{ActFault, CaseFault, count, entries, list, number, same_file, same_text, word};
 use host_calls::{HostFile, HostFiles, InStream, OutStream, TimeOfDay};
 use lcm_api::Mouth;
 use lcm_events::Role;
@@ -467,22 +468,32 @@ fn wrong_of(plan: &Value) -> Result<Wrong<'_>, CaseFault> {
     })
 }
 
-/// Whether the program told this; nothing, where there is no text.
-fn is_told(text: Option<Vec<u8>>, seen: &Seen) -> bool {
-    text.as_deref().unwrap_or(b"") == seen.told.as_slice()
+/// The program told this; nothing, where there is no text.
+fn is_told(alloc: Global, text: Option<Vec<u8>>, seen: &Seen) -> Result<(), ActFault> {
+    same_text(alloc, text.as_deref().unwrap_or(b""), &seen.told)
 }
 
-/// Whether the program left this; no file, where there is no text.
-fn is_left(text: Option<Vec<u8>>, seen: &Seen) -> bool {
-    text.as_deref() == seen.left.as_deref()
+/// The program left this; no file, where there is no text.
+fn is_left(alloc: Global, text: Option<Vec<u8>>, seen: &Seen) -> Result<(), ActFault> {
+    match (text.as_deref(), seen.left.as_deref()) {
+        (Some(wanted), Some(came)) => same_file(alloc, wanted, came),
+        (Some(_), None) => holds(alloc, false, "a file that was had", "none"),
+        (None, Some(_)) => holds(alloc, false, "no file that was had", "one"),
+        (None, None) => Ok(()),
+    }
 }
 
-/// Whether an act has this behind its words; it hasn't where it is misspelled.
-fn is_said(seen: &Seen, act: &[Value]) -> bool {
-    has_number(act, 2, u64::from(seen.status))
-        && has_word(act, 3, &seen.lines)
-        && has_word(act, 4, &seen.errors)
-        && has_number(act, 5, seen.made)
+/// Printed bytes are the word at this place of an act.
+fn is_printed(alloc: Global, printed: &[u8], act: &[Value], place: usize) -> Result<(), ActFault> {
+    same_text(alloc, word(act, place)?.as_bytes(), printed)
+}
+
+/// An act has this behind its words: the status, what was printed, what was told on standard error, and how many files were made.
+fn is_said(alloc: Global, seen: &Seen, act: &[Value]) -> Result<(), ActFault> {
+    same_number(alloc, "status", number(act, 2)?, u64::from(seen.status))?;
+    is_printed(alloc, &seen.lines, act, 3)?;
+    is_printed(alloc, &seen.errors, act, 4)?;
+    same_number(alloc, "files made", number(act, 5)?, seen.made)
 }
 
 impl Stage {
@@ -499,23 +510,24 @@ impl Stage {
         }
     }
 
-    /// Whether a plan has this as what is told and left.
-    fn is_planned(&self, alloc: Global, seen: &Seen, plan: &Value) -> Result<bool, CaseFault> {
-        let is_told = is_told(self.planned(alloc, plan, "told")?, seen);
-        Ok(is_told && is_left(self.planned(alloc, plan, "left")?, seen))
+    /// A plan has this as what is told and left.
+    fn is_planned(&self, alloc: Global, seen: &Seen, plan: &Value) -> Result<(), ActFault> {
+        is_told(alloc, self.planned(alloc, plan, "told")?, seen)?;
+        is_left(alloc, self.planned(alloc, plan, "left")?, seen)
     }
 
-    /// Whether the program with the words of this act, over this, comes to what the act and its plan have.
+    /// The program with the words of this act, over this, comes to what the act and its plan have.
     fn comes_out(
         &self,
         alloc: Global,
         act: &[Value],
         plan: &Value,
         before: Before<'_>,
-    ) -> Result<bool, CaseFault> {
+    ) -> Result<(), ActFault> {
         let arguments = arguments_of(alloc, list(act, 1)?)?;
         let seen = seen_of(alloc, arguments, before);
-        Ok(is_said(&seen, act) && self.is_planned(alloc, &seen, plan)?)
+        is_said(alloc, &seen, act)?;
+        self.is_planned(alloc, &seen, plan)
     }
 
     /// `["start", WORDS, STATUS, PRINTED, ERRORS, MADE, PLAN]`: the program with these words ends with this status, prints this to standard output and
@@ -528,7 +540,7 @@ impl Stage {
     /// standard output and standard error, which write a piece before they fail.
     ///
     /// `["start without a mouth", ..]` is the same where there was no memory for the mouth.
-    pub fn starts(&self, alloc: Global, act: &[Value], has_mouth: bool) -> Result<bool, CaseFault> {
+    pub fn starts(&self, alloc: Global, act: &[Value], has_mouth: bool) -> Result<(), ActFault> {
         let plan = act.get(6).unwrap_or(&Value::Null);
         let wrong = wrong_of(plan)?;
         let file = self.planned(alloc, plan, "file")?;

@@ -3,7 +3,7 @@
 use crate::checks::is_text;
 use crate::commands::command_of;
 use crate::stage::Stage;
-use case_lives::{CaseFault, list, part, truth, word};
+use case_lives::{ActFault, CaseFault, differs, list, part, quoted, truth, word};
 use command_line::{Settings, SettingsFault, settings};
 use lcm_events::Role;
 use outside_edges::WhyLost;
@@ -92,28 +92,35 @@ fn page_text(words: &[Text]) -> &'static str {
 
 impl Stage {
     /// `["set", WORDS, TEXT]`: these words set this.
-    pub fn is_set(&self, alloc: Global, act: &[Value]) -> Result<bool, CaseFault> {
+    pub fn is_set(&self, alloc: Global, act: &[Value]) -> Result<(), ActFault> {
         let words = command_of(alloc, list(act, 1)?)?;
-        Ok(is_text(set_by(alloc, &words)?, act, 2))
+        is_text(alloc, &set_by(alloc, &words)?, act, 2)
     }
 
     /// `["line", WORDS, STATUS, LOST, UNDELIVERED, LINE]`: a run with these words that ended with this status, lost its journal so and couldn't deliver an
     /// answer, where it says so, is explained by this line.
-    pub fn is_explained(&self, alloc: Global, act: &[Value]) -> Result<bool, CaseFault> {
+    pub fn is_explained(&self, alloc: Global, act: &[Value]) -> Result<(), ActFault> {
         let (status, lost, undelivered) = (
             status(act, 2)?,
             lost_by(word(act, 3)?)?,
             truth(act, 4)?,
         );
         let words = command_of(alloc, list(act, 1)?)?;
-        Ok(is_text(line_of(alloc, &words, status, lost, undelivered)?, act, 5))
+        let line = line_of(alloc, &words, status, lost, undelivered)?;
+        is_text(alloc, &line, act, 5)
     }
 
     /// `["page", WORDS, FRONT]`: these words ask for a page that begins so; for none where that is empty.
-    pub fn is_page(&self, alloc: Global, act: &[Value]) -> Result<bool, CaseFault> {
+    pub fn is_page(&self, alloc: Global, act: &[Value]) -> Result<(), ActFault> {
         let front = word(act, 2)?;
         let words = command_of(alloc, list(act, 1)?)?;
         let text = page_text(&words);
-        Ok(text.starts_with(front) && text.is_empty() == front.is_empty())
+        if text.starts_with(front) && text.is_empty() == front.is_empty() {
+            return Ok(());
+        }
+        Err(differs(
+            quoted(alloc, front.as_bytes())?,
+            quoted(alloc, text.as_bytes())?,
+        ))
     }
 }

@@ -1,6 +1,6 @@
 //! What the acts of a run have before them: the site and the plans of the objects, and what the last command did.
 
-use crate::objects::Ran;
+use crate::objects::{NOW, Ran};
 use case_lives::{Earlier, Names, Plan, Step, Stop, Whole, plain_site};
 use grant_desk::GrantAll;
 use site_traits::{DoorPlan, GrantPlan, MemOrchestrator, MemSite};
@@ -15,6 +15,8 @@ pub struct Outside {
     pub door: Vec<DoorPlan>,
     /// The bytes of a piece of a connection.
     pub piece: usize,
+    /// What the clock gives.
+    pub now: u64,
     /// The put of a line, from 1, that fails.
     pub put: Option<u64>,
     /// What an orchestrator answers, in turn.
@@ -27,6 +29,7 @@ impl Drop for Outside {
         let Outside {
             door: _,
             piece: _,
+            now: _,
             put: _,
             says: _,
         } = self;
@@ -39,6 +42,7 @@ impl Outside {
         Outside {
             door: Vec::new(alloc),
             piece: PIECE,
+            now: NOW,
             put: None,
             says: Vec::new(alloc),
         }
