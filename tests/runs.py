@@ -32,7 +32,11 @@ STDIN, STDOUT = (TOP / "crates" / "lcm_cases" / name for name in ("stdin", "stdo
 def modules():
     """All modules, whose titles and texts have distinct names."""
     for name in ORDER:
-        importlib.import_module(name)
+        it = importlib.import_module(name)
+        # (a module may keep its runs in a list of its own, and begin nothing)
+        if hasattr(it, "RUNS") and all(module.title != name for module in run_parts.MODULES):
+            run_parts.begin(name)
+            run_parts.MODULES[-1].runs.extend(it.RUNS)
     for what, names in ("title", [it[0] for it in all_runs()]), ("text", [it[0] for module in run_parts.MODULES for it in module.texts]):
         twice = sorted({it for it in names if names.count(it) > 1})
         if twice:
