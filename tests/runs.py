@@ -17,6 +17,7 @@ import sys
 sys.dont_write_bytecode = True
 import cases
 import runs_edges
+import runs_framing
 import runs_histories
 import runs_journals
 from cases import latin, name, u8, u16, u32, u64
@@ -2394,6 +2395,7 @@ def texts_of(runs):
 def main():
     title = "the texts of all runs"
     RUNS.extend(runs_edges.RUNS)
+    RUNS.extend(runs_framing.RUNS)
     # (with a title behind it, the run of that title alone, and of the texts those that it needs)
     if sys.argv[1:]:
         found = [it for it in RUNS if it[0] == sys.argv[1]]
