@@ -10,3 +10,4 @@ pub mod DecodeLaws
 pub mod GrowLaws
 pub mod BeginningLaws
 pub mod TargetLaws
+pub mod LineLaws

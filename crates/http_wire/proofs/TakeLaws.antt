@@ -1,6 +1,6 @@
 -- Laws on taking a request out of the bytes of a connection.
-use Rattle.std.proofs.Common.{◌≡◌, ℕ, ◌+◌, ◌-◌, ◌<◌, ◌≤◌, List, [], ◌∷◌, ◌++◌, length, take, drop, min, refl, sym, ap, ◌∙◌, subst, inl, ◌⊎◌, arith, append_assoc, append-nil}
-use Rattle.std.proofs.lemmas.List.{drop-drop, length-take, take-append-drop, take_all, length-take-le, length-drop, drop-append-le, nil_from_length, take_min}
+use Rattle.std.proofs.Common.{◌≡◌, ℕ, ◌+◌, ◌-◌, ◌<◌, ◌≤◌, List, [], ◌∷◌, ◌++◌, length, take, drop, min, refl, sym, ap, ◌∙◌, subst, inl, ◌⊎◌, arith, append_assoc, append-nil, length-append}
+use Rattle.std.proofs.lemmas.List.{drop-drop, length-take, take-append-drop, take_all, length-take-le, length-drop, drop-append-le, nil_from_length, take_min, take-append-le}
 use Rattle.httparse.specs.Grammar.{print_request}
 use Rattle.http_frames.specs.declared.TheConstants.{HEAD_BYTES, CHUNKED_BYTES, BODY_BYTES}
 use Rattle.http_frames.specs.declared.framing.Frame.{Frame}
@@ -8,9 +8,10 @@ use Rattle.http_frames.specs.declared.framing.Frame.TheVariants as frames
 use Rattle.http_frames.specs.declared.chunks.Decoder.{Decoder}
 use Rattle.http_frames.specs.declared.head.Body.TheVariants as body
 use Rattle.http_frames.specs.declared.head.HeadParts.{HeadParts}
+use Rattle.http_frames.specs.declared.head.HeadReader.{HeadReader}
 use Rattle.http_frames.specs.declared.head.Head.TheVariants as answer
 use Rattle.http_frames.specs.Framing.{fields_of}
-use Rattle.http_frames.specs.Heads.{HasHead, HeadIs, frame_as}
+use Rattle.http_frames.specs.Heads.{HasHead, HeadIs, HasReadLines, AreWholeLines, frame_as}
 use Rattle.http_frames.specs.Chunks.{ReadsChunks, ReadsChunked}
 use Rattle.http_frames.specs.Answers.{ChunksCut, ChunksBad, ChunksMuch}
 use Rattle.http_frames.specs.Steps.{HasDecoded, HasMoreChunks}
@@ -47,6 +48,16 @@ bytes_stay tells a b t told =
 -- a head that is held stays
 pub head_stays : (tells : Type 0) (a b : IntakeState) (p : HeadParts) → TakesIn tells a b → HasHead a.held p → HasHead b.held p
 head_stays tells a b p t h = subst (λ (x : List ℕ). HasHead x p) (sym t.held) (head_grows a.held t.more p h)
+
+-- lines that are known stay
+pub lines_stay : (tells : Type 0) (a b : IntakeState) (r : HeadReader) → TakesIn tells a b → HasReadLines a.held r → HasReadLines b.held r
+lines_stay tells a b r t known = (
+  omega (arith, known.0, ap length t.held, length-append a.held t.more),
+  elim known.1 [
+    | inl none ↦ inl none
+    | inr lines ↦ inr (subst (λ (x : List ℕ). AreWholeLines x) (sym (ap (take r.passed) t.held ∙ take-append-le r.passed a.held t.more known.0)) lines)
+  ],
+)
 
 -- ---- the head breaks off
 
