@@ -23,7 +23,7 @@ import run_parts
 ORDER = (
     *["run_texts", "runs_commands", "runs_sessions", "runs_routes", "runs_instantiations", "runs_descriptors", "runs_tasks", "runs_forward"],
     *["runs_rollbacks", "runs_cancels", "runs_stops", "runs_command_line", "runs_turns", "runs_histories", "runs_journals", "runs_plans"],
-    *["runs_grants", "runs_words", "runs_edges", "runs_wrong"],
+    *["runs_grants", "runs_words", "runs_edges", "runs_framing", "runs_wrong"],
 )
 TOP = pathlib.Path(__file__).resolve().parent.parent
 STDIN, STDOUT = (TOP / "crates" / "lcm_cases" / name for name in ("stdin", "stdout"))

@@ -123,14 +123,18 @@ message_not_bad bytes m rest w b = elim (front_bad bytes b.front b.more m.head w
       chunked.reads.passed chunked.reads.last chunked.reads.zero c.1.1 c.1.2
 ]
 
-message_not_big : (bytes : List ℕ) (m : Message) (rest : List ℕ) → ReadsMessage bytes m rest → BeginsBig bytes → ⊥
-message_not_big bytes m rest w b = elim (front_big bytes b.front b.more m.head w.tail w.reads w.short b.is b.big) [
+-- no front of it passes a limit
+pub message_front_not_big : (bytes : List ℕ) (m : Message) (rest q r : List ℕ) → ReadsMessage bytes m rest → bytes ≡ q ++ r → IsBig q → ⊥
+message_front_not_big bytes m rest q r w e big = elim (front_big bytes q r m.head w.tail w.reads w.short e big) [
   | inl over ↦ let few = w.few in absurd (omega arith)
   | inr other ↦ elim other [
     | inl is ↦ absurd (body_as _ _ w.tail m.body rest is w.body)
-    | inr c ↦ not_big_chunks w.tail m.body rest c.1.0 b.more (body_as _ _ w.tail m.body rest c.0 w.body) c.1.1 c.1.2
+    | inr c ↦ not_big_chunks w.tail m.body rest c.1.0 r (body_as _ _ w.tail m.body rest c.0 w.body) c.1.1 c.1.2
   ]
 ]
+
+message_not_big : (bytes : List ℕ) (m : Message) (rest : List ℕ) → ReadsMessage bytes m rest → BeginsBig bytes → ⊥
+message_not_big bytes m rest w b = message_front_not_big bytes m rest b.front b.more w b.is b.big
 
 -- ---- no byte
 

@@ -1,17 +1,20 @@
 -- Laws on what a decoder has passed.
-use Rattle.std.proofs.Common.{◌≡◌, ℕ, suc, ◌+◌, ◌-◌, ◌<◌, ◌≤◌, Bool, true, false, List, [], ◌∷◌, ◌++◌, length, take, drop, get_or, refl, sym, ap, ◌∙◌, subst, arith, append_assoc, append-nil, length-append}
-use Rattle.std.specs.Prelude.{slice_range}
-use Rattle.std.proofs.lemmas.List.{drop-append-le, drop-drop, drop_more, take-append-drop, length-drop, length-take-le, get_or-take}
+use Rattle.std.proofs.Common.{◌≡◌, ℕ, suc, ◌+◌, ◌-◌, ◌<◌, ◌≤◌, List, [], ◌∷◌, ◌++◌, length, take, drop, get_or, refl, sym, ap, ◌∙◌, subst, arith, append_assoc, append-nil, length-append}
+use Rattle.std.proofs.lemmas.List.{drop-append-le, drop-drop, drop_more, drop_all, take-append-drop, length-drop, length-take-le, get_or-take}
 use Rattle.std.proofs.lemmas.Bool.Decides.{nat_tests}
 use Rattle.memchr.specs.Find.{NoneBefore, Nowhere, Passes, is_byte}
-use Rattle.httparse.specs.Grammar.{ChunkLine, print_chunk_line, chunk_size}
-use Rattle.httparse.specs.Spans.{IsChunkLineAt}
+use Rattle.httparse.specs.Grammar.{chunk_size, ReadsChunkLine, NeverHasChunkLine}
 use Rattle.httparse.proofs.ChunkLemmas.{ReadsChunkLine-append}
 use Rattle.http_frames.specs.declared.TheConstants.{BODY_BYTES}
+use Rattle.http_frames.specs.declared.chunks.Place.{Place}
+use Rattle.http_frames.specs.declared.chunks.Place.TheVariants as place
+use Rattle.http_frames.specs.declared.lines.SizeLine.{SizeLine}
 use Rattle.http_frames.specs.Chunks.{Chunk, print_chunk, IsChunk, Chunks, content_of, BeginsCrLf, HasNoLineFeed, IsEmptyLine, Lines, ReadsChunks}
-use Rattle.http_frames.specs.Answers.{ChunksCut, ChunksBad, ChunksMuch, HasPassedChunks, HasPassedLines}
-use Rattle.http_frames.specs.Steps.{BeginsChunk, BeginsLast, BeginsLine, HasMoreChunks, HasPassed}
-use Rattle.http_frames.proofs.StepLaws.{through_cut, through_bad, through_much, cut_in_trailer, much_line, bad_end, cut_in_content, whole_chunk}
+use Rattle.http_frames.specs.Lines.{IsSizeLine, IsSizeFront}
+use Rattle.http_frames.specs.Answers.{ChunksCut, ChunksBad, ChunksMuch, HasPassed, HasPassedLines}
+use Rattle.http_frames.specs.Steps.{HasPassedSize, IsAt, HasMoreChunks}
+use Rattle.http_frames.proofs.SizeLineLaws.{no_line_yet, may_become}
+use Rattle.http_frames.proofs.StepLaws.{through_cut, through_bad, through_much, cut_before_line, bad_line, cut_in_trailer, much_line, bad_end, cut_in_content, whole_chunk}
 use Rattle.http_frames.proofs.TrailerLaws.{trailer_through, no_trailer, lines_push}
 
 -- ---- chunks
@@ -36,79 +39,193 @@ lines_grow bytes more (k ∷ ls) left passed =
     (passed.0, passed.1, (passed.2.0 ++ more, ap (λ x. x ++ more) passed.2.1 ∙ append_assoc k (10 ∷ passed.2.0) more, lines_grow passed.2.0 more ls left passed.2.2))
 
 -- nothing is passed of any bytes
-pub passed_none : (bytes : List ℕ) → HasPassedChunks bytes 0 []
+pub passed_none : (bytes : List ℕ) → HasPassed bytes 0 [] []
 passed_none bytes = record { within = omega arith; chunks = []; passed = refl; content = refl; fits = omega arith }
 
--- one chunk more
-pub passed_chunk : (bytes : List ℕ) (at : ℕ) (body : List ℕ) (start end next : ℕ) → HasPassedChunks bytes at body
-    → BeginsChunk (length body) (drop at bytes) start end next
-    → HasPassedChunks bytes (at + next) (body ++ slice_range (drop at bytes) start end)
-passed_chunk bytes at body start end next p b =
-    let sized = b.is.sized in
-    let fits = b.fits in
-    let content : slice_range (drop at bytes) start end ≡ b.chunk.content = b.content in
-    let as_long : length (body ++ slice_range (drop at bytes) start end) ≡ length body + length b.chunk.content =
-    length-append body (slice_range (drop at bytes) start end) ∙ ap (λ x. length body + length x) content in
+-- the same bytes are another part and what is behind it
+passed_as : (bytes : List ℕ) (at : ℕ) (body part : List ℕ) (to : ℕ) (longer : List ℕ) → HasPassed bytes at body part → to ≤ length bytes
+    → part ++ drop at bytes ≡ longer ++ drop to bytes → HasPassed bytes to body longer
+passed_as bytes at body part to longer p within same = record {
+  within = within;
+  chunks = p.chunks;
+  passed = subst (λ (x : List ℕ). Chunks bytes p.chunks x) same p.passed;
+  content = p.content;
+  fits = p.fits;
+}
+
+length_content : (bytes : List ℕ) (at : ℕ) (body part : List ℕ) (p : HasPassed bytes at body part) → length body ≡ length (content_of p.chunks)
+length_content bytes at body part p = ap length p.content
+
+cut_behind_chunks : (bytes : List ℕ) (at : ℕ) (body part : List ℕ) → HasPassed bytes at body part → ChunksCut (length body) (part ++ drop at bytes) → ChunksCut 0 bytes
+cut_behind_chunks bytes at body part p cut =
+    let same = length_content bytes at body part p in let fits = p.fits in
+    through_cut p.chunks bytes (part ++ drop at bytes) p.passed (omega arith) (subst (λ (n : ℕ). ChunksCut n (part ++ drop at bytes)) same cut)
+
+bad_behind_chunks : (bytes : List ℕ) (at : ℕ) (body part : List ℕ) → HasPassed bytes at body part → ChunksBad (length body) (part ++ drop at bytes) → ChunksBad 0 bytes
+bad_behind_chunks bytes at body part p bad =
+    let same = length_content bytes at body part p in let fits = p.fits in
+    through_bad p.chunks bytes (part ++ drop at bytes) p.passed (omega arith) (subst (λ (n : ℕ). ChunksBad n (part ++ drop at bytes)) same bad)
+
+much_behind_chunks : (bytes : List ℕ) (at : ℕ) (body part : List ℕ) → HasPassed bytes at body part → ChunksMuch (length body) (part ++ drop at bytes) → ChunksMuch 0 bytes
+much_behind_chunks bytes at body part p much =
+    let same = length_content bytes at body part p in let fits = p.fits in
+    through_much p.chunks bytes (part ++ drop at bytes) p.passed (omega arith) (subst (λ (n : ℕ). ChunksMuch n (part ++ drop at bytes)) same much)
+
+-- ---- a size line
+
+-- all bytes are passed, and the line goes on
+pub all_passed : (bytes : List ℕ) (at : ℕ) (body part : List ℕ) → HasPassed bytes at body part → HasPassed bytes (length bytes) body (part ++ drop at bytes)
+all_passed bytes at body part p = passed_as bytes at body part (length bytes) (part ++ drop at bytes) p (omega arith)
+    (sym (append-nil (part ++ drop at bytes)) ∙ ap (λ x. (part ++ drop at bytes) ++ x) (sym (drop_all (length bytes) bytes (omega arith))))
+
+pub cut_in_line : (bytes : List ℕ) (at : ℕ) (body part : List ℕ) (s : SizeLine) → HasPassed bytes at body part → IsSizeFront (part ++ drop at bytes) s → ChunksCut 0 bytes
+cut_in_line bytes at body part s p is = cut_behind_chunks bytes at body part p
+    (cut_before_line (length body) (part ++ drop at bytes) (no_line_yet (part ++ drop at bytes) s is) (may_become (part ++ drop at bytes) s is))
+
+pub bad_in_line : (bytes : List ℕ) (at : ℕ) (body part : List ℕ) → HasPassed bytes at body part → NeverHasChunkLine (part ++ drop at bytes) → ChunksBad 0 bytes
+bad_in_line bytes at body part p never = bad_behind_chunks bytes at body part p (bad_line (length body) (part ++ drop at bytes) never)
+
+-- a size line and what is behind it
+reads_line : (text : List ℕ) (size : ℕ) (left : List ℕ) (s : IsSizeLine text size) → ReadsChunkLine (text ++ left) s.line left
+reads_line text size left s = (s.good, ap (λ x. x ++ left) s.is)
+
+pub line_too_much : (bytes : List ℕ) (at : ℕ) (body part text : List ℕ) (n size : ℕ) → HasPassed bytes at body part → IsSizeLine text size
+    → part ++ drop at bytes ≡ text ++ drop n (drop at bytes) → BODY_BYTES - length body < size → ChunksMuch 0 bytes
+line_too_much bytes at body part text n size p s same over =
+    let said : size ≡ chunk_size s.line = s.size_is in
+    let fits = p.fits in
+    much_behind_chunks bytes at body part p (subst (λ (x : List ℕ). ChunksMuch (length body) x) (sym same)
+    (much_line (length body) (text ++ drop n (drop at bytes)) s.line (drop n (drop at bytes)) (reads_line text size (drop n (drop at bytes)) s) (omega arith)))
+
+passed_line : (bytes : List ℕ) (at : ℕ) (body part text : List ℕ) (n : ℕ) → HasPassed bytes at body part → n ≤ length (drop at bytes)
+    → part ++ drop at bytes ≡ text ++ drop n (drop at bytes) → HasPassed bytes (at + n) body text
+passed_line bytes at body part text n p within same = passed_as bytes at body part (at + n) text p (omega (arith, p.within, within, length-drop at bytes))
+    (same ∙ ap (λ x. text ++ x) (drop-drop n at bytes))
+
+pub passed_size : (bytes : List ℕ) (at : ℕ) (body part text : List ℕ) (n size : ℕ) → HasPassed bytes at body part → IsSizeLine text size → n ≤ length (drop at bytes)
+    → part ++ drop at bytes ≡ text ++ drop n (drop at bytes) → size ≤ BODY_BYTES - length body → (size ≡ 0 → ⊥) → HasPassedSize bytes (at + n) body size
+passed_size bytes at body part text n size p s within same room some =
+    let fits = p.fits in
+    record { line = text; passed = passed_line bytes at body part text n p within same; is = s; some = omega arith; room = omega arith }
+
+pub passed_last : (bytes : List ℕ) (at : ℕ) (body part text : List ℕ) (n size : ℕ) → HasPassed bytes at body part → IsSizeLine text size → n ≤ length (drop at bytes)
+    → part ++ drop at bytes ≡ text ++ drop n (drop at bytes) → size ≡ 0 → HasPassedLines bytes (at + n) body []
+passed_last bytes at body part text n size p s within same zero =
+    let q = passed_line bytes at body part text n p within same in
     record {
-      within = omega (arith, p.within, b.within, length-drop at bytes);
-      chunks = p.chunks ++ b.chunk ∷ [];
-      passed = subst (λ (x : List ℕ). Chunks bytes (p.chunks ++ b.chunk ∷ []) x) (drop-drop next at bytes)
-          (chunks_push bytes p.chunks (drop at bytes) b.chunk (drop next (drop at bytes)) p.passed b.is b.begins);
-      content = ap (λ x. x ++ slice_range (drop at bytes) start end) p.content ∙ ap (λ x. content_of p.chunks ++ x) content ∙ sym (content_of-push p.chunks b.chunk);
+      within = q.within;
+      chunks = q.chunks;
+      left = text ++ drop (at + n) bytes;
+      passed = q.passed;
+      content = q.content;
+      fits = q.fits;
+      line = s.line;
+      trailer = drop (at + n) bytes;
+      last = reads_line text size (drop (at + n) bytes) s;
+      zero = sym s.size_is ∙ zero;
+      lines = [];
+      through = refl;
+      unended = tt;
+    }
+
+-- ---- the content of a chunk
+
+pub wrong_end : (bytes : List ℕ) (at : ℕ) (body : List ℕ) (size : ℕ) → HasPassedSize bytes at body size → (BeginsCrLf (drop size (drop at bytes)) → ⊥) → ChunksBad 0 bytes
+wrong_end bytes at body size p wrong =
+    let said : size ≡ chunk_size p.is.line = p.is.size_is in
+    let some = p.some in
+    let room = p.room in
+    bad_behind_chunks bytes at body p.line p.passed
+    (bad_end (length body) (p.line ++ drop at bytes) p.is.line (drop at bytes) (reads_line p.line size (drop at bytes) p.is) (omega arith) (omega arith)
+    (λ b. wrong (subst (λ (n : ℕ). BeginsCrLf (drop n (drop at bytes))) (sym said) b)))
+
+pub content_cut : (bytes : List ℕ) (at : ℕ) (body : List ℕ) (size : ℕ) → HasPassedSize bytes at body size → BeginsCrLf (drop size (drop at bytes))
+    → length (drop at bytes) < size + 2 → ChunksCut 0 bytes
+content_cut bytes at body size p begins short =
+    let said : size ≡ chunk_size p.is.line = p.is.size_is in
+    let some = p.some in
+    let room = p.room in
+    cut_behind_chunks bytes at body p.line p.passed
+    (cut_in_content (length body) (p.line ++ drop at bytes) p.is.line (drop at bytes) (reads_line p.line size (drop at bytes) p.is) (omega arith) (omega arith) (omega arith)
+    (subst (λ (n : ℕ). BeginsCrLf (drop n (drop at bytes))) said begins))
+
+pub passed_chunk : (bytes : List ℕ) (at : ℕ) (body : List ℕ) (size : ℕ) → HasPassedSize bytes at body size → BeginsCrLf (drop size (drop at bytes))
+    → size + 2 ≤ length (drop at bytes) → HasPassed bytes (at + (size + 2)) (body ++ take size (drop at bytes)) []
+passed_chunk bytes at body size p begins there =
+    let said : size ≡ chunk_size p.is.line = p.is.size_is in
+    let some = p.some in
+    let room = p.room in
+    let t : List ℕ = drop at bytes in
+    let found = whole_chunk (p.line ++ t) p.is.line t (reads_line p.line size t p.is) (omega arith) (omega arith) (subst (λ (n : ℕ). BeginsCrLf (drop n t)) said begins) in
+    let place : chunk_size p.is.line + 2 ≡ size + 2 = omega arith in
+    let begins_so : p.line ++ t ≡ print_chunk found.0 ++ drop (at + (size + 2)) bytes =
+    found.4 ∙ ap (λ x. print_chunk found.0 ++ x) (ap (λ n. drop n t) place ∙ drop-drop (size + 2) at bytes) in
+    let content : take size t ≡ found.0.content = ap (λ n. take n t) said ∙ sym found.3 in
+    let as_long : length (body ++ take size t) ≡ length body + length (take size t) = length-append body (take size t) in
+    let sized : length (take size t) ≡ size = length-take-le size t (omega arith) in
+    record {
+      within = omega (arith, p.passed.within, there, length-drop at bytes);
+      chunks = p.passed.chunks ++ found.0 ∷ [];
+      passed = chunks_push bytes p.passed.chunks (p.line ++ t) found.0 (drop (at + (size + 2)) bytes) p.passed.passed found.1 begins_so;
+      content = ap (λ x. x ++ take size t) p.passed.content ∙ ap (λ x. content_of p.passed.chunks ++ x) content ∙ sym (content_of-push p.passed.chunks found.0);
       fits = omega arith;
     }
 
 -- a whole chunk that is next is content that wasn't passed
-pub more_chunks : (bytes : List ℕ) (at : ℕ) (body : List ℕ) (start end next : ℕ) → HasPassedChunks bytes at body
-    → BeginsChunk (length body) (drop at bytes) start end next → HasMoreChunks bytes (length body)
-more_chunks bytes at body start end next p b =
-    let sized = b.is.sized in
-    let some = b.is.some in
-    let as_long : length (body ++ slice_range (drop at bytes) start end) ≡ length body + length b.chunk.content =
-    length-append body (slice_range (drop at bytes) start end) ∙ ap (λ x. length body + length x) b.content in
-    (at + next, body ++ slice_range (drop at bytes) start end, passed_chunk bytes at body start end next p b, omega arith)
-
--- the size line that says 0
-pub passed_last : (bytes : List ℕ) (at : ℕ) (body : List ℕ) (n : ℕ) → HasPassedChunks bytes at body → BeginsLast (drop at bytes) n
-    → HasPassedLines bytes (at + n) body
-passed_last bytes at body n p b = record {
-  within = omega (arith, p.within, b.within, length-drop at bytes);
-  chunks = p.chunks;
-  left = drop at bytes;
-  passed = p.passed;
-  content = p.content;
-  fits = p.fits;
-  line = b.line;
-  trailer = drop n (drop at bytes);
-  last = b.reads;
-  zero = b.zero;
-  lines = [];
-  through = drop-drop n at bytes;
-}
-
-length_content : (bytes : List ℕ) (at : ℕ) (body : List ℕ) (p : HasPassedChunks bytes at body) → length body ≡ length (content_of p.chunks)
-length_content bytes at body p = ap length p.content
-
-pub cut_behind_chunks : (bytes : List ℕ) (at : ℕ) (body : List ℕ) → HasPassedChunks bytes at body → ChunksCut (length body) (drop at bytes) → ChunksCut 0 bytes
-cut_behind_chunks bytes at body p cut =
-    let same = length_content bytes at body p in let fits = p.fits in
-    through_cut p.chunks bytes (drop at bytes) p.passed (omega arith) (subst (λ (n : ℕ). ChunksCut n (drop at bytes)) same cut)
-
-pub bad_behind_chunks : (bytes : List ℕ) (at : ℕ) (body : List ℕ) → HasPassedChunks bytes at body → ChunksBad (length body) (drop at bytes) → ChunksBad 0 bytes
-bad_behind_chunks bytes at body p bad =
-    let same = length_content bytes at body p in let fits = p.fits in
-    through_bad p.chunks bytes (drop at bytes) p.passed (omega arith) (subst (λ (n : ℕ). ChunksBad n (drop at bytes)) same bad)
-
-pub much_behind_chunks : (bytes : List ℕ) (at : ℕ) (body : List ℕ) → HasPassedChunks bytes at body → ChunksMuch (length body) (drop at bytes) → ChunksMuch 0 bytes
-much_behind_chunks bytes at body p much =
-    let same = length_content bytes at body p in let fits = p.fits in
-    through_much p.chunks bytes (drop at bytes) p.passed (omega arith) (subst (λ (n : ℕ). ChunksMuch n (drop at bytes)) same much)
+pub more_chunks : (bytes : List ℕ) (at : ℕ) (body : List ℕ) (size : ℕ) → HasPassedSize bytes at body size → BeginsCrLf (drop size (drop at bytes))
+    → size + 2 ≤ length (drop at bytes) → HasMoreChunks bytes (length body)
+more_chunks bytes at body size p begins there =
+    let some = p.some in
+    let as_long : length (body ++ take size (drop at bytes)) ≡ length body + length (take size (drop at bytes)) = length-append body (take size (drop at bytes)) in
+    let sized : length (take size (drop at bytes)) ≡ size = length-take-le size (drop at bytes) (omega arith) in
+    (at + (size + 2), body ++ take size (drop at bytes), passed_chunk bytes at body size p begins there, omega arith)
 
 -- ---- lines of a trailer
 
-pub passed_line : (bytes : List ℕ) (at : ℕ) (body : List ℕ) (n : ℕ) → HasPassedLines bytes at body → (l : BeginsLine (drop at bytes) n) → (IsEmptyLine l.line → ⊥)
-    → HasPassedLines bytes (at + n) body
-passed_line bytes at body n p l full = record {
+feedless-append : (a b : List ℕ) → HasNoLineFeed a → HasNoLineFeed b → HasNoLineFeed (a ++ b)
+feedless-append [] b x y = y
+feedless-append (c ∷ a) b x y = (x.0, feedless-append a b x.1 y)
+
+-- all bytes are passed, and the line goes on
+pub all_passed_lines : (bytes : List ℕ) (at : ℕ) (body part : List ℕ) → HasPassedLines bytes at body part → HasNoLineFeed (drop at bytes)
+    → HasPassedLines bytes (length bytes) body (part ++ drop at bytes)
+all_passed_lines bytes at body part p none = record {
+  within = omega arith;
+  chunks = p.chunks;
+  left = p.left;
+  passed = p.passed;
+  content = p.content;
+  fits = p.fits;
+  line = p.line;
+  trailer = p.trailer;
+  last = p.last;
+  zero = p.zero;
+  lines = p.lines;
+  through = subst (λ (x : List ℕ). Lines p.trailer p.lines x)
+      (sym (append-nil (part ++ drop at bytes)) ∙ ap (λ x. (part ++ drop at bytes) ++ x) (sym (drop_all (length bytes) bytes (omega arith)))) p.through;
+  unended = feedless-append part (drop at bytes) p.unended none;
+}
+
+pub cut_behind_lines : (bytes : List ℕ) (at : ℕ) (body part : List ℕ) → HasPassedLines bytes at body part → HasNoLineFeed (drop at bytes) → ChunksCut 0 bytes
+cut_behind_lines bytes at body part p none =
+    let same : length body ≡ length (content_of p.chunks) = ap length p.content in let fits = p.fits in
+    through_cut p.chunks bytes p.left p.passed (omega arith)
+    (cut_in_trailer (length (content_of p.chunks)) p.left p.line p.trailer p.last p.zero (omega arith)
+    (λ rest w. no_trailer (part ++ drop at bytes) rest (feedless-append part (drop at bytes) p.unended none) (trailer_through p.trailer rest p.lines (part ++ drop at bytes) p.through w)))
+
+-- a line feed stands behind so many bytes, and none before it
+pub record EndsLine (bytes : List ℕ) (n : ℕ) : Type 0 where
+  pub feedless : HasNoLineFeed (take n bytes)
+  pub is : bytes ≡ take n bytes ++ 10 ∷ drop (n + 1) bytes
+  pub within : n + 1 ≤ length bytes
+
+line_text : (bytes : List ℕ) (at : ℕ) (part : List ℕ) (n : ℕ) → EndsLine (drop at bytes) n → part ++ drop at bytes ≡ (part ++ take n (drop at bytes)) ++ 10 ∷ drop (at + (n + 1)) bytes
+line_text bytes at part n l = ap (λ x. part ++ x) l.is ∙ sym (append_assoc part (take n (drop at bytes)) (10 ∷ drop (n + 1) (drop at bytes)))
+    ∙ ap (λ x. (part ++ take n (drop at bytes)) ++ 10 ∷ x) (drop-drop (n + 1) at bytes)
+
+pub passed_full_line : (bytes : List ℕ) (at : ℕ) (body part : List ℕ) (n : ℕ) → HasPassedLines bytes at body part → EndsLine (drop at bytes) n
+    → (IsEmptyLine (part ++ take n (drop at bytes)) → ⊥) → HasPassedLines bytes (at + (n + 1)) body []
+passed_full_line bytes at body part n p l full = record {
   within = omega (arith, p.within, l.within, length-drop at bytes);
   chunks = p.chunks;
   left = p.left;
@@ -119,14 +236,15 @@ passed_line bytes at body n p l full = record {
   trailer = p.trailer;
   last = p.last;
   zero = p.zero;
-  lines = p.lines ++ l.line ∷ [];
-  through = subst (λ (x : List ℕ). Lines p.trailer (p.lines ++ l.line ∷ []) x) (drop-drop n at bytes)
-      (lines_push p.trailer p.lines (drop at bytes) l.line (drop n (drop at bytes)) p.through l.feedless full l.begins);
+  lines = p.lines ++ (part ++ take n (drop at bytes)) ∷ [];
+  through = lines_push p.trailer p.lines (part ++ drop at bytes) (part ++ take n (drop at bytes)) (drop (at + (n + 1)) bytes) p.through
+      (feedless-append part (take n (drop at bytes)) p.unended l.feedless) full (line_text bytes at part n l);
+  unended = tt;
 }
 
-pub ended_by_line : (bytes : List ℕ) (at : ℕ) (body : List ℕ) (n : ℕ) → HasPassedLines bytes at body → (l : BeginsLine (drop at bytes) n) → IsEmptyLine l.line
-    → ReadsChunks bytes body (drop (at + n) bytes)
-ended_by_line bytes at body n p l empty = record {
+pub ended_by_line : (bytes : List ℕ) (at : ℕ) (body part : List ℕ) (n : ℕ) → HasPassedLines bytes at body part → EndsLine (drop at bytes) n
+    → IsEmptyLine (part ++ take n (drop at bytes)) → ReadsChunks bytes body (drop (at + (n + 1)) bytes)
+ended_by_line bytes at body part n p l empty = record {
   chunks = p.chunks;
   left = p.left;
   passed = p.passed;
@@ -136,21 +254,14 @@ ended_by_line bytes at body n p l empty = record {
   zero = p.zero;
   ends = record {
     lines = p.lines;
-    left = drop at bytes;
+    left = part ++ drop at bytes;
     passed = p.through;
-    last = l.line;
+    last = part ++ take n (drop at bytes);
     is_empty = empty;
-    ends = l.begins ∙ ap (λ x. l.line ++ 10 ∷ x) (drop-drop n at bytes);
+    ends = line_text bytes at part n l;
   };
   content = p.content;
 }
-
-pub cut_behind_lines : (bytes : List ℕ) (at : ℕ) (body : List ℕ) → HasPassedLines bytes at body → HasNoLineFeed (drop at bytes) → ChunksCut 0 bytes
-cut_behind_lines bytes at body p none =
-    let same : length body ≡ length (content_of p.chunks) = ap length p.content in let fits = p.fits in
-    through_cut p.chunks bytes p.left p.passed (omega arith)
-    (cut_in_trailer (length (content_of p.chunks)) p.left p.line p.trailer p.last p.zero (omega arith)
-    (λ rest w. no_trailer (drop at bytes) rest none (trailer_through p.trailer rest p.lines (drop at bytes) p.through w)))
 
 -- ---- a line, by the place of its line feed
 
@@ -164,34 +275,33 @@ passes_at bytes k e = grind (arith, nat_tests)
 pub feedless_where_nowhere : (bytes : List ℕ) → Nowhere (Passes (is_byte 10) bytes) 0 (length bytes) → HasNoLineFeed bytes
 feedless_where_nowhere bytes none = feedless bytes (λ k lt e. none k (omega arith) lt (passes_at bytes k e))
 
-pub line_at : (bytes : List ℕ) (n : ℕ) → NoneBefore (Passes (is_byte 10) bytes) 0 (length bytes) n → Passes (is_byte 10) bytes n
-    → (l : BeginsLine bytes (n + 1)) × (l.line ≡ take n bytes)
+pub line_at : (bytes : List ℕ) (n : ℕ) → NoneBefore (Passes (is_byte 10) bytes) 0 (length bytes) n → Passes (is_byte 10) bytes n → EndsLine bytes n
 line_at bytes n first at =
     let high : n < length bytes = first.high in
-    let is : get_or bytes n 0 ≡ 10 = grind (arith, nat_tests) in (
-      record {
-        line = take n bytes;
-        feedless = feedless (take n bytes) (λ k lt e.
-            let below : k < n = omega (arith, length-take-le n bytes (omega arith)) in
-            first.before k (omega arith) below (passes_at bytes k (sym (get_or-take n bytes k 0 below) ∙ e)));
-        begins = sym (take-append-drop n bytes) ∙ ap (λ x. take n bytes ++ x) (drop_more bytes n 0 high ∙ ap (λ x. x ∷ drop (n + 1) bytes) is);
-        within = omega arith;
-        some = omega arith;
-      },
-      refl,
-    )
+    let is : get_or bytes n 0 ≡ 10 = grind (arith, nat_tests) in
+    record {
+      feedless = feedless (take n bytes) (λ k lt e.
+          let below : k < n = omega (arith, length-take-le n bytes (omega arith)) in
+          first.before k (omega arith) below (passes_at bytes k (sym (get_or-take n bytes k 0 below) ∙ e)));
+      is = sym (take-append-drop n bytes) ∙ ap (λ x. take n bytes ++ x) (drop_more bytes n 0 high ∙ ap (λ x. x ∷ drop (n + 1) bytes) is);
+      within = omega arith;
+    }
 
 -- ---- more bytes
 
-pub decoded_grows : (bytes more : List ℕ) (in_trailer : Bool) (at : ℕ) (body : List ℕ) → HasPassed in_trailer bytes at body → HasPassed in_trailer (bytes ++ more) at body
-decoded_grows bytes more false at body p = record {
+passed_grows : (bytes more : List ℕ) (at : ℕ) (body part : List ℕ) → HasPassed bytes at body part → HasPassed (bytes ++ more) at body part
+passed_grows bytes more at body part p = record {
   within = omega (arith, p.within, length-append bytes more);
   chunks = p.chunks;
-  passed = subst (λ (x : List ℕ). Chunks (bytes ++ more) p.chunks x) (sym (drop-append-le at bytes more p.within)) (chunks_grow bytes more p.chunks (drop at bytes) p.passed);
+  passed = subst (λ (x : List ℕ). Chunks (bytes ++ more) p.chunks x)
+      (append_assoc part (drop at bytes) more ∙ ap (λ x. part ++ x) (sym (drop-append-le at bytes more p.within)))
+      (chunks_grow bytes more p.chunks (part ++ drop at bytes) p.passed);
   content = p.content;
   fits = p.fits;
 }
-decoded_grows bytes more true at body p = record {
+
+passed_lines_grow : (bytes more : List ℕ) (at : ℕ) (body part : List ℕ) → HasPassedLines bytes at body part → HasPassedLines (bytes ++ more) at body part
+passed_lines_grow bytes more at body part p = record {
   within = omega (arith, p.within, length-append bytes more);
   chunks = p.chunks;
   left = p.left ++ more;
@@ -203,59 +313,19 @@ decoded_grows bytes more true at body p = record {
   last = ReadsChunkLine-append p.left p.line p.trailer more p.last;
   zero = p.zero;
   lines = p.lines;
-  through = subst (λ (x : List ℕ). Lines (p.trailer ++ more) p.lines x) (sym (drop-append-le at bytes more p.within)) (lines_grow p.trailer more p.lines (drop at bytes) p.through);
+  through = subst (λ (x : List ℕ). Lines (p.trailer ++ more) p.lines x)
+      (append_assoc part (drop at bytes) more ∙ ap (λ x. part ++ x) (sym (drop-append-le at bytes more p.within)))
+      (lines_grow p.trailer more p.lines (part ++ drop at bytes) p.through);
+  unended = p.unended;
 }
 
--- ---- behind a size line
+pub decoded_grows : (bytes more : List ℕ) (at : ℕ) (body : List ℕ) (there : Place) → IsAt bytes at body there → IsAt (bytes ++ more) at body there
+decoded_grows bytes more at body (place.SizeLine l) p = (p.0, passed_grows bytes more at body p.0 p.1, p.2)
+decoded_grows bytes more at body (place.Content size) p = record { line = p.line; passed = passed_grows bytes more at body p.line p.passed; is = p.is; some = p.some; room = p.room }
+decoded_grows bytes more at body (place.Trailer l) p = (p.0, passed_lines_grow bytes more at body p.0 p.1, p.2)
 
-pub line_too_much : (taken : ℕ) (bytes : List ℕ) (len size : ℕ) (l : ChunkLine) → IsChunkLineAt bytes len size l → taken ≤ BODY_BYTES
-    → BODY_BYTES - taken < size → ChunksMuch taken bytes
-line_too_much taken bytes len size l at fits over =
-    let is : size ≡ chunk_size l = at.size_is in
-    much_line taken bytes l (drop len bytes) at.reads (omega arith)
-
-pub line_wrong_end : (taken : ℕ) (bytes : List ℕ) (len size : ℕ) (l : ChunkLine) → IsChunkLineAt bytes len size l → taken ≤ BODY_BYTES
-    → size ≤ BODY_BYTES - taken → (size ≡ 0 → ⊥) → (BeginsCrLf (drop size (drop len bytes)) → ⊥) → ChunksBad taken bytes
-line_wrong_end taken bytes len size l at taken_fits fits some wrong =
-    let is : size ≡ chunk_size l = at.size_is in
-    bad_end taken bytes l (drop len bytes) at.reads (omega arith) (omega arith)
-    (λ b. wrong (subst (λ (n : ℕ). BeginsCrLf (drop n (drop len bytes))) (sym is) b))
-
-pub line_cut : (taken : ℕ) (bytes : List ℕ) (len size : ℕ) (l : ChunkLine) → IsChunkLineAt bytes len size l → taken ≤ BODY_BYTES
-    → size ≤ BODY_BYTES - taken → (size ≡ 0 → ⊥) → BeginsCrLf (drop size (drop len bytes)) → length (drop len bytes) < size + 2 → ChunksCut taken bytes
-line_cut taken bytes len size l at taken_fits fits some begins short =
-    let is : size ≡ chunk_size l = at.size_is in
-    cut_in_content taken bytes l (drop len bytes) at.reads (omega arith) (omega arith) (omega arith)
-    (subst (λ (n : ℕ). BeginsCrLf (drop n (drop len bytes))) is begins)
-
-pub line_chunk : (taken : ℕ) (bytes : List ℕ) (len size : ℕ) (l : ChunkLine) → IsChunkLineAt bytes len size l → taken ≤ BODY_BYTES
-    → size ≤ BODY_BYTES - taken → (size ≡ 0 → ⊥) → BeginsCrLf (drop size (drop len bytes)) → size + 2 ≤ length (drop len bytes)
-    → BeginsChunk taken bytes len (len + size) (len + size + 2)
-line_chunk taken bytes len size l at taken_fits fits some begins there =
-    let is : size ≡ chunk_size l = at.size_is in
-    let t : List ℕ = drop len bytes in
-    let found = whole_chunk bytes l t at.reads (omega arith) (omega arith) (subst (λ (n : ℕ). BeginsCrLf (drop n t)) is begins) in
-    let line_is : found.0.line ≡ l = found.2 in
-    let same_size : chunk_size found.0.line ≡ size = ap chunk_size line_is ∙ sym is in
-    let place : chunk_size l + 2 ≡ size + 2 = omega arith in
-    let next : len + (size + 2) ≡ len + size + 2 = omega arith in
-    let width : len + size - len ≡ size = omega arith in
-    record {
-      chunk = found.0;
-      is = found.1;
-      begins = found.4 ∙ ap (λ x. print_chunk found.0 ++ x) (ap (λ n. drop n t) place ∙ drop-drop (size + 2) len bytes ∙ ap (λ n. drop n bytes) next);
-      content = ap (λ n. take n t) (width ∙ is) ∙ sym found.3;
-      fits = omega arith;
-      ordered = omega arith;
-      inside = omega arith;
-      within = omega (arith, there, length-drop len bytes);
-      some = omega arith;
-    }
-
-pub line_last : (bytes : List ℕ) (len size : ℕ) (l : ChunkLine) → IsChunkLineAt bytes len size l → size ≡ 0 → BeginsLast bytes len
-line_last bytes len size l at zero = record {
-  line = l;
-  reads = at.reads;
-  zero = sym at.size_is ∙ zero;
-  within = omega (arith, at.len_is, ap length at.reads.1, length-append (print_chunk_line l) (drop len bytes));
-}
+-- no more than all bytes is passed
+pub at_within : (bytes : List ℕ) (at : ℕ) (body : List ℕ) (there : Place) → IsAt bytes at body there → at ≤ length bytes
+at_within bytes at body (place.SizeLine l) p = p.1.within
+at_within bytes at body (place.Content size) p = p.passed.within
+at_within bytes at body (place.Trailer l) p = p.1.within

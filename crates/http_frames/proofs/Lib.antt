@@ -1,4 +1,5 @@
 pub mod ListLaws
+pub mod SizeLineLaws
 pub mod ChunkLaws
 pub mod StepLaws
 pub mod TrailerLaws
@@ -8,3 +9,5 @@ pub mod HeadLaws
 pub mod DecodeLaws
 pub mod GrowLaws
 pub mod BeginningLaws
+pub mod TargetLaws
+pub mod LineLaws

@@ -8,7 +8,7 @@ use Rattle.http_frames.specs.declared.framing.Frame.{Frame}
 use Rattle.http_frames.specs.declared.framing.Frame.TheVariants.{Sized, Chunked, TooLong, Broken}
 use Rattle.http_frames.specs.Framing.{frame}
 use Rattle.http_frames.specs.Chunks.{ReadsChunks, ReadsChunked, HasBadChunk, HasBigChunks, much, long}
-use Rattle.http_frames.specs.Messages.{Message, HasBody, ReadsMessage, HasNoMessage, IsBig, long_head, many_fields, long_body, big_chunks, IsBad, no_head, broken, bad_chunk, BeginsBad, BeginsBig, IsCut, IsLongTarget}
+use Rattle.http_frames.specs.Messages.{Message, HasBody, ReadsMessage, HasNoMessage, IsBig, long_head, many_fields, long_body, big_chunks, IsBad, no_head, broken, bad_chunk, BeginsBad, BeginsBig, IsCut, StopsInTarget, IsLongTarget}
 use Rattle.http_frames.specs.Answers.{ChunksCut, ChunksBad, ChunksMuch}
 use Rattle.http_frames.proofs.ListLaws.{front_of_front}
 
@@ -83,7 +83,7 @@ target_grows bytes more t =
 -- ---- judging a head
 
 -- no front of bytes in which no head stands is big for what its head says
-front_big_without_head : (whole q r : List ℕ) → HasNoRequest whole → whole ≡ q ++ r → IsBig q → HEAD_BYTES < length q
+pub front_big_without_head : (whole q r : List ℕ) → HasNoRequest whole → whole ≡ q ++ r → IsBig q → HEAD_BYTES < length q
 front_big_without_head whole q r none e (long_head over x) = over
 front_big_without_head whole q r none e (many_fields k t at over) = absurd (none k _ (moved q r whole k t e at))
 front_big_without_head whole q r none e (long_body k t at is) = absurd (none k _ (moved q r whole k t e at))
@@ -116,7 +116,7 @@ no_message whole none m rest w = none m.head w.tail w.reads
 
 -- the head breaks off
 pub head_cut : (whole : List ℕ) → (whole ≡ [] → ⊥) → HasNoRequest whole → MayBecomeRequest whole → length whole ≤ HEAD_BYTES
-    → IsCut whole ⊎ EndsInTarget whole
+    → IsCut whole ⊎ StopsInTarget whole
 head_cut whole some none (inl may) short = inl record {
   some = some;
   not_whole = no_message whole none;
@@ -124,7 +124,7 @@ head_cut whole some none (inl may) short = inl record {
   not_big = λ q r e big. let over = front_big_without_head whole q r none e big in
       absurd (omega (arith, ap length e, length-append q r));
 }
-head_cut whole some none (inr target) short = inr target
+head_cut whole some none (inr target) short = inr (short, target)
 
 -- the head isn't whole within the limit, and more bytes are there
 head_long_at : (n : ℕ) (whole : List ℕ) → n < length whole → (rest : List ℕ) × (whole ≡ take (n + 1) whole ++ rest) × (take n (take (n + 1) whole) ≡ take n whole) × (length (take (n + 1) whole) ≡ n + 1)

@@ -3,7 +3,7 @@ use Rattle.std.specs.Prelude.{◌≡◌, ℕ, ◌≤◌, List, [], ◌∷◌, �
 use Rattle.httparse.specs.Spans.{span_bytes, IsWithin}
 use Rattle.httparse.specs.Grammar.{ChunkLine, ReadsChunkLine, chunk_size}
 use Rattle.http_frames.specs.declared.TheConstants.{BODY_BYTES}
-use Rattle.http_frames.specs.Chunks.{Chunk, Chunks, content_of, Lines, ReadsChunks, HasBadChunk, HasMuch}
+use Rattle.http_frames.specs.Chunks.{Chunk, Chunks, content_of, HasNoLineFeed, Lines, ReadsChunks, HasBadChunk, HasMuch}
 use Rattle.http_frames.specs.declared.framing.Values.{Values}
 use Rattle.http_frames.specs.declared.framing.Values.TheVariants.{Absent, Once, Several}
 
@@ -36,17 +36,17 @@ pub record ChunksMuch (taken : ℕ) (bytes : List ℕ) : Type 0 where
   pub much : HasMuch taken front
   pub first : (q r : List ℕ) → front ≡ q ++ r → (r ≡ [] → ⊥) → HasBadChunk q → ⊥
 
--- the first `at` bytes are whole chunks with this content, within the limit
-pub record HasPassedChunks (bytes : List ℕ) (at : ℕ) (body : List ℕ) : Type 0 where
+-- The first `at` bytes are whole chunks with this content, within the limit, and then this part of what follows them.
+pub record HasPassed (bytes : List ℕ) (at : ℕ) (body part : List ℕ) : Type 0 where
   pub within : at ≤ length bytes
   pub chunks : List Chunk
-  pub passed : Chunks bytes chunks (drop at bytes)
+  pub passed : Chunks bytes chunks (part ++ drop at bytes)
   pub content : body ≡ content_of chunks
   pub fits : length body ≤ BODY_BYTES
 
--- the first `at` bytes are whole chunks with this content, within the limit, a size line that says 0, and lines of a
--- trailer that aren't empty
-pub record HasPassedLines (bytes : List ℕ) (at : ℕ) (body : List ℕ) : Type 0 where
+-- The first `at` bytes are whole chunks with this content, within the limit, a size line that says 0, lines of a trailer that
+-- aren't empty, and then this part of the next one.
+pub record HasPassedLines (bytes : List ℕ) (at : ℕ) (body part : List ℕ) : Type 0 where
   pub within : at ≤ length bytes
   pub chunks : List Chunk
   pub left : List ℕ
@@ -58,4 +58,5 @@ pub record HasPassedLines (bytes : List ℕ) (at : ℕ) (body : List ℕ) : Type
   pub last : ReadsChunkLine left line trailer
   pub zero : chunk_size line ≡ 0
   pub lines : List (List ℕ)
-  pub through : Lines trailer lines (drop at bytes)
+  pub through : Lines trailer lines (part ++ drop at bytes)
+  pub unended : HasNoLineFeed part

@@ -1,6 +1,7 @@
 -- What a reader of heads answers.
-use Rattle.std.specs.Prelude.{◌≡◌, ℕ, ◌≤◌, ◌⊎◌, List, length, drop, IfSome, option_map, All, map}
-use Rattle.httparse.specs.Grammar.{RequestHead, print_request, ReadsRequest, HasNoRequest, MayBecomeRequest}
+use Rattle.std.specs.Prelude.{◌≡◌, ℕ, ◌≤◌, ◌⊎◌, List, [], ◌∷◌, ◌++◌, length, take, drop, IfSome, option_map, All, map}
+use Rattle.httparse.specs.Ascii.{line_feed}
+use Rattle.httparse.specs.Grammar.{lf, RequestHead, print_request, ReadsRequest, HasNoRequest, MayBecomeRequest}
 use Rattle.httparse.specs.declared.spans.HeaderSpan.{HeaderSpan}
 use Rattle.httparse.specs.declared.spans.RequestSpans.{RequestSpans}
 use Rattle.httparse.specs.Spans.{span_bytes, IsWithin, IsHeaderWithin, header_bytes}
@@ -12,6 +13,7 @@ use Rattle.http_frames.specs.declared.head.Body.TheVariants as body
 use Rattle.http_frames.specs.declared.head.HeadParts.{HeadParts}
 use Rattle.http_frames.specs.declared.head.Head.{Head}
 use Rattle.http_frames.specs.declared.head.Head.TheVariants as answer
+use Rattle.http_frames.specs.declared.head.HeadReader.{HeadReader}
 use Rattle.http_frames.specs.Framing.{frame, fields_of, media, closes}
 use Rattle.http_frames.specs.Messages.{BeginsBad, BeginsBig, IsLongTarget}
 
@@ -60,3 +62,13 @@ HeadIs bytes (answer.Whole p) = HasHead bytes p
 HeadIs bytes answer.More = HasNoRequest bytes × MayBecomeRequest bytes × (length bytes ≤ HEAD_BYTES)
 HeadIs bytes answer.Malformed = BeginsBad bytes
 HeadIs bytes answer.TooLarge = BeginsBig bytes ⊎ IsLongTarget bytes
+
+-- the bytes are a request line, with empty lines in front of it, and whole fields: with an empty line behind them they are a head
+pub record AreWholeLines (bytes : List ℕ) : Type 0 where
+  pub head : RequestHead
+  pub reads : ReadsRequest (bytes ++ line_feed ∷ []) head []
+  pub last : head.last ≡ lf
+
+-- the reader knows of no line, or of so many bytes at the front that they are whole lines
+abbrev pub HasReadLines : List ℕ → HeadReader → Type 0
+HasReadLines bytes r = (r.passed ≤ length bytes) × ((r.passed ≡ 0) ⊎ AreWholeLines (take r.passed bytes))

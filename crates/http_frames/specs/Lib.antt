@@ -1,6 +1,8 @@
 pub mod Beginnings
+pub mod Targets
 pub mod Framing
 pub mod Chunks
+pub mod Lines
 pub mod Messages
 pub mod Answers
 pub mod Heads

@@ -68,6 +68,10 @@ pub record IsCut (bytes : List ℕ) : Type 0 where
   pub not_bad : (q r : List ℕ) → bytes ≡ q ++ r → IsBad q → ⊥
   pub not_big : (q r : List ℕ) → bytes ≡ q ++ r → IsBig q → ⊥
 
--- more bytes than a head may have are there, and the last byte that it may have stands in a request target
+-- the bytes are no more than a head may have, and they stop in a request target, whose text is judged at its end (own rule)
+abbrev pub StopsInTarget : List ℕ → Type 0
+StopsInTarget bytes = (length bytes ≤ HEAD_BYTES) × EndsInTarget bytes
+
+-- more bytes than a head may have are there, and the last byte that it may have stands in a request target (own rule)
 abbrev pub IsLongTarget : List ℕ → Type 0
 IsLongTarget bytes = (HEAD_BYTES < length bytes) × EndsInTarget (take HEAD_BYTES bytes)

@@ -1,70 +1,36 @@
--- What a walk over a chunked body answers.
-use Rattle.std.specs.Prelude.{◌≡◌, ℕ, ◌+◌, ◌<◌, ◌≤◌, Bool, true, false, List, ◌∷◌, ◌++◌, length, drop, slice_range}
-use Rattle.httparse.specs.Grammar.{ChunkLine, ReadsChunkLine, chunk_size}
+-- What a walk over a chunked body has passed and answers.
+use Rattle.std.specs.Prelude.{ℕ, ◌+◌, ◌<◌, ◌≤◌, List, [], length, drop, Option, Some, None}
 use Rattle.http_frames.specs.declared.TheConstants.{BODY_BYTES}
-use Rattle.http_frames.specs.declared.chunks.Step.{Step}
-use Rattle.http_frames.specs.declared.chunks.Step.TheVariants as step
-use Rattle.http_frames.specs.declared.chunks.TrailerLine.{TrailerLine}
-use Rattle.http_frames.specs.declared.chunks.TrailerLine.TheVariants as line
+use Rattle.http_frames.specs.declared.chunks.Place.{Place}
+use Rattle.http_frames.specs.declared.chunks.Place.TheVariants as place
 use Rattle.http_frames.specs.declared.chunks.Verdict.{Verdict}
 use Rattle.http_frames.specs.declared.chunks.Verdict.TheVariants as verdict
 use Rattle.http_frames.specs.declared.chunks.Decoder.{Decoder}
-use Rattle.http_frames.specs.Chunks.{Chunk, print_chunk, IsChunk, HasNoLineFeed, IsEmptyLine, ReadsChunks}
-use Rattle.http_frames.specs.Answers.{ChunksCut, ChunksBad, ChunksMuch, HasPassedChunks, HasPassedLines}
+use Rattle.http_frames.specs.Chunks.{ReadsChunks}
+use Rattle.http_frames.specs.Lines.{IsSizeLine, IsSizeFront, IsLineFront}
+use Rattle.http_frames.specs.Answers.{ChunksCut, ChunksBad, ChunksMuch, HasPassed, HasPassedLines}
 
--- the bytes begin with a whole chunk, whose content is in these places, and which fits behind what was taken
-pub record BeginsChunk (taken : ℕ) (bytes : List ℕ) (start end next : ℕ) : Type 0 where
-  pub chunk : Chunk
-  pub is : IsChunk chunk
-  pub begins : bytes ≡ print_chunk chunk ++ drop next bytes
-  pub content : slice_range bytes start end ≡ chunk.content
-  pub fits : taken + chunk_size chunk.line ≤ BODY_BYTES
-  pub ordered : start ≤ end
-  pub inside : end ≤ next
-  pub within : next ≤ length bytes
-  pub some : 0 < next
-
--- the first n bytes are a size line that says 0
-pub record BeginsLast (bytes : List ℕ) (n : ℕ) : Type 0 where
-  pub line : ChunkLine
-  pub reads : ReadsChunkLine bytes line (drop n bytes)
-  pub zero : chunk_size line ≡ 0
-  pub within : n ≤ length bytes
-
--- what stands at the front of the bytes, by the answer, where so much content was taken before
-abbrev pub StepIs : ℕ → List ℕ → Step → Type 0
-StepIs taken bytes step.More = ChunksCut taken bytes
-StepIs taken bytes step.Malformed = ChunksBad taken bytes
-StepIs taken bytes step.TooLarge = ChunksMuch taken bytes
-StepIs taken bytes (step.Chunk start end next) = BeginsChunk taken bytes start end next
-StepIs taken bytes (step.Last n) = BeginsLast bytes n
-
--- the first n bytes are a line and its line feed
-pub record BeginsLine (bytes : List ℕ) (n : ℕ) : Type 0 where
+-- chunks and then a size line were passed, which says this size, and that fits behind the content so far
+pub record HasPassedSize (bytes : List ℕ) (at : ℕ) (body : List ℕ) (size : ℕ) : Type 0 where
   pub line : List ℕ
-  pub feedless : HasNoLineFeed line
-  pub begins : bytes ≡ line ++ 10 ∷ drop n bytes
-  pub within : n ≤ length bytes
-  pub some : 0 < n
+  pub passed : HasPassed bytes at body line
+  pub is : IsSizeLine line size
+  pub some : 0 < size
+  pub room : length body + size ≤ BODY_BYTES
 
--- the line that stands at the front of the bytes, by the answer
-abbrev pub LineIs : List ℕ → TrailerLine → Type 0
-LineIs bytes line.More = HasNoLineFeed bytes
-LineIs bytes (line.Full n) = (l : BeginsLine bytes n) × (IsEmptyLine l.line → ⊥)
-LineIs bytes (line.Empty n) = (l : BeginsLine bytes n) × IsEmptyLine l.line
-
--- how far the bytes were passed
-abbrev pub HasPassed : Bool → List ℕ → ℕ → List ℕ → Type 0
-HasPassed false bytes at body = HasPassedChunks bytes at body
-HasPassed true bytes at body = HasPassedLines bytes at body
+-- how far the bytes were passed, by what stands there: of the bytes below it nothing is needed but this
+abbrev pub IsAt : List ℕ → ℕ → List ℕ → Place → Type 0
+IsAt bytes at body (place.SizeLine line) = (front : List ℕ) × HasPassed bytes at body front × IsSizeFront front line
+IsAt bytes at body (place.Content size) = HasPassedSize bytes at body size
+IsAt bytes at body (place.Trailer line) = (front : List ℕ) × HasPassedLines bytes at body front × IsLineFront front line
 
 -- the decoder has passed so much of these bytes and holds the content of that
 abbrev pub HasDecoded : List ℕ → Decoder → Type 0
-HasDecoded bytes d = HasPassed d.in_trailer bytes d.at d.body.items
+HasDecoded bytes d = IsAt bytes d.at d.body.items d.place
 
 -- whole chunks stand at the front of the bytes, with more content than so much, and within the limit
 abbrev pub HasMoreChunks : List ℕ → ℕ → Type 0
-HasMoreChunks bytes taken = (at : ℕ) × (body : List ℕ) × HasPassedChunks bytes at body × (taken < length body)
+HasMoreChunks bytes taken = (at : ℕ) × (body : List ℕ) × HasPassed bytes at body [] × (taken < length body)
 
 -- what the bytes are, by the answer, with this content where they are whole
 abbrev pub VerdictIs : List ℕ → List ℕ → Verdict → Type 0
@@ -73,7 +39,7 @@ VerdictIs bytes body verdict.More = ChunksCut 0 bytes
 VerdictIs bytes body verdict.Malformed = ChunksBad 0 bytes
 VerdictIs bytes body verdict.TooLarge = ChunksMuch 0 bytes
 
--- what a walk over chunks leaves: it stopped before the trailer with an answer that isn't `Whole`, or it is in the trailer
-abbrev pub StopIs : List ℕ → List ℕ → Bool → Verdict → Type 0
-StopIs bytes body in_trailer (verdict.Whole n) = ⊥
-StopIs bytes body in_trailer v = VerdictIs bytes body v
+-- what a step of the walk leaves: it stopped with a verdict, or it passed some bytes more
+abbrev pub GoesOn : List ℕ → ℕ → Decoder → Option Verdict → Type 0
+GoesOn bytes at d None = at < d.at
+GoesOn bytes at d (Some v) = VerdictIs bytes d.body.items v

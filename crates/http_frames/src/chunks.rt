@@ -1,23 +1,32 @@
-//! Passes over a chunked body as far as it is held, each of its bytes once.
-ghost use Rattle.std.specs.Prelude.{◌≡◌, ℕ, ◌≤◌, List, length, drop, IsTrue, IfOk, OnErr, MatchOption, ◌↔◌, true, false};
-ghost use Rattle.httparse.specs.Grammar.{ChunkLine};
-ghost use Rattle.httparse.specs.Spans.{IsChunkLineAt};
-ghost use Rattle.http_frames.specs.Chunks.{BeginsCrLf, IsEmptyLine};
-ghost use Rattle.http_frames.specs.Steps.{StepIs, LineIs, HasDecoded, HasMoreChunks, VerdictIs, StopIs};
+//! Passes over a chunked body as far as it is held, each of its bytes once: below `at` nothing is looked at again.
+ghost use Rattle.std.specs.Prelude.{◌≡◌, ℕ, ◌≤◌, List, length, drop, IsTrue, IfOk, OnErr, ◌↔◌};
+ghost use Rattle.http_frames.specs.Chunks.{BeginsCrLf};
+ghost use Rattle.http_frames.specs.Steps.{HasDecoded, HasMoreChunks, VerdictIs, GoesOn};
 
 use crate::BODY_BYTES;
-use httparse::Status;
+use crate::lines::{SizeLine, SizeRead, TrailerLine};
 use memchr::memchr;
 use std::alloc::{AllocError, Global};
 
 /// How far a chunked body was passed, and its content so far.
 #[derive(Drop)]
 pub struct Decoder {
-    /// Bytes of the framing that were passed.
+    /// Bytes of the framing that were passed. None of them is looked at again.
     pub at: usize,
-    /// Whether the size line that says 0 was passed.
-    pub in_trailer: bool,
+    /// What stands there.
+    pub place: Place,
     pub body: Vec<u8>,
+}
+
+/// What stands behind the bytes that were passed.
+#[derive(Clone, Copy)]
+pub enum Place {
+    /// What is missing of a chunk's size line.
+    SizeLine(SizeLine),
+    /// The content of a chunk, of so many bytes, one at least.
+    Content(usize),
+    /// What is missing of a line of the trailer.
+    Trailer(TrailerLine),
 }
 
 /// What the bytes behind a head are, as a chunked body.
@@ -40,12 +49,12 @@ impl Decoder {
     {
         Decoder {
             at: 0,
-            in_trailer: false,
+            place: Place::SizeLine(SizeLine::new()),
             body: Vec::new(alloc),
         }
     }
 
-    /// Goes on as far as these bytes allow, which are those behind the head.
+    /// Goes on as far as these bytes allow, which are those behind the head, from the first one that wasn't passed.
     ///
     /// After `AllocError`, which comes only where a whole chunk is to be kept, nothing is lost: the same call goes on.
     ///
@@ -56,143 +65,92 @@ impl Decoder {
         ensures verdict { IfOk result (VerdictIs bytes.now self.new.body.items) }
         ensures memory { OnErr result (HasMoreChunks bytes.now (length self.new.body.items)) }
     {
-        if !self.in_trailer {
-            if let Some(verdict) = self.pass_chunks(bytes)? {
+        loop {
+            let stop = match self.place {
+                Place::SizeLine(line) => self.pass_size_line(line, bytes),
+                Place::Content(size) => self.pass_content(size, bytes)?,
+                Place::Trailer(line) => self.pass_trailer_line(line, bytes),
+            };
+            if let Some(verdict) = stop {
                 return Ok(verdict);
             }
         }
-        Ok(self.pass_trailer(bytes))
     }
 
-    /// Passes chunks up to the size line that says 0, or to where the bytes break off or are refused.
-    fn pass_chunks(&mut self, bytes: &[u8]) -> Result<Option<Verdict>, AllocError>
+    /// Passes the rest of a size line, or stops where the bytes break off or are refused.
+    fn pass_size_line(&mut self, line: SizeLine, bytes: &[u8]) -> Option<Verdict>
         requires decoded { HasDecoded bytes.now self.old }
-        requires in_chunks { self.old.in_trailer ≡ false }
+        requires there { self.old.place ≡ Place.SizeLine line }
         ensures kept { HasDecoded bytes.now self.new }
-        ensures stop { IfOk result (λ stop. MatchOption stop (self.new.in_trailer ≡ true) (StopIs bytes.now self.new.body.items self.new.in_trailer)) }
+        ensures stop { GoesOn bytes.now self.old.at self.new result }
+    {
+        match line.read(rest(bytes, self.at)) {
+            SizeRead::More(longer) => {
+                self.at = bytes.len();
+                self.place = Place::SizeLine(longer);
+                Some(Verdict::More)
+            }
+            SizeRead::Malformed => Some(Verdict::Malformed),
+            SizeRead::Whole { len, size } => {
+                if size > (BODY_BYTES - self.body.len()) as u64 {
+                    return Some(Verdict::TooLarge);
+                }
+                self.at += len;
+                if size == 0 {
+                    self.place = Place::Trailer(TrailerLine::Nothing);
+                    return None;
+                }
+                self.place = Place::Content(size as usize);
+                None
+            }
+        }
+    }
+
+    /// Passes the content of a chunk and the CR LF behind it, or stops where the bytes break off or are refused.
+    fn pass_content(&mut self, size: usize, bytes: &[u8]) -> Result<Option<Verdict>, AllocError>
+        requires decoded { HasDecoded bytes.now self.old }
+        requires there { self.old.place ≡ Place.Content size }
+        ensures kept { HasDecoded bytes.now self.new }
+        ensures stop { IfOk result (GoesOn bytes.now self.old.at self.new) }
         ensures memory { OnErr result (HasMoreChunks bytes.now (length self.new.body.items)) }
     {
-        loop {
-            let left = rest(bytes, self.at);
-            match next_step(left, self.body.len()) {
-                Step::Chunk { start, end, next } => {
-                    self.body.extend_from_slice(&left[start..end])?;
-                    self.at += next;
-                }
-                Step::Last(n) => {
-                    self.at += n;
-                    self.in_trailer = true;
-                    return Ok(None);
-                }
-                Step::More => return Ok(Some(Verdict::More)),
-                Step::Malformed => return Ok(Some(Verdict::Malformed)),
-                Step::TooLarge => return Ok(Some(Verdict::TooLarge)),
-            }
+        let left = rest(bytes, self.at);
+        if !ends_in_crlf(left, size) {
+            return Ok(Some(Verdict::Malformed));
         }
+        if left.len() < size + 2 {
+            return Ok(Some(Verdict::More));
+        }
+        self.body.extend_from_slice(&left[..size])?;
+        self.at += size + 2;
+        self.place = Place::SizeLine(SizeLine::new());
+        Ok(None)
     }
 
-    /// Passes the lines of the trailer up to the empty one, or to where the bytes break off.
-    fn pass_trailer(&mut self, bytes: &[u8]) -> Verdict
+    /// Passes the rest of a line of the trailer, or stops where the bytes break off or the trailer ends.
+    fn pass_trailer_line(&mut self, line: TrailerLine, bytes: &[u8]) -> Option<Verdict>
         requires decoded { HasDecoded bytes.now self.old }
-        requires in_trailer { self.old.in_trailer ≡ true }
+        requires there { self.old.place ≡ Place.Trailer line }
         ensures kept { HasDecoded bytes.now self.new }
-        ensures verdict { VerdictIs bytes.now self.new.body.items result }
+        ensures stop { GoesOn bytes.now self.old.at self.new result }
     {
-        loop {
-            match trailer_line(rest(bytes, self.at)) {
-                TrailerLine::Full(n) => self.at += n,
-                TrailerLine::Empty(n) => return Verdict::Whole(self.at + n),
-                TrailerLine::More => return Verdict::More,
+        let left = rest(bytes, self.at);
+        match memchr(b'\n', left) {
+            None => {
+                self.at = bytes.len();
+                self.place = Place::Trailer(line.with(left));
+                Some(Verdict::More)
+            }
+            Some(n) => {
+                if line.with(&left[..n]).is_empty() {
+                    return Some(Verdict::Whole(self.at + n + 1));
+                }
+                self.at += n + 1;
+                self.place = Place::Trailer(TrailerLine::Nothing);
+                None
             }
         }
     }
-}
-
-/// What stands at the front of the bytes where a chunk is due.
-#[derive(Clone, Copy)]
-enum Step {
-    /// A chunk, with its content in these places, and the bytes behind it from `next` on.
-    Chunk {
-        start: usize,
-        end: usize,
-        next: usize,
-    },
-    /// A size line of this many bytes that says 0.
-    Last(usize),
-    More,
-    Malformed,
-    TooLarge,
-}
-
-/// What stands at the front of the bytes, where so much content was taken before.
-fn next_step(bytes: &[u8], taken: usize) -> Step
-    requires { taken ≤ BODY_BYTES }
-    ensures { StepIs taken bytes.now result }
-{
-    match httparse::parse_chunk_size(bytes) {
-        Ok(Status::Complete((len, size))) => behind_line(bytes, len, size, taken),
-        Ok(Status::Partial) => Step::More,
-        Err(_) => Step::Malformed,
-    }
-}
-
-/// What stands at the front of the bytes, which is a size line of `len` bytes that says `size`.
-fn behind_line(bytes: &[u8], len: usize, size: u64, taken: usize) -> Step
-    requires line { (l : ChunkLine) × IsChunkLineAt bytes.now len size l }
-    requires taken { taken ≤ BODY_BYTES }
-    ensures { StepIs taken bytes.now result }
-{
-    if size > (BODY_BYTES - taken) as u64 {
-        return Step::TooLarge;
-    }
-    if size == 0 {
-        return Step::Last(len);
-    }
-    let size = size as usize;
-    let content = rest(bytes, len);
-    if !ends_in_crlf(content, size) {
-        return Step::Malformed;
-    }
-    if content.len() < size + 2 {
-        return Step::More;
-    }
-    Step::Chunk {
-        start: len,
-        end: len + size,
-        next: len + size + 2,
-    }
-}
-
-/// A line at the front of the bytes of a trailer, with its bytes.
-#[derive(Clone, Copy)]
-enum TrailerLine {
-    /// No line feed has come.
-    More,
-    Full(usize),
-    Empty(usize),
-}
-
-/// The line at the front of the bytes.
-fn trailer_line(bytes: &[u8]) -> TrailerLine
-    ensures { LineIs bytes.now result }
-{
-    match memchr(b'\n', bytes) {
-        None => TrailerLine::More,
-        Some(n) => {
-            if is_empty_line(&bytes[..n]) {
-                TrailerLine::Empty(n + 1)
-            } else {
-                TrailerLine::Full(n + 1)
-            }
-        }
-    }
-}
-
-/// Whether nothing, or one CR, stands in the line.
-fn is_empty_line(line: &[u8]) -> bool
-    ensures { IsTrue result ↔ IsEmptyLine line.now }
-{
-    matches!(line, [] | [b'\r'])
 }
 
 /// Whether CR LF follows so many bytes of content, as far as the bytes go.

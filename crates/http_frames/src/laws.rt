@@ -1,6 +1,7 @@
 //! What holds of all bytes, and of the limits, as contracts of calls that do nothing.
 ghost use Rattle.std.specs.Prelude.{◌≡◌};
 ghost use Rattle.http_frames.specs.Beginnings.{BeginOneWay};
+ghost use Rattle.http_frames.specs.Targets.{StopTwoWays, GoOnTwoWays};
 
 use crate::{BODY_BYTES, CHUNKED_BYTES, HEAD_BYTES, HEAD_FIELDS};
 
@@ -9,6 +10,14 @@ use crate::{BODY_BYTES, CHUNKED_BYTES, HEAD_BYTES, HEAD_FIELDS};
 /// Source: own rule.
 pub fn bytes_begin_one_way()
     ensures { BeginOneWay }
+{}
+
+/// Bytes that stop in a request target are cut or bad, and where more bytes follow than a head may have, big or bad.
+///
+/// Source: own rule.
+pub fn targets_are_judged_at_their_end()
+    ensures short { StopTwoWays }
+    ensures long { GoOnTwoWays }
 {}
 
 /// The limits of a request, as numbers.

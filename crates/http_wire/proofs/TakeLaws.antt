@@ -1,20 +1,21 @@
 -- Laws on taking a request out of the bytes of a connection.
-use Rattle.std.proofs.Common.{◌≡◌, ℕ, ◌+◌, ◌-◌, ◌<◌, ◌≤◌, List, [], ◌∷◌, ◌++◌, length, take, drop, min, refl, sym, ap, ◌∙◌, subst, inl, ◌⊎◌, arith, append_assoc, append-nil}
-use Rattle.std.proofs.lemmas.List.{drop-drop, length-take, take-append-drop, take_all, length-take-le, length-drop, drop-append-le, nil_from_length, take_min}
-use Rattle.httparse.specs.Grammar.{print_request, EndsInTarget}
+use Rattle.std.proofs.Common.{◌≡◌, ℕ, ◌+◌, ◌-◌, ◌<◌, ◌≤◌, List, [], ◌∷◌, ◌++◌, length, take, drop, min, refl, sym, ap, ◌∙◌, subst, inl, ◌⊎◌, arith, append_assoc, append-nil, length-append}
+use Rattle.std.proofs.lemmas.List.{drop-drop, length-take, take-append-drop, take_all, length-take-le, length-drop, drop-append-le, nil_from_length, take_min, take-append-le}
+use Rattle.httparse.specs.Grammar.{print_request}
 use Rattle.http_frames.specs.declared.TheConstants.{HEAD_BYTES, CHUNKED_BYTES, BODY_BYTES}
 use Rattle.http_frames.specs.declared.framing.Frame.{Frame}
 use Rattle.http_frames.specs.declared.framing.Frame.TheVariants as frames
 use Rattle.http_frames.specs.declared.chunks.Decoder.{Decoder}
 use Rattle.http_frames.specs.declared.head.Body.TheVariants as body
 use Rattle.http_frames.specs.declared.head.HeadParts.{HeadParts}
+use Rattle.http_frames.specs.declared.head.HeadReader.{HeadReader}
 use Rattle.http_frames.specs.declared.head.Head.TheVariants as answer
 use Rattle.http_frames.specs.Framing.{fields_of}
-use Rattle.http_frames.specs.Heads.{HasHead, HeadIs, frame_as}
+use Rattle.http_frames.specs.Heads.{HasHead, HeadIs, HasReadLines, AreWholeLines, frame_as}
 use Rattle.http_frames.specs.Chunks.{ReadsChunks, ReadsChunked}
 use Rattle.http_frames.specs.Answers.{ChunksCut, ChunksBad, ChunksMuch}
 use Rattle.http_frames.specs.Steps.{HasDecoded, HasMoreChunks}
-use Rattle.http_frames.specs.Messages.{HasBody, ReadsMessage, HasNoMessage, BeginsBad, BeginsBig, IsCut, IsLongTarget}
+use Rattle.http_frames.specs.Messages.{HasBody, ReadsMessage, HasNoMessage, BeginsBad, BeginsBig, IsCut, StopsInTarget, IsLongTarget}
 use Rattle.http_frames.proofs.ListLaws.{take_grows}
 use Rattle.http_frames.proofs.FieldLaws.{sized_fits}
 use Rattle.http_frames.proofs.HeadLaws.{head_grows, head_is_grows}
@@ -48,6 +49,16 @@ bytes_stay tells a b t told =
 pub head_stays : (tells : Type 0) (a b : IntakeState) (p : HeadParts) → TakesIn tells a b → HasHead a.held p → HasHead b.held p
 head_stays tells a b p t h = subst (λ (x : List ℕ). HasHead x p) (sym t.held) (head_grows a.held t.more p h)
 
+-- lines that are known stay
+pub lines_stay : (tells : Type 0) (a b : IntakeState) (r : HeadReader) → TakesIn tells a b → HasReadLines a.held r → HasReadLines b.held r
+lines_stay tells a b r t known = (
+  omega (arith, known.0, ap length t.held, length-append a.held t.more),
+  elim known.1 [
+    | inl none ↦ inl none
+    | inr lines ↦ inr (subst (λ (x : List ℕ). AreWholeLines x) (sym (ap (take r.passed) t.held ∙ take-append-le r.passed a.held t.more known.0)) lines)
+  ],
+)
+
 -- ---- the head breaks off
 
 pub no_byte : (b : IntakeState) → length b.held ≡ 0 → b.door.conn.left ≡ [] → bytes_of b ≡ []
@@ -59,9 +70,9 @@ head_needs_more [] more = inl refl
 head_needs_more (b ∷ held) more = inr (head_cut (b ∷ held) (λ e. cc) more.0 more.1 more.2)
 
 pub head_breaks_off : (b : IntakeState) → HeadIs b.held answer.More → (b.held ≡ [] → ⊥) → b.door.conn.left ≡ []
-    → IsCut (bytes_of b) ⊎ EndsInTarget (bytes_of b)
+    → IsCut (bytes_of b) ⊎ StopsInTarget (bytes_of b)
 head_breaks_off b more some e =
-    subst (λ (x : List ℕ). IsCut x ⊎ EndsInTarget x) (sym (all_held b e)) (head_cut b.held some more.0 more.1 more.2)
+    subst (λ (x : List ℕ). IsCut x ⊎ StopsInTarget x) (sym (all_held b e)) (head_cut b.held some more.0 more.1 more.2)
 
 pub malformed_grows : (b : IntakeState) → HeadIs b.held answer.Malformed → BeginsBad (bytes_of b)
 malformed_grows b h = head_is_grows b.held b.door.conn.left answer.Malformed (λ e. cc) h
@@ -86,7 +97,7 @@ pub sized_needs_more : (held : List ℕ) (p : HeadParts) (n : ℕ) → HasHead h
 sized_needs_more held p n h is missing = inr (inl (sized_is_cut held p n h is missing))
 
 pub sized_breaks_off : (b : IntakeState) (p : HeadParts) (n : ℕ) → HasHead b.held p → p.body ≡ body.Sized n → length b.held < p.len + n
-    → b.door.conn.left ≡ [] → IsCut (bytes_of b) ⊎ EndsInTarget (bytes_of b)
+    → b.door.conn.left ≡ [] → IsCut (bytes_of b) ⊎ StopsInTarget (bytes_of b)
 sized_breaks_off b p n h is missing e = inl (subst (λ (x : List ℕ). IsCut x) (sym (all_held b e)) (sized_is_cut b.held p n h is missing))
 
 pub sized_has_none : (held : List ℕ) (p : HeadParts) (n : ℕ) → HasHead held p → p.body ≡ body.Sized n → length held < p.len + n → HasNoMessage held
@@ -151,7 +162,7 @@ chunked_needs_more held p h is fits cut = inr (inl (chunked_is_cut CHUNKED_BYTES
 
 pub chunked_breaks_off : (b : IntakeState) (held : List ℕ) (p : HeadParts) → HasHead held p → p.body ≡ body.Chunked
     → length (drop p.len held) ≤ CHUNKED_BYTES → ChunksCut 0 (window held p) → b.held ≡ held → b.door.conn.left ≡ []
-    → IsCut (bytes_of b) ⊎ EndsInTarget (bytes_of b)
+    → IsCut (bytes_of b) ⊎ StopsInTarget (bytes_of b)
 chunked_breaks_off b held p h is fits cut same e =
     inl (subst (λ (x : List ℕ). IsCut x) (sym (all_held b e ∙ same)) (chunked_is_cut CHUNKED_BYTES (omega arith) held p h is fits cut))
 
@@ -177,7 +188,7 @@ window_grows tells a b p d t h decoded =
     let tail : drop p.len b.held ≡ drop p.len a.held ++ t.more = ap (drop p.len) t.held ∙ drop-append-le p.len a.held t.more h.within in
     let grown = take_grows CHUNKED_BYTES (drop p.len a.held) t.more in
     subst (λ (x : List ℕ). HasDecoded x d) (sym (ap (take CHUNKED_BYTES) tail ∙ grown.1))
-    (decoded_grows (window a.held p) grown.0 d.in_trailer d.at d.body.items decoded)
+    (decoded_grows (window a.held p) grown.0 d.at d.body.items d.place decoded)
 
 -- ---- a whole request
 

@@ -1,7 +1,6 @@
 -- What an intake holds, and what reading does to it.
 use Rattle.std.specs.Prelude.{◌≡◌, ◌<◌, ◌⊎◌, ℕ, List, [], ◌++◌, length, Result, Ok, Err}
-use Rattle.httparse.specs.Grammar.{EndsInTarget}
-use Rattle.http_frames.specs.Messages.{IsCut}
+use Rattle.http_frames.specs.Messages.{IsCut, StopsInTarget}
 use Rattle.std.specs.declared.alloc.AllocError.{AllocError}
 use Rattle.site_traits.specs.Door.{DoorState, DoorCounts, NoNextFault, call_failed}
 use Rattle.http_wire.specs.declared.intake.Came.{Came}
@@ -38,10 +37,10 @@ pub record TakesIn (tells : Type 0) (a b : IntakeState) : Type 0 where
   pub door : tells → OnlyReads more a.door b.door
   pub counts : NoNextFault a.counts b.counts
 
--- More bytes are needed to say what these begin with: there are none, or they are a part of a request, or they stop inside a
--- request target, where the grammar tells only later whether it can go on (own rule).
+-- More bytes are needed to say what these begin with: there are none, or they are a part of a request, or they are no more than
+-- a head may have and stop in a request target, where the grammar tells only at its end whether it can go on (own rule).
 abbrev pub NeedsMore : List ℕ → Type 0
-NeedsMore bytes = (bytes ≡ []) ⊎ (IsCut bytes ⊎ EndsInTarget bytes)
+NeedsMore bytes = (bytes ≡ []) ⊎ (IsCut bytes ⊎ StopsInTarget bytes)
 
 -- what one read brought, by its answer: one that failed counts as one fault, and no other does
 abbrev pub CameIs : Type 0 → Result Came AllocError → IntakeState → IntakeState → Type 0

@@ -9,8 +9,7 @@ use Rattle.http_frames.specs.declared.head.HeadParts.{HeadParts}
 use Rattle.http_frames.specs.Framing.{fields_of, media, closes}
 use Rattle.http_frames.specs.Heads.{HasHead, frame_as}
 use Rattle.http_frames.specs.Steps.{HasMoreChunks}
-use Rattle.http_frames.specs.Messages.{Message, HasBody, ReadsMessage, HasNoMessage, BeginsBad, BeginsBig, IsCut, IsLongTarget}
-use Rattle.httparse.specs.Grammar.{EndsInTarget}
+use Rattle.http_frames.specs.Messages.{Message, HasBody, ReadsMessage, HasNoMessage, BeginsBad, BeginsBig, IsCut, StopsInTarget, IsLongTarget}
 use Rattle.http_wire.specs.declared.TheConstants.{CONNECTION_REQUESTS}
 use Rattle.http_wire.specs.declared.request.Request.{Request}
 use Rattle.http_wire.specs.declared.request.Taken.{Taken}
@@ -45,12 +44,12 @@ pub data WantsMemory (held : List ℕ) : Type 0 where
   for_chunks : (p : HeadParts) → HasHead held p → p.body ≡ framing.Chunked → HasMoreChunks (window held p) 0 → WantsMemory held
   for_request : (m : Message) (rest : List ℕ) → ReadsMessage held m rest → WantsMemory held
 
--- What the bytes of the connection are, by the fault. The one place where the pieces may show is where they end inside a request
--- target, or where the first bytes, as many as a head may have, do (own rule).
+-- What the bytes of the connection are, by the fault. The one place where the pieces may show is where they stop in a request target
+-- and are no more than a head may have, or where as many stop in one and more follow (own rule).
 abbrev pub FaultIs : Type 0 → IntakeState → IntakeState → WireFault → Type 0
 FaultIs tells a b fault.Malformed = tells → BeginsBad (bytes_of b)
 FaultIs tells a b fault.TooLarge = tells → BeginsBig (bytes_of b) ⊎ IsLongTarget (bytes_of b)
-FaultIs tells a b fault.Unfinished = tells → IsCut (bytes_of b) ⊎ EndsInTarget (bytes_of b)
+FaultIs tells a b fault.Unfinished = tells → IsCut (bytes_of b) ⊎ StopsInTarget (bytes_of b)
 FaultIs tells a b fault.Read = Rose a.counts.faults b.counts.faults × HasNoMessage b.held
 FaultIs tells a b fault.Memory = WantsMemory b.held
 

@@ -7,7 +7,7 @@ mod request;
 mod take;
 mod wire;
 
-pub use laws::limits_are_as_stated;
+pub use laws::{limits_are_as_stated, nothing_refused_waits};
 pub use request::{Request, Taken, WireFault};
 pub use wire::Wire;
 

@@ -12,7 +12,7 @@ use crate::request::{Request, WireFault};
 use http::Method;
 use http::method::MethodError;
 use http_frames::chunks::{Decoder, Verdict, rest};
-use http_frames::head::{Body, Head, HeadParts, read_head};
+use http_frames::head::{Body, Head, HeadParts, HeadReader};
 use http_frames::{CHUNKED_BYTES, FIELD_ROOM};
 use httparse::spans::HeaderSpan;
 use site_traits::Door;
@@ -40,7 +40,7 @@ pub fn take<D: Door>(
     ensures came { RequestCame D.tells at_last intake.old intake.new result }
     ensures counts { ReadCounts result intake.old.counts intake.new.counts }
 {
-    let head = match take_head(intake, room) {
+    let head = match take_head(alloc, intake, room) {
         Ok(Some(head)) => head,
         Ok(None) => return Ok(None),
         Err(fault) => return Err(fault),
@@ -59,6 +59,7 @@ pub fn take<D: Door>(
 
 /// The head at the front of the bytes, or `None` where there is no byte. It is looked for behind each read.
 fn take_head<D: Door>(
+    alloc: Global,
     intake: &mut Intake<D>,
     room: &mut [HeaderSpan],
 ) -> Result<Option<HeadParts>, WireFault>
@@ -68,10 +69,11 @@ fn take_head<D: Door>(
     ensures came { HeadCame D.tells intake.old intake.new result }
     ensures counts { ReadCounts result intake.old.counts intake.new.counts }
 {
+    let mut reader = HeadReader::new(alloc);
     'looks: loop {
         let held = intake.held();
         let count = held.len();
-        match read_head(held, room) {
+        match reader.read(held, room) {
             Head::Whole(head) => return Ok(Some(head)),
             Head::Malformed => return Err(WireFault::Malformed),
             Head::TooLarge => return Err(WireFault::TooLarge),

@@ -107,3 +107,7 @@ returns-in-Err-read_on-clause-came g c =
     let same : length c.held-held.result.now ≡ length c.looks.intake.held = ap length c.held-held.ensures in
     wants_to_read c.looks.intake c.read_on.new.self c.in-Err-read_on.ensures.came
     (chunked_needs_more c.looks.intake.held c.args.head c.looks.invariant.1 c.requires.chunked (omega arith) v)
+
+pub decode_held-requires-clause-decoded : goal.decode_held-requires-clause-decoded
+decode_held-requires-clause-decoded g c =
+    subst (λ (x : List ℕ). HasDecoded (window x c.args.head) c.looks.decoder) (sym c.held-held.ensures) c.looks.invariant.2
