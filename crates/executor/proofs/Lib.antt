@@ -1,4 +1,5 @@
 mod AskLemmas
+pub mod ChainLemmas
 pub mod CommitLemmas
 mod FaultLemmas
 mod JudgeLemmas

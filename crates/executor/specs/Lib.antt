@@ -1,4 +1,5 @@
 pub mod Asking
+pub mod Chain
 pub mod Faults
 pub mod History
 pub mod Laws

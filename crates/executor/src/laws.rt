@@ -1,4 +1,5 @@
 //! What holds of every journal's file, as contracts of calls that do nothing.
+ghost use Rattle.executor.specs.Chain.{ChainsJoin, StandingStays};
 ghost use Rattle.executor.specs.Laws.{HasNoBadRecord, HasOneBadRecord, HasOneHistory};
 ghost use Rattle.site_traits.specs.Site.{KeepsJobs};
 ghost use Rattle.executor.specs.Work.{Follows, Idles, Joins, LeadsOn, LeavesJobs, Stays, WorksAreWithJobs, WorksWithJobsJoin, WorksWithJobsLeadOn};
@@ -65,3 +66,12 @@ pub fn works_with_jobs_add_up<S: Site>()
 {
     jobs_may_end();
 }
+
+/// What was told of stays: at each moment since a stop leaves the history that it tells of, or more, through all work behind it. The chain of
+/// two works in a row is that of both, and what stands behind work may be told of.
+///
+/// Source: own rule.
+pub fn what_was_told_of_stays<S: Site>()
+    ensures joins { (a b c : S) → ChainsJoin S.tells (S.state a) (S.state b) (S.state c) }
+    ensures stands { (a b : S) → StandingStays S.tells (S.state a) (S.state b) }
+{}
