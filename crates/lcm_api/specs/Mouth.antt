@@ -1,5 +1,5 @@
--- What a mouth stands for, and what its calls do: a wire, and the request in hand with its role.
-use Rattle.std.specs.Prelude.{◌≡◌, [], Bool, true, false, Option, Some, None, Result, Ok, Err}
+-- What a mouth stands for, and what its calls do: a wire, the request in hand with its role, and when replies were told.
+use Rattle.std.specs.Prelude.{◌≡◌, ℕ, List, [], Bool, true, false, Option, Some, None, Result, Ok, Err}
 use Rattle.lcm_events.specs.declared.states.Role.{Role}
 use Rattle.http_wire.specs.declared.request.Request.{Request}
 use Rattle.http_wire.specs.declared.request.Taken.{Taken}
@@ -8,13 +8,15 @@ use Rattle.http_wire.specs.declared.request.WireFault.{WireFault}
 use Rattle.http_wire.specs.Exact.{IsExact}
 use Rattle.http_wire.specs.Wire.{WireState, TakenIs, bytes_of}
 
--- what the wire stands for, and the request in hand with the role that it was heard for
+-- What the wire stands for, the request in hand with the role that it was heard for, and the moments of the site at which something was told,
+-- the latest first.
 pub record MouthState : Type 0 where
   pub wire : WireState
   pub hand : Option Request
   pub role : Role
+  pub told : List ℕ
 
--- Nothing changes but at the door: the bytes that were read and belong to no request yet stay, and so does what was taken, and
+-- Nothing changes but at the door and in what was told: the bytes that were read and belong to no request yet stay, and so does what was taken, and
 -- what is in hand.
 pub record OnlyAtDoor (old new : MouthState) : Type 0 where
   pub held : new.wire.intake.held ≡ old.wire.intake.held

@@ -1,5 +1,5 @@
 //! The mouth: a wire, the request in hand, and the one call that writes to the door.
-ghost use Rattle.std.specs.Prelude.{◌≡◌, ◌≤◌, ◌<◌, length, take, IfOk, Some, is_some, true, false};
+ghost use Rattle.std.specs.Prelude.{◌≡◌, ◌≤◌, ◌<◌, [], ◌∷◌, length, take, IfOk, Some, is_some, true, false};
 ghost use Rattle.std.specs.Result.{is_err};
 ghost use Rattle.site_traits.specs.Door.{Nexts, HangsUp, NextCause, closed};
 ghost use Rattle.http_wire.specs.Wire.{OnlyTakesIn, ReadCounts};
@@ -22,16 +22,19 @@ use lcm_routes::Routes;
 use site_traits::{Door, NextAnswer, Site};
 use std::alloc::{AllocError, Global};
 use std::marker::Model;
+use told_moments::ToldMoments;
 
 /// The requests of connections, with room for one answer and the paths that requests may name, and the request in hand with the role that it was heard for.
 ///
-/// It owns the wire and with it the door, and `tell` is the one call that writes to the door.
+/// It owns the wire and with it the door, and `tell` is the one call that writes to the door. Each telling is noted by the moment of the site
+/// at which it came, which only proofs read.
 pub struct Mouth<D: Door> {
     wire: Wire<D>,
     outgoing: Outgoing,
     routes: Routes,
     hand: Option<Request>,
     role: Role,
+    told: ToldMoments,
 }
 
 impl<D: Door + Drop> Drop for Mouth<D> {
@@ -43,6 +46,7 @@ impl<D: Door + Drop> Drop for Mouth<D> {
             routes: _,
             hand: _,
             role: _,
+            told: _,
         } = self;
     }
 }
@@ -52,7 +56,7 @@ impl<D: Door> Model for Mouth<D> {
 
     ghost Value = { MouthState };
 
-    ghost view = { λ m. record { wire = m.wire; hand = m.hand; role = m.role } };
+    ghost view = { λ m. record { wire = m.wire; hand = m.hand; role = m.role; told = m.told.moments } };
 }
 
 impl<D: Door> Mouth<D> {
@@ -63,6 +67,7 @@ impl<D: Door> Mouth<D> {
         ensures door { IfOk result (λ m. m.wire.intake.door ≡ D.state door) }
         ensures counts { IfOk result (λ m. m.wire.intake.counts ≡ D.counts door) }
         ensures begins { IfOk result Begins }
+        ensures unnoted { IfOk result (λ m. m.told ≡ []) }
     {
         let wire = Wire::new(alloc, door)?;
         let outgoing = Outgoing::new(alloc)?;
@@ -73,6 +78,7 @@ impl<D: Door> Mouth<D> {
             routes,
             hand: None,
             role: Role::Orchestrator,
+            told: ToldMoments::new(),
         })
     }
 
@@ -90,6 +96,7 @@ impl<D: Door> Mouth<D> {
         ensures cause { NextCause result self.old.wire.intake.counts self.new.wire.intake.counts }
         ensures begins { Begins self.new }
         ensures role { self.new.role ≡ self.old.role }
+        ensures unnoted { self.new.told ≡ self.old.told }
     {
         self.hand = None;
         self.wire.renew();
@@ -102,6 +109,7 @@ impl<D: Door> Mouth<D> {
         ensures told { D.tells → HangsUp self.old.wire.intake.door self.new.wire.intake.door }
         ensures cause { self.new.wire.intake.counts ≡ closed self.old.wire.intake.counts }
         ensures kept { OnlyAtDoor self.old self.new }
+        ensures unnoted { self.new.told ≡ self.old.told }
     {
         self.wire.door_mut().hang_up();
     }
@@ -116,6 +124,7 @@ impl<D: Door> Mouth<D> {
         ensures told { D.tells → Hears (length room.old) (take result.count room.new) result.failed self.old.wire.intake.door self.new.wire.intake.door }
         ensures cause { FailsOnce result.failed self.old.wire.intake.counts self.new.wire.intake.counts }
         ensures kept { OnlyAtDoor self.old self.new }
+        ensures unnoted { self.new.told ≡ self.old.told }
     {
         read_to_end(self.wire.door_mut(), room)
     }
@@ -135,6 +144,7 @@ impl<D: Door> Mouth<D> {
         ensures role { self.new.role ≡ role }
         ensures counts { ReadCounts result self.old.wire.intake.counts self.new.wire.intake.counts }
         ensures few { self.new.wire.taken ≤ CONNECTION_REQUESTS }
+        ensures unnoted { self.new.told ≡ self.old.told }
     {
         self.hand = None;
         self.role = role;
@@ -152,7 +162,7 @@ impl<D: Door> Mouth<D> {
     /// Condition: the connection is up. Condition of a reply below 400: the manager is open, the reply is the outcome of the request
     /// in hand for its role, and its events end the manager's history, which every stop leaves.
     /// Refusal: `DoorFailed` where a write failed: the door's count of faults rose by one, and a front of the bytes went out. Where the
-    /// reply was told whole the counts stay.
+    /// reply was told whole the counts stay. Whether it was told whole or not, the site's moment is noted.
     /// Source: RFC 9112 4, 5, 6.2, 9.6.
     pub fn tell<S: Site>(
         &mut self,
@@ -165,7 +175,9 @@ impl<D: Door> Mouth<D> {
         ensures told { D.tells → Tells (text reply.now) result self.old.wire.intake.door self.new.wire.intake.door }
         ensures cause { FailsOnce (is_err result) self.old.wire.intake.counts self.new.wire.intake.counts }
         ensures kept { OnlyAtDoor self.old self.new }
+        ensures noted { self.new.told ≡ (S.state site.now).moment ∷ self.old.told }
     {
+        self.told = self.told.with(site);
         tell_reply(self.wire.door_mut(), &mut self.outgoing, reply)
     }
 
