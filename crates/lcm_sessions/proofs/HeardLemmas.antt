@@ -35,22 +35,22 @@ pub onboards_heard : (t : Tells) (m : ℕ) (H : List Event) (n : Managed) (count
     → HearsDescriptor t.door (Ok count) room w.mouth v.mouth
     → answer ≡ judged_answer (verdict H now (take count room)) (ended_by answer)
     → Works t.site m H (worked H (onboarded now (verdict H now (take count room))) (ended_by answer)) n w.site v.site
-    → (t.clock → Gives value w.clock v.clock) → now ≡ min value 253402300799999
+    → (t.clock → Gives value w.clock v.clock) → now ≡ min value 253402300799999 → v.mouth.told ≡ w.mouth.told
     → (o : Onboarding) × Onboards t m H o n w v × (answer ≡ answer_of H o)
-onboards_heard t m H n count now value room answer w v hears told works gives moment = (
+onboards_heard t m H n count now value room answer w v hears told works gives moment unnoted = (
   heard (take count room) now (ended_by answer),
-  record { works = works; brings = record { door = hears; clock = λ tells. record { value = value; gives = gives tells; moment_is = moment } } },
+  record { works = works; brings = record { door = hears; clock = λ tells. record { value = value; gives = gives tells; moment_is = moment }; unnoted = unnoted } },
   told,
 )
 
 -- nothing was heard
 pub onboards_unheard : (t : Tells) (m : Managed) (H : List Event) (why : Unheard) (room : List ℕ) (s : SiteState) (c d : MouthState) (ks : List ℕ)
-    → HearsDescriptor t.door (Err why) room c d → Idles t.site s → IsReady t.site m H s
+    → HearsDescriptor t.door (Err why) room c d → d.told ≡ c.told → Idles t.site s → IsReady t.site m H s
     → (o : Onboarding) × Onboards t m.ledger.manager H o m (world s c ks) (world s d ks) × (Err fault.Door ≡ answer_of H o)
-onboards_unheard t m H Waiting room s c d ks hears idles ready =
-    (unheard, record { works = idles m H ready; brings = record { door = hears; clock = λ tells. refl } }, refl)
-onboards_unheard t m H Reading room s c d ks hears idles ready =
-    (cut_off hears.0, record { works = idles m H ready; brings = record { door = hears.1; clock = λ tells. refl } }, refl)
+onboards_unheard t m H Waiting room s c d ks hears unnoted idles ready =
+    (unheard, record { works = idles m H ready; brings = record { door = hears; clock = λ tells. refl; unnoted = unnoted } }, refl)
+onboards_unheard t m H Reading room s c d ks hears unnoted idles ready =
+    (cut_off hears.0, record { works = idles m H ready; brings = record { door = hears.1; clock = λ tells. refl; unnoted = unnoted } }, refl)
 
 -- a connection that came, was read and was ended leaves one fault more where a read of it failed, and else none
 brought_counts : (tells : Type 0) (bytes : List ℕ) (failed : Bool) (a b : MouthState) → Brings tells bytes failed a b

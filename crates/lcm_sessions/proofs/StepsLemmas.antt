@@ -1,8 +1,9 @@
 -- What one step of a session is.
 use Rattle.std.proofs.Common.{◌≡◌, ◌≤◌, ◌∙◌, ℕ, List, [], ◌∷◌, ◌++◌, Option, Some, None, Result, Ok, Err, true, false, sym, subst, refl, ap, append-nil, arith, if◌then◌else◌, take, Bool, ◌⊎◌, ⊎_elim, codes}
 use Rattle.std.specs.Result.{is_ok}
+use Rattle.executor.specs.Chain.{AreTold, StandingStays}
 use Rattle.executor.specs.Managed.{Managed, IsReady}
-use Rattle.executor.specs.Work.{Idles, Stays, Work, went, Works}
+use Rattle.executor.specs.Work.{Idles, Stays, Work, went, stood, Works}
 use Rattle.http_wire.specs.Wire.{WireState, bytes_of, Counts, FaultCounts, OnlyTakesIn, ReadCounts, TakesNone}
 use Rattle.http_wire.specs.declared.request.Request.{Request}
 use Rattle.http_wire.specs.declared.request.Taken.{Taken}
@@ -14,7 +15,7 @@ use Rattle.lcm_api.specs.Response.{text}
 use Rattle.lcm_api.specs.Answering.{IsAcknowledged, IsOutcomeOf}
 use Rattle.lcm_api.specs.Outcome.{outcome}
 use Rattle.lcm_api.specs.Replies.{refusal, starved}
-use Rattle.lcm_sessions.specs.Session.{AreFor, Ask, Last, Ending, Talk, asked_last, counts_behind, has_reply, is_breaking, is_cut, is_lost, unheard, once_answered, outcome_of, replies, reply_last, said, taken_by, work_last}
+use Rattle.lcm_sessions.specs.Session.{AreFor, Ask, Last, Ending, Talk, asked_last, behind_last, behind_told, counts_behind, has_reply, is_breaking, is_cut, is_lost, unheard, once_answered, outcome_of, replies, reply_last, said, taken_by, work_last}
 use Rattle.lcm_sessions.specs.Step.{Responds, IsAbout, IsStep, answered_one, ended_so}
 use Rattle.lcm_sessions.specs.declared.session.Step.{Step}
 use Rattle.lcm_sessions.specs.declared.session.Step.TheVariants as step
@@ -64,8 +65,8 @@ cut_counts wire.Memory reply a b counts = counts
 
 -- a request was taken and answered
 pub talk_of_request : (t : outside.Tells) (m : ℕ) (H : List Event) (talk : Talk) (r : Request) (n : Managed) (s : SiteState) (c u : MouthState) (ks : List ℕ) (v : World)
-    → Counts t.door c.wire u.wire r → OnlyTakesIn t.door c.wire.intake u.wire.intake → u.wire.intake.counts ≡ c.wire.intake.counts → Responds t m H talk n (world s u ks) v → IsAbout r talk → Talks t m H talk n (world s c ks) v
-talk_of_request t m H talk r n s c u ks v counts reads same does about =
+    → Counts t.door c.wire u.wire r → OnlyTakesIn t.door c.wire.intake u.wire.intake → u.wire.intake.counts ≡ c.wire.intake.counts → u.told ≡ c.told → Responds t m H talk n (world s u ks) v → IsAbout r talk → Talks t m H talk n (world s c ks) v
+talk_of_request t m H talk r n s c u ks v counts reads same unnoted does about =
     let Q : List Ask → Type 0 = λ asks. AreRequests asks (remains_of c.wire) (remains_of v.mouth.wire) in
     record {
       works = does.works;
@@ -91,6 +92,7 @@ talk_of_request t m H talk r n s c u ks v counts reads same does about =
         faults = counts_since talk.end c.wire.intake.counts u.wire.intake.counts v.mouth.wire.intake.counts same does.faults;
         counts = counts_then c.wire.intake.counts u.wire.intake.counts v.mouth.wire.intake.counts reads.counts does.counts;
       };
+      told = subst (λ (before : List ℕ). AreTold t.site m (behind_told m H talk) before v.mouth.told s v.site) unnoted does.told;
     }
 
 -- what a telling at the end says
@@ -107,8 +109,9 @@ pub talk_of_end : (t : outside.Tells) (m : Managed) (H : List Event) (role : Rol
     → (t.door → (final : List ℕ) × IsSaid (reply_last m.ledger.manager H end.last) end.told final × Converses [] final u.wire.intake.door v.wire.intake.door)
     → OnlyAtDoor u v → ReadCounts answer c.wire.intake.counts u.wire.intake.counts → u.wire.intake.counts ≡ counts_by (is_cut end.last) c.wire.intake.counts
     → FailsOnce (is_lost end) u.wire.intake.counts v.wire.intake.counts
+    → AreTold t.site m.ledger.manager (behind_last m.ledger.manager H (Some end) ++ []) c.told v.told s s
     → Talks t m.ledger.manager H (ended_so role end) m (world s c ks) (world s v ks)
-talk_of_end t m H role end answer s c u v ks idles ready takes reads none asked work ends says kept heard cut fails =
+talk_of_end t m H role end answer s c u v ks idles ready takes reads none asked work ends says kept heard cut fails told_of =
     let P : Work → Type 0 = λ w. Works t.site m.ledger.manager H w m s s in
     let Q : List Ask → Type 0 = λ asks. AreRequests (asks ++ []) (remains_of c.wire) (remains_of v.wire) in
     let R : List Ask → Type 0 = λ asks. GaveAll (asks ++ []) ks ks in
@@ -146,6 +149,7 @@ talk_of_end t m H role end answer s c u v ks idles ready takes reads none asked 
         faults = fails.is ∙ ap (counts_by (is_lost end)) cut;
         counts = counts_then c.wire.intake.counts u.wire.intake.counts v.wire.intake.counts reads.counts fails.counts;
       };
+      told = told_of;
     }
 
 -- a reply that acknowledges what the manager's history ends with may be told
@@ -170,8 +174,9 @@ same_hand hand q r one other = cc
 -- the reply to a request was told whole
 pub responds_told : (t : outside.Tells) (m : ℕ) (H : List Event) (role : Role) (x : Ask) (n : Managed) (reply : Reply) (w v : World) → Works t.site m H (went (once_answered m H x)) n w.site v.site
     → reply ≡ (outcome_of m H x).reply → (t.clock → Gives x.value w.clock v.clock) → (t.door → Tells (text reply) (Ok tt) w.mouth.wire.intake.door v.mouth.wire.intake.door)
-    → OnlyAtDoor w.mouth v.mouth → FailsOnce false w.mouth.wire.intake.counts v.mouth.wire.intake.counts → Responds t m H (answered_one role x) n w v
-responds_told t m H role x n reply w v works is gives told kept fails = record {
+    → OnlyAtDoor w.mouth v.mouth → FailsOnce false w.mouth.wire.intake.counts v.mouth.wire.intake.counts
+    → StandingStays t.site w.site v.site → v.mouth.told ≡ v.site.moment ∷ w.mouth.told → Responds t m H (answered_one role x) n w v
+responds_told t m H role x n reply w v works is gives told kept fails stands noted = record {
   works = works;
   replies = λ tells.
       let P : Reply → Type 0 = λ r. Converses [] (text r ++ []) w.mouth.wire.intake.door v.mouth.wire.intake.door in
@@ -182,6 +187,7 @@ responds_told t m H role x n reply w v works is gives told kept fails = record {
   faults = fails.is;
   kept = kept;
   counts = fails.counts;
+  told = (v.site.moment, w.mouth.told, noted, stands m H (went (once_answered m H x)) n works.site, refl);
 }
 
 -- the session ends with a request
@@ -189,8 +195,10 @@ pub responds_last : (t : outside.Tells) (m : ℕ) (H : List Event) (role : Role)
     → asked_last last ≡ x ∷ [] → Works t.site m H (work_last m H last) n w.site v.site → reply_last m H last ≡ Some reply → EndsFor t.door last result w.mouth.wire v.mouth.wire
     → (t.clock → Gives x.value w.clock v.clock) → (t.door → Tells (text reply) result w.mouth.wire.intake.door v.mouth.wire.intake.door)
     → OnlyAtDoor w.mouth v.mouth → v.mouth.wire.intake.counts ≡ counts_behind (Some (record { last = last; told = result })) w.mouth.wire.intake.counts
-    → NoNextFault w.mouth.wire.intake.counts v.mouth.wire.intake.counts → Responds t m H (ended_so role (record { last = last; told = result })) n w v
-responds_last t m H role x last result n reply w v asked works is ends gives told kept faults counts =
+    → NoNextFault w.mouth.wire.intake.counts v.mouth.wire.intake.counts → StandingStays t.site w.site v.site → has_reply last ≡ true
+    → v.mouth.told ≡ v.site.moment ∷ w.mouth.told → Responds t m H (ended_so role (record { last = last; told = result })) n w v
+responds_last t m H role x last result n reply w v asked works is ends gives told kept faults counts stands some noted =
+    let A : Bool → Type 0 = λ b. AreTold t.site m ((if b then stood (work_last m H last) ∷ [] else []) ++ []) w.mouth.told v.mouth.told w.site v.site in
     let Q : List Ask → Type 0 = λ asks. GaveAll (asks ++ []) w.clock v.clock in
     record {
       works = works;
@@ -203,6 +211,7 @@ responds_last t m H role x last result n reply w v asked works is ends gives tol
       faults = faults;
       kept = kept;
       counts = counts;
+      told = subst A (sym some) (v.site.moment, w.mouth.told, noted, stands m H (work_last m H last) n works.site, refl);
     }
 
 -- a talk about a request, under another name of it

@@ -1,12 +1,14 @@
 -- A talk behind another is one talk.
 use Rattle.std.proofs.Common.{◌≡◌, ◌≤◌, ◌∙◌, ℕ, List, [], ◌∷◌, ◌++◌, Option, Some, None, Result, Ok, Err, take, length, true, sym, subst, refl, ap, append_assoc, append-nil, arith, ◌+◌, ◌<◌, ◌⊎◌, Bool, inl, inr, ⊎_elim}
+use Rattle.executor.specs.Chain.{AreTold, AreWithin, ChainsJoin}
 use Rattle.executor.specs.Managed.{Managed, IsReady}
-use Rattle.executor.specs.Work.{Idles, Joins, LeadsOn, Works}
+use Rattle.executor.proofs.WorkLemmas.{extends_refl, extends_trans}
+use Rattle.executor.specs.Work.{Extends, Idles, Joins, LeadsOn, Works}
 use Rattle.http_wire.specs.declared.TheConstants.{CONNECTION_REQUESTS}
 use Rattle.http_wire.specs.Intake.{OnlyReads}
 use Rattle.http_wire.specs.Wire.{WireState}
 use Rattle.lcm_api.specs.Response.{text}
-use Rattle.lcm_sessions.specs.Session.{AreFor, Ask, Last, Ending, Talk, over, unheard, untold, starving, breaking, counts_behind, life, once_answered, outcome_of, replies, said, asked_by, work_by}
+use Rattle.lcm_sessions.specs.Session.{AreFor, Ask, Last, Ending, Talk, over, unheard, untold, starving, breaking, behind_last, behind_replies, behind_told, counts_behind, life, once_answered, outcome_of, replies, said, asked_by, work_by}
 use Rattle.lcm_sessions.specs.Step.{answered_one, ended_so}
 use Rattle.lcm_api.specs.World as outside
 use Rattle.lcm_sessions.specs.Talking as talking
@@ -29,6 +31,27 @@ replies_more m H (y ∷ ys) xs =
     let one : (outcome_of m (life (once_answered m) H (ys ++ xs)) y).reply ≡ (outcome_of m (life (once_answered m) (life (once_answered m) H xs) ys) y).reply =
     ap (λ (G : List Event). (outcome_of m G y).reply) (life_more (once_answered m) H ys xs) in
     ap (λ (r : Reply). r ∷ replies m H (ys ++ xs)) one ∙ ap (λ (t : List Reply). (outcome_of m (life (once_answered m) (life (once_answered m) H xs) ys) y).reply ∷ t) (replies_more m H ys xs)
+
+-- the histories behind replies, of requests behind others
+behind_more : (m : ℕ) (H : List Event) (ys xs : List Ask)
+    → behind_replies m H (ys ++ xs) ≡ behind_replies m (life (once_answered m) H xs) ys ++ behind_replies m H xs
+behind_more m H [] xs = refl
+behind_more m H (y ∷ ys) xs =
+    let G : List Event = life (once_answered m) H xs in
+    ap (λ (K : List Event). K ∷ behind_replies m H (ys ++ xs)) (life_more (once_answered m) H (y ∷ ys) xs)
+    ∙ ap (λ (Ks : List (List Event)). life (once_answered m) G (y ∷ ys) ∷ Ks) (behind_more m H ys xs)
+
+-- what is within a history is within one that goes on from it
+pub within_more : (H G : List Event) (Ks : List (List Event)) → Extends H G → AreWithin H Ks → AreWithin G Ks
+within_more H G [] on within = tt
+within_more H G (K ∷ Ks) on within = (extends_trans K H G within.0 on, within_more H G Ks on within.1)
+
+-- the history behind requests goes on from those behind each of them
+pub answered_within : (m : ℕ) (H : List Event) (xs : List Ask) → AreWithin (life (once_answered m) H xs) (behind_replies m H xs)
+answered_within m H [] = tt
+answered_within m H (x ∷ xs) =
+    let G : List Event = life (once_answered m) H xs in
+    (extends_refl (once_answered m G x), within_more G (once_answered m G x) (behind_replies m H xs) (record { more = (outcome_of m G x).after; is = refl }) (answered_within m H xs))
 
 said_more : (late early : List Reply) → said (late ++ early) ≡ said early ++ said late
 said_more [] early = sym (append-nil (said early))
@@ -152,14 +175,20 @@ speaks_on m H role xs ys end a b c first second =
 
 -- a talk behind another is the talk of all their requests
 pub talks_on : (t : outside.Tells) (m : ℕ) (H : List Event) (role : Role) (xs ys : List Ask) (end : Option Ending) (n o : Managed) (w u v : World) → Joins t.site w.site u.site v.site
+    → ChainsJoin t.site w.site u.site v.site
     → Talks t m H (record { role = role; asks = xs; end = None }) n w u → Talks t m (life (once_answered m) H xs) (record { role = role; asks = ys; end = end }) o u v
     → Talks t m H (record { role = role; asks = ys ++ xs; end = end }) o w v
-talks_on t m H role xs ys end n o w u v joins first second =
+talks_on t m H role xs ys end n o w u v joins chains first second =
     let G : List Event = life (once_answered m) H xs in
     let P : List Event → Type 0 = λ K. Works t.site m H (work_by m K end) o w.site v.site in
     let taken : (asked_by end ++ ys) ++ xs ≡ asked_by end ++ (ys ++ xs) = append_assoc (asked_by end) ys xs in
     let Q : List Ask → Type 0 = λ asks. AreRequests asks (talking.remains_of w.mouth.wire) (talking.remains_of v.mouth.wire) in
     let R : List Ask → Type 0 = λ asks. GaveAll asks w.clock v.clock in
+    let later : List (List Event) = behind_last m (life (once_answered m) G ys) end in
+    let histories : (later ++ behind_replies m G ys) ++ behind_replies m H xs ≡ behind_told m H (record { role = role; asks = ys ++ xs; end = end }) =
+    append_assoc later (behind_replies m G ys) (behind_replies m H xs) ∙ ap (λ (Ks : List (List Event)). later ++ Ks) (sym (behind_more m H ys xs))
+    ∙ ap (λ (K : List Event). behind_last m K end ++ behind_replies m H (ys ++ xs)) (sym (life_more (once_answered m) H ys xs)) in
+    let A : List (List Event) → Type 0 = λ Ks. AreTold t.site m Ks w.mouth.told v.mouth.told w.site v.site in
     record {
       works = subst P (sym (life_more (once_answered m) H ys xs)) (joins m H G (work_by m (life (once_answered m) G ys) end) n o first.works second.works);
       holds = record {
@@ -171,6 +200,9 @@ talks_on t m H role xs ys end n o w u v joins first second =
         faults = counts_since end w.mouth.wire.intake.counts u.mouth.wire.intake.counts v.mouth.wire.intake.counts first.holds.faults second.holds.faults;
         counts = counts_then w.mouth.wire.intake.counts u.mouth.wire.intake.counts v.mouth.wire.intake.counts first.holds.counts second.holds.counts;
       };
+      told = subst A histories
+          (chains m H G (work_by m (life (once_answered m) G ys) end) n o (later ++ behind_replies m G ys) (behind_replies m H xs) w.mouth.told u.mouth.told v.mouth.told
+          first.works.site (answered_within m H xs) first.told second.works.site second.told);
     }
 
 -- The talk so far: so many requests were answered, and all replies to them were told whole.
@@ -197,6 +229,7 @@ none_so_far t role m w idles up = record {
         faults = refl;
         counts = counts_left w.mouth.wire.intake.counts;
       };
+      told = refl;
     },
     refl,
   );
@@ -214,9 +247,10 @@ ready_so_far t role m n told w v so_far leads ready =
 
 -- one request more
 pub one_more_told : (t : outside.Tells) (role : Role) (m n o : Managed) (told : ℕ) (w u v : World) → TalksSoFar t role m n told w u → LeadsOn t.site w.site u.site → Joins t.site w.site u.site v.site
+    → ChainsJoin t.site w.site u.site v.site
     → ((H : List Event) → IsReady t.site n H u.site → (talk : Talk) × Talks t n.ledger.manager H talk o u v × ((x : Ask) × (talk ≡ answered_one role x)))
     → v.mouth.wire.intake.counts.up ≡ true → u.mouth.wire.taken < v.mouth.wire.taken → v.mouth.wire.taken ≤ CONNECTION_REQUESTS → TalksSoFar t role m o (told + 1) w v
-one_more_told t role m n o told w u v so_far leads joins step up more few = record {
+one_more_told t role m n o told w u v so_far leads joins chains step up more few = record {
   each = λ H ready.
       let talk = so_far.each H ready in
       let G : List Event = life (once_answered m.ledger.manager) H talk.0 in
@@ -226,7 +260,7 @@ one_more_told t role m n o told w u v so_far leads joins step up more few = reco
       let Q : ℕ → Type 0 = λ k. Talks t k G (answered_one role x) o u v in
       let one : Talks t m.ledger.manager G (answered_one role x) o u v = subst Q talk.1.works.number (subst P next.2.1 next.1) in
       let count = talk.2 in
-      (x ∷ talk.0, talks_on t m.ledger.manager H role talk.0 (x ∷ []) None n o w u v joins talk.1 one, omega (arith, count));
+      (x ∷ talk.0, talks_on t m.ledger.manager H role talk.0 (x ∷ []) None n o w u v joins chains talk.1 one, omega (arith, count));
   up = up;
   few = let before = so_far.few in omega (arith, before, more);
   within = inr few;
@@ -234,10 +268,11 @@ one_more_told t role m n o told w u v so_far leads joins step up more few = reco
 
 -- the end behind the talk so far
 pub ended_so_far : (t : outside.Tells) (role : Role) (m n o : Managed) (told : ℕ) (P : Ending → Type 0) (w u v : World) → TalksSoFar t role m n told w u → LeadsOn t.site w.site u.site → Joins t.site w.site u.site v.site
+    → ChainsJoin t.site w.site u.site v.site
     → ((H : List Event) → IsReady t.site n H u.site → (talk : Talk) × Talks t n.ledger.manager H talk o u v × ((end : Ending) × (talk ≡ ended_so role end) × P end))
     → (H : List Event) → IsReady t.site m H w.site
     → (asks : List Ask) × (end : Ending) × Talks t m.ledger.manager H (record { role = role; asks = asks; end = Some end }) o w v × (told ≡ length asks) × P end
-ended_so_far t role m n o told P w u v so_far leads joins step H ready =
+ended_so_far t role m n o told P w u v so_far leads joins chains step H ready =
     let talk = so_far.each H ready in
     let G : List Event = life (once_answered m.ledger.manager) H talk.0 in
     let next = step G (leads m.ledger.manager H (work_by m.ledger.manager G None) n talk.1.works refl) in
@@ -245,7 +280,7 @@ ended_so_far t role m n o told P w u v so_far leads joins step H ready =
     let A : Talk → Type 0 = λ z. Talks t n.ledger.manager G z o u v in
     let B : ℕ → Type 0 = λ k. Talks t k G (ended_so role end) o u v in
     let one : Talks t m.ledger.manager G (ended_so role end) o u v = subst B talk.1.works.number (subst A next.2.1 next.1) in
-    (talk.0, end, talks_on t m.ledger.manager H role talk.0 [] (Some end) n o w u v joins talk.1 one, talk.2, next.2.2)
+    (talk.0, end, talks_on t m.ledger.manager H role talk.0 [] (Some end) n o w u v joins chains talk.1 one, talk.2, next.2.2)
 
 -- no more replies were told than a connection may have requests
 pub told_few : (t : outside.Tells) (role : Role) (m n : Managed) (told : ℕ) (w v : World) → TalksSoFar t role m n told w v → told ≤ CONNECTION_REQUESTS

@@ -66,10 +66,11 @@ abbrev pub OnboardingAtClock : Onboarding → List ℕ → List ℕ → Type 0
 OnboardingAtClock (heard bytes now ended) old new = IsTimed now old new
 OnboardingAtClock other old new = new ≡ old
 
--- what onboarding does to both
+-- what onboarding does to both; nothing is told
 pub record BringsIn (t : Tells) (o : Onboarding) (a b : Peers) : Type 0 where
   pub door : OnboardingAtDoor t.door o a.mouth b.mouth
   pub clock : t.clock → OnboardingAtClock o a.clock b.clock
+  pub unnoted : b.mouth.told ≡ a.mouth.told
 
 -- what onboarding does to the journal too; the manager is now n
 pub record Onboards (t : Tells) (m : ℕ) (H : List Event) (o : Onboarding) (n : Managed) (w v : World) : Type 0 where

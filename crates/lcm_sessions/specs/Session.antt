@@ -3,7 +3,7 @@
 use Rattle.std.specs.Prelude.{◌≡◌, ℕ, ◌+◌, Bool, true, false, List, [], ◌∷◌, ◌++◌, length, min, Option, Some, None, is_some, ◌&&◌, if◌then◌else◌, Result, Ok, Err}
 use Rattle.std.specs.List.{AllByRecursion}
 use Rattle.std.specs.Result.{is_ok, is_err}
-use Rattle.executor.specs.Work.{Work, went, broke}
+use Rattle.executor.specs.Work.{Work, went, broke, stood}
 use Rattle.http_wire.specs.declared.request.Request.{Request}
 use Rattle.http_wire.specs.declared.request.WireFault.{WireFault}
 use Rattle.http_wire.specs.declared.request.WireFault.TheVariants as fault
@@ -123,6 +123,20 @@ has_reply other = true
 abbrev pub told_last : Option Ending → ℕ
 told_last None = 0
 told_last (Some end) = if has_reply end.last && is_ok end.told then 1 else 0
+
+-- the histories behind the replies that were told whole, the latest first: behind each its request is answered
+abbrev pub behind_replies : ℕ → List Event → List Ask → List (List Event)
+behind_replies m H [] = []
+behind_replies m H (x ∷ before) = life (once_answered m) H (x ∷ before) ∷ behind_replies m H before
+
+-- the history behind what is told at the end, where there is something to tell
+abbrev pub behind_last : ℕ → List Event → Option Ending → List (List Event)
+behind_last m H None = []
+behind_last m H (Some end) = if has_reply end.last then stood (work_last m H end.last) ∷ [] else []
+
+-- the histories behind all that is told in a session, the latest first
+abbrev pub behind_told : ℕ → List Event → Talk → List (List Event)
+behind_told m H talk = behind_last m (life (once_answered m) H talk.asks) talk.end ++ behind_replies m H talk.asks
 
 -- the disk failed at the end
 abbrev pub is_breaking : Last → Bool

@@ -2,6 +2,7 @@
 use Rattle.std.specs.Prelude.{◌≡◌, ◌<◌, ◌≤◌, ℕ, true, false, List, [], ◌∷◌, ◌++◌, Some, None, Result, Ok, Err, if◌then◌else◌}
 use Rattle.std.specs.Result.{is_ok, is_err}
 use Rattle.std.specs.declared.alloc.AllocError.{AllocError}
+use Rattle.executor.specs.Chain.{AreTold}
 use Rattle.executor.specs.Managed.{Managed}
 use Rattle.executor.specs.Work.{Works}
 use Rattle.http_wire.specs.declared.TheConstants.{CONNECTION_REQUESTS}
@@ -13,7 +14,7 @@ use Rattle.lcm_api.specs.Failing.{FailsOnce}
 use Rattle.lcm_api.specs.Telling.{Tells}
 use Rattle.lcm_api.specs.declared.door.DoorFailed.{DoorFailed}
 use Rattle.lcm_api.specs.declared.reply.Reply.{Reply}
-use Rattle.lcm_sessions.specs.Session.{Ask, Ending, Talk, life, once_answered, replies, said, taken_by, told_last, breaks, counts_behind, work_of}
+use Rattle.lcm_sessions.specs.Session.{Ask, Ending, Talk, life, once_answered, replies, said, taken_by, told_last, behind_told, breaks, counts_behind, work_of}
 use Rattle.lcm_api.specs.World as outside
 use Rattle.lcm_api.specs.World.{World}
 use Rattle.lcm_sessions.specs.Talking.{Converses, Ends, GaveAll, SaysLast}
@@ -53,6 +54,7 @@ pub record Responds (t : outside.Tells) (m : ℕ) (H : List Event) (talk : Talk)
   pub faults : v.mouth.wire.intake.counts ≡ counts_behind talk.end w.mouth.wire.intake.counts
   pub kept : OnlyAtDoor w.mouth v.mouth
   pub counts : NoNextFault w.mouth.wire.intake.counts v.mouth.wire.intake.counts
+  pub told : AreTold t.site m (behind_told m H talk) w.mouth.told v.mouth.told w.site v.site
 
 -- the talk is about this request, which was taken for its role
 pub record IsAbout (r : Request) (talk : Talk) : Type 0 where

@@ -1,6 +1,7 @@
 -- What a session does to all that is outside: the journal's file, the connection and the clock.
 use Rattle.std.specs.Prelude.{◌≡◌, ◌+◌, ◌==◌, ◌||◌, ◌⊎◌, ℕ, Bool, false, List, [], ◌∷◌, ◌++◌, take, Option, Some, None, is_some, ◌&&◌, Result, Ok, Err}
 use Rattle.std.specs.Result.{is_ok, is_err}
+use Rattle.executor.specs.Chain.{AreTold}
 use Rattle.executor.specs.Managed.{Managed}
 use Rattle.executor.specs.Work.{Works}
 use Rattle.http_frames.specs.Framing.{fields_of, media, closes}
@@ -17,7 +18,7 @@ use Rattle.lcm_api.specs.Mouth.{MouthState, Takes}
 use Rattle.lcm_api.specs.World.{Tells, Peers, World, peers_of}
 use Rattle.lcm_api.specs.Replies.{malformed, too_large, starved}
 use Rattle.lcm_api.specs.Response.{text}
-use Rattle.lcm_sessions.specs.Session.{AreFor, Ask, Last, Ending, Talk, over, unheard, untold, counts_behind, life, once_answered, replies, said, taken_by, reply_last, work_of}
+use Rattle.lcm_sessions.specs.Session.{AreFor, Ask, Last, Ending, Talk, over, unheard, untold, behind_told, counts_behind, life, once_answered, replies, said, taken_by, reply_last, work_of}
 use Rattle.lcm_api.specs.declared.door.DoorFailed.{DoorFailed}
 use Rattle.lcm_api.specs.declared.reply.Reply.{Reply}
 use Rattle.lcm_events.specs.declared.events.Event.{Event}
@@ -129,10 +130,11 @@ pub record Holds (t : Tells) (m : ℕ) (H : List Event) (talk : Talk) (a b : Pee
   pub faults : b.mouth.wire.intake.counts ≡ counts_behind talk.end a.mouth.wire.intake.counts
   pub counts : NoNextFault a.mouth.wire.intake.counts b.mouth.wire.intake.counts
 
--- what it does to the journal too; the manager is now n
+-- What it does to the journal too; the manager is now n. From the telling of each reply on no stop takes back the history behind it.
 pub record Talks (t : Tells) (m : ℕ) (H : List Event) (talk : Talk) (n : Managed) (w v : World) : Type 0 where
   pub works : Works t.site m H (work_of m H talk) n w.site v.site
   pub holds : Holds t m H talk (peers_of w) (peers_of v)
+  pub told : AreTold t.site m (behind_told m H talk) w.mouth.told v.mouth.told w.site v.site
 
 -- a session was held to its end, and then the connection was ended
 pub record Attends (t : Tells) (m : ℕ) (H : List Event) (talk : Talk) (a b : Peers) : Type 0 where
@@ -144,7 +146,8 @@ pub record Attends (t : Tells) (m : ℕ) (H : List Event) (talk : Talk) (a b : P
   pub gone : t.door → HangsUp between.wire.intake.door b.mouth.wire.intake.door
   pub counts : b.mouth.wire.intake.counts ≡ closed between.wire.intake.counts
 
--- what serving a connection does
+-- What serving a connection does. From the telling of each reply on no stop takes back the history behind it.
 pub record Serves (t : Tells) (m : ℕ) (H : List Event) (talk : Talk) (n : Managed) (w v : World) : Type 0 where
   pub works : Works t.site m H (work_of m H talk) n w.site v.site
   pub attends : Attends t m H talk (peers_of w) (peers_of v)
+  pub told : AreTold t.site m (behind_told m H talk) w.mouth.told v.mouth.told w.site v.site

@@ -90,6 +90,7 @@ fn hear<D: Door>(mouth: &mut Mouth<D>, room: &mut [u8]) -> Result<usize, Unheard
     requires room { length room.old ≡ MAX_READ }
     ensures within { IfOk result (λ count. count ≤ length room.new) }
     ensures heard { HearsDescriptor D.tells result room.new mouth.old mouth.new }
+    ensures unnoted { mouth.new.told ≡ mouth.old.told }
 {
     match mouth.next() {
         NextAnswer::Came(_) => {

@@ -1,5 +1,5 @@
 //! Serving one connection: its requests are heard, answered and told one by one, and the connection ends.
-ghost use Rattle.std.specs.Prelude.{◌≡◌, ◌≤◌, List, Some, is_some, true};
+ghost use Rattle.std.specs.Prelude.{◌≡◌, ◌≤◌, ◌∷◌, List, Some, is_some, true};
 ghost use Rattle.std.specs.Result.{is_err};
 ghost use Rattle.executor.specs.Managed.{IsReady};
 ghost use Rattle.http_wire.specs.declared.request.Request.{Request};
@@ -11,7 +11,7 @@ ghost use Rattle.lcm_sessions.specs.Talking.{IsRejection, Serves, Talks};
 ghost use Rattle.lcm_events.specs.declared.events.Event.{Event};
 ghost use Rattle.site_traits.specs.Counts.{OnlyDiskFails};
 
-use executor::{Manager, works_add_up};
+use executor::{Manager, what_was_told_of_stays, works_add_up};
 use lcm_api::{ApiFault, DoorFailed, Mouth, Reply, WireFault, answer, bare, malformed, too_large};
 use lcm_events::Role;
 use site_traits::{Clock, Door, Site};
@@ -40,7 +40,8 @@ pub enum Step {
 /// number of replies that were told whole.
 ///
 /// Where the bytes that are left are no request, 400 or 413 is told; for want of memory 503; where the disk failed 500. The door counts one
-/// fault where a read failed and one where telling did, each of which ends the session, and else none.
+/// fault where a read failed and one where telling did, each of which ends the session, and else none. From the moment at which a reply was
+/// told on, whenever a stop comes, it leaves the history that the reply tells of, or more.
 /// Conditions: the connection is up; the manager isn't closed, and its file has its history.
 /// Refusal: `Closed` exactly where the disk failed in this call.
 /// Source: SOL 003 4.3 (API structure), 5.4.2; RFC 9112 9.3, 9.6.
@@ -85,6 +86,7 @@ fn talk<S: Site, D: Door, K: Clock>(
     ensures counts { OnlyDiskFails (is_err result ≡ true) (S.counts site.old) (S.counts site.new) }
 {
     works_add_up::<S>();
+    what_was_told_of_stays::<S>();
     let mut told = 0;
     'steps: loop {
         match answer_next(alloc, manager, site, mouth, clock, role) {
@@ -117,6 +119,7 @@ fn answer_next<S: Site, D: Door, K: Clock>(
     ensures counts { OnlyDiskFails (result ≡ Step.Broken) (S.counts site.old) (S.counts site.new) }
 {
     works_add_up::<S>();
+    what_was_told_of_stays::<S>();
     match mouth.hear(alloc, role) {
         Ok(true) => respond(alloc, manager, site, mouth, clock),
         Ok(false) => Step::Over,
@@ -147,6 +150,7 @@ fn respond<S: Site, D: Door, K: Clock>(
     ensures counts { OnlyDiskFails (result ≡ Step.Broken) (S.counts site.old) (S.counts site.new) }
 {
     works_add_up::<S>();
+    what_was_told_of_stays::<S>();
     let now = Moment::of(clock.now());
     match answer(
         alloc,
@@ -203,6 +207,7 @@ fn tell_last<S: Site, D: Door>(
     requires refusal { 400 ≤ reply.now.status }
     ensures told { TellsLast D.tells reply.now result mouth.old mouth.new }
     ensures kept { OnlyAtDoor mouth.old mouth.new }
+    ensures noted { mouth.new.told ≡ (S.state site.now).moment ∷ mouth.old.told }
 {
     match mouth.tell(manager, site, reply) {
         Ok(()) => Step::ToldLast,

@@ -17,6 +17,7 @@ returns-clause-serves g c = λ H ready.
           gone = c.hang_up.ensures.told;
           counts = c.hang_up.ensures.cause;
         };
+        told = rw c.hang_up.ensures.unnoted it.3.told;
       },
       it.4,
       it.5,

@@ -16,7 +16,7 @@ returns-in-Ok-tell-clause-responds g c = λ H ready r hand.
     let same = same_hand c.args.mouth.now.hand c.request.result.now r c.request.ensures hand in (
       answered_one c.args.mouth.now.role x,
       responds_told _ _ H c.args.mouth.now.role x _ c.in-Ok.reply _ _ (rw (c.of-now.ensures, c.role.ensures) at (c.in-Ok.ensures.works H ready)) (rw (c.of-now.ensures, c.role.ensures) at (c.in-Ok.ensures.reply H ready.keeps))
-          c.now.ensures.told c.in-Ok-tell.ensures.told c.tell.ensures.kept (rw c.in-Ok-tell.is at c.tell.ensures.cause),
+          c.now.ensures.told c.in-Ok-tell.ensures.told c.tell.ensures.kept (rw c.in-Ok-tell.is at c.tell.ensures.cause) (c.what_was_told_of_stays.ensures.stands c.args.site.now c.answer.new.site) c.tell.ensures.noted,
       about c.request.result.now r c.now.result _ same refl,
       (x, refl),
     )
@@ -29,7 +29,7 @@ returns-in-Ok-clause-responds g c = λ H ready r hand.
       ended_so c.args.mouth.now.role end,
       responds_last _ _ H c.args.mouth.now.role x (untold x) c.tell.result _ c.in-Ok.reply _ _ refl (rw (c.of-now.ensures, c.role.ensures) at (c.in-Ok.ensures.works H ready))
           (ap Some (sym (rw (c.of-now.ensures, c.role.ensures) at (c.in-Ok.ensures.reply H ready.keeps)))) (rw c.in-Err.is refl)
-          c.now.ensures.told c.tell.ensures.told c.tell.ensures.kept c.tell.ensures.cause.is c.tell.ensures.cause.counts,
+          c.now.ensures.told c.tell.ensures.told c.tell.ensures.kept c.tell.ensures.cause.is c.tell.ensures.cause.counts (c.what_was_told_of_stays.ensures.stands c.args.site.now c.answer.new.site) refl c.tell.ensures.noted,
       about c.request.result.now r c.now.result _ same refl,
       (end, refl, rw c.in-Err.is refl, refl),
     )
@@ -41,7 +41,7 @@ returns-in-Err-Disk-clause-responds g c = λ H ready r hand.
     let same = same_hand c.args.mouth.now.hand c.request.result.now r c.request.ensures hand in (
       ended_so c.args.mouth.now.role end,
       responds_last _ _ H c.args.mouth.now.role x (breaking x) c.tell-in-Err-Disk.result _ c.bare.result _ _ refl (rw (c.in-Err-Disk.field-0-is, c.of-now.ensures, c.role.ensures) at (c.in-Err-Disk.ensures.works H ready)) (rw c.bare.ensures refl) tt
-          c.now.ensures.told c.tell-in-Err-Disk.ensures.told c.tell-in-Err-Disk.ensures.kept c.tell-in-Err-Disk.ensures.cause.is c.tell-in-Err-Disk.ensures.cause.counts,
+          c.now.ensures.told c.tell-in-Err-Disk.ensures.told c.tell-in-Err-Disk.ensures.kept c.tell-in-Err-Disk.ensures.cause.is c.tell-in-Err-Disk.ensures.cause.counts (c.what_was_told_of_stays.ensures.stands c.args.site.now c.answer.new.site) refl c.tell-in-Err-Disk.ensures.noted,
       about c.request.result.now r c.now.result _ same refl,
       (end, refl, refl),
     )
@@ -54,7 +54,7 @@ returns-clause-responds g c = λ H ready r hand.
     let same = same_hand c.args.mouth.now.hand c.request.result.now r c.request.ensures hand in (
       ended_so c.args.mouth.now.role end,
       responds_last _ _ H c.args.mouth.now.role x (starving x) told.result _ c.bare-in-Err-Memory.result _ _ refl (rw c.in-Err-Memory.field-0-is at (c.in-Err-Memory.ensures.works H ready)) (rw c.bare-in-Err-Memory.ensures refl) tt
-          c.now.ensures.told told.told c.tell_last.ensures.kept told.cause.is told.cause.counts,
+          c.now.ensures.told told.told c.tell_last.ensures.kept told.cause.is told.cause.counts (c.what_was_told_of_stays.ensures.stands c.args.site.now c.answer.new.site) refl c.tell_last.ensures.noted,
       about c.request.result.now r c.now.result _ same refl,
       told_step c.args.mouth.now.role (starving x) told.result c.tell_last.result refl refl told.is,
     )

@@ -20,7 +20,7 @@ overflow_add-told g c = let few = told_few _ _ _ _ _ _ _ c.steps.invariant.0 in 
 
 pub steps-preserved : goal.steps-preserved
 steps-preserved g c = (
-  one_more_told _ _ _ _ _ _ _ _ _ c.steps.invariant.0 (c.works_add_up.ensures.leads c.args.site.now c.steps.site) (c.works_add_up.ensures.joins c.args.site.now c.steps.site c.answer_next.new.site) (λ H ready. c.in-Told.ensures.talks H ready) c.answer_next.ensures.up (c.in-Told.ensures.on.more refl) c.answer_next.ensures.on.few,
+  one_more_told _ _ _ _ _ _ _ _ _ c.steps.invariant.0 (c.works_add_up.ensures.leads c.args.site.now c.steps.site) (c.works_add_up.ensures.joins c.args.site.now c.steps.site c.answer_next.new.site) (c.what_was_told_of_stays.ensures.joins c.args.site.now c.steps.site c.answer_next.new.site) (λ H ready. c.in-Told.ensures.talks H ready) c.answer_next.ensures.up (c.in-Told.ensures.on.more refl) c.answer_next.ensures.on.few,
   fails_last ⊥ _ _ _ c.steps.invariant.1 (fails_as (step.Told ≡ step.Broken) ⊥ _ _ c.in-Told.ensures.counts (λ wrong. cc) (λ wrong. absurd wrong)),
   refl,
 )
@@ -31,7 +31,7 @@ overflow_add-result g c = let few = told_few _ _ _ _ _ _ _ c.steps.invariant.0 i
 pub returns-in-ToldLast-clause-talks : goal.returns-in-ToldLast-clause-talks
 returns-in-ToldLast-clause-talks g c = λ H ready.
     let P : Ending → Type 0 = λ end. (told_last (Some end) ≡ 1) × (breaks (Some end) ≡ false) in
-    let it = ended_so_far _ c.args.role _ _ _ _ P _ _ _ c.steps.invariant.0 (c.works_add_up.ensures.leads c.args.site.now c.steps.site) (c.works_add_up.ensures.joins c.args.site.now c.steps.site c.answer_next.new.site)
+    let it = ended_so_far _ c.args.role _ _ _ _ P _ _ _ c.steps.invariant.0 (c.works_add_up.ensures.leads c.args.site.now c.steps.site) (c.works_add_up.ensures.joins c.args.site.now c.steps.site c.answer_next.new.site) (c.what_was_told_of_stays.ensures.joins c.args.site.now c.steps.site c.answer_next.new.site)
     (λ G now. let did = c.in-ToldLast.ensures.talks G now in (did.0, did.1, (did.2.0, did.2.1, (did.2.2, did.2.3)))) H ready in
     let count = it.3 in
     let one = it.4.0 in
@@ -44,7 +44,7 @@ returns-in-ToldLast-clause-counts g c =
 pub returns-in-Over-clause-talks : goal.returns-in-Over-clause-talks
 returns-in-Over-clause-talks g c = λ H ready.
     let P : Ending → Type 0 = λ end. (told_last (Some end) ≡ 0) × (breaks (Some end) ≡ false) in
-    let it = ended_so_far _ c.args.role _ _ _ _ P _ _ _ c.steps.invariant.0 (c.works_add_up.ensures.leads c.args.site.now c.steps.site) (c.works_add_up.ensures.joins c.args.site.now c.steps.site c.answer_next.new.site)
+    let it = ended_so_far _ c.args.role _ _ _ _ P _ _ _ c.steps.invariant.0 (c.works_add_up.ensures.leads c.args.site.now c.steps.site) (c.works_add_up.ensures.joins c.args.site.now c.steps.site c.answer_next.new.site) (c.what_was_told_of_stays.ensures.joins c.args.site.now c.steps.site c.answer_next.new.site)
     (λ G now. let did = c.in-Over.ensures.talks G now in (did.0, did.1, (did.2.0, did.2.1, (did.2.2, did.2.3)))) H ready in
     let count = it.3 in
     let none = it.4.0 in
@@ -57,7 +57,7 @@ returns-in-Over-clause-counts g c =
 pub returns-in-Broken-clause-talks : goal.returns-in-Broken-clause-talks
 returns-in-Broken-clause-talks g c = λ H ready.
     let P : Ending → Type 0 = λ end. breaks (Some end) ≡ true in
-    let it = ended_so_far _ c.args.role _ _ _ _ P _ _ _ c.steps.invariant.0 (c.works_add_up.ensures.leads c.args.site.now c.steps.site) (c.works_add_up.ensures.joins c.args.site.now c.steps.site c.answer_next.new.site) (λ G now. c.in-Broken.ensures.talks G now) H ready in
+    let it = ended_so_far _ c.args.role _ _ _ _ P _ _ _ c.steps.invariant.0 (c.works_add_up.ensures.leads c.args.site.now c.steps.site) (c.works_add_up.ensures.joins c.args.site.now c.steps.site c.answer_next.new.site) (c.what_was_told_of_stays.ensures.joins c.args.site.now c.steps.site c.answer_next.new.site) (λ G now. c.in-Broken.ensures.talks G now) H ready in
     (record { role = c.args.role; asks = it.0; end = Some it.1 }, it.1, refl, it.2, refl, it.4)
 
 pub returns-in-Broken-clause-counts : goal.returns-in-Broken-clause-counts
