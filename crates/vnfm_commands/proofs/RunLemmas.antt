@@ -1,5 +1,7 @@
 -- Opening a journal, and what is then done with it.
 use Rattle.std.proofs.Common.{◌≡◌, ◌<◌, ℕ, List, Some, sym, subst, refl}
+use Rattle.executor.proofs.ChainLemmas.{told_since}
+use Rattle.executor.specs.Chain.{AreTold}
 use Rattle.executor.specs.History.{HasHistory}
 use Rattle.executor.specs.Managed.{Managed, IsReady}
 use Rattle.executor.specs.Open.{Refuses}
@@ -11,7 +13,7 @@ use Rattle.lcm_api.specs.World.{Peers, Tells, World, peers_of, world}
 use Rattle.lcm_events.specs.declared.events.Event.{Event}
 use Rattle.lcm_sessions.specs.Onboarding.{onboarding_work}
 use Rattle.site_traits.specs.Site.{SiteState}
-use Rattle.vnfm_commands.specs.Course.{Course, misused, starved, making, opened, unopened, Deed, serving, onboarding, IsOf, IsOfWords, Opening, deed_work}
+use Rattle.vnfm_commands.specs.Course.{Course, misused, starved, making, opened, unopened, Deed, serving, onboarding, IsOf, IsOfWords, Opening, deed_work, told_by}
 use Rattle.command_line.specs.Words.{settings_of}
 use Rattle.command_line.specs.declared.options.Settings.{Settings}
 use Rattle.vnfm_commands.specs.Runs.{AtJobsBy, AtPeersBy, DeedWorks, Deeds, Does, Recovers}
@@ -58,6 +60,8 @@ does_deed t m n H deed w v s c ks before behind follows leaves alone number read
       site = λ told. recovers t.site m n H (deed_work m.ledger.manager H deed) w.site s v.site before behind follows told (reads told) ready works;
       jobs = λ told. deed_jobs t.site m.ledger.manager H deed n w.site s v.site leaves told (reads told) deeds.works;
       peers = let P : Peers → Type 0 = λ p. AtPeersBy t (opening_of m H) deed p (peers_of v) in subst P (sym same) deeds.peers;
+      told = told_since t.site m.ledger.manager (told_by m.ledger.manager H deed) w.mouth.told v.mouth.told w.site s v.site (λ told. (reads told).on_file.passes.later)
+          (subst (λ (p : Peers). AreTold t.site m.ledger.manager (told_by m.ledger.manager H deed) p.mouth.told v.mouth.told s v.site) (sym same) deeds.told);
     }
 
 -- a journal that wasn't opened
@@ -68,6 +72,7 @@ does_not_open t why a b c ks leaves reads found = record {
   site = λ told. record { because = subst (Refuses why) (reads told).same (found told); reads = reads told };
   jobs = λ told. (leaves told (reads told)).0;
   peers = refl;
+  told = refl;
 }
 
 -- a course of settings is one of the words that set them

@@ -1,5 +1,5 @@
 -- How a run goes: what the words were, and what came of the command (own rule, docs/FORMATS.md).
-use Rattle.std.specs.Prelude.{◌≡◌, ◌<◌, ℕ, true, List, length, min, Option, Result, Ok, Err, Some, None}
+use Rattle.std.specs.Prelude.{◌≡◌, ◌<◌, ℕ, true, List, [], ◌∷◌, ◌++◌, length, min, Option, Result, Ok, Err, Some, None}
 use Rattle.executor.specs.Work.{Work, went, stood}
 use Rattle.executor.specs.declared.manager.WorkFault.{WorkFault}
 use Rattle.executor.specs.declared.manager.WorkFault.TheVariants as working
@@ -7,7 +7,7 @@ use Rattle.executor.specs.declared.manager.OpenFault.{OpenFault}
 use Rattle.executor.specs.declared.manager.OpenFault.TheVariants as opening
 use Rattle.journal_core.specs.declared.create.CreateFault.{CreateFault}
 use Rattle.journal_core.specs.declared.create.CreateFault.TheVariants as creating
-use Rattle.lcm_sessions.specs.Session.{Talk, life, work_of}
+use Rattle.lcm_sessions.specs.Session.{Talk, behind_told, life, work_of}
 use Rattle.lcm_events.specs.declared.events.Event.{Event}
 use Rattle.lcm_events.specs.declared.states.Role.{Role}
 use Rattle.occ_work.specs.Deeds.{Deed as Act}
@@ -108,6 +108,28 @@ abbrev pub deed_work : ℕ → List Event → Deed → Work
 deed_work m H (serving service) = service_work m H service
 deed_work m H (onboarding o) = onboarding_work H o
 
+-- the histories behind what is told in a visit, the latest first
+abbrev pub told_in_visit : ℕ → List Event → Visit → List (List Event)
+told_in_visit m H unasked = []
+told_in_visit m H (served came talk) = behind_told m H talk
+
+-- those behind what is told in rounds
+abbrev pub told_in_rounds : ℕ → List Event → List Round → List (List Event)
+told_in_rounds m H [] = []
+told_in_rounds m H (r ∷ before) = told_in_visit m (life (once_made m) H before) r.visit ++ told_in_rounds m H before
+
+-- those behind what is told at the end of rounds
+abbrev pub told_at_close : ℕ → List Event → Close → List (List Event)
+told_at_close m H finished = []
+told_at_close m H unreached = []
+told_at_close m H (stopped came talk) = behind_told m H talk
+told_at_close m H (halted visit turn end why) = told_in_visit m H visit
+
+-- those behind all replies that a deed tells, the latest first: behind each its request is answered
+abbrev pub told_by : ℕ → List Event → Deed → List (List Event)
+told_by m H (serving service) = told_at_close m (life (once_made m) H service.rounds) service.close ++ told_in_rounds m H service.rounds
+told_by m H (onboarding o) = []
+
 -- which failure a fault of the settings is
 abbrev pub unset : SettingsFault → Failure
 unset setting.Usage = Usage
@@ -168,6 +190,11 @@ deed_ending H (onboarding o) = onboarding_ending (answer_of H o)
 abbrev pub making_ending : ℕ → Result (Unit {0}) CreateFault → Ending
 making_ending manager (Ok done) = Ok (Made manager)
 making_ending manager (Err why) = Err (unmade why)
+
+-- the histories behind all replies that a run tells, the latest first: behind each its request is answered
+abbrev pub told_of : Course → List (List Event)
+told_of (opened start deed) = told_by start.number start.history deed
+told_of other = []
 
 -- how a run ends
 abbrev pub ending_of : Course → Ending

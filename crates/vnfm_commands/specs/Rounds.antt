@@ -1,5 +1,6 @@
 -- What rounds do at the door and to the clock, with the orchestrator and the infrastructure, and with the journal.
 use Rattle.std.specs.Prelude.{◌≡◌, ℕ, true, false, List, [], ◌∷◌, Result, Ok, Err, Some}
+use Rattle.executor.specs.Chain.{AreTold}
 use Rattle.executor.specs.Managed.{Managed}
 use Rattle.executor.specs.Work.{Work, Works, WorksWithJobs, went}
 use Rattle.lcm_api.specs.Mouth.{MouthState, Begins}
@@ -17,7 +18,7 @@ use Rattle.site_traits.specs.Counts.{CallCounts, SiteCounts}
 use Rattle.site_traits.specs.Peers.{OrchestratorState}
 use Rattle.site_traits.specs.Door.{Comes, opened as has_come}
 use Rattle.site_traits.specs.Site.{SiteState}
-use Rattle.vnfm_commands.specs.Course.{Halt, halt_of, halting, Visit, unasked, served, Turning, Round, Close, finished, unreached, stopped, halted, Service, close_ending, close_work, moment_of, once_made, once_served, service_work}
+use Rattle.vnfm_commands.specs.Course.{Halt, halt_of, halting, Visit, unasked, served, Turning, Round, Close, finished, unreached, stopped, halted, Service, close_ending, close_work, moment_of, once_made, once_served, service_work, serving, told_at_close, told_by, told_in_visit}
 use Rattle.vnfm_commands.specs.declared.ending.Failure.{Failure}
 use Rattle.vnfm_commands.specs.declared.ending.Failure.TheVariants.{DoorFault, SiteFault}
 
@@ -146,11 +147,13 @@ pub record Attended (t : Tells) (m : ℕ) (H : List Event) (service : Service) (
   pub roles : AreFor service.role service.rounds
   pub role : ClosesFor service.role service.close
 
--- what they do to the journal, and with the orchestrator and the infrastructure, too; the manager is now n
+-- What they do to the journal, and with the orchestrator and the infrastructure, too; the manager is now n. From the telling of each reply on no
+-- stop takes back the history behind it.
 pub record Makes (t : Tells) (asked : Type 0) (m : ℕ) (H : List Event) (service : Service) (n : Managed) (w v : World) (a b : Around) : Type 0 where
   pub works : WorksWithJobs t.site m H (service_work m H service) n w.site v.site
   pub attended : Attended t m H service (peers_of w) (peers_of v)
   pub asks : AsksOutside (asking t.site asked) m H service a b
+  pub told : AreTold t.site m (told_by m H (serving service)) w.mouth.told v.mouth.told w.site v.site
 
 -- what came of asking the door: a visit in which the disk didn't fail, or the rounds ended so
 pub data Met : Type 0 where
@@ -161,6 +164,11 @@ pub data Met : Type 0 where
 abbrev pub met_work : ℕ → List Event → Met → Work
 met_work m H (visited visit) = went (once_served m H visit)
 met_work m H (over c) = close_work m H c
+
+-- the histories behind what is told in it
+abbrev pub told_in_met : ℕ → List Event → Met → List (List Event)
+told_in_met m H (visited visit) = told_in_visit m H visit
+told_in_met m H (over c) = told_at_close m H c
 
 abbrev pub MetDoes : Tells → ℕ → List Event → Met → Peers → Peers → Type 0
 MetDoes t m H (visited visit) a b = VisitDoes t m H visit a b
@@ -187,6 +195,7 @@ IsMet answer other = ⊥
 pub record Meets (t : Tells) (m : ℕ) (H : List Event) (met : Met) (n : Managed) (w v : World) : Type 0 where
   pub works : Works t.site m H (met_work m H met) n w.site v.site
   pub does : MetDoes t m H met (peers_of w) (peers_of v)
+  pub told : AreTold t.site m (told_in_met m H met) w.mouth.told v.mouth.told w.site v.site
 
 -- what came of asking for one round more: it was made, or they ended so
 pub data One : Type 0 where
@@ -197,6 +206,11 @@ pub data One : Type 0 where
 abbrev pub one_work : ℕ → List Event → One → Work
 one_work m H (round r) = went (once_made m H r)
 one_work m H (end c) = close_work m H c
+
+-- the histories behind what is told in it
+abbrev pub told_in_one : ℕ → List Event → One → List (List Event)
+told_in_one m H (round r) = told_in_visit m H r.visit
+told_in_one m H (end c) = told_at_close m H c
 
 abbrev pub OneDoes : Tells → ℕ → List Event → One → Peers → Peers → Type 0
 OneDoes t m H (round r) a b = RoundDoes t m H r a b
@@ -227,3 +241,4 @@ pub record MakesOne (t : Tells) (asked : Type 0) (m : ℕ) (H : List Event) (one
   pub works : WorksWithJobs t.site m H (one_work m H one) n w.site v.site
   pub does : OneDoes t m H one (peers_of w) (peers_of v)
   pub asks : OneAsks (asking t.site asked) m H one a b
+  pub told : AreTold t.site m (told_in_one m H one) w.mouth.told v.mouth.told w.site v.site

@@ -1,5 +1,6 @@
 -- What a run does to the journal's file, the door and the clock, and with the orchestrator and the infrastructure.
 use Rattle.std.specs.Prelude.{◌≡◌, ◌<◌, ◌⊎◌, ℕ, List, false}
+use Rattle.executor.specs.Chain.{AreTold}
 use Rattle.executor.specs.History.{HasHistory}
 use Rattle.executor.specs.Open.{Refuses}
 use Rattle.executor.specs.Work.{Work, Works, WorksWithJobs, Grows, HasSome, StaysSound, aimed, failed, stood}
@@ -16,7 +17,7 @@ use Rattle.site_traits.specs.Counts.{Rose}
 use Rattle.site_traits.specs.Door.{DoorCounts}
 use Rattle.site_traits.specs.Site.{Pair, SiteState, IsSettled, KeepsJobs, LeavesOnly}
 use Rattle.lcm_sessions.specs.Doing.{BringsIn}
-use Rattle.vnfm_commands.specs.Course.{Course, misused, starved, making, unopened, opened, Deed, serving, onboarding, Opening, deed_work, service_work, IsOfWords}
+use Rattle.vnfm_commands.specs.Course.{Course, misused, starved, making, unopened, opened, Deed, serving, onboarding, Opening, deed_work, service_work, told_by, IsOfWords}
 use Rattle.occ_work.specs.Around.{Around, Tells as Asking}
 use Rattle.lcm_sessions.specs.Onboarding.{onboarding_work}
 use Rattle.vnfm_commands.specs.Rounds.{AsksNobody, AsksOutside, Attended}
@@ -107,6 +108,7 @@ DeedWorks tells m H (onboarding o) n a b = Works tells m H (onboarding_work H o)
 pub record Deeds (t : Tells) (m : ℕ) (H : List Event) (deed : Deed) (n : Managed) (w v : World) : Type 0 where
   pub works : DeedWorks t.site m H deed n w.site v.site
   pub peers : AtPeersBy t (record { number = m; history = H }) deed (peers_of w) (peers_of v)
+  pub told : AreTold t.site m (told_by m H deed) w.mouth.told v.mouth.told w.site v.site
 
 -- what a run does to both
 abbrev pub AtPeers : Tells → Course → Peers → Peers → Type 0
@@ -146,12 +148,18 @@ abbrev pub AtJobs : Course → SiteState → SiteState → Type 0
 AtJobs (opened start deed) a b = AtJobsBy deed a b
 AtJobs other a b = KeepsJobs a b
 
+-- what was told in a run, and since when: from the telling of each reply on no stop takes back the history behind it
+abbrev pub ToldIn : Type 0 → Course → List ℕ → List ℕ → SiteState → SiteState → Type 0
+ToldIn tells (opened start deed) before now a b = AreTold tells start.number (told_by start.number start.history deed) before now a b
+ToldIn tells other before now a b = now ≡ before
+
 -- what a run does, by the way that it went
 pub record Does (t : Tells) (course : Course) (w v : World) : Type 0 where
   pub legal : IsLegalCourse course
   pub site : t.site → AtFile course w.site v.site
   pub jobs : t.site → AtJobs course w.site v.site
   pub peers : AtPeers t course (peers_of w) (peers_of v)
+  pub told : ToldIn t.site course w.mouth.told v.mouth.told w.site v.site
 
 -- a run of these words went so
 pub record Runs (t : Tells) (words : List (List ℕ)) (course : Course) (w v : World) : Type 0 where

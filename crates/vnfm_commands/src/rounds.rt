@@ -11,7 +11,7 @@ ghost use Rattle.vnfm_commands.specs.Course.{IsCount, Service, Turning, close_en
 ghost use Rattle.vnfm_commands.specs.Rounds.{IsMet, IsOne, Makes, MakesOne, Meets, Met, MetFor, One, OneFor, IsTurned, beside};
 
 use crate::ending::{Ending, Failure, Report};
-use executor::{Manager, WorkFault, works_add_up, works_with_jobs_add_up};
+use executor::{Manager, WorkFault, what_was_told_of_stays, works_add_up, works_with_jobs_add_up};
 use lcm_api::Mouth;
 use lcm_events::Role;
 use lcm_sessions::{Closed, answer_session};
@@ -46,6 +46,7 @@ pub fn make_rounds<S: Site, D: Door, O: Orchestrator, K: Clock>(
 {
     works_add_up::<S>();
     works_with_jobs_add_up::<S>();
+    what_was_told_of_stays::<S>();
     let mut made = 0;
     'rounds: while made < count {
         match make_round(alloc, manager, site, mouth, orchestrator, clock, role) {
@@ -76,6 +77,7 @@ fn make_round<S: Site, D: Door, O: Orchestrator, K: Clock>(
 {
     works_add_up::<S>();
     works_with_jobs_add_up::<S>();
+    what_was_told_of_stays::<S>();
     match meet(alloc, manager, site, mouth, clock, role) {
         Ok(()) => take_turn(alloc, manager, site, orchestrator, clock),
         Err(why) => Err(why),

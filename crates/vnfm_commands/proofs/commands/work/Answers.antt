@@ -9,14 +9,14 @@ use Rattle.vnfm_commands.proofs.commands.work.Goals as goal
 pub returns-in_ok-onboard-in-Onboard-clause-deeds : goal.returns-in_ok-onboard-in-Onboard-clause-deeds
 returns-in_ok-onboard-in-Onboard-clause-deeds g c = λ H ready.
     let it = c.in_ok-onboard-in-Onboard.ensures.onboards H ready in
-    (onboarding it.0, c.in-Onboard.is, record { works = it.1.works; peers = it.1.brings }, asks_nobody _ _ _ _ _ _ _ _ it.1.works.jobs c.in_ok-onboard-in-Onboard.ensures.disk, ap onboarding_ending it.2)
+    (onboarding it.0, c.in-Onboard.is, record { works = it.1.works; peers = it.1.brings; told = it.1.brings.unnoted }, asks_nobody _ _ _ _ _ _ _ _ it.1.works.jobs c.in_ok-onboard-in-Onboard.ensures.disk, ap onboarding_ending it.2)
 
 pub returns-in_err-onboard-in-Onboard-clause-deeds : goal.returns-in_err-onboard-in-Onboard-clause-deeds
 returns-in_err-onboard-in-Onboard-clause-deeds g c = λ H ready.
     let it = c.in_err-onboard-in-Onboard.ensures.onboards H ready in
     let r = c.from_residual in
     let err = err_from_is_err_and r.result r.ensures.1 in
-    (onboarding it.0, c.in-Onboard.is, record { works = it.1.works; peers = it.1.brings }, asks_nobody _ _ _ _ _ _ _ _ it.1.works.jobs c.in_err-onboard-in-Onboard.ensures.disk, err.1 ∙ ap Err err.2 ∙ ap onboarding_ending it.2)
+    (onboarding it.0, c.in-Onboard.is, record { works = it.1.works; peers = it.1.brings; told = it.1.brings.unnoted }, asks_nobody _ _ _ _ _ _ _ _ it.1.works.jobs c.in_err-onboard-in-Onboard.ensures.disk, err.1 ∙ ap Err err.2 ∙ ap onboarding_ending it.2)
 
 pub returns-in_err-onboard-in-Onboard-clause-disk : goal.returns-in_err-onboard-in-Onboard-clause-disk
 returns-in_err-onboard-in-Onboard-clause-disk g c =
@@ -33,4 +33,4 @@ returns-in_ok-onboard-in-Onboard-clause-untouched_jobs g c = λ other. alike_of 
 pub returns-in-Once-clause-deeds : goal.returns-in-Once-clause-deeds
 returns-in-Once-clause-deeds g c = λ H ready.
     let it = c.make_rounds.ensures.makes H ready in
-    (serving it.0, record { command = c.in-Once.is; role = it.2; count = it.3 }, record { works = it.1.works; peers = it.1.attended }, it.1.asks, it.4)
+    (serving it.0, record { command = c.in-Once.is; role = it.2; count = it.3 }, record { works = it.1.works; peers = it.1.attended; told = it.1.told }, it.1.asks, it.4)

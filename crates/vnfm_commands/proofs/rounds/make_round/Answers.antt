@@ -11,7 +11,7 @@ take_turn-requires g c = record { ready = ready_met _ _ _ _ _ _ (c.works_add_up.
 pub returns-in-Ok-clause-makes : goal.returns-in-Ok-clause-makes
 returns-in-Ok-clause-makes g c = λ H ready.
     made_by _ _ _ _ _ _ _ _ _ _ _ _ _ _ _ _ (c.works_add_up.ensures.leads c.args.site.now c.meet.new.site) (c.works_with_jobs_add_up.ensures.works c.args.site.now c.meet.new.site)
-    (c.works_with_jobs_add_up.ensures.joins c.args.site.now c.meet.new.site c.take_turn.new.site) (λ G now. c.in-Ok.ensures.meets G now) c.in-Ok.ensures.disk
+    (c.what_was_told_of_stays.ensures.joins c.args.site.now c.meet.new.site c.take_turn.new.site) (c.works_with_jobs_add_up.ensures.joins c.args.site.now c.meet.new.site c.take_turn.new.site) (λ G now. c.in-Ok.ensures.meets G now) c.in-Ok.ensures.disk
     (λ G now. c.take_turn.ensures.turns G now) H ready
 
 pub returns-in-Err-clause-makes : goal.returns-in-Err-clause-makes

@@ -14,7 +14,7 @@ make_round-requires g c = record { ready = ready_so_far _ _ _ _ _ _ _ _ _ _ c.ro
 pub rounds-preserved : goal.rounds-preserved
 rounds-preserved g c =
     let less = c.rounds-test.true in (
-      one_round_more _ _ _ _ _ _ _ _ _ _ _ _ _ c.rounds.invariant.0 (c.works_with_jobs_add_up.ensures.leads c.args.site.now c.rounds.site) (c.works_with_jobs_add_up.ensures.joins c.args.site.now c.rounds.site c.make_round.new.site) (λ H ready. c.in-Ok.ensures.makes H ready),
+      one_round_more _ _ _ _ _ _ _ _ _ _ _ _ _ c.rounds.invariant.0 (c.works_with_jobs_add_up.ensures.leads c.args.site.now c.rounds.site) (c.works_with_jobs_add_up.ensures.joins c.args.site.now c.rounds.site c.make_round.new.site) (c.what_was_told_of_stays.ensures.joins c.args.site.now c.rounds.site c.make_round.new.site) (λ H ready. c.in-Ok.ensures.makes H ready),
       disk_last ⊥ _ _ _ c.rounds.invariant.1 (disk_as _ ⊥ _ _ c.in-Ok.ensures.disk (λ wrong. cc wrong) (λ wrong. absurd wrong)),
       omega (arith, less),
       refl,
@@ -23,7 +23,7 @@ rounds-preserved g c =
 
 pub returns-in-Err-clause-makes : goal.returns-in-Err-clause-makes
 returns-in-Err-clause-makes g c = λ H ready.
-    rounds_ended _ _ c.args.role _ _ _ _ c.args.count _ _ _ _ _ _ _ c.rounds.invariant.0 (c.works_with_jobs_add_up.ensures.leads c.args.site.now c.rounds.site) (c.works_with_jobs_add_up.ensures.joins c.args.site.now c.rounds.site c.make_round.new.site) c.rounds-test.true (λ G now. c.in-Err.ensures.makes G now) H ready
+    rounds_ended _ _ c.args.role _ _ _ _ c.args.count _ _ _ _ _ _ _ c.rounds.invariant.0 (c.works_with_jobs_add_up.ensures.leads c.args.site.now c.rounds.site) (c.works_with_jobs_add_up.ensures.joins c.args.site.now c.rounds.site c.make_round.new.site) (c.what_was_told_of_stays.ensures.joins c.args.site.now c.rounds.site c.make_round.new.site) c.rounds-test.true (λ G now. c.in-Err.ensures.makes G now) H ready
 
 pub returns-clause-makes : goal.returns-clause-makes
 returns-clause-makes g c = λ H ready.

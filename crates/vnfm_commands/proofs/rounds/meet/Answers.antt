@@ -13,7 +13,7 @@ returns-in-Ok-clause-meets g c = λ H ready.
     let it = c.in-Ok.ensures.serves H ready in
     let v : World = world (g.S.Site.state c.answer_session.new.site) c.answer_session.new.mouth (g.K.Clock.state c.answer_session.new.clock) in (
       visited (served c.in-Came.field-0 it.0),
-      met_served _ _ H c.in-Came.field-0 it.0 _ _ c.args.mouth.now c.next.new.self _ v c.in-Came.ensures.told c.in-Came.ensures.cause c.next.ensures.begins it.1 it.3.1,
+      met_served _ _ H c.in-Came.field-0 it.0 _ _ c.args.mouth.now c.next.new.self _ v c.in-Came.ensures.told c.in-Came.ensures.cause c.next.ensures.begins c.next.ensures.unnoted it.1 it.3.1,
       it.2,
       tt,
     )
@@ -23,7 +23,7 @@ returns-in-Err-clause-meets g c = λ H ready.
     let it = c.in-Err.ensures.serves H ready in
     let v : World = world (g.S.Site.state c.answer_session.new.site) c.answer_session.new.mouth (g.K.Clock.state c.answer_session.new.clock) in (
       over (stopped c.in-Came.field-0 it.0),
-      met_stopped _ _ H c.in-Came.field-0 it.0 _ _ c.args.mouth.now c.next.new.self _ v c.in-Came.ensures.told c.in-Came.ensures.cause c.next.ensures.begins it.1 it.3,
+      met_stopped _ _ H c.in-Came.field-0 it.0 _ _ c.args.mouth.now c.next.new.self _ v c.in-Came.ensures.told c.in-Came.ensures.cause c.next.ensures.begins c.next.ensures.unnoted it.1 it.3,
       it.2,
       refl,
     )
@@ -31,7 +31,7 @@ returns-in-Err-clause-meets g c = λ H ready.
 pub returns-in-Nobody-clause-meets : goal.returns-in-Nobody-clause-meets
 returns-in-Nobody-clause-meets g c = λ H ready. (
   visited unasked,
-  met_nobody _ _ H Nobody _ c.args.mouth.now c.next.new.self _ (c.works_add_up.ensures.idles c.args.site.now) ready (inl refl) c.in-Nobody.ensures.told c.in-Nobody.ensures.cause,
+  met_nobody _ _ H Nobody _ c.args.mouth.now c.next.new.self _ (c.works_add_up.ensures.idles c.args.site.now) ready (inl refl) c.in-Nobody.ensures.told c.in-Nobody.ensures.cause c.next.ensures.unnoted,
   tt,
   tt,
 )
@@ -39,7 +39,7 @@ returns-in-Nobody-clause-meets g c = λ H ready. (
 pub returns-in-Ended-clause-meets : goal.returns-in-Ended-clause-meets
 returns-in-Ended-clause-meets g c = λ H ready. (
   visited unasked,
-  met_nobody _ _ H Ended _ c.args.mouth.now c.next.new.self _ (c.works_add_up.ensures.idles c.args.site.now) ready (inr refl) c.in-Ended.ensures.told c.in-Ended.ensures.cause,
+  met_nobody _ _ H Ended _ c.args.mouth.now c.next.new.self _ (c.works_add_up.ensures.idles c.args.site.now) ready (inr refl) c.in-Ended.ensures.told c.in-Ended.ensures.cause c.next.ensures.unnoted,
   tt,
   tt,
 )
@@ -47,7 +47,7 @@ returns-in-Ended-clause-meets g c = λ H ready. (
 pub returns-in-Failed-clause-meets : goal.returns-in-Failed-clause-meets
 returns-in-Failed-clause-meets g c = λ H ready. (
   over unreached,
-  met_unreached _ _ H _ c.args.mouth.now c.next.new.self _ (c.works_add_up.ensures.idles c.args.site.now) ready c.in-Failed.ensures.told c.in-Failed.ensures.cause,
+  met_unreached _ _ H _ c.args.mouth.now c.next.new.self _ (c.works_add_up.ensures.idles c.args.site.now) ready c.in-Failed.ensures.told c.in-Failed.ensures.cause c.next.ensures.unnoted,
   tt,
   refl,
 )
