@@ -1,12 +1,15 @@
 -- What a stop leaves of a run, from what the run does to the site.
-use Rattle.std.proofs.Common.{◌≡◌, ◌∙◌, ◌<◌, ℕ, List, [], ◌∷◌, Result, inl, subst, sym, refl, arith}
+use Rattle.std.proofs.Common.{◌≡◌, ◌∙◌, ◌<◌, ◌⊎◌, ℕ, List, [], ◌∷◌, Result, inl, inr, subst, sym, refl, arith, ⊎_elim}
 use Rattle.command_line.specs.declared.options.Command.TheVariants.{Init, Onboard, Once}
+use Rattle.executor.specs.Chain.{AreTold, StaysSince}
 use Rattle.executor.specs.History.{HasHistory, spellings}
 use Rattle.executor.specs.Laws.{HasOneHistory}
-use Rattle.executor.specs.Work.{Extends, HasSomeSound, Work, aimed}
+use Rattle.executor.specs.Work.{Extends, HasSomeSound, StaysSound, Work, aimed}
 use Rattle.journal_core.specs.Create.{Creates, IsMade, IsMaking}
+use Rattle.journal_core.specs.Header.{IsUnfinished}
 use Rattle.journal_core.specs.Exclusion.{IsWholeOrUnmade}
 use Rattle.journal_core.specs.Load.{SyncsAndReads}
+use Rattle.journal_records.specs.File.{HasRecords}
 use Rattle.journal_core.specs.declared.create.CreateFault.{CreateFault}
 use Rattle.lcm_events.specs.declared.events.Event.{Event}
 use Rattle.lcm_jobs.specs.Keeping.{JobsMayEnd}
@@ -15,9 +18,9 @@ use Rattle.lcm_model.specs.Work.{window}
 use Rattle.site_traits.specs.Jobs.{Advances, Job}
 use Rattle.site_traits.specs.Moments.{goes_on, joined, started, weakened}
 use Rattle.site_traits.specs.Site.{FileStep, HasItsJobs, KeepsJobs, LeavesOnly, Pair, Same, SiteState}
-use Rattle.vnfm_commands.specs.Course.{Course, misused, starved, making, unopened, opened, serving, onboarding, deed_work, IsOfWords}
-use Rattle.vnfm_cli.specs.Headline.{IsFresh, IsFreshPair, IsLeftWith, IsSoundBeginning, IsSoundPair, SoundJobsMakeSoundPairs}
-use Rattle.vnfm_commands.specs.Runs.{AtFile, AtJobs, IsLegalCourse, IsUntouched, Recovers}
+use Rattle.vnfm_commands.specs.Course.{Course, misused, starved, making, unopened, opened, serving, onboarding, Deed, deed_work, told_by, told_of, IsOfWords}
+use Rattle.vnfm_cli.specs.Headline.{AreStanding, IsFresh, IsFreshPair, IsLeftWith, IsSoundBeginning, IsSoundPair, SoundJobsMakeSoundPairs, StandsSince}
+use Rattle.vnfm_commands.specs.Runs.{AtFile, AtJobs, IsLegalCourse, IsUntouched, Recovers, ToldIn}
 use Rattle.vnfm_commands.specs.Words.{AreInit}
 use Rattle.vnfm_cli.proofs.ExactLemmas.{commanded, never_served, never_unopened, of_init}
 
@@ -48,15 +51,59 @@ module _ (whole : IsWholeOrUnmade) (once : HasOneHistory) (may_end : JobsMayEnd)
       pairs m H was.history p was.number was.kept (subst (λ (image : List ℕ). HasHistory m was.history image) (sym step.image) was.file)
       (may_end window m was.history q.jobs p.jobs was.sound step.jobs))
 
-  -- what was opened is what the beginning has, and the work behind it leaves sound pairs
+  -- what was opened is what the beginning has, and so is its number
+  recovers_it : (m n : ℕ) (H G : List Event) (w : Work) (a b : SiteState) → n < 4294967296 → Recovers n G w a b → IsSoundBeginning m H a
+      → (m ≡ n) × Recovers m H w a b
+  recovers_it m n H G w a b small found start =
+      let same = once m n H G a.image start.start.start.number small start.start.start.file found.found in
+      let number : Recovers m G w a b = subst (λ (k : ℕ). Recovers k G w a b) (sym same.0) found in
+      (same.0, subst (λ (K : List Event). Recovers m K w a b) (sym same.1) number)
+
+  -- and the work behind it leaves sound pairs
   recovery_leaves : (m n : ℕ) (H G : List Event) (w : Work) (a b : SiteState) → n < 4294967296 → Recovers n G w a b → IsSoundBeginning m H a
       → LeavesOnly (IsSoundPair m H) a b
   recovery_leaves m n H G w a b small found start =
-      let same = once m n H G a.image start.start.start.number small start.start.start.file found.found in
-      let number : Recovers m G w a b = subst (λ (k : ℕ). Recovers k G w a b) (sym same.0) found in
-      let it : Recovers m H w a b = subst (λ (K : List Event). Recovers m K w a b) (sym same.1) number in
-      weakened (IsSoundPair m H) (HasSomeSound m H (aimed w)) a b (it.sound start.start.start start.sound).any_moment
+      weakened (IsSoundPair m H) (HasSomeSound m H (aimed w)) a b
+      ((recovers_it m n H G w a b small found start).1.sound start.start.start start.sound).any_moment
       (λ p some. pairs m H some.history p start.start.start.number some.from some.file some.sound)
+
+  -- of what was told of, a stop since leaves sound pairs
+  stands_since : (m : ℕ) (H G : List Event) (moment : ℕ) (w : Work) (a b : SiteState) → m < 4294967296 → StaysSound m H w a b
+      → StaysSince m G moment a b → StandsSince m G moment a b
+  stands_since m H G moment w a b small sound stays = record {
+    behind = stays.behind;
+    before = stays.before;
+    left = λ p left.
+        let has = stays.left p left in
+        let some = sound.any_moment.each p (b.earlier a.moment moment p stays.behind left) in
+        let same = once m m some.history has.history p.image small small some.file has.file in
+        pairs m G has.history p small has.from has.file (subst (λ (K : List Event). IsSound m K p.jobs) same.1 some.sound);
+  }
+
+  are_standing : (tells : Type 0) (m : ℕ) (H : List Event) (histories : List (List Event)) (before now : List ℕ) (w : Work) (a b : SiteState) → tells → m < 4294967296
+      → StaysSound m H w a b → AreTold tells m histories before now a b → AreStanding m histories before now a b
+  are_standing tells m H [] before now w a b told small sound are = are
+  are_standing tells m H (G ∷ earlier) before now w a b told small sound are = (
+    are.0,
+    are.1,
+    are.2,
+    stands_since m H G are.0 w a b small sound (are.3 told),
+    are_standing tells m H earlier before are.1 w a b told small sound are.4,
+  )
+
+  -- all that was acknowledged stands since
+  pub acknowledged : (tells : Type 0) → tells → (course : Course) (before now : List ℕ) (a b : SiteState) → AtFile course a b → IsLegalCourse course
+      → ToldIn tells course before now a b → (m : ℕ) (H : List Event) → IsSoundBeginning m H a → AreStanding m (told_of course) before now a b
+  acknowledged tells told misused before now a b at legal are m H start = are
+  acknowledged tells told starved before now a b at legal are m H start = are
+  acknowledged tells told (making number result) before now a b at legal are m H start = are
+  acknowledged tells told (unopened why) before now a b at legal are m H start = are
+  acknowledged tells told (opened begun deed) before now a b at legal are m H start =
+      let w : Work = deed_work begun.number begun.history deed in
+      let histories : List (List Event) = told_by begun.number begun.history deed in
+      let it = recovers_it m begun.number H begun.history w a b legal.number at start in
+      are_standing tells m H histories before now w a b told start.start.start.number (it.1.sound start.start.start start.sound)
+      (subst (λ (k : ℕ). AreTold tells k histories before now a b) (sym it.0) are)
 
   -- from a sound beginning a stop leaves sound pairs, whatever the run
   pub leaves_sound : (course : Course) (a b : SiteState) → AtFile course a b → IsLegalCourse course → (m : ℕ) (H : List Event) → IsSoundBeginning m H a
@@ -123,3 +170,18 @@ made_begins m s small made none =
       };
       sound = subst (λ (js : List Job). IsSound m [] js) (sym none) (record { legal = tt; begun = tt; ended = λ x is. absurd is });
     }
+
+-- what a stopped `init` leaves is a fresh start of it, or a sound beginning without an event
+pub init_goes_on : (m : ℕ) (p : Pair) (s : SiteState) → m < 4294967296 → IsFreshPair m p → IsLeftWith p s → IsFresh m s ⊎ IsSoundBeginning m [] s
+init_goes_on m p s small fresh left =
+    let none : s.jobs ≡ [] = no_job s.jobs (subst (λ (js : List Job). Advances js s.jobs) fresh.jobless left.jobs) in
+    ⊎_elim
+    (λ (unfinished : IsUnfinished m p.image).
+    let here : IsUnfinished m s.image = subst (λ (image : List ℕ). IsUnfinished m image) (sym left.file) unfinished in
+    inl (record {
+      file = record { each = λ q now. subst (λ (image : List ℕ). IsUnfinished m image) (sym (left.settled.image q now)) here };
+      jobless = none;
+    }))
+    (λ (made : HasRecords m [] p.image).
+    inr (made_begins m s small (record { settled = left.settled; file = subst (λ (image : List ℕ). HasRecords m [] image) (sym left.file) made }) none))
+    fresh.file.file

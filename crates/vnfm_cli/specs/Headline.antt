@@ -1,5 +1,6 @@
--- What a stop leaves, whenever it comes in a run: a journal that has all that it had, and resources that are just those of its history.
-use Rattle.std.specs.Prelude.{List, [], false, ℕ, ◌<◌, ◌≡◌}
+-- What a stop leaves, whenever it comes in a run: a journal that has all that it had and all that was acknowledged before the stop, and resources
+-- that are just those of its history.
+use Rattle.std.specs.Prelude.{List, [], ◌∷◌, false, ℕ, ◌<◌, ◌≤◌, ◌≡◌}
 use Rattle.executor.specs.History.{HasHistory}
 use Rattle.executor.specs.Work.{Extends}
 use Rattle.journal_core.specs.Create.{IsMaking, MayBeMade}
@@ -56,6 +57,20 @@ pub record IsSoundPair (m : ℕ) (H : List Event) (p : Pair) : Type 0 where
 abbrev pub SoundJobsMakeSoundPairs : Type 0
 SoundJobsMakeSoundPairs =
     (m : ℕ) (H K : List Event) (p : Pair) → m < 4294967296 → Extends H K → HasHistory m K p.image → IsSound m K p.jobs → IsSoundPair m H p
+
+-- At this moment, between these two states of the site, history G had been reached, and whatever a stop since leaves is sound from it on: nothing
+-- of it is lost (own rule).
+pub record StandsSince (m : ℕ) (G : List Event) (moment : ℕ) (a b : SiteState) : Type 0 where
+  pub behind : a.moment ≤ moment
+  pub before : moment ≤ b.moment
+  pub left : (p : Pair) → b.since moment p → IsSoundPair m G p
+
+-- Between these two states of the site these histories were told of, the latest first, each at one of the moments that were noted since those
+-- before, and each stands since its moment. Nothing else was told of (own rule).
+abbrev pub AreStanding : ℕ → List (List Event) → List ℕ → List ℕ → SiteState → SiteState → Type 0
+AreStanding m [] before now a b = now ≡ before
+AreStanding m (G ∷ earlier) before now a b =
+    (moment : ℕ) × (noted : List ℕ) × (now ≡ moment ∷ noted) × StandsSince m G moment a b × AreStanding m earlier before noted a b
 
 -- a site before its journal is made: a stop now leaves only files that are unfinished for this manager, and there is no job (own rule)
 pub record IsFresh (manager : ℕ) (s : SiteState) : Type 0 where

@@ -15,7 +15,7 @@ use Rattle.site_traits.specs.Site.{Pair, SiteState}
 use Rattle.vnfm_commands.specs.Course.{Course, ending_of}
 use Rattle.vnfm_cli.specs.DoorFaults.{AreCounted, door_faults}
 use Rattle.vnfm_commands.specs.Ending.{Ending, Ends}
-use Rattle.vnfm_cli.specs.Headline.{IsLeftWith, IsSoundBeginning, IsSoundPair}
+use Rattle.vnfm_cli.specs.Headline.{IsFresh, IsFreshPair, IsLeftWith, IsSoundBeginning, IsSoundPair}
 use Rattle.vnfm_commands.specs.Rounds.{Receives}
 use Rattle.vnfm_commands.specs.Runs.{AtPeers, Runs}
 use Rattle.vnfm_commands.specs.Words.{AreInit}
@@ -62,6 +62,12 @@ AnswersAreWhole t = (m : ℕ) (H : List Event) (came : Role) (talk : Talk) (a b 
 abbrev pub LivesGoOn : {S : Type 0} → (S → SiteState) → Type 0
 LivesGoOn {S} state = (m : ℕ) (H : List Event) (p : Pair) (s : S) → IsSoundPair m H p → IsLeftWith p (state s)
     → (K : List Event) × Extends H K × IsSoundBeginning m K (state s)
+
+-- Whatever a stopped `init` leaves, the next `init` begins freshly, or the journal is made: then the next run begins soundly, with no event (own
+-- rule).
+abbrev pub InitsGoOn : {S : Type 0} → (S → SiteState) → Type 0
+InitsGoOn {S} state = (m : ℕ) (p : Pair) (s : S) → m < 4294967296 → IsFreshPair m p → IsLeftWith p (state s)
+    → IsFresh m (state s) ⊎ IsSoundBeginning m [] (state s)
 
 -- a site whose journal was just made, without a job, is a sound beginning, with no event (own rule)
 abbrev pub MadeJournalsBeginSoundly : {S : Type 0} → (S → SiteState) → Type 0

@@ -1,7 +1,7 @@
 //! What holds of every run, as contracts of calls that do nothing.
 ghost use Rattle.lcm_api.specs.World.{telling};
 ghost use Rattle.vnfm_cli.specs.Headline.{SoundJobsMakeSoundPairs};
-ghost use Rattle.vnfm_cli.specs.Laws.{AnswersAreWhole, DiskFaultsAreTold, DoorFaultsAreCounted, InitMakes, LivesGoOn, MadeJournalsBeginSoundly, OneLineIsPut};
+ghost use Rattle.vnfm_cli.specs.Laws.{AnswersAreWhole, DiskFaultsAreTold, DoorFaultsAreCounted, InitMakes, InitsGoOn, LivesGoOn, MadeJournalsBeginSoundly, OneLineIsPut};
 
 use lcm_jobs::{
     changes_stand_at_most_once, completed_stands_once, idle_instances_have_no_job_standing,
@@ -58,8 +58,8 @@ pub fn sound_jobs_make_sound_pairs()
     idle_instances_have_no_job_standing();
 }
 
-/// A life goes on from whatever a stop left of the one before it, with all that it had, so that the headline of `run` holds of any number of
-/// lives.
+/// A life goes on from whatever a stop left of the one before it, with all that it had and all that it had acknowledged by then, so that the
+/// headline of `run` holds of any number of lives.
 ///
 /// Source: own rule.
 pub fn lives_go_on<S: Site>()
@@ -67,6 +67,13 @@ pub fn lives_go_on<S: Site>()
 {
     jobs_may_end();
 }
+
+/// A life begins with `init`, whatever a stop left of it: what is there is a fresh start of `init` again, or a sound beginning without an event.
+///
+/// Source: own rule.
+pub fn inits_go_on<S: Site>()
+    ensures { InitsGoOn S.state }
+{}
 
 /// A site on which a journal was just made, and no job, is a sound beginning.
 ///

@@ -7,7 +7,8 @@ mod top;
 pub use command_line::{Command, Settings, SettingsFault, settings};
 pub use laws::{
     answers_are_whole, disk_faults_are_told, door_faults_are_counted, init_makes_the_journal,
-    lives_go_on, made_journals_begin_soundly, one_line_is_put, sound_jobs_make_sound_pairs,
+    inits_go_on, lives_go_on, made_journals_begin_soundly, one_line_is_put,
+    sound_jobs_make_sound_pairs,
 };
 pub use top::run;
 pub use vnfm_commands::{Ending, Failure, Report};

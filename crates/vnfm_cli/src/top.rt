@@ -8,8 +8,8 @@ ghost use Rattle.occ_work.specs.Around.{CountJobsAlike, DiskFails, telling as as
 ghost use Rattle.site_traits.specs.Counts.{Rose};
 ghost use Rattle.site_traits.specs.Site.{LeavesOnly};
 ghost use Rattle.vnfm_cli.specs.Causes.{HasCauses};
-ghost use Rattle.vnfm_cli.specs.Headline.{IsFresh, IsFreshPair, IsSoundBeginning, IsSoundPair};
-ghost use Rattle.vnfm_commands.specs.Course.{Course, ending_of};
+ghost use Rattle.vnfm_cli.specs.Headline.{AreStanding, IsFresh, IsFreshPair, IsSoundBeginning, IsSoundPair};
+ghost use Rattle.vnfm_commands.specs.Course.{Course, ending_of, told_of};
 ghost use Rattle.vnfm_commands.specs.Ending.{Ends};
 ghost use Rattle.vnfm_commands.specs.Rounds.{beside};
 ghost use Rattle.vnfm_commands.specs.Runs.{IsDoorCause, IsStartOf, MayEndWith, AtOutside, Runs};
@@ -38,7 +38,8 @@ use vnfm_commands::{finish, obey};
 ///   was answered. Rounds go on where nobody comes any more.
 ///
 /// From a sound beginning a stop leaves, whenever it comes, a journal with all that it had and jobs that are sound with it: each change stands
-/// at most once, and none ungranted.
+/// at most once, and none ungranted. From the moment at which a reply was told on, whenever a stop comes, that journal has all that was done up
+/// to the reply.
 ///
 /// The orchestrator and the infrastructure are asked by `once` alone, the courier isn't asked yet, and `--orchestrator` and `--vim` are used
 /// by nothing.
@@ -67,6 +68,10 @@ pub fn run<S: Site, D: Door, O: Orchestrator, C: Courier, K: Clock, W: Sink>(
     ensures untouched { courier.new ≡ courier.old }
     ensures headline { S.tells → (m : ℕ) (H : List Event) → IsSoundBeginning m H (S.state site.old)
         → LeavesOnly (IsSoundPair m H) (S.state site.old) (S.state site.new) }
+    ensures acknowledged { S.tells → (m : ℕ) (H : List Event) → IsSoundBeginning m H (S.state site.old) → (course : Course)
+        × Runs (telling S.tells D.tells K.tells) words.now course
+        (world (S.state site.old) mouth.old (K.state clock.old)) (world (S.state site.new) mouth.new (K.state clock.new))
+        × AreStanding m (told_of course) mouth.old.told mouth.new.told (S.state site.old) (S.state site.new) }
     ensures beginning { S.tells → (m : ℕ) → AreInit m words.now → IsFresh m (S.state site.old)
         → LeavesOnly (IsFreshPair m) (S.state site.old) (S.state site.new) }
     ensures site { DiskFails (result ≡ 3) (S.counts site.old) (S.counts site.new) }

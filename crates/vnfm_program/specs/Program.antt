@@ -19,9 +19,9 @@ use Rattle.site_traits.specs.Counts.{Rose, SiteCounts}
 use Rattle.site_traits.specs.Site.{LeavesOnly, SiteState}
 use Rattle.standard_streams.specs.Numbers.{AreStreamsTaken, Numbers}
 use Rattle.vnfm_cli.specs.Causes.{HasCauses}
-use Rattle.vnfm_commands.specs.Course.{Course, ending_of}
+use Rattle.vnfm_commands.specs.Course.{Course, ending_of, told_of}
 use Rattle.vnfm_commands.specs.Ending.{Ends}
-use Rattle.vnfm_cli.specs.Headline.{IsFresh, IsFreshPair, IsSoundBeginning, IsSoundPair}
+use Rattle.vnfm_cli.specs.Headline.{AreStanding, IsFresh, IsFreshPair, IsSoundBeginning, IsSoundPair}
 use Rattle.vnfm_commands.specs.Runs.{IsDoorCause, IsStartOf, MayEndWith, Runs}
 use Rattle.command_line.specs.Words.{settings_of}
 use Rattle.vnfm_commands.specs.Words.{AreInit, AreWordsOf}
@@ -62,12 +62,15 @@ abbrev pub on_error : Outside → Ground
 on_error o = record { world = o.world; counts = o.counts; out = o.errors }
 
 -- One run of these words went over the ground, and put its line to its output. Where the site tells, a stop leaves, whenever it comes, what
--- the headline says: of a sound beginning sound pairs, and of a fresh site of `init` fresh ones.
+-- the headline says: of a sound beginning sound pairs, from the telling of each reply on with all that was done up to it, and of a fresh site of
+-- `init` fresh ones.
 pub record RunsOver (t : WorldTells) (out_tells : Type 0) (words : List (List ℕ)) (status : ℕ) (a b : Ground) : Type 0 where
   pub course : Course
   pub runs : Runs t words course a.world b.world
   pub ends : Ends out_tells (ending_of course) status a.out.bytes b.out.bytes a.out.counts b.out.counts
   pub headline : t.site → (m : ℕ) (H : List Event) → IsSoundBeginning m H a.world.site → LeavesOnly (IsSoundPair m H) a.world.site b.world.site
+  pub acknowledged : t.site → (m : ℕ) (H : List Event) → IsSoundBeginning m H a.world.site → (told : Course)
+      × Runs t words told a.world b.world × AreStanding m (told_of told) a.world.mouth.told b.world.mouth.told a.world.site b.world.site
   pub beginning : t.site → (m : ℕ) → AreInit m words → IsFresh m a.world.site → LeavesOnly (IsFreshPair m) a.world.site b.world.site
   pub disk : DiskFails (status ≡ 3) a.counts b.counts
   pub untouched_jobs : ¬ (AreWordsOf Once words) → CountJobsAlike a.counts b.counts

@@ -6,7 +6,7 @@ use Rattle.vnfm_commands.proofs.DiskLemmas.{disk_as, lost_line, one_fault}
 use Rattle.vnfm_cli.proofs.DoorLemmas.{course_fails, fails_with}
 use Rattle.vnfm_cli.proofs.EndingLemmas.{is_status, put_result, seven_lost, status_result, status_told, told_by, told_same, yields_result}
 use Rattle.vnfm_cli.proofs.ExactLemmas.{bad_record_ending, complete_ending, door_cause, no_journal_ending, taken_ending, told_bad_record, told_full, told_no_journal, told_refused, told_taken}
-use Rattle.vnfm_cli.proofs.HeadlineLemmas.{leaves_fresh, leaves_sound}
+use Rattle.vnfm_cli.proofs.HeadlineLemmas.{acknowledged, leaves_fresh, leaves_sound}
 use Rattle.vnfm_cli.proofs.top.run.Goals as goal
 
 pub returns-clause-runs : goal.returns-clause-runs
@@ -65,6 +65,15 @@ returns-clause-headline g c = λ tells m H start.
     let runs = c.obey-ending.ensures.runs in
     leaves_sound c.files_are_one_thing.ensures.unmade c.a_file_has_one_history.ensures c.jobs_may_end.ensures c.sound_jobs_make_sound_pairs.ensures runs.0
     (g.S.Site.state c.args.site.now) (g.S.Site.state c.obey-ending.new.site) (runs.1.does.site tells) runs.1.does.legal m H start
+
+pub returns-clause-acknowledged : goal.returns-clause-acknowledged
+returns-clause-acknowledged g c = λ tells m H start.
+    let runs = c.obey-ending.ensures.runs in (
+      runs.0,
+      runs.1,
+      acknowledged c.files_are_one_thing.ensures.unmade c.a_file_has_one_history.ensures c.jobs_may_end.ensures c.sound_jobs_make_sound_pairs.ensures _ tells runs.0
+          _ _ (g.S.Site.state c.args.site.now) (g.S.Site.state c.obey-ending.new.site) (runs.1.does.site tells) runs.1.does.legal runs.1.does.told m H start,
+    )
 
 pub returns-clause-beginning : goal.returns-clause-beginning
 returns-clause-beginning g c = λ tells m are fresh.
