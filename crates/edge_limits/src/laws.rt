@@ -1,0 +1,22 @@
+//! The limits, as the contract of a call that does nothing.
+ghost use Rattle.std.specs.Prelude.{◌≡◌};
+
+use crate::limits::{
+    BUSY, CONNECT, CONNECTION, INFRASTRUCTURE, LINGER, ORCHESTRATOR, POST, SILENCE_BEFORE,
+    SILENCE_WITHIN, STUCK, TAKEN, WHOLE,
+};
+use crate::pulse::{FIRST, IDLE, LONGEST};
+
+/// The limits are these, in milliseconds.
+///
+/// Source: own choice.
+pub fn limits_are_these()
+    ensures before { (SILENCE_BEFORE ≡ 200) × (CONNECTION ≡ 1000) × (BUSY ≡ 5000) }
+    ensures request { (SILENCE_WITHIN ≡ 2000) × (WHOLE ≡ 10000) }
+    ensures reply { (STUCK ≡ 2000) × (TAKEN ≡ 30000) × (LINGER ≡ 500) }
+    ensures connect { CONNECT ≡ 1000 }
+    ensures infrastructure { (INFRASTRUCTURE.silence ≡ 2000) × (INFRASTRUCTURE.whole ≡ 5000) }
+    ensures orchestrator { (ORCHESTRATOR.silence ≡ 5000) × (ORCHESTRATOR.whole ≡ 5000) }
+    ensures post { (POST.silence ≡ 5000) × (POST.whole ≡ 5000) }
+    ensures waits { (FIRST ≡ 10) × (LONGEST ≡ 1000) × (IDLE ≡ 1000) }
+{}
