@@ -1,6 +1,7 @@
 #!/usr/bin/env python3
 """Measures what serving a connection takes by the pieces that it comes in: by `vnfm once` over a pipe of packets, where a read gives one piece, so that a
-line that breaks off is gone on with at each of them. Processor time, with what the reads take of the system.
+line that breaks off is gone on with at each of them. Processor time, with what the reads take of the system; the first rows are of `wc -c`, which does nothing
+but read.
 
 usage: bench/session/pieces.py [VNFM]
 """
@@ -68,12 +69,12 @@ def written(connection, piece, end):
     os.close(end)
 
 
-def seconds(journal, connection, piece, answer):
-    """The processor time of the program over a connection in such pieces; it must tell this answer."""
+def seconds(command, connection, piece, answer):
+    """The processor time of a command over a connection in such pieces; it must tell this answer."""
     heard, told = os.pipe2(os.O_DIRECT)
     fcntl.fcntl(told, F_SETPIPE_SZ, MIB)
     before = measuring.used()
-    with subprocess.Popen([vnfm, "once", "--journal", journal], stdin=heard, stdout=subprocess.PIPE, stderr=subprocess.DEVNULL) as program:
+    with subprocess.Popen(command, stdin=heard, stdout=subprocess.PIPE, stderr=subprocess.DEVNULL) as program:
         os.close(heard)
         written(connection, piece, told)
         said = program.stdout.read()
@@ -90,19 +91,26 @@ def main():
 
         def cost(connection, piece, answer):
             shutil.copyfile(made, journal)
-            return seconds(journal, connection, piece, answer)
+            return seconds([vnfm, "once", "--journal", journal], connection, piece, answer)
+
+        def read_alone(connection, piece, answer):
+            return seconds(["wc", "-c"], connection, piece, answer)
+
+        def costs(shape, bytes, cost, answer):
+            whole = min(cost(bytes, 65_536, answer) for _ in range(3))
+            cells = []
+            for piece in reversed(PIECES):
+                took = min(cost(bytes, piece, answer) for _ in range(1 if piece == 1 else 3))
+                more = (took - whole) / (len(bytes) / piece - len(bytes) / 65_536)
+                cells.append(f"{took * 1e3:.0f} ({more * 1e6:.2f})")
+            measuring.row(shape, len(bytes), f"{whole * 1e3:.0f}", *cells)
 
         measuring.head("Shape", "Bytes", "In pieces of 65,536, ms", *(f"of {piece:,}, ms (us a read more)" for piece in reversed(PIECES)))
+        for size in SIZES:
+            costs("reads alone", b" " * size, read_alone, b"%d" % size)
         for shape, connection in SHAPES.items():
             for size in SIZES if shape in LONG else SIZES[:1]:
-                bytes = connection(size)
-                whole = min(cost(bytes, 65_536, b"HTTP/1.1 404") for _ in range(3))
-                cells = []
-                for piece in reversed(PIECES):
-                    took = min(cost(bytes, piece, b"HTTP/1.1 404") for _ in range(1 if piece == 1 else 3))
-                    more = (took - whole) / (len(bytes) / piece - len(bytes) / 65_536)
-                    cells.append(f"{took * 1e3:.0f} ({more * 1e6:.2f})")
-                measuring.row(shape, len(bytes), f"{whole * 1e3:.0f}", *cells)
+                costs(shape, connection(size), cost, b"HTTP/1.1 404")
         measuring.head("Head of 16,384 bytes, most of it", "In pieces of 65,536, ms", "of 1, ms")
         for kind, lines in HEADS.items():
             front = lines + b"b: "
