@@ -3,8 +3,8 @@ use Rattle.std.specs.Prelude.{ℕ, ◌+◌, ◌<◌, ◌≤◌, List, [], length
 use Rattle.http_frames.specs.declared.TheConstants.{BODY_BYTES}
 use Rattle.http_frames.specs.declared.chunks.Place.{Place}
 use Rattle.http_frames.specs.declared.chunks.Place.TheVariants as place
-use Rattle.http_frames.specs.declared.chunks.Verdict.{Verdict}
-use Rattle.http_frames.specs.declared.chunks.Verdict.TheVariants as verdict
+use Rattle.http_frames.specs.declared.chunks.Decoded.{Decoded}
+use Rattle.http_frames.specs.declared.chunks.Decoded.TheVariants as decoded
 use Rattle.http_frames.specs.declared.chunks.Decoder.{Decoder}
 use Rattle.http_frames.specs.Chunks.{ReadsChunks}
 use Rattle.http_frames.specs.Lines.{IsSizeLine, IsSizeFront, IsLineFront}
@@ -33,13 +33,13 @@ abbrev pub HasMoreChunks : List ℕ → ℕ → Type 0
 HasMoreChunks bytes taken = (at : ℕ) × (body : List ℕ) × HasPassed bytes at body [] × (taken < length body)
 
 -- what the bytes are, by the answer, with this content where they are whole
-abbrev pub VerdictIs : List ℕ → List ℕ → Verdict → Type 0
-VerdictIs bytes body (verdict.Whole n) = ReadsChunks bytes body (drop n bytes) × (n ≤ length bytes) × (length body ≤ BODY_BYTES)
-VerdictIs bytes body verdict.More = ChunksCut 0 bytes
-VerdictIs bytes body verdict.Malformed = ChunksBad 0 bytes
-VerdictIs bytes body verdict.TooLarge = ChunksMuch 0 bytes
+abbrev pub DecodedIs : List ℕ → List ℕ → Decoded → Type 0
+DecodedIs bytes body (decoded.Whole n) = ReadsChunks bytes body (drop n bytes) × (n ≤ length bytes) × (length body ≤ BODY_BYTES)
+DecodedIs bytes body decoded.More = ChunksCut 0 bytes
+DecodedIs bytes body decoded.Malformed = ChunksBad 0 bytes
+DecodedIs bytes body decoded.TooLarge = ChunksMuch 0 bytes
 
 -- what a step of the walk leaves: it stopped with a verdict, or it passed some bytes more
-abbrev pub GoesOn : List ℕ → ℕ → Decoder → Option Verdict → Type 0
+abbrev pub GoesOn : List ℕ → ℕ → Decoder → Option Decoded → Type 0
 GoesOn bytes at d None = at < d.at
-GoesOn bytes at d (Some v) = VerdictIs bytes d.body.items v
+GoesOn bytes at d (Some v) = DecodedIs bytes d.body.items v

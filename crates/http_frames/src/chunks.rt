@@ -1,7 +1,7 @@
 //! Passes over a chunked body as far as it is held, each of its bytes once: below `at` nothing is looked at again.
 ghost use Rattle.std.specs.Prelude.{◌≡◌, ℕ, ◌≤◌, List, length, drop, IsTrue, IfOk, OnErr, ◌↔◌};
 ghost use Rattle.http_frames.specs.Chunks.{BeginsCrLf};
-ghost use Rattle.http_frames.specs.Steps.{HasDecoded, HasMoreChunks, VerdictIs, GoesOn};
+ghost use Rattle.http_frames.specs.Steps.{HasDecoded, HasMoreChunks, DecodedIs, GoesOn};
 
 use crate::BODY_BYTES;
 use crate::lines::{SizeLine, SizeRead, TrailerLine};
@@ -31,7 +31,7 @@ pub enum Place {
 
 /// What the bytes behind a head are, as a chunked body.
 #[derive(Clone, Copy)]
-pub enum Verdict {
+pub enum Decoded {
     /// The body is whole, and the framing has so many bytes.
     Whole(usize),
     /// It breaks off.
@@ -59,10 +59,10 @@ impl Decoder {
     /// After `AllocError`, which comes only where a whole chunk is to be kept, nothing is lost: the same call goes on.
     ///
     /// Source: RFC 9112 7.1; the limit is our own.
-    pub fn decode(&mut self, bytes: &[u8]) -> Result<Verdict, AllocError>
+    pub fn decode(&mut self, bytes: &[u8]) -> Result<Decoded, AllocError>
         requires { HasDecoded bytes.now self.old }
         ensures kept { HasDecoded bytes.now self.new }
-        ensures verdict { IfOk result (VerdictIs bytes.now self.new.body.items) }
+        ensures verdict { IfOk result (DecodedIs bytes.now self.new.body.items) }
         ensures memory { OnErr result (HasMoreChunks bytes.now (length self.new.body.items)) }
     {
         loop {
@@ -78,7 +78,7 @@ impl Decoder {
     }
 
     /// Passes the rest of a size line, or stops where the bytes break off or are refused.
-    fn pass_size_line(&mut self, line: SizeLine, bytes: &[u8]) -> Option<Verdict>
+    fn pass_size_line(&mut self, line: SizeLine, bytes: &[u8]) -> Option<Decoded>
         requires decoded { HasDecoded bytes.now self.old }
         requires there { self.old.place ≡ Place.SizeLine line }
         ensures kept { HasDecoded bytes.now self.new }
@@ -88,12 +88,12 @@ impl Decoder {
             SizeRead::More(longer) => {
                 self.at = bytes.len();
                 self.place = Place::SizeLine(longer);
-                Some(Verdict::More)
+                Some(Decoded::More)
             }
-            SizeRead::Malformed => Some(Verdict::Malformed),
+            SizeRead::Malformed => Some(Decoded::Malformed),
             SizeRead::Whole { len, size } => {
                 if size > (BODY_BYTES - self.body.len()) as u64 {
-                    return Some(Verdict::TooLarge);
+                    return Some(Decoded::TooLarge);
                 }
                 self.at += len;
                 if size == 0 {
@@ -107,7 +107,7 @@ impl Decoder {
     }
 
     /// Passes the content of a chunk and the CR LF behind it, or stops where the bytes break off or are refused.
-    fn pass_content(&mut self, size: usize, bytes: &[u8]) -> Result<Option<Verdict>, AllocError>
+    fn pass_content(&mut self, size: usize, bytes: &[u8]) -> Result<Option<Decoded>, AllocError>
         requires decoded { HasDecoded bytes.now self.old }
         requires there { self.old.place ≡ Place.Content size }
         ensures kept { HasDecoded bytes.now self.new }
@@ -116,10 +116,10 @@ impl Decoder {
     {
         let left = rest(bytes, self.at);
         if !ends_in_crlf(left, size) {
-            return Ok(Some(Verdict::Malformed));
+            return Ok(Some(Decoded::Malformed));
         }
         if left.len() < size + 2 {
-            return Ok(Some(Verdict::More));
+            return Ok(Some(Decoded::More));
         }
         self.body.extend_from_slice(&left[..size])?;
         self.at += size + 2;
@@ -128,7 +128,7 @@ impl Decoder {
     }
 
     /// Passes the rest of a line of the trailer, or stops where the bytes break off or the trailer ends.
-    fn pass_trailer_line(&mut self, line: TrailerLine, bytes: &[u8]) -> Option<Verdict>
+    fn pass_trailer_line(&mut self, line: TrailerLine, bytes: &[u8]) -> Option<Decoded>
         requires decoded { HasDecoded bytes.now self.old }
         requires there { self.old.place ≡ Place.Trailer line }
         ensures kept { HasDecoded bytes.now self.new }
@@ -139,11 +139,11 @@ impl Decoder {
             None => {
                 self.at = bytes.len();
                 self.place = Place::Trailer(line.with(left));
-                Some(Verdict::More)
+                Some(Decoded::More)
             }
             Some(n) => {
                 if line.with(&left[..n]).is_empty() {
-                    return Some(Verdict::Whole(self.at + n + 1));
+                    return Some(Decoded::Whole(self.at + n + 1));
                 }
                 self.at += n + 1;
                 self.place = Place::Trailer(TrailerLine::Nothing);

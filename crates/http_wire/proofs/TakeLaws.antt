@@ -26,8 +26,8 @@ use Rattle.std.proofs.Common.{Bool, inr}
 use Rattle.std.specs.Prelude.{◌||◌}
 use Rattle.site_traits.specs.Counts.{Rose}
 use Rattle.site_traits.specs.Door.{DoorState, DoorCounts, NoNextFault}
-use Rattle.http_frames.specs.declared.chunks.Verdict.TheVariants as verdict
-use Rattle.http_frames.specs.Steps.{VerdictIs}
+use Rattle.http_frames.specs.declared.chunks.Decoded.TheVariants as decoded
+use Rattle.http_frames.specs.Steps.{DecodedIs}
 use Rattle.http_wire.specs.declared.request.Request.{Request}
 use Rattle.http_wire.specs.declared.request.WireFault.{WireFault}
 use Rattle.http_wire.specs.declared.request.WireFault.TheVariants as fault
@@ -233,7 +233,7 @@ pub wants_chunks : (held : List ℕ) (p : HeadParts) (taken : ℕ) → HasHead h
 wants_chunks held p taken h is more = for_chunks p h is (more.0, more.1, more.2, omega (arith, more.3))
 
 pub chunked_held : (held : List ℕ) (p : HeadParts) (n : ℕ) (content : List ℕ) → HasHead held p → p.body ≡ body.Chunked
-    → VerdictIs (window held p) content (verdict.Whole n)
+    → DecodedIs (window held p) content (decoded.Whole n)
     → HasBody (frame_as p.body) (drop p.len held) content (drop (p.len + n) held) × (p.len + n ≤ length held)
 chunked_held held p n content h is v =
     let whole = chunked_whole held p n content h v.0 v.1 v.2 in

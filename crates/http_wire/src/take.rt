@@ -3,7 +3,7 @@ ghost use Rattle.std.specs.Prelude.{◌≡◌, ◌≤◌, ◌+◌, length, take,
 ghost use Rattle.httparse.specs.Spans.{span_bytes};
 ghost use Rattle.http_frames.specs.declared.head.Body.TheVariants as bodies;
 ghost use Rattle.http_frames.specs.Heads.{HasHead};
-ghost use Rattle.http_frames.specs.Steps.{HasDecoded, HasMoreChunks, VerdictIs};
+ghost use Rattle.http_frames.specs.Steps.{HasDecoded, HasMoreChunks, DecodedIs};
 ghost use Rattle.http_wire.specs.Intake.{TakesIn};
 ghost use Rattle.http_wire.specs.Wire.{OnlyTakesIn, RequestCame, HeadCame, SizedCame, BodyCame, HasParts, ReadCounts, window};
 
@@ -11,7 +11,7 @@ use crate::intake::{Came, Intake};
 use crate::request::{Request, WireFault};
 use http::Method;
 use http::method::MethodError;
-use http_frames::chunks::{Decoder, Verdict, rest};
+use http_frames::chunks::{Decoded, Decoder, rest};
 use http_frames::head::{Body, Head, HeadParts, HeadReader};
 use http_frames::{CHUNKED_BYTES, FIELD_ROOM};
 use httparse::spans::HeaderSpan;
@@ -164,13 +164,13 @@ fn take_chunked<D: Door>(
         let held = intake.held();
         let behind = held.len() - head.len;
         match decode_held(&mut decoder, held, head) {
-            Ok(Verdict::Whole(n)) => return Ok(Whole {
+            Ok(Decoded::Whole(n)) => return Ok(Whole {
                 body: decoder.body,
                 end: head.len + n,
             }),
-            Ok(Verdict::More) => {}
-            Ok(Verdict::Malformed) => return Err(WireFault::Malformed),
-            Ok(Verdict::TooLarge) => return Err(WireFault::TooLarge),
+            Ok(Decoded::More) => {}
+            Ok(Decoded::Malformed) => return Err(WireFault::Malformed),
+            Ok(Decoded::TooLarge) => return Err(WireFault::TooLarge),
             Err(_) => return Err(WireFault::Memory),
         }
         if behind > CHUNKED_BYTES {
@@ -186,11 +186,11 @@ fn take_chunked<D: Door>(
 }
 
 /// Goes on with a chunked body in the bytes that are held.
-fn decode_held(decoder: &mut Decoder, held: &[u8], head: HeadParts) -> Result<Verdict, AllocError>
+fn decode_held(decoder: &mut Decoder, held: &[u8], head: HeadParts) -> Result<Decoded, AllocError>
     requires head { HasHead held.now head }
     requires decoded { HasDecoded (window held.now head) decoder.old }
     ensures kept { HasDecoded (window held.now head) decoder.new }
-    ensures verdict { IfOk result (VerdictIs (window held.now head) decoder.new.body.items) }
+    ensures verdict { IfOk result (DecodedIs (window held.now head) decoder.new.body.items) }
     ensures memory { OnErr result (HasMoreChunks (window held.now head) (length decoder.new.body.items)) }
 {
     let tail = rest(held, head.len);

@@ -38,9 +38,9 @@ use Rattle.held_items.specs.Following.{is_done, items, once_done, place_made}
 use Rattle.held_items.proofs.EffectLaws.{held_same}
 use Rattle.held_items.proofs.ItemLaws.{items_follow, new_holds_nothing, others_leave, others_stay}
 use Rattle.held_items.proofs.ListLaws.{filter_map-same}
-use Rattle.instance_table.specs.Rows.{aim, ending, going_of, instance_row, row_with, unheld}
+use Rattle.instance_table.specs.Rows.{aim, end_effect, going_of, instance_row, row_with, unheld}
 use Rattle.instance_table.specs.Steps.{after_work, asked, end_of, ended, first_holding, first_instance, raised}
-use Rattle.instance_table.specs.declared.going.Ending.{Ending}
+use Rattle.instance_table.specs.declared.going.EndEffect.{EndEffect}
 use Rattle.instance_table.specs.declared.going.Going.{Going}
 use Rattle.instance_table.specs.declared.rows.InstanceRow.{InstanceRow}
 use Rattle.instance_table.proofs.LiveLaws.{flip}
@@ -151,10 +151,10 @@ holding-asked width m H time i a d legal allowed =
     ∙ asked_when (a.instance == i) (holding d H i) (raised a.changes (holding d H i).top)
 
 -- what the end of an operation makes of a holding
-abbrev end_with : Ending → List ℕ → Holding → Holding
+abbrev end_with : EndEffect → List ℕ → Holding → Holding
 end_with e aim h = record h { instantiated = unwrap_or e.instantiated h.instantiated; started = unwrap_or e.started h.started; levels = cond e.levels aim h.levels }
 
-ended_when : (b : Bool) (e : Ending) (aim : List ℕ) (h : Holding)
+ended_when : (b : Bool) (e : EndEffect) (aim : List ℕ) (h : Holding)
     → record h { instantiated = unwrap_or (cond b e.instantiated None) h.instantiated; started = unwrap_or (cond b e.started None) h.started; levels = cond b (cond e.levels aim h.levels) h.levels }
     ≡ cond b (end_with e aim h) h
 ended_when true e aim h = refl
@@ -163,7 +163,7 @@ ended_when false e aim h = refl
 -- what a move makes of a holding
 holding-moved : (width m : ℕ) (H : List Event) (time i o : ℕ) (to : OpState) (a : Operation) (d : Vnfd) → IsLegalWithin width m H → IsAllowedWithin width m H (Moved o to)
     → operation H o ≡ Some a
-    → holding d (event time (Moved o to) ∷ H) i ≡ cond (a.instance == i) (end_with (ending a.ask to) (target d (levels d H i) a.ask) (holding d H i)) (holding d H i)
+    → holding d (event time (Moved o to) ∷ H) i ≡ cond (a.instance == i) (end_with (end_effect a.ask to) (target d (levels d H i) a.ask) (holding d H i)) (holding d H i)
 holding-moved width m H time i o to a d legal allowed e =
     hold_by _ (record (holding d H i) {
       instantiated = unwrap_or (cond (a.instance == i) (instantiates a.ask to) None) (holding d H i).instantiated;
@@ -172,7 +172,7 @@ holding-moved width m H time i o to a d legal allowed e =
     })
     (told_move instantiates H time i o to a e) (told_move starts_or_stops H time i o to a e) (levels-moved d H time i o to a e)
     (others_leave width m H time (Moved o to) i d legal allowed refl) refl
-    ∙ ended_when (a.instance == i) (ending a.ask to) (target d (levels d H i) a.ask) (holding d H i)
+    ∙ ended_when (a.instance == i) (end_effect a.ask to) (target d (levels d H i) a.ask) (holding d H i)
 
 -- what an attempt that is done makes of a holding
 holding-done : (width m : ℕ) (H : List Event) (time : ℕ) (t : Tag) (name : List ℕ) (a : Operation) (k : Change) (i : ℕ) (d : Vnfd) → IsLegalWithin width m H
@@ -247,9 +247,9 @@ row-asked width m H time a x legal allowed among =
     ∙ row_cond x a.instance (record (holding d H x.instance) { top = raised a.changes (holding d H x.instance).top }) (holding d H x.instance))
 
 -- what is kept of an operation says what a move to a state says
-end-law : (H : List Event) (ask : Ask) (to : OpState) (a : Operation) → a.ask ≡ ask → end_of to (going_of H a) ≡ ending ask to
-end-law H ask Completed a is = ap (λ (x : Ask). ending x Completed) is
-end-law H ask Failed a is = ap (λ (x : Ask). ending x Failed) is
+end-law : (H : List Event) (ask : Ask) (to : OpState) (a : Operation) → a.ask ≡ ask → end_of to (going_of H a) ≡ end_effect ask to
+end-law H ask Completed a is = ap (λ (x : Ask). end_effect x Completed) is
+end-law H ask Failed a is = ap (λ (x : Ask). end_effect x Failed) is
 end-law H (Instantiate flavour level) _ a is = refl
 end-law H (Scale way aspect steps) _ a is = refl
 end-law H (ScaleToLevel aim) _ a is = refl
@@ -274,10 +274,10 @@ row-moved width m H time o to a x legal allowed e among =
     ap (row_with x)
     (holding-moved width m H time i o to a d legal allowed e
     ∙ by_test (a.instance == i)
-    (λ same. ap (λ (ns : List ℕ). cond (a.instance == i) (end_with (ending a.ask to) ns h) h) (aim_by H a i d described (eqb-true a.instance i same)))
+    (λ same. ap (λ (ns : List ℕ). cond (a.instance == i) (end_with (end_effect a.ask to) ns h) h) (aim_by H a i d described (eqb-true a.instance i same)))
     (λ other. rw other refl))
-    ∙ (row_cond x a.instance (end_with (ending a.ask to) (aim H a) h) h
-    ∙ ap (λ (n : Ending). ended a.instance n (aim H a) (row_with x h)) (sym (end-law H a.ask to a refl))))
+    ∙ (row_cond x a.instance (end_with (end_effect a.ask to) (aim H a) h) h
+    ∙ ap (λ (n : EndEffect). ended a.instance n (aim H a) (row_with x h)) (sym (end-law H a.ask to a refl))))
 
 -- a move that ends nothing says nothing
 pub not_ended : (g : Going) (to : OpState) (i : ℕ) (aim : List ℕ) (r : InstanceRow) → is_final to ≡ false → ended i (end_of to g) aim r ≡ r

@@ -10,7 +10,7 @@ use Rattle.lcm_events.specs.declared.states.OpState.TheVariants.{Completed, Fail
 use Rattle.lcm_model.specs.Instances.{holding, instantiates, levels, sets_levels, starts_or_stops}
 use Rattle.lcm_model.specs.Levels.{target}
 use Rattle.lcm_model.specs.Operations.{goes_on, operations}
-use Rattle.instance_table.specs.declared.going.Ending.{Ending}
+use Rattle.instance_table.specs.declared.going.EndEffect.{EndEffect}
 use Rattle.instance_table.specs.declared.going.Going.{Going}
 use Rattle.instance_table.specs.declared.going.Placing.{Placing}
 use Rattle.lcm_model.specs.Grants.{grant}
@@ -87,8 +87,8 @@ abbrev pub subscription_at : List Event → ℕ → Option SubscriptionRow
 subscription_at H s = if is_subscribed H s then option_map (subscription_row H) (subscription H s) else None
 
 -- what a move of an operation to this state says of its instance (SOL 003 5.5.2.2)
-abbrev pub ending : Ask → OpState → Ending
-ending ask to = record { instantiated = instantiates ask to; started = starts_or_stops ask to; levels = is_some (sets_levels ask to) }
+abbrev pub end_effect : Ask → OpState → EndEffect
+end_effect ask to = record { instantiated = instantiates ask to; started = starts_or_stops ask to; levels = is_some (sets_levels ask to) }
 
 -- the levels that an operation aims at, from those that its instance has while it goes on (SOL 003 5.4.4 to 5.4.6)
 abbrev pub aim : List Event → Operation → List ℕ
@@ -104,7 +104,7 @@ stood_at H i k = if same_verb k.verb Remove then place H i k.def else None
 
 -- an operation that goes on, with its changes and their places and what its end says of its instance (own rule)
 abbrev pub going_of : List Event → Operation → Going
-going_of H a = record { occ = a.occ; instance = a.instance; completed = ending a.ask Completed; failed = ending a.ask Failed; aim = aim H a; changes = a.changes; placing = placing H a.occ; stood = map (stood_at H a.instance) a.changes }
+going_of H a = record { occ = a.occ; instance = a.instance; completed = end_effect a.ask Completed; failed = end_effect a.ask Failed; aim = aim H a; changes = a.changes; placing = placing H a.occ; stood = map (stood_at H a.instance) a.changes }
 
 -- the operations that go on, in the order of their numbers (SOL 003 5.6.2)
 abbrev pub going : List Event → List Going

@@ -27,13 +27,13 @@ use Rattle.lcm_model.specs.Words.{IsIn, when}
 use Rattle.lcm_events.specs.declared.states.OpState.{OpState}
 use Rattle.lcm_events.specs.declared.states.OpState.TheVariants.{Completed, Failed}
 use Rattle.lcm_model.specs.Moves.{is_final}
-use Rattle.instance_table.specs.declared.going.Ending.{Ending}
+use Rattle.instance_table.specs.declared.going.EndEffect.{EndEffect}
 use Rattle.instance_table.specs.declared.going.Going.{Going}
 use Rattle.instance_table.specs.declared.going.Placing.{Placing}
 use Rattle.lcm_events.specs.declared.asks.Ask.{Ask}
 use Rattle.lcm_events.specs.declared.events.Operation.{Operation}
 use Rattle.lcm_model.specs.Levels.{target}
-use Rattle.instance_table.specs.Rows.{Rows, ending}
+use Rattle.instance_table.specs.Rows.{Rows, end_effect}
 use Rattle.instance_table.specs.declared.rows.InstanceRow.{InstanceRow}
 use Rattle.instance_table.specs.declared.rows.SubscriptionRow.{SubscriptionRow}
 
@@ -76,11 +76,11 @@ abbrev pub posted : ℕ → ℕ → PostOutcome → SubscriptionRow → Subscrip
 posted s place outcome r = if r.number == s then after_post place outcome r else r
 
 -- the row after the end of an operation said this, which aimed at these levels
-abbrev pub after_end : Ending → List ℕ → InstanceRow → InstanceRow
+abbrev pub after_end : EndEffect → List ℕ → InstanceRow → InstanceRow
 after_end e aim r = record r { holding = record r.holding { instantiated = unwrap_or e.instantiated r.holding.instantiated; started = unwrap_or e.started r.holding.started; levels = if e.levels then aim else r.holding.levels } }
 
 -- a row after the end of an operation of the instance of this number said this
-abbrev pub ended : ℕ → Ending → List ℕ → InstanceRow → InstanceRow
+abbrev pub ended : ℕ → EndEffect → List ℕ → InstanceRow → InstanceRow
 ended i e aim r = if r.number == i then after_end e aim r else r
 
 -- the greatest serial numbers after these changes gave theirs
@@ -114,7 +114,7 @@ first_stood rs a = option_map_or (λ r. map (stood_in r.holding.items) a.changes
 
 -- what is kept of an operation that is asked for, aims at these levels and removes what stands at these places
 abbrev pub begun : Operation → List ℕ → List (Option Place) → Going
-begun a aim stood = record { occ = a.occ; instance = a.instance; completed = ending a.ask Completed; failed = ending a.ask Failed; aim = aim; changes = a.changes; placing = None; stood = stood }
+begun a aim stood = record { occ = a.occ; instance = a.instance; completed = end_effect a.ask Completed; failed = end_effect a.ask Failed; aim = aim; changes = a.changes; placing = None; stood = stood }
 
 -- what is kept of an operation when it is asked for
 abbrev pub first_going : Rows → Operation → Going
@@ -163,7 +163,7 @@ abbrev pub items_about : Rows → ℕ → Option (List Held)
 items_about rs o = option_and_then (λ g. option_map (λ r. r.holding.items) (find (λ r. r.number == g.instance) rs.instances)) (find (λ g. g.occ == o) rs.going)
 
 -- what a move to this state says of the operation's instance
-abbrev pub end_of : OpState → Going → Ending
+abbrev pub end_of : OpState → Going → EndEffect
 end_of Completed g = g.completed
 end_of Failed g = g.failed
 end_of _ g = record { instantiated = None; started = None; levels = false }

@@ -3,7 +3,7 @@
 ghost use Rattle.std.specs.Prelude.{◌≡◌, ◌≤◌, IfOk, false, find, if◌then◌else◌, is_some, length, map, nat_lt, option_copied, remove, true, ◌==◌, slice_get, vec_capacity, vec_len};
 ghost use Rattle.std.specs.List.Sorted.{IsPartitionPoint, IsPartitionedBy};
 ghost use Rattle.lcm_model.specs.Instances.{instantiates, sets_levels, starts_or_stops};
-ghost use Rattle.instance_table.specs.Rows.{ending};
+ghost use Rattle.instance_table.specs.Rows.{end_effect};
 ghost use Rattle.instance_table.specs.Steps.{Rises, begun, end_of, placed, update, with_key, without_operation};
 
 use lcm_events::{Ask, Changes, Levels, Listed, OpState, Operation, Place};
@@ -13,7 +13,7 @@ use std::alloc::{AllocError, Global};
 ///
 /// Source: SOL 003 5.5.2.2 (VnfInstance).
 #[derive(Clone, Copy)]
-pub struct Ending {
+pub struct EndEffect {
     /// Whether it is INSTANTIATED.
     pub instantiated: Option<bool>,
     /// Whether it is STARTED.
@@ -57,9 +57,9 @@ pub struct Going {
     /// The number of its instance.
     pub instance: u64,
     /// What it says of its instance once it is COMPLETED.
-    pub completed: Ending,
+    pub completed: EndEffect,
     /// What it says of its instance once it is FAILED.
-    pub failed: Ending,
+    pub failed: EndEffect,
     /// The levels that it aims at.
     pub aim: Levels,
     /// Its changes, in the order of its plan.
@@ -105,10 +105,10 @@ fn sets_levels(ask: &Ask, to: OpState) -> bool
 }
 
 /// What a move of an operation to this state says of its instance.
-fn ending_by(ask: &Ask, to: OpState) -> Ending
-    ensures { result ≡ ending ask.now to }
+fn end_effect_by(ask: &Ask, to: OpState) -> EndEffect
+    ensures { result ≡ end_effect ask.now to }
 {
-    Ending {
+    EndEffect {
         instantiated: instantiates(ask, to),
         started: starts_or_stops(ask, to),
         levels: sets_levels(ask, to),
@@ -129,8 +129,8 @@ impl Going {
         Ok(Going {
             occ: operation.occ,
             instance: operation.instance,
-            completed: ending_by(&operation.ask, OpState::Completed),
-            failed: ending_by(&operation.ask, OpState::Failed),
+            completed: end_effect_by(&operation.ask, OpState::Completed),
+            failed: end_effect_by(&operation.ask, OpState::Failed),
             aim,
             changes: Listed::of(changes),
             placing: None,
@@ -148,13 +148,13 @@ impl Going {
     }
 
     /// What a move to this state says of its instance.
-    pub fn end(&self, to: OpState) -> Ending
+    pub fn end(&self, to: OpState) -> EndEffect
         ensures { result ≡ end_of to self.now }
     {
         match to {
             OpState::Completed => self.completed,
             OpState::Failed => self.failed,
-            _ => Ending {
+            _ => EndEffect {
                 instantiated: None,
                 started: None,
                 levels: false,

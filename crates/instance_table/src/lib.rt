@@ -13,7 +13,7 @@ mod work;
 
 pub use copies::copied_filter;
 pub use deliveries::tries_are_of_the_next_notice;
-pub use going::{Ending, Going, Placing};
+pub use going::{EndEffect, Going, Placing};
 pub use rows::{InstanceRow, SubscriptionRow};
 pub use standing::rows_have_holdings;
 pub use table::InstanceTable;

@@ -4,7 +4,7 @@ ghost use Rattle.std.specs.Prelude.{◌≡◌, ◌<◌, ◌==◌, IfOk, OnOk, le
 ghost use Rattle.lcm_model.specs.Notices.{is_delivered};
 ghost use Rattle.instance_table.specs.Steps.{HasItemRoom, after_end, after_post, after_work, asked, begun_at, ended, first_holding, fresh_levels, fresh_tops, posted};
 
-use crate::going::Ending;
+use crate::going::EndEffect;
 use crate::tops::raise_tops;
 use crate::work::{Work, do_in};
 use held_items::Editor;
@@ -77,13 +77,13 @@ pub fn first_holding(alloc: Global, vnfd: Option<&Vnfd>) -> Result<Holding, Allo
 
 impl InstanceRow {
     /// An operation of the instance ended, which aimed at these levels.
-    fn record_end(&mut self, ending: Ending, aim: Levels)
-        ensures { self.new ≡ after_end ending aim self.old }
+    fn record_end(&mut self, end_effect: EndEffect, aim: Levels)
+        ensures { self.new ≡ after_end end_effect aim self.old }
     {
         let holding = &mut self.holding;
-        holding.instantiated = ending.instantiated.unwrap_or(holding.instantiated);
-        holding.started = ending.started.unwrap_or(holding.started);
-        if ending.levels {
+        holding.instantiated = end_effect.instantiated.unwrap_or(holding.instantiated);
+        holding.started = end_effect.started.unwrap_or(holding.started);
+        if end_effect.levels {
             holding.levels = aim;
         }
     }
@@ -98,11 +98,11 @@ impl InstanceRow {
     }
 
     /// An operation of the instance of this number, which may be another, ended, and aimed at these levels.
-    pub fn follow_end(&mut self, number: u64, ending: Ending, aim: Levels)
-        ensures { self.new ≡ ended number ending aim self.old }
+    pub fn follow_end(&mut self, number: u64, end_effect: EndEffect, aim: Levels)
+        ensures { self.new ≡ ended number end_effect aim self.old }
     {
         if self.number == number {
-            self.record_end(ending, aim);
+            self.record_end(end_effect, aim);
         }
     }
 

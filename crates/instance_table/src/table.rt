@@ -15,7 +15,7 @@ ghost use Rattle.instance_table.specs.Table.{Applies, CountsDescriptors, CountsL
 
 use crate::aims::aim_from;
 use crate::copies::{copied_filter, copied_line, copied_vnfd};
-use crate::going::{Ending, Going, Placing, going_in, place_in, take_going};
+use crate::going::{EndEffect, Going, Placing, going_in, place_in, take_going};
 use crate::rows::{InstanceRow, SubscriptionRow, first_holding};
 use crate::work::{Work, stood_of, work_in};
 use held_items::Editor;
@@ -246,25 +246,25 @@ fn ask_in(rows: &mut Vec<InstanceRow>, number: u64, changes: &[Change])
 }
 
 /// Lets the row at this place follow the end of an operation. Nothing happens beyond the end.
-fn end_at(rows: &mut Vec<InstanceRow>, at: usize, number: u64, ending: Ending, aim: Levels)
-    ensures items { rows.new.items ≡ update (ended number ending aim) at rows.old.items }
+fn end_at(rows: &mut Vec<InstanceRow>, at: usize, number: u64, end_effect: EndEffect, aim: Levels)
+    ensures items { rows.new.items ≡ update (ended number end_effect aim) at rows.old.items }
     ensures length { vec_len rows.new ≡ vec_len rows.old }
     ensures capacity { vec_capacity rows.new ≡ vec_capacity rows.old }
 {
     match rows.get_mut(at) {
-        Some(row) => row.follow_end(number, ending, aim),
+        Some(row) => row.follow_end(number, end_effect, aim),
         None => {}
     }
 }
 
 /// Lets the row of this number follow the end of an operation, where the numbers rise.
-fn end_in(rows: &mut Vec<InstanceRow>, number: u64, ending: Ending, aim: Levels)
-    ensures items { Rises (λ r. r.number) rows.old.items → rows.new.items ≡ map (ended number ending aim) rows.old.items }
+fn end_in(rows: &mut Vec<InstanceRow>, number: u64, end_effect: EndEffect, aim: Levels)
+    ensures items { Rises (λ r. r.number) rows.old.items → rows.new.items ≡ map (ended number end_effect aim) rows.old.items }
     ensures length { vec_len rows.new ≡ vec_len rows.old }
     ensures capacity { vec_capacity rows.new ≡ vec_capacity rows.old }
 {
     let at = instance_place(rows.as_slice(), number);
-    end_at(rows, at, number, ending, aim);
+    end_at(rows, at, number, end_effect, aim);
 }
 
 /// Reserves room for one more item of the row at this place, if it has this number.
@@ -693,8 +693,8 @@ impl InstanceTable {
         ensures rows { Rises (λ r. r.number) self.old.rows.instances → self.new.rows ≡ record self.old.rows { instances = map (ended going.instance (end_of to going) going.aim) self.old.rows.instances } }
         ensures reserved { self.new.reserved ≡ self.old.reserved }
     {
-        let ending = going.end(to);
-        end_in(&mut self.instances, going.instance, ending, going.aim);
+        let end_effect = going.end(to);
+        end_in(&mut self.instances, going.instance, end_effect, going.aim);
     }
 
     /// Takes the operation of this occurrence out of those that go on, where the numbers rise.

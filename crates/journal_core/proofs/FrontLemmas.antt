@@ -1,8 +1,8 @@
 -- What the first 33 bytes of a file say of its header, the file says.
 use Rattle.std.proofs.Common.{◌≡◌, ◌⊎◌, ◌∙◌, sym, ap, subst, inl, inr, ⊎_elim, ℕ, ◌≤◌, ◌<◌, List, length, take, drop, get_or, arith}
 use Rattle.std.proofs.lemmas.List.{take-take, drop-take, get_or-take, length-take}
-use Rattle.journal_core.specs.declared.header.Verdict.{Verdict}
-use Rattle.journal_core.specs.declared.header.Verdict.TheVariants.{Made, Unmade, Foreign}
+use Rattle.journal_core.specs.declared.header.HeaderState.{HeaderState}
+use Rattle.journal_core.specs.declared.header.HeaderState.TheVariants.{Made, Unmade, Foreign}
 use Rattle.journal_records.specs.File.{header}
 use Rattle.journal_core.specs.Header.{made, first, IsUnfinished, MayStand}
 use Rattle.journal_core.specs.Judged.{Judged}
@@ -41,7 +41,7 @@ may_whole k image lt may = record {
   right = (let P : ℕ → Type 0 = λ v. ((9 ≤ k) × (k ≤ 12)) ⊎ (v ≡ get_or (header 0) k 0) in subst P (sym (get_or-take 33 image k 0 lt)) may.right);
 }
 
-pub judged_front : (image : List ℕ) (v : Verdict) → Judged (take 33 image) v → Judged image v
+pub judged_front : (image : List ℕ) (v : HeaderState) → Judged (take 33 image) v → Judged image v
 judged_front image (Made m) has = record { number = has.number; front = sym (take-take 32 33 image (omega arith)) ∙ has.front }
 judged_front image Unmade unmade = (unmade.0, unfinished_front unmade.0 image unmade.1)
 judged_front image (Foreign place) foreign =

@@ -13,7 +13,7 @@ pub const HEADER: [u8; 32] = [
 
 /// What the first bytes of a file say of its header.
 #[derive(Clone, Copy)]
-pub enum Verdict {
+pub enum HeaderState {
     /// The header of the manager of this number.
     Made(u32),
     /// The file is unfinished.
@@ -23,24 +23,24 @@ pub enum Verdict {
 }
 
 /// What the first 33 bytes of a file, or all where it has fewer, say of its header.
-pub fn judge(front: &[u8]) -> Verdict
+pub fn judge(front: &[u8]) -> HeaderState
     requires { length front.now ≤ 33 }
     ensures judged { Judged front.now result }
     ensures long { LongEnough (length front.now) result }
 {
     if front.len() < 2 || front[0] == b'v' {
-        return Verdict::Unmade;
+        return HeaderState::Unmade;
     }
     if front[0] != b'V' {
         return if is_rest_of_made(front) {
-            Verdict::Unmade
+            HeaderState::Unmade
         } else {
-            Verdict::Foreign(0)
+            HeaderState::Foreign(0)
         };
     }
     match difference(front) {
-        Some(place) => Verdict::Foreign(place),
-        None => Verdict::Made(manager_of(front)),
+        Some(place) => HeaderState::Foreign(place),
+        None => HeaderState::Made(manager_of(front)),
     }
 }
 

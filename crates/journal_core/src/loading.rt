@@ -6,7 +6,7 @@ ghost use Rattle.journal_core.specs.Asking.{FailsWhere};
 ghost use Rattle.journal_core.specs.Judged.{Judged, LongEnough, FrontIs};
 ghost use Rattle.journal_core.specs.Load.{Loads, Opened, IsBegun, Finds, Grows, ledger_of, Loaded, SyncsAndReads};
 
-use crate::header::{Verdict, judge};
+use crate::header::{HeaderState, judge};
 use crate::journal::{Journal, ROOM};
 use crate::marks::{Mark, Marks};
 use crate::through::bytes_at;
@@ -99,9 +99,9 @@ impl<S: Site> Journal<S> {
     {
         let (len, verdict) = front_of(site)?;
         match verdict {
-            Verdict::Unmade => Err(LoadFault::Unmade),
-            Verdict::Foreign(place) => Err(LoadFault::Foreign(place)),
-            Verdict::Made(manager) => {
+            HeaderState::Unmade => Err(LoadFault::Unmade),
+            HeaderState::Foreign(place) => Err(LoadFault::Foreign(place)),
+            HeaderState::Made(manager) => {
                 let buffer = vec![in alloc; 0; ROOM]?;
                 let marks = Marks::new(alloc)?;
                 Ok(Loading {
@@ -209,7 +209,7 @@ impl<S: Site> Loading<S> {
 }
 
 // Syncs, and gives the length of the site's file and what it says of its header.
-fn front_of<S: Site>(site: &mut S) -> Result<(u64, Verdict), DiskFailed>
+fn front_of<S: Site>(site: &mut S) -> Result<(u64, HeaderState), DiskFailed>
     ensures front { S.tells → IfOk result (λ front. FrontIs front.0 front.1 (S.state site.new)) }
     ensures enough { IfOk result (λ front. LongEnough front.0 front.1) }
     ensures told { S.tells → SyncsAndReads (S.state site.old) (S.state site.new) }
@@ -222,7 +222,7 @@ fn front_of<S: Site>(site: &mut S) -> Result<(u64, Verdict), DiskFailed>
 }
 
 // What the site's file, which has `len` bytes, says of its header.
-fn header_at<S: Site>(site: &mut S, len: u64) -> Result<Verdict, DiskFailed>
+fn header_at<S: Site>(site: &mut S, len: u64) -> Result<HeaderState, DiskFailed>
     requires long { S.tells → len ≡ length (S.state site.old).image }
     ensures judged { S.tells → IfOk result (Judged (S.state site.old).image) }
     ensures enough { IfOk result (LongEnough len) }

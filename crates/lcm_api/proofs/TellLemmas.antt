@@ -3,7 +3,7 @@ use Rattle.std.proofs.Common.{◌≡◌, ◌≤◌, ◌+◌, ◌-◌, ℕ, zero,
 use Rattle.std.proofs.Math.Seq.{take-add, take-append-add}
 use Rattle.std.proofs.lemmas.List.{take_all}
 use Rattle.site_traits.specs.Door.{Conn, DoorState, ConnIs, has_written, write_broke}
-use Rattle.lcm_api.specs.Telling.{Tells}
+use Rattle.lcm_api.specs.Telling.{WorldTells}
 use Rattle.lcm_api.specs.declared.door.DoorFailed.{DoorFailed}
 
 -- what was taken of the rest makes the front longer
@@ -30,7 +30,7 @@ front_of_both (suc n) [] y = (0, refl)
 front_of_both (suc n) (a ∷ x) y = let rest = front_of_both n x y in (suc rest.0, ap (λ l. a ∷ l) rest.1)
 
 -- where the first piece breaks off, so do both
-pub broken_first : (x y : List ℕ) (failed : DoorFailed) (a b : DoorState) → Tells x (Err failed) a b → Tells (x ++ y) (Err failed) a b
+pub broken_first : (x y : List ℕ) (failed : DoorFailed) (a b : DoorState) → WorldTells x (Err failed) a b → WorldTells (x ++ y) (Err failed) a b
 broken_first x y failed a b tells =
     let front = front_of_both tells.0 x y in
     (front.0, subst (λ out. ConnIs (write_broke (has_written out a.conn)) a b) (sym front.1) tells.1)
@@ -46,6 +46,6 @@ broken_second x y n a b c first second = record {
 }
 
 -- one piece after the other
-pub tells_both : (x y : List ℕ) (result : Result (Unit {0}) DoorFailed) (a b c : DoorState) → ConnIs (has_written x a.conn) a b → Tells y result b c → Tells (x ++ y) result a c
+pub tells_both : (x y : List ℕ) (result : Result (Unit {0}) DoorFailed) (a b c : DoorState) → ConnIs (has_written x a.conn) a b → WorldTells y result b c → WorldTells (x ++ y) result a c
 tells_both x y (Ok done) a b c first second = tells_more x y a b c first second
 tells_both x y (Err failed) a b c first second = (length x + second.0, broken_second x y second.0 a b c first second.1)

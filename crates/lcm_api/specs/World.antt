@@ -4,7 +4,7 @@ use Rattle.lcm_api.specs.Mouth.{MouthState}
 use Rattle.site_traits.specs.Site.{SiteState}
 
 -- which of the objects outside tell what is done to them
-pub record Tells : Type 1 where
+pub record WorldTells : Type 1 where
   pub site : Type 0
   pub door : Type 0
   pub clock : Type 0
@@ -29,5 +29,5 @@ abbrev pub world : SiteState → MouthState → List ℕ → World
 world site mouth clock = record { site = site; mouth = mouth; clock = clock }
 
 -- what tells of these
-abbrev pub telling : Type 0 → Type 0 → Type 0 → Tells
+abbrev pub telling : Type 0 → Type 0 → Type 0 → WorldTells
 telling site door clock = record { site = site; door = door; clock = clock }

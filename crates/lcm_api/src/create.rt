@@ -7,7 +7,7 @@ ghost use Rattle.executor.specs.Managed.{IsReady, Keeps};
 ghost use Rattle.executor.specs.Work.{Works};
 ghost use Rattle.lcm_api.specs.Answering.{answered};
 ghost use Rattle.lcm_api.specs.Creating.{create_instance, create_outcome, created};
-ghost use Rattle.lcm_api.specs.Judging.{IsVerdict};
+ghost use Rattle.lcm_api.specs.Judging.{IsCreateVerdict};
 ghost use Rattle.lcm_api.specs.Recording.{IsPlanned};
 ghost use Rattle.vnfm_base.specs.Ident.{IsIdentNumber};
 
@@ -47,14 +47,14 @@ pub fn create<S: Site>(
 {
     works_add_up::<S>();
     match judge(alloc, request)? {
-        Verdict::Refused(reply) => Ok(reply),
-        Verdict::Create(body) => create_as(alloc, manager, site, body, now, request.last),
+        CreateVerdict::Refused(reply) => Ok(reply),
+        CreateVerdict::Create(body) => create_as(alloc, manager, site, body, now, request.last),
     }
 }
 
 /// What a request to create an instance asks for, as far as it says by itself.
 #[derive(Drop)]
-enum Verdict {
+enum CreateVerdict {
     /// It is refused with this reply.
     Refused(Reply),
     /// It creates an instance of this body.
@@ -62,16 +62,16 @@ enum Verdict {
 }
 
 /// Judges a request to create an instance by its media type and its body.
-fn judge(alloc: Global, request: &Request) -> Result<Verdict, AllocError>
-    ensures { IfOk result (IsVerdict request.now) }
+fn judge(alloc: Global, request: &Request) -> Result<CreateVerdict, AllocError>
+    ensures { IfOk result (IsCreateVerdict request.now) }
 {
     if !is_json(&request.media) {
         let refused = refusal(alloc, 415, "body must be application/json", request.last)?;
-        return Ok(Verdict::Refused(refused));
+        return Ok(CreateVerdict::Refused(refused));
     }
     match read_create(alloc, request.body.as_slice()) {
-        Ok(body) => Ok(Verdict::Create(body)),
-        Err(fault) => Ok(Verdict::Refused(refused_body(alloc, &fault, request.last)?)),
+        Ok(body) => Ok(CreateVerdict::Create(body)),
+        Err(fault) => Ok(CreateVerdict::Refused(refused_body(alloc, &fault, request.last)?)),
     }
 }
 

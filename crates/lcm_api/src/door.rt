@@ -2,7 +2,7 @@
 ghost use Rattle.std.specs.Prelude.{◌≡◌, ◌≤◌, length, true};
 ghost use Rattle.std.specs.Result.{is_err};
 ghost use Rattle.lcm_api.specs.Failing.{FailsOnce};
-ghost use Rattle.lcm_api.specs.Telling.{Tells};
+ghost use Rattle.lcm_api.specs.Telling.{WorldTells};
 
 use site_traits::{Door, WriteAnswer};
 
@@ -13,7 +13,7 @@ pub struct DoorFailed;
 /// Writes the bytes, with as few writes as the door takes. After one that failed there is no other.
 pub fn write_all<D: Door>(door: &mut D, bytes: &[u8]) -> Result<(), DoorFailed>
     requires up { (D.counts door.old).up ≡ true }
-    ensures told { D.tells → Tells bytes.now result (D.state door.old) (D.state door.new) }
+    ensures told { D.tells → WorldTells bytes.now result (D.state door.old) (D.state door.new) }
     ensures cause { FailsOnce (is_err result) (D.counts door.old) (D.counts door.new) }
 {
     let mut at = 0;

@@ -8,7 +8,7 @@ ghost use Rattle.lcm_api.specs.Failing.{FailsOnce};
 ghost use Rattle.lcm_api.specs.Hearing.{Hears};
 ghost use Rattle.lcm_api.specs.Mouth.{Begins, Heard, OnlyAtDoor};
 ghost use Rattle.lcm_api.specs.Response.{text};
-ghost use Rattle.lcm_api.specs.Telling.{Tells};
+ghost use Rattle.lcm_api.specs.Telling.{WorldTells};
 
 use crate::door::DoorFailed;
 use crate::listen::{Reading, read_to_end};
@@ -172,7 +172,7 @@ impl<D: Door> Mouth<D> {
     ) -> Result<(), DoorFailed>
         requires up { self.old.wire.intake.counts.up ≡ true }
         requires acknowledged { reply.now.status < 400 → IsAcknowledged S.tells manager.now (S.state site.now) self.old.hand self.old.role reply.now }
-        ensures told { D.tells → Tells (text reply.now) result self.old.wire.intake.door self.new.wire.intake.door }
+        ensures told { D.tells → WorldTells (text reply.now) result self.old.wire.intake.door self.new.wire.intake.door }
         ensures cause { FailsOnce (is_err result) self.old.wire.intake.counts self.new.wire.intake.counts }
         ensures kept { OnlyAtDoor self.old self.new }
         ensures noted { self.new.told ≡ (S.state site.now).moment ∷ self.old.told }

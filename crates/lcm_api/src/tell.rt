@@ -3,7 +3,7 @@ ghost use Rattle.std.specs.Prelude.{◌≡◌, ◌++◌, length, true};
 ghost use Rattle.std.specs.Result.{is_err};
 ghost use Rattle.lcm_api.specs.Failing.{FailsOnce};
 ghost use Rattle.lcm_api.specs.Response.{body_told, head_text, text};
-ghost use Rattle.lcm_api.specs.Telling.{Tells};
+ghost use Rattle.lcm_api.specs.Telling.{WorldTells};
 
 use crate::door::{DoorFailed, write_all};
 use crate::outgoing::Outgoing;
@@ -17,7 +17,7 @@ pub fn tell_reply<D: Door>(
     reply: &Reply,
 ) -> Result<(), DoorFailed>
     requires up { (D.counts door.old).up ≡ true }
-    ensures told { D.tells → Tells (text reply.now) result (D.state door.old) (D.state door.new) }
+    ensures told { D.tells → WorldTells (text reply.now) result (D.state door.old) (D.state door.new) }
     ensures cause { FailsOnce (is_err result) (D.counts door.old) (D.counts door.new) }
 {
     let body = body_told(reply);
@@ -29,7 +29,7 @@ pub fn tell_reply<D: Door>(
 /// Writes these bytes, and then those.
 fn write_both<D: Door>(door: &mut D, first: &[u8], rest: &[u8]) -> Result<(), DoorFailed>
     requires up { (D.counts door.old).up ≡ true }
-    ensures told { D.tells → Tells (first.now ++ rest.now) result (D.state door.old) (D.state door.new) }
+    ensures told { D.tells → WorldTells (first.now ++ rest.now) result (D.state door.old) (D.state door.new) }
     ensures cause { FailsOnce (is_err result) (D.counts door.old) (D.counts door.new) }
 {
     write_all(door, first)?;

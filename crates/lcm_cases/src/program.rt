@@ -8,7 +8,7 @@ use case_lives::{ActFault, CaseFault, count, entries, list, number, same_file, s
 use host_calls::{HostFile, HostFiles, InStream, OutStream, TimeOfDay};
 use lcm_api::Mouth;
 use lcm_events::Role;
-use outside_edges::{RealClock, RealDoor, RealSink, RealSite};
+use outside_edges::{NoCourier, NoOrchestrator, RealClock, RealDoor, RealSink, RealSite};
 use serde_json::Value;
 use site_traits::Site;
 use standard_streams::{HeldStreams, NullDevice};
@@ -16,7 +16,7 @@ use std::alloc::{AllocError, Global};
 use std::io;
 use std::io::ErrorKind;
 use std::time::Duration;
-use vnfm_program::start;
+use vnfm_program::{Machine, start};
 
 /// Which calls go wrong, and how many bytes a stream handles at once. Each object has its own, and counts its own calls.
 #[derive(Clone, Copy)]
@@ -367,66 +367,73 @@ fn content<S: Site>(alloc: Global, site: &mut S) -> Option<Vec<u8>> {
     }
 }
 
-/// Starts the program with these arguments over this.
-fn play(alloc: Global, arguments: Vec<String>, before: Before<'_>, seen: &mut Seen) {
-    let mut files = MemFiles {
-        alloc,
-        file: before.file,
-        wrong: before.wrong,
-        made: 0,
-    };
-    let mut site = RealSite::made();
-    seen.status = play_on(alloc, arguments, before, &mut files, &mut site, seen);
-    seen.made = files.made;
-    seen.left = content(alloc, &mut site);
+/// What was left by a program that was started.
+#[derive(Drop)]
+struct Left {
+    /// Its status.
+    status: u8,
+    /// How many files were made.
+    made: u64,
+    /// The file's bytes, where it was had.
+    file: Option<Vec<u8>>,
 }
 
-/// Starts the program with these arguments over these files and the streams of this: its status.
-fn play_on<'a>(
+/// Starts the program with these arguments over this, with what it tells and prints put here.
+fn play(
     alloc: Global,
     arguments: Vec<String>,
-    before: Before<'a>,
-    files: &mut MemFiles<'a>,
-    site: &mut RealSite<MemFile<'a>>,
-    seen: &mut Seen,
-) -> u8 {
+    before: Before<'_>,
+    told: &mut Vec<u8>,
+    lines: &mut Vec<u8>,
+    errors: &mut Vec<u8>,
+) -> Left {
     let wrong = before.wrong;
-    let mut mouth = mouth_at(alloc, before, &mut seen.told);
-    let mut lines = RealSink::made(Going {
-        name: "print",
-        out: &mut seen.lines,
-        wrong,
-    });
-    let mut errors = RealSink::made(Going {
-        name: "tell",
-        out: &mut seen.errors,
-        wrong,
-    });
-    start(
-        alloc,
-        Ok(arguments.into_iter()),
-        &mut Null,
-        files,
-        site,
-        &mut mouth,
-        &mut RealClock::made(Day),
-        &mut lines,
-        &mut errors,
-    )
+    let mut mouth = mouth_at(alloc, before, told);
+    let mut machine = Machine {
+        device: Null,
+        files: MemFiles {
+            alloc,
+            file: before.file,
+            wrong,
+            made: 0,
+        },
+        site: RealSite::made(),
+        orchestrator: NoOrchestrator::made(),
+        courier: NoCourier::made(),
+        clock: RealClock::made(Day),
+        lines: RealSink::made(Going {
+            name: "print",
+            out: lines,
+            wrong,
+        }),
+        errors: RealSink::made(Going {
+            name: "tell",
+            out: errors,
+            wrong,
+        }),
+    };
+    let status = start(alloc, Ok(arguments.into_iter()), &mut mouth, &mut machine);
+    Left {
+        status,
+        made: machine.files.made,
+        file: content(alloc, &mut machine.site),
+    }
 }
 
 /// What comes of these arguments over this.
 fn seen_of(alloc: Global, arguments: Vec<String>, before: Before<'_>) -> Seen {
-    let mut seen = Seen {
-        status: 0,
-        made: 0,
-        told: Vec::new(alloc),
-        lines: Vec::new(alloc),
-        errors: Vec::new(alloc),
-        left: None,
-    };
-    play(alloc, arguments, before, &mut seen);
-    seen
+    let mut told = Vec::new(alloc);
+    let mut lines = Vec::new(alloc);
+    let mut errors = Vec::new(alloc);
+    let left = play(alloc, arguments, before, &mut told, &mut lines, &mut errors);
+    Seen {
+        status: left.status,
+        made: left.made,
+        told,
+        lines,
+        errors,
+        left: left.file,
+    }
 }
 
 /// The kind of fault of this name.

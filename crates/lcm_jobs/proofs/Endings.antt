@@ -1,4 +1,4 @@
--- How endings agree with jobs, and what a history knows of its attempts.
+-- How ended attempts agree with jobs, and what a history knows of its attempts.
 use Rattle.std.proofs.Common.{◌≡◌, ◌≤◌, ◌+◌, ◌∙◌, ℕ, List, [], ◌∷◌, true, false, Option, None, Some, refl, ap, sym, subst, map, length, inl, inr, arith}
 use Rattle.lcm_events.specs.Same.{same_tag}
 use Rattle.lcm_events.proofs.SameLaws.{same_tag-refl, same_tag-true}
@@ -17,7 +17,7 @@ use Rattle.lcm_laws.proofs.Histories.{event}
 use Rattle.site_traits.specs.declared.jobs.Phase.{Phase}
 use Rattle.site_traits.specs.declared.jobs.Phase.TheVariants.{Aborted, Broken, Done, Running}
 use Rattle.site_traits.specs.Jobs.{Advances, GoesOn, Job, phase_of}
-use Rattle.lcm_jobs.specs.Sound.{Agrees, Attempt, Ending, IsNoneOrBroken, IsPartOf, attempt_of, begun, endings}
+use Rattle.lcm_jobs.specs.Sound.{Agrees, Attempt, EndedAttempt, IsNoneOrBroken, IsPartOf, attempt_of, begun, ended_attempts}
 use Rattle.lcm_jobs.proofs.Parts.{in_any}
 use Rattle.lcm_laws.proofs.Lists.{by_test}
 
@@ -57,11 +57,11 @@ agrees_on outcome.Aborted (Some (Broken code)) q on h = cc
 agrees_on outcome.NotBegun None q on h = on
 agrees_on outcome.NotBegun (Some p) q on h = cc
 
--- an ending that agrees goes on to agree
+-- an ended attempt that agrees goes on to agree
 pub agree_on : (t : Tag) (out : Outcome) (js ks : List Job) → Advances js ks → Agrees out (phase_of t js) → Agrees out (phase_of t ks)
 agree_on t out js ks on h = agrees_on out (phase_of t js) (phase_of t ks) (phase_on t js ks on) h
 
--- no ending agrees with a job that runs
+-- no ended attempt agrees with a job that runs
 pub none_runs : (out : Outcome) (p : Option Phase) → Agrees out p → p ≡ Some Running → ⊥
 none_runs (outcome.Done name) p h e = let both : Some (Done name) ≡ Some Running = sym h ∙ e in cc
 none_runs (outcome.Broken code) p h e = absurd (subst (λ (x : Option Phase). IsNoneOrBroken x) e h)
@@ -93,12 +93,12 @@ begun_known (e ∷ H) t h = by_kind e.kind (begun_known H t) h where
   by_kind _ earlier h = earlier h
 
 -- what has ended is settled
-pub ended_settled : (H : List Event) (x : Ending) → IsIn x (endings H) → is_settled H x.tag ≡ true
+pub ended_settled : (H : List Event) (x : EndedAttempt) → IsIn x (ended_attempts H) → is_settled H x.tag ≡ true
 ended_settled [] x h = absurd h
 ended_settled (e ∷ H) x h = by_kind e.kind (ended_settled H x) h where
-  by_kind : (k : EventKind) → (IsIn x (endings H) → is_settled H x.tag ≡ true) → IsIn x (endings (event e.moment k ∷ H)) → is_settled (event e.moment k ∷ H) x.tag ≡ true
+  by_kind : (k : EventKind) → (IsIn x (ended_attempts H) → is_settled H x.tag ≡ true) → IsIn x (ended_attempts (event e.moment k ∷ H)) → is_settled (event e.moment k ∷ H) x.tag ≡ true
   by_kind (Settled u out) earlier (inl is) =
-      let same : same_tag x.tag u ≡ true = subst (λ (y : Ending). same_tag y.tag u ≡ true) is (same_tag-refl u) in rw same refl
+      let same : same_tag x.tag u ≡ true = subst (λ (y : EndedAttempt). same_tag y.tag u ≡ true) is (same_tag-refl u) in rw same refl
   by_kind (Settled u out) earlier (inr h) = by_test (same_tag x.tag u) (λ same. rw same refl) (λ other. rw other (earlier h))
   by_kind _ earlier h = earlier h
 
@@ -111,9 +111,9 @@ never_begun width m H t legal allowed known =
       over : (a n : ℕ) → a ≤ n → a ≡ n + 1 → ⊥
       over a n low next = absurd (omega (arith, low, next))
 
--- so no ending is its
+-- so no ended attempt is its
 pub never_ended : (width m : ℕ) (H : List Event) (t : Tag) → IsLegalWithin width m H → IsAllowedWithin width m H (Intent t)
-    → (x : Ending) → IsIn x (endings H) → same_tag x.tag t ≡ false
+    → (x : EndedAttempt) → IsIn x (ended_attempts H) → same_tag x.tag t ≡ false
 never_ended width m H t legal allowed x h = by_test (same_tag x.tag t)
     (λ same.
     let is : x.tag ≡ t = same_tag-true x.tag t same in

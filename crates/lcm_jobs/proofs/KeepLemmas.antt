@@ -12,7 +12,7 @@ use Rattle.lcm_laws.proofs.Histories.{event}
 use Rattle.site_traits.specs.declared.jobs.Phase.{Phase}
 use Rattle.site_traits.specs.Jobs.{Advances, Arrives, Job, phase_of}
 use Rattle.change_planner.specs.Tags.{act_of}
-use Rattle.lcm_jobs.specs.Sound.{Agrees, Attempt, Ending, FitsJobs, IsPartOf, IsSoundWithin, attempt_of, begun, endings}
+use Rattle.lcm_jobs.specs.Sound.{Agrees, Attempt, EndedAttempt, FitsJobs, IsPartOf, IsSoundWithin, attempt_of, begun, ended_attempts}
 use Rattle.lcm_jobs.proofs.Endings.{agree_on, attempts_on, jobs_known, never_begun, never_ended}
 use Rattle.lcm_jobs.proofs.Parts.{part_later, phase_back, phase_none}
 
@@ -28,9 +28,9 @@ begun_more : (H : List Event) (time : ℕ) (k : EventKind) (js : List Job) → I
 begun_more H time (Intent t) js part = part_later (map attempt_of js) (record { tag = t; act = act_of H t }) (begun H) part
 begun_more H time _ js part = part
 
-ended_more : (H : List Event) (time : ℕ) (k : EventKind) (js : List Job) → FitsJobs k js → ((x : Ending) → IsIn x (endings H) → Agrees x.outcome (phase_of x.tag js))
-    → (x : Ending) → IsIn x (endings (event time k ∷ H)) → Agrees x.outcome (phase_of x.tag js)
-ended_more H time (Settled t out) js fits ended x (inl is) = subst (λ (y : Ending). Agrees y.outcome (phase_of y.tag js)) is fits
+ended_more : (H : List Event) (time : ℕ) (k : EventKind) (js : List Job) → FitsJobs k js → ((x : EndedAttempt) → IsIn x (ended_attempts H) → Agrees x.outcome (phase_of x.tag js))
+    → (x : EndedAttempt) → IsIn x (ended_attempts (event time k ∷ H)) → Agrees x.outcome (phase_of x.tag js)
+ended_more H time (Settled t out) js fits ended x (inl is) = subst (λ (y : EndedAttempt). Agrees y.outcome (phase_of y.tag js)) is fits
 ended_more H time (Settled t out) js fits ended x (inr h) = ended x h
 ended_more H time _ js fits ended x h = ended x h
 
@@ -47,9 +47,9 @@ sound_more width m H time k js sound allowed fits = record {
 pub fresh_job : (width m : ℕ) (H : List Event) (t : Tag) (js : List Job) → IsSoundWithin width m H js → IsAllowedWithin width m H (Intent t) → phase_of t js ≡ None
 fresh_job width m H t js sound allowed = phase_none t js (λ h. never_begun width m H t sound.legal allowed (jobs_known H js t sound.begun h))
 
--- a job more leaves the endings as they agreed, where none is of its tag
-agreed_still : (H : List Event) (j : Job) (js : List Job) → ((x : Ending) → IsIn x (endings H) → same_tag x.tag j.tag ≡ false)
-    → ((x : Ending) → IsIn x (endings H) → Agrees x.outcome (phase_of x.tag js)) → (x : Ending) → IsIn x (endings H) → Agrees x.outcome (phase_of x.tag (j ∷ js))
+-- a job more leaves the ended attempts as they agreed, where none is of its tag
+agreed_still : (H : List Event) (j : Job) (js : List Job) → ((x : EndedAttempt) → IsIn x (ended_attempts H) → same_tag x.tag j.tag ≡ false)
+    → ((x : EndedAttempt) → IsIn x (ended_attempts H) → Agrees x.outcome (phase_of x.tag js)) → (x : EndedAttempt) → IsIn x (ended_attempts H) → Agrees x.outcome (phase_of x.tag (j ∷ js))
 agreed_still H j js apart ended x h =
     subst (λ (p : Option Phase). Agrees x.outcome p) (sym (phase_back x.tag j js (apart x h))) (ended x h)
 

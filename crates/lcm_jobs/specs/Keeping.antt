@@ -34,7 +34,7 @@ abbrev pub NewAttemptsHaveNoJob : Type 0
 NewAttemptsHaveNoJob =
     (width m : ℕ) (H : List Event) (t : Tag) (jobs : List Job) → IsSoundWithin width m H jobs → IsAllowedWithin width m H (Intent t) → phase_of t jobs ≡ None
 
--- an ending that agrees with its job goes on to agree with it (own rule)
+-- an ended attempt that agrees with its job goes on to agree with it (own rule)
 abbrev pub EndingsStayAgreed : Type 0
 EndingsStayAgreed =
     (t : Tag) (out : Outcome) (before after : List Job) → Advances before after → Agrees out (phase_of t before) → Agrees out (phase_of t after)

@@ -41,18 +41,18 @@ IsPartOf (x ∷ xs) [] = ⊥
 IsPartOf (x ∷ xs) (y ∷ ys) = ((x ≡ y) × IsPartOf xs ys) ⊎ IsPartOf (x ∷ xs) ys
 
 -- an attempt that ended, and how
-pub record Ending : Type 0 where
+pub record EndedAttempt : Type 0 where
   pub tag : Tag
   pub outcome : Outcome
 
 -- the attempt that an event ends, and how (own rule)
-abbrev pub ending_in : EventKind → Option Ending
-ending_in (Settled t out) = Some (record { tag = t; outcome = out })
-ending_in _ = None
+abbrev pub ended_attempt_in : EventKind → Option EndedAttempt
+ended_attempt_in (Settled t out) = Some (record { tag = t; outcome = out })
+ended_attempt_in _ = None
 
 -- the attempts that ended, and how, the latest first (own rule)
-abbrev pub endings : List Event → List Ending
-endings H = filter_map (λ e. ending_in e.kind) H
+abbrev pub ended_attempts : List Event → List EndedAttempt
+ended_attempts H = filter_map (λ e. ended_attempt_in e.kind) H
 
 -- there is no job, or a broken one (own rule)
 abbrev pub IsNoneOrBroken : Option Phase → Type 0
@@ -69,12 +69,12 @@ Agrees outcome.Aborted p = p ≡ Some Aborted
 Agrees outcome.NotBegun p = p ≡ None
 
 -- Jobs, the latest first, are sound with the history of manager m: the history is legal, where at most so many attempts of an occurrence may be
--- open; the jobs are some of the attempts that were begun, each with its work, in the order in which they were begun; and each ending agrees
+-- open; the jobs are some of the attempts that were begun, each with its work, in the order in which they were begun; and each ended attempt agrees
 -- with the job (own rule).
 pub record IsSoundWithin (width m : ℕ) (H : List Event) (jobs : List Job) : Type 0 where
   pub legal : IsLegalWithin width m H
   pub begun : IsPartOf (map attempt_of jobs) (begun H)
-  pub ended : (x : Ending) → IsIn x (endings H) → Agrees x.outcome (phase_of x.tag jobs)
+  pub ended : (x : EndedAttempt) → IsIn x (ended_attempts H) → Agrees x.outcome (phase_of x.tag jobs)
 
 -- jobs are sound with the history of manager m (own rule)
 abbrev pub IsSound : ℕ → List Event → List Job → Type 0

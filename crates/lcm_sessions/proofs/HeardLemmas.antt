@@ -5,7 +5,7 @@ use Rattle.executor.specs.Work.{Idles, Works}
 use Rattle.lcm_api.specs.Failing.{counts_by}
 use Rattle.lcm_api.specs.Hearing.{heard_of}
 use Rattle.lcm_api.specs.Mouth.{MouthState}
-use Rattle.lcm_api.specs.World.{Tells, World, world}
+use Rattle.lcm_api.specs.World.{WorldTells, World, world}
 use Rattle.lcm_events.specs.declared.events.Event.{Event}
 use Rattle.lcm_events.specs.declared.states.Role.{Role}
 use Rattle.lcm_sessions.specs.Doing.{Brings, BringsNothing, HearsDescriptor, OnboardingAtDoor, Onboards, OnlyDoorFails}
@@ -31,7 +31,7 @@ brought_out n failed role a b c d comes hears gone =
     ap out gone.conn ∙ ap out hears.conn ∙ heard_out n failed b.conn ∙ ap out comes.conn
 
 -- bytes were heard, judged and recorded
-pub onboards_heard : (t : Tells) (m : ℕ) (H : List Event) (n : Managed) (count now value : ℕ) (room : List ℕ) (answer : Result Onboarded OnboardFault) (w v : World)
+pub onboards_heard : (t : WorldTells) (m : ℕ) (H : List Event) (n : Managed) (count now value : ℕ) (room : List ℕ) (answer : Result Onboarded OnboardFault) (w v : World)
     → HearsDescriptor t.door (Ok count) room w.mouth v.mouth
     → answer ≡ judged_answer (verdict H now (take count room)) (ended_by answer)
     → Works t.site m H (worked H (onboarded now (verdict H now (take count room))) (ended_by answer)) n w.site v.site
@@ -44,7 +44,7 @@ onboards_heard t m H n count now value room answer w v hears told works gives mo
 )
 
 -- nothing was heard
-pub onboards_unheard : (t : Tells) (m : Managed) (H : List Event) (why : Unheard) (room : List ℕ) (s : SiteState) (c d : MouthState) (ks : List ℕ)
+pub onboards_unheard : (t : WorldTells) (m : Managed) (H : List Event) (why : Unheard) (room : List ℕ) (s : SiteState) (c d : MouthState) (ks : List ℕ)
     → HearsDescriptor t.door (Err why) room c d → d.told ≡ c.told → Idles t.site s → IsReady t.site m H s
     → (o : Onboarding) × Onboards t m.ledger.manager H o m (world s c ks) (world s d ks) × (Err fault.Door ≡ answer_of H o)
 onboards_unheard t m H Waiting room s c d ks hears unnoted idles ready =

@@ -15,7 +15,7 @@ use Rattle.lcm_api.specs.Response.{text}
 use Rattle.lcm_api.specs.Answering.{IsAcknowledged, IsOutcomeOf}
 use Rattle.lcm_api.specs.Outcome.{outcome}
 use Rattle.lcm_api.specs.Replies.{refusal, starved}
-use Rattle.lcm_sessions.specs.Session.{AreFor, Ask, Last, Ending, Talk, asked_last, behind_last, behind_told, counts_behind, has_reply, is_breaking, is_cut, is_lost, unheard, once_answered, outcome_of, replies, reply_last, said, taken_by, work_last}
+use Rattle.lcm_sessions.specs.Session.{AreFor, Ask, Last, Closing, Talk, asked_last, behind_last, behind_told, counts_behind, has_reply, is_breaking, is_cut, is_lost, unheard, once_answered, outcome_of, replies, reply_last, said, taken_by, work_last}
 use Rattle.lcm_sessions.specs.Step.{Responds, IsAbout, IsStep, answered_one, ended_so}
 use Rattle.lcm_sessions.specs.declared.session.Step.{Step}
 use Rattle.lcm_sessions.specs.declared.session.Step.TheVariants as step
@@ -23,7 +23,7 @@ use Rattle.site_traits.specs.Clock.{Gives}
 use Rattle.lcm_api.specs.World as outside
 use Rattle.lcm_api.specs.World.{World, world}
 use Rattle.lcm_sessions.specs.Talking.{Remains, remains_of, IsNext, AreRequests, GaveAll, Converses, IsSaid, SaysLast, Speaks, AsksLast, EndsFor, IsRejection, Talks}
-use Rattle.lcm_api.specs.Telling.{Tells}
+use Rattle.lcm_api.specs.Telling.{WorldTells}
 use Rattle.lcm_api.specs.declared.door.DoorFailed.{DoorFailed}
 use Rattle.lcm_api.specs.declared.reply.Reply.{Reply}
 use Rattle.lcm_sessions.proofs.TalkLemmas.{converses_then, converses_read, converses_told, converses_front, counts_left, counts_since, counts_then, ends_since}
@@ -64,7 +64,7 @@ cut_counts wire.Read reply a b counts = counts
 cut_counts wire.Memory reply a b counts = counts
 
 -- a request was taken and answered
-pub talk_of_request : (t : outside.Tells) (m : ℕ) (H : List Event) (talk : Talk) (r : Request) (n : Managed) (s : SiteState) (c u : MouthState) (ks : List ℕ) (v : World)
+pub talk_of_request : (t : outside.WorldTells) (m : ℕ) (H : List Event) (talk : Talk) (r : Request) (n : Managed) (s : SiteState) (c u : MouthState) (ks : List ℕ) (v : World)
     → Counts t.door c.wire u.wire r → OnlyTakesIn t.door c.wire.intake u.wire.intake → u.wire.intake.counts ≡ c.wire.intake.counts → u.told ≡ c.told → Responds t m H talk n (world s u ks) v → IsAbout r talk → Talks t m H talk n (world s c ks) v
 talk_of_request t m H talk r n s c u ks v counts reads same unnoted does about =
     let Q : List Ask → Type 0 = λ asks. AreRequests asks (remains_of c.wire) (remains_of v.mouth.wire) in
@@ -96,14 +96,14 @@ talk_of_request t m H talk r n s c u ks v counts reads same unnoted does about =
     }
 
 -- what a telling at the end says
-pub says_last : (reply : Reply) (told : Result (Unit {0}) DoorFailed) (a b : DoorState) → Tells (text reply) told a b → (final : List ℕ) × IsSaid (Some reply) told final × Converses [] final a b
+pub says_last : (reply : Reply) (told : Result (Unit {0}) DoorFailed) (a b : DoorState) → WorldTells (text reply) told a b → (final : List ℕ) × IsSaid (Some reply) told final × Converses [] final a b
 says_last reply (Ok done) a b tells = (text reply, refl, converses_told (text reply) a b tells)
 says_last reply (Err failed) a b tells =
     let front = converses_front (text reply) failed a b tells in
     (take front.0 (text reply), (front.0, refl), front.1)
 
 -- No request was taken, and the session ends.
-pub talk_of_end : (t : outside.Tells) (m : Managed) (H : List Event) (role : Role) (end : Ending) (answer : Result Taken WireFault) (s : SiteState) (c u v : MouthState) (ks : List ℕ)
+pub talk_of_end : (t : outside.WorldTells) (m : Managed) (H : List Event) (role : Role) (end : Closing) (answer : Result Taken WireFault) (s : SiteState) (c u v : MouthState) (ks : List ℕ)
     → Idles t.site s → IsReady t.site m H s → Takes t.door answer c.wire u.wire → OnlyTakesIn t.door c.wire.intake u.wire.intake → TakesNone t.door c.wire u.wire
     → asked_last end.last ≡ [] → work_last m.ledger.manager H end.last ≡ went H → (AsksLast t.door answer (is_lost end) c.wire v.wire → EndsFor t.door end.last end.told c.wire v.wire)
     → (t.door → (final : List ℕ) × IsSaid (reply_last m.ledger.manager H end.last) end.told final × Converses [] final u.wire.intake.door v.wire.intake.door)
@@ -172,8 +172,8 @@ pub same_hand : (hand : Option Request) (q r : Request) → hand ≡ Some q → 
 same_hand hand q r one other = cc
 
 -- the reply to a request was told whole
-pub responds_told : (t : outside.Tells) (m : ℕ) (H : List Event) (role : Role) (x : Ask) (n : Managed) (reply : Reply) (w v : World) → Works t.site m H (went (once_answered m H x)) n w.site v.site
-    → reply ≡ (outcome_of m H x).reply → (t.clock → Gives x.value w.clock v.clock) → (t.door → Tells (text reply) (Ok tt) w.mouth.wire.intake.door v.mouth.wire.intake.door)
+pub responds_told : (t : outside.WorldTells) (m : ℕ) (H : List Event) (role : Role) (x : Ask) (n : Managed) (reply : Reply) (w v : World) → Works t.site m H (went (once_answered m H x)) n w.site v.site
+    → reply ≡ (outcome_of m H x).reply → (t.clock → Gives x.value w.clock v.clock) → (t.door → WorldTells (text reply) (Ok tt) w.mouth.wire.intake.door v.mouth.wire.intake.door)
     → OnlyAtDoor w.mouth v.mouth → FailsOnce false w.mouth.wire.intake.counts v.mouth.wire.intake.counts
     → StandingStays t.site w.site v.site → v.mouth.told ≡ v.site.moment ∷ w.mouth.told → Responds t m H (answered_one role x) n w v
 responds_told t m H role x n reply w v works is gives told kept fails stands noted = record {
@@ -191,9 +191,9 @@ responds_told t m H role x n reply w v works is gives told kept fails stands not
 }
 
 -- the session ends with a request
-pub responds_last : (t : outside.Tells) (m : ℕ) (H : List Event) (role : Role) (x : Ask) (last : Last) (result : Result (Unit {0}) DoorFailed) (n : Managed) (reply : Reply) (w v : World)
+pub responds_last : (t : outside.WorldTells) (m : ℕ) (H : List Event) (role : Role) (x : Ask) (last : Last) (result : Result (Unit {0}) DoorFailed) (n : Managed) (reply : Reply) (w v : World)
     → asked_last last ≡ x ∷ [] → Works t.site m H (work_last m H last) n w.site v.site → reply_last m H last ≡ Some reply → EndsFor t.door last result w.mouth.wire v.mouth.wire
-    → (t.clock → Gives x.value w.clock v.clock) → (t.door → Tells (text reply) result w.mouth.wire.intake.door v.mouth.wire.intake.door)
+    → (t.clock → Gives x.value w.clock v.clock) → (t.door → WorldTells (text reply) result w.mouth.wire.intake.door v.mouth.wire.intake.door)
     → OnlyAtDoor w.mouth v.mouth → v.mouth.wire.intake.counts ≡ counts_behind (Some (record { last = last; told = result })) w.mouth.wire.intake.counts
     → NoNextFault w.mouth.wire.intake.counts v.mouth.wire.intake.counts → StandingStays t.site w.site v.site → has_reply last ≡ true
     → v.mouth.told ≡ v.site.moment ∷ w.mouth.told → Responds t m H (ended_so role (record { last = last; told = result })) n w v

@@ -8,13 +8,13 @@ use Rattle.http_wire.specs.declared.TheConstants.{CONNECTION_REQUESTS}
 use Rattle.http_wire.specs.Intake.{OnlyReads}
 use Rattle.http_wire.specs.Wire.{WireState}
 use Rattle.lcm_api.specs.Response.{text}
-use Rattle.lcm_sessions.specs.Session.{AreFor, Ask, Last, Ending, Talk, over, unheard, untold, starving, breaking, behind_last, behind_replies, behind_told, counts_behind, life, once_answered, outcome_of, replies, said, asked_by, work_by}
+use Rattle.lcm_sessions.specs.Session.{AreFor, Ask, Last, Closing, Talk, over, unheard, untold, starving, breaking, behind_last, behind_replies, behind_told, counts_behind, life, once_answered, outcome_of, replies, said, asked_by, work_by}
 use Rattle.lcm_sessions.specs.Step.{answered_one, ended_so}
 use Rattle.lcm_api.specs.World as outside
 use Rattle.lcm_sessions.specs.Talking as talking
 use Rattle.lcm_api.specs.World.{World}
 use Rattle.lcm_sessions.specs.Talking.{Remains, IsNext, AreRequests, GaveAll, Converses, SaysLast, Speaks, AsksLast, EndsFor, Ends, Talks}
-use Rattle.lcm_api.specs.Telling.{Tells}
+use Rattle.lcm_api.specs.Telling.{WorldTells}
 use Rattle.lcm_api.specs.declared.door.DoorFailed.{DoorFailed}
 use Rattle.lcm_api.specs.declared.reply.Reply.{Reply}
 use Rattle.lcm_events.specs.declared.events.Event.{Event}
@@ -90,7 +90,7 @@ converses_read read a b reads = record {
   hung_up = reads.hung_up;
 }
 
-pub converses_told : (bytes : List ℕ) (a b : DoorState) → Tells bytes (Ok tt) a b → Converses [] bytes a b
+pub converses_told : (bytes : List ℕ) (a b : DoorState) → WorldTells bytes (Ok tt) a b → Converses [] bytes a b
 converses_told bytes a b told = record {
   answers = told.answers;
   past = told.past;
@@ -100,7 +100,7 @@ converses_told bytes a b told = record {
   hung_up = ap (λ c. c.hung_up) told.conn;
 }
 
-pub converses_front : (bytes : List ℕ) (failed : DoorFailed) (a b : DoorState) → Tells bytes (Err failed) a b → (n : ℕ) × Converses [] (take n bytes) a b
+pub converses_front : (bytes : List ℕ) (failed : DoorFailed) (a b : DoorState) → WorldTells bytes (Err failed) a b → (n : ℕ) × Converses [] (take n bytes) a b
 converses_front bytes failed a b told = (
   told.0,
   record {
@@ -147,15 +147,15 @@ ends_for_since tells (starving x) told a b c before ends = ends
 ends_for_since tells (breaking x) told a b c before ends = ends
 
 -- what a talk that began later says of its end
-pub ends_since : (tells : Type 0) (end : Option Ending) (a b c : WireState) → b.intake.counts ≡ a.intake.counts → Ends tells end b c → Ends tells end a c
+pub ends_since : (tells : Type 0) (end : Option Closing) (a b c : WireState) → b.intake.counts ≡ a.intake.counts → Ends tells end b c → Ends tells end a c
 ends_since tells None a b c before ends = tt
 ends_since tells (Some end) a b c before ends = ends_for_since tells end.last end.told a b c before ends
 
 -- what a talk that began where nothing had failed leaves of the counts
-pub counts_since : (end : Option Ending) (a b c : DoorCounts) → b ≡ a → c ≡ counts_behind end b → c ≡ counts_behind end a
+pub counts_since : (end : Option Closing) (a b c : DoorCounts) → b ≡ a → c ≡ counts_behind end b → c ≡ counts_behind end a
 counts_since end a b c before behind = behind ∙ ap (counts_behind end) before
 
-speaks_on : (m : ℕ) (H : List Event) (role : Role) (xs ys : List Ask) (end : Option Ending) (a b c : DoorState) → Speaks m H (record { role = role; asks = xs; end = None }) a b
+speaks_on : (m : ℕ) (H : List Event) (role : Role) (xs ys : List Ask) (end : Option Closing) (a b c : DoorState) → Speaks m H (record { role = role; asks = xs; end = None }) a b
     → Speaks m (life (once_answered m) H xs) (record { role = role; asks = ys; end = end }) b c → Speaks m H (record { role = role; asks = ys ++ xs; end = end }) a c
 speaks_on m H role xs ys end a b c first second =
     let G : List Event = life (once_answered m) H xs in
@@ -174,7 +174,7 @@ speaks_on m H role xs ys end a b c first second =
     }
 
 -- a talk behind another is the talk of all their requests
-pub talks_on : (t : outside.Tells) (m : ℕ) (H : List Event) (role : Role) (xs ys : List Ask) (end : Option Ending) (n o : Managed) (w u v : World) → Joins t.site w.site u.site v.site
+pub talks_on : (t : outside.WorldTells) (m : ℕ) (H : List Event) (role : Role) (xs ys : List Ask) (end : Option Closing) (n o : Managed) (w u v : World) → Joins t.site w.site u.site v.site
     → ChainsJoin t.site w.site u.site v.site
     → Talks t m H (record { role = role; asks = xs; end = None }) n w u → Talks t m (life (once_answered m) H xs) (record { role = role; asks = ys; end = end }) o u v
     → Talks t m H (record { role = role; asks = ys ++ xs; end = end }) o w v
@@ -206,7 +206,7 @@ talks_on t m H role xs ys end n o w u v joins chains first second =
     }
 
 -- The talk so far: so many requests were answered, and all replies to them were told whole.
-pub record TalksSoFar (t : outside.Tells) (role : Role) (m n : Managed) (told : ℕ) (w v : World) : Type 0 where
+pub record TalksSoFar (t : outside.WorldTells) (role : Role) (m n : Managed) (told : ℕ) (w v : World) : Type 0 where
   pub each : (H : List Event) → IsReady t.site m H w.site
       → (asks : List Ask) × Talks t m.ledger.manager H (record { role = role; asks = asks; end = None }) n w v × (told ≡ length asks)
   pub up : v.mouth.wire.intake.counts.up ≡ true
@@ -214,7 +214,7 @@ pub record TalksSoFar (t : outside.Tells) (role : Role) (m n : Managed) (told : 
   pub within : (told ≡ 0) ⊎ (v.mouth.wire.taken ≤ CONNECTION_REQUESTS)
 
 -- before the first request
-pub none_so_far : (t : outside.Tells) (role : Role) (m : Managed) (w : World) → Idles t.site w.site → w.mouth.wire.intake.counts.up ≡ true → TalksSoFar t role m m 0 w w
+pub none_so_far : (t : outside.WorldTells) (role : Role) (m : Managed) (w : World) → Idles t.site w.site → w.mouth.wire.intake.counts.up ≡ true → TalksSoFar t role m m 0 w w
 none_so_far t role m w idles up = record {
   each = λ H ready. (
     [],
@@ -239,14 +239,14 @@ none_so_far t role m w idles up = record {
 }
 
 -- behind the talk so far the manager is ready
-pub ready_so_far : (t : outside.Tells) (role : Role) (m n : Managed) (told : ℕ) (w v : World) → TalksSoFar t role m n told w v → LeadsOn t.site w.site v.site → (H : List Event) × IsReady t.site m H w.site
+pub ready_so_far : (t : outside.WorldTells) (role : Role) (m n : Managed) (told : ℕ) (w v : World) → TalksSoFar t role m n told w v → LeadsOn t.site w.site v.site → (H : List Event) × IsReady t.site m H w.site
     → (H : List Event) × IsReady t.site n H v.site
 ready_so_far t role m n told w v so_far leads ready =
     let talk = so_far.each ready.0 ready.1 in
     (life (once_answered m.ledger.manager) ready.0 talk.0, leads m.ledger.manager ready.0 (work_by m.ledger.manager (life (once_answered m.ledger.manager) ready.0 talk.0) None) n talk.1.works refl)
 
 -- one request more
-pub one_more_told : (t : outside.Tells) (role : Role) (m n o : Managed) (told : ℕ) (w u v : World) → TalksSoFar t role m n told w u → LeadsOn t.site w.site u.site → Joins t.site w.site u.site v.site
+pub one_more_told : (t : outside.WorldTells) (role : Role) (m n o : Managed) (told : ℕ) (w u v : World) → TalksSoFar t role m n told w u → LeadsOn t.site w.site u.site → Joins t.site w.site u.site v.site
     → ChainsJoin t.site w.site u.site v.site
     → ((H : List Event) → IsReady t.site n H u.site → (talk : Talk) × Talks t n.ledger.manager H talk o u v × ((x : Ask) × (talk ≡ answered_one role x)))
     → v.mouth.wire.intake.counts.up ≡ true → u.mouth.wire.taken < v.mouth.wire.taken → v.mouth.wire.taken ≤ CONNECTION_REQUESTS → TalksSoFar t role m o (told + 1) w v
@@ -267,23 +267,23 @@ one_more_told t role m n o told w u v so_far leads joins chains step up more few
 }
 
 -- the end behind the talk so far
-pub ended_so_far : (t : outside.Tells) (role : Role) (m n o : Managed) (told : ℕ) (P : Ending → Type 0) (w u v : World) → TalksSoFar t role m n told w u → LeadsOn t.site w.site u.site → Joins t.site w.site u.site v.site
+pub ended_so_far : (t : outside.WorldTells) (role : Role) (m n o : Managed) (told : ℕ) (P : Closing → Type 0) (w u v : World) → TalksSoFar t role m n told w u → LeadsOn t.site w.site u.site → Joins t.site w.site u.site v.site
     → ChainsJoin t.site w.site u.site v.site
-    → ((H : List Event) → IsReady t.site n H u.site → (talk : Talk) × Talks t n.ledger.manager H talk o u v × ((end : Ending) × (talk ≡ ended_so role end) × P end))
+    → ((H : List Event) → IsReady t.site n H u.site → (talk : Talk) × Talks t n.ledger.manager H talk o u v × ((end : Closing) × (talk ≡ ended_so role end) × P end))
     → (H : List Event) → IsReady t.site m H w.site
-    → (asks : List Ask) × (end : Ending) × Talks t m.ledger.manager H (record { role = role; asks = asks; end = Some end }) o w v × (told ≡ length asks) × P end
+    → (asks : List Ask) × (end : Closing) × Talks t m.ledger.manager H (record { role = role; asks = asks; end = Some end }) o w v × (told ≡ length asks) × P end
 ended_so_far t role m n o told P w u v so_far leads joins chains step H ready =
     let talk = so_far.each H ready in
     let G : List Event = life (once_answered m.ledger.manager) H talk.0 in
     let next = step G (leads m.ledger.manager H (work_by m.ledger.manager G None) n talk.1.works refl) in
-    let end : Ending = next.2.0 in
+    let end : Closing = next.2.0 in
     let A : Talk → Type 0 = λ z. Talks t n.ledger.manager G z o u v in
     let B : ℕ → Type 0 = λ k. Talks t k G (ended_so role end) o u v in
     let one : Talks t m.ledger.manager G (ended_so role end) o u v = subst B talk.1.works.number (subst A next.2.1 next.1) in
     (talk.0, end, talks_on t m.ledger.manager H role talk.0 [] (Some end) n o w u v joins chains talk.1 one, talk.2, next.2.2)
 
 -- no more replies were told than a connection may have requests
-pub told_few : (t : outside.Tells) (role : Role) (m n : Managed) (told : ℕ) (w v : World) → TalksSoFar t role m n told w v → told ≤ CONNECTION_REQUESTS
+pub told_few : (t : outside.WorldTells) (role : Role) (m n : Managed) (told : ℕ) (w v : World) → TalksSoFar t role m n told w v → told ≤ CONNECTION_REQUESTS
 told_few t role m n told w v so_far =
     let few = so_far.few in
     ⊎_elim (λ (none : told ≡ 0). omega (arith, none)) (λ (most : v.mouth.wire.taken ≤ CONNECTION_REQUESTS). omega (arith, most, few)) so_far.within

@@ -5,7 +5,7 @@ use Rattle.executor.specs.Work.{Works}
 use Rattle.lcm_api.specs.Failing.{FailsOnce}
 use Rattle.lcm_api.specs.Hearing.{Hears}
 use Rattle.lcm_api.specs.Mouth.{MouthState}
-use Rattle.lcm_api.specs.World.{Tells, Peers, World, peers_of}
+use Rattle.lcm_api.specs.World.{WorldTells, Peers, World, peers_of}
 use Rattle.lcm_api.specs.Waiting.{IsNobody, IsUnreached}
 use Rattle.lcm_events.specs.declared.events.Event.{Event}
 use Rattle.lcm_events.specs.declared.states.Role.{Role}
@@ -67,12 +67,12 @@ OnboardingAtClock (heard bytes now ended) old new = IsTimed now old new
 OnboardingAtClock other old new = new ≡ old
 
 -- what onboarding does to both; nothing is told
-pub record BringsIn (t : Tells) (o : Onboarding) (a b : Peers) : Type 0 where
+pub record BringsIn (t : WorldTells) (o : Onboarding) (a b : Peers) : Type 0 where
   pub door : OnboardingAtDoor t.door o a.mouth b.mouth
   pub clock : t.clock → OnboardingAtClock o a.clock b.clock
   pub unnoted : b.mouth.told ≡ a.mouth.told
 
 -- what onboarding does to the journal too; the manager is now n
-pub record Onboards (t : Tells) (m : ℕ) (H : List Event) (o : Onboarding) (n : Managed) (w v : World) : Type 0 where
+pub record Onboards (t : WorldTells) (m : ℕ) (H : List Event) (o : Onboarding) (n : Managed) (w v : World) : Type 0 where
   pub works : Works t.site m H (onboarding_work H o) n w.site v.site
   pub brings : BringsIn t o (peers_of w) (peers_of v)

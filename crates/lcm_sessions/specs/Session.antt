@@ -34,7 +34,7 @@ pub data Last : Type 0 where
   breaking : Ask → Last
 
 -- how a session ended, and whether what is told then was told whole
-pub record Ending : Type 0 where
+pub record Closing : Type 0 where
   pub last : Last
   pub told : Result (Unit {0}) DoorFailed
 
@@ -43,7 +43,7 @@ pub record Ending : Type 0 where
 pub record Talk : Type 0 where
   pub role : Role
   pub asks : List Ask
-  pub end : Option Ending
+  pub end : Option Closing
 
 -- the history once these steps were taken, the latest first, each behind those before it
 abbrev pub life : {X : Type 0} → (List Event → X → List Event) → List Event → List X → List Event
@@ -76,7 +76,7 @@ asked_last (untold x) = x ∷ []
 asked_last (starving x) = x ∷ []
 asked_last (breaking x) = x ∷ []
 
-abbrev pub asked_by : Option Ending → List Ask
+abbrev pub asked_by : Option Closing → List Ask
 asked_by None = []
 asked_by (Some end) = asked_last end.last
 
@@ -105,7 +105,7 @@ work_last m H (starving x) = went H
 work_last m H (breaking x) = broke H (once_answered m H x)
 
 -- the work so far behind history H: all that was answered, and what the end does
-abbrev pub work_by : ℕ → List Event → Option Ending → Work
+abbrev pub work_by : ℕ → List Event → Option Closing → Work
 work_by m H None = went H
 work_by m H (Some end) = work_last m H end.last
 
@@ -120,7 +120,7 @@ has_reply (unheard cause reply) = is_some reply
 has_reply other = true
 
 -- how many replies were told whole at the end: one or none
-abbrev pub told_last : Option Ending → ℕ
+abbrev pub told_last : Option Closing → ℕ
 told_last None = 0
 told_last (Some end) = if has_reply end.last && is_ok end.told then 1 else 0
 
@@ -130,7 +130,7 @@ behind_replies m H [] = []
 behind_replies m H (x ∷ before) = life (once_answered m) H (x ∷ before) ∷ behind_replies m H before
 
 -- the history behind what is told at the end, where there is something to tell
-abbrev pub behind_last : ℕ → List Event → Option Ending → List (List Event)
+abbrev pub behind_last : ℕ → List Event → Option Closing → List (List Event)
 behind_last m H None = []
 behind_last m H (Some end) = if has_reply end.last then stood (work_last m H end.last) ∷ [] else []
 
@@ -143,7 +143,7 @@ abbrev pub is_breaking : Last → Bool
 is_breaking (breaking x) = true
 is_breaking other = false
 
-abbrev pub breaks : Option Ending → Bool
+abbrev pub breaks : Option Closing → Bool
 breaks None = false
 breaks (Some end) = is_breaking end.last
 
@@ -153,12 +153,12 @@ is_cut (unheard fault.Read reply) = true
 is_cut other = false
 
 -- something was to be told at the end, and wasn't told whole
-abbrev pub is_lost : Ending → Bool
+abbrev pub is_lost : Closing → Bool
 is_lost end = has_reply end.last && is_err end.told
 
 -- The door's counts once a session ended so, or as far as it went: one fault more where the read for the next request failed, one where what was
 -- to be told wasn't told whole, and else none (own rule).
-abbrev pub counts_behind : Option Ending → DoorCounts → DoorCounts
+abbrev pub counts_behind : Option Closing → DoorCounts → DoorCounts
 counts_behind None c = c
 counts_behind (Some end) c = counts_by (is_lost end) (counts_by (is_cut end.last) c)
 

@@ -11,10 +11,10 @@ use Rattle.lcm_api.specs.Mouth.{MouthState, OnlyAtDoor}
 use Rattle.lcm_api.specs.Replies.{starved}
 use Rattle.lcm_api.specs.Response.{text}
 use Rattle.lcm_api.specs.Failing.{FailsOnce}
-use Rattle.lcm_api.specs.Telling.{Tells}
+use Rattle.lcm_api.specs.Telling.{WorldTells}
 use Rattle.lcm_api.specs.declared.door.DoorFailed.{DoorFailed}
 use Rattle.lcm_api.specs.declared.reply.Reply.{Reply}
-use Rattle.lcm_sessions.specs.Session.{Ask, Ending, Talk, life, once_answered, replies, said, taken_by, told_last, behind_told, breaks, counts_behind, work_of}
+use Rattle.lcm_sessions.specs.Session.{Ask, Closing, Talk, life, once_answered, replies, said, taken_by, told_last, behind_told, breaks, counts_behind, work_of}
 use Rattle.lcm_api.specs.World as outside
 use Rattle.lcm_api.specs.World.{World}
 use Rattle.lcm_sessions.specs.Talking.{Converses, Ends, GaveAll, SaysLast}
@@ -29,15 +29,15 @@ abbrev pub answered_one : Role → Ask → Talk
 answered_one role x = record { role = role; asks = x ∷ []; end = None }
 
 -- the talk of an end alone
-abbrev pub ended_so : Role → Ending → Talk
+abbrev pub ended_so : Role → Closing → Talk
 ended_so role end = record { role = role; asks = []; end = Some end }
 
 -- what a step was, by what it answers
 abbrev pub IsStep : Role → Talk → Step → Type 0
 IsStep role talk step.Told = (x : Ask) × (talk ≡ answered_one role x)
-IsStep role talk step.ToldLast = (end : Ending) × (talk ≡ ended_so role end) × (told_last (Some end) ≡ 1) × (breaks (Some end) ≡ false)
-IsStep role talk step.Over = (end : Ending) × (talk ≡ ended_so role end) × (told_last (Some end) ≡ 0) × (breaks (Some end) ≡ false)
-IsStep role talk step.Broken = (end : Ending) × (talk ≡ ended_so role end) × (breaks (Some end) ≡ true)
+IsStep role talk step.ToldLast = (end : Closing) × (talk ≡ ended_so role end) × (told_last (Some end) ≡ 1) × (breaks (Some end) ≡ false)
+IsStep role talk step.Over = (end : Closing) × (talk ≡ ended_so role end) × (told_last (Some end) ≡ 0) × (breaks (Some end) ≡ false)
+IsStep role talk step.Broken = (end : Closing) × (talk ≡ ended_so role end) × (breaks (Some end) ≡ true)
 
 -- nothing came in, and what is said went out
 pub record Replies (m : ℕ) (H : List Event) (talk : Talk) (a b : DoorState) : Type 0 where
@@ -46,7 +46,7 @@ pub record Replies (m : ℕ) (H : List Event) (talk : Talk) (a b : DoorState) : 
   pub door : Converses [] (said (replies m H talk.asks) ++ final) a b
 
 -- what answering the request in hand does
-pub record Responds (t : outside.Tells) (m : ℕ) (H : List Event) (talk : Talk) (n : Managed) (w v : World) : Type 0 where
+pub record Responds (t : outside.WorldTells) (m : ℕ) (H : List Event) (talk : Talk) (n : Managed) (w v : World) : Type 0 where
   pub works : Works t.site m H (work_of m H talk) n w.site v.site
   pub replies : t.door → Replies m H talk w.mouth.wire.intake.door v.mouth.wire.intake.door
   pub clock : t.clock → GaveAll (taken_by talk) w.clock v.clock
@@ -75,5 +75,5 @@ IsOrStarved (Err e) reply = reply ≡ starved
 pub record TellsLast (tells : Type 0) (reply : Reply) (answer : Step) (a b : MouthState) : Type 0 where
   pub result : Result (Unit {0}) DoorFailed
   pub is : answer ≡ (if is_ok result then step.ToldLast else step.Over)
-  pub told : tells → Tells (text reply) result a.wire.intake.door b.wire.intake.door
+  pub told : tells → WorldTells (text reply) result a.wire.intake.door b.wire.intake.door
   pub cause : FailsOnce (is_err result) a.wire.intake.counts b.wire.intake.counts

@@ -15,10 +15,10 @@ use Rattle.http_wire.specs.declared.request.WireFault.{WireFault}
 use Rattle.http_wire.specs.declared.request.WireFault.TheVariants as fault
 use Rattle.lcm_api.specs.Failing.{counts_by}
 use Rattle.lcm_api.specs.Mouth.{MouthState, Takes}
-use Rattle.lcm_api.specs.World.{Tells, Peers, World, peers_of}
+use Rattle.lcm_api.specs.World.{WorldTells, Peers, World, peers_of}
 use Rattle.lcm_api.specs.Replies.{malformed, too_large, starved}
 use Rattle.lcm_api.specs.Response.{text}
-use Rattle.lcm_sessions.specs.Session.{AreFor, Ask, Last, Ending, Talk, over, unheard, untold, behind_told, counts_behind, life, once_answered, replies, said, taken_by, reply_last, work_of}
+use Rattle.lcm_sessions.specs.Session.{AreFor, Ask, Last, Closing, Talk, over, unheard, untold, behind_told, counts_behind, life, once_answered, replies, said, taken_by, reply_last, work_of}
 use Rattle.lcm_api.specs.declared.door.DoorFailed.{DoorFailed}
 use Rattle.lcm_api.specs.declared.reply.Reply.{Reply}
 use Rattle.lcm_events.specs.declared.events.Event.{Event}
@@ -75,7 +75,7 @@ IsSaid None (Ok done) bytes = bytes ≡ []
 IsSaid None (Err failed) bytes = ⊥
 
 -- the bytes that go out at the end, behind history H
-abbrev pub SaysLast : ℕ → List Event → Option Ending → List ℕ → Type 0
+abbrev pub SaysLast : ℕ → List Event → Option Closing → List ℕ → Type 0
 SaysLast m H None bytes = bytes ≡ []
 SaysLast m H (Some end) bytes = IsSaid (reply_last m H end.last) end.told bytes
 
@@ -116,12 +116,12 @@ EndsFor tells (unheard cause reply) told a b = AsksLast tells (Err cause) (is_so
 EndsFor tells (untold x) told a b = is_ok told ≡ false
 EndsFor tells other told a b = Unit {0}
 
-abbrev pub Ends : Type 0 → Option Ending → WireState → WireState → Type 0
+abbrev pub Ends : Type 0 → Option Closing → WireState → WireState → Type 0
 Ends tells None a b = Unit {0}
 Ends tells (Some end) a b = EndsFor tells end.last end.told a b
 
 -- What a session does to the connection and the clock, or as much of it as was done so far, over history H of manager m.
-pub record Holds (t : Tells) (m : ℕ) (H : List Event) (talk : Talk) (a b : Peers) : Type 0 where
+pub record Holds (t : WorldTells) (m : ℕ) (H : List Event) (talk : Talk) (a b : Peers) : Type 0 where
   pub roles : AreFor talk.role (taken_by talk)
   pub requests : t.door → AreRequests (taken_by talk) (remains_of a.mouth.wire) (remains_of b.mouth.wire)
   pub speaks : t.door → Speaks m H talk a.mouth.wire.intake.door b.mouth.wire.intake.door
@@ -131,15 +131,15 @@ pub record Holds (t : Tells) (m : ℕ) (H : List Event) (talk : Talk) (a b : Pee
   pub counts : NoNextFault a.mouth.wire.intake.counts b.mouth.wire.intake.counts
 
 -- What it does to the journal too; the manager is now n. From the telling of each reply on no stop takes back the history behind it.
-pub record Talks (t : Tells) (m : ℕ) (H : List Event) (talk : Talk) (n : Managed) (w v : World) : Type 0 where
+pub record Talks (t : WorldTells) (m : ℕ) (H : List Event) (talk : Talk) (n : Managed) (w v : World) : Type 0 where
   pub works : Works t.site m H (work_of m H talk) n w.site v.site
   pub holds : Holds t m H talk (peers_of w) (peers_of v)
   pub told : AreTold t.site m (behind_told m H talk) w.mouth.told v.mouth.told w.site v.site
 
 -- a session was held to its end, and then the connection was ended
-pub record Attends (t : Tells) (m : ℕ) (H : List Event) (talk : Talk) (a b : Peers) : Type 0 where
+pub record Attends (t : WorldTells) (m : ℕ) (H : List Event) (talk : Talk) (a b : Peers) : Type 0 where
   pub between : MouthState
-  pub end : Ending
+  pub end : Closing
   pub ended : talk.end ≡ Some end
   pub holds : Holds t m H talk a (record { mouth = between; clock = b.clock })
   pub role : between.role ≡ talk.role
@@ -147,7 +147,7 @@ pub record Attends (t : Tells) (m : ℕ) (H : List Event) (talk : Talk) (a b : P
   pub counts : b.mouth.wire.intake.counts ≡ closed between.wire.intake.counts
 
 -- What serving a connection does. From the telling of each reply on no stop takes back the history behind it.
-pub record Serves (t : Tells) (m : ℕ) (H : List Event) (talk : Talk) (n : Managed) (w v : World) : Type 0 where
+pub record Serves (t : WorldTells) (m : ℕ) (H : List Event) (talk : Talk) (n : Managed) (w v : World) : Type 0 where
   pub works : Works t.site m H (work_of m H talk) n w.site v.site
   pub attends : Attends t m H talk (peers_of w) (peers_of v)
   pub told : AreTold t.site m (behind_told m H talk) w.mouth.told v.mouth.told w.site v.site

@@ -3,7 +3,7 @@ ghost use Rattle.std.specs.Prelude.{◌≡◌, ◌≤◌, ◌∷◌, List, Some,
 ghost use Rattle.std.specs.Result.{is_err};
 ghost use Rattle.executor.specs.Managed.{IsReady};
 ghost use Rattle.http_wire.specs.declared.request.Request.{Request};
-ghost use Rattle.lcm_sessions.specs.Session.{Answers, Ending, Talk};
+ghost use Rattle.lcm_sessions.specs.Session.{Answers, Closing, Talk};
 ghost use Rattle.lcm_api.specs.Mouth.{OnlyAtDoor};
 ghost use Rattle.lcm_sessions.specs.Step.{GoesOn, IsAbout, IsOrStarved, IsStep, Responds, TellsLast};
 ghost use Rattle.lcm_api.specs.World.{telling, world};
@@ -77,7 +77,7 @@ fn talk<S: Site, D: Door, K: Clock>(
 ) -> Result<u32, Closed>
     requires up { mouth.old.wire.intake.counts.up ≡ true }
     requires ready { (H : List Event) × IsReady S.tells manager.old H (S.state site.old) }
-    ensures talks { (H : List Event) → IsReady S.tells manager.old H (S.state site.old) → (talk : Talk) × (end : Ending) × (talk.end ≡ Some end)
+    ensures talks { (H : List Event) → IsReady S.tells manager.old H (S.state site.old) → (talk : Talk) × (end : Closing) × (talk.end ≡ Some end)
         × Talks (telling S.tells D.tells K.tells) manager.old.ledger.manager H talk manager.new
         (world (S.state site.old) mouth.old (K.state clock.old)) (world (S.state site.new) mouth.new (K.state clock.new))
         × (talk.role ≡ role) × Answers talk result }

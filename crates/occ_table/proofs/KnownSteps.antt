@@ -39,7 +39,7 @@ use Rattle.occ_table.specs.Ended.{is_over, kept_grant}
 use Rattle.occ_table.specs.Resources.{deed_by, deed_in, deed_of, place_by, remade}
 use Rattle.occ_table.specs.Rows.{StandsFor, row}
 use Rattle.occ_table.specs.Used.{known, placed, used_by}
-use Rattle.occ_table.specs.declared.resources.Deed.{Deed}
+use Rattle.occ_table.specs.declared.resources.DoneAttempt.{DoneAttempt}
 use Rattle.occ_table.specs.declared.rows.OccRow.{OccRow}
 use Rattle.occ_table.specs.declared.used.Used.{Used}
 
@@ -114,11 +114,11 @@ place_stays width m H time n name places spots i x (Some y) legal allowed is =
     (λ other. rw other refl)
 
 -- what a deed does whose effect and place are these
-abbrev pub deed_done : List Event → Effect → Deed
+abbrev pub deed_done : List Event → Effect → DoneAttempt
 deed_done H y = record { effect = y; place = granted_place H y.tag.occ y.tag.change }
 
 -- what is known of definitions after an attempt did something, or nothing
-abbrev pub known_after : Option Deed → (ℕ → Def → Option Used) → ℕ → Def → Option Used
+abbrev pub known_after : Option DoneAttempt → (ℕ → Def → Option Used) → ℕ → Def → Option Used
 known_after None f i x = f i x
 known_after (Some d) f i x = if is_creation d.effect && is_effect_on i x d.effect then remade d (f i x) else f i x
 

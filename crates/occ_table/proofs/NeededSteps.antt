@@ -38,7 +38,7 @@ use Rattle.occ_table.specs.Resources.{deed_of, is_of_row, kept_after, kept_moved
 use Rattle.occ_table.specs.Rows.{row, rows}
 use Rattle.occ_table.specs.Descriptors.{numbered}
 use Rattle.occ_table.specs.Used.{known, placed, used_by}
-use Rattle.occ_table.specs.declared.resources.Deed.{Deed}
+use Rattle.occ_table.specs.declared.resources.DoneAttempt.{DoneAttempt}
 use Rattle.occ_table.specs.declared.resources.Entry.{Entry}
 use Rattle.occ_table.specs.declared.rows.OccRow.{OccRow}
 use Rattle.occ_table.specs.declared.used.Used.{Used}
@@ -62,7 +62,7 @@ creation_leaves Start e = cc
 creation_leaves Stop e = cc
 
 -- what is kept of a definition after an effect on it, or on another, by what was known
-touched_kept : (d : Deed) (on s n : Bool) (k : Option Used)
+touched_kept : (d : DoneAttempt) (on s n : Bool) (k : Option Used)
     → (on ≡ true → (is_creation d.effect && same_way d.effect.tag.way Forward) ≡ false → n ≡ true)
     → kept_so (cond on (leaves_it d.effect.verb) s) (cond on true n) (cond (is_creation d.effect && on) (remade d k) k)
     ≡ cond on (touched d (kept_so s n k)) (kept_so s n k)
@@ -252,12 +252,12 @@ pub entry-step : (width m : ℕ) (H : List Event) (time : ℕ) (k : EventKind) (
 unfolding effect_in
 entry-step width m H time (Settled t out) i x legal allowed =
     done_kept width m H time t out i x (effect_done H t out) legal allowed refl
-    ∙ ap (λ (d : Option Deed). learned d (entry H) i x) (sym (deeds width m H (rows H) (Settled t out) legal allowed refl))
+    ∙ ap (λ (d : Option DoneAttempt). learned d (entry H) i x) (sym (deeds width m H (rows H) (Settled t out) legal allowed refl))
 entry-step width m H time (Moved o to) i x legal allowed = moved_kept width m H time o to i x legal allowed
 entry-step width m H time k i x legal allowed = ap (λ (u : Option Used). kept_so (stands H i x) (is_needed H i x) u) (known-step width m H time k i x legal allowed)
 
 -- what is kept after an event goes by what was kept before
-learned-same : (d : Option Deed) (f g : ℕ → Def → Option Entry) → ((i : ℕ) (x : Def) → f i x ≡ g i x) → (i : ℕ) (x : Def) → learned d f i x ≡ learned d g i x
+learned-same : (d : Option DoneAttempt) (f g : ℕ → Def → Option Entry) → ((i : ℕ) (x : Def) → f i x ≡ g i x) → (i : ℕ) (x : Def) → learned d f i x ≡ learned d g i x
 learned-same None f g same i x = same i x
 learned-same (Some d) f g same i x = ap (λ (e : Option Entry). cond (is_effect_on i x d.effect) (touched d e) e) (same i x)
 

@@ -16,7 +16,7 @@ use Rattle.occ_table.proofs.KnownSteps.{deeds}
 use Rattle.occ_table.proofs.NeededSteps.{entry-step, kept-same, used-step}
 use Rattle.occ_table.specs.Needed.{entry}
 use Rattle.occ_table.specs.Resources.{deed_in, kept_after, kept_of, used_after}
-use Rattle.occ_table.specs.declared.resources.Deed.{Deed}
+use Rattle.occ_table.specs.declared.resources.DoneAttempt.{DoneAttempt}
 use Rattle.lcm_events.specs.declared.changes.Def.{Def}
 use Rattle.occ_table.specs.declared.rows.OccRow.{OccRow}
 use Rattle.std.specs.Prelude.{Option}
@@ -31,7 +31,7 @@ table_after width m H e k old new is wide legal allowed table rows active ongoin
       rows
       ∙ (ap (λ (x : EventKind). rows_after old.vnfds e.moment (used_after (deed_in x old.rows) (kept_of old.resources)) x old.rows) (sym is)
       ∙ applied width m H e old.rows old.vnfds (used_after (deed_in e.kind old.rows) (kept_of old.resources)) wide legal allowed table.rows table.vnfds
-      (ap (λ (d : Option Deed). used_after d (kept_of old.resources)) (deeds width m H old.rows e.kind legal allowed table.rows)
+      (ap (λ (d : Option DoneAttempt). used_after d (kept_of old.resources)) (deeds width m H old.rows e.kind legal allowed table.rows)
       ∙ used-step width m H (kept_of old.resources) e.kind legal allowed table.resources));
   active =
       activated width m H e old.active new.active legal allowed table.active (active ∙ ap (λ (x : EventKind). active_after x old.active) (sym is));

@@ -20,7 +20,7 @@ use Rattle.lcm_model.specs.Moves.{is_final}
 use Rattle.lcm_model.specs.Operations.{verb_done}
 use Rattle.occ_table.specs.Descriptors.{numbered}
 use Rattle.occ_table.specs.Used.{placed}
-use Rattle.occ_table.specs.declared.resources.Deed.{Deed}
+use Rattle.occ_table.specs.declared.resources.DoneAttempt.{DoneAttempt}
 use Rattle.occ_table.specs.declared.resources.Entry.{Entry}
 use Rattle.occ_table.specs.declared.resources.Key.{Key}
 use Rattle.occ_table.specs.declared.rows.OccRow.{OccRow}
@@ -61,21 +61,21 @@ abbrev pub place_by : ℕ → OccRow → Option Place
 place_by c r = option_and_then (λ g. place_at g.places g.spots c) r.grant
 
 -- what an attempt did that was done with this name, by its row (own rule)
-abbrev pub deed_by : Tag → List ℕ → OccRow → Option Deed
+abbrev pub deed_by : Tag → List ℕ → OccRow → Option DoneAttempt
 deed_by t name r = option_map (λ c. record { effect = effect_by t name r c; place = place_by t.change r }) (slice_get r.changes t.change)
 
 -- what an attempt did that ended so, by the rows (own rule)
-abbrev pub deed_of : Tag → Outcome → List OccRow → Option Deed
+abbrev pub deed_of : Tag → Outcome → List OccRow → Option DoneAttempt
 deed_of t (Done name) rs = option_and_then (deed_by t name) (numbered t.occ rs)
 deed_of t _ rs = None
 
 -- what an event says that an attempt did, by the rows (own rule)
-abbrev pub deed_in : EventKind → List OccRow → Option Deed
+abbrev pub deed_in : EventKind → List OccRow → Option DoneAttempt
 deed_in (Settled t outcome) rs = deed_of t outcome rs
 deed_in _ rs = None
 
 -- what is known of a definition once it is made: an undo puts it where it was (own rule)
-abbrev pub remade : Deed → Option Used → Option Used
+abbrev pub remade : DoneAttempt → Option Used → Option Used
 remade d old = placed (Some d.effect.resource) (if same_way d.effect.tag.way Forward then d.place else option_map (λ u. u.place) old)
 
 -- what is kept of a definition that stands (own rule)
@@ -87,16 +87,16 @@ abbrev pub left : Bool → Entry → Entry
 left stands e = record e { stands = stands }
 
 -- what is kept of a definition once something was done to it: what was made anew, or what was kept, and whether that leaves it standing (own rule)
-abbrev pub touched : Deed → Option Entry → Option Entry
+abbrev pub touched : DoneAttempt → Option Entry → Option Entry
 touched d old = if is_creation d.effect then standing (remade d (used_of old)) else option_map (left (leaves_it d.effect.verb)) old
 
 -- what is kept of definitions after an attempt did something, or nothing (own rule)
-abbrev pub learned : Option Deed → (ℕ → Def → Option Entry) → ℕ → Def → Option Entry
+abbrev pub learned : Option DoneAttempt → (ℕ → Def → Option Entry) → ℕ → Def → Option Entry
 learned None f i x = f i x
 learned (Some d) f i x = if is_effect_on i x d.effect then touched d (f i x) else f i x
 
 -- what the change of an attempt used that did something, or nothing (own rule)
-abbrev pub used_after : Option Deed → (ℕ → Def → Option Entry) → Option Used
+abbrev pub used_after : Option DoneAttempt → (ℕ → Def → Option Entry) → Option Used
 used_after None f = None
 used_after (Some d) f = if same_way d.effect.tag.way Forward then used_of (learned (Some d) f d.effect.instance d.effect.def) else None
 

@@ -24,7 +24,7 @@ use vnfm_base::Name;
 
 /// What an attempt did that was done, and the place that was granted to its change.
 #[derive(Clone, Copy)]
-pub struct Deed {
+pub struct DoneAttempt {
     /// What it did.
     pub effect: Effect,
     /// The place that was granted.
@@ -211,7 +211,7 @@ impl Resources {
     }
 
     /// The place of a definition that an attempt made: that which was granted, or for an undo the one that it had.
-    fn place_of(&self, key: &Key, deed: &Deed) -> Option<Place>
+    fn place_of(&self, key: &Key, deed: &DoneAttempt) -> Option<Place>
         ensures { result ≡ (if same_way deed.now.effect.tag.way Forward then deed.now.place else option_map (λ u. u.place) (used_of (kept_by self.now.entries key.now))) }
     {
         match deed.effect.tag.way {
@@ -221,7 +221,7 @@ impl Resources {
     }
 
     /// Learns what an attempt did: no memory is taken.
-    fn learn(&mut self, deed: &Deed)
+    fn learn(&mut self, deed: &DoneAttempt)
         requires room { 765 ≤ self.old.room }
         requires spare { 0 < self.old.spare }
         ensures { (i : ℕ) (x : Def) → kept_of self.new.entries i x ≡ learned (Some deed.now) (kept_of self.old.entries) i x }
@@ -237,7 +237,7 @@ impl Resources {
     }
 
     /// Learns what an attempt did, where it did something, and tells what its change used: no memory is taken.
-    pub fn take(&mut self, deed: &Option<Deed>) -> Option<Used>
+    pub fn take(&mut self, deed: &Option<DoneAttempt>) -> Option<Used>
         requires room { 765 ≤ self.old.room }
         requires spare { 0 < self.old.spare }
         ensures kept { (i : ℕ) (x : Def) → kept_of self.new.entries i x ≡ learned deed.now (kept_of self.old.entries) i x }
@@ -253,7 +253,7 @@ impl Resources {
     }
 
     /// What the change of an attempt used, after what it did was learned.
-    fn used_by(&self, deed: &Deed) -> Option<Used>
+    fn used_by(&self, deed: &DoneAttempt) -> Option<Used>
         ensures { result ≡ (if same_way deed.now.effect.tag.way Forward then used_of (kept_of self.now.entries deed.now.effect.instance deed.now.effect.def) else None) }
     {
         match deed.effect.tag.way {

@@ -17,7 +17,7 @@ use crate::cells::Cells;
 use crate::names::PackedName;
 use crate::pending::{AttemptRoom, Pendings};
 use crate::phases::{PHASES, are_clear, are_none, count_phases, shift};
-use crate::resources::Deed;
+use crate::resources::DoneAttempt;
 use crate::used::{PackedUsed, Uses};
 use lcm_events::{
     CancelMode, Change, Changes, EventKind, GrantTry, Listed, OpState, Operation, Outcome, Place,
@@ -559,7 +559,7 @@ impl OccRow {
     }
 
     /// What an attempt did that was done with this name, and the place that was granted to its change.
-    pub fn deed(&self, tag: &Tag, resource: Name) -> Option<Deed>
+    pub fn deed(&self, tag: &Tag, resource: Name) -> Option<DoneAttempt>
         ensures { result ≡ deed_by tag.now resource self.now }
     {
         let change = self.changes.as_slice().get(tag.change as usize)?;
@@ -570,7 +570,7 @@ impl OccRow {
             verb: verb_in_way(tag.way, change.verb),
             resource,
         };
-        Some(Deed {
+        Some(DoneAttempt {
             effect,
             place: self.place_of(tag.change),
         })

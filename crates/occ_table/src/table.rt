@@ -17,7 +17,7 @@ ghost use Rattle.occ_table.specs.Table.{Applies, Counts, Follows, GoesOn, HasNam
 
 use crate::going::{append, first_above, move_active, reserve_places};
 use crate::ongoing::{instance_of, move_ongoing, ongoing_at, set_ongoing};
-use crate::resources::{Deed, Resources};
+use crate::resources::{DoneAttempt, Resources};
 use crate::rooms::Rooms;
 use crate::rows::{Grant, OccRow};
 use crate::slots::Slot;
@@ -168,7 +168,7 @@ fn described(row: Slot, names: &mut Rooms, vnfd: &Name) -> Slot
 }
 
 /// What an attempt did that was done with this name, by the row of its occurrence.
-fn deed_of(rows: &[Slot], tag: &Tag, resource: Name) -> Option<Deed>
+fn deed_of(rows: &[Slot], tag: &Tag, resource: Name) -> Option<DoneAttempt>
     ensures { result ≡ deed_of tag.now (Done resource) rows.now }
 {
     match row_of(rows, tag.occ) {

@@ -20,7 +20,7 @@ use Rattle.site_traits.specs.Peers.{Asks, CallCause, OrchestratorState, Polls}
 use Rattle.site_traits.specs.Site.{KeepsJobs, SiteState}
 use Rattle.site_traits.specs.declared.orchestrator.Call.{Call}
 use Rattle.occ_work.specs.Acting.{Acts, Records}
-use Rattle.occ_work.specs.Around.{Counts, DiskFails, Exchanges, Tells, outside}
+use Rattle.occ_work.specs.Around.{Counts, DiskFails, Exchanges, ReachTells, reach}
 use Rattle.occ_work.specs.Attempting.{Attempts, IsWithoutPeer}
 use Rattle.occ_work.specs.Deeds.{Deed, Exchange, aborted, answer_heard, asked, began, ending, looked, nothing, polled}
 use Rattle.occ_work.specs.Requests.{grant_request}
@@ -48,9 +48,9 @@ disk_last P a b c none last =
     record { rose = λ is. last.rose is ∙ ap one_more same; stays = λ never. last.stays never ∙ same }
 
 -- there was no memory for what it exchanges
-pub starved_act : (t : Tells) (m : Managed) (now : ℕ) (H : List Event) (o : ℕ) (asking : Bool) (s : SiteState) (i : SiteCounts) (told : OrchestratorState) (counts : CallCounts)
+pub starved_act : (t : ReachTells) (m : Managed) (now : ℕ) (H : List Event) (o : ℕ) (asking : Bool) (s : SiteState) (i : SiteCounts) (told : OrchestratorState) (counts : CallCounts)
     → Idles t.site s → IsReady t.site m H s → next_action H o ≡ Some (exchanging asking)
-    → (d : Deed) × (d.occ ≡ o) × Acts t m.ledger.manager now H d (Err fault.Memory) m (outside s i told counts) (outside s i told counts)
+    → (d : Deed) × (d.occ ≡ o) × Acts t m.ledger.manager now H d (Err fault.Memory) m (reach s i told counts) (reach s i told counts)
 starved_act t m now H o true s i told counts idles ready next = (
   record { occ = o; action = AskForGrant; exchange = nothing },
   refl,
@@ -73,12 +73,12 @@ starved_act t m now H o false s i told counts idles ready next = (
 )
 
 -- the grant was asked for, and what was answered taken
-pub asking_act : (t : Tells) (m now : ℕ) (H : List Event) (o : ℕ) (body : List ℕ) (ended : Call) (heard : Heard) (result : Result Acted WorkFault) (n : Managed)
+pub asking_act : (t : ReachTells) (m now : ℕ) (H : List Event) (o : ℕ) (body : List ℕ) (ended : Call) (heard : Heard) (result : Result Acted WorkFault) (n : Managed)
     (a b : SiteState) (i j : SiteCounts) (failed : Type 0) (x y : OrchestratorState) (c k : CallCounts) → next_action H o ≡ Some AskForGrant → grant_request m H o ≡ Some body
     → (t.orchestrator → Asks body heard ended x y) → CallCause ended c k → (t.site → KeepsJobs a b) → OnlyDiskFails failed i j
     → Records t.site m now (kinds_for true o (answer_heard true (changes H o) ended heard)) H result n a b
     → IfOk result (λ done. done ≡ ending AskForGrant (answer_heard true (changes H o) ended heard))
-    → (d : Deed) × (d.occ ≡ o) × Acts t m now H d result n (outside a i x c) (outside b j y k)
+    → (d : Deed) × (d.occ ≡ o) × Acts t m now H d result n (reach a i x c) (reach b j y k)
 asking_act t m now H o body ended heard result n a b i j failed x y c k next request told counts alone only records ends = (
   record { occ = o; action = AskForGrant; exchange = asked body ended heard },
   refl,
@@ -95,12 +95,12 @@ asking_act t m now H o body ended heard result n a b i j failed x y c k next req
 )
 
 -- the location was polled, and what was answered taken
-pub polling_act : (t : Tells) (m now : ℕ) (H : List Event) (o : ℕ) (at : List ℕ) (ended : Call) (heard : Heard) (result : Result Acted WorkFault) (n : Managed)
+pub polling_act : (t : ReachTells) (m now : ℕ) (H : List Event) (o : ℕ) (at : List ℕ) (ended : Call) (heard : Heard) (result : Result Acted WorkFault) (n : Managed)
     (a b : SiteState) (i j : SiteCounts) (failed : Type 0) (x y : OrchestratorState) (c k : CallCounts) → next_action H o ≡ Some Poll → location H o ≡ Some at
     → (t.orchestrator → Polls at heard ended x y) → CallCause ended c k → (t.site → KeepsJobs a b) → OnlyDiskFails failed i j
     → Records t.site m now (kinds_for false o (answer_heard false (changes H o) ended heard)) H result n a b
     → IfOk result (λ done. done ≡ ending Poll (answer_heard false (changes H o) ended heard))
-    → (d : Deed) × (d.occ ≡ o) × Acts t m now H d result n (outside a i x c) (outside b j y k)
+    → (d : Deed) × (d.occ ≡ o) × Acts t m now H d result n (reach a i x c) (reach b j y k)
 polling_act t m now H o at ended heard result n a b i j failed x y c k next known told counts alone only records ends = (
   record { occ = o; action = Poll; exchange = polled at ended heard },
   refl,
@@ -117,10 +117,10 @@ polling_act t m now H o at ended heard result n a b i j failed x y c k next know
 )
 
 -- the occurrence was moved on
-pub moving_act : (t : Tells) (m now : ℕ) (H : List Event) (o : ℕ) (to : OpState) (result : Result Acted WorkFault) (n : Managed) (a b : SiteState) (i j : SiteCounts) (failed : Type 0)
+pub moving_act : (t : ReachTells) (m now : ℕ) (H : List Event) (o : ℕ) (to : OpState) (result : Result Acted WorkFault) (n : Managed) (a b : SiteState) (i j : SiteCounts) (failed : Type 0)
     (told : OrchestratorState) (counts : CallCounts) → next_action H o ≡ Some (MoveTo to) → (t.site → KeepsJobs a b) → OnlyDiskFails failed i j
     → Records t.site m now (Moved o to ∷ []) H result n a b
-    → IfOk result (λ done. done ≡ Recorded) → (d : Deed) × (d.occ ≡ o) × Acts t m now H d result n (outside a i told counts) (outside b j told counts)
+    → IfOk result (λ done. done ≡ Recorded) → (d : Deed) × (d.occ ≡ o) × Acts t m now H d result n (reach a i told counts) (reach b j told counts)
 moving_act t m now H o to result n a b i j failed told counts next alone only records ends = (
   record { occ = o; action = MoveTo to; exchange = nothing },
   refl,
@@ -154,9 +154,9 @@ uncounted (looked t answer) c alone = refl
 uncounted (aborted t ended answer) c alone = refl
 
 -- an attempt was made
-pub attempting_act : (t : Tells) (m now : ℕ) (H : List Event) (o : ℕ) (result : Result Acted WorkFault) (n : Managed) (a b : SiteState) (i j : SiteCounts) (told : OrchestratorState) (counts : CallCounts)
+pub attempting_act : (t : ReachTells) (m now : ℕ) (H : List Event) (o : ℕ) (result : Result Acted WorkFault) (n : Managed) (a b : SiteState) (i j : SiteCounts) (told : OrchestratorState) (counts : CallCounts)
     → (d : Deed) × (d.occ ≡ o) × Attempts t.site m now H d result n a b i j
-    → (d : Deed) × (d.occ ≡ o) × Acts t m now H d result n (outside a i told counts) (outside b j told counts)
+    → (d : Deed) × (d.occ ≡ o) × Acts t m now H d result n (reach a i told counts) (reach b j told counts)
 attempting_act t m now H o result n a b i j told counts it = (
   it.0,
   it.1,

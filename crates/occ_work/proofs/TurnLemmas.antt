@@ -9,7 +9,7 @@ use Rattle.executor.specs.declared.manager.WorkFault.{WorkFault}
 use Rattle.lcm_events.specs.declared.events.Event.{Event}
 use Rattle.lcm_model.specs.Allowed.{IsLegal}
 use Rattle.occ_work.specs.Acting.{Acts, recording}
-use Rattle.occ_work.specs.Around.{Outside, Tells, around}
+use Rattle.occ_work.specs.Around.{Reach, ReachTells, around}
 use Rattle.occ_table.specs.Going.{active}
 use Rattle.occ_table.proofs.GoingLaws.{active-rises}
 use Rattle.occ_work.specs.Deeds.{Deed, Exchange, IsDeed, aborted, asked, began, looked, nothing, polled, IsExchangeOf, IsTried, IsUnexchanged, answered, ending, kinds_of, once_done}
@@ -26,18 +26,18 @@ abbrev pub numbers_of : List Deed → List ℕ
 numbers_of deeds = reverse (map (λ d. d.occ) deeds)
 
 -- The acts so far: these deeds were done, for all occurrences that were active up to this number, and none ended in a fault.
-pub record SoFar (t : Tells) (m n : Managed) (now after : ℕ) (turn : Turn) (H : List Event) (w v : Outside) : Type 0 where
+pub record SoFar (t : ReachTells) (m n : Managed) (now after : ℕ) (turn : Turn) (H : List Event) (w v : Reach) : Type 0 where
   pub deeds : List Deed
   pub works : WorksWithJobs t.site m.ledger.manager H (went (once_all_done now H deeds)) n w.site v.site
   pub deeds_do : DeedsDo t m.ledger.manager now H deeds (around w) (around v)
   pub order : numbers_of deeds ++ above after (active (once_all_done now H deeds)) ≡ active H
   pub counts : CountsEndings turn (endings now H deeds)
 
-abbrev pub TurnSoFar : Tells → Managed → Managed → ℕ → ℕ → Turn → Outside → Outside → Type 0
+abbrev pub TurnSoFar : ReachTells → Managed → Managed → ℕ → ℕ → Turn → Reach → Reach → Type 0
 TurnSoFar t m n now after turn w v = (H : List Event) → IsReady t.site m H w.site → SoFar t m n now after turn H w v
 
 -- no act was made yet
-pub none_yet : (t : Tells) (m : Managed) (now : ℕ) (w : Outside) → Idles t.site w.site
+pub none_yet : (t : ReachTells) (m : Managed) (now : ℕ) (w : Reach) → Idles t.site w.site
     → TurnSoFar t m m now 0 (record { acted = 0; waiting = 0; unreached = 0 }) w w
 none_yet t m now w idles = λ H ready. record {
   deeds = [];
@@ -48,7 +48,7 @@ none_yet t m now w idles = λ H ready. record {
 }
 
 -- the manager is ready for one more
-pub ready_so_far : (t : Tells) (m n : Managed) (now after : ℕ) (turn : Turn) (w v : Outside) → TurnSoFar t m n now after turn w v → WorksWithJobsLeadOn t.site w.site v.site
+pub ready_so_far : (t : ReachTells) (m n : Managed) (now after : ℕ) (turn : Turn) (w v : Reach) → TurnSoFar t m n now after turn w v → WorksWithJobsLeadOn t.site w.site v.site
     → (H : List Event) × IsReady t.site m H w.site → (G : List Event) × IsReady t.site n G v.site
 ready_so_far t m n now after turn w v so_far leads ready =
     let it = so_far ready.0 ready.1 in
@@ -116,7 +116,7 @@ grown_long H G more is =
     omega (arith, one, two)
 
 -- one act more
-pub one_act_more : (t : Tells) (m n p : Managed) (now after o : ℕ) (turn counted : Turn) (done : Acted) (w u v : Outside) → TurnSoFar t m n now after turn w u
+pub one_act_more : (t : ReachTells) (m n p : Managed) (now after o : ℕ) (turn counted : Turn) (done : Acted) (w u v : Reach) → TurnSoFar t m n now after turn w u
     → WorksWithJobsLeadOn t.site w.site u.site → WorksWithJobsJoin t.site w.site u.site v.site
     → ((G : List Event) → IsReady t.site n G u.site → (find (λ k. nat_lt after k) (active G) ≡ Some o) × (length G < 268435456))
     → ((G : List Event) → IsReady t.site n G u.site → (d : Deed) × (d.occ ≡ o) × Acts t n.ledger.manager now G d (Ok done) p u v)
@@ -148,7 +148,7 @@ one_act_more t m n p now after o turn counted done w u v so_far leads joins next
     }
 
 -- all acts were made
-pub went_through : (t : Tells) (m n : Managed) (now after : ℕ) (turn : Turn) (w v : Outside) → TurnSoFar t m n now after turn w v → WorksWithJobsLeadOn t.site w.site v.site
+pub went_through : (t : ReachTells) (m n : Managed) (now after : ℕ) (turn : Turn) (w v : Reach) → TurnSoFar t m n now after turn w v → WorksWithJobsLeadOn t.site w.site v.site
     → ((G : List Event) → IsReady t.site n G v.site → find (λ k. nat_lt after k) (active G) ≡ None)
     → (H : List Event) → IsReady t.site m H w.site
     → (deeds : List Deed) × (end : TurnEnd) × Turns t m.ledger.manager now H deeds end n w v × EndsTurn (Ok turn) (endings now H deeds) end
@@ -172,7 +172,7 @@ went_through t m n now after turn w v so_far leads none H ready =
       nil_right (n ∷ ns) = ap (λ (ks : List ℕ). n ∷ ks) (nil_right ns)
 
 -- an act ended in a fault
-pub was_stopped : (t : Tells) (m n p : Managed) (now after o : ℕ) (turn : Turn) (why : WorkFault) (w u v : Outside) → TurnSoFar t m n now after turn w u
+pub was_stopped : (t : ReachTells) (m n p : Managed) (now after o : ℕ) (turn : Turn) (why : WorkFault) (w u v : Reach) → TurnSoFar t m n now after turn w u
     → WorksWithJobsLeadOn t.site w.site u.site → WorksWithJobsJoin t.site w.site u.site v.site
     → ((G : List Event) → IsReady t.site n G u.site → find (λ k. nat_lt after k) (active G) ≡ Some o)
     → ((G : List Event) → IsReady t.site n G u.site → (d : Deed) × (d.occ ≡ o) × Acts t n.ledger.manager now G d (Err why) p u v)

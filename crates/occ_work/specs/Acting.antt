@@ -10,7 +10,7 @@ use Rattle.lcm_events.specs.declared.events.Event.{Event}
 use Rattle.lcm_events.specs.declared.events.EventKind.{EventKind}
 use Rattle.lcm_laws.specs.Acting.{with_events}
 use Rattle.site_traits.specs.Site.{SiteState}
-use Rattle.occ_work.specs.Around.{Exchanged, Outside, Tells, around}
+use Rattle.occ_work.specs.Around.{Exchanged, Reach, ReachTells, around}
 use Rattle.occ_work.specs.Deeds.{Deed, IsTried, answered, ending, kinds_of}
 use Rattle.occ_work.specs.declared.ends.Acted.{Acted}
 
@@ -43,7 +43,7 @@ pub record Records (tells : Type 0) (m now : ℕ) (kinds : List EventKind) (H : 
 
 -- The deed was tried at this moment behind history H of manager m, which is now n: its exchange was made and no other, what that appends was
 -- recorded, and the answer says so.
-pub record Acts (t : Tells) (m now : ℕ) (H : List Event) (d : Deed) (result : Result Acted WorkFault) (n : Managed) (w v : Outside) : Type 0 where
+pub record Acts (t : ReachTells) (m now : ℕ) (H : List Event) (d : Deed) (result : Result Acted WorkFault) (n : Managed) (w v : Reach) : Type 0 where
   pub tried : IsTried m H d result
   pub exchanged : Exchanged t d.exchange (around w) (around v)
   pub records : Records t.site m now (kinds_of H d) H result n w.site v.site

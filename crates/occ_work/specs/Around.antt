@@ -7,7 +7,7 @@ use Rattle.site_traits.specs.Site.{SiteState}
 use Rattle.occ_work.specs.Deeds.{Exchange, aborted, asked, began, looked, nothing, polled}
 
 -- which of the objects outside tell what is done to them
-pub record Tells : Type 1 where
+pub record ReachTells : Type 1 where
   pub site : Type 0
   pub orchestrator : Type 0
 
@@ -28,21 +28,21 @@ pub record Around : Type 0 where
   pub infrastructure : Infrastructure
 
 -- all that an act is lent: the site with its counts, and the orchestrator
-pub record Outside : Type 1 where
+pub record Reach : Type 1 where
   pub site : SiteState
   pub counts : SiteCounts
   pub orchestrator : Peer
 
 -- what tells of these
-abbrev pub telling : Type 0 → Type 0 → Tells
+abbrev pub telling : Type 0 → Type 0 → ReachTells
 telling site orchestrator = record { site = site; orchestrator = orchestrator }
 
 -- these objects outside
-abbrev pub outside : SiteState → SiteCounts → OrchestratorState → CallCounts → Outside
-outside site counts state calls = record { site = site; counts = counts; orchestrator = record { state = state; counts = calls } }
+abbrev pub reach : SiteState → SiteCounts → OrchestratorState → CallCounts → Reach
+reach site counts state calls = record { site = site; counts = counts; orchestrator = record { state = state; counts = calls } }
 
 -- what is beside the journal of it
-abbrev pub around : Outside → Around
+abbrev pub around : Reach → Around
 around w = record { orchestrator = w.orchestrator; infrastructure = record { jobs = w.site.jobs; answers = w.site.answers; counts = w.counts } }
 
 -- what an exchange does to what the orchestrator tells: nothing, or what a call does that ended so (SOL 003 9.4.2, 9.4.3)
@@ -92,13 +92,13 @@ pub record Handles (tells : Type 0) (x : Exchange) (a b : Infrastructure) : Type
   pub counts : CountJobsAlike (counts_after x a.counts) b.counts
 
 -- the exchange was made, and no other
-pub record Exchanged (t : Tells) (x : Exchange) (a b : Around) : Type 0 where
+pub record Exchanged (t : ReachTells) (x : Exchange) (a b : Around) : Type 0 where
   pub told : t.orchestrator → Exchanges x a.orchestrator.state b.orchestrator.state
   pub counts : Counts x a.orchestrator.counts b.orchestrator.counts
   pub handled : Handles t.site x a.infrastructure b.infrastructure
 
 -- nobody was asked: running jobs may have ended by themselves
-abbrev pub Unasked : Tells → Around → Around → Type 0
+abbrev pub Unasked : ReachTells → Around → Around → Type 0
 Unasked t a b = Exchanged t nothing a b
 
 -- Where this holds a disk call failed, once; else none did (own rule).

@@ -6,7 +6,7 @@ use Rattle.executor.specs.declared.manager.WorkFault.{WorkFault}
 use Rattle.lcm_events.specs.declared.events.Event.{Event}
 use Rattle.occ_table.specs.Going.{active}
 use Rattle.occ_work.specs.Acting.{TellsRoomFor, recording}
-use Rattle.occ_work.specs.Around.{Around, Exchanged, Outside, Tells, around}
+use Rattle.occ_work.specs.Around.{Around, Exchanged, Reach, ReachTells, around}
 use Rattle.occ_work.specs.Counting.{CountsEndings}
 use Rattle.occ_work.specs.Deeds.{Deed, IsDeed, IsTried, answered, ending, kinds_of, once_done}
 use Rattle.occ_work.specs.declared.ends.Acted.{Acted}
@@ -23,7 +23,7 @@ once_all_done now H (d ∷ before) = once_done now (once_all_done now H before) 
 
 -- the deeds were done with the orchestrator and the infrastructure, the latest first, each over the history that those before it left, and
 -- from where they ended
-abbrev pub DeedsDo : Tells → ℕ → ℕ → List Event → List Deed → Around → Around → Type 0
+abbrev pub DeedsDo : ReachTells → ℕ → ℕ → List Event → List Deed → Around → Around → Type 0
 DeedsDo t m now H [] a b = b ≡ a
 DeedsDo t m now H (d ∷ before) a c =
     (b : Around) × DeedsDo t m now H before a b × IsDeed m (once_all_done now H before) d × Exchanged t d.exchange b c
@@ -48,7 +48,7 @@ abbrev pub turn_work : ℕ → List Event → List Deed → TurnEnd → Work
 turn_work now H deeds end = end_work now (once_all_done now H deeds) end
 
 -- what the end of a turn does with the orchestrator and the infrastructure, and tells of the room in the journal
-abbrev pub EndDoes : Tells → ℕ → ℕ → List Event → TurnEnd → Around → Around → Type 0
+abbrev pub EndDoes : ReachTells → ℕ → ℕ → List Event → TurnEnd → Around → Around → Type 0
 EndDoes t m now H through a b = b ≡ a
 EndDoes t m now H (stopped d why) a b = IsTried m H d (Err why) × Exchanged t d.exchange a b × TellsRoomFor now (kinds_of H d) H (Err why)
 
@@ -70,7 +70,7 @@ EndsTurn _ ends _ = ⊥
 
 -- These deeds were done at this moment, the latest first, behind history H of manager m, which is now n, and the turn ended so: for the
 -- occurrences that are active in H, in order, each behind what those before it left.
-pub record Turns (t : Tells) (m now : ℕ) (H : List Event) (deeds : List Deed) (end : TurnEnd) (n : Managed) (w v : Outside) : Type 0 where
+pub record Turns (t : ReachTells) (m now : ℕ) (H : List Event) (deeds : List Deed) (end : TurnEnd) (n : Managed) (w v : Reach) : Type 0 where
   pub works : WorksWithJobs t.site m H (turn_work now H deeds end) n w.site v.site
   pub between : Around
   pub deeds_do : DeedsDo t m now H deeds (around w) between

@@ -6,7 +6,7 @@ ghost use Rattle.lcm_events.specs.declared.events.Event.{Event};
 ghost use Rattle.lcm_model.specs.Next.{next_action};
 ghost use Rattle.lcm_model.specs.declared.actions.Action.TheVariants as actions;
 ghost use Rattle.occ_work.specs.Acting.{Acts};
-ghost use Rattle.occ_work.specs.Around.{DiskFails, outside, telling};
+ghost use Rattle.occ_work.specs.Around.{DiskFails, reach, telling};
 ghost use Rattle.occ_work.specs.Deeds.{Deed};
 ghost use Rattle.occ_steps.specs.Active.{IsActive};
 
@@ -44,7 +44,7 @@ pub fn act<S: Site, O: Orchestrator>(
     requires ready { (H : List Event) × IsReady S.tells manager.old H (S.state site.old) × IsActive H occ }
     ensures acts { (H : List Event) → IsReady S.tells manager.old H (S.state site.old) → IsActive H occ
         → (d : Deed) × (d.occ ≡ occ) × Acts (telling S.tells O.tells) manager.old.ledger.manager now H d result manager.new
-        (outside (S.state site.old) (S.counts site.old) (O.state orchestrator.old) (O.counts orchestrator.old)) (outside (S.state site.new) (S.counts site.new) (O.state orchestrator.new) (O.counts orchestrator.new)) }
+        (reach (S.state site.old) (S.counts site.old) (O.state orchestrator.old) (O.counts orchestrator.old)) (reach (S.state site.new) (S.counts site.new) (O.state orchestrator.new) (O.counts orchestrator.new)) }
     ensures short { (n : ℕ) → result ≢ Err (WorkFault.TooLong n) }
     ensures disk { DiskFails (result ≡ Err WorkFault.Disk) (S.counts site.old) (S.counts site.new) }
 {
@@ -70,7 +70,7 @@ fn ask<S: Site, O: Orchestrator>(
     requires ready { (H : List Event) × IsReady S.tells manager.old H (S.state site.old) × IsActive H occ × (next_action H occ ≡ Some actions.AskForGrant) }
     ensures acts { (H : List Event) → IsReady S.tells manager.old H (S.state site.old) → IsActive H occ → next_action H occ ≡ Some actions.AskForGrant
         → (d : Deed) × (d.occ ≡ occ) × Acts (telling S.tells O.tells) manager.old.ledger.manager now H d result manager.new
-        (outside (S.state site.old) (S.counts site.old) (O.state orchestrator.old) (O.counts orchestrator.old)) (outside (S.state site.new) (S.counts site.new) (O.state orchestrator.new) (O.counts orchestrator.new)) }
+        (reach (S.state site.old) (S.counts site.old) (O.state orchestrator.old) (O.counts orchestrator.old)) (reach (S.state site.new) (S.counts site.new) (O.state orchestrator.new) (O.counts orchestrator.new)) }
     ensures short { (n : ℕ) → result ≢ Err (WorkFault.TooLong n) }
     ensures disk { DiskFails (result ≡ Err WorkFault.Disk) (S.counts site.old) (S.counts site.new) }
 {
@@ -94,7 +94,7 @@ fn poll<S: Site, O: Orchestrator>(
     requires ready { (H : List Event) × IsReady S.tells manager.old H (S.state site.old) × IsActive H occ × (next_action H occ ≡ Some actions.Poll) }
     ensures acts { (H : List Event) → IsReady S.tells manager.old H (S.state site.old) → IsActive H occ → next_action H occ ≡ Some actions.Poll
         → (d : Deed) × (d.occ ≡ occ) × Acts (telling S.tells O.tells) manager.old.ledger.manager now H d result manager.new
-        (outside (S.state site.old) (S.counts site.old) (O.state orchestrator.old) (O.counts orchestrator.old)) (outside (S.state site.new) (S.counts site.new) (O.state orchestrator.new) (O.counts orchestrator.new)) }
+        (reach (S.state site.old) (S.counts site.old) (O.state orchestrator.old) (O.counts orchestrator.old)) (reach (S.state site.new) (S.counts site.new) (O.state orchestrator.new) (O.counts orchestrator.new)) }
     ensures short { (n : ℕ) → result ≢ Err (WorkFault.TooLong n) }
     ensures disk { DiskFails (result ≡ Err WorkFault.Disk) (S.counts site.old) (S.counts site.new) }
 {

@@ -4,7 +4,7 @@ ghost use Rattle.executor.specs.Managed.{IsReady, Keeps};
 ghost use Rattle.journal_records.specs.declared.limits.TheConstants.{MAX_FILE};
 ghost use Rattle.occ_table.specs.Going.{next_active};
 ghost use Rattle.lcm_events.specs.declared.events.Event.{Event};
-ghost use Rattle.occ_work.specs.Around.{DiskFails, outside, telling};
+ghost use Rattle.occ_work.specs.Around.{DiskFails, reach, telling};
 ghost use Rattle.occ_work.specs.Deeds.{Deed};
 ghost use Rattle.occ_work.specs.Turns.{EndsTurn, TurnEnd, Turns, endings};
 
@@ -30,7 +30,7 @@ pub fn turn<S: Site, O: Orchestrator>(
     requires ready { (H : List Event) × IsReady S.tells manager.old H (S.state site.old) }
     ensures turns { (H : List Event) → IsReady S.tells manager.old H (S.state site.old) → (deeds : List Deed) × (end : TurnEnd)
         × Turns (telling S.tells O.tells) manager.old.ledger.manager now H deeds end manager.new
-        (outside (S.state site.old) (S.counts site.old) (O.state orchestrator.old) (O.counts orchestrator.old)) (outside (S.state site.new) (S.counts site.new) (O.state orchestrator.new) (O.counts orchestrator.new))
+        (reach (S.state site.old) (S.counts site.old) (O.state orchestrator.old) (O.counts orchestrator.old)) (reach (S.state site.new) (S.counts site.new) (O.state orchestrator.new) (O.counts orchestrator.new))
         × EndsTurn result (endings now H deeds) end }
     ensures short { (n : ℕ) → result ≢ Err (WorkFault.TooLong n) }
     ensures disk { DiskFails (result ≡ Err WorkFault.Disk) (S.counts site.old) (S.counts site.new) }

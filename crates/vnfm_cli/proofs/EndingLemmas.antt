@@ -1,5 +1,5 @@
 -- Which ending a status is.
-use Rattle.std.proofs.Common.{◌≡◌, ◌≢◌, ◌≤◌, ℕ, Bool, true, false, refl, sym, subst, ap, ◌∙◌, arith, inl, inr, ⊎_elim, ◌⊎◌, Ok, Err}
+use Rattle.std.proofs.Common.{◌≡◌, ◌≢◌, ◌≤◌, ℕ, Bool, true, false, refl, sym, subst, ◌∙◌, arith, inl, inr, ⊎_elim, ◌⊎◌, Ok, Err, eq-eqb}
 use Rattle.std.specs.Prelude.{◌==◌, if◌then◌else◌}
 use Rattle.std.proofs.lemmas.Bool.{ne_eqb}
 use Rattle.vnfm_commands.specs.Ending.{Ending, failure_status, status_of, told_status, IsStatus}
@@ -57,31 +57,28 @@ seven_lost put (Err why) is =
     let least = kept.least in
     absurd (kept.other (sym (told_same put (failure_status why) (failure_status why) refl (λ none. omega (arith, none, least))) ∙ is))
 
+-- where this is so
+abbrev pub Where : Bool → Type 0 → Type 0
+Where true T = T
+Where false T = Unit {0}
+
 -- the words are no command, the disk failed, or the door did: each has a status of its own
-pub record IsToldBy (e : Ending) : Type 0 where
-  pub usage : status_of e ≡ 2 → e ≡ Err Usage
-  pub site : status_of e ≡ 3 → e ≡ Err SiteFault
-  pub door : status_of e ≡ 4 → e ≡ Err DoorFault
+pub told_by : (e : Ending) → Where (status_of e == 2) (e ≡ Err Usage) × Where (status_of e == 3) (e ≡ Err SiteFault) × Where (status_of e == 4) (e ≡ Err DoorFault)
+told_by (Ok report) = (tt, tt, tt)
+told_by (Err Usage) = (refl, tt, tt)
+told_by (Err SiteFault) = (tt, refl, tt)
+told_by (Err DoorFault) = (tt, tt, refl)
+told_by (Err NoJournal) = (tt, tt, tt)
+told_by (Err (NotAJournal place)) = (tt, tt, tt)
+told_by (Err NoMemory) = (tt, tt, tt)
+told_by (Err (BadRecord n)) = (tt, tt, tt)
+told_by (Err (JournalFull end more)) = (tt, tt, tt)
+told_by (Err (DescriptorRefused why)) = (tt, tt, tt)
+told_by (Err Taken) = (tt, tt, tt)
 
-others : (e : Ending) → (status_of e ≡ 0) ⊎ (5 ≤ status_of e) → IsToldBy e
-others e other = record {
-  usage = λ is. absurd (omega (arith, is, other));
-  site = λ is. absurd (omega (arith, is, other));
-  door = λ is. absurd (omega (arith, is, other));
-}
-
-pub told_by : (e : Ending) → IsToldBy e
-told_by (Ok report) = others (Ok report) (inl refl)
-told_by (Err Usage) = record { usage = λ is. refl; site = λ is. absurd (omega (arith, is)); door = λ is. absurd (omega (arith, is)) }
-told_by (Err SiteFault) = record { usage = λ is. absurd (omega (arith, is)); site = λ is. refl; door = λ is. absurd (omega (arith, is)) }
-told_by (Err DoorFault) = record { usage = λ is. absurd (omega (arith, is)); site = λ is. absurd (omega (arith, is)); door = λ is. refl }
-told_by (Err NoJournal) = others (Err NoJournal) (inr (omega arith))
-told_by (Err (NotAJournal place)) = others (Err (NotAJournal place)) (inr (omega arith))
-told_by (Err NoMemory) = others (Err NoMemory) (inr (omega arith))
-told_by (Err (BadRecord n)) = others (Err (BadRecord n)) (inr (omega arith))
-told_by (Err (JournalFull end more)) = others (Err (JournalFull end more)) (inr (omega arith))
-told_by (Err (DescriptorRefused why)) = others (Err (DescriptorRefused why)) (inr (omega arith))
-told_by (Err Taken) = others (Err Taken) (inr (omega arith))
+-- what holds where a status is this one
+pub where_told : (n s : ℕ) (T : Type 0) → Where (s == n) T → s ≡ n → T
+where_told n s T told is = subst (λ (b : Bool). Where b T) (eq-eqb s n is) told
 
 -- an ending that is told yields as it does
 pub told_or_yields : (put : Bool) (s n : ℕ) → n ≢ 0 → IsOrYields n s → IsOrYields n (told_status put s)
@@ -93,23 +90,10 @@ told_or_yields put s n other is = ⊎_elim
     yields)
     is
 
--- the same of a program's status
-pub yields_result : (n : ℕ) (put : Bool) (e f : Ending) (result : ℕ) → result ≡ told_status put (status_of e) → e ≡ f → n ≢ 0 → IsOrYields n (status_of f) → IsOrYields n result
-yields_result n put e f result is same other yields =
-    let P : ℕ → Type 0 = λ s. IsOrYields n s in
-    let Q : Ending → Type 0 = λ x. IsOrYields n (status_of x) in
-    subst P (sym is) (told_or_yields put (status_of e) n other (subst Q (sym same) yields))
-
--- the ending of a program's status
-pub status_result : (n : ℕ) (put : Bool) (e f : Ending) (result : ℕ) → result ≡ told_status put (status_of e) → e ≡ f → n ≢ 7 → result ≡ n → status_of f ≡ n
-status_result n put e f result is same other at =
-    let Q : Ending → Type 0 = λ x. status_of x ≡ n in
-    subst Q same (status_told put (status_of e) n (sym is ∙ at) other)
-
--- the status of a program whose line was put
-pub put_result : (put : Bool) (e f : Ending) (result : ℕ) → result ≡ told_status put (status_of e) → e ≡ f → (put ≡ false → ⊥) → result ≡ status_of f
-put_result false e f result is same put = absurd (put refl)
-put_result true e f result is same put = is ∙ ap status_of same
+-- the status where the line was put
+pub put_told : (put : Bool) (s n : ℕ) → n ≡ told_status put s → (put ≡ false → ⊥) → n ≡ s
+put_told false s n is put = absurd (put refl)
+put_told true s n is put = is
 
 -- a status of 0 or 7 is that of an ending with 0
 pub done_status : (put : Bool) (e : Ending) (result : ℕ) → result ≡ told_status put (status_of e) → (result ≡ 0) ⊎ (result ≡ 7) → status_of e ≡ 0

@@ -1,5 +1,5 @@
 -- Which endings the bytes of the file allow.
-use Rattle.std.proofs.Common.{◌≡◌, ◌≢◌, ◌≤◌, ◌⊎◌, ℕ, List, Some, None, Result, Ok, Err, ap, subst, refl, inl, inr, ⊎_elim, sym, ◌∙◌, arith}
+use Rattle.std.proofs.Common.{◌≡◌, ◌⊎◌, ◌==◌, ℕ, List, Some, None, Result, Ok, Err, ap, subst, refl, inl, inr, ⊎_elim, sym, ◌∙◌, arith}
 use Rattle.std.proofs.lemmas.Bool.{false≢true}
 use Rattle.executor.specs.Laws.{HasNoBadRecord}
 use Rattle.executor.specs.Open.{IsBadRecord}
@@ -8,13 +8,14 @@ use Rattle.executor.specs.declared.manager.OpenFault.TheVariants as opening
 use Rattle.journal_records.specs.File.{HasRecords}
 use Rattle.journal_core.specs.Header.{IsForeign, IsUnmade}
 use Rattle.journal_core.specs.Exclusion.{IsHeadedOrNot, IsWholeOrForeign, IsWholeOrUnmade}
-use Rattle.lcm_sessions.specs.Onboarding.{Onboarding, answer_of, unready, unheard, cut_off, heard, done, starving as no_memory, breaking, verdict_answer}
+use Rattle.lcm_sessions.specs.Onboarding.{unready, unheard, cut_off, heard, done, starving as no_memory, breaking, verdict_answer}
 use Rattle.lcm_sessions.specs.Verdict.{Verdict, refused, full as no_room, accepted, verdict}
 use Rattle.lcm_events.specs.declared.events.Event.{Event}
 use Rattle.site_traits.specs.Counts.{one_more}
 use Rattle.site_traits.specs.Door.{DoorCounts}
 use Rattle.site_traits.specs.Site.{SiteState}
 use Rattle.vnfm_cli.specs.Causes.{FailsAtDoor}
+use Rattle.vnfm_cli.proofs.EndingLemmas.{Where}
 use Rattle.vnfm_commands.specs.Course.{Course, misused, starved, making, unopened, opened, Close, finished, unreached, stopped, halted, full, starving, broken, serving, onboarding, close_ending, ending_of, onboarding_ending, unopened_failure, IsOf, IsOfSettings, IsOfWords}
 use Rattle.vnfm_commands.specs.Ending.{failure_status, status_of}
 use Rattle.vnfm_commands.specs.Runs.{AtFile, IsDoorCause, IsLegalCourse, IsNoJournal, IsOrYields, IsSoundStart, IsStartOf, MayEndWith}
@@ -52,103 +53,59 @@ not_making P words number result are of =
     let init = (of_settings words (making number result) are.settings are.set of).0 in
     absurd (false≢true (ap loads (sym init) ∙ are.loading))
 
--- rounds end with 0, 3, 4, 6 or 9
-close_status : (rounds : ℕ) (close : Close) (n : ℕ) → (n ≡ 5) ⊎ ((n ≡ 8) ⊎ ((n ≡ 10) ⊎ (n ≡ 11))) → status_of (close_ending rounds close) ≡ n → ⊥
-close_status rounds finished n other is = omega (arith, other, is)
-close_status rounds unreached n other is = omega (arith, other, is)
-close_status rounds (stopped came talk) n other is = omega (arith, other, is)
-close_status rounds (halted visit turn end (full e more)) n other is = omega (arith, other, is)
-close_status rounds (halted visit turn end starving) n other is = omega (arith, other, is)
-close_status rounds (halted visit turn end broken) n other is = omega (arith, other, is)
-
 -- a descriptor that was judged ends with 0, 9 or 10
 verdict_status : (v : Verdict) → MayEndWith Onboard (status_of (onboarding_ending (verdict_answer v)))
 verdict_status (refused why) = inr (inr (inr refl))
 verdict_status (no_room end more) = inr (inr (inl refl))
 verdict_status (accepted vnfd) = inl refl
 
--- onboarding ends with neither 5, 8 nor 11
-onboarding_status : (H : List Event) (o : Onboarding) (n : ℕ) → (n ≡ 5) ⊎ ((n ≡ 8) ⊎ (n ≡ 11)) → status_of (onboarding_ending (answer_of H o)) ≡ n → ⊥
-onboarding_status H unready n other is = omega (arith, other, is)
-onboarding_status H unheard n other is = omega (arith, other, is)
-onboarding_status H (cut_off bytes) n other is = omega (arith, other, is)
-onboarding_status H (heard bytes now done) n other is = let v = verdict_status (verdict H now bytes) in omega (arith, other, is, v)
-onboarding_status H (heard bytes now breaking) n other is = omega (arith, other, is)
-onboarding_status H (heard bytes now no_memory) n other is = omega (arith, other, is)
-
--- making a journal ends with 0, 3 or 11
-making_status : (number : ℕ) (result : Result (Unit {0}) CreateFault) (n : ℕ) → n ≢ 0 → n ≢ 3 → n ≢ 11 → status_of (ending_of (making number result)) ≡ n → ⊥
-making_status number (Ok u) n zero three eleven is = zero (sym is)
-making_status number (Err creating.Taken) n zero three eleven is = eleven (sym is)
-making_status number (Err creating.Disk) n zero three eleven is = three (sym is)
-
--- a journal that wasn't opened ends with 3, 5, 6 or 8
-opening_status : (why : OpenFault) (n : ℕ) → 9 ≤ n → failure_status (unopened_failure why) ≡ n → ⊥
-opening_status opening.Unmade n most is = omega (arith, most, is)
-opening_status (opening.Foreign place) n most is = omega (arith, most, is)
-opening_status (opening.BadRecord k) n most is = omega (arith, most, is)
-opening_status opening.Disk n most is = omega (arith, most, is)
-opening_status opening.Memory n most is = omega (arith, most, is)
-
--- status 5 is told of a file that is no journal
-pub told_no_journal : (course : Course) (a b : SiteState) → AtFile course a b → status_of (ending_of course) ≡ 5 → IsNoJournal a.image
-told_no_journal misused a b at is = absurd (omega (arith, is))
-told_no_journal starved a b at is = absurd (omega (arith, is))
-told_no_journal (making number result) a b at is = absurd (making_status number result 5 (omega arith) (omega arith) (omega arith) is)
-told_no_journal (unopened opening.Unmade) a b at is = inl at.because
-told_no_journal (unopened (opening.Foreign place)) a b at is = inr (place, at.because)
-told_no_journal (unopened (opening.BadRecord n)) a b at is = absurd (omega (arith, is))
-told_no_journal (unopened opening.Disk) a b at is = absurd (omega (arith, is))
-told_no_journal (unopened opening.Memory) a b at is = absurd (omega (arith, is))
-told_no_journal (opened start (serving service)) a b at is = absurd (close_status _ service.close 5 (inl refl) is)
-told_no_journal (opened start (onboarding o)) a b at is = absurd (onboarding_status start.history o 5 (inl refl) is)
-
--- status 8 is told of a file with a bad record
-pub told_bad_record : (course : Course) (a b : SiteState) → AtFile course a b → status_of (ending_of course) ≡ 8 → (n : ℕ) × IsBadRecord n a.image
-told_bad_record misused a b at is = absurd (omega (arith, is))
-told_bad_record starved a b at is = absurd (omega (arith, is))
-told_bad_record (making number result) a b at is = absurd (making_status number result 8 (omega arith) (omega arith) (omega arith) is)
-told_bad_record (unopened opening.Unmade) a b at is = absurd (omega (arith, is))
-told_bad_record (unopened (opening.Foreign place)) a b at is = absurd (omega (arith, is))
-told_bad_record (unopened (opening.BadRecord n)) a b at is = (n, at.because)
-told_bad_record (unopened opening.Disk) a b at is = absurd (omega (arith, is))
-told_bad_record (unopened opening.Memory) a b at is = absurd (omega (arith, is))
-told_bad_record (opened start (serving service)) a b at is = absurd (close_status _ service.close 8 (inr (inl refl)) is)
-told_bad_record (opened start (onboarding o)) a b at is = absurd (onboarding_status start.history o 8 (inr (inl refl)) is)
-
--- status 9 is that of onboarding and of rounds alone
-pub told_full : (course : Course) (words : List (List ℕ)) → IsOfWords words course → status_of (ending_of course) ≡ 9 → AreWordsOf Onboard words ⊎ AreWordsOf Once words
-told_full misused words of is = absurd (omega (arith, is))
-told_full starved words of is = absurd (omega (arith, is))
-told_full (making number result) words of is = absurd (making_status number result 9 (omega arith) (omega arith) (omega arith) is)
-told_full (unopened why) words of is = absurd (opening_status why 9 (omega arith) is)
-told_full (opened start (serving service)) words of is = inr (record { settings = of.settings; set = of.set; is = of.is.command })
-told_full (opened start (onboarding o)) words of is = inl (record { settings = of.settings; set = of.set; is = of.is })
-
--- status 10 is that of onboarding alone
-pub told_refused : (course : Course) (words : List (List ℕ)) → IsOfWords words course → status_of (ending_of course) ≡ 10 → AreWordsOf Onboard words
-told_refused misused words of is = absurd (omega (arith, is))
-told_refused starved words of is = absurd (omega (arith, is))
-told_refused (making number result) words of is = absurd (making_status number result 10 (omega arith) (omega arith) (omega arith) is)
-told_refused (unopened why) words of is = absurd (opening_status why 10 (omega arith) is)
-told_refused (opened start (serving service)) words of is = absurd (close_status _ service.close 10 (inr (inr (inl refl))) is)
-told_refused (opened start (onboarding o)) words of is = record { settings = of.settings; set = of.set; is = of.is }
-
 -- the words of a course that makes a journal are `init`'s, for that manager
 init_words : (words : List (List ℕ)) (number : ℕ) (result : Result (Unit {0}) CreateFault) → IsOfSettings words (making number result) → AreInit number words
 init_words words number result of = record { settings = of.settings; set = of.set; is = of.is.0; number = sym of.is.1 }
 
--- status 11 is told where a journal was to be made of a file that isn't unfinished for its manager
-pub told_taken : (course : Course) (words : List (List ℕ)) (a b : SiteState) → IsOfWords words course → AtFile course a b → status_of (ending_of course) ≡ 11
-    → (m : ℕ) × AreInit m words × (IsUnfinished m a.image → ⊥)
-told_taken misused words a b of at is = absurd (omega (arith, is))
-told_taken starved words a b of at is = absurd (omega (arith, is))
-told_taken (making number (Ok u)) words a b of at is = absurd (omega (arith, is))
-told_taken (making number (Err creating.Taken)) words a b of at is = (number, init_words words number (Err creating.Taken) of, at.taken refl)
-told_taken (making number (Err creating.Disk)) words a b of at is = absurd (omega (arith, is))
-told_taken (unopened why) words a b of at is = absurd (opening_status why 11 (omega arith) is)
-told_taken (opened start (serving service)) words a b of at is = absurd (close_status _ service.close 11 (inr (inr (inr refl))) is)
-told_taken (opened start (onboarding o)) words a b of at is = absurd (onboarding_status start.history o 11 (inr (inr refl)) is)
+-- what a status tells of the words and of the file at the start: 5 of one that is no journal, 8 of a bad record, 9 and 10 of the command, 11 of a file
+-- that isn't unfinished for the manager of `init`
+abbrev pub IsTold : Type 0 → List (List ℕ) → SiteState → ℕ → Type 0
+IsTold tells words a n =
+    Where (n == 5) (tells → IsNoJournal a.image)
+    × Where (n == 8) (tells → (k : ℕ) × IsBadRecord k a.image)
+    × Where (n == 9) (AreWordsOf Onboard words ⊎ AreWordsOf Once words)
+    × Where (n == 10) (AreWordsOf Onboard words)
+    × Where (n == 11) (tells → (m : ℕ) × AreInit m words × (IsUnfinished m a.image → ⊥))
+
+-- so it tells, by the way that the run went
+module _ (tells : Type 0) (words : List (List ℕ)) (a b : SiteState) where
+  closed_so : AreWordsOf Once words → (rounds : ℕ) (close : Close) → IsTold tells words a (status_of (close_ending rounds close))
+  closed_so once rounds finished = (tt, tt, tt, tt, tt)
+  closed_so once rounds unreached = (tt, tt, tt, tt, tt)
+  closed_so once rounds (stopped came talk) = (tt, tt, tt, tt, tt)
+  closed_so once rounds (halted visit turn end (full e more)) = (tt, tt, inr once, tt, tt)
+  closed_so once rounds (halted visit turn end starving) = (tt, tt, tt, tt, tt)
+  closed_so once rounds (halted visit turn end broken) = (tt, tt, tt, tt, tt)
+
+  judged_so : AreWordsOf Onboard words → (v : Verdict) → IsTold tells words a (status_of (onboarding_ending (verdict_answer v)))
+  judged_so on (refused why) = (tt, tt, tt, on, tt)
+  judged_so on (no_room end more) = (tt, tt, inl on, tt, tt)
+  judged_so on (accepted vnfd) = (tt, tt, tt, tt, tt)
+
+  pub told_so : (course : Course) → IsOfWords words course → (tells → AtFile course a b) → IsTold tells words a (status_of (ending_of course))
+  told_so misused of at = (tt, tt, tt, tt, tt)
+  told_so starved of at = (tt, tt, tt, tt, tt)
+  told_so (making number (Ok u)) of at = (tt, tt, tt, tt, tt)
+  told_so (making number (Err creating.Taken)) of at = (tt, tt, tt, tt, λ told. (number, init_words words number (Err creating.Taken) of, (at told).taken refl))
+  told_so (making number (Err creating.Disk)) of at = (tt, tt, tt, tt, tt)
+  told_so (unopened opening.Unmade) of at = ((λ told. inl (at told).because), tt, tt, tt, tt)
+  told_so (unopened (opening.Foreign place)) of at = ((λ told. inr (place, (at told).because)), tt, tt, tt, tt)
+  told_so (unopened (opening.BadRecord n)) of at = (tt, (λ told. (n, (at told).because)), tt, tt, tt)
+  told_so (unopened opening.Disk) of at = (tt, tt, tt, tt, tt)
+  told_so (unopened opening.Memory) of at = (tt, tt, tt, tt, tt)
+  told_so (opened start (serving service)) of at = closed_so (record { settings = of.settings; set = of.set; is = of.is.command }) _ service.close
+  told_so (opened start (onboarding unready)) of at = (tt, tt, tt, tt, tt)
+  told_so (opened start (onboarding unheard)) of at = (tt, tt, tt, tt, tt)
+  told_so (opened start (onboarding (cut_off bytes))) of at = (tt, tt, tt, tt, tt)
+  told_so (opened start (onboarding (heard bytes now done))) of at = judged_so (record { settings = of.settings; set = of.set; is = of.is }) (verdict start.history now bytes)
+  told_so (opened start (onboarding (heard bytes now breaking))) of at = (tt, tt, tt, tt, tt)
+  told_so (opened start (onboarding (heard bytes now no_memory))) of at = (tt, tt, tt, tt, tt)
 
 -- the course of words of a command is one of settings of that command
 of_command : (command : Command) (words : List (List ℕ)) (course : Course) → AreWordsOf command words → IsOfSettings words course
@@ -259,7 +216,7 @@ module _ (whole_unmade : IsWholeOrUnmade) (whole_foreign : IsWholeOrForeign) (he
   no_journal_ending (unopened (opening.BadRecord n)) words a b are of at none = absurd (bad_journal n a.image at.because none)
   no_journal_ending (unopened opening.Disk) words a b are of at none = inr (inl refl)
   no_journal_ending (unopened opening.Memory) words a b are of at none = inr (inr refl)
-  no_journal_ending (opened start deed) words a b are of at none = absurd (whole_journal start.number _ a.image at.found.file none)
+  no_journal_ending (opened start activity) words a b are of at none = absurd (whole_journal start.number _ a.image at.found.file none)
 
   -- a bad record is told so
   pub bad_record_ending : (course : Course) (words : List (List ℕ)) (a b : SiteState) (n : ℕ) → AreLoading words → IsOfWords words course → IsLegalCourse course → AtFile course a b
@@ -272,7 +229,7 @@ module _ (whole_unmade : IsWholeOrUnmade) (whole_foreign : IsWholeOrForeign) (he
   bad_record_ending (unopened (opening.BadRecord k)) words a b n are of legal at bad = inl refl
   bad_record_ending (unopened opening.Disk) words a b n are of legal at bad = inr (inl refl)
   bad_record_ending (unopened opening.Memory) words a b n are of legal at bad = inr (inr refl)
-  bad_record_ending (opened start deed) words a b n are of legal at bad =
+  bad_record_ending (opened start activity) words a b n are of legal at bad =
       absurd (no_bad start.number n start.history a.image legal.number at.found legal.before bad)
 
   -- a sound start is opened, unless the disk failed or there was no memory

@@ -18,7 +18,7 @@ use Rattle.lcm_model.specs.Work.{window}
 use Rattle.site_traits.specs.Jobs.{Advances, Job}
 use Rattle.site_traits.specs.Moments.{goes_on, joined, started, weakened}
 use Rattle.site_traits.specs.Site.{FileStep, HasItsJobs, KeepsJobs, LeavesOnly, Pair, Same, SiteState}
-use Rattle.vnfm_commands.specs.Course.{Course, misused, starved, making, unopened, opened, serving, onboarding, Deed, deed_work, told_by, told_of, IsOfWords}
+use Rattle.vnfm_commands.specs.Course.{Course, misused, starved, making, unopened, opened, serving, onboarding, activity_work, told_by, told_of, IsOfWords}
 use Rattle.vnfm_cli.specs.Headline.{AreStanding, IsFresh, IsFreshPair, IsLeftWith, IsSoundBeginning, IsSoundPair, SoundJobsMakeSoundPairs, StandsSince}
 use Rattle.vnfm_commands.specs.Runs.{AtFile, AtJobs, IsLegalCourse, IsUntouched, Recovers, ToldIn}
 use Rattle.vnfm_commands.specs.Words.{AreInit}
@@ -98,9 +98,9 @@ module _ (whole : IsWholeOrUnmade) (once : HasOneHistory) (may_end : JobsMayEnd)
   acknowledged tells told starved before now a b at legal are m H start = are
   acknowledged tells told (making number result) before now a b at legal are m H start = are
   acknowledged tells told (unopened why) before now a b at legal are m H start = are
-  acknowledged tells told (opened begun deed) before now a b at legal are m H start =
-      let w : Work = deed_work begun.number begun.history deed in
-      let histories : List (List Event) = told_by begun.number begun.history deed in
+  acknowledged tells told (opened begun activity) before now a b at legal are m H start =
+      let w : Work = activity_work begun.number begun.history activity in
+      let histories : List (List Event) = told_by begun.number begun.history activity in
       let it = recovers_it m begun.number H begun.history w a b legal.number at start in
       are_standing tells m H histories before now w a b told start.start.start.number (it.1.sound start.start.start start.sound)
       (subst (λ (k : ℕ). AreTold tells k histories before now a b) (sym it.0) are)
@@ -113,8 +113,8 @@ module _ (whole : IsWholeOrUnmade) (once : HasOneHistory) (may_end : JobsMayEnd)
   leaves_sound (making number result) a b at legal m H start =
       reads_leave m H a b start (at.kept (λ unfinished. whole m (spellings H) a.image start.start.start.file.file (number, unfinished))).0
   leaves_sound (unopened why) a b at legal m H start = reads_leave m H a b start at.reads
-  leaves_sound (opened begun deed) a b at legal m H start =
-      recovery_leaves m begun.number H begun.history (deed_work begun.number begun.history deed) a b legal.number at start
+  leaves_sound (opened begun activity) a b at legal m H start =
+      recovery_leaves m begun.number H begun.history (activity_work begun.number begun.history activity) a b legal.number at start
 
 -- no job goes on as none
 no_job : (js : List Job) → Advances [] js → js ≡ []

@@ -3,8 +3,8 @@ use Rattle.std.proofs.Common.{◌≡◌, ◌∙◌, ℕ, List, [], ◌++◌, ◌
 use Rattle.std.specs.Prelude.{is_some}
 use Rattle.std.specs.Result.{is_err}
 use Rattle.lcm_api.specs.Failing.{counts_by}
-use Rattle.lcm_sessions.specs.Session.{Ending as Closing, Last, over, unheard, untold, starving, breaking, counts_behind, has_reply, is_cut, is_lost, life, once_answered, replies, reply_last, said}
-use Rattle.lcm_api.specs.World.{Tells}
+use Rattle.lcm_sessions.specs.Session.{Closing, Last, over, unheard, untold, starving, breaking, counts_behind, has_reply, is_cut, is_lost, life, once_answered, replies, reply_last, said}
+use Rattle.lcm_api.specs.World.{WorldTells}
 use Rattle.lcm_sessions.specs.Talking.{IsSaid, SaysLast}
 use Rattle.lcm_api.specs.declared.door.DoorFailed.{DoorFailed}
 use Rattle.lcm_api.specs.declared.reply.Reply.{Reply}
@@ -41,7 +41,7 @@ last_whole m H (Some closing) a b bytes is counts fine =
     said_whole (reply_last m H closing.last) closing.told bytes is
     (λ lost. fine (lost_rose (is_cut closing.last) (is_lost closing) a b counts (rw (replied m H closing.last) lost)))
 
-pub whole_answer : (t : Tells) → AnswersAreWhole t
+pub whole_answer : (t : WorldTells) → AnswersAreWhole t
 whole_answer t m H came talk a b receives told fine =
     let attends = receives.attends in
     let speaks = attends.holds.speaks told in

@@ -2,10 +2,10 @@
 use Rattle.std.specs.Prelude.{◌≡◌, ◌⊎◌, ◌↔◌, ℕ, List, None}
 use Rattle.executor.specs.Open.{IsBadRecord}
 use Rattle.journal_core.specs.Header.{IsUnfinished}
-use Rattle.lcm_api.specs.World.{World}
-use Rattle.site_traits.specs.Counts.{CallCounts, Rose, one_more}
+use Rattle.site_traits.specs.Counts.{Rose, one_more}
 use Rattle.site_traits.specs.Door.{DoorCounts}
-use Rattle.vnfm_commands.specs.Ending.{IsStatus}
+use Rattle.vnfm_commands.specs.Ending.{IsStatus, Output}
+use Rattle.vnfm_commands.specs.Outside.{Outside}
 use Rattle.vnfm_commands.specs.Runs.{IsNoJournal, IsOrYields}
 use Rattle.command_line.specs.Words.{settings_of}
 use Rattle.vnfm_commands.specs.Words.{AreInit, AreLoading, AreWordsOf}
@@ -22,10 +22,10 @@ pub record FailsAtDoor (words : List (List ℕ)) (failed : Type 0) (a b : DoorCo
 -- failed; 7, 9 and 10 only where the line couldn't be put, for `onboard` or `once`, and for `onboard`; and where the site tells, 5 exactly where the file that is to be
 -- opened is no journal, 8 exactly where one of its records is bad, and 11 exactly where the file isn't unfinished for the manager of
 -- `init`, but that each of these yields to a disk fault and to want of memory.
-pub record HasCauses (tells : Type 0) (words : List (List ℕ)) (status : ℕ) (w v : World) (before now : CallCounts) : Type 0 where
+pub record HasCauses (tells : Type 0) (words : List (List ℕ)) (status : ℕ) (w v : Outside) (a b : Output) : Type 0 where
   pub usage : (status ≡ 2) ↔ (settings_of words ≡ None)
   pub door : FailsAtDoor words (status ≡ 4) w.mouth.wire.intake.counts v.mouth.wire.intake.counts
-  pub sink : status ≡ 7 → Rose before.faults now.faults
+  pub sink : status ≡ 7 → Rose a.counts.faults b.counts.faults
   pub journal : tells → status ≡ 5 → IsNoJournal w.site.image
   pub no_journal : tells → AreLoading words → IsNoJournal w.site.image → IsOrYields 5 status
   pub record_is_bad : tells → status ≡ 8 → (n : ℕ) × IsBadRecord n w.site.image

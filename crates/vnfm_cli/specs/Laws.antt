@@ -2,22 +2,23 @@
 use Rattle.std.specs.Prelude.{◌≡◌, ◌<◌, ◌⊎◌, ℕ, List, [], ◌++◌, Option, Some, None}
 use Rattle.executor.specs.Work.{Extends}
 use Rattle.journal_core.specs.Create.{IsMade}
-use Rattle.lcm_api.specs.Mouth.{MouthState}
 use Rattle.lcm_api.specs.Response.{text}
-use Rattle.lcm_sessions.specs.Session.{Ending as Closing, Talk, life, once_answered, replies, reply_last, said}
-use Rattle.lcm_api.specs.World.{Tells, Peers, world}
+use Rattle.lcm_sessions.specs.Session.{Closing, Talk, life, once_answered, replies, reply_last, said}
+use Rattle.lcm_api.specs.World as session
+use Rattle.lcm_api.specs.World.{Peers}
 use Rattle.lcm_api.specs.declared.reply.Reply.{Reply}
 use Rattle.lcm_events.specs.declared.events.Event.{Event}
 use Rattle.lcm_events.specs.declared.states.Role.{Role}
 use Rattle.occ_work.specs.Around.{DiskFails}
-use Rattle.site_traits.specs.Counts.{CallCounts, Rose, SiteCounts, one_more}
+use Rattle.site_traits.specs.Counts.{Rose, SiteCounts, one_more}
 use Rattle.site_traits.specs.Site.{Pair, SiteState}
-use Rattle.vnfm_commands.specs.Course.{Course, ending_of}
-use Rattle.vnfm_cli.specs.DoorFaults.{AreCounted, door_faults}
-use Rattle.vnfm_commands.specs.Ending.{Ending, Ends}
+use Rattle.vnfm_commands.specs.Course.{Course, IsOfWords, ending_of}
+use Rattle.vnfm_cli.specs.DoorFaults.{CountsFaults}
+use Rattle.vnfm_commands.specs.Ending.{Ending, Ends, Output}
+use Rattle.vnfm_commands.specs.Outside.{Beside, Tells}
 use Rattle.vnfm_cli.specs.Headline.{IsFresh, IsFreshPair, IsLeftWith, IsSoundBeginning, IsSoundPair}
 use Rattle.vnfm_commands.specs.Rounds.{Receives}
-use Rattle.vnfm_commands.specs.Runs.{AtPeers, Runs}
+use Rattle.vnfm_commands.specs.Runs.{AtFile, CourseDoes}
 use Rattle.vnfm_commands.specs.Words.{AreInit}
 
 -- where the count of disk faults is greater behind a run, its status is 3
@@ -26,18 +27,17 @@ DiskFaultsAreTold = (status : ℕ) (a b : SiteCounts) → DiskFails (status ≡ 
 
 -- a run counts each call of the door that failed in it as one fault, and nothing else
 abbrev pub DoorFaultsAreCounted : Tells → Type 0
-DoorFaultsAreCounted t = (course : Course) (a b : Peers) → AtPeers t course a b → AreCounted (door_faults course) a.mouth.wire.intake.counts b.mouth.wire.intake.counts
+DoorFaultsAreCounted t = (course : Course) (a b : Beside) → CourseDoes t course a b → CountsFaults course a.mouth.wire.intake.counts b.mouth.wire.intake.counts
 
 -- a run puts one line
 abbrev pub OneLineIsPut : Type 0 → Type 0
-OneLineIsPut tells = (ending : Ending) (status : ℕ) (old new : List ℕ) (before now : CallCounts) → Ends tells ending status old new before now
-    → now.calls ≡ one_more before.calls
+OneLineIsPut tells = (ending : Ending) (status : ℕ) (a b : Output) → Ends tells ending status a b → b.counts.calls ≡ one_more a.counts.calls
 
 -- where `init` ends with 0 or 7, the file is a made one of its manager, and nothing is pending
-abbrev pub InitMakes : {S : Type 0} → Tells → Type 0 → (S → SiteState) → Type 0
-InitMakes {S} t sink state = (words : List (List ℕ)) (course : Course) (status m : ℕ) (a b : S) (c d : MouthState) (ks ls old new : List ℕ) (before now : CallCounts)
-    → Runs t words course (world (state a) c ks) (world (state b) d ls) → Ends sink (ending_of course) status old new before now
-    → t.site → AreInit m words → (status ≡ 0) ⊎ (status ≡ 7) → IsMade m (state b)
+abbrev pub InitMakes : {S : Type 0} → Type 0 → Type 0 → (S → SiteState) → Type 0
+InitMakes {S} tells sink state = (words : List (List ℕ)) (course : Course) (status m : ℕ) (a b : S) (c d : Output)
+    → IsOfWords words course → (tells → AtFile course (state a) (state b)) → Ends sink (ending_of course) status c d
+    → tells → AreInit m words → (status ≡ 0) ⊎ (status ≡ 7) → IsMade m (state b)
 
 -- the bytes of a reply, where there is one
 abbrev pub optional_text : Option Reply → List ℕ
@@ -53,7 +53,7 @@ text_last m H (Some closing) = optional_text (reply_last m H closing.last)
 pub record HasWholeAnswer (m : ℕ) (H : List Event) (talk : Talk) (b : Peers) : Type 0 where
   pub out : b.mouth.wire.intake.door.conn.out ≡ said (replies m H talk.asks) ++ text_last m (life (once_answered m) H talk.asks) talk.end
 
-abbrev pub AnswersAreWhole : Tells → Type 0
+abbrev pub AnswersAreWhole : session.WorldTells → Type 0
 AnswersAreWhole t = (m : ℕ) (H : List Event) (came : Role) (talk : Talk) (a b : Peers) → Receives t m H came talk a b → t.door
     → ¬ (Rose a.mouth.wire.intake.counts.faults b.mouth.wire.intake.counts.faults) → HasWholeAnswer m H talk b
 

@@ -2,3 +2,4 @@ pub mod Causes
 pub mod DoorFaults
 pub mod Headline
 pub mod Laws
+pub mod Promises

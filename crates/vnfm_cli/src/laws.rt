@@ -1,13 +1,14 @@
 //! What holds of every run, as contracts of calls that do nothing.
-ghost use Rattle.lcm_api.specs.World.{telling};
+ghost use Rattle.lcm_api.specs.World as session;
 ghost use Rattle.vnfm_cli.specs.Headline.{SoundJobsMakeSoundPairs};
 ghost use Rattle.vnfm_cli.specs.Laws.{AnswersAreWhole, DiskFaultsAreTold, DoorFaultsAreCounted, InitMakes, InitsGoOn, LivesGoOn, MadeJournalsBeginSoundly, OneLineIsPut};
+ghost use Rattle.vnfm_commands.specs.Outside.{telling};
 
 use lcm_jobs::{
     changes_stand_at_most_once, completed_stands_once, idle_instances_have_no_job_standing,
     jobs_are_granted_work, jobs_may_end, rolled_back_stands_not,
 };
-use site_traits::{Clock, Door, Sink, Site};
+use site_traits::{Clock, Courier, Door, Orchestrator, Sink, Site};
 
 /// Where the count of disk faults is greater behind a run than before it, the run ended with 3.
 ///
@@ -19,8 +20,8 @@ pub fn disk_faults_are_told()
 /// The door's counts are those before a run, with one fault more for each call of the door that failed in its course, and no other.
 ///
 /// Source: own rule, docs/FORMATS.md.
-pub fn door_faults_are_counted<S: Site, D: Door, K: Clock>()
-    ensures { DoorFaultsAreCounted (telling S.tells D.tells K.tells) }
+pub fn door_faults_are_counted<S: Site, D: Door, O: Orchestrator, C: Courier, K: Clock>()
+    ensures { DoorFaultsAreCounted (telling S.tells D.tells O.tells C.tells K.tells) }
 {}
 
 /// A run puts one line, whatever its words.
@@ -33,15 +34,15 @@ pub fn one_line_is_put<W: Sink>()
 /// Where `init` ends with 0 or 7, the file is a made one of its manager, and nothing is pending.
 ///
 /// Source: own rule, docs/JOURNAL.md.
-pub fn init_makes_the_journal<S: Site, D: Door, K: Clock, W: Sink>()
-    ensures { InitMakes (telling S.tells D.tells K.tells) W.tells S.state }
+pub fn init_makes_the_journal<S: Site, W: Sink>()
+    ensures { InitMakes S.tells W.tells S.state }
 {}
 
 /// Where no call of the door failed, a connection got the replies to its requests, in order, and what is told at its end, and nothing else.
 ///
 /// Source: RFC 9112 9.3.
 pub fn answers_are_whole<S: Site, D: Door, K: Clock>()
-    ensures { AnswersAreWhole (telling S.tells D.tells K.tells) }
+    ensures { AnswersAreWhole (session.telling S.tells D.tells K.tells) }
 {}
 
 /// A file with a history, and jobs that are sound with it, are a sound pair: each change stands at most once, as its occurrence says, and each

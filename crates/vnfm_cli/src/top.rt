@@ -1,19 +1,10 @@
 //! The top call: one command over the objects that it is handed.
-ghost use Rattle.std.specs.Prelude.{◌≡◌, ℕ, List};
-ghost use Rattle.command_line.specs.declared.options.Command.{Command};
+ghost use Rattle.std.specs.Prelude.{◌≡◌};
 ghost use Rattle.command_line.specs.declared.options.Command.TheVariants.{Once};
-ghost use Rattle.lcm_api.specs.World.{telling, world};
-ghost use Rattle.lcm_events.specs.declared.events.Event.{Event};
-ghost use Rattle.occ_work.specs.Around.{CountJobsAlike, DiskFails, telling as asking};
-ghost use Rattle.site_traits.specs.Counts.{Rose};
-ghost use Rattle.site_traits.specs.Site.{LeavesOnly};
-ghost use Rattle.vnfm_cli.specs.Causes.{HasCauses};
-ghost use Rattle.vnfm_cli.specs.Headline.{AreStanding, IsFresh, IsFreshPair, IsSoundBeginning, IsSoundPair};
-ghost use Rattle.vnfm_commands.specs.Course.{Course, ending_of, told_of};
-ghost use Rattle.vnfm_commands.specs.Ending.{Ends};
-ghost use Rattle.vnfm_commands.specs.Rounds.{beside};
-ghost use Rattle.vnfm_commands.specs.Runs.{IsDoorCause, IsStartOf, MayEndWith, AtOutside, Runs};
-ghost use Rattle.vnfm_commands.specs.Words.{AreInit, AreWordsOf};
+ghost use Rattle.vnfm_cli.specs.Promises.{Promises};
+ghost use Rattle.vnfm_commands.specs.Ending.{output_of};
+ghost use Rattle.vnfm_commands.specs.Outside.{outside, telling};
+ghost use Rattle.vnfm_commands.specs.Words.{AreWordsOf};
 
 use crate::laws::sound_jobs_make_sound_pairs;
 use executor::{a_file_has_one_history, a_legal_history_has_no_bad_record};
@@ -60,33 +51,22 @@ pub fn run<S: Site, D: Door, O: Orchestrator, C: Courier, K: Clock, W: Sink>(
     clock: &mut K,
     out: &mut W,
 ) -> u8
-    ensures runs { (course : Course) × Runs (telling S.tells D.tells K.tells) words.now course
-        (world (S.state site.old) mouth.old (K.state clock.old)) (world (S.state site.new) mouth.new (K.state clock.new))
-        × AtOutside (asking S.tells O.tells) course (beside (S.state site.old) (S.counts site.old) (O.state orchestrator.old) (O.counts orchestrator.old)) (beside (S.state site.new) (S.counts site.new) (O.state orchestrator.new) (O.counts orchestrator.new))
-        × Ends W.tells (ending_of course) result (W.state out.old) (W.state out.new) (W.counts out.old) (W.counts out.new) }
+    ensures promises { Promises (telling S.tells D.tells O.tells C.tells K.tells) W.tells words.now result
+        (record {
+          outside = outside (S.state site.old) (S.counts site.old) mouth.old (O.state orchestrator.old) (O.counts orchestrator.old) (C.state courier.old) (C.counts courier.old) (K.state clock.old);
+          lines = output_of W.state W.counts out.old;
+        }) (record {
+          outside = outside (S.state site.new) (S.counts site.new) mouth.new (O.state orchestrator.new) (O.counts orchestrator.new) (C.state courier.new) (C.counts courier.new) (K.state clock.new);
+          lines = output_of W.state W.counts out.new;
+        }) }
     ensures unasked { ¬ (AreWordsOf Once words.now) → orchestrator.new ≡ orchestrator.old }
     ensures untouched { courier.new ≡ courier.old }
-    ensures headline { S.tells → (m : ℕ) (H : List Event) → IsSoundBeginning m H (S.state site.old)
-        → LeavesOnly (IsSoundPair m H) (S.state site.old) (S.state site.new) }
-    ensures acknowledged { S.tells → (m : ℕ) (H : List Event) → IsSoundBeginning m H (S.state site.old) → (course : Course)
-        × Runs (telling S.tells D.tells K.tells) words.now course
-        (world (S.state site.old) mouth.old (K.state clock.old)) (world (S.state site.new) mouth.new (K.state clock.new))
-        × AreStanding m (told_of course) mouth.old.told mouth.new.told (S.state site.old) (S.state site.new) }
-    ensures beginning { S.tells → (m : ℕ) → AreInit m words.now → IsFresh m (S.state site.old)
-        → LeavesOnly (IsFreshPair m) (S.state site.old) (S.state site.new) }
-    ensures site { DiskFails (result ≡ 3) (S.counts site.old) (S.counts site.new) }
-    ensures untouched_jobs { ¬ (AreWordsOf Once words.now) → CountJobsAlike (S.counts site.old) (S.counts site.new) }
-    ensures causes { HasCauses S.tells words.now result
-        (world (S.state site.old) mouth.old (K.state clock.old)) (world (S.state site.new) mouth.new (K.state clock.new)) (W.counts out.old) (W.counts out.new) }
-    ensures complete { S.tells → (command : Command) → AreWordsOf command words.now → IsStartOf command (S.state site.old)
-        → ¬ (Rose (S.counts site.old).disk (S.counts site.new).disk) → ¬ (IsDoorCause command mouth.old.wire.intake.counts mouth.new.wire.intake.counts)
-        → ¬ (Rose (W.counts out.old).faults (W.counts out.new).faults) → MayEndWith command result }
 {
     files_are_one_thing();
     a_legal_history_has_no_bad_record();
     a_file_has_one_history();
     jobs_may_end();
     sound_jobs_make_sound_pairs();
-    let ending = obey(alloc, words, site, mouth, orchestrator, clock);
+    let ending = obey(alloc, words, site, mouth, orchestrator, courier, clock);
     finish(ending, out)
 }

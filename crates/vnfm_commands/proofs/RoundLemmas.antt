@@ -1,30 +1,31 @@
 -- One round, and the rounds so far.
-use Rattle.std.proofs.Common.{◌≡◌, ◌<◌, ◌+◌, ◌⊎◌, ℕ, true, false, true≢false, List, [], ◌∷◌, length, Option, Some, None, option_map, Result, Ok, Err, sym, subst, refl, ap, ◌∙◌, arith}
+use Rattle.std.proofs.Common.{◌≡◌, ◌<◌, ◌+◌, ◌⊎◌, ℕ, Bool, true, false, true≢false, List, [], ◌∷◌, length, Option, Some, None, option_map, Result, Ok, Err, sym, subst, refl, ap, ◌∙◌, arith}
 use Rattle.executor.specs.Chain.{AreTold, ChainsJoin}
 use Rattle.executor.specs.Managed.{Managed, IsReady}
 use Rattle.executor.specs.declared.manager.WorkFault.{WorkFault}
 use Rattle.executor.specs.declared.manager.WorkFault.TheVariants as working
 use Rattle.executor.specs.Work.{Idles, Work, Works, WorksAreWithJobs, WorksWithJobs, WorksWithJobsJoin, WorksWithJobsLeadOn, LeadsOn, went, stood}
 use Rattle.lcm_api.specs.Mouth.{MouthState, Begins}
-use Rattle.lcm_sessions.specs.Session.{Last, Ending, Talk, behind_told, over as no_more, unheard, untold, starving, breaking, breaks, is_breaking, life, work_by, work_last, work_of}
-use Rattle.lcm_api.specs.World.{Peers, Tells, World, peers_of, world}
-use Rattle.lcm_sessions.specs.Talking.{Serves}
+use Rattle.lcm_sessions.specs.Session.{Last, Closing, Talk, behind_told, over as no_more, unheard, untold, starving, breaking, breaks, is_breaking, life, work_by, work_last, work_of}
+use Rattle.lcm_api.specs.World as session
+use Rattle.lcm_api.specs.World.{Peers, World, peers_of, world}
+use Rattle.lcm_sessions.specs.Talking as talking
 use Rattle.lcm_events.specs.declared.events.Event.{Event}
 use Rattle.lcm_events.specs.declared.states.Role.{Role}
-use Rattle.occ_work.specs.Around.{Around, Outside, Tells as Asking, around, outside, telling as asking}
+use Rattle.occ_work.specs.Around.{Peer}
 use Rattle.occ_work.specs.Turns.{EndsTurn, TurnEnd, Turns, through, stopped as by, turn_work}
 use Rattle.occ_work.specs.declared.ends.Acted.{Acted}
 use Rattle.occ_work.specs.declared.ends.Turn.{Turn}
 use Rattle.site_traits.specs.Clock.{Gives}
-use Rattle.site_traits.specs.Counts.{CallCounts, OnlyDiskFails, SiteCounts}
+use Rattle.site_traits.specs.Counts.{OnlyDiskFails}
 use Rattle.site_traits.specs.Door.{Comes, ComesNot, next_failed, opened as has_come}
-use Rattle.site_traits.specs.Peers.{OrchestratorState}
 use Rattle.site_traits.specs.declared.door.NextAnswer.{NextAnswer}
 use Rattle.site_traits.specs.declared.door.NextAnswer.TheVariants.{Nobody, Ended}
 use Rattle.site_traits.specs.Moments.{kept_jobs}
 use Rattle.site_traits.specs.Site.{KeepsJobs, SiteState}
-use Rattle.vnfm_commands.specs.Course.{Visit, unasked, served, Turning, Round, Close, finished, unreached, stopped, halted, Halt, full, starving as lacking, broken, halt_of, Service, IsCount, close_ending, close_work, halting, moment_of, once_made, once_served, serving, told_at_close, told_by, told_in_rounds, told_in_visit}
-use Rattle.vnfm_commands.specs.Rounds.{AreFor, AsksNobody, FailsBy, IsDoorEnd, IsEndFor, IsMet, IsOne, IsTurned, IsVisitFor, Makes, MakesOne, Meets, Met, visited, over, MetFor, One, round, end, OneFor, PassesBy, Receives, RoundsDo, TurnDoes, TurnsDo, VisitDoes, beside}
+use Rattle.vnfm_commands.specs.Course.{Visit, unasked, served, Turning, Round, Close, finished, unreached, stopped, halted, Halt, full, starving as lacking, broken, halt_of, Service, IsCount, close_ending, close_work, halting, moment_of, once_made, once_served, told_at_close, told_in_rounds, told_in_visit}
+use Rattle.vnfm_commands.specs.Outside.{Outside, Tells, acting_outside, acting_tells, beside, session_tells, session_world}
+use Rattle.vnfm_commands.specs.Rounds.{AreFor, AsksNobody, FailsBy, IsDoorEnd, IsEndFor, IsMet, IsOne, IsTurned, IsVisitFor, Makes, MakesOne, Meets, Met, visited, over, MetFor, One, round, end, OneFor, Receives, RoundsDo, TurnDoes, VisitDoes}
 use Rattle.vnfm_commands.proofs.ToldLemmas.{rounds_within, visit_within}
 use Rattle.vnfm_commands.specs.declared.ending.Failure.{Failure}
 use Rattle.vnfm_commands.specs.declared.ending.Failure.TheVariants.{DoorFault}
@@ -36,7 +37,7 @@ unbroken_last m H (untold x) fine = refl
 unbroken_last m H (starving x) fine = refl
 unbroken_last m H (breaking x) fine = absurd (true≢false fine)
 
-unbroken_by : (m : ℕ) (H : List Event) (closing : Option Ending) → breaks closing ≡ false → work_by m H closing ≡ went (stood (work_by m H closing))
+unbroken_by : (m : ℕ) (H : List Event) (closing : Option Closing) → breaks closing ≡ false → work_by m H closing ≡ went (stood (work_by m H closing))
 unbroken_by m H None fine = refl
 unbroken_by m H (Some closing) fine = unbroken_last m H closing.last fine
 
@@ -44,38 +45,28 @@ unbroken_by m H (Some closing) fine = unbroken_last m H closing.last fine
 unbroken : (m : ℕ) (H : List Event) (talk : Talk) → breaks talk.end ≡ false → work_of m H talk ≡ went (stood (work_of m H talk))
 unbroken m H talk fine = unbroken_by m _ talk.end fine
 
+-- what came of a connection, by whether the disk failed in the talk
+abbrev pub came_of : Bool → Role → Talk → Met
+came_of true came talk = over (stopped came talk)
+came_of false came talk = visited (served came talk)
+
 -- a connection came and was served
-receives : (t : Tells) (m : ℕ) (H : List Event) (came : Role) (talk : Talk) (n : Managed) (s : SiteState) (c d : MouthState) (ks : List ℕ) (v : World)
+pub met_served : (t : session.WorldTells) (m : ℕ) (H : List Event) (broke : Bool) (came : Role) (talk : Talk) (n : Managed) (s : SiteState) (c d : MouthState) (ks : List ℕ) (v : World)
     → (t.door → Comes came c.wire.intake.door d.wire.intake.door) → d.wire.intake.counts ≡ has_come c.wire.intake.counts → Begins d
-    → Serves t m H talk n (world s d ks) v → Receives t m H came talk (record { mouth = c; clock = ks }) (peers_of v)
-receives t m H came talk n s c d ks v comes counts begins serves = record { between = d; comes = comes; counts = counts; begins = begins; attends = serves.attends }
+    → d.told ≡ c.told → talking.Serves t m H talk n (world s d ks) v → breaks talk.end ≡ broke → Meets t m H (came_of broke came talk) n (world s c ks) v
+met_served t m H broke came talk n s c d ks v comes counts begins unnoted serves is = by broke is
+  where
+    receives : Receives t m H came talk (record { mouth = c; clock = ks }) (peers_of v)
+    receives = record { between = d; comes = comes; counts = counts; begins = begins; attends = serves.attends }
 
--- what was told on it, since the door was asked
-told_since : (t : Tells) (m : ℕ) (H : List Event) (talk : Talk) (n : Managed) (s : SiteState) (c d : MouthState) (ks : List ℕ) (v : World)
-    → d.told ≡ c.told → Serves t m H talk n (world s d ks) v → AreTold t.site m (behind_told m H talk) c.told v.mouth.told s v.site
-told_since t m H talk n s c d ks v unnoted serves = subst (λ (before : List ℕ). AreTold t.site m (behind_told m H talk) before v.mouth.told s v.site) unnoted serves.told
+    told : AreTold t.site m (behind_told m H talk) c.told v.mouth.told s v.site
+    told = subst (λ (before : List ℕ). AreTold t.site m (behind_told m H talk) before v.mouth.told s v.site) unnoted serves.told
 
--- a connection came, and the disk didn't fail
-pub met_served : (t : Tells) (m : ℕ) (H : List Event) (came : Role) (talk : Talk) (n : Managed) (s : SiteState) (c d : MouthState) (ks : List ℕ) (v : World)
-    → (t.door → Comes came c.wire.intake.door d.wire.intake.door) → d.wire.intake.counts ≡ has_come c.wire.intake.counts → Begins d
-    → d.told ≡ c.told → Serves t m H talk n (world s d ks) v → breaks talk.end ≡ false → Meets t m H (visited (served came talk)) n (world s c ks) v
-met_served t m H came talk n s c d ks v comes counts begins unnoted serves fine =
-    let P : Work → Type 0 = λ w. Works t.site m H w n s v.site in
-    record {
-      works = subst P (unbroken m H talk fine) serves.works;
-      does = (receives t m H came talk n s c d ks v comes counts begins serves, fine);
-      told = told_since t m H talk n s c d ks v unnoted serves;
-    }
-
--- the disk failed in the talk
-pub met_stopped : (t : Tells) (m : ℕ) (H : List Event) (came : Role) (talk : Talk) (n : Managed) (s : SiteState) (c d : MouthState) (ks : List ℕ) (v : World)
-    → (t.door → Comes came c.wire.intake.door d.wire.intake.door) → d.wire.intake.counts ≡ has_come c.wire.intake.counts → Begins d
-    → d.told ≡ c.told → Serves t m H talk n (world s d ks) v → breaks talk.end ≡ true → Meets t m H (over (stopped came talk)) n (world s c ks) v
-met_stopped t m H came talk n s c d ks v comes counts begins unnoted serves broke = record {
-  works = serves.works;
-  does = (receives t m H came talk n s c d ks v comes counts begins serves, broke);
-  told = told_since t m H talk n s c d ks v unnoted serves;
-}
+    by : (b : Bool) → breaks talk.end ≡ b → Meets t m H (came_of b came talk) n (world s c ks) v
+    by true stops = record { works = serves.works; does = (receives, stops); told = told }
+    by false fine =
+        let P : Work → Type 0 = λ w. Works t.site m H w n s v.site in
+        record { works = subst P (unbroken m H talk fine) serves.works; does = (receives, fine); told = told }
 
 -- the failure is that of a turn that answered so
 abbrev pub IsFailureOf : Result Turn WorkFault → Result (Unit {0}) Failure → Type 0
@@ -102,68 +93,74 @@ turned (Err fault) (Err why) ends (by d cause) is of =
     (h.0, subst (λ (f : WorkFault). halt_of f ≡ Some h.0) is h.1, h.2)
 
 -- calls that leave the jobs alone, of which only those on the disk fail, ask nobody
-pub asks_nobody : (t : Asking) (failed : Type 0) (a b : SiteState) (c k : SiteCounts) (told : OrchestratorState) (calls : CallCounts)
-    → (t.site → KeepsJobs a b) → OnlyDiskFails failed c k → AsksNobody t (beside a c told calls) (beside b k told calls)
-asks_nobody t failed a b c k told calls alone counts = record {
-  orchestrator = refl;
+pub asks_nobody : (t : Tells) (failed : Type 0) (w v : Outside) → v.orchestrator ≡ w.orchestrator → v.courier ≡ w.courier
+    → (t.site → KeepsJobs w.site v.site) → OnlyDiskFails failed w.counts v.counts → AsksNobody t (beside w) (beside v)
+asks_nobody t failed w v orchestrator courier alone counts = record {
+  orchestrator = orchestrator;
+  courier = courier;
   unasked = record {
-    told = λ tells. refl;
-    counts = refl;
+    told = λ tells. ap (λ (p : Peer). p.state) orchestrator;
+    counts = ap (λ (p : Peer). p.counts) orchestrator;
     handled = record {
-      jobs = λ tells. kept_jobs a b (alone tells);
+      jobs = λ tells. kept_jobs w.site v.site (alone tells);
       answers = λ tells. (alone tells).answers;
       counts = record { vim = counts.vim; look = counts.look; refusals = counts.refusals };
     };
   };
 }
 
--- a turn behind a visit, from where that ended
-passes : (t : Tells) (m : ℕ) (H : List Event) (visit : Visit) (turn : Turning) (a : Peers) (c : MouthState) (ks ls : List ℕ)
-    → VisitDoes t m H visit a (record { mouth = c; clock = ks }) → (t.clock → Gives turn.value ks ls) → PassesBy t m H visit turn a (record { mouth = c; clock = ls })
-passes t m H visit turn a c ks ls does gives = (record { mouth = c; clock = ks }, does, record { mouth = refl; clock = gives })
+-- What a visit did, and what the turn behind it does, from where that ended.
+record Went (t : Tells) (m : ℕ) (H : List Event) (visit : Visit) (n : Managed) (w u : Outside) : Type 0 where
+  works : WorksWithJobs t.site m H (went (once_served m H visit)) n w.site u.site
+  does : VisitDoes t m H visit (beside w) (beside u)
+  told : AreTold t.site m (told_in_visit m H visit) w.mouth.told u.mouth.told w.site u.site
+
+record Goes (t : Tells) (m : ℕ) (H : List Event) (turn : Turning) (ended : TurnEnd) (o : Managed) (u v : Outside) : Type 0 where
+  turns : Turns (acting_tells t) m (moment_of turn) H turn.acts ended o (acting_outside u) (acting_outside v)
+  does : TurnDoes t m H turn ended (beside u) (beside v)
+
+-- the chain of both
+told_by_both : (t : Tells) (m : ℕ) (H : List Event) (visit : Visit) (turn : Turning) (ended : TurnEnd) (n o : Managed) (w u v : Outside) → ChainsJoin t.site w.site u.site v.site
+    → Went t m H visit n w u → Goes t m (once_served m H visit) turn ended o u v → AreTold t.site m (told_in_visit m H visit) w.mouth.told v.mouth.told w.site v.site
+told_by_both t m H visit turn ended n o w u v chains first second =
+    let G : List Event = once_served m H visit in
+    chains m H G (turn_work (moment_of turn) G turn.acts ended) n o [] (told_in_visit m H visit) w.mouth.told u.mouth.told v.mouth.told
+    first.works.at_file.site (visit_within m H visit) first.told second.turns.works.at_file.site (ap (λ (x : MouthState). x.told) second.does.mouth)
 
 -- a visit and a turn that went through are a round
-round_made : (t : Tells) (asked : Type 0) (m : ℕ) (H : List Event) (visit : Visit) (turn : Turning) (n o : Managed) (w : World) (c : MouthState) (ks ls : List ℕ) (a : Around) (p q : Outside)
-    → WorksWithJobs t.site m H (went (once_served m H visit)) n w.site p.site → VisitDoes t m H visit (peers_of w) (record { mouth = c; clock = ks }) → AsksNobody (asking t.site asked) a (around p)
-    → AreTold t.site m (told_in_visit m H visit) w.mouth.told c.told w.site p.site → ChainsJoin t.site w.site p.site q.site → WorksWithJobsJoin t.site w.site p.site q.site → Turns (asking t.site asked) m (moment_of turn) (once_served m H visit) turn.acts through o p q
-    → (t.clock → Gives turn.value ks ls) → MakesOne t asked m H (round (record { visit = visit; turn = turn })) o w (world q.site c ls) a (around q)
-round_made t asked m H visit turn n o w c ks ls a p q works does nobody told chains joins turns gives =
-    let P : Around → Type 0 = λ x. TurnDoes (asking t.site asked) m H (record { visit = visit; turn = turn }) a x in
+round_made : (t : Tells) (m : ℕ) (H : List Event) (visit : Visit) (turn : Turning) (n o : Managed) (w u v : Outside) → WorksWithJobsJoin t.site w.site u.site v.site → ChainsJoin t.site w.site u.site v.site
+    → Went t m H visit n w u → Goes t m (once_served m H visit) turn through o u v → MakesOne t m H (round (record { visit = visit; turn = turn })) o w v
+round_made t m H visit turn n o w u v joins chains first second =
+    let G : List Event = once_served m H visit in
     record {
-      works = joins m H (once_served m H visit) (turn_work (moment_of turn) (once_served m H visit) turn.acts through) n o works turns.works;
-      does = passes t m H visit turn (peers_of w) c ks ls does gives;
-      asks = subst P (sym turns.end_does) (record { between = around p; visit = nobody; acts = turns.deeds_do; each = turns.order });
-      told = chains m H (once_served m H visit) (turn_work (moment_of turn) (once_served m H visit) turn.acts through) n o [] (told_in_visit m H visit) w.mouth.told c.told c.told
-          works.at_file.site (visit_within m H visit) told turns.works.at_file.site refl;
+      works = joins m H G (turn_work (moment_of turn) G turn.acts through) n o first.works second.turns.works;
+      does = (beside u, first.does, second.does);
+      told = told_by_both t m H visit turn through n o w u v chains first second;
     }
 
 -- a visit and a turn that ended in this fault end the rounds
-round_halted : (t : Tells) (asked : Type 0) (m : ℕ) (H : List Event) (visit : Visit) (turn : Turning) (ended : TurnEnd) (why : Halt) (n o : Managed) (w : World) (c : MouthState) (ks ls : List ℕ) (a : Around) (p q : Outside)
-    → WorksWithJobs t.site m H (went (once_served m H visit)) n w.site p.site → VisitDoes t m H visit (peers_of w) (record { mouth = c; clock = ks }) → AsksNobody (asking t.site asked) a (around p)
-    → AreTold t.site m (told_in_visit m H visit) w.mouth.told c.told w.site p.site → ChainsJoin t.site w.site p.site q.site → WorksWithJobsJoin t.site w.site p.site q.site → Turns (asking t.site asked) m (moment_of turn) (once_served m H visit) turn.acts ended o p q
-    → (t.clock → Gives turn.value ks ls) → FailsBy ended why → MakesOne t asked m H (end (halted visit turn ended why)) o w (world q.site c ls) a (around q)
-round_halted t asked m H visit turn ended why n o w c ks ls a p q works does nobody told chains joins turns gives fails = record {
-  works = joins m H (once_served m H visit) (turn_work (moment_of turn) (once_served m H visit) turn.acts ended) n o works turns.works;
-  does = passes t m H visit turn (peers_of w) c ks ls does gives;
-  asks = record { met = around p; visit = nobody; between = turns.between; acts = turns.deeds_do; end_does = turns.end_does; each = turns.order; cause = fails };
-  told = chains m H (once_served m H visit) (turn_work (moment_of turn) (once_served m H visit) turn.acts ended) n o [] (told_in_visit m H visit) w.mouth.told c.told c.told
-      works.at_file.site (visit_within m H visit) told turns.works.at_file.site refl;
-}
+round_halted : (t : Tells) (m : ℕ) (H : List Event) (visit : Visit) (turn : Turning) (ended : TurnEnd) (why : Halt) (n o : Managed) (w u v : Outside) → WorksWithJobsJoin t.site w.site u.site v.site → ChainsJoin t.site w.site u.site v.site
+    → Went t m H visit n w u → Goes t m (once_served m H visit) turn ended o u v → FailsBy ended why → MakesOne t m H (end (halted visit turn ended why)) o w v
+round_halted t m H visit turn ended why n o w u v joins chains first second fails =
+    let G : List Event = once_served m H visit in
+    record {
+      works = joins m H G (turn_work (moment_of turn) G turn.acts ended) n o first.works second.turns.works;
+      does = (beside u, first.does, second.does, fails);
+      told = told_by_both t m H visit turn ended n o w u v chains first second;
+    }
 
 -- what came of a round in which a visit was made, by what the turn answered
-round_turned : (t : Tells) (asked : Type 0) (m : ℕ) (H : List Event) (role : Role) (visit : Visit) (turn : Turning) (ended : TurnEnd) (answer : Result (Unit {0}) Failure) (n o : Managed) (w : World) (c : MouthState) (ks ls : List ℕ) (a : Around) (p q : Outside)
-    → WorksWithJobs t.site m H (went (once_served m H visit)) n w.site p.site → VisitDoes t m H visit (peers_of w) (record { mouth = c; clock = ks }) → AsksNobody (asking t.site asked) a (around p)
-    → AreTold t.site m (told_in_visit m H visit) w.mouth.told c.told w.site p.site → ChainsJoin t.site w.site p.site q.site → WorksWithJobsJoin t.site w.site p.site q.site → Turns (asking t.site asked) m (moment_of turn) (once_served m H visit) turn.acts ended o p q
-    → (t.clock → Gives turn.value ks ls) → IsTurned answer ended → IsVisitFor role visit
-    → (one : One) × MakesOne t asked m H one o w (world q.site c ls) a (around q) × OneFor role one × IsOne answer one
-round_turned t asked m H role visit turn ended (Ok done) n o w c ks ls a p q works does nobody told chains joins turns gives is for = went_by ended turns is
+round_turned : (t : Tells) (m : ℕ) (H : List Event) (role : Role) (visit : Visit) (turn : Turning) (ended : TurnEnd) (answer : Result (Unit {0}) Failure) (n o : Managed) (w u v : Outside) → WorksWithJobsJoin t.site w.site u.site v.site → ChainsJoin t.site w.site u.site v.site
+    → Went t m H visit n w u → Goes t m (once_served m H visit) turn ended o u v → IsTurned answer ended → IsVisitFor role visit
+    → (one : One) × MakesOne t m H one o w v × OneFor role one × IsOne answer one
+round_turned t m H role visit turn ended (Ok done) n o w u v joins chains first second is for = went_by ended second is
   where
-    went_by : (e : TurnEnd) → Turns (asking t.site asked) m (moment_of turn) (once_served m H visit) turn.acts e o p q → IsTurned (Ok done) e
-        → (one : One) × MakesOne t asked m H one o w (world q.site c ls) a (around q) × OneFor role one × IsOne (Ok done) one
-    went_by through turned is = (round (record { visit = visit; turn = turn }), round_made t asked m H visit turn n o w c ks ls a p q works does nobody told chains joins turned gives, for, tt)
-    went_by (by d cause) turned is = absurd is
-round_turned t asked m H role visit turn ended (Err why) n o w c ks ls a p q works does nobody told chains joins turns gives is for =
-    (end (halted visit turn ended is.0), round_halted t asked m H visit turn ended is.0 n o w c ks ls a p q works does nobody told chains joins turns gives is.1, for, ap Err is.2)
+    went_by : (e : TurnEnd) → Goes t m (once_served m H visit) turn e o u v → IsTurned (Ok done) e
+        → (one : One) × MakesOne t m H one o w v × OneFor role one × IsOne (Ok done) one
+    went_by through gone is = (round (record { visit = visit; turn = turn }), round_made t m H visit turn n o w u v joins chains first gone, for, tt)
+    went_by (by d cause) gone is = absurd is
+round_turned t m H role visit turn ended (Err why) n o w u v joins chains first second is for =
+    (end (halted visit turn ended is.0), round_halted t m H visit turn ended is.0 n o w u v joins chains first second is.1, for, ap Err is.2)
 
 -- which visit it was that was made
 pub the_visit : (met : Met) → IsMet (Ok tt) met → (v : Visit) × (met ≡ visited v)
@@ -171,7 +168,7 @@ the_visit (visited v) is = (v, refl)
 the_visit (over c) is = absurd is
 
 -- behind a visit the manager is ready for the turn
-pub ready_met : (t : Tells) (role : Role) (m n : Managed) (w u : World) → LeadsOn t.site w.site u.site
+pub ready_met : (t : session.WorldTells) (role : Role) (m n : Managed) (w u : World) → LeadsOn t.site w.site u.site
     → ((H : List Event) → IsReady t.site m H w.site → (met : Met) × Meets t m.ledger.manager H met n w u × MetFor role met × IsMet (Ok tt) met)
     → (H : List Event) × IsReady t.site m H w.site → (H : List Event) × IsReady t.site n H u.site
 ready_met t role m n w u leads meets ready =
@@ -183,25 +180,35 @@ ready_met t role m n w u leads meets ready =
     (G, leads m.ledger.manager ready.0 (went G) n met.works refl)
 
 -- what came of a round in which a visit was made
-pub made_by : (t : Tells) (asked : Type 0) (role : Role) (m n o : Managed) (answer : Result (Unit {0}) Failure) (failed : Type 0) (w u : World) (ls : List ℕ) (e : SiteCounts) (q : Outside) (i : SiteCounts) (told : OrchestratorState) (calls : CallCounts)
-    → LeadsOn t.site w.site u.site → WorksAreWithJobs t.site w.site u.site → ChainsJoin t.site w.site u.site q.site → WorksWithJobsJoin t.site w.site u.site q.site
-    → ((H : List Event) → IsReady t.site m H w.site → (met : Met) × Meets t m.ledger.manager H met n w u × MetFor role met × IsMet (Ok tt) met) → OnlyDiskFails failed e i
+pub made_by : (t : Tells) (role : Role) (m n o : Managed) (answer : Result (Unit {0}) Failure) (failed : Type 0) (w u v : Outside)
+    → LeadsOn t.site w.site u.site → WorksAreWithJobs t.site w.site u.site → ChainsJoin t.site w.site u.site v.site → WorksWithJobsJoin t.site w.site u.site v.site
+    → ((H : List Event) → IsReady t.site m H w.site → (met : Met) × Meets (session_tells t) m.ledger.manager H met n (session_world w) (session_world u) × MetFor role met × IsMet (Ok tt) met)
+    → OnlyDiskFails failed w.counts u.counts → u.orchestrator ≡ w.orchestrator → u.courier ≡ w.courier → v.mouth ≡ u.mouth → v.courier ≡ u.courier
     → ((H : List Event) → IsReady t.site n H u.site → (turn : Turning) × (ended : TurnEnd)
-    × Turns (asking t.site asked) n.ledger.manager (moment_of turn) H turn.acts ended o (outside u.site i told calls) q × (t.clock → Gives turn.value u.clock ls) × IsTurned answer ended)
+    × Turns (acting_tells t) n.ledger.manager (moment_of turn) H turn.acts ended o (acting_outside u) (acting_outside v) × (t.clock → Gives turn.value u.clock v.clock) × IsTurned answer ended)
     → (H : List Event) → IsReady t.site m H w.site
-    → (one : One) × MakesOne t asked m.ledger.manager H one o w (world q.site u.mouth ls) (beside w.site e told calls) (around q) × OneFor role one × IsOne answer one
-made_by t asked role m n o answer failed w u ls e q i told calls leads alone chains joins meets counts turns H ready =
+    → (one : One) × MakesOne t m.ledger.manager H one o w v × OneFor role one × IsOne answer one
+made_by t role m n o answer failed w u v leads alone chains joins meets counts orchestrator courier mouth same turns H ready =
     let it = meets H ready in
-    let v = the_visit it.0 it.3 in
-    let P : Met → Type 0 = λ x. Meets t m.ledger.manager H x n w u in
+    let met_as = the_visit it.0 it.3 in
+    let P : Met → Type 0 = λ x. Meets (session_tells t) m.ledger.manager H x n (session_world w) (session_world u) in
     let Q : Met → Type 0 = λ x. MetFor role x in
-    let met : Meets t m.ledger.manager H (visited v.0) n w u = subst P v.1 it.1 in
-    let G : List Event = once_served m.ledger.manager H v.0 in
+    let met : Meets (session_tells t) m.ledger.manager H (visited met_as.0) n (session_world w) (session_world u) = subst P met_as.1 it.1 in
+    let G : List Event = once_served m.ledger.manager H met_as.0 in
     let turned = turns G (leads m.ledger.manager H (went G) n met.works refl) in
-    let R : ℕ → Type 0 = λ x. Turns (asking t.site asked) x (moment_of turned.0) G turned.0.acts turned.1 o (outside u.site i told calls) q in
-    round_turned t asked m.ledger.manager H role v.0 turned.0 turned.1 answer n o w u.mouth u.clock ls (beside w.site e told calls) (outside u.site i told calls) q
-    (alone m.ledger.manager H (went G) n met.works) met.does (asks_nobody (asking t.site asked) failed w.site u.site e i told calls met.works.jobs counts) met.told chains joins
-    (subst R met.works.number turned.2) turned.3 turned.4 (subst Q v.1 it.2)
+    let R : ℕ → Type 0 = λ x. Turns (acting_tells t) x (moment_of turned.0) G turned.0.acts turned.1 o (acting_outside u) (acting_outside v) in
+    let done = subst R met.works.number turned.2 in
+    round_turned t m.ledger.manager H role met_as.0 turned.0 turned.1 answer n o w u v joins chains
+    (record {
+      works = alone m.ledger.manager H (went G) n met.works;
+      does = record { visits = met.does; asks = asks_nobody t failed w u orchestrator courier met.works.jobs counts };
+      told = met.told;
+    })
+    (record {
+      turns = done;
+      does = record { mouth = mouth; courier = same; clock = turned.3; between = done.between; acts = done.deeds_do; end_does = done.end_does; each = done.order };
+    })
+    turned.4 (subst Q met_as.1 it.2)
 
 -- the rounds that ended at the door
 pub door_end : (why : Failure) (c : Close) → IsDoorEnd why c → IsEndFor why c
@@ -211,7 +218,7 @@ door_end why (stopped came talk) is = ap Err is
 door_end why (halted visit turn ended cause) is = absurd is
 
 -- nobody came
-pub met_nobody : (t : Tells) (m : Managed) (H : List Event) (answer : NextAnswer) (s : SiteState) (c d : MouthState) (ks : List ℕ) → Idles t.site s → IsReady t.site m H s
+pub met_nobody : (t : session.WorldTells) (m : Managed) (H : List Event) (answer : NextAnswer) (s : SiteState) (c d : MouthState) (ks : List ℕ) → Idles t.site s → IsReady t.site m H s
     → (answer ≡ Nobody) ⊎ (answer ≡ Ended) → (t.door → ComesNot answer c.wire.intake.door d.wire.intake.door) → d.wire.intake.counts ≡ c.wire.intake.counts → d.told ≡ c.told
     → Meets t m.ledger.manager H (visited unasked) m (world s c ks) (world s d ks)
 met_nobody t m H answer s c d ks idles ready none comes counts unnoted = record {
@@ -221,48 +228,47 @@ met_nobody t m H answer s c d ks idles ready none comes counts unnoted = record 
 }
 
 -- waiting failed
-pub met_unreached : (t : Tells) (m : Managed) (H : List Event) (s : SiteState) (c d : MouthState) (ks : List ℕ) → Idles t.site s → IsReady t.site m H s
+pub met_unreached : (t : session.WorldTells) (m : Managed) (H : List Event) (s : SiteState) (c d : MouthState) (ks : List ℕ) → Idles t.site s → IsReady t.site m H s
     → (t.door → d.wire.intake.door ≡ c.wire.intake.door) → d.wire.intake.counts ≡ next_failed c.wire.intake.counts → d.told ≡ c.told
     → Meets t m.ledger.manager H (over unreached) m (world s c ks) (world s d ks)
-met_unreached t m H s c d ks idles ready same counts unnoted = record { works = idles m H ready; does = (record { same = same; counts = counts }, refl); told = unnoted }
+met_unreached t m H s c d ks idles ready same counts unnoted = record { works = idles m H ready; does = record { unreached = record { same = same; counts = counts }; clock = refl }; told = unnoted }
 
 -- what came of the door in a round that the door ended is what ended it, and nobody was asked
-pub round_over : (t : Tells) (asked : Type 0) (m : ℕ) (H : List Event) (role : Role) (why : Failure) (failed : Type 0) (met : Met) (n : Managed) (w v : World) (e i : SiteCounts) (told : OrchestratorState) (calls : CallCounts)
-    → WorksAreWithJobs t.site w.site v.site → Meets t m H met n w v → MetFor role met → IsMet (Err why) met → OnlyDiskFails failed e i
-    → (why ≡ DoorFault → beside v.site i told calls ≡ beside w.site e told calls)
-    → (one : One) × MakesOne t asked m H one n w v (beside w.site e told calls) (beside v.site i told calls) × OneFor role one × IsOne (Err why) one
-round_over t asked m H role why failed (visited visit) n w v e i told calls alone meets for is counts same = absurd is
-round_over t asked m H role why failed (over finished) n w v e i told calls alone meets for is counts same = absurd is
-round_over t asked m H role why failed (over unreached) n w v e i told calls alone meets for is counts same =
-    (end unreached, record { works = alone m H (went H) n meets.works; does = meets.does; asks = same is; told = meets.told }, for, door_end why unreached is)
-round_over t asked m H role why failed (over (stopped came talk)) n w v e i told calls alone meets for is counts same = (
+pub round_over : (t : Tells) (m : ℕ) (H : List Event) (role : Role) (why : Failure) (failed : Type 0) (met : Met) (n : Managed) (w v : Outside)
+    → WorksAreWithJobs t.site w.site v.site → Meets (session_tells t) m H met n (session_world w) (session_world v) → MetFor role met → IsMet (Err why) met
+    → OnlyDiskFails failed w.counts v.counts → v.orchestrator ≡ w.orchestrator → v.courier ≡ w.courier → (why ≡ DoorFault → (beside v).around ≡ (beside w).around)
+    → (one : One) × MakesOne t m H one n w v × OneFor role one × IsOne (Err why) one
+round_over t m H role why failed (visited visit) n w v alone meets for is counts orchestrator courier same = absurd is
+round_over t m H role why failed (over finished) n w v alone meets for is counts orchestrator courier same = absurd is
+round_over t m H role why failed (over unreached) n w v alone meets for is counts orchestrator courier same =
+    (end unreached, record { works = alone m H (went H) n meets.works; does = (meets.does, same is, courier); told = meets.told }, for, door_end why unreached is)
+round_over t m H role why failed (over (stopped came talk)) n w v alone meets for is counts orchestrator courier same = (
   end (stopped came talk),
   record {
     works = alone m H (work_of m H talk) n meets.works;
-    does = meets.does;
-    asks = asks_nobody (asking t.site asked) failed w.site v.site e i told calls meets.works.jobs counts;
+    does = (meets.does, asks_nobody t failed w v orchestrator courier meets.works.jobs counts);
     told = meets.told;
   },
   for,
   door_end why (stopped came talk) is,
 )
-round_over t asked m H role why failed (over (halted visit turn ended cause)) n w v e i told calls alone meets for is counts same = absurd is
+round_over t m H role why failed (over (halted visit turn ended cause)) n w v alone meets for is counts orchestrator courier same = absurd is
 
 -- the rounds so far: all were made
-pub record RoundsSoFar (t : Tells) (asked : Type 0) (role : Role) (m n : Managed) (made : ℕ) (w v : World) (a b : Around) : Type 0 where
+pub record RoundsSoFar (t : Tells) (role : Role) (m n : Managed) (made : ℕ) (w v : Outside) : Type 0 where
   pub each : (H : List Event) → IsReady t.site m H w.site → (rounds : List Round)
       × WorksWithJobs t.site m.ledger.manager H (went (life (once_made m.ledger.manager) H rounds)) n w.site v.site
-      × RoundsDo t m.ledger.manager H rounds (peers_of w) (peers_of v) × TurnsDo (asking t.site asked) m.ledger.manager H rounds a b × AreFor role rounds × (made ≡ length rounds)
+      × RoundsDo t m.ledger.manager H rounds (beside w) (beside v) × AreFor role rounds × (made ≡ length rounds)
       × AreTold t.site m.ledger.manager (told_in_rounds m.ledger.manager H rounds) w.mouth.told v.mouth.told w.site v.site
 
-pub none_made : (t : Tells) (asked : Type 0) (role : Role) (m : Managed) (w : World) (a : Around) → Idles t.site w.site → WorksAreWithJobs t.site w.site w.site → RoundsSoFar t asked role m m 0 w w a a
-none_made t asked role m w a idles alone = record {
-  each = λ H ready. ([], alone m.ledger.manager H (went H) m (idles m H ready), refl, refl, tt, refl, refl);
+pub none_made : (t : Tells) (role : Role) (m : Managed) (w : Outside) → Idles t.site w.site → WorksAreWithJobs t.site w.site w.site → RoundsSoFar t role m m 0 w w
+none_made t role m w idles alone = record {
+  each = λ H ready. ([], alone m.ledger.manager H (went H) m (idles m H ready), refl, tt, refl, refl);
 }
 
-pub ready_so_far : (t : Tells) (asked : Type 0) (role : Role) (m n : Managed) (made : ℕ) (w v : World) (a b : Around) → RoundsSoFar t asked role m n made w v a b → WorksWithJobsLeadOn t.site w.site v.site
+pub ready_so_far : (t : Tells) (role : Role) (m n : Managed) (made : ℕ) (w v : Outside) → RoundsSoFar t role m n made w v → WorksWithJobsLeadOn t.site w.site v.site
     → (H : List Event) × IsReady t.site m H w.site → (H : List Event) × IsReady t.site n H v.site
-ready_so_far t asked role m n made w v a b so_far leads ready =
+ready_so_far t role m n made w v so_far leads ready =
     let it = so_far.each ready.0 ready.1 in
     let G : List Event = life (once_made m.ledger.manager) ready.0 it.0 in
     (G, leads m.ledger.manager ready.0 (went G) n it.1 refl)
@@ -278,76 +284,73 @@ the_end why (round r) is = absurd is
 the_end why (end c) is = (c, refl, is)
 
 -- one round more
-pub one_round_more : (t : Tells) (asked : Type 0) (role : Role) (m n o : Managed) (made : ℕ) (w u v : World) (a b d : Around) → RoundsSoFar t asked role m n made w u a b → WorksWithJobsLeadOn t.site w.site u.site → WorksWithJobsJoin t.site w.site u.site v.site
-    → ChainsJoin t.site w.site u.site v.site
-    → ((H : List Event) → IsReady t.site n H u.site → (one : One) × MakesOne t asked n.ledger.manager H one o u v b d × OneFor role one × IsOne (Ok tt) one)
-    → RoundsSoFar t asked role m o (made + 1) w v a d
-one_round_more t asked role m n o made w u v a b d so_far leads joins chains step = record {
+pub one_round_more : (t : Tells) (role : Role) (m n o : Managed) (made : ℕ) (w u v : Outside) → RoundsSoFar t role m n made w u → WorksWithJobsLeadOn t.site w.site u.site
+    → WorksWithJobsJoin t.site w.site u.site v.site → ChainsJoin t.site w.site u.site v.site
+    → ((H : List Event) → IsReady t.site n H u.site → (one : One) × MakesOne t n.ledger.manager H one o u v × OneFor role one × IsOne (Ok tt) one)
+    → RoundsSoFar t role m o (made + 1) w v
+one_round_more t role m n o made w u v so_far leads joins chains step = record {
   each = λ H ready.
       let it = so_far.each H ready in
       let G : List Event = life (once_made m.ledger.manager) H it.0 in
       let did = step G (leads m.ledger.manager H (went G) n it.1 refl) in
       let r = the_round did.0 did.3 in
-      let P : One → Type 0 = λ z. MakesOne t asked n.ledger.manager G z o u v b d in
-      let Q : ℕ → Type 0 = λ k. MakesOne t asked k G (round r.0) o u v b d in
+      let P : One → Type 0 = λ z. MakesOne t n.ledger.manager G z o u v in
+      let Q : ℕ → Type 0 = λ k. MakesOne t k G (round r.0) o u v in
       let R : One → Type 0 = λ z. OneFor role z in
-      let one : MakesOne t asked m.ledger.manager G (round r.0) o u v b d = subst Q it.1.at_file.number (subst P r.1 did.1) in
-      let count = it.5 in (
+      let one : MakesOne t m.ledger.manager G (round r.0) o u v = subst Q it.1.at_file.number (subst P r.1 did.1) in
+      let count = it.4 in (
         r.0 ∷ it.0,
         joins m.ledger.manager H G (went (once_made m.ledger.manager G r.0)) n o it.1 one.works,
-        (peers_of u, it.2, one.does),
-        (b, it.3, one.asks),
-        (subst R r.1 did.2, it.4),
+        (beside u, it.2, one.does),
+        (subst R r.1 did.2, it.3),
         omega (arith, count),
         chains m.ledger.manager H G (went (once_made m.ledger.manager G r.0)) n o (told_in_visit m.ledger.manager G r.0.visit) (told_in_rounds m.ledger.manager H it.0) w.mouth.told u.mouth.told v.mouth.told
-            it.1.at_file.site (rounds_within m.ledger.manager H it.0) it.6 one.works.at_file.site one.told,
+            it.1.at_file.site (rounds_within m.ledger.manager H it.0) it.5 one.works.at_file.site one.told,
       );
 }
 
 -- all were made
-pub all_made : (t : Tells) (asked : Type 0) (role : Role) (m n : Managed) (made count : ℕ) (w v : World) (a b : Around) → RoundsSoFar t asked role m n made w v a b → made ≡ count → (H : List Event) → IsReady t.site m H w.site
-    → (service : Service) × Makes t asked m.ledger.manager H service n w v a b × (service.role ≡ role) × IsCount count (length service.rounds) service.close × (made ≡ length service.rounds) × (service.close ≡ finished)
-all_made t asked role m n made count w v a b so_far all H ready =
+pub all_made : (t : Tells) (role : Role) (m n : Managed) (made count : ℕ) (w v : Outside) → RoundsSoFar t role m n made w v → made ≡ count → (H : List Event) → IsReady t.site m H w.site
+    → (service : Service) × Makes t m.ledger.manager H service n w v × (service.role ≡ role) × IsCount count (length service.rounds) service.close × (made ≡ length service.rounds) × (service.close ≡ finished)
+all_made t role m n made count w v so_far all H ready =
     let it = so_far.each H ready in
     let service : Service = record { role = role; rounds = it.0; close = finished } in (
       service,
       record {
         works = it.1;
-        attended = record { between = peers_of v; rounds = it.2; close = refl; roles = it.4; role = tt };
-        asks = record { between = b; turns = it.3; close = refl };
-        told = it.6;
+        serves = record { between = beside v; rounds = it.2; close = refl; roles = it.3; role = tt };
+        told = it.5;
       },
       refl,
-      sym it.5 ∙ all,
-      it.5,
+      sym it.4 ∙ all,
+      it.4,
       refl,
     )
 
 -- the rounds ended for this failure
-pub rounds_ended : (t : Tells) (asked : Type 0) (role : Role) (m n o : Managed) (made count : ℕ) (why : Failure) (w u v : World) (a b d : Around) → RoundsSoFar t asked role m n made w u a b → WorksWithJobsLeadOn t.site w.site u.site
+pub rounds_ended : (t : Tells) (role : Role) (m n o : Managed) (made count : ℕ) (why : Failure) (w u v : Outside) → RoundsSoFar t role m n made w u → WorksWithJobsLeadOn t.site w.site u.site
     → WorksWithJobsJoin t.site w.site u.site v.site → ChainsJoin t.site w.site u.site v.site → made < count
-    → ((H : List Event) → IsReady t.site n H u.site → (one : One) × MakesOne t asked n.ledger.manager H one o u v b d × OneFor role one × IsOne (Err why) one)
+    → ((H : List Event) → IsReady t.site n H u.site → (one : One) × MakesOne t n.ledger.manager H one o u v × OneFor role one × IsOne (Err why) one)
     → (H : List Event) → IsReady t.site m H w.site
-    → (service : Service) × Makes t asked m.ledger.manager H service o w v a d × (service.role ≡ role) × IsCount count (length service.rounds) service.close × (Err why ≡ close_ending (length service.rounds) service.close)
-rounds_ended t asked role m n o made count why w u v a b d so_far leads joins chains fewer step H ready =
+    → (service : Service) × Makes t m.ledger.manager H service o w v × (service.role ≡ role) × IsCount count (length service.rounds) service.close × (Err why ≡ close_ending (length service.rounds) service.close)
+rounds_ended t role m n o made count why w u v so_far leads joins chains fewer step H ready =
     let it = so_far.each H ready in
     let G : List Event = life (once_made m.ledger.manager) H it.0 in
     let did = step G (leads m.ledger.manager H (went G) n it.1 refl) in
     let c = the_end why did.0 did.3 in
-    let P : One → Type 0 = λ z. MakesOne t asked n.ledger.manager G z o u v b d in
-    let Q : ℕ → Type 0 = λ k. MakesOne t asked k G (end c.0) o u v b d in
+    let P : One → Type 0 = λ z. MakesOne t n.ledger.manager G z o u v in
+    let Q : ℕ → Type 0 = λ k. MakesOne t k G (end c.0) o u v in
     let R : One → Type 0 = λ z. OneFor role z in
-    let one : MakesOne t asked m.ledger.manager G (end c.0) o u v b d = subst Q it.1.at_file.number (subst P c.1 did.1) in
+    let one : MakesOne t m.ledger.manager G (end c.0) o u v = subst Q it.1.at_file.number (subst P c.1 did.1) in
     let service : Service = record { role = role; rounds = it.0; close = c.0 } in
-    let count_is = it.5 in
+    let count_is = it.4 in
     let less : length it.0 < count = omega (arith, fewer, count_is) in (
       service,
       record {
         works = joins m.ledger.manager H G (close_work m.ledger.manager G c.0) n o it.1 one.works;
-        attended = record { between = peers_of u; rounds = it.2; close = one.does; roles = it.4; role = subst R c.1 did.2 };
-        asks = record { between = b; turns = it.3; close = one.asks };
+        serves = record { between = beside u; rounds = it.2; close = one.does; roles = it.3; role = subst R c.1 did.2 };
         told = chains m.ledger.manager H G (close_work m.ledger.manager G c.0) n o (told_at_close m.ledger.manager G c.0) (told_in_rounds m.ledger.manager H it.0) w.mouth.told u.mouth.told v.mouth.told
-            it.1.at_file.site (rounds_within m.ledger.manager H it.0) it.6 one.works.at_file.site one.told;
+            it.1.at_file.site (rounds_within m.ledger.manager H it.0) it.5 one.works.at_file.site one.told;
       },
       refl,
       fewer_by why c.0 (length it.0) count c.2 less,
@@ -358,10 +361,10 @@ rounds_ended t asked role m n o made count why w u v a b d so_far leads joins ch
     fewer_by why finished n wanted is less = absurd is
     fewer_by why unreached n wanted is less = less
     fewer_by why (stopped came talk) n wanted is less = less
-    fewer_by why (halted visit turn ended cause) n wanted is less = less
+    fewer_by why (halted visit turn after cause) n wanted is less = less
 
     ended_by : (why : Failure) (c : Close) (n : ℕ) → IsEndFor why c → Err why ≡ close_ending n c
     ended_by why finished n is = absurd is
     ended_by why unreached n is = is
     ended_by why (stopped came talk) n is = is
-    ended_by why (halted visit turn ended cause) n is = is
+    ended_by why (halted visit turn after cause) n is = is

@@ -1,5 +1,5 @@
 -- Opening a journal, and what is then done with it.
-use Rattle.std.proofs.Common.{◌≡◌, ◌<◌, ℕ, List, Some, sym, subst, refl}
+use Rattle.std.proofs.Common.{◌≡◌, ◌<◌, ℕ, List, Some, ap, subst}
 use Rattle.executor.proofs.ChainLemmas.{told_since}
 use Rattle.executor.specs.Chain.{AreTold}
 use Rattle.executor.specs.History.{HasHistory}
@@ -8,15 +8,16 @@ use Rattle.executor.specs.Open.{Refuses}
 use Rattle.executor.specs.Work.{Follows, LeavesJobs, Stays, Work, WorksAreWithJobs, WorksWithJobs, stood}
 use Rattle.executor.specs.declared.manager.OpenFault.{OpenFault}
 use Rattle.journal_core.specs.Load.{SyncsAndReads}
-use Rattle.lcm_api.specs.Mouth.{MouthState}
-use Rattle.lcm_api.specs.World.{Peers, Tells, World, peers_of, world}
+use Rattle.lcm_api.specs.World.{Peers}
 use Rattle.lcm_events.specs.declared.events.Event.{Event}
 use Rattle.lcm_sessions.specs.Onboarding.{onboarding_work}
 use Rattle.site_traits.specs.Site.{SiteState}
-use Rattle.vnfm_commands.specs.Course.{Course, misused, starved, making, opened, unopened, Deed, serving, onboarding, IsOf, IsOfWords, Opening, deed_work, told_by}
+use Rattle.vnfm_commands.specs.Course.{Course, misused, starved, making, opened, unopened, Activity, serving, onboarding, IsOf, IsOfWords, Opening, activity_work, told_by}
 use Rattle.command_line.specs.Words.{settings_of}
 use Rattle.command_line.specs.declared.options.Settings.{Settings}
-use Rattle.vnfm_commands.specs.Runs.{AtJobsBy, AtPeersBy, DeedWorks, Deeds, Does, Recovers}
+use Rattle.vnfm_commands.specs.Outside.{Outside, Tells, beside}
+use Rattle.vnfm_commands.specs.Rounds.{Rests}
+use Rattle.vnfm_commands.specs.Runs.{AtJobsBy, ActivityWorks, Pursues, Does, Recovers}
 
 -- what was opened
 abbrev pub opening_of : Managed → List Event → Opening
@@ -37,42 +38,43 @@ recovers tells m n H w a b e before behind follows told reads ready works =
       rests = λ fine. record { settled = (at.stands fine).journal.settled; file = subst P works.at_file.number (behind n (stood w) (at.stands fine)).here };
     }
 
--- a deed's work is one with jobs
-deed_works : (tells : Type 0) (m : ℕ) (H : List Event) (deed : Deed) (n : Managed) (a b : SiteState) → WorksAreWithJobs tells a b → DeedWorks tells m H deed n a b
-    → WorksWithJobs tells m H (deed_work m H deed) n a b
-deed_works tells m H (serving service) n a b alone works = works
-deed_works tells m H (onboarding o) n a b alone works = alone m H (onboarding_work H o) n works
+-- an activity's work is one with jobs
+activity_works : (tells : Type 0) (m : ℕ) (H : List Event) (activity : Activity) (n : Managed) (a b : SiteState) → WorksAreWithJobs tells a b → ActivityWorks tells m H activity n a b
+    → WorksWithJobs tells m H (activity_work m H activity) n a b
+activity_works tells m H (serving service) n a b alone works = works
+activity_works tells m H (onboarding o) n a b alone works = alone m H (onboarding_work H o) n works
 
--- a deed behind the opening of its journal does this to the jobs
-deed_jobs : (tells : Type 0) (m : ℕ) (H : List Event) (deed : Deed) (n : Managed) (a b e : SiteState) → LeavesJobs tells a b e → tells → SyncsAndReads a b → DeedWorks tells m H deed n b e
-    → AtJobsBy deed a e
-deed_jobs tells m H (serving service) n a b e leaves told reads works = tt
-deed_jobs tells m H (onboarding o) n a b e leaves told reads works = (leaves told reads).1 m H (onboarding_work H o) n works
+-- an activity behind the opening of its journal does this to the jobs
+activity_jobs : (tells : Type 0) (m : ℕ) (H : List Event) (activity : Activity) (n : Managed) (a b e : SiteState) → LeavesJobs tells a b e → tells → SyncsAndReads a b → ActivityWorks tells m H activity n b e
+    → AtJobsBy activity a e
+activity_jobs tells m H (serving service) n a b e leaves told reads works = tt
+activity_jobs tells m H (onboarding o) n a b e leaves told reads works = (leaves told reads).1 m H (onboarding_work H o) n works
 
--- an opened journal, and a deed of its manager
-pub does_deed : (t : Tells) (m n : Managed) (H : List Event) (deed : Deed) (w v : World) (s : SiteState) (c : MouthState) (ks : List ℕ) → Stays s → Stays v.site → Follows t.site w.site s v.site → LeavesJobs t.site w.site s v.site → WorksAreWithJobs t.site s v.site
-    → m.ledger.manager < 4294967296 → (t.site → SyncsAndReads w.site s) → IsReady t.site m H s → Deeds t m.ledger.manager H deed n (world s c ks) v → peers_of w ≡ record { mouth = c; clock = ks }
-    → Does t (opened (opening_of m H) deed) w v
-does_deed t m n H deed w v s c ks before behind follows leaves alone number reads ready deeds same =
-    let works : WorksWithJobs t.site m.ledger.manager H (deed_work m.ledger.manager H deed) n s v.site = deed_works t.site m.ledger.manager H deed n s v.site alone deeds.works in
+-- an opened journal, and an activity of its manager
+pub does_activity : (t : Tells) (m n : Managed) (H : List Event) (activity : Activity) (w u v : Outside) → Stays u.site → Stays v.site → Follows t.site w.site u.site v.site
+    → LeavesJobs t.site w.site u.site v.site → WorksAreWithJobs t.site u.site v.site → m.ledger.manager < 4294967296 → (t.site → SyncsAndReads w.site u.site)
+    → IsReady t.site m H u.site → Pursues t m.ledger.manager H activity n u v → Rests t (beside w) (beside u) → Does t (opened (opening_of m H) activity) w v
+does_activity t m n H activity w u v before behind follows leaves alone number reads ready pursues rests =
+    let works : WorksWithJobs t.site m.ledger.manager H (activity_work m.ledger.manager H activity) n u.site v.site = activity_works t.site m.ledger.manager H activity n u.site v.site alone pursues.works in
+    let histories : List (List Event) = told_by m.ledger.manager H activity in
     record {
       legal = record { number = number; before = ready.keeps.kept.legal; grows = works.at_file.grows };
-      site = λ told. recovers t.site m n H (deed_work m.ledger.manager H deed) w.site s v.site before behind follows told (reads told) ready works;
-      jobs = λ told. deed_jobs t.site m.ledger.manager H deed n w.site s v.site leaves told (reads told) deeds.works;
-      peers = let P : Peers → Type 0 = λ p. AtPeersBy t (opening_of m H) deed p (peers_of v) in subst P (sym same) deeds.peers;
-      told = told_since t.site m.ledger.manager (told_by m.ledger.manager H deed) w.mouth.told v.mouth.told w.site s v.site (λ told. (reads told).on_file.passes.later)
-          (subst (λ (p : Peers). AreTold t.site m.ledger.manager (told_by m.ledger.manager H deed) p.mouth.told v.mouth.told s v.site) (sym same) deeds.told);
+      site = λ told. recovers t.site m n H (activity_work m.ledger.manager H activity) w.site u.site v.site before behind follows told (reads told) ready works;
+      jobs = λ told. activity_jobs t.site m.ledger.manager H activity n w.site u.site v.site leaves told (reads told) pursues.works;
+      beside = (beside u, rests, pursues.does);
+      told = told_since t.site m.ledger.manager histories w.mouth.told v.mouth.told w.site u.site v.site (λ told. (reads told).on_file.passes.later)
+          (subst (λ (p : Peers). AreTold t.site m.ledger.manager histories p.mouth.told v.mouth.told u.site v.site) rests.peers pursues.told);
     }
 
 -- a journal that wasn't opened
-pub does_not_open : (t : Tells) (why : OpenFault) (a b : SiteState) (c : MouthState) (ks : List ℕ) → LeavesJobs t.site a b b → (t.site → SyncsAndReads a b) → (t.site → Refuses why b.image)
-    → Does t (unopened why) (world a c ks) (world b c ks)
-does_not_open t why a b c ks leaves reads found = record {
+pub does_not_open : (t : Tells) (why : OpenFault) (w v : Outside) → LeavesJobs t.site w.site v.site v.site → (t.site → SyncsAndReads w.site v.site) → (t.site → Refuses why v.site.image)
+    → Rests t (beside w) (beside v) → Does t (unopened why) w v
+does_not_open t why w v leaves reads found rests = record {
   legal = tt;
   site = λ told. record { because = subst (Refuses why) (reads told).same (found told); reads = reads told };
   jobs = λ told. (leaves told (reads told)).0;
-  peers = refl;
-  told = refl;
+  beside = rests;
+  told = ap (λ (p : Peers). p.mouth.told) rests.peers;
 }
 
 -- a course of settings is one of the words that set them
@@ -81,4 +83,4 @@ of_words words s misused set is = absurd is
 of_words words s starved set is = absurd is
 of_words words s (making number result) set is = record { settings = s; set = set; is = is }
 of_words words s (unopened why) set is = record { settings = s; set = set; is = is }
-of_words words s (opened start deed) set is = record { settings = s; set = set; is = is }
+of_words words s (opened start activity) set is = record { settings = s; set = set; is = is }

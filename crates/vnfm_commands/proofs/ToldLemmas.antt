@@ -1,5 +1,5 @@
 -- What was told in a visit or in rounds goes no further than the history that it left.
-use Rattle.std.proofs.Common.{◌≡◌, ℕ, Bool, true, false, List, [], ◌∷◌, ◌++◌, Option, Some, None, if◌then◌else◌, refl}
+use Rattle.std.proofs.Common.{ℕ, Bool, true, false, List, [], ◌∷◌, ◌++◌, Option, Some, None, if◌then◌else◌, refl}
 use Rattle.executor.proofs.WorkLemmas.{extends_refl, extends_trans}
 use Rattle.executor.specs.Chain.{AreWithin}
 use Rattle.executor.specs.Work.{Extends, stood}
@@ -7,10 +7,10 @@ use Rattle.lcm_events.specs.declared.events.Event.{Event}
 use Rattle.lcm_events.specs.declared.events.EventKind.{EventKind}
 use Rattle.lcm_laws.specs.Acting.{with_events}
 use Rattle.lcm_sessions.proofs.TalkLemmas.{answered_within, within_more}
-use Rattle.lcm_sessions.specs.Session.{Ask, Ending, Last, Talk, over, unheard, untold, starving, breaking, behind_last, behind_replies, behind_told, has_reply, life, once_answered, outcome_of, work_by, work_last, work_of}
+use Rattle.lcm_sessions.specs.Session.{Ask, Closing, Last, Talk, over, unheard, untold, starving, breaking, behind_last, behind_replies, behind_told, has_reply, life, once_answered, outcome_of, work_by, work_last, work_of}
 use Rattle.occ_work.specs.Deeds.{Deed, kinds_of, once_done}
 use Rattle.occ_work.specs.Turns.{once_all_done}
-use Rattle.vnfm_commands.specs.Course.{Visit, unasked, served, Round, Turning, moment_of, once_made, once_served, told_in_rounds, told_in_visit}
+use Rattle.vnfm_commands.specs.Course.{Visit, unasked, served, Round, moment_of, once_made, once_served, told_in_rounds, told_in_visit}
 
 -- what is within a history, and more that is
 within_both : (H : List Event) (xs ys : List (List Event)) → AreWithin H xs → AreWithin H ys → AreWithin H (xs ++ ys)
@@ -32,7 +32,7 @@ last_extends m G (untold x) = record { more = (outcome_of m G x).after; is = ref
 last_extends m G (starving x) = extends_refl G
 last_extends m G (breaking x) = extends_refl G
 
-end_extends : (m : ℕ) (G : List Event) (end : Option Ending) → Extends G (stood (work_by m G end))
+end_extends : (m : ℕ) (G : List Event) (end : Option Closing) → Extends G (stood (work_by m G end))
 end_extends m G None = extends_refl G
 end_extends m G (Some end) = last_extends m G end.last
 
@@ -40,7 +40,7 @@ told_or_not : (G : List Event) (some : Bool) → AreWithin G (if some then G ∷
 told_or_not G true = (extends_refl G, tt)
 told_or_not G false = tt
 
-last_within : (m : ℕ) (G : List Event) (end : Option Ending) → AreWithin (stood (work_by m G end)) (behind_last m G end)
+last_within : (m : ℕ) (G : List Event) (end : Option Closing) → AreWithin (stood (work_by m G end)) (behind_last m G end)
 last_within m G None = tt
 last_within m G (Some end) = told_or_not (stood (work_last m G end.last)) (has_reply end.last)
 

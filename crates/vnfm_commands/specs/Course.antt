@@ -10,7 +10,7 @@ use Rattle.journal_core.specs.declared.create.CreateFault.TheVariants as creatin
 use Rattle.lcm_sessions.specs.Session.{Talk, behind_told, life, work_of}
 use Rattle.lcm_events.specs.declared.events.Event.{Event}
 use Rattle.lcm_events.specs.declared.states.Role.{Role}
-use Rattle.occ_work.specs.Deeds.{Deed as Act}
+use Rattle.occ_work.specs.Deeds.{Deed}
 use Rattle.occ_work.specs.Turns.{TurnEnd, once_all_done, turn_work}
 use Rattle.lcm_sessions.specs.Onboarding.{Onboarding, answer_of, onboarding_work}
 use Rattle.lcm_sessions.specs.declared.answer.Onboarded.{Onboarded as Said}
@@ -35,7 +35,7 @@ pub data Visit : Type 0 where
 -- the turn of a round: what the clock gave for it, in milliseconds, and the acts that were made, the latest first
 pub record Turning : Type 0 where
   pub value : ℕ
-  pub acts : List Act
+  pub acts : List Deed
 
 -- what came of a round: a visit, and then a turn that went through
 pub record Round : Type 0 where
@@ -62,9 +62,9 @@ pub record Service : Type 0 where
   pub close : Close
 
 -- what was done with a journal that was opened
-pub data Deed : Type 0 where
-  serving : Service → Deed
-  onboarding : Onboarding → Deed
+pub data Activity : Type 0 where
+  serving : Service → Activity
+  onboarding : Onboarding → Activity
 
 -- the manager's number and the history that its journal had when it was opened, the latest event first
 pub record Opening : Type 0 where
@@ -77,7 +77,7 @@ pub data Course : Type 0 where
   misused starved : Course
   making : ℕ → Result (Unit {0}) CreateFault → Course
   unopened : OpenFault → Course
-  opened : Opening → Deed → Course
+  opened : Opening → Activity → Course
 
 -- the history once a visit was served
 abbrev pub once_served : ℕ → List Event → Visit → List Event
@@ -103,10 +103,10 @@ close_work m H (halted visit turn end why) = turn_work (moment_of turn) (once_se
 abbrev pub service_work : ℕ → List Event → Service → Work
 service_work m H service = close_work m (life (once_made m) H service.rounds) service.close
 
--- the work of a deed
-abbrev pub deed_work : ℕ → List Event → Deed → Work
-deed_work m H (serving service) = service_work m H service
-deed_work m H (onboarding o) = onboarding_work H o
+-- the work of an activity
+abbrev pub activity_work : ℕ → List Event → Activity → Work
+activity_work m H (serving service) = service_work m H service
+activity_work m H (onboarding o) = onboarding_work H o
 
 -- the histories behind what is told in a visit, the latest first
 abbrev pub told_in_visit : ℕ → List Event → Visit → List (List Event)
@@ -125,8 +125,8 @@ told_at_close m H unreached = []
 told_at_close m H (stopped came talk) = behind_told m H talk
 told_at_close m H (halted visit turn end why) = told_in_visit m H visit
 
--- those behind all replies that a deed tells, the latest first: behind each its request is answered
-abbrev pub told_by : ℕ → List Event → Deed → List (List Event)
+-- those behind all replies that an activity tells, the latest first: behind each its request is answered
+abbrev pub told_by : ℕ → List Event → Activity → List (List Event)
 told_by m H (serving service) = told_at_close m (life (once_made m) H service.rounds) service.close ++ told_in_rounds m H service.rounds
 told_by m H (onboarding o) = []
 
@@ -181,10 +181,10 @@ abbrev pub onboarding_ending : Result Said OnboardFault → Ending
 onboarding_ending (Ok said) = Ok (Onboarded said)
 onboarding_ending (Err why) = Err (unonboarded why)
 
--- how a run ends after a deed
-abbrev pub deed_ending : List Event → Deed → Ending
-deed_ending H (serving service) = close_ending (length service.rounds) service.close
-deed_ending H (onboarding o) = onboarding_ending (answer_of H o)
+-- how a run ends after an activity
+abbrev pub activity_ending : List Event → Activity → Ending
+activity_ending H (serving service) = close_ending (length service.rounds) service.close
+activity_ending H (onboarding o) = onboarding_ending (answer_of H o)
 
 -- how a run ends where a journal was to be made
 abbrev pub making_ending : ℕ → Result (Unit {0}) CreateFault → Ending
@@ -193,7 +193,7 @@ making_ending manager (Err why) = Err (unmade why)
 
 -- the histories behind all replies that a run tells, the latest first: behind each its request is answered
 abbrev pub told_of : Course → List (List Event)
-told_of (opened start deed) = told_by start.number start.history deed
+told_of (opened start activity) = told_by start.number start.history activity
 told_of other = []
 
 -- how a run ends
@@ -202,22 +202,22 @@ ending_of misused = Err Usage
 ending_of starved = Err NoMemory
 ending_of (making manager result) = making_ending manager result
 ending_of (unopened why) = Err (unopened_failure why)
-ending_of (opened start deed) = deed_ending start.history deed
+ending_of (opened start activity) = activity_ending start.history activity
 
 -- so many rounds were made where all were, and fewer where they ended before
 abbrev pub IsCount : ℕ → ℕ → Close → Type 0
 IsCount wanted n finished = n ≡ wanted
 IsCount wanted n other = n < wanted
 
--- the deed is one of these settings
+-- the activity is one of these settings
 pub record ServesAs (s : Settings) (service : Service) : Type 0 where
   pub command : s.command ≡ Once
   pub role : service.role ≡ s.role
   pub count : IsCount s.rounds (length service.rounds) service.close
 
-abbrev pub IsDeedOf : Settings → Deed → Type 0
-IsDeedOf s (serving service) = ServesAs s service
-IsDeedOf s (onboarding o) = s.command ≡ Onboard
+abbrev pub IsActivityOf : Settings → Activity → Type 0
+IsActivityOf s (serving service) = ServesAs s service
+IsActivityOf s (onboarding o) = s.command ≡ Onboard
 
 -- the course is one of these settings
 abbrev pub IsOf : Settings → Course → Type 0
@@ -225,7 +225,7 @@ IsOf s misused = ⊥
 IsOf s starved = ⊥
 IsOf s (making number result) = (s.command ≡ Init) × (number ≡ s.manager)
 IsOf s (unopened why) = loads s.command ≡ true
-IsOf s (opened start deed) = IsDeedOf s deed
+IsOf s (opened start activity) = IsActivityOf s activity
 
 -- the course is one of what the words set
 pub record IsOfSettings (words : List (List ℕ)) (course : Course) : Type 0 where

@@ -97,9 +97,17 @@ told_status false status = if status == 0 then 7 else status
 abbrev pub IsStatus : ℕ → Type 0
 IsStatus status = (status ≡ 0) ⊎ ((2 ≤ status) × (status ≤ 11))
 
+-- what a sink shows: its bytes so far, which count where it tells them, and how often it was put to
+pub record Output : Type 0 where
+  pub bytes : List ℕ
+  pub counts : CallCounts
+
+abbrev pub output_of : {W : Type 0} → (W → List ℕ) → (W → CallCounts) → W → Output
+output_of state counts sink = record { bytes = state sink; counts = counts sink }
+
 -- The line of the ending was put in one call, or none of it, which the sink counts; the status says so where it would be 0.
-pub record Ends (tells : Type 0) (ending : Ending) (status : ℕ) (old new : List ℕ) (before now : CallCounts) : Type 0 where
+pub record Ends (tells : Type 0) (ending : Ending) (status : ℕ) (a b : Output) : Type 0 where
   pub put : Bool
   pub status_is : status ≡ told_status put (status_of ending)
-  pub line : tells → new ≡ (if put then old ++ line_of ending else old)
-  pub counts : now ≡ (if put then called before else called_in_vain before)
+  pub line : tells → b.bytes ≡ (if put then a.bytes ++ line_of ending else a.bytes)
+  pub counts : b.counts ≡ (if put then called a.counts else called_in_vain a.counts)

@@ -9,7 +9,6 @@ use Rattle.executor.specs.declared.manager.OpenFault.{OpenFault}
 use Rattle.journal_core.specs.Create.{Creates}
 use Rattle.journal_core.specs.Header.{IsUnmade, IsForeign}
 use Rattle.journal_core.specs.Load.{SyncsAndReads}
-use Rattle.lcm_api.specs.World.{Tells, Peers, World, peers_of}
 use Rattle.lcm_events.specs.declared.events.Event.{Event}
 use Rattle.lcm_jobs.specs.Sound.{IsSound}
 use Rattle.lcm_model.specs.Allowed.{IsLegal}
@@ -17,10 +16,10 @@ use Rattle.site_traits.specs.Counts.{Rose}
 use Rattle.site_traits.specs.Door.{DoorCounts}
 use Rattle.site_traits.specs.Site.{Pair, SiteState, IsSettled, KeepsJobs, LeavesOnly}
 use Rattle.lcm_sessions.specs.Doing.{BringsIn}
-use Rattle.vnfm_commands.specs.Course.{Course, misused, starved, making, unopened, opened, Deed, serving, onboarding, Opening, deed_work, service_work, told_by, IsOfWords}
-use Rattle.occ_work.specs.Around.{Around, Tells as Asking}
+use Rattle.vnfm_commands.specs.Course.{Course, misused, starved, making, unopened, opened, Activity, serving, onboarding, Opening, activity_work, service_work, told_by, IsOfWords}
 use Rattle.lcm_sessions.specs.Onboarding.{onboarding_work}
-use Rattle.vnfm_commands.specs.Rounds.{AsksNobody, AsksOutside, Attended}
+use Rattle.vnfm_commands.specs.Outside.{Beside, Outside, Tells, beside, session_peers, session_tells}
+use Rattle.vnfm_commands.specs.Rounds.{AsksNobody, Rests, Serves}
 use Rattle.command_line.specs.declared.options.Command.{Command}
 use Rattle.command_line.specs.declared.options.Command.TheVariants.{Init, Onboard, Once}
 
@@ -92,41 +91,31 @@ AtFile misused a b = IsUntouched a b
 AtFile starved a b = IsUntouched a b
 AtFile (making manager result) a b = Creates manager result a b
 AtFile (unopened why) a b = IsRefused why a b
-AtFile (opened start deed) a b = Recovers start.number start.history (deed_work start.number start.history deed) a b
+AtFile (opened start activity) a b = Recovers start.number start.history (activity_work start.number start.history activity) a b
 
--- what a deed does to both
-abbrev pub AtPeersBy : Tells → Opening → Deed → Peers → Peers → Type 0
-AtPeersBy t start (serving service) a b = Attended t start.number start.history service a b
-AtPeersBy t start (onboarding o) a b = BringsIn t o a b
+-- what an activity does beside the journal: onboarding asks nobody but the door
+abbrev pub ActivityDoes : Tells → Opening → Activity → Beside → Beside → Type 0
+ActivityDoes t start (serving service) a b = Serves t start.number start.history service a b
+ActivityDoes t start (onboarding o) a b = BringsIn (session_tells t) o (session_peers a) (session_peers b) × AsksNobody t a b
 
--- what a deed does to the journal: rounds have jobs begun and looked at, and onboarding leaves the jobs alone
-abbrev pub DeedWorks : Type 0 → ℕ → List Event → Deed → Managed → SiteState → SiteState → Type 0
-DeedWorks tells m H (serving service) n a b = WorksWithJobs tells m H (service_work m H service) n a b
-DeedWorks tells m H (onboarding o) n a b = Works tells m H (onboarding_work H o) n a b
+-- what an activity does to the journal: rounds have jobs begun and looked at, and onboarding leaves the jobs alone
+abbrev pub ActivityWorks : Type 0 → ℕ → List Event → Activity → Managed → SiteState → SiteState → Type 0
+ActivityWorks tells m H (serving service) n a b = WorksWithJobs tells m H (service_work m H service) n a b
+ActivityWorks tells m H (onboarding o) n a b = Works tells m H (onboarding_work H o) n a b
 
--- what a deed does, behind the opening; the manager is now n
-pub record Deeds (t : Tells) (m : ℕ) (H : List Event) (deed : Deed) (n : Managed) (w v : World) : Type 0 where
-  pub works : DeedWorks t.site m H deed n w.site v.site
-  pub peers : AtPeersBy t (record { number = m; history = H }) deed (peers_of w) (peers_of v)
-  pub told : AreTold t.site m (told_by m H deed) w.mouth.told v.mouth.told w.site v.site
+-- what an activity does, behind the opening; the manager is now n
+pub record Pursues (t : Tells) (m : ℕ) (H : List Event) (activity : Activity) (n : Managed) (w v : Outside) : Type 0 where
+  pub works : ActivityWorks t.site m H activity n w.site v.site
+  pub does : ActivityDoes t (record { number = m; history = H }) activity (beside w) (beside v)
+  pub told : AreTold t.site m (told_by m H activity) w.mouth.told v.mouth.told w.site v.site
 
--- what a run does to both
-abbrev pub AtPeers : Tells → Course → Peers → Peers → Type 0
-AtPeers t (opened start deed) a b = AtPeersBy t start deed a b
-AtPeers t other a b = b ≡ a
-
--- what a deed does with the orchestrator and the infrastructure, over history H of manager m: onboarding asks nobody
-abbrev pub AtOutsideBy : Asking → ℕ → List Event → Deed → Around → Around → Type 0
-AtOutsideBy t m H (serving service) a b = AsksOutside t m H service a b
-AtOutsideBy t m H (onboarding o) a b = AsksNobody t a b
-
--- what a run does with them: the making and the opening of a journal ask nobody
-abbrev pub AtOutside : Asking → Course → Around → Around → Type 0
-AtOutside t misused a b = b ≡ a
-AtOutside t starved a b = b ≡ a
-AtOutside t (making manager result) a b = AsksNobody t a b
-AtOutside t (unopened why) a b = AsksNobody t a b
-AtOutside t (opened start deed) a c = (b : Around) × AsksNobody t a b × AtOutsideBy t start.number start.history deed b c
+-- what a run does beside the journal: words that set nothing do nothing, and the making and the opening of a journal ask nobody
+abbrev pub CourseDoes : Tells → Course → Beside → Beside → Type 0
+CourseDoes t misused a b = b ≡ a
+CourseDoes t starved a b = b ≡ a
+CourseDoes t (making manager result) a b = Rests t a b
+CourseDoes t (unopened why) a b = Rests t a b
+CourseDoes t (opened start activity) a c = (b : Beside) × Rests t a b × ActivityDoes t start activity b c
 
 -- the history is legal, and grows by the work as a legal one
 pub record IsLegalRun (m : ℕ) (H : List Event) (w : Work) : Type 0 where
@@ -136,32 +125,32 @@ pub record IsLegalRun (m : ℕ) (H : List Event) (w : Work) : Type 0 where
 
 -- what was opened is a legal history, and stays one
 abbrev pub IsLegalCourse : Course → Type 0
-IsLegalCourse (opened start deed) = IsLegalRun start.number start.history (deed_work start.number start.history deed)
+IsLegalCourse (opened start activity) = IsLegalRun start.number start.history (activity_work start.number start.history activity)
 IsLegalCourse other = Unit {0}
 
--- what a run does to the jobs: it leaves them alone, but for rounds, whose acts `AtOutside` tells
-abbrev pub AtJobsBy : Deed → SiteState → SiteState → Type 0
+-- what a run does to the jobs: it leaves them alone, but for rounds, whose acts `CourseDoes` tells
+abbrev pub AtJobsBy : Activity → SiteState → SiteState → Type 0
 AtJobsBy (serving service) a b = Unit {0}
 AtJobsBy (onboarding o) a b = KeepsJobs a b
 
 abbrev pub AtJobs : Course → SiteState → SiteState → Type 0
-AtJobs (opened start deed) a b = AtJobsBy deed a b
+AtJobs (opened start activity) a b = AtJobsBy activity a b
 AtJobs other a b = KeepsJobs a b
 
 -- what was told in a run, and since when: from the telling of each reply on no stop takes back the history behind it
 abbrev pub ToldIn : Type 0 → Course → List ℕ → List ℕ → SiteState → SiteState → Type 0
-ToldIn tells (opened start deed) before now a b = AreTold tells start.number (told_by start.number start.history deed) before now a b
+ToldIn tells (opened start activity) before now a b = AreTold tells start.number (told_by start.number start.history activity) before now a b
 ToldIn tells other before now a b = now ≡ before
 
 -- what a run does, by the way that it went
-pub record Does (t : Tells) (course : Course) (w v : World) : Type 0 where
+pub record Does (t : Tells) (course : Course) (w v : Outside) : Type 0 where
   pub legal : IsLegalCourse course
   pub site : t.site → AtFile course w.site v.site
   pub jobs : t.site → AtJobs course w.site v.site
-  pub peers : AtPeers t course (peers_of w) (peers_of v)
+  pub beside : CourseDoes t course (beside w) (beside v)
   pub told : ToldIn t.site course w.mouth.told v.mouth.told w.site v.site
 
 -- a run of these words went so
-pub record Runs (t : Tells) (words : List (List ℕ)) (course : Course) (w v : World) : Type 0 where
+pub record Runs (t : Tells) (words : List (List ℕ)) (course : Course) (w v : Outside) : Type 0 where
   pub words_are : IsOfWords words course
   pub does : Does t course w v

@@ -5,14 +5,13 @@ ghost use Rattle.command_line.specs.declared.options.Command.TheVariants.{Once};
 ghost use Rattle.executor.specs.Managed.{IsReady};
 ghost use Rattle.journal_core.specs.Create.{Creates};
 ghost use Rattle.journal_core.specs.declared.create.CreateFault.{CreateFault};
-ghost use Rattle.lcm_api.specs.World.{telling, world};
 ghost use Rattle.lcm_events.specs.declared.events.Event.{Event};
-ghost use Rattle.occ_work.specs.Around.{CountJobsAlike, DiskFails, telling as asking};
+ghost use Rattle.occ_work.specs.Around.{CountJobsAlike, DiskFails};
 ghost use Rattle.site_traits.specs.Counts.{OnlyDiskFails};
 ghost use Rattle.site_traits.specs.Site.{KeepsJobs};
-ghost use Rattle.vnfm_commands.specs.Course.{Course, Deed, IsDeedOf, IsOf, deed_ending, ending_of, making_ending};
-ghost use Rattle.vnfm_commands.specs.Rounds.{beside};
-ghost use Rattle.vnfm_commands.specs.Runs.{Deeds, Does, AtOutside, AtOutsideBy, Runs};
+ghost use Rattle.vnfm_commands.specs.Course.{Course, Activity, IsActivityOf, IsOf, activity_ending, ending_of, making_ending};
+ghost use Rattle.vnfm_commands.specs.Outside.{outside, telling};
+ghost use Rattle.vnfm_commands.specs.Runs.{Pursues, Does, Runs};
 ghost use Rattle.vnfm_commands.specs.Words.{AreWordsOf, loads};
 
 use crate::ending::{Ending, Failure, Report};
@@ -22,7 +21,7 @@ use executor::{Manager, works_add_up, works_with_jobs_add_up};
 use journal_core::{Journal, faults_are_counted};
 use lcm_api::Mouth;
 use lcm_sessions::onboard;
-use site_traits::{Clock, Door, Orchestrator, Site};
+use site_traits::{Clock, Courier, Door, Orchestrator, Site};
 use std::alloc::Global;
 use vnfm_base::Text;
 
@@ -30,49 +29,53 @@ use vnfm_base::Text;
 ///
 /// What each command does, and with which failure it ends, is told at `run` of the crate above.
 /// Source: SOL 003 clause 5; words and commands are an own rule, docs/FORMATS.md.
-pub fn obey<S: Site, D: Door, O: Orchestrator, K: Clock>(
+pub fn obey<S: Site, D: Door, O: Orchestrator, C: Courier, K: Clock>(
     alloc: Global,
     words: &[Text],
     site: &mut S,
     mouth: &mut Mouth<D>,
     orchestrator: &mut O,
+    courier: &mut C,
     clock: &mut K,
 ) -> Ending
-    ensures runs { (course : Course) × Runs (telling S.tells D.tells K.tells) words.now course
-        (world (S.state site.old) mouth.old (K.state clock.old)) (world (S.state site.new) mouth.new (K.state clock.new))
-        × AtOutside (asking S.tells O.tells) course (beside (S.state site.old) (S.counts site.old) (O.state orchestrator.old) (O.counts orchestrator.old)) (beside (S.state site.new) (S.counts site.new) (O.state orchestrator.new) (O.counts orchestrator.new))
+    ensures runs { (course : Course) × Runs (telling S.tells D.tells O.tells C.tells K.tells) words.now course
+        (outside (S.state site.old) (S.counts site.old) mouth.old (O.state orchestrator.old) (O.counts orchestrator.old) (C.state courier.old) (C.counts courier.old) (K.state clock.old))
+        (outside (S.state site.new) (S.counts site.new) mouth.new (O.state orchestrator.new) (O.counts orchestrator.new) (C.state courier.new) (C.counts courier.new) (K.state clock.new))
         × (result ≡ ending_of course) }
     ensures unasked { ¬ (AreWordsOf Once words.now) → orchestrator.new ≡ orchestrator.old }
+    ensures unposted { courier.new ≡ courier.old }
     ensures usage { (result ≡ Err Failure.Usage) ↔ (settings_of words.now ≡ None) }
     ensures disk { DiskFails (result ≡ Err Failure.SiteFault) (S.counts site.old) (S.counts site.new) }
     ensures untouched_jobs { ¬ (AreWordsOf Once words.now) → CountJobsAlike (S.counts site.old) (S.counts site.new) }
 {
     works_add_up::<S>();
     let settings = settings(alloc, words)?;
-    perform(alloc, &settings, site, mouth, orchestrator, clock)
+    perform(alloc, &settings, site, mouth, orchestrator, courier, clock)
 }
 
 /// Performs the command.
-fn perform<S: Site, D: Door, O: Orchestrator, K: Clock>(
+fn perform<S: Site, D: Door, O: Orchestrator, C: Courier, K: Clock>(
     alloc: Global,
     settings: &Settings,
     site: &mut S,
     mouth: &mut Mouth<D>,
     orchestrator: &mut O,
+    courier: &mut C,
     clock: &mut K,
 ) -> Ending
-    ensures does { (course : Course) × IsOf settings.now course × Does (telling S.tells D.tells K.tells) course
-        (world (S.state site.old) mouth.old (K.state clock.old)) (world (S.state site.new) mouth.new (K.state clock.new))
-        × AtOutside (asking S.tells O.tells) course (beside (S.state site.old) (S.counts site.old) (O.state orchestrator.old) (O.counts orchestrator.old)) (beside (S.state site.new) (S.counts site.new) (O.state orchestrator.new) (O.counts orchestrator.new))
+    ensures does { (course : Course) × IsOf settings.now course × Does (telling S.tells D.tells O.tells C.tells K.tells) course
+        (outside (S.state site.old) (S.counts site.old) mouth.old (O.state orchestrator.old) (O.counts orchestrator.old) (C.state courier.old) (C.counts courier.old) (K.state clock.old))
+        (outside (S.state site.new) (S.counts site.new) mouth.new (O.state orchestrator.new) (O.counts orchestrator.new) (C.state courier.new) (C.counts courier.new) (K.state clock.new))
         × (result ≡ ending_of course) }
     ensures unasked { settings.now.command ≢ Once → orchestrator.new ≡ orchestrator.old }
+    ensures unposted { courier.new ≡ courier.old }
     ensures disk { DiskFails (result ≡ Err Failure.SiteFault) (S.counts site.old) (S.counts site.new) }
     ensures untouched_jobs { settings.now.command ≢ Once → CountJobsAlike (S.counts site.old) (S.counts site.new) }
 {
     match settings.command {
         Command::Init => init(settings.manager, site),
-        Command::Onboard => open(alloc, settings, site, mouth, orchestrator, clock),
-        Command::Once => open(alloc, settings, site, mouth, orchestrator, clock),
+        Command::Onboard => open(alloc, settings, site, mouth, orchestrator, courier, clock),
+        Command::Once => open(alloc, settings, site, mouth, orchestrator, courier, clock),
     }
 }
 
@@ -88,20 +91,22 @@ fn init<S: Site>(manager: u32, site: &mut S) -> Ending
 }
 
 /// Opens the journal, and does with it what the command says.
-fn open<S: Site, D: Door, O: Orchestrator, K: Clock>(
+fn open<S: Site, D: Door, O: Orchestrator, C: Courier, K: Clock>(
     alloc: Global,
     settings: &Settings,
     site: &mut S,
     mouth: &mut Mouth<D>,
     orchestrator: &mut O,
+    courier: &mut C,
     clock: &mut K,
 ) -> Ending
     requires loading { loads settings.now.command ≡ true }
-    ensures does { (course : Course) × IsOf settings.now course × Does (telling S.tells D.tells K.tells) course
-        (world (S.state site.old) mouth.old (K.state clock.old)) (world (S.state site.new) mouth.new (K.state clock.new))
-        × AtOutside (asking S.tells O.tells) course (beside (S.state site.old) (S.counts site.old) (O.state orchestrator.old) (O.counts orchestrator.old)) (beside (S.state site.new) (S.counts site.new) (O.state orchestrator.new) (O.counts orchestrator.new))
+    ensures does { (course : Course) × IsOf settings.now course × Does (telling S.tells D.tells O.tells C.tells K.tells) course
+        (outside (S.state site.old) (S.counts site.old) mouth.old (O.state orchestrator.old) (O.counts orchestrator.old) (C.state courier.old) (C.counts courier.old) (K.state clock.old))
+        (outside (S.state site.new) (S.counts site.new) mouth.new (O.state orchestrator.new) (O.counts orchestrator.new) (C.state courier.new) (C.counts courier.new) (K.state clock.new))
         × (result ≡ ending_of course) }
     ensures unasked { settings.now.command ≢ Once → orchestrator.new ≡ orchestrator.old }
+    ensures unposted { courier.new ≡ courier.old }
     ensures disk { DiskFails (result ≡ Err Failure.SiteFault) (S.counts site.old) (S.counts site.new) }
     ensures untouched_jobs { settings.now.command ≢ Once → CountJobsAlike (S.counts site.old) (S.counts site.new) }
 {
@@ -115,28 +120,31 @@ fn open<S: Site, D: Door, O: Orchestrator, K: Clock>(
         site,
         mouth,
         orchestrator,
+        courier,
         clock,
     )
 }
 
 /// Onboards a descriptor, or makes the rounds that the words set.
-fn work<S: Site, D: Door, O: Orchestrator, K: Clock>(
+fn work<S: Site, D: Door, O: Orchestrator, C: Courier, K: Clock>(
     alloc: Global,
     settings: &Settings,
     manager: &mut Manager<S>,
     site: &mut S,
     mouth: &mut Mouth<D>,
     orchestrator: &mut O,
+    courier: &mut C,
     clock: &mut K,
 ) -> Ending
     requires loading { loads settings.now.command ≡ true }
     requires ready { (H : List Event) × IsReady S.tells manager.old H (S.state site.old) }
-    ensures deeds { (H : List Event) → IsReady S.tells manager.old H (S.state site.old) → (deed : Deed) × IsDeedOf settings.now deed
-        × Deeds (telling S.tells D.tells K.tells) manager.old.ledger.manager H deed manager.new
-        (world (S.state site.old) mouth.old (K.state clock.old)) (world (S.state site.new) mouth.new (K.state clock.new))
-        × AtOutsideBy (asking S.tells O.tells) manager.old.ledger.manager H deed (beside (S.state site.old) (S.counts site.old) (O.state orchestrator.old) (O.counts orchestrator.old)) (beside (S.state site.new) (S.counts site.new) (O.state orchestrator.new) (O.counts orchestrator.new))
-        × (result ≡ deed_ending H deed) }
+    ensures activity { (H : List Event) → IsReady S.tells manager.old H (S.state site.old) → (activity : Activity) × IsActivityOf settings.now activity
+        × Pursues (telling S.tells D.tells O.tells C.tells K.tells) manager.old.ledger.manager H activity manager.new
+        (outside (S.state site.old) (S.counts site.old) mouth.old (O.state orchestrator.old) (O.counts orchestrator.old) (C.state courier.old) (C.counts courier.old) (K.state clock.old))
+        (outside (S.state site.new) (S.counts site.new) mouth.new (O.state orchestrator.new) (O.counts orchestrator.new) (C.state courier.new) (C.counts courier.new) (K.state clock.new))
+        × (result ≡ activity_ending H activity) }
     ensures unasked { settings.now.command ≢ Once → orchestrator.new ≡ orchestrator.old }
+    ensures unposted { courier.new ≡ courier.old }
     ensures disk { DiskFails (result ≡ Err Failure.SiteFault) (S.counts site.old) (S.counts site.new) }
     ensures untouched_jobs { settings.now.command ≢ Once → CountJobsAlike (S.counts site.old) (S.counts site.new) }
 {
@@ -145,13 +153,13 @@ fn work<S: Site, D: Door, O: Orchestrator, K: Clock>(
         Command::Onboard => Ok(Report::Onboarded(onboard(alloc, manager, site, mouth, clock)?)),
         Command::Once => make_rounds(
             alloc,
+            settings,
             manager,
             site,
             mouth,
             orchestrator,
+            courier,
             clock,
-            settings.role,
-            settings.rounds,
         ),
     }
 }

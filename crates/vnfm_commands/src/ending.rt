@@ -3,7 +3,7 @@ ghost use Rattle.std.specs.Prelude.{◌≡◌, ◌≤◌, ◌+◌, ◌++◌, ◌
 ghost use Rattle.arrayvec.specs.ArrayString.{array_string_len};
 ghost use Rattle.site_traits.specs.Sink.{Puts, SinkCause};
 ghost use Rattle.vnfd_document.specs.Texts.{fault_text};
-ghost use Rattle.vnfm_commands.specs.Ending.{Ends, failure_line, failure_status, full_line, numbered_line, onboarded_line, refusal_text, refused_line, report_line, with_count};
+ghost use Rattle.vnfm_commands.specs.Ending.{Ends, failure_line, failure_status, full_line, numbered_line, onboarded_line, output_of, refusal_text, refused_line, report_line, with_count};
 
 use arrayvec::ArrayString;
 use command_line::SettingsFault;
@@ -61,7 +61,7 @@ pub type Ending = Result<Report, Failure>;
 
 /// Prints the line of an ending, and gives the program's status: 7 where it would be 0 and the line couldn't be put.
 pub fn finish<W: Sink>(ending: Ending, out: &mut W) -> u8
-    ensures { Ends W.tells ending result (W.state out.old) (W.state out.new) (W.counts out.old) (W.counts out.new) }
+    ensures { Ends W.tells ending result (output_of W.state W.counts out.old) (output_of W.state W.counts out.new) }
 {
     match ending {
         Ok(report) => match report.put(out) {

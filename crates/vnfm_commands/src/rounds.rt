@@ -1,55 +1,69 @@
 //! Rounds: in each the door is asked for a connection, which is served; then the clock is read, and a turn is made.
 ghost use Rattle.std.specs.Prelude.{◌≡◌, ◌≢◌, ℕ, List, Some, length, option_map};
 ghost use Rattle.executor.specs.Managed.{IsReady};
-ghost use Rattle.lcm_api.specs.World.{telling, world};
+ghost use Rattle.lcm_api.specs.World as session;
 ghost use Rattle.lcm_events.specs.declared.events.Event.{Event};
-ghost use Rattle.occ_work.specs.Around.{DiskFails, outside, telling as asking};
+ghost use Rattle.occ_work.specs.Around as acting;
+ghost use Rattle.occ_work.specs.Around.{DiskFails};
 ghost use Rattle.occ_work.specs.Turns.{TurnEnd, Turns};
 ghost use Rattle.site_traits.specs.Clock.{Gives};
 ghost use Rattle.site_traits.specs.Counts.{OnlyDiskFails};
 ghost use Rattle.vnfm_commands.specs.Course.{IsCount, Service, Turning, close_ending, halt_of, halting, moment_of};
-ghost use Rattle.vnfm_commands.specs.Rounds.{IsMet, IsOne, Makes, MakesOne, Meets, Met, MetFor, One, OneFor, IsTurned, beside};
+ghost use Rattle.vnfm_commands.specs.Outside.{outside, telling};
+ghost use Rattle.vnfm_commands.specs.Rounds.{IsMet, IsOne, Makes, MakesOne, Meets, Met, MetFor, One, OneFor, IsTurned};
 
 use crate::ending::{Ending, Failure, Report};
+use command_line::Settings;
 use executor::{Manager, WorkFault, what_was_told_of_stays, works_add_up, works_with_jobs_add_up};
 use lcm_api::Mouth;
 use lcm_events::Role;
 use lcm_sessions::{Closed, answer_session};
 use occ_work::turn;
-use site_traits::{Clock, Door, NextAnswer, Orchestrator, Site};
+use site_traits::{Clock, Courier, Door, NextAnswer, Orchestrator, Site};
 use std::alloc::Global;
 use vnfm_base::Moment;
 
-/// Makes so many rounds, for whoever asks in this role, and says how the run ends.
+/// Makes as many rounds as the settings say, for whoever asks in their role, and says how the run ends.
 ///
 /// A round is: the door is asked for a connection once; one that came is served; then the clock is read, and a turn is made: one act for each
 /// occurrence whose grant is asked for or whose changes are made. The first round in which waiting for a connection fails, or the disk, or a
 /// turn finds the journal full or no memory, is the last, and the acts before that stand.
 /// Source: SOL 003 clauses 5 and 9; rounds are an own rule, docs/FORMATS.md.
-pub fn make_rounds<S: Site, D: Door, O: Orchestrator, K: Clock>(
+pub fn make_rounds<S: Site, D: Door, O: Orchestrator, C: Courier, K: Clock>(
     alloc: Global,
+    settings: &Settings,
     manager: &mut Manager<S>,
     site: &mut S,
     mouth: &mut Mouth<D>,
     orchestrator: &mut O,
+    courier: &mut C,
     clock: &mut K,
-    role: Role,
-    count: u32,
 ) -> Ending
     requires ready { (H : List Event) × IsReady S.tells manager.old H (S.state site.old) }
     ensures makes { (H : List Event) → IsReady S.tells manager.old H (S.state site.old) → (service : Service)
-        × Makes (telling S.tells D.tells K.tells) O.tells manager.old.ledger.manager H service manager.new
-        (world (S.state site.old) mouth.old (K.state clock.old)) (world (S.state site.new) mouth.new (K.state clock.new))
-        (beside (S.state site.old) (S.counts site.old) (O.state orchestrator.old) (O.counts orchestrator.old)) (beside (S.state site.new) (S.counts site.new) (O.state orchestrator.new) (O.counts orchestrator.new))
-        × (service.role ≡ role) × IsCount count (length service.rounds) service.close × (result ≡ close_ending (length service.rounds) service.close) }
+        × Makes (telling S.tells D.tells O.tells C.tells K.tells) manager.old.ledger.manager H service manager.new
+        (outside (S.state site.old) (S.counts site.old) mouth.old (O.state orchestrator.old) (O.counts orchestrator.old) (C.state courier.old) (C.counts courier.old) (K.state clock.old))
+        (outside (S.state site.new) (S.counts site.new) mouth.new (O.state orchestrator.new) (O.counts orchestrator.new) (C.state courier.new) (C.counts courier.new) (K.state clock.new))
+        × (service.role ≡ settings.now.role) × IsCount settings.now.rounds (length service.rounds) service.close × (result ≡ close_ending (length service.rounds) service.close) }
+    ensures unposted { courier.new ≡ courier.old }
     ensures disk { DiskFails (result ≡ Err Failure.SiteFault) (S.counts site.old) (S.counts site.new) }
 {
     works_add_up::<S>();
     works_with_jobs_add_up::<S>();
     what_was_told_of_stays::<S>();
+    let wanted = settings.rounds;
     let mut made = 0;
-    'rounds: while made < count {
-        match make_round(alloc, manager, site, mouth, orchestrator, clock, role) {
+    'rounds: while made < wanted {
+        match make_round(
+            alloc,
+            manager,
+            site,
+            mouth,
+            orchestrator,
+            courier,
+            clock,
+            settings.role,
+        ) {
             Ok(()) => made += 1,
             Err(why) => return Err(why),
         }
@@ -58,21 +72,23 @@ pub fn make_rounds<S: Site, D: Door, O: Orchestrator, K: Clock>(
 }
 
 /// Asks for one connection, serves it, and makes the turn of the round.
-fn make_round<S: Site, D: Door, O: Orchestrator, K: Clock>(
+fn make_round<S: Site, D: Door, O: Orchestrator, C: Courier, K: Clock>(
     alloc: Global,
     manager: &mut Manager<S>,
     site: &mut S,
     mouth: &mut Mouth<D>,
     orchestrator: &mut O,
+    courier: &mut C,
     clock: &mut K,
     role: Role,
 ) -> Result<(), Failure>
     requires ready { (H : List Event) × IsReady S.tells manager.old H (S.state site.old) }
     ensures makes { (H : List Event) → IsReady S.tells manager.old H (S.state site.old) → (one : One)
-        × MakesOne (telling S.tells D.tells K.tells) O.tells manager.old.ledger.manager H one manager.new
-        (world (S.state site.old) mouth.old (K.state clock.old)) (world (S.state site.new) mouth.new (K.state clock.new))
-        (beside (S.state site.old) (S.counts site.old) (O.state orchestrator.old) (O.counts orchestrator.old)) (beside (S.state site.new) (S.counts site.new) (O.state orchestrator.new) (O.counts orchestrator.new))
+        × MakesOne (telling S.tells D.tells O.tells C.tells K.tells) manager.old.ledger.manager H one manager.new
+        (outside (S.state site.old) (S.counts site.old) mouth.old (O.state orchestrator.old) (O.counts orchestrator.old) (C.state courier.old) (C.counts courier.old) (K.state clock.old))
+        (outside (S.state site.new) (S.counts site.new) mouth.new (O.state orchestrator.new) (O.counts orchestrator.new) (C.state courier.new) (C.counts courier.new) (K.state clock.new))
         × OneFor role one × IsOne result one }
+    ensures unposted { courier.new ≡ courier.old }
     ensures disk { DiskFails (result ≡ Err Failure.SiteFault) (S.counts site.old) (S.counts site.new) }
 {
     works_add_up::<S>();
@@ -95,8 +111,8 @@ fn meet<S: Site, D: Door, K: Clock>(
 ) -> Result<(), Failure>
     requires ready { (H : List Event) × IsReady S.tells manager.old H (S.state site.old) }
     ensures meets { (H : List Event) → IsReady S.tells manager.old H (S.state site.old) → (met : Met)
-        × Meets (telling S.tells D.tells K.tells) manager.old.ledger.manager H met manager.new
-        (world (S.state site.old) mouth.old (K.state clock.old)) (world (S.state site.new) mouth.new (K.state clock.new))
+        × Meets (session.telling S.tells D.tells K.tells) manager.old.ledger.manager H met manager.new
+        (session.world (S.state site.old) mouth.old (K.state clock.old)) (session.world (S.state site.new) mouth.new (K.state clock.new))
         × MetFor role met × IsMet result met }
     ensures disk { OnlyDiskFails (result ≡ Err Failure.SiteFault) (S.counts site.old) (S.counts site.new) }
     ensures untouched { result ≡ Err Failure.DoorFault → site.new ≡ site.old }
@@ -123,8 +139,8 @@ fn take_turn<S: Site, O: Orchestrator, K: Clock>(
 ) -> Result<(), Failure>
     requires ready { (H : List Event) × IsReady S.tells manager.old H (S.state site.old) }
     ensures turns { (H : List Event) → IsReady S.tells manager.old H (S.state site.old) → (turning : Turning) × (end : TurnEnd)
-        × Turns (asking S.tells O.tells) manager.old.ledger.manager (moment_of turning) H turning.acts end manager.new
-        (outside (S.state site.old) (S.counts site.old) (O.state orchestrator.old) (O.counts orchestrator.old)) (outside (S.state site.new) (S.counts site.new) (O.state orchestrator.new) (O.counts orchestrator.new))
+        × Turns (acting.telling S.tells O.tells) manager.old.ledger.manager (moment_of turning) H turning.acts end manager.new
+        (acting.reach (S.state site.old) (S.counts site.old) (O.state orchestrator.old) (O.counts orchestrator.old)) (acting.reach (S.state site.new) (S.counts site.new) (O.state orchestrator.new) (O.counts orchestrator.new))
         × (K.tells → Gives turning.value (K.state clock.old) (K.state clock.new)) × IsTurned result end }
     ensures disk { DiskFails (result ≡ Err Failure.SiteFault) (S.counts site.old) (S.counts site.new) }
 {

@@ -1,5 +1,5 @@
 -- From what a part of the program did to what the program did.
-use Rattle.std.proofs.Common.{◌≡◌, ◌⊎◌, ℕ, List, Option, None, Ok, Err, inl, inr, sym, subst}
+use Rattle.std.proofs.Common.{◌≡◌, ◌⊎◌, ℕ, List, Option, None, Result, Ok, Err, IfErr, inl, inr, sym, subst}
 use Rattle.host_calls.specs.Files.{FilesState, Hold}
 use Rattle.lcm_api.specs.Mouth.{MouthState}
 use Rattle.outside_edges.specs.Site.{IsHeld}
@@ -13,7 +13,7 @@ use Rattle.command_line.specs.declared.options.Command.TheVariants.{Init, Onboar
 use Rattle.command_line.specs.declared.options.Settings.{Settings}
 use Rattle.command_line.specs.declared.options.SettingsFault.{SettingsFault}
 use Rattle.command_line.specs.declared.options.SettingsFault.TheVariants.{Usage}
-use Rattle.vnfm_program.specs.Program.{Goes, Meaning, Obeys, ObeysOrStarves, Opens, Performs, Starts, Objects, Outside, SpeaksOnError, SpeaksOnOutput, Tells, answers, folder_of, is_told_on_error, outside_of, tells_of}
+use Rattle.vnfm_program.specs.Program.{Goes, Machine, Meaning, Obeys, ObeysOrStarves, Objects, Opens, Performs, Scene, SpeaksOnError, SpeaksOnOutput, Starts, answers, folder_of, is_told_on_error}
 
 -- a file that is the one at this path is the one that the settings name
 pub held_as : {F : Type 0} (state : F → SiteState) (hold : F → Hold) (settings : Settings) (path : List ℕ) (folder : FolderSync) (file : Option F) (old new : FilesState)
@@ -22,40 +22,43 @@ pub held_as : {F : Type 0} (state : F → SiteState) (hold : F → Hold) (settin
 held_as state hold settings path folder file old new same_path same_folder held =
     subst (λ (f : FolderSync). IsHeld state hold settings.journal f file old new) same_folder (subst (λ (p : List ℕ). IsHeld state hold p folder file old new) same_path held)
 
+-- what needs an answer that there isn't holds of each fault
+pub no_answer : {A E R : Type 0} (given : Result A E) (P Q : E → Type 0) → (R → ⊥) → IfErr given (λ fault. P fault → R) → IfErr given (λ fault. P fault → Q fault)
+no_answer (Ok a) P Q never each = tt
+no_answer (Err fault) P Q never each = λ is. absurd (never (each is))
+
 -- where the words are no command they set nothing
 pub unset : (fault : SettingsFault) (set : Option Settings) → fault ≡ Usage → Settles (Err fault) set → set ≡ None
 unset fault set is settles = subst (λ (f : SettingsFault). Settles (Err f) set) is settles
 
--- a run with its line to standard error is what `once` performs, and one with it to standard output what the other two do
-pub performed_on_error : (t : Tells) (command : Command) (words : List (List ℕ)) (status : ℕ) (a b : Outside)
-    → command ≡ Once → SpeaksOnError t.world t.errors words status a b → Performs t (answers command) words status a b
-performed_on_error t command words status a b is speaks = subst (λ (c : Command). Performs t (answers c) words status a b) (sym is) speaks
+module _ {N H F : Type 0} where
+  -- a run with its line to standard error is what `once` performs, and one with it to standard output what the other two do
+  pub performed_on_error : (g : Meaning N H F) (command : Command) (words : List (List ℕ)) (status : ℕ) (a b : Scene N H F)
+      → command ≡ Once → SpeaksOnError g words status a b → Performs g (answers command) words status a b
+  performed_on_error g command words status a b is speaks = subst (λ (c : Command). Performs g (answers c) words status a b) (sym is) speaks
 
-pub performed_on_output : (t : Tells) (command : Command) (words : List (List ℕ)) (status : ℕ) (a b : Outside)
-    → (command ≡ Init) ⊎ (command ≡ Onboard) → SpeaksOnOutput t words status a b → Performs t (answers command) words status a b
-performed_on_output t command words status a b (inl is) speaks = subst (λ (c : Command). Performs t (answers c) words status a b) (sym is) speaks
-performed_on_output t command words status a b (inr is) speaks = subst (λ (c : Command). Performs t (answers c) words status a b) (sym is) speaks
+  pub performed_on_output : (g : Meaning N H F) (command : Command) (words : List (List ℕ)) (status : ℕ) (a b : Scene N H F)
+      → (command ≡ Init) ⊎ (command ≡ Onboard) → SpeaksOnOutput g words status a b → Performs g (answers command) words status a b
+  performed_on_output g command words status a b (inl is) speaks = subst (λ (c : Command). Performs g (answers c) words status a b) (sym is) speaks
+  performed_on_output g command words status a b (inr is) speaks = subst (λ (c : Command). Performs g (answers c) words status a b) (sym is) speaks
 
-module _ {N H F K L E : Type 0} where
   -- a run over what was opened for these settings obeys the words that set them
-  pub obeyed : (g : Meaning N H F K L E) (words : List (List ℕ)) (set : Option Settings) (status : ℕ) (a w b : Objects N H F K L E) (before after : MouthState)
-      → settings_of words ≡ set → Opens g set a w → a.mouth ≡ Ok before → b.mouth ≡ Ok after
-      → Performs (tells_of g) (is_told_on_error set) words status (outside_of g before w) (outside_of g after b)
-      → b ≡ record w { site = b.site; mouth = b.mouth; clock = b.clock; lines = b.lines; errors = b.errors }
+  pub obeyed : (g : Meaning N H F) (words : List (List ℕ)) (set : Option Settings) (status : ℕ) (a b : Objects N H F) (opened : Machine N H F) (before after : MouthState)
+      → settings_of words ≡ set → Opens g set a.machine opened → a.mouth ≡ Ok before → b.mouth ≡ Ok after
+      → Performs g (is_told_on_error set) words status (record { mouth = before; machine = opened }) (record { mouth = after; machine = b.machine })
       → Obeys g words status a b
-  obeyed g words set status a w b before after sets opens has_mouth mouth performs kept = record {
-    opened = w;
-    opens = subst (λ (s : Option Settings). Opens g s a w) (sym sets) opens;
+  obeyed g words set status a b opened before after sets opens has_mouth mouth performs = record {
+    opened = opened;
+    opens = subst (λ (s : Option Settings). Opens g s a.machine opened) (sym sets) opens;
     before = before;
     after = after;
     has_mouth = has_mouth;
     mouth = mouth;
-    performs = subst (λ (s : Option Settings). Performs (tells_of g) (is_told_on_error s) words status (outside_of g before w) (outside_of g after b)) (sym sets) performs;
-    kept = kept;
+    performs = subst (λ (s : Option Settings). Performs g (is_told_on_error s) words status (record { mouth = before; machine = opened }) (record { mouth = after; machine = b.machine })) (sym sets) performs;
   }
 
   -- words that ask for no page are obeyed
-  pub went : (g : Meaning N H F K L E) (given words : List (List ℕ)) (status : ℕ) (a b : Objects N H F K L E)
+  pub went : (g : Meaning N H F) (given words : List (List ℕ)) (status : ℕ) (a b : Objects N H F)
       → given ≡ words → page_of given ≡ None → ObeysOrStarves g given status a b → Starts g words status a b
   went g given words status a b same none obeys =
       subst (λ (ws : List (List ℕ)). Starts g ws status a b) same (subst (λ (page : Option Page). Goes g page given status a b) (sym none) obeys)

@@ -4,15 +4,8 @@ use Rattle.program_words.specs.declared.page.Page.{Page}
 use Rattle.program_words.specs.Lines.{IsLineOf}
 use Rattle.program_words.specs.Pages.{text_of}
 use Rattle.program_words.specs.declared.reason.Reason.{Reason}
-use Rattle.site_traits.specs.Counts.{CallCounts, called, called_in_vain}
-
--- what a sink shows: its bytes so far, which count where it tells them, and how often it was put to
-pub record Output : Type 0 where
-  pub bytes : List ℕ
-  pub counts : CallCounts
-
-abbrev pub output_of : {W : Type 0} → (W → List ℕ) → (W → CallCounts) → W → Output
-output_of state counts sink = record { bytes = state sink; counts = counts sink }
+use Rattle.site_traits.specs.Counts.{called, called_in_vain}
+use Rattle.vnfm_commands.specs.Ending.{Output}
 
 -- this text was put in one call, or none of it
 pub record PutsText (tells : Type 0) (text : List ℕ) (put : Bool) (a b : Output) : Type 0 where

@@ -1,8 +1,10 @@
 //! The program: from the words of the command line to a run over the file that they name, and to the words that say how it went.
 #![tactic(auto)]
 
+mod machine;
 mod output;
 mod program;
 mod words;
 
+pub use machine::Machine;
 pub use program::start;

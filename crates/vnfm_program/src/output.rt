@@ -1,6 +1,7 @@
 //! The texts that go to standard output and standard error, each in one call.
 ghost use Rattle.std.specs.Prelude.{◌≡◌};
-ghost use Rattle.vnfm_program.specs.Output.{output_of, Explains, Prints, PutsText, Starves};
+ghost use Rattle.vnfm_commands.specs.Ending.{output_of};
+ghost use Rattle.vnfm_program.specs.Output.{Explains, Prints, PutsText, Starves};
 
 use program_words::{Page, Reason};
 use site_traits::Sink;

@@ -1,8 +1,8 @@
 use Rattle.std.proofs.Common.{◌≡◌, ◌+◌, ◌-◌, ◌≤◌, List, ℕ, length, drop, refl, sym, ap, ◌∙◌, subst, arith}
 use Rattle.std.proofs.lemmas.List.{length-drop}
 use Rattle.http_frames.specs.declared.TheConstants.{HEAD_BYTES, CHUNKED_BYTES}
-use Rattle.http_frames.specs.declared.chunks.Verdict.TheVariants as verdict
-use Rattle.http_frames.specs.Steps.{VerdictIs, HasDecoded, HasMoreChunks}
+use Rattle.http_frames.specs.declared.chunks.Decoded.TheVariants as decoded
+use Rattle.http_frames.specs.Steps.{DecodedIs, HasDecoded, HasMoreChunks}
 use Rattle.http_frames.specs.Messages.{HasNoMessage}
 use Rattle.http_wire.specs.Wire.{window}
 use Rattle.http_wire.proofs.IntakeLaws.{takes_none, takes_on, rose_since}
@@ -14,32 +14,32 @@ looks-init g c = (takes_none g.D.Door.tells c.args.intake.now, c.requires.head, 
 
 pub overflow_add-result : goal.overflow_add-result
 overflow_add-result g c =
-    let v = subst (λ (x : List ℕ). VerdictIs (window x c.args.head) c.decode_held.new.decoder.body.items (verdict.Whole c.in-Ok-Whole.n)) c.held-held.ensures
+    let v = subst (λ (x : List ℕ). DecodedIs (window x c.args.head) c.decode_held.new.decoder.body.items (decoded.Whole c.in-Ok-Whole.n)) c.held-held.ensures
     (rw c.in-Ok-Whole.field-0-is at c.in-Ok-Whole.ensures.verdict) in
     let fits : c.args.head.len + c.in-Ok-Whole.n ≤ HEAD_BYTES + CHUNKED_BYTES = chunked_end_fits c.looks.intake.held c.args.head c.in-Ok-Whole.n c.looks.invariant.1 v.1 in
     omega arith
 
 pub returns-in-Ok-Whole-clause-came : goal.returns-in-Ok-Whole-clause-came
 returns-in-Ok-Whole-clause-came g c =
-    let v = subst (λ (x : List ℕ). VerdictIs (window x c.args.head) c.decode_held.new.decoder.body.items (verdict.Whole c.in-Ok-Whole.n)) c.held-held.ensures
+    let v = subst (λ (x : List ℕ). DecodedIs (window x c.args.head) c.decode_held.new.decoder.body.items (decoded.Whole c.in-Ok-Whole.n)) c.held-held.ensures
     (rw c.in-Ok-Whole.field-0-is at c.in-Ok-Whole.ensures.verdict) in
     chunked_held c.looks.intake.held c.args.head c.in-Ok-Whole.n c.decode_held.new.decoder.body.items c.looks.invariant.1 c.requires.chunked v
 
 pub returns-in-Ok-Malformed-clause-came : goal.returns-in-Ok-Malformed-clause-came
 returns-in-Ok-Malformed-clause-came g c = λ told.
-    let v = subst (λ (x : List ℕ). VerdictIs (window x c.args.head) c.decode_held.new.decoder.body.items verdict.Malformed) c.held-held.ensures
+    let v = subst (λ (x : List ℕ). DecodedIs (window x c.args.head) c.decode_held.new.decoder.body.items decoded.Malformed) c.held-held.ensures
     (rw c.in-Ok-Malformed.field-0-is at c.in-Ok-Malformed.ensures.verdict) in
     chunked_breaks c.looks.intake c.args.head c.looks.invariant.1 c.requires.chunked v
 
 pub returns-in-Ok-TooLarge-clause-came : goal.returns-in-Ok-TooLarge-clause-came
 returns-in-Ok-TooLarge-clause-came g c = λ told.
-    let v = subst (λ (x : List ℕ). VerdictIs (window x c.args.head) c.decode_held.new.decoder.body.items verdict.TooLarge) c.held-held.ensures
+    let v = subst (λ (x : List ℕ). DecodedIs (window x c.args.head) c.decode_held.new.decoder.body.items decoded.TooLarge) c.held-held.ensures
     (rw c.in-Ok-TooLarge.field-0-is at c.in-Ok-TooLarge.ensures.verdict) in
     chunked_overflows c.looks.intake c.args.head c.looks.invariant.1 c.requires.chunked v
 
 pub returns-then-behind-gt-CHUNKED_BYTES-clause-came : goal.returns-then-behind-gt-CHUNKED_BYTES-clause-came
 returns-then-behind-gt-CHUNKED_BYTES-clause-came g c = λ told.
-    let v = subst (λ (x : List ℕ). VerdictIs (window x c.args.head) c.decode_held.new.decoder.body.items verdict.More) c.held-held.ensures
+    let v = subst (λ (x : List ℕ). DecodedIs (window x c.args.head) c.decode_held.new.decoder.body.items decoded.More) c.held-held.ensures
     (rw c.in-Ok-More.field-0-is at c.in-Ok-More.ensures.verdict) in
     let behind : length (drop c.args.head.len c.looks.intake.held) ≡ length c.looks.intake.held - c.args.head.len = length-drop c.args.head.len c.looks.intake.held in
     let same : length c.held-held.result.now ≡ length c.looks.intake.held = ap length c.held-held.ensures in
@@ -47,7 +47,7 @@ returns-then-behind-gt-CHUNKED_BYTES-clause-came g c = λ told.
 
 pub read_on-requires-clause-needs : goal.read_on-requires-clause-needs
 read_on-requires-clause-needs g c =
-    let v = subst (λ (x : List ℕ). VerdictIs (window x c.args.head) c.decode_held.new.decoder.body.items verdict.More) c.held-held.ensures
+    let v = subst (λ (x : List ℕ). DecodedIs (window x c.args.head) c.decode_held.new.decoder.body.items decoded.More) c.held-held.ensures
     (rw c.in-Ok-More.field-0-is at c.in-Ok-More.ensures.verdict) in
     let behind : length (drop c.args.head.len c.looks.intake.held) ≡ length c.looks.intake.held - c.args.head.len = length-drop c.args.head.len c.looks.intake.held in
     let same : length c.held-held.result.now ≡ length c.looks.intake.held = ap length c.held-held.ensures in
@@ -70,7 +70,7 @@ returns-in-Ok-End-clause-takes g c = takes_on g.D.Door.tells c.args.intake.now c
 
 pub returns-in-Ok-End-clause-came : goal.returns-in-Ok-End-clause-came
 returns-in-Ok-End-clause-came g c = λ told.
-    let v = subst (λ (x : List ℕ). VerdictIs (window x c.args.head) c.decode_held.new.decoder.body.items verdict.More) c.held-held.ensures
+    let v = subst (λ (x : List ℕ). DecodedIs (window x c.args.head) c.decode_held.new.decoder.body.items decoded.More) c.held-held.ensures
     (rw c.in-Ok-More.field-0-is at c.in-Ok-More.ensures.verdict) in
     let behind : length (drop c.args.head.len c.looks.intake.held) ≡ length c.looks.intake.held - c.args.head.len = length-drop c.args.head.len c.looks.intake.held in
     let same : length c.held-held.result.now ≡ length c.looks.intake.held = ap length c.held-held.ensures in
@@ -82,7 +82,7 @@ returns-in-Ok-Failed-clause-takes g c = takes_on g.D.Door.tells c.args.intake.no
 
 pub returns-in-Ok-Failed-clause-came : goal.returns-in-Ok-Failed-clause-came
 returns-in-Ok-Failed-clause-came g c =
-    let v = subst (λ (x : List ℕ). VerdictIs (window x c.args.head) c.decode_held.new.decoder.body.items verdict.More) c.held-held.ensures
+    let v = subst (λ (x : List ℕ). DecodedIs (window x c.args.head) c.decode_held.new.decoder.body.items decoded.More) c.held-held.ensures
     (rw c.in-Ok-More.field-0-is at c.in-Ok-More.ensures.verdict) in
     let behind : length (drop c.args.head.len c.looks.intake.held) ≡ length c.looks.intake.held - c.args.head.len = length-drop c.args.head.len c.looks.intake.held in
     let same : length c.held-held.result.now ≡ length c.looks.intake.held = ap length c.held-held.ensures in
@@ -101,7 +101,7 @@ returns-in-Err-clause-came g c =
 
 pub returns-in-Err-read_on-clause-came : goal.returns-in-Err-read_on-clause-came
 returns-in-Err-read_on-clause-came g c =
-    let v = subst (λ (x : List ℕ). VerdictIs (window x c.args.head) c.decode_held.new.decoder.body.items verdict.More) c.held-held.ensures
+    let v = subst (λ (x : List ℕ). DecodedIs (window x c.args.head) c.decode_held.new.decoder.body.items decoded.More) c.held-held.ensures
     (rw c.in-Ok-More.field-0-is at c.in-Ok-More.ensures.verdict) in
     let behind : length (drop c.args.head.len c.looks.intake.held) ≡ length c.looks.intake.held - c.args.head.len = length-drop c.args.head.len c.looks.intake.held in
     let same : length c.held-held.result.now ≡ length c.looks.intake.held = ap length c.held-held.ensures in

@@ -2,7 +2,7 @@
 use Rattle.std.proofs.Common.{[], Ok, Err, None, Some, refl, subst}
 use Rattle.executor.specs.Work.{went}
 use Rattle.http_wire.specs.declared.request.Taken.TheVariants as taken
-use Rattle.lcm_sessions.specs.Session.{Ending, over, unheard}
+use Rattle.lcm_sessions.specs.Session.{Closing, over, unheard}
 use Rattle.lcm_sessions.specs.Step.{IsStep, ended_so}
 use Rattle.lcm_events.specs.declared.states.Role.{Role}
 use Rattle.lcm_sessions.proofs.TalkLemmas.{converses_none}
@@ -21,7 +21,7 @@ returns-in-Ok-true-clause-talks g c = λ H ready.
 
 pub returns-in-Ok-false-clause-talks : goal.returns-in-Ok-false-clause-talks
 returns-in-Ok-false-clause-talks g c = λ H ready.
-    let end : Ending = record { last = over; told = Ok tt } in
+    let end : Closing = record { last = over; told = Ok tt } in
     let heard = rw c.in-Ok-false.field-0-test at c.in-Ok-false.ensures.heard in (
       ended_so c.args.role end,
       talk_of_end _ _ H c.args.role end (Ok taken.End) _ c.args.mouth.now c.hear.new.self c.hear.new.self _ (c.works_add_up.ensures.idles c.args.site.now) ready heard.1 c.in-Ok-false.ensures.reads heard.1.is.0 refl refl (λ asks. asks)
@@ -32,7 +32,7 @@ returns-in-Ok-false-clause-talks g c = λ H ready.
 pub returns-in-Some-clause-talks : goal.returns-in-Some-clause-talks
 returns-in-Some-clause-talks g c = λ H ready.
     let told = c.tell_last.ensures.told in
-    let end : Ending = record { last = unheard c.in-Err.fault (Some c.in-Some.reply); told = told.result } in
+    let end : Closing = record { last = unheard c.in-Err.fault (Some c.in-Some.reply); told = told.result } in
     let heard = c.in-Err.ensures.heard in (
       ended_so c.args.role end,
       talk_of_end _ _ H c.args.role end (Err c.in-Err.fault) _ c.args.mouth.now c.hear.new.self c.tell_last.new.mouth _ (c.works_add_up.ensures.idles c.args.site.now) ready heard.1 c.in-Err.ensures.reads heard.1.is.0 refl refl
@@ -45,7 +45,7 @@ returns-in-Some-clause-talks g c = λ H ready.
 
 pub returns-in-None-clause-talks : goal.returns-in-None-clause-talks
 returns-in-None-clause-talks g c = λ H ready.
-    let end : Ending = record { last = unheard c.in-Err.fault None; told = Ok tt } in
+    let end : Closing = record { last = unheard c.in-Err.fault None; told = Ok tt } in
     let heard = c.in-Err.ensures.heard in (
       ended_so c.args.role end,
       talk_of_end _ _ H c.args.role end (Err c.in-Err.fault) _ c.args.mouth.now c.hear.new.self c.hear.new.self _ (c.works_add_up.ensures.idles c.args.site.now) ready heard.1 c.in-Err.ensures.reads heard.1.is.0 refl refl

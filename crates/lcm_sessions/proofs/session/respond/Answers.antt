@@ -1,6 +1,6 @@
 -- The request in hand is answered, and its reply, or that there is none, is told.
 use Rattle.std.proofs.Common.{ap, refl, Some, sym}
-use Rattle.lcm_sessions.specs.Session.{Ask, Ending, untold, starving, breaking}
+use Rattle.lcm_sessions.specs.Session.{Ask, Closing, untold, starving, breaking}
 use Rattle.lcm_sessions.specs.Step.{answered_one, ended_so}
 use Rattle.lcm_sessions.proofs.StepsLemmas.{acknowledged, about, responds_last, responds_told, same_hand, told_step}
 use Rattle.lcm_sessions.proofs.session.respond.Goals as goal
@@ -24,7 +24,7 @@ returns-in-Ok-tell-clause-responds g c = λ H ready r hand.
 pub returns-in-Ok-clause-responds : goal.returns-in-Ok-clause-responds
 returns-in-Ok-clause-responds g c = λ H ready r hand.
     let x : Ask = record { role = c.args.mouth.now.role; request = c.request.result.now; value = c.now.result } in
-    let end : Ending = record { last = untold x; told = c.tell.result } in
+    let end : Closing = record { last = untold x; told = c.tell.result } in
     let same = same_hand c.args.mouth.now.hand c.request.result.now r c.request.ensures hand in (
       ended_so c.args.mouth.now.role end,
       responds_last _ _ H c.args.mouth.now.role x (untold x) c.tell.result _ c.in-Ok.reply _ _ refl (rw (c.of-now.ensures, c.role.ensures) at (c.in-Ok.ensures.works H ready))
@@ -37,7 +37,7 @@ returns-in-Ok-clause-responds g c = λ H ready r hand.
 pub returns-in-Err-Disk-clause-responds : goal.returns-in-Err-Disk-clause-responds
 returns-in-Err-Disk-clause-responds g c = λ H ready r hand.
     let x : Ask = record { role = c.args.mouth.now.role; request = c.request.result.now; value = c.now.result } in
-    let end : Ending = record { last = breaking x; told = c.tell-in-Err-Disk.result } in
+    let end : Closing = record { last = breaking x; told = c.tell-in-Err-Disk.result } in
     let same = same_hand c.args.mouth.now.hand c.request.result.now r c.request.ensures hand in (
       ended_so c.args.mouth.now.role end,
       responds_last _ _ H c.args.mouth.now.role x (breaking x) c.tell-in-Err-Disk.result _ c.bare.result _ _ refl (rw (c.in-Err-Disk.field-0-is, c.of-now.ensures, c.role.ensures) at (c.in-Err-Disk.ensures.works H ready)) (rw c.bare.ensures refl) tt
@@ -50,7 +50,7 @@ pub returns-clause-responds : goal.returns-clause-responds
 returns-clause-responds g c = λ H ready r hand.
     let x : Ask = record { role = c.args.mouth.now.role; request = c.request.result.now; value = c.now.result } in
     let told = c.tell_last.ensures.told in
-    let end : Ending = record { last = starving x; told = told.result } in
+    let end : Closing = record { last = starving x; told = told.result } in
     let same = same_hand c.args.mouth.now.hand c.request.result.now r c.request.ensures hand in (
       ended_so c.args.mouth.now.role end,
       responds_last _ _ H c.args.mouth.now.role x (starving x) told.result _ c.bare-in-Err-Memory.result _ _ refl (rw c.in-Err-Memory.field-0-is at (c.in-Err-Memory.ensures.works H ready)) (rw c.bare-in-Err-Memory.ensures refl) tt

@@ -1,6 +1,6 @@
 -- The talk grows by a request, or ends.
 use Rattle.std.proofs.Common.{◌≡◌, arith, false, true, Some, refl}
-use Rattle.lcm_sessions.specs.Session.{Ending, breaks, told_last}
+use Rattle.lcm_sessions.specs.Session.{Closing, breaks, told_last}
 use Rattle.lcm_sessions.specs.declared.session.Step.TheVariants as step
 use Rattle.lcm_sessions.proofs.TalkLemmas.{ended_so_far, none_so_far, one_more_told, ready_so_far, told_few}
 use Rattle.site_traits.specs.Counts.{fails_as, fails_last, untouched}
@@ -30,7 +30,7 @@ overflow_add-result g c = let few = told_few _ _ _ _ _ _ _ c.steps.invariant.0 i
 
 pub returns-in-ToldLast-clause-talks : goal.returns-in-ToldLast-clause-talks
 returns-in-ToldLast-clause-talks g c = λ H ready.
-    let P : Ending → Type 0 = λ end. (told_last (Some end) ≡ 1) × (breaks (Some end) ≡ false) in
+    let P : Closing → Type 0 = λ end. (told_last (Some end) ≡ 1) × (breaks (Some end) ≡ false) in
     let it = ended_so_far _ c.args.role _ _ _ _ P _ _ _ c.steps.invariant.0 (c.works_add_up.ensures.leads c.args.site.now c.steps.site) (c.works_add_up.ensures.joins c.args.site.now c.steps.site c.answer_next.new.site) (c.what_was_told_of_stays.ensures.joins c.args.site.now c.steps.site c.answer_next.new.site)
     (λ G now. let did = c.in-ToldLast.ensures.talks G now in (did.0, did.1, (did.2.0, did.2.1, (did.2.2, did.2.3)))) H ready in
     let count = it.3 in
@@ -43,7 +43,7 @@ returns-in-ToldLast-clause-counts g c =
 
 pub returns-in-Over-clause-talks : goal.returns-in-Over-clause-talks
 returns-in-Over-clause-talks g c = λ H ready.
-    let P : Ending → Type 0 = λ end. (told_last (Some end) ≡ 0) × (breaks (Some end) ≡ false) in
+    let P : Closing → Type 0 = λ end. (told_last (Some end) ≡ 0) × (breaks (Some end) ≡ false) in
     let it = ended_so_far _ c.args.role _ _ _ _ P _ _ _ c.steps.invariant.0 (c.works_add_up.ensures.leads c.args.site.now c.steps.site) (c.works_add_up.ensures.joins c.args.site.now c.steps.site c.answer_next.new.site) (c.what_was_told_of_stays.ensures.joins c.args.site.now c.steps.site c.answer_next.new.site)
     (λ G now. let did = c.in-Over.ensures.talks G now in (did.0, did.1, (did.2.0, did.2.1, (did.2.2, did.2.3)))) H ready in
     let count = it.3 in
@@ -56,7 +56,7 @@ returns-in-Over-clause-counts g c =
 
 pub returns-in-Broken-clause-talks : goal.returns-in-Broken-clause-talks
 returns-in-Broken-clause-talks g c = λ H ready.
-    let P : Ending → Type 0 = λ end. breaks (Some end) ≡ true in
+    let P : Closing → Type 0 = λ end. breaks (Some end) ≡ true in
     let it = ended_so_far _ c.args.role _ _ _ _ P _ _ _ c.steps.invariant.0 (c.works_add_up.ensures.leads c.args.site.now c.steps.site) (c.works_add_up.ensures.joins c.args.site.now c.steps.site c.answer_next.new.site) (c.what_was_told_of_stays.ensures.joins c.args.site.now c.steps.site c.answer_next.new.site) (λ G now. c.in-Broken.ensures.talks G now) H ready in
     (record { role = c.args.role; asks = it.0; end = Some it.1 }, it.1, refl, it.2, refl, it.4)
 

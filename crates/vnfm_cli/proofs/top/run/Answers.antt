@@ -1,81 +1,73 @@
 -- What the status says, from the way that the run went.
-use Rattle.std.proofs.Common.{◌∙◌, ℕ, ap, arith, rules, subst, sym}
-use Rattle.vnfm_commands.specs.Ending.{status_of}
-use Rattle.vnfm_commands.specs.Runs.{MayEndWith}
+use Rattle.std.proofs.Common.{◌≡◌, ◌∙◌, ℕ, ap, arith, rules, subst, sym}
+use Rattle.vnfm_commands.specs.Course.{ending_of}
+use Rattle.vnfm_commands.specs.Ending.{Ending, status_of, told_status}
+use Rattle.vnfm_commands.specs.Runs.{IsOrYields, MayEndWith}
 use Rattle.vnfm_commands.proofs.DiskLemmas.{disk_as, lost_line, one_fault}
 use Rattle.vnfm_cli.proofs.DoorLemmas.{course_fails, fails_with}
-use Rattle.vnfm_cli.proofs.EndingLemmas.{is_status, put_result, seven_lost, status_result, status_told, told_by, told_same, yields_result}
-use Rattle.vnfm_cli.proofs.ExactLemmas.{bad_record_ending, complete_ending, door_cause, no_journal_ending, taken_ending, told_bad_record, told_full, told_no_journal, told_refused, told_taken}
+use Rattle.vnfm_cli.proofs.EndingLemmas.{is_status, put_told, seven_lost, status_told, told_by, told_or_yields, told_same, where_told}
+use Rattle.vnfm_cli.proofs.ExactLemmas.{bad_record_ending, complete_ending, door_cause, no_journal_ending, taken_ending, told_so, IsTold}
 use Rattle.vnfm_cli.proofs.HeadlineLemmas.{acknowledged, leaves_fresh, leaves_sound}
 use Rattle.vnfm_cli.proofs.top.run.Goals as goal
 
-pub returns-clause-runs : goal.returns-clause-runs
-returns-clause-runs g c = search rules
+pub returns-clause-promises : goal.returns-clause-promises
+returns-clause-promises g c =
+    let runs = c.obey-ending.ensures.runs in
+    let a = g.S.Site.state c.args.site.now in
+    let b = g.S.Site.state c.obey-ending.new.site in
+    let does = runs.1.does in
+    let at = c.finish.ensures.status_is in
+    let e : Ending = c.obey-ending.result in
+    let put = c.finish.ensures.put in
+    let is : c.finish.result ≡ told_status c.finish.ensures.put (status_of (ending_of runs.0)) = rw (← runs.2) at in
+    let Told : ℕ → Type 0 = IsTold g.S.Site.tells c.args.words.now a in
+    let told = told_so g.S.Site.tells c.args.words.now a b runs.0 runs.1.words_are does.site in
+    let failing = course_fails _ _ runs.0 _ _ runs.1.words_are does.beside in
+    record {
+      course = runs.0;
+      runs = runs.1;
+      ends = rw (← runs.2) c.finish.ensures;
+      headline = λ tells m H start.
+          leaves_sound c.files_are_one_thing.ensures.unmade c.a_file_has_one_history.ensures c.jobs_may_end.ensures c.sound_jobs_make_sound_pairs.ensures runs.0
+          a b (does.site tells) does.legal m H start;
+      acknowledged = λ tells m H start.
+          acknowledged c.files_are_one_thing.ensures.unmade c.a_file_has_one_history.ensures c.jobs_may_end.ensures c.sound_jobs_make_sound_pairs.ensures _ tells runs.0
+          _ _ a b (does.site tells) does.legal does.told m H start;
+      beginning = λ tells m are fresh. leaves_fresh runs.0 c.args.words.now a b runs.1.words_are (does.site tells) (does.jobs tells) m are fresh;
+      disk = disk_as _ _ _ _ c.obey-ending.ensures.disk
+          (λ is. at ∙ told_same _ _ 3 (ap status_of is) (omega arith))
+          (λ is. where_told 3 (status_of e) _ (told_by e).1 (status_told put (status_of e) 3 (sym at ∙ is) (omega arith)));
+      untouched_jobs = c.obey-ending.ensures.untouched_jobs;
+      causes = record {
+        usage = (
+          (λ two. c.obey-ending.ensures.usage.0 (where_told 2 (status_of e) _ (told_by e).0 (status_told put (status_of e) 2 (sym at ∙ two) (omega arith)))),
+          (λ none. at ∙ told_same _ _ 2 (ap status_of (c.obey-ending.ensures.usage.1 none)) (omega arith)),
+        );
+        door = fails_with _ _ _ _ _
+            (λ is. at ∙ told_same _ _ 4 (ap status_of (runs.2 ∙ is)) (omega arith))
+            (λ four. sym runs.2 ∙ where_told 4 (status_of e) _ (told_by e).2 (status_told put (status_of e) 4 (sym at ∙ four) (omega arith)))
+            failing;
+        only = rw at (is_status c.finish.ensures.put _);
+        journal = λ tells five. (subst Told (status_told _ _ 5 (sym is ∙ five) (omega arith)) told).0 tells;
+        no_journal = λ tells are none. subst (λ n. IsOrYields 5 n) (sym is) (told_or_yields _ _ 5 (omega arith) (no_journal_ending c.files_are_one_thing.ensures.unmade c.files_are_one_thing.ensures.foreign c.files_are_one_thing.ensures.headed c.a_legal_history_has_no_bad_record.ensures runs.0 c.args.words.now a b are runs.1.words_are (does.site tells) none));
+        record_is_bad = λ tells eight. (subst Told (status_told _ _ 8 (sym is ∙ eight) (omega arith)) told).1 tells;
+        bad_record = λ tells are n bad. subst (λ n. IsOrYields 8 n) (sym is) (told_or_yields _ _ 8 (omega arith) (bad_record_ending c.files_are_one_thing.ensures.unmade c.files_are_one_thing.ensures.foreign c.files_are_one_thing.ensures.headed c.a_legal_history_has_no_bad_record.ensures runs.0 c.args.words.now a b n are runs.1.words_are does.legal (does.site tells) bad));
+        full = λ nine. (subst Told (status_told _ _ 9 (sym is ∙ nine) (omega arith)) told).2;
+        refused = λ ten. (subst Told (status_told _ _ 10 (sym is ∙ ten) (omega arith)) told).3;
+        taken = λ tells eleven. (subst Told (status_told _ _ 11 (sym is ∙ eleven) (omega arith)) told).4 tells;
+        is_taken = λ tells m are not. subst (λ n. IsOrYields 11 n) (sym is) (told_or_yields _ _ 11 (omega arith) (taken_ending runs.0 c.args.words.now a b m are runs.1.words_are (does.site tells) not));
+        sink = λ seven. lost_line _ _ _ c.finish.ensures.counts (seven_lost _ _ (sym at ∙ seven)).0;
+      };
+      complete = λ tells command are start disk door sink.
+          let P : ℕ → Type 0 = λ status. MayEndWith command status in
+          subst P (sym (put_told _ _ _ is (λ lost. sink (lost_line _ _ _ c.finish.ensures.counts lost))))
+          (complete_ending c.files_are_one_thing.ensures.unmade c.files_are_one_thing.ensures.foreign c.files_are_one_thing.ensures.headed c.a_legal_history_has_no_bad_record.ensures command runs.0 c.args.words.now a b are start runs.1.words_are (does.site tells)
+          (λ fault. disk (one_fault _ _ (c.obey-ending.ensures.disk.rose (runs.2 ∙ fault))))
+          (λ fault. door (door_cause command c.args.words.now _ _ _ are failing fault)));
+    }
 
 pub returns-clause-unasked : goal.returns-clause-unasked
 returns-clause-unasked g c = search rules
 
 pub returns-clause-untouched : goal.returns-clause-untouched
 returns-clause-untouched g c = search rules
-
-pub returns-clause-untouched_jobs : goal.returns-clause-untouched_jobs
-returns-clause-untouched_jobs g c = search rules
-
-pub returns-clause-causes : goal.returns-clause-causes
-returns-clause-causes g c =
-    let runs = c.obey-ending.ensures.runs in
-    record {
-      usage = (
-        (λ two. c.obey-ending.ensures.usage.0 ((told_by _).usage (status_told _ _ 2 (sym c.finish.ensures.status_is ∙ two) (omega arith)))),
-        (λ none. c.finish.ensures.status_is ∙ told_same _ _ 2 (ap status_of (c.obey-ending.ensures.usage.1 none)) (omega arith)),
-      );
-      door = fails_with _ _ _ _ _
-          (λ is. c.finish.ensures.status_is ∙ told_same _ _ 4 (ap status_of (runs.3 ∙ is)) (omega arith))
-          (λ four. sym runs.3 ∙ (told_by _).door (status_told _ _ 4 (sym c.finish.ensures.status_is ∙ four) (omega arith)))
-          (course_fails _ _ runs.0 _ _ runs.1.words_are runs.1.does.peers);
-      only = rw c.finish.ensures.status_is (is_status c.finish.ensures.put _);
-      journal = λ tells five. told_no_journal runs.0 (g.S.Site.state c.args.site.now) (g.S.Site.state c.obey-ending.new.site) (runs.1.does.site tells) (status_result 5 _ _ _ _ c.finish.ensures.status_is runs.3 (omega arith) five);
-      no_journal = λ tells are none. yields_result 5 _ _ _ _ c.finish.ensures.status_is runs.3 (omega arith) (no_journal_ending c.files_are_one_thing.ensures.unmade c.files_are_one_thing.ensures.foreign c.files_are_one_thing.ensures.headed c.a_legal_history_has_no_bad_record.ensures runs.0 c.args.words.now (g.S.Site.state c.args.site.now) (g.S.Site.state c.obey-ending.new.site) are runs.1.words_are (runs.1.does.site tells) none);
-      record_is_bad = λ tells eight. told_bad_record runs.0 (g.S.Site.state c.args.site.now) (g.S.Site.state c.obey-ending.new.site) (runs.1.does.site tells) (status_result 8 _ _ _ _ c.finish.ensures.status_is runs.3 (omega arith) eight);
-      bad_record = λ tells are n bad. yields_result 8 _ _ _ _ c.finish.ensures.status_is runs.3 (omega arith) (bad_record_ending c.files_are_one_thing.ensures.unmade c.files_are_one_thing.ensures.foreign c.files_are_one_thing.ensures.headed c.a_legal_history_has_no_bad_record.ensures runs.0 c.args.words.now (g.S.Site.state c.args.site.now) (g.S.Site.state c.obey-ending.new.site) n are runs.1.words_are runs.1.does.legal (runs.1.does.site tells) bad);
-      full = λ nine. told_full runs.0 c.args.words.now runs.1.words_are (status_result 9 _ _ _ _ c.finish.ensures.status_is runs.3 (omega arith) nine);
-      refused = λ ten. told_refused runs.0 c.args.words.now runs.1.words_are (status_result 10 _ _ _ _ c.finish.ensures.status_is runs.3 (omega arith) ten);
-      taken = λ tells eleven. told_taken runs.0 c.args.words.now (g.S.Site.state c.args.site.now) (g.S.Site.state c.obey-ending.new.site) runs.1.words_are (runs.1.does.site tells) (status_result 11 _ _ _ _ c.finish.ensures.status_is runs.3 (omega arith) eleven);
-      is_taken = λ tells m are not. yields_result 11 _ _ _ _ c.finish.ensures.status_is runs.3 (omega arith) (taken_ending runs.0 c.args.words.now (g.S.Site.state c.args.site.now) (g.S.Site.state c.obey-ending.new.site) m are runs.1.words_are (runs.1.does.site tells) not);
-      sink = λ seven. lost_line _ _ _ c.finish.ensures.counts (seven_lost _ _ (sym c.finish.ensures.status_is ∙ seven)).0;
-    }
-
-pub returns-clause-complete : goal.returns-clause-complete
-returns-clause-complete g c = λ tells command are start disk door sink.
-    let runs = c.obey-ending.ensures.runs in
-    let P : ℕ → Type 0 = λ status. MayEndWith command status in
-    subst P (sym (put_result _ _ _ _ c.finish.ensures.status_is runs.3 (λ lost. sink (lost_line _ _ _ c.finish.ensures.counts lost))))
-    (complete_ending c.files_are_one_thing.ensures.unmade c.files_are_one_thing.ensures.foreign c.files_are_one_thing.ensures.headed c.a_legal_history_has_no_bad_record.ensures command runs.0 c.args.words.now (g.S.Site.state c.args.site.now) (g.S.Site.state c.obey-ending.new.site) are start runs.1.words_are (runs.1.does.site tells)
-    (λ fault. disk (one_fault _ _ (c.obey-ending.ensures.disk.rose (runs.3 ∙ fault))))
-    (λ fault. door (door_cause command c.args.words.now _ _ _ are (course_fails _ _ runs.0 _ _ runs.1.words_are runs.1.does.peers) fault)))
-
-pub returns-clause-site : goal.returns-clause-site
-returns-clause-site g c =
-    disk_as _ _ _ _ c.obey-ending.ensures.disk
-    (λ is. c.finish.ensures.status_is ∙ told_same _ _ 3 (ap status_of is) (omega arith))
-    (λ is. (told_by _).site (status_told _ _ 3 (sym c.finish.ensures.status_is ∙ is) (omega arith)))
-
-pub returns-clause-headline : goal.returns-clause-headline
-returns-clause-headline g c = λ tells m H start.
-    let runs = c.obey-ending.ensures.runs in
-    leaves_sound c.files_are_one_thing.ensures.unmade c.a_file_has_one_history.ensures c.jobs_may_end.ensures c.sound_jobs_make_sound_pairs.ensures runs.0
-    (g.S.Site.state c.args.site.now) (g.S.Site.state c.obey-ending.new.site) (runs.1.does.site tells) runs.1.does.legal m H start
-
-pub returns-clause-acknowledged : goal.returns-clause-acknowledged
-returns-clause-acknowledged g c = λ tells m H start.
-    let runs = c.obey-ending.ensures.runs in (
-      runs.0,
-      runs.1,
-      acknowledged c.files_are_one_thing.ensures.unmade c.a_file_has_one_history.ensures c.jobs_may_end.ensures c.sound_jobs_make_sound_pairs.ensures _ tells runs.0
-          _ _ (g.S.Site.state c.args.site.now) (g.S.Site.state c.obey-ending.new.site) (runs.1.does.site tells) runs.1.does.legal runs.1.does.told m H start,
-    )
-
-pub returns-clause-beginning : goal.returns-clause-beginning
-returns-clause-beginning g c = λ tells m are fresh.
-    let runs = c.obey-ending.ensures.runs in
-    leaves_fresh runs.0 c.args.words.now (g.S.Site.state c.args.site.now) (g.S.Site.state c.obey-ending.new.site) runs.1.words_are (runs.1.does.site tells) (runs.1.does.jobs tells) m are fresh

@@ -5,7 +5,7 @@ use Rattle.vnfm_commands.proofs.commands.obey.Goals as goal
 pub returns-clause-runs : goal.returns-clause-runs
 returns-clause-runs g c =
     let does = c.perform.ensures.does in
-    (does.0, record { words_are = of_words c.args.words.now c.in_ok-settings.settings does.0 c.in_ok-settings.ensures does.1; does = does.2 }, does.3, does.4)
+    (does.0, record { words_are = of_words c.args.words.now c.in_ok-settings.settings does.0 c.in_ok-settings.ensures does.1; does = does.2 }, does.3)
 
 pub returns-clause-unasked : goal.returns-clause-unasked
 returns-clause-unasked g c = λ other. c.perform.ensures.unasked (λ is. other (record { settings = c.in_ok-settings.settings; set = c.in_ok-settings.ensures; is = is }))

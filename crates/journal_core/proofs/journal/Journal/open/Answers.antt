@@ -2,7 +2,7 @@ use Rattle.std.proofs.Common.{◌∙◌, sym, ap, subst, refl, take, false, Resu
 use Rattle.std.proofs.lemmas.Result.{err_from_is_err_and}
 use Rattle.journal_core.specs.declared.loading.LoadFault.{LoadFault}
 use Rattle.journal_core.specs.declared.loading.LoadFault.TheVariants.{Memory}
-use Rattle.journal_core.specs.declared.header.Verdict.{Verdict}
+use Rattle.journal_core.specs.declared.header.HeaderState.{HeaderState}
 use Rattle.journal_core.specs.Judged.{Judged}
 use Rattle.journal_core.specs.Load.{Progress, Opened}
 use Rattle.journal_core.proofs.LoadLemmas.{loads_none, no_fault}
@@ -13,7 +13,7 @@ pub returns-in_ok-marks-in-Made-clause-opened : goal.returns-in_ok-marks-in-Made
 returns-in_ok-marks-in-Made-clause-opened g c = λ tells.
     let s = g.S.Site.state c.front_of.new.site in
     let front = c.in_ok-len.ensures.front tells in
-    let P : Verdict → Type 0 = λ v. Judged s.image v in
+    let P : HeaderState → Type 0 = λ v. Judged s.image v in
     let l : Progress = record { manager = c.in-Made.manager; count = 0; end = 32; len = c.in_ok-len.len; record_bytes = take 0 c.in_ok-buffer-in-Made.buffer.items; ended = false; marks = c.in_ok-marks-in-Made.marks.places } in
     loads_none l s front.settled (subst P c.in-Made.is front.judged) refl refl front.long (ap (λ (k : Kept). k.places) c.in_ok-marks-in-Made.ensures)
 
@@ -21,7 +21,7 @@ pub returns-in_err-marks-in-Made-clause-opened : goal.returns-in_err-marks-in-Ma
 returns-in_err-marks-in-Made-clause-opened g c = λ tells.
     let s = g.S.Site.state c.front_of.new.site in
     let front = c.in_ok-len.ensures.front tells in
-    let P : Verdict → Type 0 = λ v. Judged s.image v in
+    let P : HeaderState → Type 0 = λ v. Judged s.image v in
     let err = err_from_is_err_and c.from_residual-in_err-marks-in-Made.result c.from_residual-in_err-marks-in-Made.ensures.1 in
     let Q : Result Progress LoadFault → Type 0 = λ v. Opened v s in
     subst Q (sym (err.1 ∙ ap Err err.2)) (c.in-Made.manager, subst P c.in-Made.is front.judged)

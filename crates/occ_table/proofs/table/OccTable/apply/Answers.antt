@@ -8,7 +8,7 @@ use Rattle.lcm_events.specs.declared.attempts.Tag.{Tag}
 use Rattle.occ_table.proofs.KnownSteps.{no_deed_in}
 use Rattle.occ_table.specs.Resources.{deed_of, kept_of, used_after}
 use Rattle.occ_table.specs.Table.{Occurrences}
-use Rattle.occ_table.specs.declared.resources.Deed.{Deed}
+use Rattle.occ_table.specs.declared.resources.DoneAttempt.{DoneAttempt}
 use Rattle.occ_table.specs.Steps.{first_row, is_bringing, row_after, rows_after, update}
 use Rattle.occ_table.specs.Table.{HasRoomFor, Reserved, needs_room}
 use Rattle.occ_table.proofs.GoingLaws.{active_fit, moved_fit, unmoved}
@@ -96,7 +96,7 @@ returns-in_default c = record {
       table_after width m H c.args.e.now c.args.e.now.kind c.args.self.now c.follow_about.new.self refl wide legal allowed table
       (followed width m H c.args.e.now.moment c.args.self.now.vnfds c.args.e.now.kind c.args.self.now.rows c.follow_about.new.self.rows c.in_default.not-Asked
       c.follow_about.ensures.numbered c.follow_about.ensures.none legal allowed
-      ∙ ap (λ (d : Option Deed). rows_after c.args.self.now.vnfds c.args.e.now.moment (used_after d (kept_of c.args.self.now.resources)) c.args.e.now.kind c.args.self.now.rows)
+      ∙ ap (λ (d : Option DoneAttempt). rows_after c.args.self.now.vnfds c.args.e.now.moment (used_after d (kept_of c.args.self.now.resources)) c.args.e.now.kind c.args.self.now.rows)
       (sym (no_deed_in c.args.e.now.kind c.args.self.now.rows c.in_default.not-Settled)))
       (c.follow_about.ensures.active ∙ unmoved c.args.e.now.kind c.args.self.now.active c.in_default.not-Asked c.in_default.not-Moved)
       (c.follow_about.ensures.ongoing ∙ unengaged c.args.e.now.kind c.args.self.now.rows c.args.self.now.ongoing c.in_default.not-Created c.in_default.not-Asked c.in_default.not-Moved)

@@ -7,7 +7,7 @@ use Rattle.lcm_model.specs.Operations.{occurrence_of}
 use Rattle.occ_table.specs.Resources.{deed_of, kept_of, learned, used_after}
 use Rattle.occ_table.specs.Steps.{row_after, rows_about, update}
 use Rattle.occ_table.specs.Table.{Occurrences}
-use Rattle.occ_table.specs.declared.resources.Deed.{Deed}
+use Rattle.occ_table.specs.declared.resources.DoneAttempt.{DoneAttempt}
 use Rattle.occ_table.proofs.KnownSteps.{no_deed}
 use Rattle.occ_table.proofs.table.OccTable.follow_end.Goals as goal
 
@@ -40,11 +40,11 @@ returns-in_default c =
     record {
       rows = λ from.
           c.follow_about.ensures.numbered t.occ about from ∙ ap (λ (o : Option ℕ). rows_about o time None k old.rows) about
-          ∙ ap (λ (d : Option Deed). update (row_after time (used_after d (kept_of old.resources)) k) (t.occ - 1) old.rows) (sym nothing);
+          ∙ ap (λ (d : Option DoneAttempt). update (row_after time (used_after d (kept_of old.resources)) k) (t.occ - 1) old.rows) (sym nothing);
       active = c.follow_about.ensures.active;
       ongoing = c.follow_about.ensures.ongoing;
       vnfds = c.follow_about.ensures.vnfds;
       resources = λ i x.
-          ap (λ es. kept_of es i x) c.follow_about.ensures.resources ∙ ap (λ (d : Option Deed). learned d (kept_of old.resources) i x) (sym nothing);
+          ap (λ es. kept_of es i x) c.follow_about.ensures.resources ∙ ap (λ (d : Option DoneAttempt). learned d (kept_of old.resources) i x) (sym nothing);
       reserved = λ none. c.follow_about.ensures.reserved;
     }

@@ -1,0 +1,58 @@
+//! What the program is handed of the machine that it runs on.
+ghost use Rattle.vnfm_program.specs.Program.{Machine};
+
+use host_calls::HostFiles;
+use outside_edges::RealSite;
+use site_traits::{Clock, Courier, Orchestrator, Sink};
+use standard_streams::NullDevice;
+use std::marker::Model;
+
+/// What the program works with beside its words and its mouth.
+#[derive(Drop)]
+pub struct Machine<
+    N: NullDevice,
+    H: HostFiles,
+    Q: Orchestrator,
+    C: Courier,
+    K: Clock,
+    L: Sink,
+    E: Sink,
+> {
+    /// What opens the null device.
+    pub device: N,
+    /// What opens files.
+    pub files: H,
+    /// The journal's site, on which no file was opened yet.
+    pub site: RealSite<H::File>,
+    /// The orchestrator.
+    pub orchestrator: Q,
+    /// The courier.
+    pub courier: C,
+    /// The clock.
+    pub clock: K,
+    /// Standard output.
+    pub lines: L,
+    /// Standard error.
+    pub errors: E,
+}
+
+impl<N: NullDevice, H: HostFiles, Q: Orchestrator, C: Courier, K: Clock, L: Sink, E: Sink> Model
+    for Machine<N, H, Q, C, K, L, E> {
+    ghost use Rattle.vnfm_commands.specs.Ending.{output_of};
+    ghost use Rattle.vnfm_program.specs.Program.{Machine};
+
+    ghost Value = { Machine N H H.File };
+
+    ghost view = { λ m. record {
+      device = m.device;
+      files = m.files;
+      site = m.site;
+      orchestrator = record { state = Q.state m.orchestrator; counts = Q.counts m.orchestrator };
+      courier = record { posts = C.state m.courier; counts = C.counts m.courier };
+      clock = K.state m.clock;
+      lines = output_of L.state L.counts m.lines;
+      errors = output_of E.state E.counts m.errors;
+    } };
+
+    ghost invariant = { λ m. Unit {0} };
+}
