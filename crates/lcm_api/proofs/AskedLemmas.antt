@@ -76,7 +76,7 @@ may_ask H i role ask d judged = record {
 -- an ask that nothing refuses may be recorded, and its event fits a record
 pub asks : AskedEventsFitRecords → PlansAreExact → PlansAreSmall → (m : Managed) (H : List Event) (now i : ℕ) (role : Role) (ask : Ask) (d : Vnfd) (last : Bool) (reply : Reply) (event : Event)
     → IsLegal m.ledger.manager H → IsJudged H i ask d None → (TypedAsk ask → IsAsk ask) → NamesFew ask → event ≡ asking now (operation_asked H i role ask d)
-    → reply ≡ accepted m.ledger.manager (occurrences_made H + 1) last → IsPlanned (ask_described m.ledger.manager H now role i ask last (descriptor H i)) m H last (Records event reply)
+    → reply ≡ accepted m.ledger.manager (occurrences_made H + 1) last → IsPlanned (ask_described m.ledger.manager H now role i ask last (descriptor H i)) m H (Records event reply)
 asks fit exact small m H now i role ask d last reply event legal judged rules few event_is reply_is =
     let a : Operation = operation_asked H i role ask d in
     let may : MayAsk H a = may_ask H i role ask d judged in
@@ -96,6 +96,6 @@ asks fit exact small m H now i role ask d last reply event legal judged rules fe
 
 -- an ask that is refused adds nothing
 pub refuses : (m : Managed) (H : List Event) (now i : ℕ) (role : Role) (ask : Ask) (d : Vnfd) (last : Bool) (why : Refusal) (reply : Reply)
-    → IsJudged H i ask d (Some why) → refused_for why last ≡ told reply → IsPlanned (ask_described m.ledger.manager H now role i ask last (descriptor H i)) m H last (Told reply)
+    → IsJudged H i ask d (Some why) → refused_for why last ≡ told reply → IsPlanned (ask_described m.ledger.manager H now role i ask last (descriptor H i)) m H (Told reply)
 refuses m H now i role ask d last why reply judged is =
     ap (ask_described m.ledger.manager H now role i ask last) judged.described ∙ (ap (ask_judged m.ledger.manager H now (operation_asked H i role ask d) last) judged.judged ∙ is)

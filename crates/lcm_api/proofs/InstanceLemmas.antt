@@ -108,7 +108,7 @@ deletion_fits now n = omega arith
 -- a live instance is deleted, where nothing refuses it
 pub deletes : (m : Managed) (H : List Event) (now : ℕ) (r : Request) (row : InstanceRow) (reply : Reply) (event : Event) → Some row ≡ named_instance m.ledger.manager H (asked_id r)
     → is_live H row.number ≡ true → None ≡ delete_refusal H row.number → event ≡ deletion now row.number → reply ≡ deleted r.last
-    → IsPlanned (delete_instance m.ledger.manager H now r) m H r.last (Records event reply)
+    → IsPlanned (delete_instance m.ledger.manager H now r) m H (Records event reply)
 deletes m H now r row reply event named live accepted event_is reply_is =
     rw (event_is, reply_is) (
       ap (delete_found H now r.last) (sym named) ∙ ap (delete_judged H now row.number r.last) (sym accepted),

@@ -3,6 +3,7 @@ mod IdentLemmas
 mod InstanceLemmas
 mod ListenLemmas
 mod OccurrenceLemmas
+mod PlanLemmas
 mod StepLemmas
 mod TaskLemmas
 pub mod TellLemmas

@@ -22,7 +22,8 @@ use Rattle.occ_table.specs.declared.rows.OccRow.{OccRow}
 use Rattle.json_views.specs.Occurrence.{occurrence_id, occurrence_text}
 use Rattle.json_views.specs.Occurrences.{IsOccurrenceShowable}
 use Rattle.lcm_api.specs.Occurrences.{named_operation, occurrence_row_text, show_asked, show_row}
-use Rattle.lcm_api.specs.Replies.{Outcome, shown, told}
+use Rattle.lcm_api.specs.declared.record.Planned.{Planned}
+use Rattle.lcm_api.specs.Replies.{shown, told}
 use Rattle.lcm_api.specs.declared.reply.Reply.{Reply}
 use Rattle.lcm_api.proofs.IdentLemmas.{IsReading, agrees, differs, find_none, find_same}
 
@@ -63,7 +64,7 @@ none_of : {A B : Type 0} → (f : A → B) (x : Option A) → option_map f x ≡
 none_of f None e = refl
 none_of f (Some a) e = cc
 
-found_is : (m : ℕ) (H : List Event) (last : Bool) (n : ℕ) (r : OccRow) (o : Outcome) → occurrence H n ≡ Some r → show_row m H last n r ≡ o → show_asked m H last (operation H n) ≡ o
+found_is : (m : ℕ) (H : List Event) (last : Bool) (n : ℕ) (r : OccRow) (o : Planned) → occurrence H n ≡ Some r → show_row m H last n r ≡ o → show_asked m H last (operation H n) ≡ o
 found_is m H last n r o e shows =
     let from = mapped (row H) (operation H n) r e in
     let number : from.0.occ ≡ n = found_number (λ x. x.occ) (operations H) n from.0 from.1 in

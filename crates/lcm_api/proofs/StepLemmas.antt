@@ -60,7 +60,7 @@ creation_fits n now body is =
 -- the instance is created, if there is room for it
 pub step_creates : (m : Managed) (H : List Event) (now : ℕ) (body : CreateBody) (last : Bool) (vnfd : Vnfd) (reply : Reply) (event : Event) → descriptor_named H body.vnfd ≡ Some vnfd
     → length (live_instances H) < MAX_INSTANCES → event ≡ creation H now body
-    → reply ≡ created m.ledger.manager (instances_made H + 1) body vnfd last → IsPlanned (create_outcome m.ledger.manager H now body last) m H last (Records event reply)
+    → reply ≡ created m.ledger.manager (instances_made H + 1) body vnfd last → IsPlanned (create_outcome m.ledger.manager H now body last) m H (Records event reply)
 step_creates m H now body last vnfd reply event known room event_is reply_is =
     rw (event_is, reply_is) (
       rw (known, lt-leb MAX_INSTANCES (length (live_instances H)) room) refl,

@@ -35,9 +35,9 @@ use Rattle.occ_table.proofs.RowSteps.{row-step}
 use Rattle.occ_table.specs.Rows.{occurrence, row}
 use Rattle.occ_table.specs.Steps.{row_after}
 use Rattle.occ_table.specs.declared.rows.OccRow.{OccRow}
-use Rattle.lcm_api.specs.Occurrences.{occurrence_row_text, show_row}
+use Rattle.lcm_api.specs.Occurrences.{occurrence_row_text, show_row, shown_row}
 use Rattle.lcm_api.specs.Recording.{IsPlanned}
-use Rattle.lcm_api.specs.Replies.{Outcome, refusal, shown, told}
+use Rattle.lcm_api.specs.Replies.{refusal, shown, told}
 use Rattle.lcm_api.specs.Tasks.{task_asked, task_event, task_judged, task_kind, task_of, task_refused, task_reply, task_taken}
 use Rattle.lcm_api.specs.declared.record.Planned.TheVariants.{Records, Told}
 use Rattle.lcm_api.specs.declared.reply.Reply.{Reply}
@@ -111,7 +111,7 @@ found_is m H now n asked last a found =
 takes : (m : Managed) (H : List Event) (now n : ℕ) (asked : AskedTask) (last : Bool) (a : Operation) (reply : Reply) (event : Event) → operation H n ≡ Some a
     → task_refusal (kind_of a.ask) (state H n) (task_of asked) ≡ None → event ≡ task_event now n asked
     → reply ≡ task_reply m.ledger.manager (task_event now n asked ∷ H) asked a last
-    → IsPlanned (task_asked m.ledger.manager H now asked last (operation H n)) m H last (Records event reply)
+    → IsPlanned (task_asked m.ledger.manager H now asked last (operation H n)) m H (Records event reply)
 takes m H now n asked last a reply event found none event_is reply_is =
     let number : a.occ ≡ n = found_number (λ x. x.occ) (operations H) n a found in
     rw (event_is, reply_is) (
@@ -128,7 +128,7 @@ takes m H now n asked last a reply event found none event_is reply_is =
 -- a task that is refused adds nothing
 refuses : (m : Managed) (H : List Event) (now n : ℕ) (asked : AskedTask) (last : Bool) (a : Operation) (why : TaskRefusal) (reply : Reply) → operation H n ≡ Some a
     → task_refusal (kind_of a.ask) (state H n) (task_of asked) ≡ Some why → task_refused why last ≡ told reply
-    → IsPlanned (task_asked m.ledger.manager H now asked last (operation H n)) m H last (Told reply)
+    → IsPlanned (task_asked m.ledger.manager H now asked last (operation H n)) m H (Told reply)
 refuses m H now n asked last a why reply found some is =
     found_is m.ledger.manager H now n asked last a found ∙ (ap (task_judged m.ledger.manager H now asked a last) some ∙ is)
 
@@ -152,7 +152,7 @@ none_refuses u (Some why) told = let no = (told why).1 refl in cc
 pub takes_row : (m : Managed) (H : List Event) (now n : ℕ) (asked : AskedTask) (last : Bool) (r : OccRow) (reply : Reply) (event : Event) → occurrence H n ≡ Some r
     → task_refusal (kind_of r.ask) r.state (task_of asked) ≡ None → event ≡ task_event now n asked
     → ((a : Operation) → operation H n ≡ Some a → IsAllowed m.ledger.manager H (task_kind n asked) → reply ≡ task_reply m.ledger.manager (task_event now n asked ∷ H) asked a last)
-    → IsPlanned (task_asked m.ledger.manager H now asked last (operation H n)) m H last (Records event reply)
+    → IsPlanned (task_asked m.ledger.manager H now asked last (operation H n)) m H (Records event reply)
 takes_row m H now n asked last r reply event e none event_is reply_is =
     let it = found_row H n r e in
     let free = sym (refusal_is H n it.0 r (task_of asked) it.1 e) ∙ none in
@@ -161,7 +161,7 @@ takes_row m H now n asked last r reply event e none event_is reply_is =
 -- a task that the row refuses adds nothing
 pub refuses_row : (m : Managed) (H : List Event) (now n : ℕ) (asked : AskedTask) (last : Bool) (r : OccRow) (why : TaskRefusal) (reply : Reply) → occurrence H n ≡ Some r
     → task_refusal (kind_of r.ask) r.state (task_of asked) ≡ Some why → task_refused why last ≡ told reply
-    → IsPlanned (task_asked m.ledger.manager H now asked last (operation H n)) m H last (Told reply)
+    → IsPlanned (task_asked m.ledger.manager H now asked last (operation H n)) m H (Told reply)
 refuses_row m H now n asked last r why reply e some is =
     let it = found_row H n r e in
     refuses m H now n asked last it.0 why reply it.1 (sym (refusal_is H n it.0 r (task_of asked) it.1 e) ∙ some) is
@@ -187,17 +187,21 @@ text_stays m H now n k r = refl
 
 -- the occurrence that has failed is shown
 shows : (m : ℕ) (H : List Event) (now n : ℕ) (a : Operation) (r : OccRow) (last : Bool) → a.occ ≡ n → row (task_event now n Fail ∷ H) a ≡ r
-    → (show_row m H last n r).reply ≡ task_reply m (task_event now n Fail ∷ H) Fail a last
+    → shown_row m H last n r ≡ task_reply m (task_event now n Fail ∷ H) Fail a last
 shows m H now n a r last number is =
     ap (λ (text : List ℕ). shown text last) (text_stays m H now n n r)
-    ∙ (ap (λ (x : OccRow). (show_row m (task_event now n Fail ∷ H) last n x).reply) (sym is)
-    ∙ ap (λ (k : ℕ). (show_row m (task_event now n Fail ∷ H) last k (row (task_event now n Fail ∷ H) a)).reply) (sym number))
+    ∙ (ap (λ (x : OccRow). shown_row m (task_event now n Fail ∷ H) last n x) (sym is)
+    ∙ ap (λ (k : ℕ). shown_row m (task_event now n Fail ∷ H) last k (row (task_event now n Fail ∷ H) a)) (sym number))
+
+-- one told reply is one reply
+told_reply : (x y : Reply) → told x ≡ told y → x ≡ y
+told_reply x y same = cc
 
 pub shows_failed : {E : Type 0} (m : ℕ) (H : List Event) (now n : ℕ) (a : Operation) (r : OccRow) (last : Bool) (x : Result Reply E) → IsLegal m H → operation H n ≡ Some a → occurrence H n ≡ Some r
     → IsAllowed m H (task_kind n Fail) → IfOk x (λ reply. show_row m H last n (row_after now None (task_kind n Fail) r) ≡ told reply)
     → IfOk x (λ reply. reply ≡ task_reply m (task_event now n Fail ∷ H) Fail a last)
 shows_failed m H now n a r last (Ok reply) legal found e may told_is =
-    ap (λ (o : Outcome). o.reply) (sym told_is)
+    told_reply reply _ (sym told_is)
     ∙ shows m H now n a _ last (found_number (λ x. x.occ) (operations H) n a found) (failed_row m H now n a r legal found (row_is H n a r found e) may)
 shows_failed m H now n a r last (Err why) legal found e may told_is = tt
 

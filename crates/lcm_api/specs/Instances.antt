@@ -2,7 +2,6 @@
 -- The order of the refusals and their texts are an own rule.
 use Rattle.std.specs.Prelude.{ℕ, List, [], ◌∷◌, codes, if◌then◌else◌, Bool, false, Option, Some, None, find}
 use Rattle.std.specs.Str.{bytes_eq}
-use Rattle.executor.specs.Room.{is_full}
 use Rattle.http_wire.specs.declared.request.Request.{Request}
 use Rattle.instance_table.specs.Rows.{Rows, instance_rows, rows}
 use Rattle.instance_table.specs.declared.rows.InstanceRow.{InstanceRow}
@@ -15,12 +14,13 @@ use Rattle.lcm_model.specs.declared.refusals.Refusal.{Refusal}
 use Rattle.serde_json.specs.Written.{compact_text}
 use Rattle.lcm_routes.specs.Targets.{asks_filter, identifier_in, path_of}
 use Rattle.lcm_api.specs.Refusals.{refused_for}
-use Rattle.lcm_api.specs.Replies.{Outcome, refused, room_outcome, shown, told}
-use Rattle.lcm_api.specs.declared.record.TheConstants.{MAX_REQUESTED}
+use Rattle.lcm_api.specs.Replies.{refused, shown, told}
+use Rattle.lcm_api.specs.declared.record.Planned.{Planned}
+use Rattle.lcm_api.specs.declared.record.Planned.TheVariants.{Records}
 use Rattle.lcm_api.specs.declared.reply.Reply.{Reply}
 
 -- all live instances, in the order of their numbers; a filter isn't served (SOL 003 5.4.2.3.2)
-abbrev pub list_instances : ℕ → List Event → Request → Outcome
+abbrev pub list_instances : ℕ → List Event → Request → Planned
 list_instances m H r =
     if asks_filter r.target then refused 400 (codes "filter is not served") r.last
     else told (shown (instances_text m (rows H)) r.last)
@@ -34,7 +34,7 @@ abbrev pub named_instance : ℕ → List Event → List ℕ → Option InstanceR
 named_instance m H id = find (λ row. bytes_eq (instance_id m row.number) id) (instance_rows H)
 
 -- no live instance has the identifier (SOL 003 5.4.3)
-abbrev pub no_instance : Bool → Outcome
+abbrev pub no_instance : Bool → Planned
 no_instance last = refused 404 (codes "no such instance") last
 
 -- the text of the view of an instance of this row (SOL 003 5.5.2.2)
@@ -42,11 +42,11 @@ unfoldable pub row_text : ℕ → Rows → InstanceRow → List ℕ
 row_text m rs row = compact_text (row_value m rs row)
 
 -- the instance is shown (SOL 003 5.4.3.3.2)
-abbrev pub show_found : ℕ → List Event → Bool → Option InstanceRow → Outcome
+abbrev pub show_found : ℕ → List Event → Bool → Option InstanceRow → Planned
 show_found m H last None = no_instance last
 show_found m H last (Some row) = told (shown (row_text m (rows H) row) last)
 
-abbrev pub show_instance : ℕ → List Event → Request → Outcome
+abbrev pub show_instance : ℕ → List Event → Request → Planned
 show_instance m H r = show_found m H r.last (named_instance m H (asked_id r))
 
 -- the event of a deletion (SOL 003 5.4.3.3.5)
@@ -58,22 +58,22 @@ unfoldable pub deleted : Bool → Reply
 deleted last = record { status = 204; location = None; allow = None; problem = false; body = []; last = last }
 
 -- the deletion of this instance, by why it is refused
-abbrev pub delete_judged : List Event → ℕ → ℕ → Bool → Option Refusal → Outcome
+abbrev pub delete_judged : List Event → ℕ → ℕ → Bool → Option Refusal → Planned
 delete_judged H now n last (Some why) = refused_for why last
-delete_judged H now n last None = room_outcome (is_full MAX_REQUESTED (deletion now n ∷ H)) (deleted last) (deletion now n) last
+delete_judged H now n last None = Records (deletion now n) (deleted last)
 
 -- the instance is deleted, unless it is INSTANTIATED or an operation goes on (SOL 003 5.4.3.3.5)
-abbrev pub delete_found : List Event → ℕ → Bool → Option InstanceRow → Outcome
+abbrev pub delete_found : List Event → ℕ → Bool → Option InstanceRow → Planned
 delete_found H now last None = no_instance last
 delete_found H now last (Some row) = delete_judged H now row.number last (delete_refusal H row.number)
 
-abbrev pub delete_instance : ℕ → List Event → ℕ → Request → Outcome
+abbrev pub delete_instance : ℕ → List Event → ℕ → Request → Planned
 delete_instance m H now r = delete_found H now r.last (named_instance m H (asked_id r))
 
 -- a task of an instance that isn't served yet: its body isn't read (own rule)
-abbrev pub task_found : Bool → Option InstanceRow → Outcome
+abbrev pub task_found : Bool → Option InstanceRow → Planned
 task_found last None = no_instance last
 task_found last (Some row) = refused 404 (codes "task is not supported") last
 
-abbrev pub instance_task : ℕ → List Event → Request → Outcome
+abbrev pub instance_task : ℕ → List Event → Request → Planned
 instance_task m H r = task_found r.last (named_instance m H (asked_id r))

@@ -1,7 +1,6 @@
 -- What asking an instance for an operation comes to, and a request to instantiate one (SOL 003 5.4.4.3.1). The order of the refusals is an
 -- own rule.
 use Rattle.std.specs.Prelude.{ℕ, ◌+◌, ◌≡◌, List, [], ◌∷◌, codes, if◌then◌else◌, Bool, false, Option, Some, None, Result, Ok, Err}
-use Rattle.executor.specs.Room.{is_full}
 use Rattle.http_wire.specs.declared.request.Request.{Request}
 use Rattle.instance_table.specs.declared.rows.InstanceRow.{InstanceRow}
 use Rattle.json_views.specs.Body.{instantiate_of}
@@ -24,10 +23,11 @@ use Rattle.lcm_api.specs.Bodies.{unread}
 use Rattle.lcm_api.specs.Instances.{asked_id, named_instance, no_instance}
 use Rattle.lcm_api.specs.Media.{is_json}
 use Rattle.lcm_api.specs.Refusals.{refused_for}
-use Rattle.lcm_api.specs.Replies.{Outcome, refused, room_outcome, told}
+use Rattle.lcm_api.specs.Replies.{refused, told}
 use Rattle.lcm_api.specs.declared.instantiate.AskVerdict.{AskVerdict}
 use Rattle.lcm_api.specs.declared.instantiate.AskVerdict.TheVariants as verdict
-use Rattle.lcm_api.specs.declared.record.TheConstants.{MAX_REQUESTED}
+use Rattle.lcm_api.specs.declared.record.Planned.{Planned}
+use Rattle.lcm_api.specs.declared.record.Planned.TheVariants.{Records}
 use Rattle.lcm_api.specs.declared.reply.Reply.{Reply}
 
 -- the operation that an instance with this descriptor is asked for: the next occurrence, with its plan (SOL 003 5.4.4 to 5.4.10)
@@ -43,22 +43,22 @@ unfoldable pub accepted : ℕ → ℕ → Bool → Reply
 accepted m occ last = record { status = 202; location = Some (occurrence_path m occ); allow = None; problem = false; body = []; last = last }
 
 -- this operation is asked for, by why it is refused
-abbrev pub ask_judged : ℕ → List Event → ℕ → Operation → Bool → Option Refusal → Outcome
+abbrev pub ask_judged : ℕ → List Event → ℕ → Operation → Bool → Option Refusal → Planned
 ask_judged m H now a last (Some why) = refused_for why last
-ask_judged m H now a last None = room_outcome (is_full MAX_REQUESTED (asking now a ∷ H)) (accepted m a.occ last) (asking now a) last
+ask_judged m H now a last None = Records (asking now a) (accepted m a.occ last)
 
 -- an instance with this descriptor is asked; each that is live has one
-abbrev pub ask_described : ℕ → List Event → ℕ → Role → ℕ → Ask → Bool → Option Vnfd → Outcome
+abbrev pub ask_described : ℕ → List Event → ℕ → Role → ℕ → Ask → Bool → Option Vnfd → Planned
 ask_described m H now role i ask last None = no_instance last
 ask_described m H now role i ask last (Some d) = ask_judged m H now (operation_asked H i role ask d) last (ask_refusal d (situation d H i) ask)
 
 -- the live instance of this row is asked
-abbrev pub ask_found : ℕ → List Event → ℕ → Role → Ask → Bool → Option InstanceRow → Outcome
+abbrev pub ask_found : ℕ → List Event → ℕ → Role → Ask → Bool → Option InstanceRow → Planned
 ask_found m H now role ask last None = no_instance last
 ask_found m H now role ask last (Some row) = ask_described m H now role row.number ask last (descriptor H row.number)
 
 -- the instance that a request names is asked for this (SOL 003 5.4.4 to 5.4.10)
-abbrev pub ask_named : ℕ → List Event → ℕ → Role → Ask → Request → Outcome
+abbrev pub ask_named : ℕ → List Event → ℕ → Role → Ask → Request → Planned
 ask_named m H now role ask r = ask_found m H now role ask r.last (named_instance m H (asked_id r))
 
 -- what the body of an instantiate request asks for (SOL 003 5.5.2.4)
@@ -66,12 +66,12 @@ abbrev pub instantiation : InstantiateBody → Ask
 instantiation body = Instantiate body.flavour body.level
 
 -- an instantiate request with this body, as it is read
-abbrev pub instantiate_read : ℕ → List Event → ℕ → Role → Result InstantiateBody BodyFault → Request → Outcome
+abbrev pub instantiate_read : ℕ → List Event → ℕ → Role → Result InstantiateBody BodyFault → Request → Planned
 instantiate_read m H now role (Ok body) r = ask_named m H now role (instantiation body) r
 instantiate_read m H now role (Err fault) r = told (unread fault r.last)
 
 -- what a request to instantiate an instance comes to: its body is to be JSON
-abbrev pub instantiate : ℕ → List Event → ℕ → Role → Request → Outcome
+abbrev pub instantiate : ℕ → List Event → ℕ → Role → Request → Planned
 instantiate m H now role r =
     if is_json r.media then instantiate_read m H now role (instantiate_of r.body) r
     else refused 415 (codes "body must be application/json") r.last

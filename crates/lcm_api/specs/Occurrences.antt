@@ -15,10 +15,12 @@ use Rattle.occ_table.specs.Rows.{row, rows}
 use Rattle.occ_table.specs.declared.rows.OccRow.{OccRow}
 use Rattle.serde_json.specs.Written.{compact_text}
 use Rattle.lcm_api.specs.Instances.{asked_id}
-use Rattle.lcm_api.specs.Replies.{Outcome, refused, shown, told}
+use Rattle.lcm_api.specs.Replies.{refused, shown, told}
+use Rattle.lcm_api.specs.declared.record.Planned.{Planned}
+use Rattle.lcm_api.specs.declared.reply.Reply.{Reply}
 
 -- the occurrences, in the order of their numbers; a filter isn't served (SOL 003 5.4.12.3.2)
-abbrev pub list_occurrences : ℕ → List Event → Request → Outcome
+abbrev pub list_occurrences : ℕ → List Event → Request → Planned
 list_occurrences m H r =
     if asks_filter r.target then refused 400 (codes "filter is not served") r.last
     else told (shown (occurrences_text m (instances.rows H) (rows H)) r.last)
@@ -28,7 +30,7 @@ abbrev pub named_operation : ℕ → List Event → List ℕ → Option Operatio
 named_operation m H id = find (λ a. bytes_eq (occurrence_id m a.occ) id) (operations H)
 
 -- no occurrence has the identifier (SOL 003 5.4.13)
-abbrev pub no_occurrence : Bool → Outcome
+abbrev pub no_occurrence : Bool → Planned
 no_occurrence last = refused 404 (codes "no such occurrence") last
 
 -- the text of the view of occurrence n, of this row (SOL 003 5.5.2.13)
@@ -36,13 +38,16 @@ unfoldable pub occurrence_row_text : ℕ → Rows → ℕ → OccRow → List �
 occurrence_row_text m rs n r = compact_text (occurrence_row m rs n r)
 
 -- occurrence n, of this row, is shown (SOL 003 5.4.13.3.2)
-abbrev pub show_row : ℕ → List Event → Bool → ℕ → OccRow → Outcome
-show_row m H last n r = told (shown (occurrence_row_text m (instances.rows H) n r) last)
+abbrev pub shown_row : ℕ → List Event → Bool → ℕ → OccRow → Reply
+shown_row m H last n r = shown (occurrence_row_text m (instances.rows H) n r) last
+
+abbrev pub show_row : ℕ → List Event → Bool → ℕ → OccRow → Planned
+show_row m H last n r = told (shown_row m H last n r)
 
 -- the occurrence of an operation is shown
-abbrev pub show_asked : ℕ → List Event → Bool → Option Operation → Outcome
+abbrev pub show_asked : ℕ → List Event → Bool → Option Operation → Planned
 show_asked m H last None = no_occurrence last
 show_asked m H last (Some a) = show_row m H last a.occ (row H a)
 
-abbrev pub show_occurrence : ℕ → List Event → Request → Outcome
+abbrev pub show_occurrence : ℕ → List Event → Request → Planned
 show_occurrence m H r = show_asked m H r.last (named_operation m H (asked_id r))

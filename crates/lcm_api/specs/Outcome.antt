@@ -7,7 +7,8 @@ use Rattle.lcm_api.specs.Creating.{create_instance}
 use Rattle.lcm_api.specs.Instances.{delete_instance, instance_task, list_instances, show_instance}
 use Rattle.lcm_api.specs.Instantiating.{instantiate}
 use Rattle.lcm_api.specs.Occurrences.{list_occurrences, show_occurrence}
-use Rattle.lcm_api.specs.Replies.{Outcome, refused, told}
+use Rattle.lcm_api.specs.Replies.{Outcome, in_room, refused, told}
+use Rattle.lcm_api.specs.declared.record.Planned.{Planned}
 use Rattle.lcm_api.specs.Routes.{not_allowed, routing}
 use Rattle.lcm_api.specs.Tasks.{occurrence_task}
 use Rattle.lcm_api.specs.declared.route.Route.{Route}
@@ -15,8 +16,8 @@ use Rattle.lcm_api.specs.declared.route.Route.TheVariants.{ListInstances, Create
 use Rattle.lcm_api.specs.declared.route.Routing.{Routing}
 use Rattle.lcm_api.specs.declared.route.Routing.TheVariants.{Nowhere, NotAllowed, Served}
 
--- what a request on this route comes to
-abbrev pub served : Route → ℕ → List Event → ℕ → Role → Request → Outcome
+-- what a request on this route comes to, where there is room for its event
+abbrev pub served : Route → ℕ → List Event → ℕ → Role → Request → Planned
 served ListInstances m H now role r = list_instances m H r
 served CreateInstance m H now role r = create_instance m H now r
 served ShowInstance m H now role r = show_instance m H r
@@ -27,8 +28,8 @@ served ListOccurrences m H now role r = list_occurrences m H r
 served ShowOccurrence m H now role r = show_occurrence m H r
 served (OccurrenceTask task) m H now role r = occurrence_task m H now task r
 
--- what a request that goes there comes to
-abbrev pub routed : Routing → ℕ → List Event → ℕ → Role → Request → Outcome
+-- what a request that goes there comes to, where there is room for its event
+abbrev pub routed : Routing → ℕ → List Event → ℕ → Role → Request → Planned
 routed Nowhere m H now role r = refused 404 (codes "no such resource") r.last
 routed (NotAllowed x) m H now role r = told (not_allowed x r.last)
 routed (Served route) m H now role r = served route m H now role r
@@ -36,4 +37,4 @@ routed (Served route) m H now role r = served route m H now role r
 -- What a request of this role comes to, after history H of manager m, taken at this moment. The connection ends with the reply where it ends
 -- with the request (RFC 9112 9.6).
 abbrev pub outcome : ℕ → List Event → ℕ → Role → Request → Outcome
-outcome m H now role r = routed (routing r) m H now role r
+outcome m H now role r = in_room H r.last (routed (routing r) m H now role r)

@@ -3,7 +3,8 @@
 use Rattle.std.specs.Prelude.{ℕ, List, Bool, codes}
 use Rattle.lcm_model.specs.declared.refusals.Refusal.{Refusal}
 use Rattle.lcm_model.specs.declared.refusals.Refusal.TheVariants.{UnknownFlavour, UnknownLevel, UnknownAspect, NoSteps, AspectTwice, LevelAboveMaximum, Instantiated, NotInstantiated, Ongoing, OutOfStep, Stopped, BelowZero, AboveMaximum, UnknownVnfc, NothingToDo, AboveProfile, TooManyResources}
-use Rattle.lcm_api.specs.Replies.{Outcome, refused}
+use Rattle.lcm_api.specs.Replies.{refused}
+use Rattle.lcm_api.specs.declared.record.Planned.{Planned}
 
 -- the status: 409 for the state of an instance, 507 for what is too large, 422 for all else
 abbrev pub refusal_status : Refusal → ℕ
@@ -36,5 +37,5 @@ refusal_text AboveProfile = codes "instances above the maximum of the VDU"
 refusal_text TooManyResources = codes "too many resources"
 
 -- a request that is refused for this
-abbrev pub refused_for : Refusal → Bool → Outcome
+abbrev pub refused_for : Refusal → Bool → Planned
 refused_for why last = refused (refusal_status why) (refusal_text why) last

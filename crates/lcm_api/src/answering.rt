@@ -1,14 +1,17 @@
 //! Answering one request: its reply, and at most one event, which is on the disk before the reply is given.
-ghost use Rattle.std.specs.Prelude.{◌≡◌, List, IfOk};
+ghost use Rattle.std.specs.Prelude.{◌≡◌, List, IfOk, false};
 ghost use Rattle.executor.specs.Managed.{IsReady, Keeps};
 ghost use Rattle.executor.specs.Work.{Works};
 ghost use Rattle.lcm_api.specs.Answering.{answered};
-ghost use Rattle.lcm_api.specs.Outcome.{outcome};
+ghost use Rattle.lcm_api.specs.Outcome.{outcome, routed, served};
+ghost use Rattle.lcm_api.specs.Recording.{IsPlanned};
+ghost use Rattle.lcm_api.specs.Routes.{routing};
 ghost use Rattle.lcm_events.specs.declared.events.Event.{Event};
 ghost use Rattle.site_traits.specs.Counts.{OnlyDiskFails};
 
 use crate::create::create;
 use crate::instantiate::instantiate;
+use crate::record::{Planned, carry_out};
 use crate::reply::{Reply, refusal};
 use crate::route::{Route, Routing, not_allowed, route_of};
 use crate::{instances, occurrences, tasks};
@@ -53,24 +56,57 @@ pub fn answer<S: Site>(
     ensures counts { OnlyDiskFails (result ≡ Err ApiFault.Disk) (S.counts site.old) (S.counts site.new) }
 {
     works_add_up::<S>();
+    let planned = plan(alloc, manager, routes, role, request, now)?;
+    carry_out(alloc, manager, site, planned, request.last)
+}
+
+/// What a request of this role comes to, taken at this moment, before it is known whether there is room for its event.
+fn plan<S: Site>(
+    alloc: Global,
+    manager: &Manager<S>,
+    routes: &Routes,
+    role: Role,
+    request: &Request,
+    now: Moment,
+) -> Result<Planned, AllocError>
+    requires usable { manager.now.ledger.closed ≡ false }
+    requires kept { (H : List Event) × Keeps manager.now H }
+    ensures { (H : List Event) → Keeps manager.now H → IfOk result (IsPlanned (routed (routing request.now) manager.now.ledger.manager H now role request.now) manager.now H) }
+{
     match route_of(routes, request) {
-        Routing::Nowhere => Ok(refusal(alloc, 404, "no such resource", request.last)?),
-        Routing::NotAllowed(resource) => Ok(not_allowed(alloc, resource, request.last)?),
-        Routing::Served(Route::ListInstances) => Ok(instances::list(alloc, manager, request)?),
-        Routing::Served(Route::CreateInstance) => create(alloc, manager, site, request, now),
-        Routing::Served(Route::ShowInstance) => Ok(instances::show(alloc, manager, request)?),
-        Routing::Served(Route::DeleteInstance) => {
-            instances::delete(alloc, manager, site, request, now)
+        Routing::Nowhere => {
+            Ok(Planned::Told(refusal(alloc, 404, "no such resource", request.last)?))
         }
-        Routing::Served(Route::Instantiate) => {
-            instantiate(alloc, manager, site, role, request, now)
+        Routing::NotAllowed(resource) => {
+            Ok(Planned::Told(not_allowed(alloc, resource, request.last)?))
         }
-        Routing::Served(Route::InstanceTask) => Ok(instances::task(alloc, manager, request)?),
-        Routing::Served(Route::ListOccurrences) => Ok(occurrences::list(alloc, manager, request)?),
-        Routing::Served(Route::ShowOccurrence) => Ok(occurrences::show(alloc, manager, request)?),
-        Routing::Served(Route::OccurrenceTask(task)) => {
-            tasks::task(alloc, manager, site, task, request, now)
-        }
+        Routing::Served(route) => plan_on(alloc, manager, route, role, request, now),
+    }
+}
+
+/// What a request on this route comes to, before it is known whether there is room for its event.
+fn plan_on<S: Site>(
+    alloc: Global,
+    manager: &Manager<S>,
+    route: Route,
+    role: Role,
+    request: &Request,
+    now: Moment,
+) -> Result<Planned, AllocError>
+    requires usable { manager.now.ledger.closed ≡ false }
+    requires kept { (H : List Event) × Keeps manager.now H }
+    ensures { (H : List Event) → Keeps manager.now H → IfOk result (IsPlanned (served route manager.now.ledger.manager H now role request.now) manager.now H) }
+{
+    match route {
+        Route::ListInstances => instances::list(alloc, manager, request),
+        Route::CreateInstance => create(alloc, manager, request, now),
+        Route::ShowInstance => instances::show(alloc, manager, request),
+        Route::DeleteInstance => instances::delete(alloc, manager, request, now),
+        Route::Instantiate => instantiate(alloc, manager, role, request, now),
+        Route::InstanceTask => instances::task(alloc, manager, request),
+        Route::ListOccurrences => occurrences::list(alloc, manager, request),
+        Route::ShowOccurrence => occurrences::show(alloc, manager, request),
+        Route::OccurrenceTask(task) => tasks::task(alloc, manager, task, request, now),
     }
 }
 

@@ -2,21 +2,17 @@
 ghost use Rattle.std.specs.Prelude.{◌≡◌, List, IfOk, false};
 ghost use Rattle.lcm_events.specs.declared.events.Event.{Event};
 ghost use Rattle.lcm_events.specs.declared.events.EventKind.TheVariants.{Created};
-ghost use Rattle.site_traits.specs.Counts.{OnlyDiskFails};
-ghost use Rattle.executor.specs.Managed.{IsReady, Keeps};
-ghost use Rattle.executor.specs.Work.{Works};
-ghost use Rattle.lcm_api.specs.Answering.{answered};
+ghost use Rattle.executor.specs.Managed.{Keeps};
 ghost use Rattle.lcm_api.specs.Creating.{create_instance, create_outcome, created};
 ghost use Rattle.lcm_api.specs.Judging.{IsCreateVerdict};
 ghost use Rattle.lcm_api.specs.Recording.{IsPlanned};
 ghost use Rattle.vnfm_base.specs.Ident.{IsIdentNumber};
 
-use crate::answering::ApiFault;
 use crate::bodies::refused_body;
 use crate::media::is_json;
-use crate::record::{Planned, carry_out};
+use crate::record::Planned;
 use crate::reply::{Reply, location, refusal};
-use executor::{Manager, works_add_up};
+use executor::Manager;
 use http_wire::Request;
 use json_views::{CreateBody, created_view, instance_path, read_create};
 use lcm_events::{Event, EventKind, Vnfd};
@@ -27,28 +23,23 @@ use vnfm_base::{Kind, Moment};
 /// Instances that may be live at one time.
 pub const MAX_INSTANCES: u64 = 1_000;
 
-/// Answers a request that creates an instance.
+/// What a request that creates an instance comes to, where there is room for its event.
 ///
-/// Refusals of the request are replies, in this order: 415 for its media type, 400 for its body, 422 for a descriptor that wasn't onboarded, 507 for too many
-/// instances or a full journal. Refusals of the call: `Memory`, after which nothing has changed; `Disk`, after which the manager is closed.
+/// Refusals of the request are replies, in this order: 415 for its media type, 400 for its body, 422 for a descriptor that wasn't onboarded,
+/// 507 for too many instances. The call's one refusal is want of memory.
 /// Source: SOL 003 5.4.2.3.1.
 pub fn create<S: Site>(
     alloc: Global,
-    manager: &mut Manager<S>,
-    site: &mut S,
+    manager: &Manager<S>,
     request: &Request,
     now: Moment,
-) -> Result<Reply, ApiFault>
-    requires ready { (H : List Event) × IsReady S.tells manager.old H (S.state site.old) }
-    ensures reply { (H : List Event) → Keeps manager.old H → IfOk result (λ given. given ≡ (create_instance manager.old.ledger.manager H now request.now).reply) }
-    ensures works { (H : List Event) → IsReady S.tells manager.old H (S.state site.old) → Works S.tells manager.old.ledger.manager H
-        (answered (create_instance manager.old.ledger.manager H now request.now) H result) manager.new (S.state site.old) (S.state site.new) }
-    ensures counts { OnlyDiskFails (result ≡ Err ApiFault.Disk) (S.counts site.old) (S.counts site.new) }
+) -> Result<Planned, AllocError>
+    requires usable { manager.now.ledger.closed ≡ false }
+    ensures { (H : List Event) → Keeps manager.now H → IfOk result (IsPlanned (create_instance manager.now.ledger.manager H now request.now) manager.now H) }
 {
-    works_add_up::<S>();
     match judge(alloc, request)? {
-        CreateVerdict::Refused(reply) => Ok(reply),
-        CreateVerdict::Create(body) => create_as(alloc, manager, site, body, now, request.last),
+        CreateVerdict::Refused(reply) => Ok(Planned::Told(reply)),
+        CreateVerdict::Create(body) => create_as(alloc, manager, body, now, request.last),
     }
 }
 
@@ -75,28 +66,8 @@ fn judge(alloc: Global, request: &Request) -> Result<CreateVerdict, AllocError>
     }
 }
 
-/// Creates an instance of this body.
+/// What a create request with this body comes to.
 fn create_as<S: Site>(
-    alloc: Global,
-    manager: &mut Manager<S>,
-    site: &mut S,
-    body: CreateBody,
-    now: Moment,
-    last: bool,
-) -> Result<Reply, ApiFault>
-    requires ready { (H : List Event) × IsReady S.tells manager.old H (S.state site.old) }
-    ensures reply { (H : List Event) → Keeps manager.old H → IfOk result (λ given. given ≡ (create_outcome manager.old.ledger.manager H now body last).reply) }
-    ensures works { (H : List Event) → IsReady S.tells manager.old H (S.state site.old) → Works S.tells manager.old.ledger.manager H
-        (answered (create_outcome manager.old.ledger.manager H now body last) H result) manager.new (S.state site.old) (S.state site.new) }
-    ensures counts { OnlyDiskFails (result ≡ Err ApiFault.Disk) (S.counts site.old) (S.counts site.new) }
-{
-    works_add_up::<S>();
-    let planned = prepare(alloc, manager, body, now, last)?;
-    carry_out(alloc, manager, site, planned, last)
-}
-
-/// What a create request with this body comes to, before it is known whether there is room for it.
-fn prepare<S: Site>(
     alloc: Global,
     manager: &Manager<S>,
     body: CreateBody,
@@ -104,7 +75,7 @@ fn prepare<S: Site>(
     last: bool,
 ) -> Result<Planned, AllocError>
     requires usable { manager.now.ledger.closed ≡ false }
-    ensures planned { (H : List Event) → Keeps manager.now H → IfOk result (IsPlanned (create_outcome manager.now.ledger.manager H now body last) manager.now H last) }
+    ensures { (H : List Event) → Keeps manager.now H → IfOk result (IsPlanned (create_outcome manager.now.ledger.manager H now body last) manager.now H) }
 {
     let Some(vnfd) = manager.vnfd(&body.vnfd) else {
         return Ok(Planned::Told(refusal(alloc, 422, "vnfdId is not onboarded", last)?));

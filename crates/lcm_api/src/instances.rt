@@ -1,21 +1,17 @@
 //! Listing, showing and deleting instances, and tasks of an instance that aren't served yet.
 ghost use Rattle.std.specs.Prelude.{◌≡◌, List, IfOk, IfSome, Some, true, false, option_copied};
 ghost use Rattle.lcm_events.specs.declared.events.Event.{Event};
-ghost use Rattle.site_traits.specs.Counts.{OnlyDiskFails};
-ghost use Rattle.executor.specs.Managed.{IsReady, Keeps};
-ghost use Rattle.executor.specs.Work.{Works};
+ghost use Rattle.executor.specs.Managed.{Keeps};
 ghost use Rattle.instance_table.specs.Rows.{rows};
 ghost use Rattle.json_views.specs.Instances.{IsShowable};
-ghost use Rattle.lcm_api.specs.Answering.{answered};
 ghost use Rattle.lcm_api.specs.Instances.{asked_id, delete_found, delete_instance, deleted, deletion, instance_task, list_instances, named_instance, no_instance, row_text, show_found, show_instance, task_found};
 ghost use Rattle.lcm_api.specs.Recording.{IsPlanned};
 ghost use Rattle.lcm_api.specs.Replies.{told};
 ghost use Rattle.lcm_model.specs.Lives.{is_live};
 
-use crate::answering::ApiFault;
-use crate::record::{Planned, carry_out};
+use crate::record::Planned;
 use crate::reply::{Reply, refusal, refusal_for, shown};
-use executor::{Manager, works_add_up};
+use executor::Manager;
 use http_wire::Request;
 use instance_table::InstanceRow;
 use json_views::{instance_view, instances_view, legal_rows_can_be_shown};
@@ -32,17 +28,17 @@ pub fn list<S: Site>(
     alloc: Global,
     manager: &Manager<S>,
     request: &Request,
-) -> Result<Reply, AllocError>
+) -> Result<Planned, AllocError>
     requires usable { manager.now.ledger.closed ≡ false }
     requires kept { (H : List Event) × Keeps manager.now H }
-    ensures { (H : List Event) → Keeps manager.now H → IfOk result (λ reply. list_instances manager.now.ledger.manager H request.now ≡ told reply) }
+    ensures { (H : List Event) → Keeps manager.now H → IfOk result (IsPlanned (list_instances manager.now.ledger.manager H request.now) manager.now H) }
 {
     legal_rows_can_be_shown();
     if asks_filter(request.target.as_str()) {
-        return refusal(alloc, 400, "filter is not served", request.last);
+        return Ok(Planned::Told(refusal(alloc, 400, "filter is not served", request.last)?));
     }
     let body = instances_view(alloc, manager.number(), manager.instances())?;
-    Ok(shown(body, request.last))
+    Ok(Planned::Told(shown(body, request.last)))
 }
 
 /// Shows an instance.
@@ -52,15 +48,16 @@ pub fn show<S: Site>(
     alloc: Global,
     manager: &Manager<S>,
     request: &Request,
-) -> Result<Reply, AllocError>
+) -> Result<Planned, AllocError>
     requires usable { manager.now.ledger.closed ≡ false }
     requires kept { (H : List Event) × Keeps manager.now H }
-    ensures { (H : List Event) → Keeps manager.now H → IfOk result (λ reply. show_instance manager.now.ledger.manager H request.now ≡ told reply) }
+    ensures { (H : List Event) → Keeps manager.now H → IfOk result (IsPlanned (show_instance manager.now.ledger.manager H request.now) manager.now H) }
 {
-    match named_instance(manager, asked_id(request)) {
-        Some(row) => show_row(alloc, manager, row, request.last),
-        None => no_instance(alloc, request.last),
-    }
+    let reply = match named_instance(manager, asked_id(request)) {
+        Some(row) => show_row(alloc, manager, row, request.last)?,
+        None => no_instance(alloc, request.last)?,
+    };
+    Ok(Planned::Told(reply))
 }
 
 /// Refuses a task of an instance that isn't served yet. Its body isn't read.
@@ -70,48 +67,29 @@ pub fn task<S: Site>(
     alloc: Global,
     manager: &Manager<S>,
     request: &Request,
-) -> Result<Reply, AllocError>
+) -> Result<Planned, AllocError>
     requires usable { manager.now.ledger.closed ≡ false }
-    ensures { (H : List Event) → Keeps manager.now H → IfOk result (λ reply. instance_task manager.now.ledger.manager H request.now ≡ told reply) }
+    ensures { (H : List Event) → Keeps manager.now H → IfOk result (IsPlanned (instance_task manager.now.ledger.manager H request.now) manager.now H) }
 {
     match named_instance(manager, asked_id(request)) {
-        Some(_) => refusal(alloc, 404, "task is not supported", request.last),
-        None => no_instance(alloc, request.last),
+        Some(_) => Ok(Planned::Told(refusal(alloc, 404, "task is not supported", request.last)?)),
+        None => Ok(Planned::Told(no_instance(alloc, request.last)?)),
     }
 }
 
-/// Deletes an instance.
+/// What a request to delete an instance comes to, where there is room for its event.
 ///
-/// Refusals of the request are replies, in this order: 404 for the instance, 409 where it is INSTANTIATED or an operation goes on, 507 for
-/// a full journal. Refusals of the call: `Memory`, after which nothing has changed; `Disk`, after which the manager is closed.
+/// Refusals of the request are replies, in this order: 404 for the instance, 409 where it is INSTANTIATED or an operation goes on. The
+/// call's one refusal is want of memory.
 /// Source: SOL 003 5.4.3.3.5.
 pub fn delete<S: Site>(
-    alloc: Global,
-    manager: &mut Manager<S>,
-    site: &mut S,
-    request: &Request,
-    now: Moment,
-) -> Result<Reply, ApiFault>
-    requires ready { (H : List Event) × IsReady S.tells manager.old H (S.state site.old) }
-    ensures reply { (H : List Event) → Keeps manager.old H → IfOk result (λ given. given ≡ (delete_instance manager.old.ledger.manager H now request.now).reply) }
-    ensures works { (H : List Event) → IsReady S.tells manager.old H (S.state site.old) → Works S.tells manager.old.ledger.manager H
-        (answered (delete_instance manager.old.ledger.manager H now request.now) H result) manager.new (S.state site.old) (S.state site.new) }
-    ensures counts { OnlyDiskFails (result ≡ Err ApiFault.Disk) (S.counts site.old) (S.counts site.new) }
-{
-    works_add_up::<S>();
-    let planned = plan_deletion(alloc, manager, request, now)?;
-    carry_out(alloc, manager, site, planned, request.last)
-}
-
-/// What a request to delete an instance comes to, before it is known whether there is room for its event.
-fn plan_deletion<S: Site>(
     alloc: Global,
     manager: &Manager<S>,
     request: &Request,
     now: Moment,
 ) -> Result<Planned, AllocError>
     requires usable { manager.now.ledger.closed ≡ false }
-    ensures { (H : List Event) → Keeps manager.now H → IfOk result (IsPlanned (delete_instance manager.now.ledger.manager H now request.now) manager.now H request.now.last) }
+    ensures { (H : List Event) → Keeps manager.now H → IfOk result (IsPlanned (delete_instance manager.now.ledger.manager H now request.now) manager.now H) }
 {
     let Some(row) = named_instance(manager, asked_id(request)) else {
         return Ok(Planned::Told(no_instance(alloc, request.last)?));

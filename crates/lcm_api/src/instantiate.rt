@@ -2,26 +2,22 @@
 ghost use Rattle.std.specs.Prelude.{◌≡◌, List, IfOk, false, true};
 ghost use Rattle.lcm_events.specs.declared.events.Event.{Event};
 ghost use Rattle.lcm_events.specs.declared.events.Operation.{Operation};
-ghost use Rattle.site_traits.specs.Counts.{OnlyDiskFails};
 ghost use Rattle.event_codec.specs.Typed.{TypedAsk};
 ghost use Rattle.event_codec.specs.Valid.{IsAsk};
-ghost use Rattle.executor.specs.Managed.{IsReady, Keeps};
-ghost use Rattle.executor.specs.Work.{Works};
-ghost use Rattle.lcm_api.specs.Answering.{answered};
+ghost use Rattle.executor.specs.Managed.{Keeps};
 ghost use Rattle.lcm_api.specs.Instantiating.{IsAskVerdict, accepted, ask_described, ask_named, asking, instantiate, instantiation};
 ghost use Rattle.lcm_api.specs.Recording.{IsPlanned};
 ghost use Rattle.change_planner.specs.Records.{NamesFew};
 ghost use Rattle.lcm_model.specs.Lives.{descriptor, is_live};
 ghost use Rattle.vnfm_base.specs.Ident.{IsIdentNumber};
 
-use crate::answering::ApiFault;
 use crate::bodies::refused_body;
 use crate::instances::{asked_id, named_instance, no_instance};
 use crate::media::is_json;
-use crate::record::{Planned, carry_out};
+use crate::record::Planned;
 use crate::reply::{Reply, location, refusal, refusal_for};
 use change_planner::asked_events_fit_records;
-use executor::{AskFault, Manager, works_add_up};
+use executor::{AskFault, Manager};
 use http_wire::Request;
 use json_views::{InstantiateBody, occurrence_path, read_instantiate};
 use lcm_events::{Ask, Event, EventKind, Operation, Role};
@@ -30,31 +26,26 @@ use site_traits::Site;
 use std::alloc::{AllocError, Global};
 use vnfm_base::{Bytes, Moment};
 
-/// Answers a request of this role to instantiate an instance: the operation is recorded with its plan, and its occurrence is STARTING.
+/// What a request of this role to instantiate an instance comes to, where there is room for its event: the operation is recorded with its
+/// plan, and its occurrence is STARTING.
 ///
 /// Refusals of the request are replies, in this order: 415 for its media type, 400 for its body, 404 for the instance, 422 for a flavour or
 /// an instantiation level that the descriptor hasn't, 409 where it is INSTANTIATED or an operation goes on, 422 for more machines than a
-/// VDU may have, 507 for too many resources or a full journal. Refusals of the call: `Memory`, after which nothing has changed; `Disk`, after
-/// which the manager is closed.
+/// VDU may have, 507 for too many resources. The call's one refusal is want of memory.
 /// Source: SOL 003 5.4.4.3.1.
 pub fn instantiate<S: Site>(
     alloc: Global,
-    manager: &mut Manager<S>,
-    site: &mut S,
+    manager: &Manager<S>,
     role: Role,
     request: &Request,
     now: Moment,
-) -> Result<Reply, ApiFault>
-    requires ready { (H : List Event) × IsReady S.tells manager.old H (S.state site.old) }
-    ensures reply { (H : List Event) → Keeps manager.old H → IfOk result (λ given. given ≡ (instantiate manager.old.ledger.manager H now role request.now).reply) }
-    ensures works { (H : List Event) → IsReady S.tells manager.old H (S.state site.old) → Works S.tells manager.old.ledger.manager H
-        (answered (instantiate manager.old.ledger.manager H now role request.now) H result) manager.new (S.state site.old) (S.state site.new) }
-    ensures counts { OnlyDiskFails (result ≡ Err ApiFault.Disk) (S.counts site.old) (S.counts site.new) }
+) -> Result<Planned, AllocError>
+    requires usable { manager.now.ledger.closed ≡ false }
+    ensures { (H : List Event) → Keeps manager.now H → IfOk result (IsPlanned (instantiate manager.now.ledger.manager H now role request.now) manager.now H) }
 {
-    works_add_up::<S>();
     match judge(alloc, request)? {
-        AskVerdict::Refused(reply) => Ok(reply),
-        AskVerdict::Asks(body) => instantiate_as(alloc, manager, site, role, request, &body, now),
+        AskVerdict::Refused(reply) => Ok(Planned::Told(reply)),
+        AskVerdict::Asks(body) => ask(alloc, manager, role, request, instantiation(&body), now),
     }
 }
 
@@ -81,27 +72,6 @@ fn judge(alloc: Global, request: &Request) -> Result<AskVerdict, AllocError>
     }
 }
 
-/// Instantiates the instance that the request names, as this body says.
-fn instantiate_as<S: Site>(
-    alloc: Global,
-    manager: &mut Manager<S>,
-    site: &mut S,
-    role: Role,
-    request: &Request,
-    body: &InstantiateBody,
-    now: Moment,
-) -> Result<Reply, ApiFault>
-    requires ready { (H : List Event) × IsReady S.tells manager.old H (S.state site.old) }
-    ensures reply { (H : List Event) → Keeps manager.old H → IfOk result (λ given. given ≡ (ask_named manager.old.ledger.manager H now role (instantiation body.now) request.now).reply) }
-    ensures works { (H : List Event) → IsReady S.tells manager.old H (S.state site.old) → Works S.tells manager.old.ledger.manager H
-        (answered (ask_named manager.old.ledger.manager H now role (instantiation body.now) request.now) H result) manager.new (S.state site.old) (S.state site.new) }
-    ensures counts { OnlyDiskFails (result ≡ Err ApiFault.Disk) (S.counts site.old) (S.counts site.new) }
-{
-    works_add_up::<S>();
-    let planned = prepare(alloc, manager, role, request, instantiation(body), now)?;
-    carry_out(alloc, manager, site, planned, request.last)
-}
-
 /// What the body of an instantiate request asks for.
 fn instantiation(body: &InstantiateBody) -> Ask
     ensures ask { result ≡ instantiation body.now }
@@ -114,8 +84,8 @@ fn instantiation(body: &InstantiateBody) -> Ask
     }
 }
 
-/// What asking the instance that a request names comes to, before it is known whether there is room for the event.
-fn prepare<S: Site>(
+/// What asking the instance that a request names comes to.
+fn ask<S: Site>(
     alloc: Global,
     manager: &Manager<S>,
     role: Role,
@@ -126,16 +96,16 @@ fn prepare<S: Site>(
     requires usable { manager.now.ledger.closed ≡ false }
     requires rules { TypedAsk ask → IsAsk ask }
     requires few { NamesFew ask }
-    ensures planned { (H : List Event) → Keeps manager.now H → IfOk result (IsPlanned (ask_named manager.now.ledger.manager H now role ask request.now) manager.now H request.now.last) }
+    ensures { (H : List Event) → Keeps manager.now H → IfOk result (IsPlanned (ask_named manager.now.ledger.manager H now role ask request.now) manager.now H) }
 {
     let Some(row) = named_instance(manager, asked_id(request)) else {
         return Ok(Planned::Told(no_instance(alloc, request.last)?));
     };
-    prepare_of(alloc, manager, role, row.number, ask, now, request.last)
+    ask_number(alloc, manager, role, row.number, ask, now, request.last)
 }
 
-/// What asking the live instance of this number comes to, before it is known whether there is room for the event.
-fn prepare_of<S: Site>(
+/// What asking the live instance of this number comes to.
+fn ask_number<S: Site>(
     alloc: Global,
     manager: &Manager<S>,
     role: Role,
@@ -147,8 +117,8 @@ fn prepare_of<S: Site>(
     requires usable { manager.now.ledger.closed ≡ false }
     requires rules { TypedAsk ask → IsAsk ask }
     requires few { NamesFew ask }
-    ensures planned { (H : List Event) → Keeps manager.now H → is_live H instance ≡ true
-        → IfOk result (IsPlanned (ask_described manager.now.ledger.manager H now role instance ask last (descriptor H instance)) manager.now H last) }
+    ensures { (H : List Event) → Keeps manager.now H → is_live H instance ≡ true
+        → IfOk result (IsPlanned (ask_described manager.now.ledger.manager H now role instance ask last (descriptor H instance)) manager.now H) }
 {
     asked_events_fit_records();
     plans_are_exact();

@@ -5,10 +5,12 @@ ghost use Rattle.executor.specs.Managed.{Keeps};
 ghost use Rattle.instance_table.specs.Rows.{rows};
 ghost use Rattle.json_views.specs.Occurrences.{IsOccurrenceShowable};
 ghost use Rattle.lcm_api.specs.Occurrences.{list_occurrences, named_operation, no_occurrence, show_asked, show_occurrence, show_row};
+ghost use Rattle.lcm_api.specs.Recording.{IsPlanned};
 ghost use Rattle.lcm_api.specs.Replies.{told};
 ghost use Rattle.lcm_model.specs.Operations.{operation};
 
 use crate::instances::asked_id;
+use crate::record::Planned;
 use crate::reply::{Reply, refusal, shown};
 use executor::Manager;
 use http_wire::Request;
@@ -26,14 +28,14 @@ pub fn list<S: Site>(
     alloc: Global,
     manager: &Manager<S>,
     request: &Request,
-) -> Result<Reply, AllocError>
+) -> Result<Planned, AllocError>
     requires usable { manager.now.ledger.closed ≡ false }
     requires kept { (H : List Event) × Keeps manager.now H }
-    ensures { (H : List Event) → Keeps manager.now H → IfOk result (λ reply. list_occurrences manager.now.ledger.manager H request.now ≡ told reply) }
+    ensures { (H : List Event) → Keeps manager.now H → IfOk result (IsPlanned (list_occurrences manager.now.ledger.manager H request.now) manager.now H) }
 {
     legal_occurrences_can_be_shown();
     if asks_filter(request.target.as_str()) {
-        return refusal(alloc, 400, "filter is not served", request.last);
+        return Ok(Planned::Told(refusal(alloc, 400, "filter is not served", request.last)?));
     }
     let body = occurrences_view(
         alloc,
@@ -41,7 +43,7 @@ pub fn list<S: Site>(
         manager.instances(),
         manager.occurrences(),
     )?;
-    Ok(shown(body, request.last))
+    Ok(Planned::Told(shown(body, request.last)))
 }
 
 /// Shows an occurrence.
@@ -51,15 +53,16 @@ pub fn show<S: Site>(
     alloc: Global,
     manager: &Manager<S>,
     request: &Request,
-) -> Result<Reply, AllocError>
+) -> Result<Planned, AllocError>
     requires usable { manager.now.ledger.closed ≡ false }
     requires kept { (H : List Event) × Keeps manager.now H }
-    ensures { (H : List Event) → Keeps manager.now H → IfOk result (λ reply. show_occurrence manager.now.ledger.manager H request.now ≡ told reply) }
+    ensures { (H : List Event) → Keeps manager.now H → IfOk result (IsPlanned (show_occurrence manager.now.ledger.manager H request.now) manager.now H) }
 {
-    match named_number(manager, asked_id(request)) {
-        Some(n) => show_number(alloc, manager, n, request.last),
-        None => no_occurrence(alloc, request.last),
-    }
+    let reply = match named_number(manager, asked_id(request)) {
+        Some(n) => show_number(alloc, manager, n, request.last)?,
+        None => no_occurrence(alloc, request.last)?,
+    };
+    Ok(Planned::Told(reply))
 }
 
 /// The number of the occurrence that has this identifier, where there is one of that number; none where the identifier is no occurrence's.

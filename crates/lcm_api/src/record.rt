@@ -6,8 +6,8 @@ ghost use Rattle.executor.specs.Managed.{IsReady, Keeps};
 ghost use Rattle.executor.specs.Room.{is_full};
 ghost use Rattle.executor.specs.Work.{Works};
 ghost use Rattle.lcm_api.specs.Answering.{answered};
-ghost use Rattle.lcm_api.specs.Recording.{FitsBehind, IsPlanned};
-ghost use Rattle.lcm_api.specs.Replies.{Outcome, room_outcome};
+ghost use Rattle.lcm_api.specs.Recording.{FitsBehind, MayCarryOut};
+ghost use Rattle.lcm_api.specs.Replies.{in_room, recorded};
 
 use crate::answering::ApiFault;
 use crate::reply::{Reply, refusal};
@@ -38,10 +38,10 @@ pub fn carry_out<S: Site>(
     planned: Planned,
     last: bool,
 ) -> Result<Reply, ApiFault>
-    requires ready { (H : List Event) × IsReady S.tells manager.old H (S.state site.old) × ((o : Outcome) × IsPlanned o manager.old H last planned) }
-    ensures reply { (H : List Event) (o : Outcome) → Keeps manager.old H → IsPlanned o manager.old H last planned → IfOk result (λ given. given ≡ o.reply) }
-    ensures works { (H : List Event) (o : Outcome) → IsReady S.tells manager.old H (S.state site.old) → IsPlanned o manager.old H last planned
-        → Works S.tells manager.old.ledger.manager H (answered o H result) manager.new (S.state site.old) (S.state site.new) }
+    requires ready { (H : List Event) × IsReady S.tells manager.old H (S.state site.old) × MayCarryOut manager.old H planned }
+    ensures reply { (H : List Event) → Keeps manager.old H → IfOk result (λ given. given ≡ (in_room H last planned).reply) }
+    ensures works { (H : List Event) → IsReady S.tells manager.old H (S.state site.old) → MayCarryOut manager.old H planned
+        → Works S.tells manager.old.ledger.manager H (answered (in_room H last planned) H result) manager.new (S.state site.old) (S.state site.new) }
     ensures counts { OnlyDiskFails (result ≡ Err ApiFault.Disk) (S.counts site.old) (S.counts site.new) }
 {
     works_add_up::<S>();
@@ -65,9 +65,9 @@ fn record<S: Site>(
     last: bool,
 ) -> Result<Reply, ApiFault>
     requires fits { (H : List Event) × IsReady S.tells manager.old H (S.state site.old) × FitsBehind manager.old H event.now }
-    ensures reply { (H : List Event) → Keeps manager.old H → IfOk result (λ given. given ≡ (room_outcome (is_full MAX_REQUESTED (event.now ∷ H)) reply event.now last).reply) }
+    ensures reply { (H : List Event) → Keeps manager.old H → IfOk result (λ given. given ≡ (recorded (is_full MAX_REQUESTED (event.now ∷ H)) event.now reply last).reply) }
     ensures works { (H : List Event) → IsReady S.tells manager.old H (S.state site.old) → FitsBehind manager.old H event.now → Works S.tells manager.old.ledger.manager H
-        (answered (room_outcome (is_full MAX_REQUESTED (event.now ∷ H)) reply event.now last) H result) manager.new (S.state site.old) (S.state site.new) }
+        (answered (recorded (is_full MAX_REQUESTED (event.now ∷ H)) event.now reply last) H result) manager.new (S.state site.old) (S.state site.new) }
     ensures counts { OnlyDiskFails (result ≡ Err ApiFault.Disk) (S.counts site.old) (S.counts site.new) }
 {
     match manager.commit(alloc, site, event, MAX_REQUESTED) {

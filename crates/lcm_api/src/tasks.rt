@@ -3,10 +3,7 @@ ghost use Rattle.std.specs.Prelude.{◌≡◌, ◌∷◌, List, IfOk, Some, None
 ghost use Rattle.lcm_events.specs.declared.events.Event.{Event};
 ghost use Rattle.lcm_events.specs.declared.events.EventKind.TheVariants.{Moved};
 ghost use Rattle.lcm_events.specs.declared.events.Operation.{Operation};
-ghost use Rattle.site_traits.specs.Counts.{OnlyDiskFails};
-ghost use Rattle.executor.specs.Managed.{IsReady, Keeps};
-ghost use Rattle.executor.specs.Work.{Works};
-ghost use Rattle.lcm_api.specs.Answering.{answered};
+ghost use Rattle.executor.specs.Managed.{Keeps};
 ghost use Rattle.lcm_api.specs.Recording.{IsPlanned};
 ghost use Rattle.lcm_api.specs.Replies.{told};
 ghost use Rattle.lcm_api.specs.Tasks.{IsTaskVerdict, occurrence_task, task_asked, task_event, task_kind, task_named, task_of, task_refused, task_reply, taken};
@@ -15,14 +12,13 @@ ghost use Rattle.lcm_model.specs.Operations.{operation};
 ghost use Rattle.occ_table.specs.Rows.{occurrence};
 ghost use Rattle.occ_table.specs.Steps.{after_move};
 
-use crate::answering::ApiFault;
 use crate::bodies::refused_body;
 use crate::instances::asked_id;
 use crate::media::is_json;
 use crate::occurrences::{named_number, no_occurrence, show_row};
-use crate::record::{Planned, carry_out};
+use crate::record::Planned;
 use crate::reply::{Reply, refusal, refusal_about};
-use executor::{Manager, works_add_up};
+use executor::Manager;
 use http_wire::Request;
 use json_views::{legal_occurrences_can_be_shown, read_cancel, state_word};
 use lcm_events::{CancelMode, Event, EventKind, OpState, Task};
@@ -47,30 +43,25 @@ pub enum AskedTask {
     Cancel(CancelMode),
 }
 
-/// Answers a request for this task of an occurrence. Only the body of a cancel is read.
+/// What a request for this task of an occurrence comes to, where there is room for its event. Only the body of a cancel is read.
 ///
 /// Refusals of the request are replies, in this order: 415 for the media type of a cancel, 400 for its body, 404 for the occurrence, 404 for
-/// rollback of TERMINATE, 409 for the state of the occurrence, 507 for a full journal. Refusals of the call: `Memory`, after which nothing
-/// has changed; `Disk`, after which the manager is closed.
+/// rollback of TERMINATE, 409 for the state of the occurrence. The call's one refusal is want of memory.
 /// Source: SOL 003 5.4.14 to 5.4.17 (Retry, Rollback, Fail, Cancel operation task).
 pub fn task<S: Site>(
     alloc: Global,
-    manager: &mut Manager<S>,
-    site: &mut S,
+    manager: &Manager<S>,
     task: Task,
     request: &Request,
     now: Moment,
-) -> Result<Reply, ApiFault>
-    requires ready { (H : List Event) × IsReady S.tells manager.old H (S.state site.old) }
-    ensures reply { (H : List Event) → Keeps manager.old H → IfOk result (λ given. given ≡ (occurrence_task manager.old.ledger.manager H now task request.now).reply) }
-    ensures works { (H : List Event) → IsReady S.tells manager.old H (S.state site.old) → Works S.tells manager.old.ledger.manager H
-        (answered (occurrence_task manager.old.ledger.manager H now task request.now) H result) manager.new (S.state site.old) (S.state site.new) }
-    ensures counts { OnlyDiskFails (result ≡ Err ApiFault.Disk) (S.counts site.old) (S.counts site.new) }
+) -> Result<Planned, AllocError>
+    requires usable { manager.now.ledger.closed ≡ false }
+    requires kept { (H : List Event) × Keeps manager.now H }
+    ensures { (H : List Event) → Keeps manager.now H → IfOk result (IsPlanned (occurrence_task manager.now.ledger.manager H now task request.now) manager.now H) }
 {
-    works_add_up::<S>();
     match judge(alloc, task, request)? {
-        TaskVerdict::Refused(reply) => Ok(reply),
-        TaskVerdict::Asks(asked) => task_as(alloc, manager, site, asked, request, now),
+        TaskVerdict::Refused(reply) => Ok(Planned::Told(reply)),
+        TaskVerdict::Asks(asked) => task_as(alloc, manager, asked, request, now),
     }
 }
 
@@ -109,28 +100,8 @@ fn judge_cancel(alloc: Global, request: &Request) -> Result<TaskVerdict, AllocEr
     }
 }
 
-/// Answers a request that asks for this of the occurrence that it names.
+/// What asking this of the occurrence that a request names comes to.
 fn task_as<S: Site>(
-    alloc: Global,
-    manager: &mut Manager<S>,
-    site: &mut S,
-    asked: AskedTask,
-    request: &Request,
-    now: Moment,
-) -> Result<Reply, ApiFault>
-    requires ready { (H : List Event) × IsReady S.tells manager.old H (S.state site.old) }
-    ensures reply { (H : List Event) → Keeps manager.old H → IfOk result (λ given. given ≡ (task_named manager.old.ledger.manager H now asked request.now).reply) }
-    ensures works { (H : List Event) → IsReady S.tells manager.old H (S.state site.old) → Works S.tells manager.old.ledger.manager H
-        (answered (task_named manager.old.ledger.manager H now asked request.now) H result) manager.new (S.state site.old) (S.state site.new) }
-    ensures counts { OnlyDiskFails (result ≡ Err ApiFault.Disk) (S.counts site.old) (S.counts site.new) }
-{
-    works_add_up::<S>();
-    let planned = prepare(alloc, manager, asked, request, now)?;
-    carry_out(alloc, manager, site, planned, request.last)
-}
-
-/// What asking this of the occurrence that a request names comes to, before it is known whether there is room for the event.
-fn prepare<S: Site>(
     alloc: Global,
     manager: &Manager<S>,
     asked: AskedTask,
@@ -139,16 +110,16 @@ fn prepare<S: Site>(
 ) -> Result<Planned, AllocError>
     requires usable { manager.now.ledger.closed ≡ false }
     requires kept { (H : List Event) × Keeps manager.now H }
-    ensures { (H : List Event) → Keeps manager.now H → IfOk result (IsPlanned (task_named manager.now.ledger.manager H now asked request.now) manager.now H request.now.last) }
+    ensures { (H : List Event) → Keeps manager.now H → IfOk result (IsPlanned (task_named manager.now.ledger.manager H now asked request.now) manager.now H) }
 {
     match named_number(manager, asked_id(request)) {
-        Some(n) => prepare_of(alloc, manager, asked, n, now, request.last),
+        Some(n) => task_of_number(alloc, manager, asked, n, now, request.last),
         None => Ok(Planned::Told(no_occurrence(alloc, request.last)?)),
     }
 }
 
 /// What asking this of the occurrence of this number comes to, where there is one.
-fn prepare_of<S: Site>(
+fn task_of_number<S: Site>(
     alloc: Global,
     manager: &Manager<S>,
     asked: AskedTask,
@@ -158,16 +129,16 @@ fn prepare_of<S: Site>(
 ) -> Result<Planned, AllocError>
     requires usable { manager.now.ledger.closed ≡ false }
     requires kept { (H : List Event) × Keeps manager.now H }
-    ensures { (H : List Event) → Keeps manager.now H → IfOk result (IsPlanned (task_asked manager.now.ledger.manager H now asked last (operation H n)) manager.now H last) }
+    ensures { (H : List Event) → Keeps manager.now H → IfOk result (IsPlanned (task_asked manager.now.ledger.manager H now asked last (operation H n)) manager.now H) }
 {
     match manager.occurrences().occurrence(n) {
-        Some(row) => prepare_row(alloc, manager, asked, n, row, now, last),
+        Some(row) => task_of_row(alloc, manager, asked, n, row, now, last),
         None => Ok(Planned::Told(no_occurrence(alloc, last)?)),
     }
 }
 
 /// What asking this of the occurrence of this number, of this row, comes to.
-fn prepare_row<S: Site>(
+fn task_of_row<S: Site>(
     alloc: Global,
     manager: &Manager<S>,
     asked: AskedTask,
@@ -179,7 +150,7 @@ fn prepare_row<S: Site>(
     requires usable { manager.now.ledger.closed ≡ false }
     requires found { (H : List Event) × Keeps manager.now H × (occurrence H n ≡ Some row.now) }
     ensures { (H : List Event) → Keeps manager.now H → occurrence H n ≡ Some row.now
-        → IfOk result (IsPlanned (task_asked manager.now.ledger.manager H now asked last (operation H n)) manager.now H last) }
+        → IfOk result (IsPlanned (task_asked manager.now.ledger.manager H now asked last (operation H n)) manager.now H) }
 {
     match task_allowed(row.ask.kind(), row.state, task_of(asked)) {
         Ok(()) => {

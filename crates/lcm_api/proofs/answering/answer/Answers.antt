@@ -1,26 +1,25 @@
--- What a route does the request comes to.
-use Rattle.std.proofs.Common.{ap, sym, subst, ◌∙◌}
+-- What was planned is carried out.
+use Rattle.std.specs.Result.{IfOk}
+use Rattle.std.proofs.Common.{◌≡◌, subst}
 use Rattle.executor.specs.Work.{Works}
 use Rattle.lcm_api.specs.Answering.{answered}
-use Rattle.lcm_api.specs.Outcome.{routed}
-use Rattle.lcm_api.specs.Replies.{Outcome}
-use Rattle.lcm_api.specs.declared.route.Routing.TheVariants.{Served}
+use Rattle.lcm_api.specs.Replies.{in_room}
+use Rattle.lcm_api.specs.declared.record.Planned.{Planned}
+use Rattle.lcm_api.proofs.PlanLemmas.{may_carry_out, planned_is}
 use Rattle.lcm_api.proofs.answering.answer.Goals as goal
 
-pub returns-in-Served-CreateInstance-clause-works : goal.returns-in-Served-CreateInstance-clause-works
-returns-in-Served-CreateInstance-clause-works g c = λ H ready.
-    subst (λ (o : Outcome). Works g.S.Site.tells c.args.manager.now.ledger.manager H (answered o H c.create.result) c.create.new.manager (g.S.Site.state c.args.site.now) (g.S.Site.state c.create.new.site))
-    (ap (λ to. routed to c.args.manager.now.ledger.manager H c.args.now c.args.role c.args.request.now) (sym (ap Served c.in-Served-CreateInstance.field-0-is) ∙ (sym c.in-Served-CreateInstance.is ∙ c.route_of.ensures)))
-    (c.create.ensures.works H ready)
+pub carry_out-requires : goal.carry_out-requires
+carry_out-requires g c =
+    let it = c.requires.ready in
+    record { ready = (it.0, it.1, may_carry_out _ _ _ _ (c.in_ok-planned.ensures it.0 it.1.keeps)) }
 
-pub returns-in-Served-Instantiate-clause-works : goal.returns-in-Served-Instantiate-clause-works
-returns-in-Served-Instantiate-clause-works g c = λ H ready.
-    subst (λ (o : Outcome). Works g.S.Site.tells c.args.manager.now.ledger.manager H (answered o H c.instantiate.result) c.instantiate.new.manager (g.S.Site.state c.args.site.now) (g.S.Site.state c.instantiate.new.site))
-    (ap (λ to. routed to c.args.manager.now.ledger.manager H c.args.now c.args.role c.args.request.now) (sym (ap Served c.in-Served-Instantiate.field-0-is) ∙ (sym c.in-Served-Instantiate.is ∙ c.route_of.ensures)))
-    (c.instantiate.ensures.works H ready)
+pub returns-clause-reply : goal.returns-clause-reply
+returns-clause-reply g c = λ H keeps.
+    let P : Planned → Type 0 = λ p. IfOk c.carry_out.result (λ given. given ≡ (in_room H c.args.request.now.last p).reply) in
+    subst P (planned_is _ _ _ _ (c.in_ok-planned.ensures H keeps)) (c.carry_out.ensures.reply H keeps)
 
-pub returns-in-Served-OccurrenceTask-clause-works : goal.returns-in-Served-OccurrenceTask-clause-works
-returns-in-Served-OccurrenceTask-clause-works g c = λ H ready.
-    subst (λ (o : Outcome). Works g.S.Site.tells c.args.manager.now.ledger.manager H (answered o H c.task-in-Served-OccurrenceTask.result) c.task-in-Served-OccurrenceTask.new.manager (g.S.Site.state c.args.site.now) (g.S.Site.state c.task-in-Served-OccurrenceTask.new.site))
-    (ap (λ to. routed to c.args.manager.now.ledger.manager H c.args.now c.args.role c.args.request.now) (sym (ap Served c.in-Served-OccurrenceTask.field-0-is) ∙ (sym c.in-Served-OccurrenceTask.is ∙ c.route_of.ensures)))
-    (c.task-in-Served-OccurrenceTask.ensures.works H ready)
+pub returns-clause-works : goal.returns-clause-works
+returns-clause-works g c = λ H ready.
+    let P : Planned → Type 0 = λ p. Works g.S.Site.tells c.args.manager.now.ledger.manager H (answered (in_room H c.args.request.now.last p) H c.carry_out.result) c.carry_out.new.manager (g.S.Site.state c.args.site.now) (g.S.Site.state c.carry_out.new.site) in
+    let planned = c.in_ok-planned.ensures H ready.keeps in
+    subst P (planned_is _ _ _ _ planned) (c.carry_out.ensures.works H ready (may_carry_out _ _ _ _ planned))

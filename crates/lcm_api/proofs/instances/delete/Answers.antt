@@ -1,11 +1,9 @@
--- What is planned is what the request comes to.
-use Rattle.lcm_api.specs.Instances.{delete_instance}
+-- Nothing refuses the deletion of the instance that was found.
+use Rattle.lcm_api.proofs.InstanceLemmas.{deletes}
 use Rattle.lcm_api.proofs.instances.delete.Goals as goal
 
-pub carry_out-requires : goal.carry_out-requires
-carry_out-requires g c =
-    let it = c.requires.ready in
-    record { ready = (it.0, it.1, (delete_instance c.args.manager.now.ledger.manager it.0 c.args.now c.args.request.now, c.in_ok-planned.ensures it.0 it.1.keeps)) }
-
-pub returns-clause-reply : goal.returns-clause-reply
-returns-clause-reply g c = λ H keeps. c.carry_out.ensures.reply H _ keeps (c.in_ok-planned.ensures H keeps)
+pub returns-in-None : goal.returns-in-None
+returns-in-None g c = λ H keeps.
+    let live = c.in-Some.ensures.live H keeps in
+    deletes c.args.manager.now H c.args.now c.args.request.now c.in-Some.row.now c.deleted.result c.deletion.result
+    (rw c.asked_id.ensures at (c.in-Some.ensures.named H keeps)) live (c.in-None.ensures H keeps live) c.deletion.ensures c.deleted.ensures

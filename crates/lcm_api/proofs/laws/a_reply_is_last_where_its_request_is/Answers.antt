@@ -31,7 +31,9 @@ use Rattle.lcm_api.specs.Instances.{asked_id, delete_found, delete_judged, delet
 use Rattle.lcm_api.specs.Media.{is_json}
 use Rattle.lcm_api.specs.Outcome.{routed, served}
 use Rattle.lcm_api.specs.Refusals.{refusal_status, refusal_text}
-use Rattle.lcm_api.specs.Replies.{Outcome, refusal, refused, room_outcome, shown, told}
+use Rattle.lcm_api.specs.Replies.{in_room, recorded, refusal, refused, shown, told}
+use Rattle.lcm_api.specs.declared.record.Planned.{Planned}
+use Rattle.lcm_api.specs.declared.record.Planned.TheVariants.{Records, Told}
 use Rattle.lcm_api.specs.Routes.{not_allowed, routing}
 use Rattle.lcm_api.specs.Tasks.{cancel, cancel_read, occurrence_task, task_asked, task_event, task_judged, task_named, task_of, task_refused, task_reply, taken}
 use Rattle.lcm_api.specs.declared.tasks.AskedTask.{AskedTask}
@@ -47,6 +49,7 @@ use Rattle.json_views.specs.Words.{state_word}
 use Rattle.lcm_routes.specs.declared.resources.Resource.{Resource}
 use Rattle.lcm_api.specs.declared.route.Route.{Route}
 use Rattle.lcm_api.specs.declared.route.Route.TheVariants.{ListInstances, CreateInstance, ShowInstance, DeleteInstance, Instantiate, InstanceTask, ListOccurrences, ShowOccurrence, OccurrenceTask}
+use Rattle.lcm_api.specs.declared.route.Routing.{Routing}
 use Rattle.lcm_api.specs.declared.route.Routing.TheVariants.{Nowhere, NotAllowed, Served}
 use Rattle.executor.specs.Room.{is_full}
 use Rattle.lcm_api.specs.declared.create.TheConstants.{MAX_INSTANCES}
@@ -122,29 +125,34 @@ cancel_of_bytes bytes =
     ]
 
 -- the connection ends with the reply where this says so
-abbrev EndsAs : Bool → Outcome → Type 0
-EndsAs last o = o.reply.last ≡ last
+abbrev EndsAs : Bool → Planned → Type 0
+EndsAs last (Told reply) = reply.last ≡ last
+EndsAs last (Records event reply) = reply.last ≡ last
 
 refusal_ends : (status : ℕ) (detail : List ℕ) (last : Bool) → EndsAs last (refused status detail last)
 unfolding refusal
 refusal_ends status detail last = refl
 
-creation_ends : (m : ℕ) (n : ℕ) (body : CreateBody) (vnfd : Vnfd) (last : Bool) (after : List Event) → EndsAs last (record { reply = created m n body vnfd last; after = after })
+-- so it is whether there is room for the event or not
+room_ends : (H : List Event) (last : Bool) (planned : Planned) → EndsAs last planned → (in_room H last planned).reply.last ≡ last
+room_ends H last (Told reply) is = is
+room_ends H last (Records event reply) is =
+    elim (is_full MAX_REQUESTED (event ∷ H)) as (λ full. (recorded full event reply last).reply.last ≡ last) [
+      | true ↦ refusal_ends 507 (codes "journal full") last
+      | false ↦ is
+    ]
+
+creation_ends : (m : ℕ) (n : ℕ) (body : CreateBody) (vnfd : Vnfd) (last : Bool) → (created m n body vnfd last).last ≡ last
 unfolding created
-creation_ends m n body vnfd last after = refl
+creation_ends m n body vnfd last = refl
 
 described_ends : (m : ℕ) (H : List Event) (now : ℕ) (body : CreateBody) (last : Bool) (found : Option Vnfd) → EndsAs last (described_outcome m H now body last found)
 described_ends m H now body last None = refusal_ends 422 (codes "vnfdId is not onboarded") last
 described_ends m H now body last (Some vnfd) =
-    let rest : Bool → Outcome = λ full. room_outcome full (created m (instances_made H + 1) body vnfd last) (creation H now body) last in
     elim (nat_le MAX_INSTANCES (length (live_instances H))) as (λ crowded.
-    EndsAs last (if crowded then refused 507 (codes "too many instances") last else rest (is_full MAX_REQUESTED (creation H now body ∷ H)))) [
+    EndsAs last (if crowded then refused 507 (codes "too many instances") last else Records (creation H now body) (created m (instances_made H + 1) body vnfd last))) [
       | true ↦ refusal_ends 507 (codes "too many instances") last
-      | false ↦
-          elim (is_full MAX_REQUESTED (creation H now body ∷ H)) as (λ full. EndsAs last (rest full)) [
-            | true ↦ refusal_ends 507 (codes "journal full") last
-            | false ↦ creation_ends m (instances_made H + 1) body vnfd last (creation H now body ∷ [])
-          ]
+      | false ↦ creation_ends m (instances_made H + 1) body vnfd last
     ]
 
 body_ends : (m : ℕ) (H : List Event) (now : ℕ) (body : Result CreateBody BodyFault) (last : Bool) → IsOfBytes body → EndsAs last (body_outcome m H now body last)
@@ -184,33 +192,25 @@ task_ends : (last : Bool) (found : Option InstanceRow) → EndsAs last (task_fou
 task_ends last None = refusal_ends 404 (codes "no such instance") last
 task_ends last (Some row) = refusal_ends 404 (codes "task is not supported") last
 
-deletion_ends : (last : Bool) (after : List Event) → EndsAs last (record { reply = deleted last; after = after })
+deletion_ends : (last : Bool) → (deleted last).last ≡ last
 unfolding deleted
-deletion_ends last after = refl
+deletion_ends last = refl
 
 judged_ends : (H : List Event) (now n : ℕ) (last : Bool) (why : Option Refusal) → EndsAs last (delete_judged H now n last why)
 judged_ends H now n last (Some why) = refusal_ends (refusal_status why) (refusal_text why) last
-judged_ends H now n last None =
-    elim (is_full MAX_REQUESTED (deletion now n ∷ H)) as (λ full. EndsAs last (room_outcome full (deleted last) (deletion now n) last)) [
-      | true ↦ refusal_ends 507 (codes "journal full") last
-      | false ↦ deletion_ends last (deletion now n ∷ [])
-    ]
+judged_ends H now n last None = deletion_ends last
 
 delete_ends : (H : List Event) (now : ℕ) (last : Bool) (found : Option InstanceRow) → EndsAs last (delete_found H now last found)
 delete_ends H now last None = refusal_ends 404 (codes "no such instance") last
 delete_ends H now last (Some row) = judged_ends H now row.number last (delete_refusal H row.number)
 
-accepted_ends : (m occ : ℕ) (last : Bool) (after : List Event) → EndsAs last (record { reply = accepted m occ last; after = after })
+accepted_ends : (m occ : ℕ) (last : Bool) → (accepted m occ last).last ≡ last
 unfolding accepted
-accepted_ends m occ last after = refl
+accepted_ends m occ last = refl
 
 ask_judged_ends : (m : ℕ) (H : List Event) (now : ℕ) (a : Operation) (last : Bool) (why : Option Refusal) → EndsAs last (ask_judged m H now a last why)
 ask_judged_ends m H now a last (Some why) = refusal_ends (refusal_status why) (refusal_text why) last
-ask_judged_ends m H now a last None =
-    elim (is_full MAX_REQUESTED (asking now a ∷ H)) as (λ full. EndsAs last (room_outcome full (accepted m a.occ last) (asking now a) last)) [
-      | true ↦ refusal_ends 507 (codes "journal full") last
-      | false ↦ accepted_ends m a.occ last (asking now a ∷ [])
-    ]
+ask_judged_ends m H now a last None = accepted_ends m a.occ last
 
 ask_described_ends : (m : ℕ) (H : List Event) (now : ℕ) (role : Role) (i : ℕ) (ask : Ask) (last : Bool) (found : Option Vnfd) → EndsAs last (ask_described m H now role i ask last found)
 ask_described_ends m H now role i ask last None = refusal_ends 404 (codes "no such instance") last
@@ -246,15 +246,15 @@ show_asked_ends : (m : ℕ) (H : List Event) (last : Bool) (found : Option Opera
 show_asked_ends m H last None = refusal_ends 404 (codes "no such occurrence") last
 show_asked_ends m H last (Some a) = shown_ends (occurrence_row_text m (rows H) a.occ (row H a)) last
 
-taken_ends : (last : Bool) (after : List Event) → EndsAs last (record { reply = taken last; after = after })
+taken_ends : (last : Bool) → (taken last).last ≡ last
 unfolding taken
-taken_ends last after = refl
+taken_ends last = refl
 
-task_reply_ends : (m : ℕ) (H : List Event) (asked : AskedTask) (a : Operation) (last : Bool) (after : List Event) → EndsAs last (record { reply = task_reply m H asked a last; after = after })
-task_reply_ends m H Retry a last after = taken_ends last after
-task_reply_ends m H Rollback a last after = taken_ends last after
-task_reply_ends m H Fail a last after = shown_ends (occurrence_row_text m (rows H) a.occ (row H a)) last
-task_reply_ends m H (Cancel mode) a last after = taken_ends last after
+task_reply_ends : (m : ℕ) (H : List Event) (asked : AskedTask) (a : Operation) (last : Bool) → (task_reply m H asked a last).last ≡ last
+task_reply_ends m H Retry a last = taken_ends last
+task_reply_ends m H Rollback a last = taken_ends last
+task_reply_ends m H Fail a last = shown_ends (occurrence_row_text m (rows H) a.occ (row H a)) last
+task_reply_ends m H (Cancel mode) a last = taken_ends last
 
 task_refused_ends : (why : TaskRefusal) (last : Bool) → EndsAs last (task_refused why last)
 task_refused_ends NotSupported last = refusal_ends 404 (codes "task is not supported") last
@@ -262,12 +262,7 @@ task_refused_ends (WrongState state) last = refusal_ends 409 (codes "operation i
 
 task_judged_ends : (m : ℕ) (H : List Event) (now : ℕ) (asked : AskedTask) (a : Operation) (last : Bool) (why : Option TaskRefusal) → EndsAs last (task_judged m H now asked a last why)
 task_judged_ends m H now asked a last (Some why) = task_refused_ends why last
-task_judged_ends m H now asked a last None =
-    let event : Event = task_event now a.occ asked in
-    elim (is_full MAX_REQUESTED (event ∷ H)) as (λ full. EndsAs last (room_outcome full (task_reply m (event ∷ H) asked a last) event last)) [
-      | true ↦ refusal_ends 507 (codes "journal full") last
-      | false ↦ task_reply_ends m (event ∷ H) asked a last (event ∷ [])
-    ]
+task_judged_ends m H now asked a last None = task_reply_ends m (task_event now a.occ asked ∷ H) asked a last
 
 task_asked_ends : (m : ℕ) (H : List Event) (now : ℕ) (asked : AskedTask) (last : Bool) (found : Option Operation) → EndsAs last (task_asked m H now asked last found)
 task_asked_ends m H now asked last None = refusal_ends 404 (codes "no such occurrence") last
@@ -307,10 +302,10 @@ served_ends ListOccurrences m H now role r = list_occurrences_ends m H r
 served_ends ShowOccurrence m H now role r = show_asked_ends m H r.last (named_operation m H (asked_id r))
 served_ends (OccurrenceTask task) m H now role r = occurrence_task_ends m H now task r
 
+routed_ends : (to : Routing) (m : ℕ) (H : List Event) (now : ℕ) (role : Role) (r : Request) → EndsAs r.last (routed to m H now role r)
+routed_ends Nowhere m H now role r = refusal_ends 404 (codes "no such resource") r.last
+routed_ends (NotAllowed x) m H now role r = not_allowed_ends x r.last
+routed_ends (Served route) m H now role r = served_ends route m H now role r
+
 pub returns : goal.returns
-returns c m H now role r =
-    elim (routing r) as (λ to. EndsAs r.last (routed to m H now role r)) [
-      | Nowhere ↦ refusal_ends 404 (codes "no such resource") r.last
-      | NotAllowed x ↦ not_allowed_ends x r.last
-      | Served route ↦ served_ends route m H now role r
-    ]
+returns c m H now role r = room_ends H r.last (routed (routing r) m H now role r) (routed_ends (routing r) m H now role r)

@@ -1,7 +1,7 @@
 -- What the graph says of the row decides.
 use Rattle.std.proofs.Common.{refl}
 use Rattle.lcm_api.proofs.TaskLemmas.{none_refuses, refuses_row, takes_row}
-use Rattle.lcm_api.proofs.tasks.prepare_row.Goals as goal
+use Rattle.lcm_api.proofs.tasks.task_of_row.Goals as goal
 
 pub returns-in_ok-reply-in-Ok : goal.returns-in_ok-reply-in-Ok
 returns-in_ok-reply-in-Ok g c = λ H keeps found.

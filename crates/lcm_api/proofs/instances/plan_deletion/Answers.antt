@@ -1,9 +1,0 @@
--- Nothing refuses the deletion of the instance that was found.
-use Rattle.lcm_api.proofs.InstanceLemmas.{deletes}
-use Rattle.lcm_api.proofs.instances.plan_deletion.Goals as goal
-
-pub returns-in-None : goal.returns-in-None
-returns-in-None g c = λ H keeps.
-    let live = c.in-Some.ensures.live H keeps in
-    deletes c.args.manager.now H c.args.now c.args.request.now c.in-Some.row.now c.deleted.result c.deletion.result
-    (rw c.asked_id.ensures at (c.in-Some.ensures.named H keeps)) live (c.in-None.ensures H keeps live) c.deletion.ensures c.deleted.ensures
