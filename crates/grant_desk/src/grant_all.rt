@@ -1,5 +1,5 @@
 //! An orchestrator in memory that grants whatever it is asked for.
-ghost use Rattle.std.specs.Prelude.{◌≡◌, IfErr, IfOk, codes, length, map, option_and_then, option_copied, option_map};
+ghost use Rattle.std.specs.Prelude.{◌≡◌, ◌≢◌, IfErr, IfOk, Ok, codes, false, length, map, option_and_then, option_copied, option_map, true};
 ghost use Rattle.serde_json.specs.Data.{string};
 ghost use Rattle.serde_json.specs.Find.{as_str, get};
 ghost use Rattle.serde_json.specs.View.{items_view, view};
@@ -197,7 +197,8 @@ fn row(alloc: Global, id: &str) -> Result<Value, AllocError>
 
 /// Answers the request with this body by this text, where that is heard and there is room for both on record.
 fn answer(served: &mut Log<usize>, body: &[u8], text: &[u8], heard: &mut Heard) -> bool
-    ensures { Serves (answer_with text.now) body.now result heard.new served.old served.new }
+    ensures serves { Serves (answer_with text.now) body.now result heard.new served.old served.new }
+    ensures unheard { result ≡ false → heard.new ≡ heard.old }
 {
     if text.len() > HEARD_MAX || !served.push(body.len(), body, text) {
         return false;
@@ -215,6 +216,7 @@ fn serve(
 ) -> Result<bool, AllocError>
     ensures serves { IfOk result (λ is. Serves (answer_to (length served.old.calls) body.now) body.now is heard.new served.old served.new) }
     ensures kept { IfErr result (λ e. served.new ≡ served.old) }
+    ensures unheard { result ≢ Ok true → heard.new ≡ heard.old }
 {
     match grant_text(alloc, served.len(), body)? {
         Some(text) => Ok(answer(served, body, &text, heard)),
@@ -236,6 +238,7 @@ impl Orchestrator for GrantAll {
         ensures told { Asks body.now heard.new result (state_of self.old) (state_of self.new) }
         ensures cause { CallCause result (counts_of self.old) (counts_of self.new) }
         ensures runs { RunsAsk body.now heard.new result self.old self.new }
+        ensures unheard { result ≡ Call.Failed → heard.new ≡ heard.old }
     {
         self.calls = self.calls.saturating_add(1);
         match serve(self.alloc, &mut self.served, body, heard) {
@@ -256,6 +259,7 @@ impl Orchestrator for GrantAll {
         ensures told { Polls location.now heard.new result (state_of self.old) (state_of self.new) }
         ensures cause { CallCause result (counts_of self.old) (counts_of self.new) }
         ensures failed { result ≡ Call.Failed }
+        ensures unheard { heard.new ≡ heard.old }
         ensures starved { self.new.starved ≡ self.old.starved }
     {
         self.calls = self.calls.saturating_add(1);
