@@ -10,7 +10,7 @@ use std::alloc::{AllocError, Global};
 const PIECE: usize = 16_777_216;
 
 /// What the outside does at the next command.
-pub struct Outside {
+pub struct Surroundings {
     /// The connections.
     pub door: Vec<DoorPlan>,
     /// The bytes of a piece of a connection.
@@ -23,10 +23,10 @@ pub struct Outside {
     pub says: Vec<GrantPlan>,
 }
 
-impl Drop for Outside {
+impl Drop for Surroundings {
     // Written out, so that the proof of a caller calls it and doesn't take the value apart at each of its ends.
     fn drop(self) {
-        let Outside {
+        let Surroundings {
             door: _,
             piece: _,
             now: _,
@@ -36,10 +36,10 @@ impl Drop for Outside {
     }
 }
 
-impl Outside {
+impl Surroundings {
     /// Nobody comes, no put fails, and no orchestrator answers.
-    fn new(alloc: Global) -> Outside {
-        Outside {
+    fn new(alloc: Global) -> Surroundings {
+        Surroundings {
             door: Vec::new(alloc),
             piece: PIECE,
             now: NOW,
@@ -56,7 +56,7 @@ pub struct Stage {
     /// What comes of the calls on the next site.
     pub plan: Plan,
     /// What the outside does at the next command.
-    pub outside: Outside,
+    pub outside: Surroundings,
     /// The orchestrator that grants all.
     pub granting: GrantAll,
     /// The orchestrator of turns that gives planned answers.
@@ -113,7 +113,7 @@ impl Stage {
         Ok(Stage {
             names: Names::new(alloc),
             plan: Plan::new(alloc),
-            outside: Outside::new(alloc),
+            outside: Surroundings::new(alloc),
             granting,
             peer,
             site,
@@ -132,7 +132,7 @@ impl Stage {
     pub fn begin(&mut self, alloc: Global) -> Result<(), AllocError> {
         self.granting = GrantAll::new(alloc)?;
         self.plan = Plan::new(alloc);
-        self.outside = Outside::new(alloc);
+        self.outside = Surroundings::new(alloc);
         self.earlier = Earlier::none();
         self.stop = Stop::none();
         Ok(())

@@ -21,8 +21,8 @@ use Rattle.site_traits.specs.Site.{KeepsJobs, SiteState}
 use Rattle.site_traits.specs.declared.orchestrator.Call.{Call}
 use Rattle.occ_work.specs.Acting.{Acts, Records}
 use Rattle.occ_work.specs.Around.{Counts, DiskFails, Exchanges, ReachTells, reach}
-use Rattle.occ_work.specs.Attempting.{Attempts, IsWithoutPeer}
-use Rattle.occ_work.specs.Deeds.{Deed, Exchange, aborted, answer_heard, asked, began, ending, looked, nothing, polled}
+use Rattle.occ_work.specs.Attempting.{Attempts, IsWithoutPeer, shows}
+use Rattle.occ_work.specs.Deeds.{Deed, Exchange, aborted, answer_heard, asked, began, ending, looked, nothing, polled, point}
 use Rattle.occ_work.specs.Requests.{grant_request}
 use Rattle.occ_work.specs.Exchanges.{exchanging, kinds_for}
 use Rattle.occ_work.specs.declared.ends.Acted.{Acted}
@@ -50,7 +50,7 @@ disk_last P a b c none last =
 -- there was no memory for what it exchanges
 pub starved_act : (t : ReachTells) (m : Managed) (now : ℕ) (H : List Event) (o : ℕ) (asking : Bool) (s : SiteState) (i : SiteCounts) (told : OrchestratorState) (counts : CallCounts)
     → Idles t.site s → IsReady t.site m H s → next_action H o ≡ Some (exchanging asking)
-    → (d : Deed) × (d.occ ≡ o) × Acts t m.ledger.manager now H d (Err fault.Memory) m (reach s i told counts) (reach s i told counts)
+    → (d : Deed) × (d.occ ≡ o) × Acts t (point m.ledger.manager now H) d (Err fault.Memory) m (reach s i told counts) (reach s i told counts)
 starved_act t m now H o true s i told counts idles ready next = (
   record { occ = o; action = AskForGrant; exchange = nothing },
   refl,
@@ -76,9 +76,9 @@ starved_act t m now H o false s i told counts idles ready next = (
 pub asking_act : (t : ReachTells) (m now : ℕ) (H : List Event) (o : ℕ) (body : List ℕ) (ended : Call) (heard : Heard) (result : Result Acted WorkFault) (n : Managed)
     (a b : SiteState) (i j : SiteCounts) (failed : Type 0) (x y : OrchestratorState) (c k : CallCounts) → next_action H o ≡ Some AskForGrant → grant_request m H o ≡ Some body
     → (t.orchestrator → Asks body heard ended x y) → CallCause ended c k → (t.site → KeepsJobs a b) → OnlyDiskFails failed i j
-    → Records t.site m now (kinds_for true o (answer_heard true (changes H o) ended heard)) H result n a b
+    → Records t.site (point m now H) (kinds_for true o (answer_heard true (changes H o) ended heard)) result n a b
     → IfOk result (λ done. done ≡ ending AskForGrant (answer_heard true (changes H o) ended heard))
-    → (d : Deed) × (d.occ ≡ o) × Acts t m now H d result n (reach a i x c) (reach b j y k)
+    → (d : Deed) × (d.occ ≡ o) × Acts t (point m now H) d result n (reach a i x c) (reach b j y k)
 asking_act t m now H o body ended heard result n a b i j failed x y c k next request told counts alone only records ends = (
   record { occ = o; action = AskForGrant; exchange = asked body ended heard },
   refl,
@@ -98,9 +98,9 @@ asking_act t m now H o body ended heard result n a b i j failed x y c k next req
 pub polling_act : (t : ReachTells) (m now : ℕ) (H : List Event) (o : ℕ) (at : List ℕ) (ended : Call) (heard : Heard) (result : Result Acted WorkFault) (n : Managed)
     (a b : SiteState) (i j : SiteCounts) (failed : Type 0) (x y : OrchestratorState) (c k : CallCounts) → next_action H o ≡ Some Poll → location H o ≡ Some at
     → (t.orchestrator → Polls at heard ended x y) → CallCause ended c k → (t.site → KeepsJobs a b) → OnlyDiskFails failed i j
-    → Records t.site m now (kinds_for false o (answer_heard false (changes H o) ended heard)) H result n a b
+    → Records t.site (point m now H) (kinds_for false o (answer_heard false (changes H o) ended heard)) result n a b
     → IfOk result (λ done. done ≡ ending Poll (answer_heard false (changes H o) ended heard))
-    → (d : Deed) × (d.occ ≡ o) × Acts t m now H d result n (reach a i x c) (reach b j y k)
+    → (d : Deed) × (d.occ ≡ o) × Acts t (point m now H) d result n (reach a i x c) (reach b j y k)
 polling_act t m now H o at ended heard result n a b i j failed x y c k next known told counts alone only records ends = (
   record { occ = o; action = Poll; exchange = polled at ended heard },
   refl,
@@ -119,8 +119,8 @@ polling_act t m now H o at ended heard result n a b i j failed x y c k next know
 -- the occurrence was moved on
 pub moving_act : (t : ReachTells) (m now : ℕ) (H : List Event) (o : ℕ) (to : OpState) (result : Result Acted WorkFault) (n : Managed) (a b : SiteState) (i j : SiteCounts) (failed : Type 0)
     (told : OrchestratorState) (counts : CallCounts) → next_action H o ≡ Some (MoveTo to) → (t.site → KeepsJobs a b) → OnlyDiskFails failed i j
-    → Records t.site m now (Moved o to ∷ []) H result n a b
-    → IfOk result (λ done. done ≡ Recorded) → (d : Deed) × (d.occ ≡ o) × Acts t m now H d result n (reach a i told counts) (reach b j told counts)
+    → Records t.site (point m now H) (Moved o to ∷ []) result n a b
+    → IfOk result (λ done. done ≡ Recorded) → (d : Deed) × (d.occ ≡ o) × Acts t (point m now H) d result n (reach a i told counts) (reach b j told counts)
 moving_act t m now H o to result n a b i j failed told counts next alone only records ends = (
   record { occ = o; action = MoveTo to; exchange = nothing },
   refl,
@@ -155,8 +155,8 @@ uncounted (aborted t ended answer) c alone = refl
 
 -- an attempt was made
 pub attempting_act : (t : ReachTells) (m now : ℕ) (H : List Event) (o : ℕ) (result : Result Acted WorkFault) (n : Managed) (a b : SiteState) (i j : SiteCounts) (told : OrchestratorState) (counts : CallCounts)
-    → (d : Deed) × (d.occ ≡ o) × Attempts t.site m now H d result n a b i j
-    → (d : Deed) × (d.occ ≡ o) × Acts t m now H d result n (reach a i told counts) (reach b j told counts)
+    → (d : Deed) × (d.occ ≡ o) × Attempts t.site (point m now H) d result n (shows a i) (shows b j)
+    → (d : Deed) × (d.occ ≡ o) × Acts t (point m now H) d result n (reach a i told counts) (reach b j told counts)
 attempting_act t m now H o result n a b i j told counts it = (
   it.0,
   it.1,

@@ -40,8 +40,8 @@ use Rattle.site_traits.specs.declared.jobs.LookAnswer.{LookAnswer}
 use Rattle.site_traits.specs.declared.jobs.LookAnswer.TheVariants as look
 use Rattle.occ_work.specs.Acting.{Records, TellsRoomFor, recording}
 use Rattle.occ_work.specs.Around.{CountJobsAlike}
-use Rattle.occ_work.specs.Attempting.{Attempts, Puts, following}
-use Rattle.occ_work.specs.Deeds.{Deed, IsUnexchanged, MayEnd, aborted, answer_begun, answer_looked, began, ending, looked, nothing}
+use Rattle.occ_work.specs.Attempting.{Attempts, Puts, following, shows}
+use Rattle.occ_work.specs.Deeds.{Deed, IsUnexchanged, MayEnd, aborted, answer_begun, answer_looked, began, ending, looked, nothing, point}
 use Rattle.occ_work.specs.declared.ends.Acted.{Acted}
 use Rattle.occ_work.specs.declared.ends.Acted.TheVariants.{Recorded}
 use Rattle.occ_work.proofs.BeginLemmas.{begun_sound, jobs_alone, jobs_on, looked_sound}
@@ -191,10 +191,10 @@ ready_behind tells m H G n a b works = record { usable = works.closed; keeps = w
 pub begun_attempt : (tells : Type 0) (m now : ℕ) (H : List Event) (t : Tag) (work : Act) (answer : BeginAnswer) (result : Result Acted WorkFault) (n p : Managed) (a b c d : SiteState)
     (one two : Type 0) (i j k l : SiteCounts) → next_action H t.occ ≡ Some (Begin t) → IsLegal m (with_events now (beginning t (answer_begun answer)) H) → IsAllowed m H (Intent t)
     → act_of H t ≡ Some work → Works tells m H (went (record { moment = now; kind = Intent t } ∷ H)) n a b → TellsRoom MAX_FILE H (record { moment = now; kind = Intent t }) (Ok tt)
-    → (tells → Begins t work answer b c) → Puts tells m now (following t answer) (record { moment = now; kind = Intent t } ∷ H) result p c d → (tells → KeepsJobs c d)
+    → (tells → Begins t work answer b c) → Puts tells (point m now (record { moment = now; kind = Intent t } ∷ H)) (following t answer) result p c d → (tells → KeepsJobs c d)
     → (answer ≡ begin.Begun → IsOk result) → (result ≡ Err fault.Memory → ⊥) → IfOk result (λ done. done ≡ Recorded)
     → OnlyDiskFails one i j → k ≡ begin_counts answer j → OnlyDiskFails two k l
-    → (x : Deed) × (x.occ ≡ t.occ) × Attempts tells m now H x result p a d i l
+    → (x : Deed) × (x.occ ≡ t.occ) × Attempts tells (point m now H) x result p (shows a i) (shows d l)
 begun_attempt tells m now H t work answer result n p a b c d one two i j k l next legal allowed does works room begins puts alone taken memory ends before called behind =
     let G : List Event = record { moment = now; kind = Intent t } ∷ H in
     let w : Work = recording now (following t answer) G result in
@@ -257,7 +257,7 @@ unbegun_work now H t fault.Disk = refl
 pub unbegun_attempt : (tells : Type 0) (m now : ℕ) (H : List Event) (t : Tag) (why : WorkFault) (n : Managed) (a b : SiteState) (failed : Type 0) (i j : SiteCounts)
     → next_action H t.occ ≡ Some (Begin t) → Works tells m H (recorded H (record { moment = now; kind = Intent t }) (Err why)) n a b
     → (why ≢ fault.Memory → TellsRoom MAX_FILE H (record { moment = now; kind = Intent t }) (Err why)) → OnlyDiskFails failed i j
-    → (x : Deed) × (x.occ ≡ t.occ) × Attempts tells m now H x (Err why) n a b i j
+    → (x : Deed) × (x.occ ≡ t.occ) × Attempts tells (point m now H) x (Err why) n (shows a i) (shows b j)
 unbegun_attempt tells m now H t why n a b failed i j next works room only = (
   record { occ = t.occ; action = Begin t; exchange = nothing },
   refl,
@@ -287,7 +287,7 @@ IsStarving _ = ⊥
 -- an attempt for which there was no memory: nothing was done
 pub starved_attempt : (tells : Type 0) (m : Managed) (now : ℕ) (H : List Event) (o : ℕ) (action : Action) (n : Managed) (s : SiteState) (i : SiteCounts) → next_action H o ≡ Some action
     → IsStarving action → Works tells m.ledger.manager H (went H) n s s
-    → (x : Deed) × (x.occ ≡ o) × Attempts tells m.ledger.manager now H x (Err fault.Memory) n s s i i
+    → (x : Deed) × (x.occ ≡ o) × Attempts tells (point m.ledger.manager now H) x (Err fault.Memory) n (shows s i) (shows s i)
 starved_attempt tells m now H o action n s i next starves works = (
   record { occ = o; action = action; exchange = nothing },
   refl,
@@ -353,8 +353,8 @@ aborted_ends t how answer (Err fault.Disk) memory = tt
 -- what is recorded of a job that was looked at, where running jobs may have ended before
 looked_records : (tells : Type 0) (m now : ℕ) (H : List Event) (t : Tag) (answer : LookAnswer) (result : Result Acted WorkFault) (n p : Managed) (a b d : SiteState)
     → IsLegal m (with_events now (looking t (answer_looked answer)) H) → n.ledger.manager ≡ m → IsReady tells n H a → (tells → OnJobs Advances a b)
-    → (tells → LooksAs t answer a.jobs b.jobs) → Puts tells m now (looking t (answer_looked answer)) H result p b d → (tells → KeepsJobs b d)
-    → Records tells m now (looking t (answer_looked answer)) H result p a d
+    → (tells → LooksAs t answer a.jobs b.jobs) → Puts tells (point m now H) (looking t (answer_looked answer)) result p b d → (tells → KeepsJobs b d)
+    → Records tells (point m now H) (looking t (answer_looked answer)) result p a d
 looked_records tells m now H t answer result n p a b d legal number ready calls looks puts alone =
     let w : Work = recording now (looking t (answer_looked answer)) H result in
     let mid : WorksAtFile tells m H (went H) n a b =
@@ -383,9 +383,9 @@ looked_jobs tells t answer a b d calls looks alone told = (
 -- an attempt whose job was looked at
 pub looked_attempt : (tells : Type 0) (m now : ℕ) (H : List Event) (o : ℕ) (t : Tag) (answer : LookAnswer) (result : Result Acted WorkFault) (n p : Managed) (a b d : SiteState)
     (two : Type 0) (i j k : SiteCounts) → next_action H o ≡ Some (Look t) → IsLegal m (with_events now (looking t (answer_looked answer)) H) → n.ledger.manager ≡ m
-    → IsReady tells n H a → (tells → Looks t answer a b) → Puts tells m now (looking t (answer_looked answer)) H result p b d → (tells → KeepsJobs b d)
+    → IsReady tells n H a → (tells → Looks t answer a b) → Puts tells (point m now H) (looking t (answer_looked answer)) result p b d → (tells → KeepsJobs b d)
     → (result ≡ Err fault.Memory → ⊥) → IfOk result (λ done. done ≡ ending (Look t) (answer_looked answer)) → j ≡ look_counts answer i → OnlyDiskFails two j k
-    → (x : Deed) × (x.occ ≡ o) × Attempts tells m now H x result p a d i k
+    → (x : Deed) × (x.occ ≡ o) × Attempts tells (point m now H) x result p (shows a i) (shows d k)
 looked_attempt tells m now H o t answer result n p a b d two i j k next legal number ready looks puts alone memory ends called behind = (
   record { occ = o; action = Look t; exchange = looked t answer },
   refl,
@@ -430,9 +430,9 @@ ends_alike (Err why) one two same ends = tt
 pub aborted_attempt : (tells : Type 0) (m now : ℕ) (H : List Event) (o : ℕ) (t : Tag) (how : AbortAnswer) (answer : LookAnswer) (result : Result Acted WorkFault) (n p : Managed)
     (a b c d : SiteState) (two : Type 0) (h i j k : SiteCounts) → next_action H o ≡ Some (AbortAndLook t) → IsLegal m (with_events now (looking t (answer_looked answer)) H)
     → n.ledger.manager ≡ m → IsReady tells n H a → (tells → Aborts t how a b) → (tells → Looks t answer b c)
-    → Puts tells m now (looking t (answer_looked answer)) H result p c d → (tells → KeepsJobs c d) → (result ≡ Err fault.Memory → ⊥)
+    → Puts tells (point m now H) (looking t (answer_looked answer)) result p c d → (tells → KeepsJobs c d) → (result ≡ Err fault.Memory → ⊥)
     → IfOk result (λ done. done ≡ ending (Look t) (answer_looked answer)) → i ≡ abort_counts how h → j ≡ look_counts answer i → OnlyDiskFails two j k
-    → (x : Deed) × (x.occ ≡ o) × Attempts tells m now H x result p a d h k
+    → (x : Deed) × (x.occ ≡ o) × Attempts tells (point m now H) x result p (shows a h) (shows d k)
 aborted_attempt tells m now H o t how answer result n p a b c d two h i j k next legal number ready aborts looks puts alone memory ends called then behind =
     let calls : tells → OnJobs Advances a c = λ told. aborted_on t how answer a b c (aborts told) (looks told) in
     let seen : tells → LooksAs t answer a.jobs c.jobs = λ told. aborted_looks t how answer a b c (aborts told) (looks told) in

@@ -54,7 +54,7 @@ use Rattle.executor.proofs.WorkLemmas.{with_jobs}
 use Rattle.occ_work.specs.declared.ends.Acted.{Acted}
 use Rattle.occ_work.specs.declared.ends.Acted.TheVariants.{Recorded, Waiting}
 use Rattle.occ_steps.proofs.StepLemmas.{changes_of_row}
-use Rattle.occ_work.specs.Deeds.{answer_heard, answer_with, ending}
+use Rattle.occ_work.specs.Deeds.{answer_heard, answer_with, ending, point}
 use Rattle.occ_work.specs.Exchanges.{exchanging, kinds_for}
 
 -- what follows from a value that was found
@@ -257,19 +257,19 @@ kinds_by_row H o r xs asking ended heard kinds found same is =
 
 -- what was recorded of one event was recorded of its kind
 pub records_as : (tells : Type 0) (m now : ℕ) (kinds : List EventKind) (H : List Event) (result : Result Acted WorkFault) (n : Managed) (a b : SiteState) (e : Event) (kind : EventKind)
-    → e ≡ record { moment = now; kind = kind } → kinds ≡ kind ∷ [] → Records tells m e.moment (e.kind ∷ []) H result n a b → Records tells m now kinds H result n a b
+    → e ≡ record { moment = now; kind = kind } → kinds ≡ kind ∷ [] → Records tells (point m e.moment H) (e.kind ∷ []) result n a b → Records tells (point m now H) kinds result n a b
 records_as tells m now kinds H result n a b e kind same one records =
-    subst (λ (ks : List EventKind). Records tells m now ks H result n a b) (sym one) (subst (λ (x : Event). Records tells m x.moment (x.kind ∷ []) H result n a b) same records)
+    subst (λ (ks : List EventKind). Records tells (point m now H) ks result n a b) (sym one) (subst (λ (x : Event). Records tells (point m x.moment H) (x.kind ∷ []) result n a b) same records)
 
 -- nothing was recorded
 pub records_none : (tells : Type 0) (m : Managed) (now : ℕ) (kinds : List EventKind) (H : List Event) (done : Acted) (s : SiteState) → Idles tells s → IsReady tells m H s → kinds ≡ []
-    → Records tells m.ledger.manager now kinds H (Ok done) m s s
+    → Records tells (point m.ledger.manager now H) kinds (Ok done) m s s
 records_none tells m now kinds H done s idles ready none =
-    subst (λ (ks : List EventKind). Records tells m.ledger.manager now ks H (Ok done) m s s) (sym none) (record { works = with_jobs tells m.ledger.manager H (went H) m s s (idles m H ready); room = tt })
+    subst (λ (ks : List EventKind). Records tells (point m.ledger.manager now H) ks (Ok done) m s s) (sym none) (record { works = with_jobs tells m.ledger.manager H (went H) m s s (idles m H ready); room = tt })
 
 -- there was no memory for it
 pub records_starved : (tells : Type 0) (m : Managed) (now : ℕ) (kinds : List EventKind) (H : List Event) (s : SiteState) → AreFew kinds → Idles tells s → IsReady tells m H s
-    → Records tells m.ledger.manager now kinds H (Err fault.Memory) m s s
+    → Records tells (point m.ledger.manager now H) kinds (Err fault.Memory) m s s
 records_starved tells m now [] H s few idles ready = record { works = with_jobs tells m.ledger.manager H (went H) m s s (idles m H ready); room = tt }
 records_starved tells m now (k ∷ []) H s few idles ready = record { works = with_jobs tells m.ledger.manager H (went H) m s s (idles m H ready); room = tt }
 records_starved tells m now (k ∷ l ∷ more) H s few idles ready = absurd few

@@ -12,7 +12,7 @@ use Rattle.occ_work.specs.Acting.{Acts, recording}
 use Rattle.occ_work.specs.Around.{Reach, ReachTells, around}
 use Rattle.occ_table.specs.Going.{active}
 use Rattle.occ_table.proofs.GoingLaws.{active-rises}
-use Rattle.occ_work.specs.Deeds.{Deed, Exchange, IsDeed, aborted, asked, began, looked, nothing, polled, IsExchangeOf, IsTried, IsUnexchanged, answered, ending, kinds_of, once_done}
+use Rattle.occ_work.specs.Deeds.{Deed, Exchange, IsDeed, aborted, asked, began, looked, nothing, polled, IsExchangeOf, IsTried, IsUnexchanged, answered, ending, kinds_of, once_done, point}
 use Rattle.lcm_model.specs.declared.actions.Action.{Action}
 use Rattle.lcm_model.specs.declared.actions.Action.TheVariants.{AbortAndLook, AskForGrant, Begin, Look, MoveTo, Poll}
 use Rattle.occ_work.specs.Counting.{CountsEndings}
@@ -119,7 +119,7 @@ grown_long H G more is =
 pub one_act_more : (t : ReachTells) (m n p : Managed) (now after o : ℕ) (turn counted : Turn) (done : Acted) (w u v : Reach) → TurnSoFar t m n now after turn w u
     → WorksWithJobsLeadOn t.site w.site u.site → WorksWithJobsJoin t.site w.site u.site v.site
     → ((G : List Event) → IsReady t.site n G u.site → (find (λ k. nat_lt after k) (active G) ≡ Some o) × (length G < 268435456))
-    → ((G : List Event) → IsReady t.site n G u.site → (d : Deed) × (d.occ ≡ o) × Acts t n.ledger.manager now G d (Ok done) p u v)
+    → ((G : List Event) → IsReady t.site n G u.site → (d : Deed) × (d.occ ≡ o) × Acts t (point n.ledger.manager now G) d (Ok done) p u v)
     → ((ends : List Acted) → length ends < 4294967295 → CountsEndings turn ends → CountsEndings counted (done ∷ ends))
     → TurnSoFar t m p now o counted w v
 one_act_more t m n p now after o turn counted done w u v so_far leads joins next act counts = λ H ready.
@@ -130,7 +130,7 @@ one_act_more t m n p now after o turn counted done w u v so_far leads joins next
     let did = act G upon in
     let d : Deed = did.0 in
     let number : n.ledger.manager ≡ m.ledger.manager = it.works.at_file.number in
-    let acts : Acts t m.ledger.manager now G d (Ok done) p u v = subst (λ (k : ℕ). Acts t k now G d (Ok done) p u v) number did.2 in
+    let acts : Acts t (point m.ledger.manager now G) d (Ok done) p u v = subst (λ (k : ℕ). Acts t (point k now G) d (Ok done) p u v) number did.2 in
     let order = its_turn m.ledger.manager now after H it.deeds o (subst (λ (k : ℕ). IsLegal k G) number upon.keeps.kept.legal) which.0 it.order in
     let few = few_deeds now H it.deeds (o ∷ above o (active G)) order in
     let long = grown_long H G it.works.at_file.grows.to_stood.more it.works.at_file.grows.to_stood.is in
@@ -151,7 +151,7 @@ one_act_more t m n p now after o turn counted done w u v so_far leads joins next
 pub went_through : (t : ReachTells) (m n : Managed) (now after : ℕ) (turn : Turn) (w v : Reach) → TurnSoFar t m n now after turn w v → WorksWithJobsLeadOn t.site w.site v.site
     → ((G : List Event) → IsReady t.site n G v.site → find (λ k. nat_lt after k) (active G) ≡ None)
     → (H : List Event) → IsReady t.site m H w.site
-    → (deeds : List Deed) × (end : TurnEnd) × Turns t m.ledger.manager now H deeds end n w v × EndsTurn (Ok turn) (endings now H deeds) end
+    → (deeds : List Deed) × (end : TurnEnd) × Turns t (point m.ledger.manager now H) deeds end n w v × EndsTurn (Ok turn) (endings now H deeds) end
 went_through t m n now after turn w v so_far leads none H ready =
     let it = so_far H ready in
     let G : List Event = once_all_done now H it.deeds in
@@ -175,9 +175,9 @@ went_through t m n now after turn w v so_far leads none H ready =
 pub was_stopped : (t : ReachTells) (m n p : Managed) (now after o : ℕ) (turn : Turn) (why : WorkFault) (w u v : Reach) → TurnSoFar t m n now after turn w u
     → WorksWithJobsLeadOn t.site w.site u.site → WorksWithJobsJoin t.site w.site u.site v.site
     → ((G : List Event) → IsReady t.site n G u.site → find (λ k. nat_lt after k) (active G) ≡ Some o)
-    → ((G : List Event) → IsReady t.site n G u.site → (d : Deed) × (d.occ ≡ o) × Acts t n.ledger.manager now G d (Err why) p u v)
+    → ((G : List Event) → IsReady t.site n G u.site → (d : Deed) × (d.occ ≡ o) × Acts t (point n.ledger.manager now G) d (Err why) p u v)
     → (H : List Event) → IsReady t.site m H w.site
-    → (deeds : List Deed) × (end : TurnEnd) × Turns t m.ledger.manager now H deeds end p w v × EndsTurn (Err why) (endings now H deeds) end
+    → (deeds : List Deed) × (end : TurnEnd) × Turns t (point m.ledger.manager now H) deeds end p w v × EndsTurn (Err why) (endings now H deeds) end
 was_stopped t m n p now after o turn why w u v so_far leads joins next act H ready =
     let it = so_far H ready in
     let G : List Event = once_all_done now H it.deeds in
@@ -185,7 +185,7 @@ was_stopped t m n p now after o turn why w u v so_far leads joins next act H rea
     let did = act G upon in
     let d : Deed = did.0 in
     let number : n.ledger.manager ≡ m.ledger.manager = it.works.at_file.number in
-    let acts : Acts t m.ledger.manager now G d (Err why) p u v = subst (λ (k : ℕ). Acts t k now G d (Err why) p u v) number did.2 in
+    let acts : Acts t (point m.ledger.manager now G) d (Err why) p u v = subst (λ (k : ℕ). Acts t (point k now G) d (Err why) p u v) number did.2 in
     let order = its_turn m.ledger.manager now after H it.deeds o (subst (λ (k : ℕ). IsLegal k G) number upon.keeps.kept.legal) (next G upon) it.order in (
       it.deeds,
       stopped d why,

@@ -11,7 +11,7 @@ use Rattle.lcm_events.specs.declared.events.EventKind.{EventKind}
 use Rattle.lcm_laws.specs.Acting.{with_events}
 use Rattle.site_traits.specs.Site.{SiteState}
 use Rattle.occ_work.specs.Around.{Exchanged, Reach, ReachTells, around}
-use Rattle.occ_work.specs.Deeds.{Deed, IsTried, answered, ending, kinds_of}
+use Rattle.occ_work.specs.Deeds.{Deed, IsTried, answered, ending, kinds_of, Point}
 use Rattle.occ_work.specs.declared.ends.Acted.{Acted}
 
 -- The work of events of these kinds at this moment behind history H, the latest first, by how the act ended: all are recorded; or the earlier
@@ -36,15 +36,15 @@ TellsRoomFor now [] H (Err other) = ⊥
 TellsRoomFor now (kind ∷ earlier) H result =
     TellsRoom MAX_FILE (with_events now earlier H) (record { moment = now; kind = kind }) (as_recorded result)
 
--- Events of these kinds at this moment were to be recorded behind history H of manager m, which is now n, and that ended so.
-pub record Records (tells : Type 0) (m now : ℕ) (kinds : List EventKind) (H : List Event) (result : Result Acted WorkFault) (n : Managed) (a b : SiteState) : Type 0 where
-  pub works : WorksWithJobs tells m H (recording now kinds H result) n a b
-  pub room : TellsRoomFor now kinds H result
+-- Events of these kinds were to be recorded at this point of a manager, which is now n, and that ended so.
+pub record Records (tells : Type 0) (p : Point) (kinds : List EventKind) (result : Result Acted WorkFault) (n : Managed) (a b : SiteState) : Type 0 where
+  pub works : WorksWithJobs tells p.manager p.history (recording p.moment kinds p.history result) n a b
+  pub room : TellsRoomFor p.moment kinds p.history result
 
--- The deed was tried at this moment behind history H of manager m, which is now n: its exchange was made and no other, what that appends was
--- recorded, and the answer says so.
-pub record Acts (t : ReachTells) (m now : ℕ) (H : List Event) (d : Deed) (result : Result Acted WorkFault) (n : Managed) (w v : Reach) : Type 0 where
-  pub tried : IsTried m H d result
+-- The deed was tried at this point of a manager, which is now n: its exchange was made and no other, what that appends was recorded, and the
+-- answer says so.
+pub record Acts (t : ReachTells) (p : Point) (d : Deed) (result : Result Acted WorkFault) (n : Managed) (w v : Reach) : Type 0 where
+  pub tried : IsTried p.manager p.history d result
   pub exchanged : Exchanged t d.exchange (around w) (around v)
-  pub records : Records t.site m now (kinds_of H d) H result n w.site v.site
-  pub ended : IfOk result (λ done. done ≡ ending d.action (answered H d))
+  pub records : Records t.site p (kinds_of p.history d) result n w.site v.site
+  pub ended : IfOk result (λ done. done ≡ ending d.action (answered p.history d))

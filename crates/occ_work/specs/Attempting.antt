@@ -14,12 +14,20 @@ use Rattle.site_traits.specs.declared.jobs.BeginAnswer.{BeginAnswer}
 use Rattle.site_traits.specs.declared.jobs.BeginAnswer.TheVariants as begin
 use Rattle.occ_work.specs.Acting.{Records, TellsRoomFor, recording}
 use Rattle.occ_work.specs.Around.{Handles, Infrastructure}
-use Rattle.occ_work.specs.Deeds.{Deed, Exchange, IsTried, answered, asked, ending, kinds_of, polled}
+use Rattle.occ_work.specs.Deeds.{Deed, Exchange, IsTried, answered, asked, ending, kinds_of, polled, Point}
 use Rattle.occ_work.specs.declared.ends.Acted.{Acted}
 
 -- the infrastructure as a site shows it
 abbrev pub infrastructure : SiteState → SiteCounts → Infrastructure
 infrastructure s counts = record { jobs = s.jobs; answers = s.answers; counts = counts }
+
+-- what a site shows: what it tells, and its counts
+pub record SiteShown : Type 1 where
+  pub state : SiteState
+  pub counts : SiteCounts
+
+abbrev pub shows : SiteState → SiteCounts → SiteShown
+shows state counts = record { state = state; counts = counts }
 
 -- nothing is exchanged with an orchestrator
 abbrev pub IsWithoutPeer : Exchange → Type 0
@@ -27,14 +35,14 @@ IsWithoutPeer (asked body ended heard) = ⊥
 IsWithoutPeer (polled at ended heard) = ⊥
 IsWithoutPeer x = Unit {0}
 
--- The deed was tried at this moment behind history H of manager m, which is now n, with the infrastructure alone: its exchange was made and no
+-- The deed was tried at this point of a manager, which is now n, with the infrastructure alone: its exchange was made and no
 -- other, what that appends was recorded, and the answer says so.
-pub record Attempts (tells : Type 0) (m now : ℕ) (H : List Event) (d : Deed) (result : Result Acted WorkFault) (n : Managed) (a b : SiteState) (c k : SiteCounts) : Type 0 where
-  pub tried : IsTried m H d result
+pub record Attempts (tells : Type 0) (p : Point) (d : Deed) (result : Result Acted WorkFault) (n : Managed) (a b : SiteShown) : Type 0 where
+  pub tried : IsTried p.manager p.history d result
   pub alone : IsWithoutPeer d.exchange
-  pub handled : Handles tells d.exchange (infrastructure a c) (infrastructure b k)
-  pub records : Records tells m now (kinds_of H d) H result n a b
-  pub ended : IfOk result (λ done. done ≡ ending d.action (answered H d))
+  pub handled : Handles tells d.exchange (infrastructure a.state a.counts) (infrastructure b.state b.counts)
+  pub records : Records tells p (kinds_of p.history d) result n a.state b.state
+  pub ended : IfOk result (λ done. done ≡ ending d.action (answered p.history d))
 
 -- the kinds of the events that follow an attempt's intent, by what the begin of its job was answered (own rule)
 abbrev pub following : Tag → BeginAnswer → List EventKind
@@ -49,8 +57,7 @@ is_of_attempt (CallFailed t) = true
 is_of_attempt (Settled t outcome) = true
 is_of_attempt _ = false
 
--- Events of these kinds, one or none, at this moment were to be put behind history H of manager m, which is now n, without memory, and that
--- ended so.
-pub record Puts (tells : Type 0) (m now : ℕ) (kinds : List EventKind) (H : List Event) (result : Result Acted WorkFault) (n : Managed) (a b : SiteState) : Type 0 where
-  pub at_file : WorksAtFile tells m H (recording now kinds H result) n a b
-  pub room : TellsRoomFor now kinds H result
+-- Events of these kinds, one or none, were to be put at this point of a manager, which is now n, without memory, and that ended so.
+pub record Puts (tells : Type 0) (p : Point) (kinds : List EventKind) (result : Result Acted WorkFault) (n : Managed) (a b : SiteState) : Type 0 where
+  pub at_file : WorksAtFile tells p.manager p.history (recording p.moment kinds p.history result) n a b
+  pub room : TellsRoomFor p.moment kinds p.history result

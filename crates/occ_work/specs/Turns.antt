@@ -8,7 +8,7 @@ use Rattle.occ_table.specs.Going.{active}
 use Rattle.occ_work.specs.Acting.{TellsRoomFor, recording}
 use Rattle.occ_work.specs.Around.{Around, Exchanged, Reach, ReachTells, around}
 use Rattle.occ_work.specs.Counting.{CountsEndings}
-use Rattle.occ_work.specs.Deeds.{Deed, IsDeed, IsTried, answered, ending, kinds_of, once_done}
+use Rattle.occ_work.specs.Deeds.{Deed, IsDeed, IsTried, answered, ending, kinds_of, once_done, Point}
 use Rattle.occ_work.specs.declared.ends.Acted.{Acted}
 use Rattle.occ_work.specs.declared.ends.Turn.{Turn}
 
@@ -68,11 +68,11 @@ EndsTurn (Ok turn) ends through = CountsEndings turn ends
 EndsTurn (Err why) ends (stopped d cause) = why ≡ cause
 EndsTurn _ ends _ = ⊥
 
--- These deeds were done at this moment, the latest first, behind history H of manager m, which is now n, and the turn ended so: for the
--- occurrences that are active in H, in order, each behind what those before it left.
-pub record Turns (t : ReachTells) (m now : ℕ) (H : List Event) (deeds : List Deed) (end : TurnEnd) (n : Managed) (w v : Reach) : Type 0 where
-  pub works : WorksWithJobs t.site m H (turn_work now H deeds end) n w.site v.site
+-- These deeds were done from this point of a manager on, which is now n, the latest first, and the turn ended so: for the occurrences that are
+-- active there, in order, each behind what those before it left.
+pub record Turns (t : ReachTells) (p : Point) (deeds : List Deed) (end : TurnEnd) (n : Managed) (w v : Reach) : Type 0 where
+  pub works : WorksWithJobs t.site p.manager p.history (turn_work p.moment p.history deeds end) n w.site v.site
   pub between : Around
-  pub deeds_do : DeedsDo t m now H deeds (around w) between
-  pub end_does : EndDoes t m now (once_all_done now H deeds) end between (around v)
-  pub order : IsFor (active H) deeds end
+  pub deeds_do : DeedsDo t p.manager p.moment p.history deeds (around w) between
+  pub end_does : EndDoes t p.manager p.moment (once_all_done p.moment p.history deeds) end between (around v)
+  pub order : IsFor (active p.history) deeds end

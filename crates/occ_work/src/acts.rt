@@ -7,7 +7,7 @@ ghost use Rattle.lcm_model.specs.Next.{next_action};
 ghost use Rattle.lcm_model.specs.declared.actions.Action.TheVariants as actions;
 ghost use Rattle.occ_work.specs.Acting.{Acts};
 ghost use Rattle.occ_work.specs.Around.{DiskFails, reach, telling};
-ghost use Rattle.occ_work.specs.Deeds.{Deed};
+ghost use Rattle.occ_work.specs.Deeds.{Deed, point};
 ghost use Rattle.occ_steps.specs.Active.{IsActive};
 
 use crate::attempts::{abort_and_look, begin, look};
@@ -43,7 +43,7 @@ pub fn act<S: Site, O: Orchestrator>(
 ) -> Result<Acted, WorkFault>
     requires ready { (H : List Event) × IsReady S.tells manager.old H (S.state site.old) × IsActive H occ }
     ensures acts { (H : List Event) → IsReady S.tells manager.old H (S.state site.old) → IsActive H occ
-        → (d : Deed) × (d.occ ≡ occ) × Acts (telling S.tells O.tells) manager.old.ledger.manager now H d result manager.new
+        → (d : Deed) × (d.occ ≡ occ) × Acts (telling S.tells O.tells) (point manager.old.ledger.manager now H) d result manager.new
         (reach (S.state site.old) (S.counts site.old) (O.state orchestrator.old) (O.counts orchestrator.old)) (reach (S.state site.new) (S.counts site.new) (O.state orchestrator.new) (O.counts orchestrator.new)) }
     ensures short { (n : ℕ) → result ≢ Err (WorkFault.TooLong n) }
     ensures disk { DiskFails (result ≡ Err WorkFault.Disk) (S.counts site.old) (S.counts site.new) }
@@ -69,7 +69,7 @@ fn ask<S: Site, O: Orchestrator>(
 ) -> Result<Acted, WorkFault>
     requires ready { (H : List Event) × IsReady S.tells manager.old H (S.state site.old) × IsActive H occ × (next_action H occ ≡ Some actions.AskForGrant) }
     ensures acts { (H : List Event) → IsReady S.tells manager.old H (S.state site.old) → IsActive H occ → next_action H occ ≡ Some actions.AskForGrant
-        → (d : Deed) × (d.occ ≡ occ) × Acts (telling S.tells O.tells) manager.old.ledger.manager now H d result manager.new
+        → (d : Deed) × (d.occ ≡ occ) × Acts (telling S.tells O.tells) (point manager.old.ledger.manager now H) d result manager.new
         (reach (S.state site.old) (S.counts site.old) (O.state orchestrator.old) (O.counts orchestrator.old)) (reach (S.state site.new) (S.counts site.new) (O.state orchestrator.new) (O.counts orchestrator.new)) }
     ensures short { (n : ℕ) → result ≢ Err (WorkFault.TooLong n) }
     ensures disk { DiskFails (result ≡ Err WorkFault.Disk) (S.counts site.old) (S.counts site.new) }
@@ -93,7 +93,7 @@ fn poll<S: Site, O: Orchestrator>(
 ) -> Result<Acted, WorkFault>
     requires ready { (H : List Event) × IsReady S.tells manager.old H (S.state site.old) × IsActive H occ × (next_action H occ ≡ Some actions.Poll) }
     ensures acts { (H : List Event) → IsReady S.tells manager.old H (S.state site.old) → IsActive H occ → next_action H occ ≡ Some actions.Poll
-        → (d : Deed) × (d.occ ≡ occ) × Acts (telling S.tells O.tells) manager.old.ledger.manager now H d result manager.new
+        → (d : Deed) × (d.occ ≡ occ) × Acts (telling S.tells O.tells) (point manager.old.ledger.manager now H) d result manager.new
         (reach (S.state site.old) (S.counts site.old) (O.state orchestrator.old) (O.counts orchestrator.old)) (reach (S.state site.new) (S.counts site.new) (O.state orchestrator.new) (O.counts orchestrator.new)) }
     ensures short { (n : ℕ) → result ≢ Err (WorkFault.TooLong n) }
     ensures disk { DiskFails (result ≡ Err WorkFault.Disk) (S.counts site.old) (S.counts site.new) }

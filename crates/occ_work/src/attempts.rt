@@ -15,8 +15,8 @@ ghost use Rattle.lcm_tables.specs.Tables.{HasRoom};
 ghost use Rattle.site_traits.specs.Counts.{OnlyDiskFails};
 ghost use Rattle.site_traits.specs.Site.{KeepsJobs};
 ghost use Rattle.occ_work.specs.Around.{DiskFails};
-ghost use Rattle.occ_work.specs.Attempting.{Attempts, Puts, following, is_of_attempt};
-ghost use Rattle.occ_work.specs.Deeds.{Deed, answer_looked, ending};
+ghost use Rattle.occ_work.specs.Attempting.{Attempts, Puts, following, is_of_attempt, shows};
+ghost use Rattle.occ_work.specs.Deeds.{Deed, answer_looked, ending, point};
 ghost use Rattle.occ_steps.specs.Active.{IsActive};
 
 use crate::ends::Acted;
@@ -50,8 +50,8 @@ pub fn begin<S: Site>(
 ) -> Result<Acted, WorkFault>
     requires ready { (H : List Event) × IsReady S.tells manager.old H (S.state site.old) × IsActive H tag.now.occ × (next_action H tag.now.occ ≡ Some (actions.Begin tag.now)) }
     ensures attempts { (H : List Event) → IsReady S.tells manager.old H (S.state site.old) → IsActive H tag.now.occ → next_action H tag.now.occ ≡ Some (actions.Begin tag.now)
-        → (d : Deed) × (d.occ ≡ tag.now.occ) × Attempts S.tells manager.old.ledger.manager now H d result manager.new
-        (S.state site.old) (S.state site.new) (S.counts site.old) (S.counts site.new) }
+        → (d : Deed) × (d.occ ≡ tag.now.occ) × Attempts S.tells (point manager.old.ledger.manager now H) d result manager.new
+        (shows (S.state site.old) (S.counts site.old)) (shows (S.state site.new) (S.counts site.new)) }
     ensures short { (n : ℕ) → result ≢ Err (WorkFault.TooLong n) }
     ensures disk { DiskFails (result ≡ Err WorkFault.Disk) (S.counts site.old) (S.counts site.new) }
 {
@@ -102,7 +102,7 @@ fn follow<S: Site>(
     requires may { (H : List Event) × IsReady S.tells manager.old H (S.state site.old) × IsLegal manager.old.ledger.manager (with_events now (following tag.now answer) H) }
     requires quiet { HasNoNotice manager.old }
     ensures puts { (H : List Event) → IsReady S.tells manager.old H (S.state site.old) → IsLegal manager.old.ledger.manager (with_events now (following tag.now answer) H)
-        → Puts S.tells manager.old.ledger.manager now (following tag.now answer) H result manager.new (S.state site.old) (S.state site.new) }
+        → Puts S.tells (point manager.old.ledger.manager now H) (following tag.now answer) result manager.new (S.state site.old) (S.state site.new) }
     ensures jobs { S.tells → KeepsJobs (S.state site.old) (S.state site.new) }
     ensures ended { IfOk result (λ done. done ≡ Acted.Recorded) }
     ensures taken { answer ≡ BeginAnswer.Begun → IsOk result }
@@ -136,7 +136,7 @@ fn put<S: Site>(manager: &mut Manager<S>, site: &mut S, event: &Event) -> Result
     requires kind { is_of_attempt event.now.kind ≡ true }
     requires room { HasRoom event.now manager.old.tables }
     ensures puts { (H : List Event) → IsReady S.tells manager.old H (S.state site.old) → IsAllowed manager.old.ledger.manager H event.now.kind
-        → Puts S.tells manager.old.ledger.manager event.now.moment (event.now.kind ∷ []) H result manager.new (S.state site.old) (S.state site.new) }
+        → Puts S.tells (point manager.old.ledger.manager event.now.moment H) (event.now.kind ∷ []) result manager.new (S.state site.old) (S.state site.new) }
     ensures jobs { S.tells → KeepsJobs (S.state site.old) (S.state site.new) }
     ensures ended { IfOk result (λ done. done ≡ Acted.Recorded) }
     ensures memory { result ≢ Err WorkFault.Memory }
@@ -169,8 +169,8 @@ pub fn look<S: Site>(
 ) -> Result<Acted, WorkFault>
     requires ready { (H : List Event) × IsReady S.tells manager.old H (S.state site.old) × IsActive H occ × (next_action H occ ≡ Some (actions.Look tag.now)) }
     ensures attempts { (H : List Event) → IsReady S.tells manager.old H (S.state site.old) → IsActive H occ → next_action H occ ≡ Some (actions.Look tag.now)
-        → (d : Deed) × (d.occ ≡ occ) × Attempts S.tells manager.old.ledger.manager now H d result manager.new
-        (S.state site.old) (S.state site.new) (S.counts site.old) (S.counts site.new) }
+        → (d : Deed) × (d.occ ≡ occ) × Attempts S.tells (point manager.old.ledger.manager now H) d result manager.new
+        (shows (S.state site.old) (S.counts site.old)) (shows (S.state site.new) (S.counts site.new)) }
     ensures short { (n : ℕ) → result ≢ Err (WorkFault.TooLong n) }
     ensures disk { DiskFails (result ≡ Err WorkFault.Disk) (S.counts site.old) (S.counts site.new) }
 {
@@ -196,8 +196,8 @@ pub fn abort_and_look<S: Site>(
 ) -> Result<Acted, WorkFault>
     requires ready { (H : List Event) × IsReady S.tells manager.old H (S.state site.old) × IsActive H occ × (next_action H occ ≡ Some (actions.AbortAndLook tag.now)) }
     ensures attempts { (H : List Event) → IsReady S.tells manager.old H (S.state site.old) → IsActive H occ → next_action H occ ≡ Some (actions.AbortAndLook tag.now)
-        → (d : Deed) × (d.occ ≡ occ) × Attempts S.tells manager.old.ledger.manager now H d result manager.new
-        (S.state site.old) (S.state site.new) (S.counts site.old) (S.counts site.new) }
+        → (d : Deed) × (d.occ ≡ occ) × Attempts S.tells (point manager.old.ledger.manager now H) d result manager.new
+        (shows (S.state site.old) (S.counts site.old)) (shows (S.state site.new) (S.counts site.new)) }
     ensures short { (n : ℕ) → result ≢ Err (WorkFault.TooLong n) }
     ensures disk { DiskFails (result ≡ Err WorkFault.Disk) (S.counts site.old) (S.counts site.new) }
 {
@@ -221,7 +221,7 @@ fn settle<S: Site>(
     requires may { (H : List Event) × IsReady S.tells manager.old H (S.state site.old) × (is_open H tag.now ≡ true) }
     requires room { HasRoom (record { moment = now; kind = events.Settled tag.now (Outcome.Done []) }) manager.old.tables }
     ensures puts { (H : List Event) → IsReady S.tells manager.old H (S.state site.old) → is_open H tag.now ≡ true
-        → Puts S.tells manager.old.ledger.manager now (looking tag.now (answer_looked answer)) H result manager.new (S.state site.old) (S.state site.new) }
+        → Puts S.tells (point manager.old.ledger.manager now H) (looking tag.now (answer_looked answer)) result manager.new (S.state site.old) (S.state site.new) }
     ensures jobs { S.tells → KeepsJobs (S.state site.old) (S.state site.new) }
     ensures ended { IfOk result (λ done. done ≡ ending (actions.Look tag.now) (answer_looked answer)) }
     ensures memory { result ≢ Err WorkFault.Memory }
@@ -249,7 +249,7 @@ fn end<S: Site>(
     requires may { (H : List Event) × IsReady S.tells manager.old H (S.state site.old) × (is_open H tag.now ≡ true) }
     requires room { HasRoom (record { moment = now; kind = events.Settled tag.now (Outcome.Done []) }) manager.old.tables }
     ensures puts { (H : List Event) → IsReady S.tells manager.old H (S.state site.old) → is_open H tag.now ≡ true
-        → Puts S.tells manager.old.ledger.manager now (events.Settled tag.now outcome ∷ []) H result manager.new (S.state site.old) (S.state site.new) }
+        → Puts S.tells (point manager.old.ledger.manager now H) (events.Settled tag.now outcome ∷ []) result manager.new (S.state site.old) (S.state site.new) }
     ensures jobs { S.tells → KeepsJobs (S.state site.old) (S.state site.new) }
     ensures ended { IfOk result (λ done. done ≡ Acted.Recorded) }
     ensures memory { result ≢ Err WorkFault.Memory }

@@ -11,7 +11,7 @@ ghost use Rattle.lcm_model.specs.declared.actions.Action.TheVariants as actions;
 ghost use Rattle.site_traits.specs.Counts.{OnlyDiskFails};
 ghost use Rattle.site_traits.specs.Site.{KeepsJobs};
 ghost use Rattle.occ_work.specs.Acting.{Records};
-ghost use Rattle.occ_work.specs.Deeds.{answer_heard, answer_with, ending};
+ghost use Rattle.occ_work.specs.Deeds.{answer_heard, answer_with, ending, point};
 ghost use Rattle.occ_steps.specs.Active.{IsActive};
 ghost use Rattle.occ_work.specs.Exchanges.{exchanging, is_of_act, kinds_for, listed};
 
@@ -103,7 +103,7 @@ fn record<S: Site>(
     requires may { (H : List Event) × IsReady S.tells manager.old H (S.state site.old) × MayRecord manager.old.ledger.manager H event.now }
     requires kind { is_of_act event.now.kind ≡ true }
     ensures records { (H : List Event) → IsReady S.tells manager.old H (S.state site.old) → MayRecord manager.old.ledger.manager H event.now
-        → Records S.tells manager.old.ledger.manager event.now.moment (event.now.kind ∷ []) H result manager.new (S.state site.old) (S.state site.new) }
+        → Records S.tells (point manager.old.ledger.manager event.now.moment H) (event.now.kind ∷ []) result manager.new (S.state site.old) (S.state site.new) }
     ensures ended { IfOk result (λ done. done ≡ Acted.Recorded) }
     ensures jobs { S.tells → KeepsJobs (S.state site.old) (S.state site.new) }
     ensures short { (n : ℕ) → result ≢ Err (WorkFault.TooLong n) }
@@ -132,7 +132,7 @@ pub fn take<S: Site>(
 ) -> Result<Acted, WorkFault>
     requires ready { (H : List Event) × IsReady S.tells manager.old H (S.state site.old) × IsActive H occ × (next_action H occ ≡ Some (exchanging asking)) }
     ensures records { (H : List Event) → IsReady S.tells manager.old H (S.state site.old) → IsActive H occ → next_action H occ ≡ Some (exchanging asking)
-        → Records S.tells manager.old.ledger.manager now (kinds_for asking occ (answer_heard asking (changes_of H occ) call heard.now)) H result manager.new (S.state site.old) (S.state site.new) }
+        → Records S.tells (point manager.old.ledger.manager now H) (kinds_for asking occ (answer_heard asking (changes_of H occ) call heard.now)) result manager.new (S.state site.old) (S.state site.new) }
     ensures ended { (H : List Event) → IsReady S.tells manager.old H (S.state site.old) → IsActive H occ
         → IfOk result (λ done. done ≡ ending (exchanging asking) (answer_heard asking (changes_of H occ) call heard.now)) }
     ensures jobs { S.tells → KeepsJobs (S.state site.old) (S.state site.new) }
@@ -167,7 +167,7 @@ pub fn move_to<S: Site>(
 ) -> Result<Acted, WorkFault>
     requires ready { (H : List Event) × IsReady S.tells manager.old H (S.state site.old) × IsActive H occ × (next_action H occ ≡ Some (actions.MoveTo to)) }
     ensures records { (H : List Event) → IsReady S.tells manager.old H (S.state site.old) → IsActive H occ → next_action H occ ≡ Some (actions.MoveTo to)
-        → Records S.tells manager.old.ledger.manager now (events.Moved occ to ∷ []) H result manager.new (S.state site.old) (S.state site.new) }
+        → Records S.tells (point manager.old.ledger.manager now H) (events.Moved occ to ∷ []) result manager.new (S.state site.old) (S.state site.new) }
     ensures ended { IfOk result (λ done. done ≡ Acted.Recorded) }
     ensures jobs { S.tells → KeepsJobs (S.state site.old) (S.state site.new) }
     ensures short { (n : ℕ) → result ≢ Err (WorkFault.TooLong n) }

@@ -5,7 +5,7 @@ ghost use Rattle.journal_records.specs.declared.limits.TheConstants.{MAX_FILE};
 ghost use Rattle.occ_table.specs.Going.{next_active};
 ghost use Rattle.lcm_events.specs.declared.events.Event.{Event};
 ghost use Rattle.occ_work.specs.Around.{DiskFails, reach, telling};
-ghost use Rattle.occ_work.specs.Deeds.{Deed};
+ghost use Rattle.occ_work.specs.Deeds.{Deed, point};
 ghost use Rattle.occ_work.specs.Turns.{EndsTurn, TurnEnd, Turns, endings};
 
 use crate::acts::act;
@@ -29,7 +29,7 @@ pub fn turn<S: Site, O: Orchestrator>(
 ) -> Result<Turn, WorkFault>
     requires ready { (H : List Event) × IsReady S.tells manager.old H (S.state site.old) }
     ensures turns { (H : List Event) → IsReady S.tells manager.old H (S.state site.old) → (deeds : List Deed) × (end : TurnEnd)
-        × Turns (telling S.tells O.tells) manager.old.ledger.manager now H deeds end manager.new
+        × Turns (telling S.tells O.tells) (point manager.old.ledger.manager now H) deeds end manager.new
         (reach (S.state site.old) (S.counts site.old) (O.state orchestrator.old) (O.counts orchestrator.old)) (reach (S.state site.new) (S.counts site.new) (O.state orchestrator.new) (O.counts orchestrator.new))
         × EndsTurn result (endings now H deeds) end }
     ensures short { (n : ℕ) → result ≢ Err (WorkFault.TooLong n) }

@@ -29,6 +29,7 @@ use Rattle.vnfm_commands.specs.Rounds.{AreFor, AsksNobody, FailsBy, IsDoorEnd, I
 use Rattle.vnfm_commands.proofs.ToldLemmas.{rounds_within, visit_within}
 use Rattle.vnfm_commands.specs.declared.ending.Failure.{Failure}
 use Rattle.vnfm_commands.specs.declared.ending.Failure.TheVariants.{DoorFault}
+use Rattle.occ_work.specs.Deeds.{point}
 
 unbroken_last : (m : ℕ) (H : List Event) (last : Last) → is_breaking last ≡ false → work_last m H last ≡ went (stood (work_last m H last))
 unbroken_last m H no_more fine = refl
@@ -116,7 +117,7 @@ record Went (t : Tells) (m : ℕ) (H : List Event) (visit : Visit) (n : Managed)
   told : AreTold t.site m (told_in_visit m H visit) w.mouth.told u.mouth.told w.site u.site
 
 record Goes (t : Tells) (m : ℕ) (H : List Event) (turn : Turning) (ended : TurnEnd) (o : Managed) (u v : Outside) : Type 0 where
-  turns : Turns (acting_tells t) m (moment_of turn) H turn.acts ended o (acting_outside u) (acting_outside v)
+  turns : Turns (acting_tells t) (point m (moment_of turn) H) turn.acts ended o (acting_outside u) (acting_outside v)
   does : TurnDoes t m H turn ended (beside u) (beside v)
 
 -- the chain of both
@@ -185,7 +186,7 @@ pub made_by : (t : Tells) (role : Role) (m n o : Managed) (answer : Result (Unit
     → ((H : List Event) → IsReady t.site m H w.site → (met : Met) × Meets (session_tells t) m.ledger.manager H met n (session_world w) (session_world u) × MetFor role met × IsMet (Ok tt) met)
     → OnlyDiskFails failed w.counts u.counts → u.orchestrator ≡ w.orchestrator → u.courier ≡ w.courier → v.mouth ≡ u.mouth → v.courier ≡ u.courier
     → ((H : List Event) → IsReady t.site n H u.site → (turn : Turning) × (ended : TurnEnd)
-    × Turns (acting_tells t) n.ledger.manager (moment_of turn) H turn.acts ended o (acting_outside u) (acting_outside v) × (t.clock → Gives turn.value u.clock v.clock) × IsTurned answer ended)
+    × Turns (acting_tells t) (point n.ledger.manager (moment_of turn) H) turn.acts ended o (acting_outside u) (acting_outside v) × (t.clock → Gives turn.value u.clock v.clock) × IsTurned answer ended)
     → (H : List Event) → IsReady t.site m H w.site
     → (one : One) × MakesOne t m.ledger.manager H one o w v × OneFor role one × IsOne answer one
 made_by t role m n o answer failed w u v leads alone chains joins meets counts orchestrator courier mouth same turns H ready =
@@ -196,7 +197,7 @@ made_by t role m n o answer failed w u v leads alone chains joins meets counts o
     let met : Meets (session_tells t) m.ledger.manager H (visited met_as.0) n (session_world w) (session_world u) = subst P met_as.1 it.1 in
     let G : List Event = once_served m.ledger.manager H met_as.0 in
     let turned = turns G (leads m.ledger.manager H (went G) n met.works refl) in
-    let R : ℕ → Type 0 = λ x. Turns (acting_tells t) x (moment_of turned.0) G turned.0.acts turned.1 o (acting_outside u) (acting_outside v) in
+    let R : ℕ → Type 0 = λ x. Turns (acting_tells t) (point x (moment_of turned.0) G) turned.0.acts turned.1 o (acting_outside u) (acting_outside v) in
     let done = subst R met.works.number turned.2 in
     round_turned t m.ledger.manager H role met_as.0 turned.0 turned.1 answer n o w u v joins chains
     (record {

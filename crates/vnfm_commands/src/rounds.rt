@@ -11,6 +11,7 @@ ghost use Rattle.site_traits.specs.Counts.{OnlyDiskFails};
 ghost use Rattle.vnfm_commands.specs.Course.{IsCount, Service, Turning, close_ending, halt_of, halting, moment_of};
 ghost use Rattle.vnfm_commands.specs.Outside.{outside, telling};
 ghost use Rattle.vnfm_commands.specs.Rounds.{IsMet, IsOne, Makes, MakesOne, Meets, Met, MetFor, One, OneFor, IsTurned};
+ghost use Rattle.occ_work.specs.Deeds.{point};
 
 use crate::ending::{Ending, Failure, Report};
 use command_line::Settings;
@@ -139,7 +140,7 @@ fn take_turn<S: Site, O: Orchestrator, K: Clock>(
 ) -> Result<(), Failure>
     requires ready { (H : List Event) × IsReady S.tells manager.old H (S.state site.old) }
     ensures turns { (H : List Event) → IsReady S.tells manager.old H (S.state site.old) → (turning : Turning) × (end : TurnEnd)
-        × Turns (acting.telling S.tells O.tells) manager.old.ledger.manager (moment_of turning) H turning.acts end manager.new
+        × Turns (acting.telling S.tells O.tells) (point manager.old.ledger.manager (moment_of turning) H) turning.acts end manager.new
         (acting.reach (S.state site.old) (S.counts site.old) (O.state orchestrator.old) (O.counts orchestrator.old)) (acting.reach (S.state site.new) (S.counts site.new) (O.state orchestrator.new) (O.counts orchestrator.new))
         × (K.tells → Gives turning.value (K.state clock.old) (K.state clock.new)) × IsTurned result end }
     ensures disk { DiskFails (result ≡ Err Failure.SiteFault) (S.counts site.old) (S.counts site.new) }
