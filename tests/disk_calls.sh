@@ -1,7 +1,8 @@
 #!/bin/sh
 # The system calls around the journal's file: who may read one that is made; that `init` syncs its folder each time before it
-# answers, after a stop and a failed sync too; that what the kernel holds of the file is dropped before it is read; and that
-# no call on it goes to a standard stream. Needs strace.
+# answers, after a stop and a failed sync too; that the file is locked, then what the kernel holds of it is dropped, and only then
+# it is read; how often each command syncs the file and its folder, and writes; that a command which can't have the lock or drop the
+# pages makes no other call on it; and that no call on it goes to a standard stream. Needs strace.
 . "$(dirname "$0")/common.sh"
 
 program=$here/.build/vnfm
@@ -59,12 +60,65 @@ rm -f "$journal"
 expect "init, a name alone, what is synced" "$(cd "$room" && synced_folder journal)" .
 expect "init, a name alone, bytes are there" "$(test -s "$journal" && echo yes)" yes
 
-cp "$start" "$journal"
-expect "once, calls from the lock to the first read" \
-    "$(calls fsync,flock,fadvise64,pread64 once --journal "$journal" | sed 's/^.*flock/flock/' | cut -d ' ' -f 1-3)" \
-    "flock fadvise64 pread64"
-expect "once, what is dropped" "$(sed -n 's/^fadvise64([0-9]*, \(.*\))  *= 0$/\1/p' "$room/calls")" \
-    "0, 0, POSIX_FADV_DONTNEED"
+# The calls of a run on the journal's file from its opening to its first read, whatever the question for its kind and length is called.
+on_journal() { # COMMAND [OPTION VALUE]
+    command=$1
+    shift
+    strace -y -o "$room/calls" -e trace=openat,fstat,newfstatat,statx,flock,fadvise64,pread64,pwrite64,ftruncate,fdatasync \
+        "$program" "$command" --journal "$journal" "$@" <"$request" >"$room/out" 2>"$room/err"
+    grep -F "$journal" "$room/calls" | sed -n 's/^\([a-z0-9]*\)(.*/\1/p' | sed 's/^\(fstat\|newfstatat\|statx\)$/stat/' | tr '\n' ' '
+}
+
+for command in "init --manager 7" onboard once; do
+    cp "$start" "$journal"
+    # shellcheck disable=SC2086
+    expect "$command, calls from the opening on" "$(on_journal $command | cut -d ' ' -f 1-5)" "openat stat flock fadvise64 fdatasync"
+    expect "$command, what is dropped" "$(sed -n 's/^fadvise64([0-9]*<.*>, \(.*\))  *= 0$/\1/p' "$room/calls")" \
+        "0, 0, POSIX_FADV_DONTNEED"
+    expect "$command, reads before the pages are dropped" "$(sed '/^fadvise64/,$d' "$room/calls" | grep -F "$journal" | grep -c "^pread64")" 0
+done
+
+# How often a run syncs the journal's file, its folder and anything else, and writes to the file.
+counted() { # COMMAND [OPTION VALUE]
+    command=$1
+    shift
+    strace -y -o "$room/calls" -e trace=fsync,fdatasync,pwrite64,ftruncate "$program" "$command" --journal "$journal" "$@" \
+        <"$input" >"$room/out" 2>"$room/err"
+    echo "$(grep -c "^fdatasync([0-9]*<$journal>)" "$room/calls") syncs, $(grep -c "^fsync([0-9]*<$room>)" "$room/calls")" \
+        "of the folder, $(grep -c "^f[a-z]*sync" "$room/calls") in all, $(grep -c "^pwrite64([0-9]*<$journal>" "$room/calls") writes," \
+        "$(grep -c "^ftruncate" "$room/calls") cuts"
+}
+
+# An append writes and syncs twice, a load syncs once; the making of a file syncs once, and writes and syncs three times.
+input=/dev/null
+rm -f "$journal"
+expect "init, no file, counts" "$(counted init --manager 7)" "4 syncs, 1 of the folder, 5 in all, 3 writes, 0 cuts"
+expect "init, a journal, counts" "$(counted init --manager 7)" "1 syncs, 1 of the folder, 2 in all, 0 writes, 0 cuts"
+expect "once, no request, counts" "$(counted once)" "1 syncs, 0 of the folder, 1 in all, 0 writes, 0 cuts"
+input=$here/examples/vnfd.json
+expect "onboard, counts" "$(counted onboard)" "3 syncs, 0 of the folder, 3 in all, 2 writes, 0 cuts"
+input=$request
+expect "once, a creation, counts" "$(counted once)" "3 syncs, 0 of the folder, 3 in all, 2 writes, 0 cuts"
+input=/dev/null
+rm -f "$journal"
+expect "once, no file, counts" "$(counted once)" "1 syncs, 1 of the folder, 2 in all, 0 writes, 0 cuts"
+expect "once, no file, mode and bytes" "$(stat -c '%a %s' "$journal")" "600 0"
+chmod 640 "$journal"
+expect "once, an empty file, counts" "$(counted once)" "1 syncs, 0 of the folder, 1 in all, 0 writes, 0 cuts"
+expect "once, an empty file, mode and bytes" "$(stat -c '%a %s' "$journal")" "640 0"
+
+# A run for which one of these calls fails stops there: it makes no other on the file, and leaves it to the byte.
+stopped() { # CALL ERROR
+    cp "$start" "$journal"
+    strace -y -o "$room/calls" -e inject="$1:error=$2:when=1" -e trace="openat,flock,fadvise64,pread64,pwrite64,ftruncate,fdatasync,fsync" \
+        "$program" once --journal "$journal" <"$request" >"$room/out" 2>"$room/err"
+    echo "status $?, $(sed 1d "$room/err" | sed 's/^.*": //')," \
+        "$(grep -F "$journal" "$room/calls" | sed -n 's/^\([a-z0-9]*\)(.*/\1/p' | tr '\n' ' ')$(cmp "$start" "$journal" 2>&1)"
+}
+
+expect "once that can't have the lock" "$(stopped flock EAGAIN)" "status 3, another manager holds its lock, openat flock "
+expect "once whose lock fails" "$(stopped flock ENOLCK)" "status 3, the disk failed; the kernel's log says how, openat flock "
+expect "once whose pages can't be dropped" "$(stopped fadvise64 EIO)" "status 3, the disk failed; the kernel's log says how, openat flock fadvise64 "
 
 cp "$start" "$journal"
 strace -o "$room/calls" -e trace=flock,pwrite64,pread64,ftruncate,fdatasync "$program" once --journal "$journal" \

@@ -1,5 +1,6 @@
 #!/bin/sh
-# Two managers on one journal: while the first runs, the second ends with status 3 and `site fault`, and nothing is lost.
+# Managers on one journal: while the first runs, each other one ends with status 3 and `site fault`, whatever its command and its
+# standard streams, and leaves the journal as it is: its bytes, mode and time. Nothing is lost.
 . "$(dirname "$0")/common.sh"
 
 journal=$room/journal
@@ -21,11 +22,33 @@ until ls -l "/proc/$first/fd" 2>/dev/null | grep -qF "$journal"; do
 done
 sleep 1
 
+# What the first holds: the file, its mode, its length and when it was last written to, and its bytes.
+state() {
+    stat -c '%i %a %s %y' "$journal"
+}
+held=$(state)
+cp "$journal" "$room/held"
+
 "$here/vnfm" once --journal "$journal" <"$request" >"$room/second.out" 2>"$room/second.err" 3>&-
 expect "second manager, status" "$?" 3
 expect "second manager, line" "$(head -n 1 "$room/second.err")" "site fault"
 expect "second manager, why" "$(sed 1d "$room/second.err")" "vnfm: \"$journal\": another manager holds its lock"
 expect "second manager, answer" "$(cat "$room/second.out")" ""
+
+# Runs a command with these redirections while the first manager has the lock, and looks at its status and at what it leaves.
+locked_out() { # INPUT REDIRECTIONS COMMAND [OPTION VALUE]
+    input=$1 redirections=$2 command=$3
+    shift 3
+    eval "\"\$here/vnfm\" \"\$command\" --journal \"\$journal\" \"\$@\" <\"\$input\" >\"\$room/third.out\" 2>\"\$room/third.err\" 3>&- $redirections"
+    expect "$command${redirections:+, }$redirections, status" "$?" 3
+    expect "$command${redirections:+, }$redirections, journal" "$(state)$(cmp "$journal" "$room/held" 2>&1)" "$held"
+}
+
+for redirections in '' '2>&-' '1>&- 2>&-' '0<&- 1>&- 2>&-'; do
+    locked_out /dev/null "$redirections" init --manager 7
+    locked_out "$here/examples/vnfd.json" "$redirections" onboard
+    locked_out "$request" "$redirections" once
+done
 
 cat "$request" >&3
 exec 3>&-

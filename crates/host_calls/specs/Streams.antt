@@ -1,5 +1,10 @@
 -- What calls of std on streams do to their bytes.
-use Rattle.std.specs.Prelude.{◌≡◌, ◌≤◌, ℕ, List, [], ◌++◌, length, take, drop, Result, IfOk, OnOk, OnErr}
+use Rattle.std.specs.Prelude.{◌≡◌, ◌≤◌, ℕ, ◌+◌, List, [], ◌++◌, length, take, drop, Option, Some, None, Result, Ok, Err, IfOk, OnOk, OnErr}
+use Rattle.std.specs.IoError.{error_kind}
+use Rattle.std.specs.declared.io.ErrorKind.{ErrorKind}
+use Rattle.std.specs.declared.io.ErrorKind.TheVariants as kind
+use Rattle.std.specs.declared.io.Error.{Error}
+use Rattle.site_traits.specs.Counts.{one_more}
 
 -- the bytes of a stream: all that come in, and those that are left to be read
 pub record Incoming : Type 0 where
@@ -37,3 +42,33 @@ pub record Takes {E : Type 0} (bytes : List ℕ) (result : Result ℕ E) (old ne
 pub record TakesAll {T E : Type 0} (bytes : List ℕ) (result : Result T E) (old new : List ℕ) : Type 0 where
   pub took : OnOk result (new ≡ old ++ bytes)
   pub failed : OnErr result ((k : ℕ) × (new ≡ old ++ take k bytes))
+
+-- a call on a stream: for how many bytes it was, and the kind of its fault where it failed
+pub record StreamCall : Type 0 where
+  pub size : ℕ
+  pub fault : Option ErrorKind
+
+-- the kind of the fault of a call that failed
+abbrev pub fault_of : {T : Type 0} → Result T Error → Option ErrorKind
+fault_of (Ok value) = None
+fault_of (Err e) = Some (error_kind e)
+
+-- How often a call was interrupted by a signal, how often one was answered otherwise, as far as a u64 counts, and the
+-- last of them all.
+pub record StreamCalls : Type 0 where
+  pub interrupted : ℕ
+  pub answered : ℕ
+  pub last : StreamCall
+
+-- none was made
+abbrev pub uncalled : StreamCalls
+uncalled = record { interrupted = 0; answered = 0; last = record { size = 0; fault = None } }
+
+-- one call more, for so many bytes, which ended so
+abbrev pub called : ℕ → Option ErrorKind → StreamCalls → StreamCalls
+called size (Some kind.Interrupted) c = record { interrupted = c.interrupted + 1; answered = c.answered; last = record { size = size; fault = Some kind.Interrupted } }
+called size fault c = record { interrupted = c.interrupted; answered = one_more c.answered; last = record { size = size; fault = fault } }
+
+-- so many were answered, the last of them for so many bytes and so, and none was interrupted
+abbrev pub uninterrupted : ℕ → ℕ → Option ErrorKind → StreamCalls
+uninterrupted answered size fault = record { interrupted = 0; answered = answered; last = record { size = size; fault = fault } }

@@ -3,7 +3,7 @@ ghost use Rattle.std.specs.Prelude.{◌≡◌, ◌≤◌, ◌+◌, ℕ, IfOk, On
 ghost use Rattle.std.specs.Path.{path_bytes};
 ghost use Rattle.site_traits.specs.Counts.{one_more};
 ghost use Rattle.site_traits.specs.Site.{SiteState, Reads, Writes, Cuts, Syncs};
-ghost use Rattle.host_calls.specs.Files.{FilesState, Hold, Locks, Forgets, Finds, Makes, SyncsFolder, folder_in};
+ghost use Rattle.host_calls.specs.Files.{FileCall, FilesState, Finds, Forgets, Hold, Lends, Locks, Makes, Standing, SyncsFolder, answer_of, called, folder_in, whole, yes_or_no};
 
 use standard_streams::HeldStreams;
 use std::fs::{File, OpenOptions};
@@ -16,7 +16,7 @@ use std::rt::Files;
 /// Who may do what with a file that is made: its owner reads and writes it.
 const OWNER_ALONE: u32 = 0o600;
 
-/// An open file.
+/// An open file whose content is read and changed.
 ///
 /// Source: std's `File` and `FileExt`.
 pub trait HostFile {
@@ -31,13 +31,6 @@ pub trait HostFile {
 
     /// How many calls were made on it. Each of those below makes one more, whether it fails or not.
     ghost calls: { Self → ℕ };
-
-    /// Whether it is a regular file.
-    fn is_regular(&mut self) -> io::Result<bool>
-        ensures regular { tells → IfOk result (λ b. b ≡ (hold self.old).regular) }
-        ensures hold { tells → hold self.new ≡ hold self.old }
-        ensures told { tells → Reads (state self.old) (state self.new) }
-        ensures one { tells → calls self.new ≡ one_more (calls self.old) };
 
     /// Its length in bytes.
     fn length(&mut self) -> io::Result<u64>
@@ -68,69 +61,92 @@ pub trait HostFile {
     fn sync_data(&mut self) -> io::Result<()>
         ensures told { tells → Syncs result (state self.old) (state self.new) }
         ensures one { tells → calls self.new ≡ one_more (calls self.old) };
-
-    /// Locks it against every other opening of it.
-    ///
-    /// Refusals: `WouldBlock`, where another has the lock; other faults of the call.
-    fn try_lock(&mut self) -> io::Result<()>
-        ensures hold { tells → Locks result (hold self.old) (hold self.new) }
-        ensures told { tells → Reads (state self.old) (state self.new) }
-        ensures one { tells → calls self.new ≡ one_more (calls self.old) };
-
-    /// Drops the kernel's copies of its pages. After a sync that failed they may hold what never reached the disk and be taken for
-    /// clean, so that no later sync would write or report them.
-    fn forget_pages(&mut self) -> io::Result<()>
-        ensures hold { tells → Forgets result (hold self.old) (hold self.new) }
-        ensures told { tells → Reads (state self.old) (state self.new) }
-        ensures one { tells → calls self.new ≡ one_more (calls self.old) };
 }
 
-/// Where files are found. Whoever opens one shows that the standard streams are held, so that it gets none of their numbers.
+/// Where files are found. A file is had by calls on this: what was opened shows nothing of its content, and nothing
+/// changes that, until it is lent; and it is lent only as a regular file that is locked and reads what the disk has. So
+/// what couldn't be lent is as it was.
+///
+/// Whoever opens something shows that the standard streams are held by a device of this kind, so that it gets none of
+/// their numbers.
 ///
 /// Source: std's `OpenOptions` and `File`.
 pub trait HostFiles {
-    /// An open file.
+    /// What was opened and isn't lent.
+    type Opened: Drop;
+
+    /// A file that was lent.
     type File: HostFile + Drop;
+
+    /// What holds the number of a standard stream.
+    type Held: Drop;
 
     /// Whether a place of this kind tells its files. Clauses on these hold where it does.
     ghost tells: { Type 0 };
 
-    /// What it tells.
+    /// What it tells. Each call below is counted, and its answer is the last.
     ghost state: { Self → FilesState };
 
-    /// Opens the file at this path for reading and writing, as it is.
-    fn open<T: Drop>(&mut self, streams: &HeldStreams<T>, path: &str) -> io::Result<Self::File>
-        ensures told { tells → Finds Self.File.state Self.File.hold path.now result (state self.old) (state self.new) };
+    /// What stood where something was opened.
+    ghost standing: { Self.Opened → Standing };
+
+    /// How it is held.
+    ghost hold: { Self.Opened → Hold };
+
+    /// Opens what stands at this path for reading and writing, as it is.
+    fn open(&mut self, streams: &HeldStreams<Self::Held>, path: &str) -> io::Result<Self::Opened>
+        ensures told { tells → Finds standing hold path.now result (state self.old) (state self.new) };
 
     /// Makes an empty file at this path, where nothing is, and opens it. Its owner alone may read and write it.
-    fn create_new<T: Drop>(
+    fn create_new(
         &mut self,
-        streams: &HeldStreams<T>,
+        streams: &HeldStreams<Self::Held>,
         path: &str,
-    ) -> io::Result<Self::File>
-        ensures told { tells → Makes Self.File.state Self.File.hold path.now result (state self.old) (state self.new) };
+    ) -> io::Result<Self::Opened>
+        ensures told { tells → Makes standing hold path.now result (state self.old) (state self.new) };
 
     /// Brings the name of the file at this path to the disk, by a sync of its folder.
-    fn sync_folder<T: Drop>(&mut self, streams: &HeldStreams<T>, path: &str) -> io::Result<()>
+    fn sync_folder(&mut self, streams: &HeldStreams<Self::Held>, path: &str) -> io::Result<()>
         ensures told { tells → SyncsFolder path.now result (state self.old) (state self.new) };
+
+    /// Whether this is a regular file.
+    fn is_regular(&mut self, opened: &mut Self::Opened) -> io::Result<bool>
+        ensures regular { tells → IfOk result (λ b. b ≡ (standing opened.old).regular) }
+        ensures same { tells → (standing opened.new ≡ standing opened.old) × (hold opened.new ≡ hold opened.old) }
+        ensures told { tells → state self.new ≡ called FileCall.kind_check (yes_or_no result) (state self.old) };
+
+    /// Locks it against every other opening of it.
+    ///
+    /// Refusals: `WouldBlock`, where another has the lock; other faults of the call.
+    fn try_lock(&mut self, opened: &mut Self::Opened) -> io::Result<()>
+        ensures hold { tells → Locks result (hold opened.old) (hold opened.new) }
+        ensures same { tells → standing opened.new ≡ standing opened.old }
+        ensures told { tells → state self.new ≡ called FileCall.locking (answer_of result) (state self.old) };
+
+    /// Drops the kernel's copies of its pages. After a sync that failed they may hold what never reached the disk and be taken for
+    /// clean, so that no later sync would write or report them.
+    fn forget_pages(&mut self, opened: &mut Self::Opened) -> io::Result<()>
+        ensures hold { tells → Forgets result (hold opened.old) (hold opened.new) }
+        ensures same { tells → standing opened.new ≡ standing opened.old }
+        ensures told { tells → state self.new ≡ called FileCall.page_drop (answer_of result) (state self.old) };
+
+    /// Lends this to whoever reads and writes it.
+    fn lend(&mut self, opened: Self::Opened) -> Self::File
+        requires whole { tells → hold opened ≡ whole }
+        ensures told { tells → Lends Self.File.state Self.File.hold (standing opened) result (state self.old) (state self.new) };
 }
 
 impl HostFile for File {
-    ghost use Rattle.std.specs.Prelude.{true};
     ghost use Rattle.site_traits.specs.Site.{untold};
-    ghost use Rattle.host_calls.specs.Files.{free};
+    ghost use Rattle.host_calls.specs.Files.{whole};
 
     ghost tells = { ⊥ };
 
     ghost state = { λ _. untold };
 
-    ghost hold = { λ _. free true };
+    ghost hold = { λ _. whole };
 
     ghost calls = { λ _. 0 };
-
-    fn is_regular(&mut self) -> io::Result<bool> {
-        Ok(self.metadata()?.is_file())
-    }
 
     fn length(&mut self) -> io::Result<u64> {
         Ok(self.metadata()?.len())
@@ -151,17 +167,6 @@ impl HostFile for File {
     fn sync_data(&mut self) -> io::Result<()> {
         File::sync_data(self)
     }
-
-    fn try_lock(&mut self) -> io::Result<()> {
-        Ok(File::try_lock(self)?)
-    }
-
-    fn forget_pages(&mut self) -> io::Result<()> {
-        match libc::posix_fadvise(self.as_raw_fd(), 0, 0, libc::POSIX_FADV_DONTNEED) {
-            0 => Ok(()),
-            fault => Err(io::Error::from_raw_os_error(fault)),
-        }
-    }
 }
 
 /// The machine's files.
@@ -178,22 +183,30 @@ impl<'a, R: Files<File = File>> StdFiles<'a, R> {
 }
 
 impl<'a, R: Files<File = File>> HostFiles for StdFiles<'a, R> {
-    ghost use Rattle.host_calls.specs.Files.{nothing};
+    ghost use Rattle.host_calls.specs.Files.{new_file, nothing, whole};
+
+    type Opened = File;
 
     type File = File;
+
+    type Held = File;
 
     ghost tells = { ⊥ };
 
     ghost state = { λ _. nothing };
 
-    fn open<T: Drop>(&mut self, _streams: &HeldStreams<T>, path: &str) -> io::Result<File> {
+    ghost standing = { λ _. new_file };
+
+    ghost hold = { λ _. whole };
+
+    fn open(&mut self, _streams: &HeldStreams<File>, path: &str) -> io::Result<File> {
         OpenOptions::new()
             .read(true)
             .write(true)
             .open(self.rt, path)
     }
 
-    fn create_new<T: Drop>(&mut self, _streams: &HeldStreams<T>, path: &str) -> io::Result<File> {
+    fn create_new(&mut self, _streams: &HeldStreams<File>, path: &str) -> io::Result<File> {
         OpenOptions::new()
             .read(true)
             .write(true)
@@ -202,8 +215,27 @@ impl<'a, R: Files<File = File>> HostFiles for StdFiles<'a, R> {
             .open(self.rt, path)
     }
 
-    fn sync_folder<T: Drop>(&mut self, _streams: &HeldStreams<T>, path: &str) -> io::Result<()> {
+    fn sync_folder(&mut self, _streams: &HeldStreams<File>, path: &str) -> io::Result<()> {
         File::open(self.rt, folder_of(path))?.sync_all()
+    }
+
+    fn is_regular(&mut self, opened: &mut File) -> io::Result<bool> {
+        Ok(opened.metadata()?.is_file())
+    }
+
+    fn try_lock(&mut self, opened: &mut File) -> io::Result<()> {
+        Ok(File::try_lock(opened)?)
+    }
+
+    fn forget_pages(&mut self, opened: &mut File) -> io::Result<()> {
+        match libc::posix_fadvise(opened.as_raw_fd(), 0, 0, libc::POSIX_FADV_DONTNEED) {
+            0 => Ok(()),
+            fault => Err(io::Error::from_raw_os_error(fault)),
+        }
+    }
+
+    fn lend(&mut self, opened: File) -> File {
+        opened
     }
 }
 

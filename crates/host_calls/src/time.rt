@@ -1,6 +1,7 @@
 //! The time of day.
-ghost use Rattle.std.specs.Prelude.{◌≡◌, Option};
+ghost use Rattle.std.specs.Prelude.{◌≡◌, ℕ, Option};
 ghost use Rattle.std.specs.declared.time.Duration.{Duration};
+ghost use Rattle.site_traits.specs.Counts.{one_more};
 
 use std::time::{Clock as TimeSource, Duration, SystemTime, UNIX_EPOCH};
 
@@ -14,9 +15,13 @@ pub trait TimeOfDay {
     /// What it says next.
     ghost reading: { Self → Option Duration };
 
+    /// How often it was asked, as far as a u64 counts.
+    ghost calls: { Self → ℕ };
+
     /// How long ago 1970-01-01T00:00:00Z was, where that can be had and is past.
     fn since_1970(&mut self) -> Option<Duration>
-        ensures told { tells → result ≡ reading self.old };
+        ensures told { tells → result ≡ reading self.old }
+        ensures one { tells → calls self.new ≡ one_more (calls self.old) };
 }
 
 /// The machine's clock.
@@ -38,6 +43,8 @@ impl<'a, R: TimeSource> TimeOfDay for StdTime<'a, R> {
     ghost tells = { ⊥ };
 
     ghost reading = { λ _. None };
+
+    ghost calls = { λ _. 0 };
 
     fn since_1970(&mut self) -> Option<Duration> {
         SystemTime::now(self.rt)

@@ -62,7 +62,7 @@ impl NullDevice for Null {
 
     ghost tells = { ⊥ };
 
-    ghost numbers = { λ _. record { taken = λ _. ⊥; failed = 0 } };
+    ghost numbers = { λ _. record { taken = λ _. ⊥; opened = 0; failed = 0 } };
 
     fn open(&mut self) -> io::Result<Held> {
         Ok(Held)
@@ -78,20 +78,15 @@ struct MemFile<'a> {
 
 impl HostFile for MemFile<'_> {
     ghost use Rattle.site_traits.specs.Site.{untold};
-    ghost use Rattle.host_calls.specs.Files.{free};
+    ghost use Rattle.host_calls.specs.Files.{whole};
 
     ghost tells = { ⊥ };
 
     ghost state = { λ _. untold };
 
-    ghost hold = { λ _. free true };
+    ghost hold = { λ _. whole };
 
     ghost calls = { λ _. 0 };
-
-    fn is_regular(&mut self) -> io::Result<bool> {
-        self.wrong.pass("kind")?;
-        Ok(self.wrong.pass("regular").is_ok())
-    }
 
     fn length(&mut self) -> io::Result<u64> {
         self.wrong.pass("length")?;
@@ -128,14 +123,12 @@ impl HostFile for MemFile<'_> {
     fn sync_data(&mut self) -> io::Result<()> {
         self.wrong.pass("sync")
     }
+}
 
-    fn try_lock(&mut self) -> io::Result<()> {
-        self.wrong.pass("lock")
-    }
-
-    fn forget_pages(&mut self) -> io::Result<()> {
-        self.wrong.pass("pages")
-    }
+/// A file of the program's runs that is opened and isn't lent.
+#[derive(Drop)]
+struct MemOpened {
+    bytes: Vec<u8>,
 }
 
 /// Whether so many bytes stand at this place.
@@ -160,40 +153,62 @@ struct MemFiles<'a> {
 }
 
 impl<'a> HostFiles for MemFiles<'a> {
-    ghost use Rattle.host_calls.specs.Files.{nothing};
+    ghost use Rattle.host_calls.specs.Files.{new_file, nothing, whole};
+
+    type Opened = MemOpened;
 
     type File = MemFile<'a>;
+
+    type Held = Held;
 
     ghost tells = { ⊥ };
 
     ghost state = { λ _. nothing };
 
-    fn open<T: Drop>(&mut self, _streams: &HeldStreams<T>, _path: &str) -> io::Result<MemFile<'a>> {
+    ghost standing = { λ _. new_file };
+
+    ghost hold = { λ _. whole };
+
+    fn open(&mut self, _streams: &HeldStreams<Held>, _path: &str) -> io::Result<MemOpened> {
         self.wrong.pass("open")?;
         let Some(file) = self.file else {
             return Err(io::Error::from(ErrorKind::NotFound));
         };
-        Ok(MemFile {
+        Ok(MemOpened {
             bytes: file.to_vec(self.alloc)?,
-            wrong: self.wrong,
         })
     }
 
-    fn create_new<T: Drop>(
-        &mut self,
-        _streams: &HeldStreams<T>,
-        _path: &str,
-    ) -> io::Result<MemFile<'a>> {
+    fn create_new(&mut self, _streams: &HeldStreams<Held>, _path: &str) -> io::Result<MemOpened> {
         self.wrong.pass("create")?;
         self.made = self.made.saturating_add(1);
-        Ok(MemFile {
+        Ok(MemOpened {
             bytes: Vec::new(self.alloc),
-            wrong: self.wrong,
         })
     }
 
-    fn sync_folder<T: Drop>(&mut self, _streams: &HeldStreams<T>, _path: &str) -> io::Result<()> {
+    fn sync_folder(&mut self, _streams: &HeldStreams<Held>, _path: &str) -> io::Result<()> {
         self.wrong.pass("folder")
+    }
+
+    fn is_regular(&mut self, _opened: &mut MemOpened) -> io::Result<bool> {
+        self.wrong.pass("kind")?;
+        Ok(self.wrong.pass("regular").is_ok())
+    }
+
+    fn try_lock(&mut self, _opened: &mut MemOpened) -> io::Result<()> {
+        self.wrong.pass("lock")
+    }
+
+    fn forget_pages(&mut self, _opened: &mut MemOpened) -> io::Result<()> {
+        self.wrong.pass("pages")
+    }
+
+    fn lend(&mut self, opened: MemOpened) -> MemFile<'a> {
+        MemFile {
+            bytes: opened.bytes,
+            wrong: self.wrong,
+        }
     }
 }
 
@@ -205,11 +220,13 @@ struct Coming<'a> {
 }
 
 impl InStream for Coming<'_> {
-    ghost use Rattle.host_calls.specs.Streams.{nothing};
+    ghost use Rattle.host_calls.specs.Streams.{nothing, uncalled};
 
     ghost tells = { ⊥ };
 
     ghost state = { λ _. nothing };
+
+    ghost calls = { λ _. uncalled };
 
     fn read(&mut self, into: &mut [u8]) -> io::Result<usize> {
         self.wrong.pass("receive")?;
@@ -231,10 +248,13 @@ struct Going<'a> {
 
 impl OutStream for Going<'_> {
     ghost use Rattle.std.specs.Prelude.{[]};
+    ghost use Rattle.host_calls.specs.Streams.{uncalled};
 
     ghost tells = { ⊥ };
 
     ghost state = { λ _. [] };
+
+    ghost calls = { λ _. uncalled };
 
     fn write(&mut self, bytes: &[u8]) -> io::Result<usize> {
         self.wrong.pass(self.name)?;
@@ -266,6 +286,8 @@ impl TimeOfDay for Day {
     ghost tells = { ⊥ };
 
     ghost reading = { λ _. None };
+
+    ghost calls = { λ _. 0 };
 
     fn since_1970(&mut self) -> Option<Duration> {
         Some(Duration::new(1_700_000_000, 999_999))

@@ -1,2 +1,3 @@
 mod DoorLemmas
+mod HavingLemmas
 mod SiteLemmas

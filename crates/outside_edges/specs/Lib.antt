@@ -1,4 +1,6 @@
+pub mod Again
 pub mod Clock
 pub mod Door
 pub mod Faults
+pub mod Having
 pub mod Site

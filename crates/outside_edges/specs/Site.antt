@@ -1,12 +1,12 @@
 -- The journal's real file.
-use Rattle.std.specs.Prelude.{◌≡◌, ◌≢◌, ◌⊎◌, ℕ, List, [], true, Option, Some, None, IfSome, IsSomeAnd, unwrap_or}
+use Rattle.std.specs.Prelude.{◌≡◌, ◌≢◌, ◌⊎◌, ℕ, List, [], true, Option, Some, None, IfSome, IsSomeAnd}
 use Rattle.std.specs.declared.io.ErrorKind.{ErrorKind}
 use Rattle.std.specs.declared.io.ErrorKind.TheVariants as kind
 use Rattle.site_traits.specs.Counts.{SiteCounts, one_more}
 use Rattle.site_traits.specs.Site.{SiteState, untold}
-use Rattle.host_calls.specs.Files.{FilesState, Hold, IsFree, whole}
+use Rattle.host_calls.specs.Files.{FilesState, Hold, Standing, whole}
 use Rattle.outside_edges.specs.declared.real_site.FolderSync.{FolderSync}
-use Rattle.outside_edges.specs.declared.real_site.FolderSync.TheVariants.{Always, WhereMade}
+use Rattle.outside_edges.specs.declared.real_site.FolderSync.TheVariants.{Always}
 use Rattle.outside_edges.specs.declared.real_site.RealSite.{RealSite}
 use Rattle.outside_edges.specs.declared.real_site.WhyLost.{WhyLost}
 use Rattle.outside_edges.specs.declared.real_site.WhyLost.TheVariants as why
@@ -28,25 +28,19 @@ OneCall calls (Some file) new = IsSomeAnd new (λ f. calls f ≡ one_more (calls
 
 -- the file's name is on the disk where its folder is to be synced each time, and where it was made
 abbrev pub IsNamed : List ℕ → FolderSync → FilesState → FilesState → Type 0
-IsNamed path folder old new = (folder ≡ Always) ⊎ (old.image path ≡ None) → new.named path ≡ true
+IsNamed path folder old new = (folder ≡ Always) ⊎ (old.at path ≡ None) → new.named path ≡ true
 
--- where neither is so, the file is opened and nothing else is done
-abbrev pub IsUnasked : List ℕ → FolderSync → FilesState → FilesState → Type 0
-IsUnasked path folder old new = folder ≡ WhereMade → (old.image path ≡ None → ⊥) → new ≡ old
+-- what a read of what stands there gives, and nothing where none does
+abbrev pub content_of : Option Standing → List ℕ
+content_of None = []
+content_of (Some standing) = standing.content
 
--- the file is what stood at the path, or an empty one where nothing did
-pub record IsFound {F : Type 0} (state : F → SiteState) (hold : F → Hold) (path : List ℕ) (folder : FolderSync) (file : F) (old new : FilesState) : Type 0 where
-  pub image : (state file).image ≡ unwrap_or (old.image path) []
-  pub hold_is : IsFree (hold file)
-  pub named : IsNamed path folder old new
-  pub unasked : IsUnasked path folder old new
-
--- it is that, is a regular file, is locked, and reads what the disk has
+-- it is what stood at the path, or an empty file where nothing did; it is a regular file, is locked, and reads what the
+-- disk has
 pub record IsHad {F : Type 0} (state : F → SiteState) (hold : F → Hold) (path : List ℕ) (folder : FolderSync) (file : F) (old new : FilesState) : Type 0 where
-  pub image : (state file).image ≡ unwrap_or (old.image path) []
+  pub image : (state file).image ≡ content_of (old.at path)
   pub hold_is : hold file ≡ whole
   pub named : IsNamed path folder old new
-  pub unasked : IsUnasked path folder old new
 
 -- where a file was opened, it is the one that is to be had
 abbrev pub IsHeld : {F : Type 0} → (F → SiteState) → (F → Hold) → List ℕ → FolderSync → Option F → FilesState → FilesState → Type 0

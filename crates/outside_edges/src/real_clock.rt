@@ -1,5 +1,6 @@
 //! The machine's clock.
 ghost use Rattle.std.specs.Prelude.{◌≡◌};
+ghost use Rattle.site_traits.specs.Counts.{one_more};
 ghost use Rattle.outside_edges.specs.Clock.{millis, moment_after};
 
 use host_calls::TimeOfDay;
@@ -32,6 +33,7 @@ impl<T: TimeOfDay> Clock for RealClock<T> {
     fn now(&mut self) -> u64
         ensures moment { T.tells → result ≡ moment_after (T.reading self.old.time) self.old.last }
         ensures last { self.new.last ≡ result }
+        ensures one { T.tells → T.calls self.new.time ≡ one_more (T.calls self.old.time) }
     {
         if let Some(since) = self.time.since_1970() {
             self.last = millis_of(since);

@@ -1,8 +1,9 @@
 //! Standard input and output as a door with one connection.
 ghost use Rattle.std.specs.Prelude.{◌≡◌, ◌≢◌, ◌≤◌, ◌<◌, ◌-◌, ◌^◌, [], IfOk, IfErr, false, true, length};
 ghost use Rattle.std.specs.IoError.{error_kind};
-ghost use Rattle.site_traits.specs.Door.{Nexts, NextCause};
-ghost use Rattle.host_calls.specs.Streams.{Gives, Takes};
+ghost use Rattle.site_traits.specs.Door.{HangsUp, IsAmount, IsTaken, NextCause, Nexts, ReadCause, ReadsIn, WriteCause, WritesOut, closed};
+ghost use Rattle.host_calls.specs.Streams.{Gives, Takes, fault_of};
+ghost use Rattle.outside_edges.specs.Again.{MadeAgain, ReadsAgain, WritesAgain};
 ghost use Rattle.outside_edges.specs.Door.{counted, state_of, IsDoor};
 
 use crate::counted::count_fault;
@@ -74,6 +75,7 @@ impl<I: InStream, O: OutStream> Door for RealDoor<I, O> {
         ensures later { self.old.came ≡ true → self.old.ends < 2 ^ 64 - 1 → result ≡ NextAnswer.Ended }
         ensures told { I.tells × O.tells → Nexts result (state_of self.old.came self.old.role self.old.ends self.old.up self.old.read_failed self.old.write_failed (I.state self.old.input) (O.state self.old.output)) (state_of self.new.came self.new.role self.new.ends self.new.up self.new.read_failed self.new.write_failed (I.state self.new.input) (O.state self.new.output)) }
         ensures cause { NextCause result (counted self.old.faults self.old.next_faults self.old.up) (counted self.new.faults self.new.next_faults self.new.up) }
+        ensures uncalled { (self.new.input ≡ self.old.input) × (self.new.output ≡ self.old.output) }
     {
         if !self.came {
             self.came = true;
@@ -89,7 +91,15 @@ impl<I: InStream, O: OutStream> Door for RealDoor<I, O> {
         NextAnswer::Ended
     }
 
-    fn read(&mut self, into: &mut [u8]) -> ReadAnswer {
+    fn read(&mut self, into: &mut [u8]) -> ReadAnswer
+        requires some { 1 ≤ length into.old }
+        requires up { self.old.up ≡ true }
+        ensures amount { IsAmount result (length into.old) }
+        ensures told { I.tells × O.tells → ReadsIn into.old into.new result (state_of self.old.came self.old.role self.old.ends self.old.up self.old.read_failed self.old.write_failed (I.state self.old.input) (O.state self.old.output)) (state_of self.new.came self.new.role self.new.ends self.new.up self.new.read_failed self.new.write_failed (I.state self.new.input) (O.state self.new.output)) }
+        ensures cause { ReadCause result (counted self.old.faults self.old.next_faults self.old.up) (counted self.new.faults self.new.next_faults self.new.up) }
+        ensures again { I.tells → ReadsAgain (length into.old) result (I.calls self.old.input) (I.calls self.new.input) }
+        ensures unwritten { self.new.output ≡ self.old.output }
+    {
         match read_some(&mut self.input, into) {
             Ok(0) => ReadAnswer::End,
             Ok(count) => ReadAnswer::Got(count),
@@ -101,7 +111,15 @@ impl<I: InStream, O: OutStream> Door for RealDoor<I, O> {
         }
     }
 
-    fn write(&mut self, bytes: &[u8]) -> WriteAnswer {
+    fn write(&mut self, bytes: &[u8]) -> WriteAnswer
+        requires some { 1 ≤ length bytes.now }
+        requires up { self.old.up ≡ true }
+        ensures amount { IsTaken result (length bytes.now) }
+        ensures told { I.tells × O.tells → WritesOut bytes.now result (state_of self.old.came self.old.role self.old.ends self.old.up self.old.read_failed self.old.write_failed (I.state self.old.input) (O.state self.old.output)) (state_of self.new.came self.new.role self.new.ends self.new.up self.new.read_failed self.new.write_failed (I.state self.new.input) (O.state self.new.output)) }
+        ensures cause { WriteCause result (counted self.old.faults self.old.next_faults self.old.up) (counted self.new.faults self.new.next_faults self.new.up) }
+        ensures again { O.tells → WritesAgain (length bytes.now) result (O.calls self.old.output) (O.calls self.new.output) }
+        ensures unread { self.new.input ≡ self.old.input }
+    {
         match write_some(&mut self.output, bytes) {
             Ok(count) if count > 0 => WriteAnswer::Took(count),
             _ => {
@@ -112,7 +130,12 @@ impl<I: InStream, O: OutStream> Door for RealDoor<I, O> {
         }
     }
 
-    fn hang_up(&mut self) {
+    fn hang_up(&mut self)
+        requires up { self.old.up ≡ true }
+        ensures told { I.tells × O.tells → HangsUp (state_of self.old.came self.old.role self.old.ends self.old.up self.old.read_failed self.old.write_failed (I.state self.old.input) (O.state self.old.output)) (state_of self.new.came self.new.role self.new.ends self.new.up self.new.read_failed self.new.write_failed (I.state self.new.input) (O.state self.new.output)) }
+        ensures cause { counted self.new.faults self.new.next_faults self.new.up ≡ closed (counted self.old.faults self.old.next_faults self.old.up) }
+        ensures uncalled { (self.new.input ≡ self.old.input) × (self.new.output ≡ self.old.output) }
+    {
         self.up = false;
     }
 }
@@ -122,8 +145,9 @@ fn read_some<I: InStream>(input: &mut I, into: &mut [u8]) -> io::Result<usize>
     ensures most { IfOk result (λ count. count ≤ length into.old) }
     ensures told { I.tells → Gives into.old into.new result (I.state input.old) (I.state input.new) }
     ensures again { IfErr result (λ fault. error_kind fault ≢ ErrorKind.Interrupted) }
+    ensures calls { I.tells → MadeAgain (length into.old) (fault_of result) (I.calls input.old) (I.calls input.new) }
 {
-    for _ in 0..u64::MAX {
+    for _turn in 0..u64::MAX {
         match input.read(into) {
             Err(fault) if fault.kind() == ErrorKind::Interrupted => {}
             answer => return answer,
@@ -137,8 +161,9 @@ fn write_some<O: OutStream>(output: &mut O, bytes: &[u8]) -> io::Result<usize>
     ensures most { IfOk result (λ count. count ≤ length bytes.now) }
     ensures told { O.tells → Takes bytes.now result (O.state output.old) (O.state output.new) }
     ensures again { IfErr result (λ fault. error_kind fault ≢ ErrorKind.Interrupted) }
+    ensures calls { O.tells → MadeAgain (length bytes.now) (fault_of result) (O.calls output.old) (O.calls output.new) }
 {
-    for _ in 0..u64::MAX {
+    for _turn in 0..u64::MAX {
         match output.write(bytes) {
             Err(fault) if fault.kind() == ErrorKind::Interrupted => {}
             answer => return answer,

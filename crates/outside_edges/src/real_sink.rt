@@ -1,6 +1,7 @@
 //! A standard stream as a sink.
-ghost use Rattle.std.specs.Prelude.{◌≡◌};
-ghost use Rattle.host_calls.specs.Streams.{TakesAll};
+ghost use Rattle.std.specs.Prelude.{◌≡◌, Option, length};
+ghost use Rattle.std.specs.declared.io.ErrorKind.{ErrorKind};
+ghost use Rattle.host_calls.specs.Streams.{TakesAll, called};
 
 use crate::counted::{count_call, count_fault};
 use host_calls::OutStream;
@@ -41,6 +42,7 @@ impl<O: OutStream> Sink for RealSink<O> {
 
     fn put(&mut self, bytes: &[u8]) -> Result<(), SinkFailed>
         ensures out { O.tells → TakesAll bytes.now result (O.state self.old.stream) (O.state self.new.stream) }
+        ensures one { O.tells → (fault : Option ErrorKind) × (O.calls self.new.stream ≡ called (length bytes.now) fault (O.calls self.old.stream)) }
         ensures cause { SinkCause (record { calls = self.old.puts; faults = self.old.faults }) (record { calls = self.new.puts; faults = self.new.faults }) result }
         ensures counted { CountsOne result self.old.faults self.new.faults }
     {

@@ -1,10 +1,12 @@
 //! The journal's real file, under its exclusive lock.
-ghost use Rattle.std.specs.Prelude.{◌≡◌, ◌≤◌, ◌+◌, IfOk, OnErr, OnOk, IsErr, None, length, take, drop};
+ghost use Rattle.std.specs.Prelude.{◌≡◌, ◌≤◌, ◌+◌, IfOk, OnErr, OnOk, IsErr, None, length, take, drop, true};
 ghost use Rattle.std.specs.IoError.{error_kind};
 ghost use Rattle.site_traits.specs.Counts.{Ask, asked, DiskCause, one_more};
 ghost use Rattle.site_traits.specs.Site.{Reads, Writes, Cuts, Syncs};
 ghost use Rattle.outside_edges.specs.Faults.{CountsOne};
-ghost use Rattle.outside_edges.specs.Site.{counts_of, state_in, IsFound, IsHad, IsExplained, IsHeld, OneCall, why_by};
+ghost use Rattle.host_calls.specs.Files.{free, new_file};
+ghost use Rattle.outside_edges.specs.Having.{Goes, IsLent, LeavesAll, MakesAtAll, Seeks, lost_by, lost_in, to_lend, to_name};
+ghost use Rattle.outside_edges.specs.Site.{counts_of, state_in, IsHad, IsExplained, IsHeld, OneCall, why_by};
 
 use crate::counted::{count_call, count_fault};
 use host_calls::{HostFile, HostFiles};
@@ -74,19 +76,25 @@ impl<F: HostFile + Drop> RealSite<F> {
         }
     }
 
-    /// Opens the file at this path, which is made empty where there is none. Where that, or `folder`, asks for it, its folder is
-    /// synced, since a file whose name is lost holds nothing, and else it isn't. What is opened is a regular file; it is locked, and read from the
-    /// disk. No file here is a standard stream, since those are held. Where it can't be had, `why` says the cause.
+    /// Opens the file at this path, which is made empty where there is none. Where that, or `folder`, asks for it, its
+    /// folder is synced, since a file whose name is lost holds nothing, and else it isn't. What is opened is had once
+    /// it is a regular file, then is locked, and then its pages are dropped, so that it is read from the disk. No file
+    /// here is a standard stream, since those are held.
+    ///
+    /// Where it can't be had, `why` says the cause: that of the first call that failed, behind which no other is made.
+    /// Whatever stood at a path then stands as it did, with its content and mode; a file that was made is empty.
     ///
     /// Its one refusal is want of memory.
-    pub fn open<H: HostFiles<File = F>, T: Drop>(
+    pub fn open<H: HostFiles<File = F>>(
         &mut self,
         host: &mut H,
-        streams: &HeldStreams<T>,
+        streams: &HeldStreams<H::Held>,
         path: &str,
         folder: FolderSync,
     ) -> Result<(), AllocError>
         ensures had { H.tells → F.tells → OnOk result (IsHeld F.state F.hold path.now folder self.new.file (H.state host.old) (H.state host.new)) }
+        ensures seeks { H.tells → Seeks path.now folder (lost_by result self.new.why) (H.state host.old) (H.state host.new) }
+        ensures stands { H.tells → LeavesAll path.now (H.state host.old) (H.state host.new) }
         ensures why { OnOk result (IsExplained self.new.file self.new.why) }
         ensures refused { OnErr result (self.new ≡ self.old) }
         ensures counts { counts_of self.new ≡ counts_of self.old }
@@ -114,47 +122,82 @@ impl<F: HostFile + Drop> RealSite<F> {
     }
 }
 
-/// The file at this path, locked, and to be read from the disk.
-fn found<H: HostFiles, T: Drop>(
+/// The file at this path, which is made where there is none, and then is locked and read from the disk.
+fn found<H: HostFiles>(
     host: &mut H,
-    streams: &HeldStreams<T>,
+    streams: &HeldStreams<H::Held>,
     path: &str,
     folder: FolderSync,
 ) -> Result<H::File, WhyLost>
-    ensures { H.tells → H.File.tells → IfOk result (λ file. IsHad H.File.state H.File.hold path.now folder file (H.state host.old) (H.state host.new)) }
-{
-    let mut file = at_path(host, streams, path, folder)?;
-    if !file.is_regular().map_err(why_of)? {
-        return Err(WhyLost::NotAFile);
-    }
-    file.try_lock().map_err(why_of)?;
-    file.forget_pages().map_err(why_of)?;
-    Ok(file)
-}
-
-/// The file at this path, which is made where there is none.
-fn at_path<H: HostFiles, T: Drop>(
-    host: &mut H,
-    streams: &HeldStreams<T>,
-    path: &str,
-    folder: FolderSync,
-) -> Result<H::File, WhyLost>
-    ensures { H.tells → IfOk result (λ file. IsFound H.File.state H.File.hold path.now folder file (H.state host.old) (H.state host.new)) }
+    ensures had { H.tells → IfOk result (λ file. IsHad H.File.state H.File.hold path.now folder file (H.state host.old) (H.state host.new)) }
+    ensures seeks { H.tells → Seeks path.now folder (lost_in result) (H.state host.old) (H.state host.new) }
 {
     match host.open(streams, path) {
-        Ok(file) => {
-            if folder == FolderSync::Always {
-                host.sync_folder(streams, path).map_err(why_of)?;
-            }
-            Ok(file)
-        }
-        Err(fault) if fault.kind() == ErrorKind::NotFound => {
-            let file = host.create_new(streams, path).map_err(why_of)?;
-            host.sync_folder(streams, path).map_err(why_of)?;
-            Ok(file)
-        }
+        Ok(opened) => match folder {
+            FolderSync::Always => named(host, streams, path, opened),
+            FolderSync::WhereMade => lent(host, opened),
+        },
+        Err(fault) if fault.kind() == ErrorKind::NotFound => made(host, streams, path),
         Err(fault) => Err(why_of(fault)),
     }
+}
+
+/// An empty file that is made at this path.
+fn made<H: HostFiles>(
+    host: &mut H,
+    streams: &HeldStreams<H::Held>,
+    path: &str,
+) -> Result<H::File, WhyLost>
+    ensures file { H.tells → IfOk result (λ file. IsLent H.File.state H.File.hold new_file file) }
+    ensures name { H.tells → OnOk result ((H.state host.new).named path.now ≡ true) }
+    ensures makes { H.tells → MakesAtAll path.now (lost_in result) (H.state host.old) (H.state host.new) }
+{
+    match host.create_new(streams, path) {
+        Ok(opened) => named(host, streams, path, opened),
+        Err(fault) => Err(why_of(fault)),
+    }
+}
+
+/// What was opened at this path, with its name on the disk.
+fn named<H: HostFiles>(
+    host: &mut H,
+    streams: &HeldStreams<H::Held>,
+    path: &str,
+    opened: H::Opened,
+) -> Result<H::File, WhyLost>
+    requires { H.tells → H.hold opened ≡ free (H.standing opened).regular }
+    ensures file { H.tells → IfOk result (λ file. IsLent H.File.state H.File.hold (H.standing opened) file) }
+    ensures name { H.tells → OnOk result ((H.state host.new).named path.now ≡ true) }
+    ensures goes { H.tells → Goes to_name (lost_in result) (H.state host.old).calls (H.state host.new) }
+    ensures stands { H.tells → (H.state host.new).at ≡ (H.state host.old).at }
+{
+    match host.sync_folder(streams, path) {
+        Ok(()) => lent(host, opened),
+        Err(fault) => Err(why_of(fault)),
+    }
+}
+
+/// What was opened, locked, and to be read from the disk.
+fn lent<H: HostFiles>(host: &mut H, opened: H::Opened) -> Result<H::File, WhyLost>
+    requires { H.tells → H.hold opened ≡ free (H.standing opened).regular }
+    ensures file { H.tells → IfOk result (λ file. IsLent H.File.state H.File.hold (H.standing opened) file) }
+    ensures goes { H.tells → Goes to_lend (lost_in result) (H.state host.old).calls (H.state host.new) }
+    ensures stands { H.tells → (H.state host.new).at ≡ (H.state host.old).at }
+    ensures names { H.tells → (H.state host.new).named ≡ (H.state host.old).named }
+{
+    let mut opened = opened;
+    match host.is_regular(&mut opened) {
+        Ok(true) => {}
+        Ok(false) => return Err(WhyLost::NotAFile),
+        Err(fault) => return Err(why_of(fault)),
+    }
+    if let Err(fault) = host.try_lock(&mut opened) {
+        return Err(why_of(fault));
+    }
+    if let Err(fault) = host.forget_pages(&mut opened) {
+        return Err(why_of(fault));
+    }
+    Ok(host.lend(opened))
 }
 
 /// Why a file couldn't be had, by the fault of the call that failed.

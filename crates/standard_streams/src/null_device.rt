@@ -14,7 +14,7 @@ pub trait NullDevice {
     /// Whether devices of this kind tell which numbers are taken. Clauses on these hold where they do.
     ghost tells: { Type 0 };
 
-    /// Which numbers are taken, and how many openings have failed.
+    /// Which numbers are taken, how often it was opened, and how many openings have failed.
     ghost numbers: { Self → Numbers };
 
     /// Opens it once more.
@@ -40,7 +40,7 @@ impl<'a, R: Files> NullDevice for NullFiles<'a, R> {
 
     ghost tells = { ⊥ };
 
-    ghost numbers = { λ _. record { taken = λ _. ⊥; failed = 0 } };
+    ghost numbers = { λ _. record { taken = λ _. ⊥; opened = 0; failed = 0 } };
 
     fn open(&mut self) -> io::Result<R::File> {
         File::open(self.files, "/dev/null")

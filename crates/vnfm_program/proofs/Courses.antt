@@ -2,8 +2,10 @@
 use Rattle.std.proofs.Common.{◌≡◌, ◌⊎◌, ℕ, List, Option, None, Result, Ok, Err, IfErr, inl, inr, sym, subst}
 use Rattle.host_calls.specs.Files.{FilesState, Hold}
 use Rattle.lcm_api.specs.Mouth.{MouthState}
+use Rattle.outside_edges.specs.Having.{LeavesAll, Seeks}
 use Rattle.outside_edges.specs.Site.{IsHeld}
 use Rattle.outside_edges.specs.declared.real_site.FolderSync.{FolderSync}
+use Rattle.outside_edges.specs.declared.real_site.WhyLost.{WhyLost}
 use Rattle.program_words.specs.Pages.{page_of}
 use Rattle.program_words.specs.declared.page.Page.{Page}
 use Rattle.site_traits.specs.Site.{SiteState}
@@ -21,6 +23,17 @@ pub held_as : {F : Type 0} (state : F → SiteState) (hold : F → Hold) (settin
     → IsHeld state hold path folder file old new → IsHeld state hold settings.journal (folder_of settings.command) file old new
 held_as state hold settings path folder file old new same_path same_folder held =
     subst (λ (f : FolderSync). IsHeld state hold settings.journal f file old new) same_folder (subst (λ (p : List ℕ). IsHeld state hold p folder file old new) same_path held)
+
+-- the same of how it was asked for, and of what is left
+pub sought_as : (settings : Settings) (path : List ℕ) (folder : FolderSync) (lost : Option WhyLost) (old new : FilesState)
+    → path ≡ settings.journal → folder ≡ folder_of settings.command
+    → Seeks path folder lost old new → Seeks settings.journal (folder_of settings.command) lost old new
+sought_as settings path folder lost old new same_path same_folder seeks =
+    subst (λ (f : FolderSync). Seeks settings.journal f lost old new) same_folder (subst (λ (p : List ℕ). Seeks p folder lost old new) same_path seeks)
+
+pub left_at : (settings : Settings) (path : List ℕ) (old new : FilesState)
+    → path ≡ settings.journal → LeavesAll path old new → LeavesAll settings.journal old new
+left_at settings path old new same_path leaves = subst (λ (p : List ℕ). LeavesAll p old new) same_path leaves
 
 -- what needs an answer that there isn't holds of each fault
 pub no_answer : {A E R : Type 0} (given : Result A E) (P Q : E → Type 0) → (R → ⊥) → IfErr given (λ fault. P fault → R) → IfErr given (λ fault. P fault → Q fault)

@@ -1,5 +1,5 @@
 -- What the program does (own rule, docs/FORMATS.md).
-use Rattle.std.specs.Prelude.{◌≡◌, ◌⊎◌, ◌<◌, ℕ, List, Bool, true, false, Option, Some, None, Result, Ok}
+use Rattle.std.specs.Prelude.{◌≡◌, ◌⊎◌, ◌+◌, ℕ, List, Bool, true, false, Option, Some, None, Result, Ok}
 use Rattle.std.specs.declared.alloc.AllocError.{AllocError}
 use Rattle.command_line.specs.Words.{settings_of}
 use Rattle.command_line.specs.declared.options.Command.{Command}
@@ -8,16 +8,19 @@ use Rattle.command_line.specs.declared.options.Settings.{Settings}
 use Rattle.host_calls.specs.Files.{FilesState, Hold}
 use Rattle.lcm_api.specs.Mouth.{MouthState}
 use Rattle.occ_work.specs.Around.{Peer}
+use Rattle.outside_edges.specs.Having.{LeavesAll, Seeks}
 use Rattle.outside_edges.specs.Site.{IsExplained, IsHeld, counts_of, state_in}
 use Rattle.outside_edges.specs.declared.real_site.FolderSync.{FolderSync}
 use Rattle.outside_edges.specs.declared.real_site.FolderSync.TheVariants.{Always, WhereMade}
 use Rattle.outside_edges.specs.declared.real_site.RealSite.{RealSite}
+use Rattle.outside_edges.specs.declared.real_site.WhyLost.{WhyLost}
+use Rattle.outside_edges.specs.declared.real_site.WhyLost.TheVariants.{Memory}
 use Rattle.program_words.specs.Pages.{page_of}
 use Rattle.program_words.specs.Reasons.{reason_of}
 use Rattle.program_words.specs.declared.page.Page.{Page}
 use Rattle.program_words.specs.declared.reason.Reason.{Reason}
 use Rattle.site_traits.specs.Site.{SiteState}
-use Rattle.standard_streams.specs.Numbers.{AreStreamsTaken, Numbers}
+use Rattle.standard_streams.specs.Numbers.{AreHeld, Numbers}
 use Rattle.vnfm_cli.specs.Promises.{Ground, Promises}
 use Rattle.vnfm_commands.specs.Ending.{Output}
 use Rattle.vnfm_commands.specs.Outside.{Mail, Outside}
@@ -128,12 +131,18 @@ module _ {N H F : Type 0} where
     pub starves : Starves g.errors status a.machine.errors b.machine.errors
     pub kept : b ≡ record a { machine = record a.machine { errors = b.machine.errors } }
 
-  -- there was no memory to open the file that the words name, while the numbers of the standard streams are taken: that was said, and nothing
-  -- else was done
+  -- The file at the path of the settings was asked for, while the numbers of the standard streams are held by the one
+  -- holding that was made. Where it was lost, it was for this cause. Whatever stood at a path stands as it did.
+  pub record AsksForFile (g : Meaning N H F) (settings : Settings) (lost : Option WhyLost) (a b : Machine N H F) : Type 0 where
+    pub streams : g.device_tells → AreHeld (g.numbers a.device) (g.numbers b.device)
+    pub seeks : g.files_tells → Seeks settings.journal (folder_of settings.command) lost (g.places a.files) (g.places b.files)
+    pub stands : g.files_tells → LeavesAll settings.journal (g.places a.files) (g.places b.files)
+
+  -- there was no memory to open the file that the words name: that was said, and nothing else was done
   pub record IsStarvedOpening (g : Meaning N H F) (words : List (List ℕ)) (status : ℕ) (a b : Objects N H F) : Type 0 where
     pub settings : Settings
     pub set : settings_of words ≡ Some settings
-    pub streams : g.device_tells → AreStreamsTaken (g.numbers b.machine.device)
+    pub asks : AsksForFile g settings (Some Memory) a.machine b.machine
     pub starves : Starves g.errors status a.machine.errors b.machine.errors
     pub kept : b ≡ record a { machine = record a.machine { device = b.machine.device; files = b.machine.files; errors = b.machine.errors } }
 
@@ -142,10 +151,9 @@ module _ {N H F : Type 0} where
     pub prints : Prints g.lines page status a.machine.lines b.machine.lines
     pub kept : b ≡ record a { machine = record a.machine { lines = b.machine.lines } }
 
-  -- The file at the path of the settings was opened, or it is told why it couldn't be had, while the numbers of the standard streams are
-  -- taken. Nothing else was done.
+  -- The file at the path of the settings was opened, or it is told why it couldn't be had. Nothing else was done.
   pub record OpensFile (g : Meaning N H F) (settings : Settings) (a b : Machine N H F) : Type 0 where
-    pub streams : g.device_tells → AreStreamsTaken (g.numbers b.device)
+    pub asks : AsksForFile g settings b.site.why a b
     pub file : g.files_tells → g.outside.site → IsHeld g.state g.hold settings.journal (folder_of settings.command) b.site.file (g.places a.files) (g.places b.files)
     pub why : IsExplained b.site.file b.site.why
     pub counts : counts_of b.site ≡ counts_of a.site
@@ -153,7 +161,7 @@ module _ {N H F : Type 0} where
 
   -- the numbers of the standard streams couldn't be taken, and nothing was done
   pub record OpensNothing (g : Meaning N H F) (a b : Machine N H F) : Type 0 where
-    pub failed : g.device_tells → (g.numbers a.device).failed < (g.numbers b.device).failed
+    pub failed : g.device_tells → (g.numbers b.device).failed ≡ (g.numbers a.device).failed + 1
     pub kept : b ≡ record a { device = b.device }
 
   -- what is done before the run: nothing for words that set nothing

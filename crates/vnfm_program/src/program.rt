@@ -40,7 +40,7 @@ use vnfm_cli::{Command, Settings, SettingsFault, run, settings};
 /// Source: own rule, docs/FORMATS.md, "The program".
 pub fn start<
     N: NullDevice,
-    H: HostFiles,
+    H: HostFiles<Held = N::Held>,
     I: InStream,
     O: OutStream,
     Q: Orchestrator,
@@ -82,7 +82,7 @@ where
 /// Obeys words that ask for no page.
 fn command<
     N: NullDevice,
-    H: HostFiles,
+    H: HostFiles<Held = N::Held>,
     I: InStream,
     O: OutStream,
     Q: Orchestrator,
@@ -124,7 +124,7 @@ where
 /// Takes the numbers of the standard streams and opens the file that the settings name, and runs over it.
 fn hold_and_perform<
     N: NullDevice,
-    H: HostFiles,
+    H: HostFiles<Held = N::Held>,
     I: InStream,
     O: OutStream,
     Q: Orchestrator,
