@@ -7,8 +7,8 @@ mod pulse;
 
 pub use laws::limits_are_these;
 pub use limits::{
-    BUSY, CONNECT, CONNECTION, Exchange, INFRASTRUCTURE, LINGER, ORCHESTRATOR, POST,
-    SILENCE_BEFORE, SILENCE_WITHIN, STUCK, Stage, TAKEN, WHOLE, exchange_limit, lingering_limit,
-    reading_limit, writing_limit,
+    BUSY, CONNECT, CONNECTION, Exchange, INFRASTRUCTURE, LINGER, ORCHESTRATOR, PIECE, POST,
+    SILENCE_BEFORE, SILENCE_WITHIN, STUCK, Stage, TAKEN, WAITING, WHOLE, exchange_limit,
+    lingering_limit, reading_limit, writing_limit,
 };
-pub use pulse::{FIRST, IDLE, LONGEST, Pulse, wait_of};
+pub use pulse::{FIRST, IDLE, LONGEST, PAUSE, Pulse, pause_of, wait_of};

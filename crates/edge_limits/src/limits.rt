@@ -1,11 +1,12 @@
 //! The limits, in milliseconds, and how long a call may wait under them.
-ghost use Rattle.std.specs.Prelude.{◌≡◌, ◌≤◌, ◌<◌, ◌^◌, IfSome, None, Some, if◌then◌else◌, nat_le};
-ghost use Rattle.edge_limits.specs.Waits.{left, lingering, reading, shorter, writing};
+ghost use Rattle.std.specs.Prelude.{◌≡◌, ◌≤◌, ◌<◌, ◌^◌, IfSome};
+ghost use Rattle.edge_limits.specs.Waits.{between, left, lingering, reading, shorter, writing};
 
 /// For which a connection may be silent before a request: one idle peer must not hold up turns.
 pub const SILENCE_BEFORE: u64 = 200;
 
-/// For which it may be silent within one. A client that says `Expect: 100-continue` waits 1,000 before it sends its body.
+/// For which it may be silent within one. A client that says `Expect: 100-continue` waits 1,000 before it sends its
+/// body.
 pub const SILENCE_WITHIN: u64 = 2_000;
 
 /// In which a request has to be whole: 1 MiB at 1 Mbit/s takes 8,000.
@@ -17,7 +18,8 @@ pub const STUCK: u64 = 2_000;
 /// In which a reply has to be taken.
 pub const TAKEN: u64 = 30_000;
 
-/// After which a connection ends where it is silent between two requests: else one that polls often would keep every turn away.
+/// After which a connection ends where it is silent between two requests: else one that polls often would keep every
+/// turn away.
 pub const CONNECTION: u64 = 1_000;
 
 /// After which it ends between two requests, silent or not.
@@ -25,6 +27,13 @@ pub const BUSY: u64 = 5_000;
 
 /// For which what still comes behind the last reply is dropped, so that the peer reads that reply.
 pub const LINGER: u64 = 500;
+
+/// Connections that have sent nothing yet and wait for their first byte; beyond them the oldest is closed. Each takes a
+/// descriptor, of which a process often has 1,024.
+pub const WAITING: usize = 64;
+
+/// Bytes of the largest write of a reply: a peer that takes them slowly is seen behind each.
+pub const PIECE: usize = 65_536;
 
 /// In which a peer has to take a connection.
 pub const CONNECT: u32 = 1_000;
@@ -98,7 +107,7 @@ pub fn reading_limit(stage: Stage, came: u64, now: u64) -> Option<u32>
 
 /// How long a read between two requests may wait on a connection of this age.
 fn between(age: u64) -> Option<u32>
-    ensures value { result ≡ (if nat_le 5000 age then None else if nat_le 1000 age then Some 1 else Some 200) }
+    ensures value { result ≡ between age }
     ensures some { IfSome result (λ n. 1 ≤ n) }
 {
     if age >= BUSY {

@@ -13,9 +13,13 @@ pub trait Stopwatch {
     /// The milliseconds that it shows next.
     ghost shows: { Self → Option ℕ };
 
+    /// Those that it showed last.
+    ghost shown: { Self → Option ℕ };
+
     /// The milliseconds since then; none where the machine's clock can't be read.
     fn millis(&mut self) -> Option<u64>
-        ensures told { tells → result ≡ shows self.old };
+        ensures told { tells → result ≡ shows self.old }
+        ensures last { tells → shown self.new ≡ result };
 }
 
 /// The machine's monotonic clock.
@@ -41,6 +45,8 @@ impl<'a, R: Clock> Stopwatch for StdStopwatch<'a, R> {
     ghost tells = { ⊥ };
 
     ghost shows = { λ _. None };
+
+    ghost shown = { λ _. None };
 
     fn millis(&mut self) -> Option<u64> {
         let passed = Instant::now(self.rt).ok()?.duration_since(self.start?);

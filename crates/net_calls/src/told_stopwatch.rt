@@ -26,8 +26,11 @@ impl Stopwatch for StepWatch {
 
     ghost shows = { λ w. Some (min (w.now + w.step) (2 ^ 64 - 1)) };
 
+    ghost shown = { λ w. Some w.now };
+
     fn millis(&mut self) -> Option<u64>
         ensures told { Unit {0} → result ≡ Some (min (self.old.now + self.old.step) (2 ^ 64 - 1)) }
+        ensures last { Unit {0} → Some self.new.now ≡ result }
         ensures on { self.new.now ≡ min (self.old.now + self.old.step) (2 ^ 64 - 1) }
         ensures step { self.new.step ≡ self.old.step }
     {

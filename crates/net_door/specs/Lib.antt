@@ -1,0 +1,4 @@
+pub mod AtHand
+pub mod Addresses
+pub mod Conversations
+pub mod Waiting

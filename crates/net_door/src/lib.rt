@@ -1,0 +1,14 @@
+//! The door at two addresses: a connection at either is taken in turn, and read and written under limits of time; those
+//! that have sent nothing yet wait beside the listeners. It waits in the kernel, at most as long as what was done since
+//! says.
+#![tactic(auto)]
+
+mod conversation;
+mod real_door;
+mod two_addresses;
+mod waiting;
+
+pub use conversation::Conversation;
+pub use real_door::RealDoor;
+pub use two_addresses::{Shut, TwoAddresses};
+pub use waiting::Waiting;
