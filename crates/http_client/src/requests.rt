@@ -9,9 +9,9 @@ use vnfm_base::{Bytes, Line, Name};
 
 /// The bytes of a request that is its connection's only one.
 ///
-/// `host` is the host and, where it isn't 80, the port that the connection goes to. `path` is the request target, which has no blank where
-/// it is the path and query of a URL. A body is JSON; of none neither type nor length are told.
-/// The one failure is want of memory.
+/// `host` is the host and, where it isn't 80, the port that the connection goes to. `path` is the request target, which
+/// has no blank where it is the path and query of a URL. A body is JSON; of none neither type nor length are told. The
+/// one failure is want of memory.
 /// Source: RFC 9112 3 and 6, RFC 9110 7.2 (Host and :authority), 8.3 (Content-Type) and 8.6 (Content-Length).
 pub fn request_bytes(
     alloc: Global,

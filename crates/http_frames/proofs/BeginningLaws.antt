@@ -22,7 +22,7 @@ use Rattle.http_frames.proofs.MessageLaws.{front_bad, front_big, head_some}
 -- ---- a whole chunked body
 
 -- no front of it is bad
-whole_not_bad : (cs : List Chunk) (bytes left : List ℕ) (line : ChunkLine) (trailer q r : List ℕ) → Chunks bytes cs left → ReadsChunkLine left line trailer
+pub whole_not_bad : (cs : List Chunk) (bytes left : List ℕ) (line : ChunkLine) (trailer q r : List ℕ) → Chunks bytes cs left → ReadsChunkLine left line trailer
     → chunk_size line ≡ 0 → bytes ≡ q ++ r → HasBadChunk q → ⊥
 whole_not_bad [] bytes left line trailer q r passed last zero e bad =
     no_bad_at_last bytes q r line trailer bad.chunks bad.left (subst (λ (x : List ℕ). ReadsChunkLine x line trailer) (sym passed) last) zero e bad.passed bad.bad
@@ -31,7 +31,7 @@ whole_not_bad (c ∷ cs) bytes left line trailer q r passed last zero e bad =
     whole_not_bad cs passed.1.0 left line trailer behind.0 r passed.1.2 last zero behind.2 behind.3
 
 -- no front of it has too much content, where all of it has not
-whole_not_much : (taken : ℕ) (cs : List Chunk) (bytes left : List ℕ) (line : ChunkLine) (trailer q r : List ℕ) → Chunks bytes cs left
+pub whole_not_much : (taken : ℕ) (cs : List Chunk) (bytes left : List ℕ) (line : ChunkLine) (trailer q r : List ℕ) → Chunks bytes cs left
     → ReadsChunkLine left line trailer → chunk_size line ≡ 0 → taken + length (content_of cs) ≤ BODY_BYTES → bytes ≡ q ++ r → HasMuch taken q → ⊥
 whole_not_much taken [] bytes left line trailer q r passed last zero fits e over =
     no_much_at_last taken bytes q r line trailer over.chunks over.left over.line over.more (subst (λ (x : List ℕ). ReadsChunkLine x line trailer) (sym passed) last)

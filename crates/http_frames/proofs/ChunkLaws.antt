@@ -32,7 +32,7 @@ same_chunk c d e f =
     lines ∙ contents
 
 -- a chunk at a front is the chunk at the whole
-chunk_in : (c d : Chunk) (mid q r m : List ℕ) → IsChunk c → IsChunk d → print_chunk c ++ mid ≡ q ++ r → q ≡ print_chunk d ++ m
+pub chunk_in : (c d : Chunk) (mid q r m : List ℕ) → IsChunk c → IsChunk d → print_chunk c ++ mid ≡ q ++ r → q ≡ print_chunk d ++ m
     → (d ≡ c) × (mid ≡ m ++ r)
 chunk_in c d mid q r m is_c is_d e f =
     let at_q = subst (λ (x : List ℕ). ReadsChunkLine x d.line (d.content ++ (crlf_bytes ++ m))) (sym f) (chunk_line_of d m is_d) in

@@ -22,7 +22,7 @@ use Rattle.http_frames.specs.declared.framing.Frame.TheVariants.{NoBody, Sized, 
 use Rattle.http_frames.specs.declared.framing.Values.{Values}
 use Rattle.http_frames.specs.declared.framing.Values.TheVariants.{Absent, Once, Several}
 use Rattle.http_frames.specs.Answers.{HoldsValues}
-use Rattle.http_frames.specs.Framing.{is_same_word, values_of, is_length, sized, announced, coded, framed, frame_of_fields, asks_to_close, has_close, first_value, media}
+use Rattle.http_frames.specs.Framing.{is_same_word, values_of, is_length, sized, announced, coded, framed, frame_of_fields, asks_to_close, has_close, first_value}
 
 map_filter-append : (p : List ℕ × List ℕ → Bool) (a b : List (List ℕ × List ℕ))
     → map (λ f. f.1) (filter p (a ++ b)) ≡ map (λ f. f.1) (filter p a) ++ map (λ f. f.1) (filter p b)
@@ -215,12 +215,11 @@ first_found Absent = None
 first_found (Once s) = Some s
 first_found (Several s) = Some s
 
-pub media_found : (buf : List ℕ) (fields : List (List ℕ × List ℕ)) (found : Values) → HoldsValues buf found (values_of (codes "content-type") fields)
-    → media fields ≡ option_map (span_bytes buf) (first_found found)
-unfolding media
-media_found buf fields Absent h = ap first_value h
-media_found buf fields (Once s) h = ap first_value h.1
-media_found buf fields (Several s) h = ap first_value h.1.2
+pub first_is_found : (buf : List ℕ) (values : List (List ℕ)) (found : Values) → HoldsValues buf found values
+    → first_value values ≡ option_map (span_bytes buf) (first_found found)
+first_is_found buf values Absent h = ap first_value h
+first_is_found buf values (Once s) h = ap first_value h.1
+first_is_found buf values (Several s) h = ap first_value h.1.2
 
 -- a test that tells whether a fact holds decides it
 pub decided : (r : Bool) (P : Type 0) → (IsTrue r ↔ P) → Decides r P

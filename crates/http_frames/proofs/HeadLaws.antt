@@ -31,7 +31,7 @@ span_grows bytes more s within =
 within_grows : (bytes more : List ℕ) (s : Span) → IsWithin (length bytes) s → IsWithin (length (bytes ++ more)) s
 within_grows bytes more s within = (within.0, omega (arith, within.1, length-append bytes more))
 
-media_grows : (bytes more : List ℕ) (media : Option Span) → IfSome media (IsWithin (length bytes))
+pub media_grows : (bytes more : List ℕ) (media : Option Span) → IfSome media (IsWithin (length bytes))
     → IfSome media (IsWithin (length (bytes ++ more))) × (option_map (span_bytes (bytes ++ more)) media ≡ option_map (span_bytes bytes) media)
 media_grows bytes more None within = (within, refl)
 media_grows bytes more (Some s) within = (within_grows bytes more s within, ap (λ x. Some x) (span_grows bytes more s within))
@@ -87,7 +87,7 @@ field_bytes f is =
     simp length-append (omega arith)
 
 -- a field takes three bytes at least
-fields_bytes : (fs : List Field) → All IsField fs → 3 * length fs ≤ length (flat_map print_field fs)
+pub fields_bytes : (fs : List Field) → All IsField fs → 3 * length fs ≤ length (flat_map print_field fs)
 fields_bytes [] all = omega arith
 fields_bytes (f ∷ fs) all =
     let here : 3 ≤ length (print_field f) = field_bytes f (All-head IsField f fs all) in
@@ -111,7 +111,7 @@ no_room bytes room many short exceeds =
     let over : room < length h.fields = exceeds.5 in
     absurd (omega (arith, length-append front (10 ∷ []), length-append (print_request h) [], length-append front exceeds.1))
 
-error_cases : (e : Error) → (e ≡ error.TooManyHeaders) ⊎ (e ≢ error.TooManyHeaders)
+pub error_cases : (e : Error) → (e ≡ error.TooManyHeaders) ⊎ (e ≢ error.TooManyHeaders)
 error_cases error.HeaderName = inr (λ x. cc)
 error_cases error.HeaderValue = inr (λ x. cc)
 error_cases error.NewLine = inr (λ x. cc)

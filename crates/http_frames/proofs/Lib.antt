@@ -11,3 +11,4 @@ pub mod GrowLaws
 pub mod BeginningLaws
 pub mod TargetLaws
 pub mod LineLaws
+pub mod OneBodyLaws

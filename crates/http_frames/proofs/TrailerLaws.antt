@@ -8,7 +8,7 @@ empty_has_none line (inl e) = subst HasNoLineFeed (sym e) tt
 empty_has_none line (inr e) = subst HasNoLineFeed (sym e) ((λ x. absurd (omega arith)), tt)
 
 -- the first line of the bytes is one
-line_unique : (a b r q : List ℕ) → HasNoLineFeed a → HasNoLineFeed b → a ++ 10 ∷ r ≡ b ++ 10 ∷ q → (a ≡ b) × (r ≡ q)
+pub line_unique : (a b r q : List ℕ) → HasNoLineFeed a → HasNoLineFeed b → a ++ 10 ∷ r ≡ b ++ 10 ∷ q → (a ≡ b) × (r ≡ q)
 line_unique [] [] r q x y e = (refl, cc)
 line_unique [] (c ∷ b) r q x y e = absurd (y.0 (cc))
 line_unique (c ∷ a) [] r q x y e = absurd (x.0 (cc))

@@ -4,7 +4,7 @@ ghost use Rattle.std.specs.Str.Parse.{digits_value};
 ghost use Rattle.std.specs.Char.{digit_value, is_ascii_digit};
 ghost use Rattle.httparse.specs.Grammar.{AllPass};
 ghost use Rattle.httparse.specs.Spans.{IsHeaderWithin, header_bytes, IsWithin, span_bytes};
-ghost use Rattle.http_frames.specs.Framing.{is_same_word, values_of, is_length, announced, coded, frame_of_fields, has_close, asks_to_close, media};
+ghost use Rattle.http_frames.specs.Framing.{is_same_word, values_of, is_length, announced, coded, frame_of_fields, has_close, asks_to_close, first_value, media};
 ghost use Rattle.http_frames.specs.Answers.{HoldsValues};
 
 use crate::BODY_BYTES;
@@ -144,12 +144,24 @@ fn has_close(value: &[u8]) -> bool
 /// Where the value of the first Content-Type field is.
 ///
 /// Source: RFC 9110 8.3.
+#[tactic(auto, unfolding(crate::specs::Framing::media))]
 pub fn media_of(buf: &[u8], headers: &[HeaderSpan]) -> Option<Span>
     requires { All (IsHeaderWithin (length buf.now)) headers.now }
     ensures within { IfSome result (IsWithin (length buf.now)) }
     ensures value { option_map (span_bytes buf.now) result ≡ media (map (header_bytes buf.now) headers.now) }
 {
-    match values_named(buf, headers, b"content-type") {
+    first_named(buf, headers, b"content-type")
+}
+
+/// Where the value of the first field of this name is, in any case of letters.
+///
+/// Source: RFC 9112 5.
+pub fn first_named(buf: &[u8], headers: &[HeaderSpan], name: &[u8]) -> Option<Span>
+    requires { All (IsHeaderWithin (length buf.now)) headers.now }
+    ensures within { IfSome result (IsWithin (length buf.now)) }
+    ensures value { option_map (span_bytes buf.now) result ≡ first_value (values_of name.now (map (header_bytes buf.now) headers.now)) }
+{
+    match values_named(buf, headers, name) {
         Values::Absent => None,
         Values::Once(only) => Some(only),
         Values::Several(first) => Some(first),

@@ -1,6 +1,6 @@
 //! What holds of all bytes, and of the limits, as contracts of calls that do nothing.
 ghost use Rattle.std.specs.Prelude.{◌≡◌};
-ghost use Rattle.http_frames.specs.Beginnings.{BeginOneWay};
+ghost use Rattle.http_frames.specs.Beginnings.{BeginOneWay, ChunksAreOneWay};
 ghost use Rattle.http_frames.specs.Targets.{StopTwoWays, GoOnTwoWays};
 
 use crate::{BODY_BYTES, CHUNKED_BYTES, HEAD_BYTES, HEAD_FIELDS};
@@ -10,6 +10,14 @@ use crate::{BODY_BYTES, CHUNKED_BYTES, HEAD_BYTES, HEAD_FIELDS};
 /// Source: own rule.
 pub fn bytes_begin_one_way()
     ensures { BeginOneWay }
+{}
+
+/// As a chunked body, bytes are whole, or a part of one, or broken, or too much, and no two of these; where they are whole, they have one
+/// content and one rest.
+///
+/// Source: own rule.
+pub fn chunks_are_one_way()
+    ensures { ChunksAreOneWay }
 {}
 
 /// Bytes that stop in a request target are cut or bad, and where more bytes follow than a head may have, big or bad.

@@ -8,7 +8,9 @@ pub mod head;
 mod laws;
 pub mod lines;
 
-pub use laws::{bytes_begin_one_way, limits_are_as_stated, targets_are_judged_at_their_end};
+pub use laws::{
+    bytes_begin_one_way, chunks_are_one_way, limits_are_as_stated, targets_are_judged_at_their_end,
+};
 
 /// Bytes of a request's head, with the empty lines in front of it. A head of our routes has a few hundred.
 pub const HEAD_BYTES: usize = 16_384;

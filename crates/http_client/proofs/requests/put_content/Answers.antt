@@ -1,5 +1,5 @@
 -- Of a body that isn't empty its type and its length are told.
-use Rattle.std.proofs.Common.{◌≡◌, ◌∙◌, ap, sym, ℕ, ◌==◌, List, [], ◌∷◌, ◌++◌, Bool, true, false, length, append_assoc, refl}
+use Rattle.std.proofs.Common.{◌≡◌, ◌∙◌, ap, sym, ℕ, ◌==◌, List, [], ◌∷◌, ◌++◌, true, false, length, append_assoc, refl}
 use Rattle.std.specs.Prelude.{Result, Ok, Err, OnOk, codes, decimal}
 use Rattle.http_client.specs.Requests.{content_lines}
 use Rattle.http_client.proofs.requests.put_content.Goals as goal

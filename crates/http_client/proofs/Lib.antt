@@ -1,0 +1,3 @@
+pub mod ResponseLaws
+pub mod ReadingLaws
+pub mod LineLaws

@@ -1,0 +1,12 @@
+use Rattle.std.proofs.Common.{◌≡◌, ◌-◌, length}
+use Rattle.peer_exchange.specs.Exchanges.{HasRead}
+use Rattle.peer_exchange.proofs.exchanging.receive.Given as goal
+
+abbrev pub invariant-reads : goal.invariant-reads
+invariant-reads g l = g.R.Reply.judged l.reply l.room.bytes.items
+    × (l.room.most ≡ l.fn.room.most)
+    × (g.C.Connection.tells → (g.C.Connection.outgoing l.connection ≡ g.C.Connection.outgoing l.fn.connection)
+    × HasRead l.room.bytes.items (g.C.Connection.incoming l.fn.connection) (g.C.Connection.incoming l.connection))
+
+abbrev pub decreases-reads : goal.decreases-reads
+decreases-reads g l = l.room.most - length l.room.bytes.items

@@ -1,0 +1,6 @@
+use Rattle.std.proofs.Common.{◌≡◌}
+use Rattle.peer_exchange.proofs.exchanging.write_some.Given as goal
+
+abbrev pub invariant-tries : goal.invariant-tries
+invariant-tries g l = g.C.Connection.tells → (g.C.Connection.incoming l.connection ≡ g.C.Connection.incoming l.fn.connection)
+    × (g.C.Connection.outgoing l.connection ≡ g.C.Connection.outgoing l.fn.connection)

@@ -1,0 +1,73 @@
+-- One exchange on a connection: a request goes out, its reply comes in (own rules).
+use Rattle.std.specs.Prelude.{◌≡◌, ◌⊎◌, ℕ, ◌+◌, ◌-◌, ◌<◌, ◌≤◌, Bool, true, false, List, [], ◌++◌, length, take, Result, Ok, Err, Option, Some, None, OnErr, IfOk, option_map}
+use Rattle.edge_limits.specs.declared.limits.Exchange.{Exchange}
+use Rattle.edge_limits.specs.Waits.{left, shorter}
+use Rattle.host_calls.specs.Streams.{Incoming, Got, GotNothing}
+use Rattle.peer_exchange.specs.declared.replies.Judged.{Judged}
+use Rattle.peer_exchange.specs.declared.replies.Judged.TheVariants as judged
+use Rattle.peer_exchange.specs.declared.looking.Look.{Look}
+use Rattle.peer_exchange.specs.declared.exchanging.Lost.{Lost}
+use Rattle.peer_exchange.specs.declared.exchanging.Lost.TheVariants as lost
+
+-- a front of these bytes was judged, or nothing of them
+pub record HasJudgedFront (judged : List ℕ → Type 0) (bytes : List ℕ) : Type 0 where
+  pub front : List ℕ
+  pub more : List ℕ
+  pub is : bytes ≡ front ++ more
+  pub was : judged front
+
+-- a call that is made at the moment of this look may wait for so long: a millisecond at least, no longer than the peer
+-- may be silent, and within the whole time from the beginning on
+pub record IsInTime (limits : Exchange) (began : ℕ) (look : Look) : Type 0 where
+  pub some : 1 ≤ look.wait
+  pub silence : look.wait ≤ limits.silence
+  pub whole : (look.now - began) + look.wait ≤ limits.whole
+
+-- the look that shows this: it waits for what is left of the two times, and where nothing is left, or the watch shows
+-- nothing, there is none
+abbrev pub look_at : Exchange → ℕ → Option ℕ → Option Look
+look_at limits began None = None
+look_at limits began (Some now) = option_map (λ wait. record { wait = wait; now = now }) (shorter limits.silence (left limits.whole began now))
+
+-- the last call of an exchange that began then was made at this moment, before the whole time was over
+abbrev pub EndsInTime : Exchange → ℕ → ℕ → Type 0
+EndsInTime limits began last = last - began < limits.whole
+
+-- some bytes were read, and nothing else came of the connection
+pub record HasRead (some : List ℕ) (old new : Incoming) : Type 0 where
+  pub left : old.left ≡ some ++ new.left
+  pub bytes : new.bytes ≡ old.bytes
+
+-- what came is a whole reply: it was judged so, of a connection that has ended or not, and no byte more was read
+pub record IsReplied (is : Bool → List ℕ → Judged → Type 0) (tells : Type 0) (bytes : List ℕ) (old new : Incoming) : Type 0 where
+  pub ended : Bool
+  pub whole : is ended bytes judged.Whole
+  pub read : tells → HasRead bytes old new
+  pub end : tells → ended ≡ true → new.left ≡ []
+
+-- why there was no reply, by what came: where the connection ended, what came was no whole reply all the same; where it
+-- was refused, it was judged so; where it was too long, as many bytes came as there is room for; and where memory was
+-- wanted, so it was told, or none was had to keep what came
+abbrev pub IsLost : (Bool → List ℕ → Judged → Type 0) → ℕ → List ℕ → Lost → Type 0
+IsLost is most bytes lost.Unsent = Unit {0}
+IsLost is most bytes lost.Late = Unit {0}
+IsLost is most bytes lost.Unread = Unit {0}
+IsLost is most bytes lost.Ended = is true bytes judged.Part ⊎ is true bytes judged.Never
+IsLost is most bytes lost.NoReply = is false bytes judged.Never
+IsLost is most bytes lost.TooLong = most ≤ length bytes
+IsLost is most bytes lost.Memory = Unit {0}
+
+-- what came in, by the answer
+abbrev pub Receives : (Bool → List ℕ → Judged → Type 0) → Type 0 → ℕ → Exchange → ℕ → List ℕ → Incoming → Incoming → Result ℕ Lost → Type 0
+Receives is tells most limits began bytes old new (Ok last) = IsReplied is tells bytes old new × EndsInTime limits began last
+Receives is tells most limits began bytes old new (Err why) = IsLost is most bytes why
+
+-- the request went out: all of it, once, or, where the exchange failed, a front of it
+abbrev pub Sends : {T E : Type 0} → List ℕ → List ℕ → List ℕ → Result T E → Type 0
+Sends request old new (Ok t) = new ≡ old ++ request
+Sends request old new (Err e) = (k : ℕ) × (new ≡ old ++ take k request)
+
+-- what a read does whose moment is told with it
+pub record GivesAt (before after : List ℕ) (result : Result (ℕ × ℕ) Lost) (old new : Incoming) : Type 0 where
+  pub got : IfOk result (λ x. Got before after x.0 old new)
+  pub failed : OnErr result (GotNothing before after old new)

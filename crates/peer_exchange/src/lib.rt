@@ -1,0 +1,11 @@
+//! One exchange with a peer: a request is sent once, and its reply is read until it is whole, within the limits. It is
+//! over every connection, every stopwatch and every kind of reply.
+#![tactic(auto)]
+
+mod exchanging;
+mod looking;
+mod replies;
+
+pub use exchanging::{Lost, Room, Spent, exchange};
+pub use looking::{Look, look_now};
+pub use replies::{Judged, Reply};

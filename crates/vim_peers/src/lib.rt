@@ -1,0 +1,16 @@
+//! The infrastructure as it is: each call on jobs is a line over one connection, which is kept, and behind which no
+//! second one is opened before it has ended. It is over every network and every stopwatch.
+#![tactic(auto)]
+
+mod counted;
+mod jobs;
+mod link;
+mod opened;
+mod replies;
+mod site;
+
+pub use jobs::VimPeer;
+pub use link::{ENDING, VimLink};
+pub use opened::Opened;
+pub use replies::LineReply;
+pub use site::SiteOverPeer;
