@@ -29,6 +29,10 @@ abbrev pub look_at : Exchange → ℕ → Option ℕ → Option Look
 look_at limits began None = None
 look_at limits began (Some now) = option_map (λ wait. record { wait = wait; now = now }) (shorter limits.silence (left limits.whole began now))
 
+-- a call that was made behind a look was allowed to wait just as long as the look says
+abbrev pub WaitsBy : Exchange → ℕ → Option ℕ → ℕ → Type 0
+WaitsBy limits began shown allowed = option_map (λ look. look.wait) (look_at limits began shown) ≡ Some allowed
+
 -- the last call of an exchange that began then was made at this moment, before the whole time was over
 abbrev pub EndsInTime : Exchange → ℕ → ℕ → Type 0
 EndsInTime limits began last = last - began < limits.whole

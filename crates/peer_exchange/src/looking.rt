@@ -19,6 +19,7 @@ pub struct Look {
 pub fn look_now<T: Stopwatch>(watch: &mut T, limits: Exchange, began: u64) -> Option<Look>
     requires { limits.silence < 2 ^ 32 }
     ensures value { T.tells → result ≡ look_at limits began (T.shows watch.old) }
+    ensures shown { T.tells → result ≡ look_at limits began (T.shown watch.new) }
     ensures in_time { IfSome result (IsInTime limits began) }
 {
     let now = watch.millis()?;
