@@ -31,9 +31,9 @@ pub struct Settings {
     pub listen: Text,
     /// The address for the element manager's requests.
     pub em_listen: Text,
-    /// Where grants are to be asked for; empty where nothing is. Nothing asks there yet.
+    /// Where grants are to be asked for; empty where nothing is. An address or http URL.
     pub orchestrator: Text,
-    /// Where the infrastructure is; empty where nothing is. Nothing asks there yet.
+    /// Where the infrastructure is; empty where nothing is. A literal address:port.
     pub vim: Text,
     /// The start of a trial.
     pub start: u64,

@@ -8,7 +8,7 @@ use case_lives::{ActFault, CaseFault, count, entries, list, number, same_file, s
 use host_calls::{HostFile, HostFiles, InStream, OutStream, TimeOfDay};
 use lcm_api::Mouth;
 use lcm_events::Role;
-use outside_edges::{NoCourier, NoOrchestrator, RealClock, RealDoor, RealSink, RealSite};
+use outside_edges::{NoCourier, NoJobs, NoOrchestrator, RealClock, RealDoor, RealSink, RealSite};
 use serde_json::Value;
 use site_traits::Site;
 use standard_streams::{HeldStreams, NullDevice};
@@ -419,7 +419,7 @@ fn play(
             wrong,
             made: 0,
         },
-        site: RealSite::made(),
+        site: RealSite::made(NoJobs::made()),
         orchestrator: NoOrchestrator::made(),
         courier: NoCourier::made(),
         clock: RealClock::made(Day),

@@ -4,7 +4,7 @@ use edge_limits::Pulse;
 use http_peers::{RealCourier, RealOrchestrator};
 use lcm_events::{Act, DefKind, Names, Tag, Verb, Way};
 use net_calls::{StdNet, StdStopwatch};
-use outside_edges::RealSite;
+use outside_edges::{Jobs, RealSite};
 use site_traits::{
     AbortAnswer, BeginAnswer, Call, Courier, Heard, LookAnswer, Orchestrator, PostAnswer, Site,
 };
@@ -14,7 +14,7 @@ use std::cell::Cell;
 use std::fs::File;
 use std::time::Duration;
 use std::{str, thread};
-use vim_peers::{SiteOverPeer, VimPeer};
+use vim_peers::VimPeer;
 use vnfm_base::{Line, Name};
 
 /// The numbers of the standard streams, held.
@@ -36,7 +36,7 @@ pub type Carrier<'a> = RealCourier<'a, Network<'a>, Watch<'a>>;
 pub type Peer<'a> = VimPeer<'a, Network<'a>, Watch<'a>>;
 
 /// A site with no file, and an infrastructure over sockets.
-pub type Jobs<'a> = SiteOverPeer<'a, RealSite<File>, Network<'a>, Watch<'a>>;
+pub type Vim<'a> = RealSite<File, Peer<'a>>;
 
 /// Nothing was done yet.
 pub const NOTHING: Pulse = Pulse {
@@ -110,11 +110,12 @@ pub fn real_peer<'a>(
     streams: &'a Held,
     pulse: &'a Cell<Pulse>,
     at: &str,
-) -> Result<Jobs<'a>> {
+) -> Result<Vim<'a>> {
     let net = StdNet::of(rt, streams);
     let mut peer = VimPeer::made(rt.alloc(), net, StdStopwatch::of(rt), pulse)?;
-    peer.to(7, at)?;
-    Ok(SiteOverPeer::of(RealSite::made(), peer))
+    peer.to(at)?;
+    peer.of_manager(7);
+    Ok(RealSite::made(peer))
 }
 
 /// Asks for a grant, and prints what came of it.
@@ -158,19 +159,19 @@ pub fn post<'a>(rt: &HostRuntime, courier: &mut Carrier<'a>, uri: &Line) -> Resu
 }
 
 /// Begins a job, and prints what came of it.
-pub fn begin<'a>(rt: &HostRuntime, site: &mut Jobs<'a>) -> Result<()> {
+pub fn begin<'a>(rt: &HostRuntime, site: &mut Vim<'a>) -> Result<()> {
     let act = act(rt.alloc())?;
     let word = match site.begin(&TAG, &act) {
         BeginAnswer::Begun => "begun",
         BeginAnswer::Refused(_) => "refused",
         BeginAnswer::Failed => "failed",
     };
-    println!(rt; "begin: {word}, {} faults", site.jobs.faults())?;
+    println!(rt; "begin: {word}, {} faults", site.vim_faults())?;
     Ok(())
 }
 
 /// Looks at it, and prints what came of it.
-pub fn look<'a>(rt: &HostRuntime, site: &mut Jobs<'a>) -> Result<()> {
+pub fn look<'a>(rt: &HostRuntime, site: &mut Vim<'a>) -> Result<()> {
     let word = match site.look(&TAG) {
         LookAnswer::Absent => "absent",
         LookAnswer::Running => "running",
@@ -179,17 +180,17 @@ pub fn look<'a>(rt: &HostRuntime, site: &mut Jobs<'a>) -> Result<()> {
         LookAnswer::Aborted => "aborted",
         LookAnswer::Failed => "failed",
     };
-    println!(rt; "look: {word}, {} faults", site.jobs.faults())?;
+    println!(rt; "look: {word}, {} faults", site.vim_faults())?;
     Ok(())
 }
 
 /// Aborts it, and prints what came of it.
-pub fn abort<'a>(rt: &HostRuntime, site: &mut Jobs<'a>) -> Result<()> {
+pub fn abort<'a>(rt: &HostRuntime, site: &mut Vim<'a>) -> Result<()> {
     let word = match site.abort(&TAG) {
         AbortAnswer::Asked => "asked",
         AbortAnswer::Failed => "failed",
     };
-    println!(rt; "abort: {word}, {} faults", site.jobs.faults())?;
+    println!(rt; "abort: {word}, {} faults", site.vim_faults())?;
     Ok(())
 }
 

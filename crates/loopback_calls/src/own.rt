@@ -67,15 +67,15 @@ fn jobs_own(rt: &HostRuntime, streams: &Held) -> Result<()> {
     let at = format!(in rt.alloc(); "{}", listener.local_addr()?)?;
     let pulse = Cell::new(NOTHING);
     let mut site = real_peer(rt, streams, &pulse, &at)?;
-    let first = site.jobs.connect();
+    let first = site.connect();
     let peer = answered(&listener, "BEGUN\n")?;
     begin(rt, &mut site)?;
     drop(peer);
-    let second = site.jobs.connect();
+    let second = site.connect();
     let peer = answered(&listener, "RUNNING\n")?;
     look(rt, &mut site)?;
     drop(peer);
-    let third = site.jobs.connect();
+    let third = site.connect();
     let peer = answered(&listener, "ASKED\n")?;
     abort(rt, &mut site)?;
     drop(peer);
@@ -93,8 +93,8 @@ fn call_nobody(rt: &HostRuntime, streams: &Held) -> Result<()> {
     begin(rt, &mut site)?;
     look(rt, &mut site)?;
     abort(rt, &mut site)?;
-    let connected = site.jobs.connect();
-    println!(rt; "connected {connected}, {} faults", site.jobs.faults())?;
+    let connected = site.connect();
+    println!(rt; "connected {connected}, {} faults", site.vim_faults())?;
     Ok(())
 }
 

@@ -1,5 +1,6 @@
 -- The journal's real file.
-use Rattle.std.specs.Prelude.{◌≡◌, ◌≢◌, ◌⊎◌, ℕ, List, [], true, Option, Some, None, IfSome, IsSomeAnd}
+use Rattle.std.specs.Prelude.{◌≡◌, ◌≢◌, ◌⊎◌, ℕ, ◌+◌, ◌-◌, nat_le, List, [], length, take, drop, true, Option, Some, None, IfSome, IsSomeAnd, if◌then◌else◌}
+use Rattle.std.specs.Int.{w32, from_be_bytes}
 use Rattle.std.specs.declared.io.ErrorKind.{ErrorKind}
 use Rattle.std.specs.declared.io.ErrorKind.TheVariants as kind
 use Rattle.site_traits.specs.Counts.{SiteCounts, one_more}
@@ -11,10 +12,20 @@ use Rattle.outside_edges.specs.declared.real_site.RealSite.{RealSite}
 use Rattle.outside_edges.specs.declared.real_site.WhyLost.{WhyLost}
 use Rattle.outside_edges.specs.declared.real_site.WhyLost.TheVariants as why
 
--- how often its disk calls, its calls on jobs and the looks among these failed, and what was asked of its file; it refuses no begin
-abbrev pub counts_of : {F : Type 0} → RealSite F → SiteCounts
+-- how often its disk calls, its calls on jobs and the looks among these failed, how often a begin was refused, and what was asked of its file
+abbrev pub counts_of : {F J : Type 0} → RealSite F J → SiteCounts
 counts_of site =
-    record { disk = site.faults; vim = site.vim_faults; look = site.look_faults; refusals = 0; writes = site.writes; cuts = site.cuts; syncs = site.syncs }
+    record { disk = site.faults; vim = site.vim_faults; look = site.look_faults; refusals = site.refusals; writes = site.writes; cuts = site.cuts; syncs = site.syncs }
+
+-- the manager's number, which are bytes 9 to 12 of a journal's file, where these bytes of it, from this place on, hold all of them
+abbrev pub number_in : ℕ → List ℕ → Option ℕ
+number_in at bytes =
+    if nat_le at 9 then (if nat_le 13 (at + length bytes) then Some (from_be_bytes w32 (take 4 (drop (9 - at) bytes))) else None) else None
+
+-- the number that is known behind a read: the one that was read, else the one from before
+abbrev pub manager_by : Option ℕ → ℕ → ℕ
+manager_by None known = known
+manager_by (Some read) known = read
 
 -- what the site tells: what its file does, or nothing where it has none
 abbrev pub state_in : {F : Type 0} → (F → SiteState) → Option F → SiteState

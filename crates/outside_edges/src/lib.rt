@@ -3,12 +3,14 @@
 #![tactic(auto)]
 
 mod counted;
+mod jobs;
 mod no_peers;
 mod real_clock;
 mod real_door;
 mod real_sink;
 mod real_site;
 
+pub use jobs::{Jobs, NoJobs};
 pub use no_peers::{NoCourier, NoOrchestrator};
 pub use real_clock::RealClock;
 pub use real_door::RealDoor;

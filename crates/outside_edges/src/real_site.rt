@@ -1,14 +1,16 @@
 //! The journal's real file, under its exclusive lock.
-ghost use Rattle.std.specs.Prelude.{◌≡◌, ◌≤◌, ◌+◌, IfOk, OnErr, OnOk, IsErr, None, length, take, drop, true};
+ghost use Rattle.std.specs.Prelude.{◌≡◌, ◌≤◌, ◌+◌, IfOk, OnErr, OnOk, IsErr, None, length, take, drop, true, if◌then◌else◌};
+ghost use Rattle.std.specs.Int.{w32, from_be_bytes};
 ghost use Rattle.std.specs.IoError.{error_kind};
 ghost use Rattle.site_traits.specs.Counts.{Ask, asked, DiskCause, one_more};
 ghost use Rattle.site_traits.specs.Site.{Reads, Writes, Cuts, Syncs};
 ghost use Rattle.outside_edges.specs.Faults.{CountsOne};
 ghost use Rattle.host_calls.specs.Files.{free, new_file};
 ghost use Rattle.outside_edges.specs.Having.{Goes, IsLent, LeavesAll, MakesAtAll, Seeks, lost_by, lost_in, to_lend, to_name};
-ghost use Rattle.outside_edges.specs.Site.{counts_of, state_in, IsHad, IsExplained, IsHeld, OneCall, why_by};
+ghost use Rattle.outside_edges.specs.Site.{counts_of, manager_by, number_in, state_in, IsHad, IsExplained, IsHeld, OneCall, why_by};
 
 use crate::counted::{count_call, count_fault};
+use crate::jobs::Jobs;
 use host_calls::{HostFile, HostFiles};
 use lcm_events::{Act, Tag};
 use site_traits::{AbortAnswer, BeginAnswer, DiskFailed, LookAnswer, Site};
@@ -16,6 +18,9 @@ use standard_streams::HeldStreams;
 use std::alloc::AllocError;
 use std::io;
 use std::io::ErrorKind;
+
+/// Where a journal's file has the manager's number.
+const MANAGER_AT: u64 = 9;
 
 /// When the folder of the journal's file is synced, so that the file's name is on the disk.
 #[derive(Clone, Copy, PartialEq, Eq)]
@@ -43,37 +48,60 @@ pub enum WhyLost {
     Other,
 }
 
-/// The journal's file. Until it is opened, and where it couldn't be had, every call fails and counts. It reaches no infrastructure yet: each call
-/// on jobs fails and counts.
+/// The journal's file, and the jobs of an infrastructure. Until the file is opened, and where it couldn't be had, every call on it fails. Each
+/// call that fails is counted, and each begin that is refused.
 ///
-/// It holds the file's exclusive lock until it is dropped, so that no second manager writes to it.
+/// It holds the file's exclusive lock until it is dropped, so that no second manager writes to it. It tells what its file tells.
 #[derive(Drop)]
-pub struct RealSite<F: HostFile> {
+pub struct RealSite<F: HostFile, J: Jobs<F>> {
     file: Option<F>,
     why: Option<WhyLost>,
+    jobs: J,
     faults: u64,
     vim_faults: u64,
     look_faults: u64,
+    refusals: u64,
     writes: u64,
     cuts: u64,
     syncs: u64,
 }
 
-impl<F: HostFile + Drop> RealSite<F> {
-    /// A site of which no file was opened yet.
-    pub fn made() -> RealSite<F>
-        ensures { result ≡ record { file = None; why = None; faults = 0; vim_faults = 0; look_faults = 0; writes = 0; cuts = 0; syncs = 0 } }
+impl<F: HostFile + Drop, J: Jobs<F> + Drop> RealSite<F, J> {
+    /// A site of which no file was opened yet, with these jobs.
+    pub fn made(jobs: J) -> RealSite<F, J>
+        ensures { result ≡ record { file = None; why = None; jobs = jobs; faults = 0; vim_faults = 0; look_faults = 0; refusals = 0; writes = 0; cuts = 0; syncs = 0 } }
     {
         RealSite {
             file: None,
             why: None,
+            jobs,
             faults: 0,
             vim_faults: 0,
             look_faults: 0,
+            refusals: 0,
             writes: 0,
             cuts: 0,
             syncs: 0,
         }
+    }
+
+    /// Opens a connection to the infrastructure where none is open. It answers false only where a fault was counted.
+    pub fn connect(&mut self) -> bool
+        ensures faults { self.new.vim_faults ≡ (if result then self.old.vim_faults else one_more self.old.vim_faults) }
+        ensures rest { self.new ≡ record self.old { jobs = self.new.jobs; vim_faults = self.new.vim_faults } }
+    {
+        let open = self.jobs.connect();
+        if !open {
+            count_fault(&mut self.vim_faults);
+        }
+        open
+    }
+
+    /// How often a call on the infrastructure failed.
+    pub fn vim_faults(&self) -> u64
+        ensures { result ≡ self.now.vim_faults }
+    {
+        self.vim_faults
     }
 
     /// Opens the file at this path, which is made empty where there is none. Where that, or `folder`, asks for it, its
@@ -98,6 +126,7 @@ impl<F: HostFile + Drop> RealSite<F> {
         ensures why { OnOk result (IsExplained self.new.file self.new.why) }
         ensures refused { OnErr result (self.new ≡ self.old) }
         ensures counts { counts_of self.new ≡ counts_of self.old }
+        ensures jobs { self.new.jobs ≡ self.old.jobs }
     {
         match found(host, streams, path, folder) {
             Ok(file) => {
@@ -214,7 +243,7 @@ fn why_of(fault: io::Error) -> WhyLost
     }
 }
 
-impl<F: HostFile> Site for RealSite<F> {
+impl<F: HostFile, J: Jobs<F>> Site for RealSite<F, J> {
     ghost use Rattle.outside_edges.specs.Site.{counts_of, state_in};
 
     ghost tells = { F.tells };
@@ -240,8 +269,17 @@ impl<F: HostFile> Site for RealSite<F> {
         ensures bytes { F.tells → OnOk result (into.new ≡ take (length into.old) (drop at (state_in F.state self.old.file).image)) }
         ensures told { F.tells → Reads (state_in F.state self.old.file) (state_in F.state self.new.file) }
         ensures cause { DiskCause (counts_of self.old) (counts_of self.new) result }
+        ensures noted { OnOk result (J.manager self.new.jobs ≡ manager_by (number_in at into.new) (J.manager self.old.jobs)) }
     {
-        read_from(&mut self.file, at, into, &mut self.faults)
+        match read_from(&mut self.file, at, into, &mut self.faults) {
+            Ok(()) => {
+                if let Some(manager) = number_in(at, into) {
+                    self.jobs.of_manager(manager);
+                }
+                Ok(())
+            }
+            Err(DiskFailed) => Err(DiskFailed),
+        }
     }
 
     fn write_at(&mut self, at: u64, bytes: &[u8]) -> Result<(), DiskFailed>
@@ -276,20 +314,50 @@ impl<F: HostFile> Site for RealSite<F> {
         sync_of(&mut self.file, &mut self.faults)
     }
 
-    fn begin(&mut self, _tag: &Tag, _act: &Act) -> BeginAnswer {
-        count_fault(&mut self.vim_faults);
-        BeginAnswer::Failed
+    fn begin(&mut self, tag: &Tag, act: &Act) -> BeginAnswer {
+        match self.jobs.begin(tag, act) {
+            BeginAnswer::Begun => BeginAnswer::Begun,
+            BeginAnswer::Refused(code) => {
+                count_call(&mut self.refusals);
+                BeginAnswer::Refused(code)
+            }
+            BeginAnswer::Failed => {
+                count_fault(&mut self.vim_faults);
+                BeginAnswer::Failed
+            }
+        }
     }
 
-    fn look(&mut self, _tag: &Tag) -> LookAnswer {
-        count_fault(&mut self.vim_faults);
-        count_fault(&mut self.look_faults);
-        LookAnswer::Failed
+    fn look(&mut self, tag: &Tag) -> LookAnswer {
+        match self.jobs.look(tag) {
+            LookAnswer::Failed => {
+                count_fault(&mut self.vim_faults);
+                count_fault(&mut self.look_faults);
+                LookAnswer::Failed
+            }
+            answer => answer,
+        }
     }
 
-    fn abort(&mut self, _tag: &Tag) -> AbortAnswer {
-        count_fault(&mut self.vim_faults);
-        AbortAnswer::Failed
+    fn abort(&mut self, tag: &Tag) -> AbortAnswer {
+        match self.jobs.abort(tag) {
+            AbortAnswer::Asked => AbortAnswer::Asked,
+            AbortAnswer::Failed => {
+                count_fault(&mut self.vim_faults);
+                AbortAnswer::Failed
+            }
+        }
+    }
+}
+
+/// The manager's number, where these bytes of a journal's file, from this place on, hold all of it.
+fn number_in(at: u64, bytes: &[u8]) -> Option<u32>
+    ensures { result ≡ number_in at bytes.now }
+{
+    let from = usize::try_from(MANAGER_AT.checked_sub(at)?).ok()?;
+    match bytes.get(from..)? {
+        [a, b, c, d, ..] => Some(u32::from_be_bytes([*a, *b, *c, *d])),
+        _ => None,
     }
 }
 

@@ -5,11 +5,13 @@ use edge_limits::Pulse;
 use http_peers::{RealCourier, RealOrchestrator};
 use lcm_events::{Act, DefKind, Names, Tag, Verb, Way};
 use net_calls::StepWatch;
+use outside_edges::{Jobs, RealSite};
 use site_traits::{
-    AbortAnswer, BeginAnswer, Call, Courier, Heard, LookAnswer, Orchestrator, PostAnswer,
+    AbortAnswer, BeginAnswer, Call, Courier, Heard, LookAnswer, Orchestrator, PostAnswer, Site,
 };
 use std::alloc::{AllocGlobal, Global};
 use std::cell::Cell;
+use std::fs::File;
 use std::io::Print;
 use std::str;
 use vim_peers::VimPeer;
@@ -181,7 +183,7 @@ const TAG: Tag = Tag {
 };
 
 /// An infrastructure over memory.
-type Peer<'a> = VimPeer<'a, CaseNet<'a>, StepWatch>;
+type Peer<'a> = RealSite<File, VimPeer<'a, CaseNet<'a>, StepWatch>>;
 
 /// An infrastructure on whose connections these texts come, for manager 7.
 fn peer_of<'a>(
@@ -192,8 +194,9 @@ fn peer_of<'a>(
 ) -> Result<Peer<'a>> {
     let net = net_of(alloc, texts, had)?;
     let mut peer = VimPeer::made(alloc, net, StepWatch::of(0, 1), pulse)?;
-    peer.to(7, "127.0.0.1:9001")?;
-    Ok(peer)
+    peer.to("127.0.0.1:9001")?;
+    peer.of_manager(7);
+    Ok(RealSite::made(peer))
 }
 
 /// Begins, and prints what came of it.
@@ -206,7 +209,7 @@ fn begin<'a>(rt: &(impl Print + AllocGlobal), peer: &mut Peer<'a>, had: &Cell<u3
     };
     println!(rt;
         "begin: {word}, {} faults, had {}",
-        peer.faults(),
+        peer.vim_faults(),
         had.get()
     )?;
     Ok(())
@@ -222,7 +225,11 @@ fn look<'a>(rt: &impl Print, peer: &mut Peer<'a>, had: &Cell<u32>) -> Result<()>
         LookAnswer::Aborted => "aborted",
         LookAnswer::Failed => "failed",
     };
-    println!(rt; "look: {word}, {} faults, had {}", peer.faults(), had.get())?;
+    println!(rt;
+        "look: {word}, {} faults, had {}",
+        peer.vim_faults(),
+        had.get()
+    )?;
     Ok(())
 }
 
@@ -234,7 +241,7 @@ fn abort<'a>(rt: &impl Print, peer: &mut Peer<'a>, had: &Cell<u32>) -> Result<()
     };
     println!(rt;
         "abort: {word}, {} faults, had {}",
-        peer.faults(),
+        peer.vim_faults(),
         had.get()
     )?;
     Ok(())

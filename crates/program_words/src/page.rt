@@ -80,8 +80,8 @@ const ONCE: &str =
     --role ROLE            who asks on standard input: orchestrator, as where it isn't given, or em, the element manager
     --rounds N             how many rounds are made, from 0 to 4294967295; 1 where it isn't given. In each the connection is served
                            that comes, if one does; with 0 nothing is read
-    --orchestrator ADDR    where grants are to be asked for; nothing asks there yet
-    --vim ADDR             where the infrastructure is; nothing asks there yet
+    --orchestrator ADDR    where grants are asked for: a literal address and port, or a URL of http with one; nowhere without it
+    --vim ADDR             where the infrastructure is: a literal address and port; nowhere without it
 
     vnfm once --journal journal <examples/create.http
     vnfm once --journal journal --role em --rounds 2 <examples/create.http

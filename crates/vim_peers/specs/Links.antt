@@ -1,7 +1,6 @@
 -- The one connection to an infrastructure (own rules).
 use Rattle.std.specs.Prelude.{◌≡◌, ◌⊎◌, ℕ, List, [], true, false, Option, Some, None, IfSome}
 use Rattle.host_calls.specs.Streams.{Incoming}
-use Rattle.site_traits.specs.Counts.{SiteCounts}
 use Rattle.site_traits.specs.declared.jobs.BeginAnswer.{BeginAnswer}
 use Rattle.site_traits.specs.declared.jobs.BeginAnswer.TheVariants as begin
 use Rattle.site_traits.specs.declared.jobs.LookAnswer.{LookAnswer}
@@ -60,13 +59,3 @@ LookIs came look.Failed = Unit {0}
 abbrev pub AbortIs : List ℕ → AbortAnswer → Type 0
 AbortIs came abort.Asked = IsLineOf came reply.Asked
 AbortIs came abort.Failed = Unit {0}
-
--- the counts of a site whose file has these, and whose calls on jobs failed so often, looks among them so often, and
--- were refused so often
-abbrev pub counts_over : SiteCounts → ℕ → ℕ → ℕ → SiteCounts
-counts_over file vim look refusals =
-    record { disk = file.disk; vim = vim; look = look; refusals = refusals; writes = file.writes; cuts = file.cuts; syncs = file.syncs }
-
--- the counts of calls on jobs alone
-abbrev pub job_counts : ℕ → ℕ → ℕ → SiteCounts
-job_counts vim look refusals = record { disk = 0; vim = vim; look = look; refusals = refusals; writes = 0; cuts = 0; syncs = 0 }

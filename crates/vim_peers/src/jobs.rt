@@ -1,116 +1,96 @@
 //! Calls on jobs, each a line.
-ghost use Rattle.std.specs.Prelude.{◌≡◌, ℕ, List, IfOk, if◌then◌else◌};
-ghost use Rattle.site_traits.specs.Counts.{one_more, begin_counts, look_counts, abort_counts};
+ghost use Rattle.std.specs.Prelude.{◌≡◌, ℕ, List};
 ghost use Rattle.vim_peers.specs.Lines.{IsLineOf};
-ghost use Rattle.vim_peers.specs.Links.{BeginIs, LookIs, AbortIs, job_counts};
+ghost use Rattle.vim_peers.specs.Links.{BeginIs, LookIs, AbortIs};
 
-use crate::counted::{count_one, note_asked, note_failed};
 use crate::link::VimLink;
+use crate::noted::{note_asked, note_failed};
 use edge_limits::Pulse;
 use lcm_events::{Act, Tag};
 use net_calls::{HostNet, Stopwatch};
+use outside_edges::Jobs;
 use site_traits::{AbortAnswer, BeginAnswer, LookAnswer};
 use std::alloc::{AllocError, Global};
 use std::cell::Cell;
+use std::fs::File;
 use vim_wire::{VimReply, abort_line, begin_line, look_line};
 
 /// Names in the longest list of a line.
 const MOST_NAMES: usize = 128;
 
-/// The infrastructure at an address, for the manager of a number. Until it has an address, and where that leads
-/// nowhere, each call fails and counts.
+/// The infrastructure at an address. Until it has an address, and where that leads nowhere, each call fails.
 #[derive(Drop)]
 pub struct VimPeer<'a, N: HostNet + Drop, T: Stopwatch + Drop> {
     alloc: Global,
     link: VimLink<N, T>,
     pulse: &'a Cell<Pulse>,
     manager: u32,
-    vim_faults: u64,
-    look_faults: u64,
-    refusals: u64,
 }
 
 impl<'a, N: HostNet + Drop, T: Stopwatch + Drop> VimPeer<'a, N, T> {
-    /// One that has no address yet. Its one refusal is want of memory.
+    /// One that has no address yet, for the manager 0. Its one refusal is want of memory.
     pub fn made(
         alloc: Global,
         net: N,
         watch: T,
         pulse: &'a Cell<Pulse>,
-    ) -> Result<VimPeer<'a, N, T>, AllocError>
-        ensures { IfOk result (λ peer. (peer.vim_faults ≡ 0) × (peer.look_faults ≡ 0) × (peer.refusals ≡ 0)) }
-    {
+    ) -> Result<VimPeer<'a, N, T>, AllocError> {
         let link = VimLink::new(alloc, net, watch)?;
         Ok(VimPeer {
             alloc,
             link,
             pulse,
             manager: 0,
-            vim_faults: 0,
-            look_faults: 0,
-            refusals: 0,
         })
     }
 
-    /// Calls are those of the manager of this number from now on, and go to this literal address and port.
-    pub fn to(&mut self, manager: u32, address: &str) -> Result<(), AllocError>
-        ensures counts { job_counts self.new.vim_faults self.new.look_faults self.new.refusals ≡ job_counts self.old.vim_faults self.old.look_faults self.old.refusals }
+    /// Calls go to this literal address and port from now on. Its one refusal is want of memory.
+    pub fn to(&mut self, address: &str) -> Result<(), AllocError>
+        ensures manager { self.new.manager ≡ self.old.manager }
+        ensures opened { self.new.link.opened ≡ self.old.link.opened }
     {
         let kept = String::from_str(self.alloc, address)?;
-        self.manager = manager;
         self.link.to(kept);
         Ok(())
     }
+}
 
-    /// Opens a connection where none is open. It answers false only where a fault was counted.
-    pub fn connect(&mut self) -> bool
-        ensures faults { self.new.vim_faults ≡ (if result then self.old.vim_faults else one_more self.old.vim_faults) }
-        ensures rest { (self.new.look_faults ≡ self.old.look_faults) × (self.new.refusals ≡ self.old.refusals) }
-    {
+/// Beside a real file, which tells nothing, it may be reached.
+impl<'a, N: HostNet + Drop, T: Stopwatch + Drop> Jobs<File> for VimPeer<'a, N, T> {
+    ghost manager = { λ peer. peer.manager };
+
+    fn of_manager(&mut self, number: u32) {
+        self.manager = number;
+    }
+
+    fn connect(&mut self) -> bool {
         let open = self.link.connect();
         if !open {
-            count_one(&mut self.vim_faults);
             note_failed(self.pulse);
         }
         open
     }
 
-    /// How often a call failed.
-    pub fn faults(&self) -> u64
-        ensures { result ≡ self.now.vim_faults }
-    {
-        self.vim_faults
-    }
-
-    /// Asks that a job begin for this attempt, with this work.
-    pub fn begin(&mut self, tag: &Tag, act: &Act) -> BeginAnswer
+    fn begin(&mut self, tag: &Tag, act: &Act) -> BeginAnswer
+        ensures vain { ⊥ → result ≡ BeginAnswer.Failed }
+        ensures manager { self.new.manager ≡ self.old.manager }
         ensures said { BeginIs self.new.link.room.bytes.items result }
-        ensures cause { job_counts self.new.vim_faults self.new.look_faults self.new.refusals ≡ begin_counts result (job_counts self.old.vim_faults self.old.look_faults self.old.refusals) }
     {
-        match begun(self.alloc, &mut self.link, self.manager, tag, act) {
-            BeginAnswer::Failed => {
-                count_one(&mut self.vim_faults);
-                note_failed(self.pulse);
-                BeginAnswer::Failed
-            }
-            BeginAnswer::Refused(code) => {
-                count_one(&mut self.refusals);
-                BeginAnswer::Refused(code)
-            }
-            BeginAnswer::Begun => BeginAnswer::Begun,
+        let answer = begun(self.alloc, &mut self.link, self.manager, tag, act);
+        if let BeginAnswer::Failed = answer {
+            note_failed(self.pulse);
         }
+        answer
     }
 
-    /// Asks how the job of this attempt stands.
-    pub fn look(&mut self, tag: &Tag) -> LookAnswer
+    fn look(&mut self, tag: &Tag) -> LookAnswer
+        ensures vain { ⊥ → result ≡ LookAnswer.Failed }
+        ensures manager { self.new.manager ≡ self.old.manager }
         ensures said { LookIs self.new.link.room.bytes.items result }
-        ensures cause { job_counts self.new.vim_faults self.new.look_faults self.new.refusals ≡ look_counts result (job_counts self.old.vim_faults self.old.look_faults self.old.refusals) }
     {
         note_asked(self.pulse);
         match looked(self.alloc, &mut self.link, self.manager, tag) {
             LookAnswer::Failed => {
-                count_one(&mut self.vim_faults);
-                count_one(&mut self.look_faults);
                 note_failed(self.pulse);
                 LookAnswer::Failed
             }
@@ -118,19 +98,16 @@ impl<'a, N: HostNet + Drop, T: Stopwatch + Drop> VimPeer<'a, N, T> {
         }
     }
 
-    /// Asks that the job of this attempt end.
-    pub fn abort(&mut self, tag: &Tag) -> AbortAnswer
+    fn abort(&mut self, tag: &Tag) -> AbortAnswer
+        ensures vain { ⊥ → result ≡ AbortAnswer.Failed }
+        ensures manager { self.new.manager ≡ self.old.manager }
         ensures said { AbortIs self.new.link.room.bytes.items result }
-        ensures cause { job_counts self.new.vim_faults self.new.look_faults self.new.refusals ≡ abort_counts result (job_counts self.old.vim_faults self.old.look_faults self.old.refusals) }
     {
-        match aborted(self.alloc, &mut self.link, self.manager, tag) {
-            AbortAnswer::Failed => {
-                count_one(&mut self.vim_faults);
-                note_failed(self.pulse);
-                AbortAnswer::Failed
-            }
-            AbortAnswer::Asked => AbortAnswer::Asked,
+        let answer = aborted(self.alloc, &mut self.link, self.manager, tag);
+        if let AbortAnswer::Failed = answer {
+            note_failed(self.pulse);
         }
+        answer
     }
 }
 

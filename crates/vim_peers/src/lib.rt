@@ -2,15 +2,13 @@
 //! second one is opened before it has ended. It is over every network and every stopwatch.
 #![tactic(auto)]
 
-mod counted;
 mod jobs;
 mod link;
+mod noted;
 mod opened;
 mod replies;
-mod site;
 
 pub use jobs::VimPeer;
 pub use link::{ENDING, VimLink};
 pub use opened::Opened;
 pub use replies::LineReply;
-pub use site::SiteOverPeer;

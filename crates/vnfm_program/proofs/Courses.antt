@@ -44,19 +44,19 @@ no_answer (Err fault) P Q never each = λ is. absurd (never (each is))
 pub unset : (fault : SettingsFault) (set : Option Settings) → fault ≡ Usage → Settles (Err fault) set → set ≡ None
 unset fault set is settles = subst (λ (f : SettingsFault). Settles (Err f) set) is settles
 
-module _ {N H F : Type 0} where
+module _ {N H F J : Type 0} where
   -- a run with its line to standard error is what `once` performs, and one with it to standard output what the other two do
-  pub performed_on_error : (g : Meaning N H F) (command : Command) (words : List (List ℕ)) (status : ℕ) (a b : Scene N H F)
+  pub performed_on_error : (g : Meaning N H F) (command : Command) (words : List (List ℕ)) (status : ℕ) (a b : Scene N H F J)
       → command ≡ Once → SpeaksOnError g words status a b → Performs g (answers command) words status a b
   performed_on_error g command words status a b is speaks = subst (λ (c : Command). Performs g (answers c) words status a b) (sym is) speaks
 
-  pub performed_on_output : (g : Meaning N H F) (command : Command) (words : List (List ℕ)) (status : ℕ) (a b : Scene N H F)
+  pub performed_on_output : (g : Meaning N H F) (command : Command) (words : List (List ℕ)) (status : ℕ) (a b : Scene N H F J)
       → (command ≡ Init) ⊎ (command ≡ Onboard) → SpeaksOnOutput g words status a b → Performs g (answers command) words status a b
   performed_on_output g command words status a b (inl is) speaks = subst (λ (c : Command). Performs g (answers c) words status a b) (sym is) speaks
   performed_on_output g command words status a b (inr is) speaks = subst (λ (c : Command). Performs g (answers c) words status a b) (sym is) speaks
 
   -- a run over what was opened for these settings obeys the words that set them
-  pub obeyed : (g : Meaning N H F) (words : List (List ℕ)) (set : Option Settings) (status : ℕ) (a b : Objects N H F) (opened : Machine N H F) (before after : MouthState)
+  pub obeyed : (g : Meaning N H F) (words : List (List ℕ)) (set : Option Settings) (status : ℕ) (a b : Objects N H F J) (opened : Machine N H F J) (before after : MouthState)
       → settings_of words ≡ set → Opens g set a.machine opened → a.mouth ≡ Ok before → b.mouth ≡ Ok after
       → Performs g (is_told_on_error set) words status (record { mouth = before; machine = opened }) (record { mouth = after; machine = b.machine })
       → Obeys g words status a b
@@ -71,7 +71,7 @@ module _ {N H F : Type 0} where
   }
 
   -- words that ask for no page are obeyed
-  pub went : (g : Meaning N H F) (given words : List (List ℕ)) (status : ℕ) (a b : Objects N H F)
+  pub went : (g : Meaning N H F) (given words : List (List ℕ)) (status : ℕ) (a b : Objects N H F J)
       → given ≡ words → page_of given ≡ None → ObeysOrStarves g given status a b → Starts g words status a b
   went g given words status a b same none obeys =
       subst (λ (ws : List (List ℕ)). Starts g ws status a b) same (subst (λ (page : Option Page). Goes g page given status a b) (sym none) obeys)

@@ -29,10 +29,10 @@ use Rattle.vnfm_program.specs.Output.{Explains, Prints, Starves}
 
 -- What the program works with beside its words and its mouth: what opens the null device, the files and the site, on which no file was opened yet,
 -- as they are; the orchestrator, the courier, the clock, standard output and standard error by what they show.
-pub record Machine (N H F : Type 0) : Type 0 where
+pub record Machine (N H F J : Type 0) : Type 0 where
   pub device : N
   pub files : H
-  pub site : RealSite F
+  pub site : RealSite F J
   pub orchestrator : Peer
   pub courier : Mail
   pub clock : List ℕ
@@ -52,14 +52,14 @@ pub record Meaning (N H F : Type 0) : Type 1 where
   pub hold : F → Hold
 
 -- all of it, with the mouth where there was memory for one
-pub record Objects (N H F : Type 0) : Type 0 where
+pub record Objects (N H F J : Type 0) : Type 0 where
   pub mouth : Result MouthState AllocError
-  pub machine : Machine N H F
+  pub machine : Machine N H F J
 
 -- all of it, with the mouth
-pub record Scene (N H F : Type 0) : Type 0 where
+pub record Scene (N H F J : Type 0) : Type 0 where
   pub mouth : MouthState
-  pub machine : Machine N H F
+  pub machine : Machine N H F J
 
 -- the line of this command goes to standard error, where its answer goes to standard output
 abbrev pub answers : Command → Bool
@@ -82,9 +82,9 @@ folder_of Once = WhereMade
 abbrev pub is_undelivered : MouthState → Bool
 is_undelivered mouth = mouth.wire.intake.door.conn.write_failed
 
-module _ {N H F : Type 0} where
+module _ {N H F J : Type 0} where
   -- what a run over it works with
-  abbrev pub outside_of : Meaning N H F → Scene N H F → Outside
+  abbrev pub outside_of : Meaning N H F → Scene N H F J → Outside
   outside_of g a = record {
     site = state_in g.state a.machine.site.file;
     counts = counts_of a.machine.site;
@@ -95,26 +95,26 @@ module _ {N H F : Type 0} where
   }
 
   -- what a run with its line to this output is over
-  abbrev pub ground : Meaning N H F → Scene N H F → Output → Ground
+  abbrev pub ground : Meaning N H F → Scene N H F J → Output → Ground
   ground g a lines = record { outside = outside_of g a; lines = lines }
 
   -- what is to be said of a run with this status that left this
-  abbrev pub reason_at : ℕ → Scene N H F → Option Reason
+  abbrev pub reason_at : ℕ → Scene N H F J → Option Reason
   reason_at status a = reason_of status a.machine.site.why (is_undelivered a.mouth)
 
   -- the device and the files are as they were
-  pub record OpensNoMore (a b : Machine N H F) : Type 0 where
+  pub record OpensNoMore (a b : Machine N H F J) : Type 0 where
     pub device : b.device ≡ a.device
     pub files : b.files ≡ a.files
 
   -- One run over what was opened, with its line to standard output. Behind it, what explains its status went to standard error.
-  pub record SpeaksOnOutput (g : Meaning N H F) (words : List (List ℕ)) (status : ℕ) (a b : Scene N H F) : Type 0 where
+  pub record SpeaksOnOutput (g : Meaning N H F) (words : List (List ℕ)) (status : ℕ) (a b : Scene N H F J) : Type 0 where
     pub promises : Promises g.outside g.lines words status (ground g a a.machine.lines) (ground g b b.machine.lines)
     pub explains : Explains g.errors (reason_at status b) words a.machine.errors b.machine.errors
     pub kept : OpensNoMore a.machine b.machine
 
   -- the same, with the line to standard error too
-  pub record SpeaksOnError (g : Meaning N H F) (words : List (List ℕ)) (status : ℕ) (a b : Scene N H F) : Type 0 where
+  pub record SpeaksOnError (g : Meaning N H F) (words : List (List ℕ)) (status : ℕ) (a b : Scene N H F J) : Type 0 where
     pub behind : Output
     pub promises : Promises g.outside g.errors words status (ground g a a.machine.errors) (ground g b behind)
     pub explains : Explains g.errors (reason_at status b) words behind b.machine.errors
@@ -122,24 +122,24 @@ module _ {N H F : Type 0} where
     pub kept : OpensNoMore a.machine b.machine
 
   -- one run, and behind it what explains its status, with the line to standard error or not
-  abbrev pub Performs : Meaning N H F → Bool → List (List ℕ) → ℕ → Scene N H F → Scene N H F → Type 0
+  abbrev pub Performs : Meaning N H F → Bool → List (List ℕ) → ℕ → Scene N H F J → Scene N H F J → Type 0
   Performs g false words status a b = SpeaksOnOutput g words status a b
   Performs g true words status a b = SpeaksOnError g words status a b
 
   -- there was no memory: that was said, and nothing else was done
-  pub record IsStarved (g : Meaning N H F) (status : ℕ) (a b : Objects N H F) : Type 0 where
+  pub record IsStarved (g : Meaning N H F) (status : ℕ) (a b : Objects N H F J) : Type 0 where
     pub starves : Starves g.errors status a.machine.errors b.machine.errors
     pub kept : b ≡ record a { machine = record a.machine { errors = b.machine.errors } }
 
   -- The file at the path of the settings was asked for, while the numbers of the standard streams are held by the one
   -- holding that was made. Where it was lost, it was for this cause. Whatever stood at a path stands as it did.
-  pub record AsksForFile (g : Meaning N H F) (settings : Settings) (lost : Option WhyLost) (a b : Machine N H F) : Type 0 where
+  pub record AsksForFile (g : Meaning N H F) (settings : Settings) (lost : Option WhyLost) (a b : Machine N H F J) : Type 0 where
     pub streams : g.device_tells → AreHeld (g.numbers a.device) (g.numbers b.device)
     pub seeks : g.files_tells → Seeks settings.journal (folder_of settings.command) lost (g.places a.files) (g.places b.files)
     pub stands : g.files_tells → LeavesAll settings.journal (g.places a.files) (g.places b.files)
 
   -- there was no memory to open the file that the words name: that was said, and nothing else was done
-  pub record IsStarvedOpening (g : Meaning N H F) (words : List (List ℕ)) (status : ℕ) (a b : Objects N H F) : Type 0 where
+  pub record IsStarvedOpening (g : Meaning N H F) (words : List (List ℕ)) (status : ℕ) (a b : Objects N H F J) : Type 0 where
     pub settings : Settings
     pub set : settings_of words ≡ Some settings
     pub asks : AsksForFile g settings (Some Memory) a.machine b.machine
@@ -147,12 +147,12 @@ module _ {N H F : Type 0} where
     pub kept : b ≡ record a { machine = record a.machine { device = b.machine.device; files = b.machine.files; errors = b.machine.errors } }
 
   -- a page was printed to standard output, and nothing else was done
-  pub record IsPrinted (g : Meaning N H F) (page : Page) (status : ℕ) (a b : Objects N H F) : Type 0 where
+  pub record IsPrinted (g : Meaning N H F) (page : Page) (status : ℕ) (a b : Objects N H F J) : Type 0 where
     pub prints : Prints g.lines page status a.machine.lines b.machine.lines
     pub kept : b ≡ record a { machine = record a.machine { lines = b.machine.lines } }
 
   -- The file at the path of the settings was opened, or it is told why it couldn't be had. Nothing else was done.
-  pub record OpensFile (g : Meaning N H F) (settings : Settings) (a b : Machine N H F) : Type 0 where
+  pub record OpensFile (g : Meaning N H F) (settings : Settings) (a b : Machine N H F J) : Type 0 where
     pub asks : AsksForFile g settings b.site.why a b
     pub file : g.files_tells → g.outside.site → IsHeld g.state g.hold settings.journal (folder_of settings.command) b.site.file (g.places a.files) (g.places b.files)
     pub why : IsExplained b.site.file b.site.why
@@ -160,19 +160,19 @@ module _ {N H F : Type 0} where
     pub kept : b ≡ record a { device = b.device; files = b.files; site = b.site }
 
   -- the numbers of the standard streams couldn't be taken, and nothing was done
-  pub record OpensNothing (g : Meaning N H F) (a b : Machine N H F) : Type 0 where
+  pub record OpensNothing (g : Meaning N H F) (a b : Machine N H F J) : Type 0 where
     pub failed : g.device_tells → (g.numbers b.device).failed ≡ (g.numbers a.device).failed + 1
     pub kept : b ≡ record a { device = b.device }
 
   -- what is done before the run: nothing for words that set nothing
-  abbrev pub Opens : Meaning N H F → Option Settings → Machine N H F → Machine N H F → Type 0
+  abbrev pub Opens : Meaning N H F → Option Settings → Machine N H F J → Machine N H F J → Type 0
   Opens g None a b = b ≡ a
   Opens g (Some settings) a b = OpensFile g settings a b ⊎ OpensNothing g a b
 
   -- The file that the words name was opened, then the words were obeyed by one run over it, and then its status was explained. Nothing else
   -- was done, before or behind the run.
-  pub record Obeys (g : Meaning N H F) (words : List (List ℕ)) (status : ℕ) (a b : Objects N H F) : Type 0 where
-    pub opened : Machine N H F
+  pub record Obeys (g : Meaning N H F) (words : List (List ℕ)) (status : ℕ) (a b : Objects N H F J) : Type 0 where
+    pub opened : Machine N H F J
     pub opens : Opens g (settings_of words) a.machine opened
     pub before : MouthState
     pub after : MouthState
@@ -181,14 +181,14 @@ module _ {N H F : Type 0} where
     pub performs : Performs g (is_told_on_error (settings_of words)) words status (record { mouth = before; machine = opened }) (record { mouth = after; machine = b.machine })
 
   -- the same, or there was no memory
-  abbrev pub ObeysOrStarves : Meaning N H F → List (List ℕ) → ℕ → Objects N H F → Objects N H F → Type 0
+  abbrev pub ObeysOrStarves : Meaning N H F → List (List ℕ) → ℕ → Objects N H F J → Objects N H F J → Type 0
   ObeysOrStarves g words status a b = Obeys g words status a b ⊎ (IsStarved g status a b ⊎ IsStarvedOpening g words status a b)
 
   -- what is done where these words ask for this page or for none
-  abbrev pub Goes : Meaning N H F → Option Page → List (List ℕ) → ℕ → Objects N H F → Objects N H F → Type 0
+  abbrev pub Goes : Meaning N H F → Option Page → List (List ℕ) → ℕ → Objects N H F J → Objects N H F J → Type 0
   Goes g None words status a b = ObeysOrStarves g words status a b
   Goes g (Some page) words status a b = IsPrinted g page status a b ⊎ IsStarved g status a b
 
   -- what is done with these words
-  abbrev pub Starts : Meaning N H F → List (List ℕ) → ℕ → Objects N H F → Objects N H F → Type 0
+  abbrev pub Starts : Meaning N H F → List (List ℕ) → ℕ → Objects N H F J → Objects N H F J → Type 0
   Starts g words status a b = Goes g (page_of words) words status a b

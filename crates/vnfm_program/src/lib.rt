@@ -8,3 +8,4 @@ mod words;
 
 pub use machine::Machine;
 pub use program::start;
+pub use words::settings_in;

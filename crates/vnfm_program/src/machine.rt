@@ -2,7 +2,7 @@
 ghost use Rattle.vnfm_program.specs.Program.{Machine};
 
 use host_calls::HostFiles;
-use outside_edges::RealSite;
+use outside_edges::{Jobs, RealSite};
 use site_traits::{Clock, Courier, Orchestrator, Sink};
 use standard_streams::NullDevice;
 use std::marker::Model;
@@ -12,6 +12,7 @@ use std::marker::Model;
 pub struct Machine<
     N: NullDevice,
     H: HostFiles,
+    J: Jobs<H::File> + Drop,
     Q: Orchestrator,
     C: Courier,
     K: Clock,
@@ -22,8 +23,8 @@ pub struct Machine<
     pub device: N,
     /// What opens files.
     pub files: H,
-    /// The journal's site, on which no file was opened yet.
-    pub site: RealSite<H::File>,
+    /// The journal's site, on which no file was opened yet, with the infrastructure's jobs.
+    pub site: RealSite<H::File, J>,
     /// The orchestrator.
     pub orchestrator: Q,
     /// The courier.
@@ -36,12 +37,20 @@ pub struct Machine<
     pub errors: E,
 }
 
-impl<N: NullDevice, H: HostFiles, Q: Orchestrator, C: Courier, K: Clock, L: Sink, E: Sink> Model
-    for Machine<N, H, Q, C, K, L, E> {
+impl<
+    N: NullDevice,
+    H: HostFiles,
+    J: Jobs<H::File> + Drop,
+    Q: Orchestrator,
+    C: Courier,
+    K: Clock,
+    L: Sink,
+    E: Sink,
+> Model for Machine<N, H, J, Q, C, K, L, E> {
     ghost use Rattle.vnfm_commands.specs.Ending.{output_of};
     ghost use Rattle.vnfm_program.specs.Program.{Machine};
 
-    ghost Value = { Machine N H H.File };
+    ghost Value = { Machine N H H.File J };
 
     ghost view = { λ m. record {
       device = m.device;

@@ -13,7 +13,7 @@ use crate::output::{explain, print, starve};
 use crate::words::words_of;
 use host_calls::{HostFile, HostFiles, InStream, OutStream};
 use lcm_api::Mouth;
-use outside_edges::{FolderSync, RealDoor, RealSite};
+use outside_edges::{FolderSync, Jobs, RealDoor, RealSite};
 use program_words::{Reason, page_of, reason_of};
 use site_traits::{Clock, Courier, Orchestrator, Sink};
 use standard_streams::{NullDevice, hold_streams};
@@ -41,6 +41,7 @@ use vnfm_cli::{Command, Settings, SettingsFault, run, settings};
 pub fn start<
     N: NullDevice,
     H: HostFiles<Held = N::Held>,
+    J: Jobs<H::File> + Drop,
     I: InStream,
     O: OutStream,
     Q: Orchestrator,
@@ -52,7 +53,7 @@ pub fn start<
     alloc: Global,
     arguments: io::Result<Args>,
     mouth: &mut Result<Mouth<RealDoor<I, O>>, AllocError>,
-    machine: &mut Machine<N, H, Q, C, K, L, E>,
+    machine: &mut Machine<N, H, J, Q, C, K, L, E>,
 ) -> u8
 where
     N::Held: Drop,
@@ -83,6 +84,7 @@ where
 fn command<
     N: NullDevice,
     H: HostFiles<Held = N::Held>,
+    J: Jobs<H::File> + Drop,
     I: InStream,
     O: OutStream,
     Q: Orchestrator,
@@ -94,7 +96,7 @@ fn command<
     alloc: Global,
     words: &[Text],
     mouth: &mut Result<Mouth<RealDoor<I, O>>, AllocError>,
-    machine: &mut Machine<N, H, Q, C, K, L, E>,
+    machine: &mut Machine<N, H, J, Q, C, K, L, E>,
 ) -> u8
 where
     N::Held: Drop,
@@ -125,6 +127,7 @@ where
 fn hold_and_perform<
     N: NullDevice,
     H: HostFiles<Held = N::Held>,
+    J: Jobs<H::File> + Drop,
     I: InStream,
     O: OutStream,
     Q: Orchestrator,
@@ -137,7 +140,7 @@ fn hold_and_perform<
     words: &[Text],
     settings: &Settings,
     mouth: &mut Mouth<RealDoor<I, O>>,
-    machine: &mut Machine<N, H, Q, C, K, L, E>,
+    machine: &mut Machine<N, H, J, Q, C, K, L, E>,
 ) -> u8
 where
     N::Held: Drop,
@@ -184,6 +187,7 @@ fn folder_of(command: Command) -> FolderSync
 fn perform<
     N: NullDevice,
     H: HostFiles,
+    J: Jobs<H::File> + Drop,
     I: InStream,
     O: OutStream,
     Q: Orchestrator,
@@ -196,7 +200,7 @@ fn perform<
     words: &[Text],
     command: Command,
     mouth: &mut Mouth<RealDoor<I, O>>,
-    machine: &mut Machine<N, H, Q, C, K, L, E>,
+    machine: &mut Machine<N, H, J, Q, C, K, L, E>,
 ) -> u8
     ensures { Performs (record {
       device_tells = N.tells;
@@ -221,6 +225,7 @@ fn perform<
 fn tell_on_output<
     N: NullDevice,
     H: HostFiles,
+    J: Jobs<H::File> + Drop,
     I: InStream,
     O: OutStream,
     Q: Orchestrator,
@@ -232,7 +237,7 @@ fn tell_on_output<
     alloc: Global,
     words: &[Text],
     mouth: &mut Mouth<RealDoor<I, O>>,
-    machine: &mut Machine<N, H, Q, C, K, L, E>,
+    machine: &mut Machine<N, H, J, Q, C, K, L, E>,
 ) -> u8
     ensures { SpeaksOnOutput (record {
       device_tells = N.tells;
@@ -270,6 +275,7 @@ fn tell_on_output<
 fn tell_on_error<
     N: NullDevice,
     H: HostFiles,
+    J: Jobs<H::File> + Drop,
     I: InStream,
     O: OutStream,
     Q: Orchestrator,
@@ -281,7 +287,7 @@ fn tell_on_error<
     alloc: Global,
     words: &[Text],
     mouth: &mut Mouth<RealDoor<I, O>>,
-    machine: &mut Machine<N, H, Q, C, K, L, E>,
+    machine: &mut Machine<N, H, J, Q, C, K, L, E>,
 ) -> u8
     ensures { SpeaksOnError (record {
       device_tells = N.tells;
@@ -316,9 +322,9 @@ fn tell_on_error<
 }
 
 /// What is to be said of a run with this status.
-fn reason<F: HostFile + Drop, I: InStream, O: OutStream>(
+fn reason<F: HostFile + Drop, J: Jobs<F> + Drop, I: InStream, O: OutStream>(
     status: u8,
-    site: &RealSite<F>,
+    site: &RealSite<F, J>,
     mouth: &Mouth<RealDoor<I, O>>,
 ) -> Option<Reason>
     ensures { result ≡ reason_of status site.now.why (is_undelivered mouth.now) }
