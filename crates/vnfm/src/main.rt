@@ -18,7 +18,7 @@ use std::env;
 use std::fs::File;
 use std::process::ExitCode;
 use vim_peers::VimPeer;
-use vnfm_cli::Settings;
+use vnfm_cli::{Command, Settings};
 use vnfm_program::{Machine, settings_in, start};
 
 /// The numbers of the standard streams, held.
@@ -121,15 +121,22 @@ fn start_among(rt: &HostRuntime, streams: &Held, settings: &Settings) -> u8 {
     }
 }
 
+/// Starts the program for `once`, the one command that calls its peers. Where the numbers of the standard streams can't be held, no socket is
+/// opened.
+fn start_once(rt: &HostRuntime, settings: &Settings) -> u8 {
+    let mut device = NullFiles::of(rt);
+    match hold_streams(&mut device) {
+        Ok(streams) => start_among(rt, &streams, settings),
+        Err(_) => start_alone(rt, true),
+    }
+}
+
 fn main(rt: HostRuntime) -> ExitCode {
     let status = match settings_in(rt.alloc(), env::args(&rt)) {
-        Ok(Some(settings)) => {
-            let mut device = NullFiles::of(&rt);
-            match hold_streams(&mut device) {
-                Ok(streams) => start_among(&rt, &streams, &settings),
-                Err(_) => start_alone(&rt, true),
-            }
-        }
+        Ok(Some(settings)) => match settings.command {
+            Command::Once => start_once(&rt, &settings),
+            Command::Init | Command::Onboard => start_alone(&rt, true),
+        },
         Ok(None) => start_alone(&rt, true),
         Err(AllocError) => start_alone(&rt, false),
     };
