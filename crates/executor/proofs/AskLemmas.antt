@@ -51,16 +51,6 @@ found H i r e =
       named = ap (option_and_then (λ (x : CreatedInstance). descriptor_named H x.vnfd)) mine.1 ∙ ap (λ (y : InstanceRow). descriptor_named H y.vnfd) mine.2;
     }
 
--- an instance of which no row is found isn't live
-pub lost : (H : List Event) (i : ℕ) → instance H i ≡ None → is_live H i ≡ false
-lost H i e = by_test (is_live H i)
-    (λ live.
-    let made = some_value (creation H i) (and_left (is_some (creation H i)) (not (is_deleted H i)) live) in
-    let none : option_map (instance_row H) (creation H i) ≡ None =
-    subst (λ (b : Bool). cond b (option_map (instance_row H) (creation H i)) None ≡ None) live e in
-    absurd (none-some (instance_row H made.0) (sym none ∙ ap (option_map (instance_row H)) made.1)))
-    (λ gone. gone)
-
 some_same : {A : Type 0} → {x y : A} → Some x ≡ Some y → x ≡ y
 some_same e = cc
 

@@ -1,5 +1,7 @@
 -- What asking an instance for an operation comes to: the changes of its plan, or why it is refused (SOL 003 5.4.4 to 5.4.10).
-use Rattle.std.specs.Prelude.{List, None, Option, Some, Result, Ok, Err, false, true, ℕ, ◌≡◌}
+use Rattle.std.specs.Prelude.{List, None, Option, Some, Result, Ok, Err, true, ℕ, ◌≡◌}
+use Rattle.instance_table.specs.Rows.{instance}
+use Rattle.instance_table.specs.declared.rows.InstanceRow.{InstanceRow}
 use Rattle.lcm_events.specs.declared.asks.Ask.{Ask}
 use Rattle.lcm_events.specs.declared.changes.Change.{Change}
 use Rattle.lcm_events.specs.declared.descriptor.Vnfd.{Vnfd}
@@ -8,6 +10,7 @@ use Rattle.lcm_model.specs.Lives.{descriptor, is_live}
 use Rattle.lcm_model.specs.Plans.{plan}
 use Rattle.lcm_model.specs.Refusals.{ask_refusal, case_in, situation}
 use Rattle.lcm_model.specs.declared.refusals.Refusal.{Refusal}
+use Rattle.executor.specs.Managed.{Managed, Keeps}
 use Rattle.executor.specs.declared.asks.AskFault.{AskFault}
 use Rattle.executor.specs.declared.asks.AskFault.TheVariants as fault
 
@@ -27,9 +30,12 @@ pub record IsAccepted (H : List Event) (i : ℕ) (ask : Ask) (xs : List Change) 
 abbrev pub IsRefused : List Event → ℕ → Ask → Refusal → Type 0
 IsRefused H i ask why = (d : Vnfd) × IsJudged H i ask d (Some why)
 
--- what an answer tells of an ask of the instance of this number
+-- the row is that of a live instance, in each history that the manager keeps (SOL 003 5.5.2.2)
+abbrev pub IsRowOf : Managed → InstanceRow → Type 0
+IsRowOf m row = (H : List Event) → Keeps m H → instance H row.number ≡ Some row
+
+-- what an answer tells of an ask of the live instance of this number
 abbrev pub TellsAsk : List Event → ℕ → Ask → Result (List Change) AskFault → Type 0
 TellsAsk H i ask (Ok xs) = IsAccepted H i ask xs
-TellsAsk H i ask (Err fault.Absent) = is_live H i ≡ false
 TellsAsk H i ask (Err (fault.Refused why)) = IsRefused H i ask why
 TellsAsk H i ask (Err fault.Memory) = Unit {0}

@@ -12,19 +12,16 @@ ghost use Rattle.lcm_tables.specs.Asking.{IsAskedOf};
 ghost use Rattle.lcm_tables.specs.Tables.{AreTablesOf, HasSmallHistory, IsSmall, Says};
 
 use instance_table::{InstanceRow, rows_have_holdings};
-use lcm_events::{Ask, Changes, Holding, Vnfd};
+use lcm_events::{Ask, Changes, Vnfd};
 use lcm_model::Refusal;
 use lcm_plans::{content_refusal_in, plan_standing};
 use lcm_tables::Tables;
 use std::alloc::{AllocError, Global};
 use thiserror::Error;
 
-/// Why an instance isn't asked for an operation.
+/// Why a live instance isn't asked for an operation.
 #[derive(Debug, Drop, Error)]
 pub enum AskFault {
-    /// No live instance has the number.
-    #[error("no such instance")]
-    Absent,
     /// The ask is refused.
     #[error("the operation is refused")]
     Refused(Refusal),
@@ -43,56 +40,43 @@ impl From<AllocError> for AskFault {
     }
 }
 
-/// The changes of the plan of an ask of the live instance of this number, or why it is refused.
-pub fn plan_of(alloc: Global, tables: &Tables, number: u64, ask: &Ask) -> Result<Changes, AskFault>
-    requires small { HasSmallHistory tables.now }
-    ensures { (m : ℕ) (H : List Event) → IsSmall H → IsLegal m H → AreTablesOf m tables.now H → TellsAsk H number ask.now result }
-{
-    match tables.instances.instance(number) {
-        Some(row) => plan_of_row(alloc, tables, row, number, ask),
-        None => Err(AskFault::Absent),
-    }
-}
-
-/// The same of the live instance of this row.
-fn plan_of_row(
+/// The changes of the plan of an ask of the live instance of this row, or why it is refused.
+pub fn plan_of(
     alloc: Global,
     tables: &Tables,
     row: &InstanceRow,
-    number: u64,
     ask: &Ask,
 ) -> Result<Changes, AskFault>
-    requires small { HasSmallHistory tables.now }
-    requires own { Says (λ H. instance H number ≡ Some row.now) tables.now }
-    ensures { (m : ℕ) (H : List Event) → IsSmall H → IsLegal m H → AreTablesOf m tables.now H → TellsAsk H number ask.now result }
+    requires own { (s : HasSmallHistory tables.now) × (instance s.history row.now.number ≡ Some row.now) }
+    ensures { (m : ℕ) (H : List Event) → IsSmall H → IsLegal m H → AreTablesOf m tables.now H → instance H row.now.number ≡ Some row.now
+        → TellsAsk H row.now.number ask.now result }
 {
     rows_have_holdings();
     match tables.instances.vnfd(&row.vnfd) {
-        Some(vnfd) => plan_over(alloc, tables, vnfd, &row.holding, number, ask),
+        Some(vnfd) => plan_over(alloc, tables, vnfd, row, ask),
         // The row of each live instance names a descriptor that was onboarded.
         None => unreachable!(),
     }
 }
 
-/// The same of the instance with this descriptor, of which this stands.
+/// The same of the instance of this row with its descriptor.
 fn plan_over(
     alloc: Global,
     tables: &Tables,
     vnfd: &Vnfd,
-    holding: &Holding,
-    number: u64,
+    row: &InstanceRow,
     ask: &Ask,
 ) -> Result<Changes, AskFault>
     requires valid { IsValid vnfd.now }
-    requires held { IsHoldingOf vnfd.now holding.now }
-    requires own { Says (λ H. IsAskedOf H number vnfd.now holding.now) tables.now }
-    ensures { (m : ℕ) (H : List Event) → IsSmall H → IsLegal m H → AreTablesOf m tables.now H → TellsAsk H number ask.now result }
+    requires held { IsHoldingOf vnfd.now row.now.holding }
+    ensures { (m : ℕ) (H : List Event) → IsSmall H → IsLegal m H → AreTablesOf m tables.now H → IsAskedOf H row.now.number vnfd.now row.now.holding
+        → TellsAsk H row.now.number ask.now result }
 {
-    let busy = is_busy(tables, number);
+    let busy = is_busy(tables, row.number);
     if let Some(why) = content_refusal_in(vnfd, ask) {
         return Err(AskFault::Refused(why));
     }
-    match plan_standing(alloc, vnfd, holding, busy, ask)? {
+    match plan_standing(alloc, vnfd, &row.holding, busy, ask)? {
         Ok(changes) => Ok(changes),
         Err(why) => Err(AskFault::Refused(why)),
     }

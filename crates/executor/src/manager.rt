@@ -1,21 +1,21 @@
 //! The manager: its journal, and the tables of the events in it. What is acknowledged is on the disk before the tables follow it.
-ghost use Rattle.std.specs.Prelude.{◌≡◌, ◌≢◌, ◌≤◌, ◌<◌, ◌+◌, ℕ, List, length, option_copied, IfOk, OnOk, OnErr, false, true};
+ghost use Rattle.std.specs.Prelude.{◌≡◌, ◌≢◌, ◌≤◌, ◌<◌, ◌+◌, ℕ, List, length, option_copied, IfOk, OnOk, OnErr, Some, false, true};
 ghost use Rattle.event_codec.specs.Spell.{spelling};
 ghost use Rattle.event_codec.specs.Valid.{IsEvent};
 ghost use Rattle.journal_core.specs.Load.{SyncsAndReads};
 ghost use Rattle.executor.specs.Open.{Opens};
 ghost use Rattle.executor.specs.Room.{TellsRoom};
-ghost use Rattle.instance_table.specs.Rows.{StandsFor, live};
+ghost use Rattle.instance_table.specs.Rows.{StandsFor, instance, live};
 ghost use Rattle.instance_table.specs.Table.{is_counted};
 ghost use Rattle.journal_records.specs.declared.limits.TheConstants.{MAX_FILE};
 ghost use Rattle.lcm_events.specs.declared.events.Event.{Event};
 ghost use Rattle.vnfm_base.specs.Ident.{IsIdentNumber};
-ghost use Rattle.lcm_model.specs.Lives.{descriptor_named, descriptors, instances_made, is_live};
+ghost use Rattle.lcm_model.specs.Lives.{descriptor_named, descriptors, instances_made};
 ghost use Rattle.lcm_model.specs.Operations.{occurrences_made};
 ghost use Rattle.lcm_model.specs.Refusals.{delete_refusal};
 ghost use Rattle.occ_table.specs.Table.{IsTableOf};
 ghost use Rattle.lcm_tables.specs.Tables.{HasRoom};
-ghost use Rattle.executor.specs.Operating.{TellsAsk};
+ghost use Rattle.executor.specs.Operating.{IsRowOf, TellsAsk};
 ghost use Rattle.executor.specs.Questions.{is_made, made};
 ghost use Rattle.site_traits.specs.Counts.{Ask, asked, OnlyDiskFails};
 ghost use Rattle.journal_core.specs.Asking.{FailsWhere};
@@ -29,7 +29,7 @@ use crate::asks::{AskFault, plan_of};
 use crate::open::judge_all;
 use crate::recording::{append_and_follow, spell_within};
 use event_codec::{DecodeFault, RecordBuf, TooLong, decode};
-use instance_table::InstanceTable;
+use instance_table::{InstanceRow, InstanceTable};
 use journal_core::{AppendFault, BackFault, Journal, LoadFault, records_add_up};
 use lcm_events::{Changes, Event, Vnfd};
 use lcm_laws::serials_are_counted;
@@ -342,13 +342,14 @@ impl<S: Site> Manager<S> {
         &self.tables.occurrences
     }
 
-    /// Why the deletion of a live instance is refused, where it is: it is INSTANTIATED, or one of its operations goes on, in this order.
+    /// Why the deletion of the live instance of this row is refused, where it is: it is INSTANTIATED, or one of its operations goes on, in
+    /// this order.
     ///
     /// Source: SOL 003 5.4.3.3.5 (DELETE of an individual VNF instance).
-    pub fn delete_refusal(&self, instance: u64) -> Option<Refusal>
-        ensures { (H : List Event) → Keeps self.now H → is_live H instance ≡ true → result ≡ delete_refusal H instance }
+    pub fn delete_refusal(&self, row: &InstanceRow) -> Option<Refusal>
+        ensures { (H : List Event) → Keeps self.now H → instance H row.now.number ≡ Some row.now → result ≡ delete_refusal H row.now.number }
     {
-        self.tables.delete_refusal(instance)
+        self.tables.delete_refusal(row)
     }
 
     /// The number of the next instance. Condition: the manager isn't closed.
@@ -377,24 +378,24 @@ impl<S: Site> Manager<S> {
         after(made, records)
     }
 
-    /// The changes of the plan of an operation that a live instance is asked for, which are to be recorded with it. Condition: the manager
-    /// isn't closed.
+    /// The changes of the plan of an operation that the live instance of this row is asked for, which are to be recorded with it.
     ///
-    /// Refusals, in this order: `Absent`, exactly where no live instance has the number; `Refused`, exactly where the ask is refused, with
-    /// the first cause; `Memory`.
+    /// Conditions: the manager isn't closed, and the row is one of its live instances.
+    /// Refusals, in this order: `Refused`, exactly where the ask is refused, with the first cause; `Memory`.
     /// Source: SOL 003 5.4.4 to 5.4.10 (the tasks of an individual VNF instance).
     pub fn plan_asked(
         &self,
         alloc: Global,
-        instance: u64,
+        row: &InstanceRow,
         ask: &lcm_events::Ask,
     ) -> Result<Changes, AskFault>
-        requires { self.now.ledger.closed ≡ false }
-        ensures { (H : List Event) → Keeps self.now H → TellsAsk H instance ask.now result }
+        requires usable { self.now.ledger.closed ≡ false }
+        requires own { IsRowOf self.now row.now }
+        ensures { (H : List Event) → Keeps self.now H → TellsAsk H row.now.number ask.now result }
     {
         records_add_up();
         serials_are_counted();
-        plan_of(alloc, &self.tables, instance, ask)
+        plan_of(alloc, &self.tables, row, ask)
     }
 }
 

@@ -14,7 +14,8 @@ use Rattle.instance_table.specs.Table.{vnfd_named}
 use Rattle.instance_table.specs.declared.rows.InstanceRow.{InstanceRow}
 use Rattle.json_views.specs.Instance.{instance_text}
 use Rattle.json_views.specs.Instances.{CanBeShown, IsShowable}
-use Rattle.executor.specs.Managed.{Managed}
+use Rattle.executor.specs.Managed.{Keeps, Managed}
+use Rattle.executor.specs.Operating.{IsRowOf}
 use Rattle.event_codec.specs.Spell.{spelling, u64}
 use Rattle.http_wire.specs.declared.request.Request.{Request}
 use Rattle.journal_records.specs.declared.limits.TheConstants.{MAX_RECORD}
@@ -81,14 +82,20 @@ pub shown_of : (p : InstanceRow → Bool) (rs : Rows) (o : Option (Bor InstanceR
 shown_of p rs None is shown = tt
 shown_of p rs (Some row) is shown = find_is (IsShowable rs) p rs.instances row.now (recursion_from_All (IsShowable rs) rs.instances shown) (sym is)
 
--- what was found by its number is live
-pub live_of : (H : List Event) (n : ℕ) (o : Option (Bor InstanceRow)) → option_copied o ≡ instance H n → ((row : InstanceRow) → instance H n ≡ Some row → row.number ≡ n)
-    → IfSome o (λ row. is_live H row.now.number ≡ true)
-live_of H n None is same = tt
-live_of H n (Some row) is same = subst (λ k. is_live H k ≡ true) (sym (same row.now (sym is))) (there _ (is_live H n) is) where
-  there : (y : Option InstanceRow) (b : Bool) → Some row.now ≡ (if b then y else None) → b ≡ true
+-- what was found by its number is the row of a live instance
+pub own_of : (m : Managed) (n : ℕ) (o : Option (Bor InstanceRow))
+    → ((H : List Event) → Keeps m H → (option_copied o ≡ instance H n) × ((row : InstanceRow) → instance H n ≡ Some row → row.number ≡ n)) → IfSome o (λ row. IsRowOf m row.now)
+own_of m n None told = tt
+own_of m n (Some row) told = λ H keeps.
+    let it = told H keeps in
+    subst (λ (k : ℕ). instance H k ≡ Some row.now) (sym (it.1 row.now (sym it.0))) (sym it.0)
+
+-- the instance of such a row is live
+pub live_of : (H : List Event) (row : InstanceRow) → instance H row.number ≡ Some row → is_live H row.number ≡ true
+live_of H row found = there _ (is_live H row.number) found where
+  there : (y : Option InstanceRow) (b : Bool) → (if b then y else None) ≡ Some row → b ≡ true
   there y true e = refl
-  there y false e = absurd (none-some row.now (sym e))
+  there y false e = absurd (none-some row e)
 
 -- the text of a row's view, by its descriptor
 pub row_text_is : (m : ℕ) (rs : Rows) (row : InstanceRow) (d : Vnfd) → vnfd_named rs row.vnfd ≡ Some d → row_text m rs row ≡ instance_text m row.number row d
@@ -107,13 +114,13 @@ deletion_fits now n = omega arith
 
 -- a live instance is deleted, where nothing refuses it
 pub deletes : (m : Managed) (H : List Event) (now : ℕ) (r : Request) (row : InstanceRow) (reply : Reply) (event : Event) → Some row ≡ named_instance m.ledger.manager H (asked_id r)
-    → is_live H row.number ≡ true → None ≡ delete_refusal H row.number → event ≡ deletion now row.number → reply ≡ deleted r.last
+    → instance H row.number ≡ Some row → None ≡ delete_refusal H row.number → event ≡ deletion now row.number → reply ≡ deleted r.last
     → IsPlanned (delete_instance m.ledger.manager H now r) m H (Records event reply)
-deletes m H now r row reply event named live accepted event_is reply_is =
+deletes m H now r row reply event named found accepted event_is reply_is =
     rw (event_is, reply_is) (
       ap (delete_found H now r.last) (sym named) ∙ ap (delete_judged H now row.number r.last) (sym accepted),
       record {
-        may = record { rules = λ typed. typed; allowed = record { live = live; accepted = sym accepted }; unsettled = refl };
+        may = record { rules = λ typed. typed; allowed = record { live = live_of H row found; accepted = sym accepted }; unsettled = refl };
         fits = λ is. deletion_fits now row.number;
       },
     )

@@ -2,12 +2,12 @@
 ghost use Rattle.std.specs.Prelude.{◌≡◌, List, IfOk, IfSome, Some, true, false, option_copied};
 ghost use Rattle.lcm_events.specs.declared.events.Event.{Event};
 ghost use Rattle.executor.specs.Managed.{Keeps};
+ghost use Rattle.executor.specs.Operating.{IsRowOf};
 ghost use Rattle.instance_table.specs.Rows.{rows};
 ghost use Rattle.json_views.specs.Instances.{IsShowable};
 ghost use Rattle.lcm_api.specs.Instances.{asked_id, delete_found, delete_instance, deleted, deletion, instance_task, list_instances, named_instance, no_instance, row_text, show_found, show_instance, task_found};
 ghost use Rattle.lcm_api.specs.Recording.{IsPlanned};
 ghost use Rattle.lcm_api.specs.Replies.{told};
-ghost use Rattle.lcm_model.specs.Lives.{is_live};
 
 use crate::record::Planned;
 use crate::reply::{Reply, refusal, refusal_for, shown};
@@ -94,7 +94,7 @@ pub fn delete<S: Site>(
     let Some(row) = named_instance(manager, asked_id(request)) else {
         return Ok(Planned::Told(no_instance(alloc, request.last)?));
     };
-    match manager.delete_refusal(row.number) {
+    match manager.delete_refusal(row) {
         Some(why) => Ok(Planned::Told(refusal_for(alloc, why, request.last)?)),
         None => Ok(Planned::Records(deletion(now, row.number), deleted(alloc, request.last))),
     }
@@ -111,7 +111,7 @@ pub fn asked_id(request: &Request) -> &str
 pub fn named_instance<'a, S: Site>(manager: &'a Manager<S>, id: &str) -> Option<&'a InstanceRow>
     requires usable { manager.now.ledger.closed ≡ false }
     ensures named { (H : List Event) → Keeps manager.now H → option_copied result ≡ named_instance manager.now.ledger.manager H id.now }
-    ensures live { (H : List Event) → Keeps manager.now H → IfSome result (λ row. is_live H row.now.number ≡ true) }
+    ensures own { IfSome result (λ row. IsRowOf manager.now row.now) }
     ensures shown { (H : List Event) → Keeps manager.now H → IfSome result (λ row. IsShowable (rows H) row.now) }
 {
     legal_rows_can_be_shown();

@@ -1,14 +1,15 @@
 //! Asking an instance for an operation: the task `instantiate`.
-ghost use Rattle.std.specs.Prelude.{◌≡◌, List, IfOk, false, true};
+ghost use Rattle.std.specs.Prelude.{◌≡◌, List, IfOk, false};
 ghost use Rattle.lcm_events.specs.declared.events.Event.{Event};
 ghost use Rattle.lcm_events.specs.declared.events.Operation.{Operation};
 ghost use Rattle.event_codec.specs.Typed.{TypedAsk};
 ghost use Rattle.event_codec.specs.Valid.{IsAsk};
 ghost use Rattle.executor.specs.Managed.{Keeps};
+ghost use Rattle.executor.specs.Operating.{IsRowOf};
 ghost use Rattle.lcm_api.specs.Instantiating.{IsAskVerdict, accepted, ask_described, ask_named, asking, instantiate, instantiation};
 ghost use Rattle.lcm_api.specs.Recording.{IsPlanned};
 ghost use Rattle.change_planner.specs.Records.{NamesFew};
-ghost use Rattle.lcm_model.specs.Lives.{descriptor, is_live};
+ghost use Rattle.lcm_model.specs.Lives.{descriptor};
 ghost use Rattle.vnfm_base.specs.Ident.{IsIdentNumber};
 
 use crate::bodies::refused_body;
@@ -19,6 +20,7 @@ use crate::reply::{Reply, location, refusal, refusal_for};
 use change_planner::asked_events_fit_records;
 use executor::{AskFault, Manager};
 use http_wire::Request;
+use instance_table::InstanceRow;
 use json_views::{InstantiateBody, occurrence_path, read_instantiate};
 use lcm_events::{Ask, Event, EventKind, Operation, Role};
 use lcm_laws::{plans_are_exact, plans_are_small};
@@ -101,15 +103,15 @@ fn ask<S: Site>(
     let Some(row) = named_instance(manager, asked_id(request)) else {
         return Ok(Planned::Told(no_instance(alloc, request.last)?));
     };
-    ask_number(alloc, manager, role, row.number, ask, now, request.last)
+    ask_row(alloc, manager, role, row, ask, now, request.last)
 }
 
-/// What asking the live instance of this number comes to.
-fn ask_number<S: Site>(
+/// What asking the live instance of this row comes to.
+fn ask_row<S: Site>(
     alloc: Global,
     manager: &Manager<S>,
     role: Role,
-    instance: u64,
+    row: &InstanceRow,
     ask: Ask,
     now: Moment,
     last: bool,
@@ -117,19 +119,20 @@ fn ask_number<S: Site>(
     requires usable { manager.now.ledger.closed ≡ false }
     requires rules { TypedAsk ask → IsAsk ask }
     requires few { NamesFew ask }
-    ensures { (H : List Event) → Keeps manager.now H → is_live H instance ≡ true
-        → IfOk result (IsPlanned (ask_described manager.now.ledger.manager H now role instance ask last (descriptor H instance)) manager.now H) }
+    requires own { IsRowOf manager.now row.now }
+    ensures { (H : List Event) → Keeps manager.now H
+        → IfOk result (IsPlanned (ask_described manager.now.ledger.manager H now role row.now.number ask last (descriptor H row.now.number)) manager.now H) }
 {
     asked_events_fit_records();
     plans_are_exact();
     plans_are_small();
-    match manager.plan_asked(alloc, instance, &ask) {
+    match manager.plan_asked(alloc, row, &ask) {
         Ok(changes) => {
             let occ = manager.next_occurrence();
             let reply = accepted(alloc, manager.number(), occ, last)?;
             let operation = Operation {
                 occ,
-                instance,
+                instance: row.number,
                 role,
                 ask,
                 changes,
@@ -137,7 +140,6 @@ fn ask_number<S: Site>(
             Ok(Planned::Records(asking(now, operation), reply))
         }
         Err(AskFault::Refused(why)) => Ok(Planned::Told(refusal_for(alloc, why, last)?)),
-        Err(AskFault::Absent) => Ok(Planned::Told(no_instance(alloc, last)?)),
         Err(AskFault::Memory) => Err(AllocError),
     }
 }

@@ -1,6 +1,7 @@
 //! Whether an event may follow the history that the tables stand for, by the tables alone.
 
-ghost use Rattle.std.specs.Prelude.{Option, List, ◌≡◌, ◌+◌, ◌<◌, ◌↔◌, IfOk, IsTrue, false, is_some, length, true, ℕ};
+ghost use Rattle.std.specs.Prelude.{Option, Some, List, ◌≡◌, ◌+◌, ◌<◌, ◌↔◌, IfOk, IsTrue, false, is_some, length, true, ℕ};
+ghost use Rattle.instance_table.specs.Rows.{instance};
 ghost use Rattle.lcm_events.specs.declared.events.EventKind.TheVariants.{Created, Deleted, Onboarded, Posted, Subscribed, Unsubscribed};
 ghost use Rattle.lcm_events.specs.declared.events.PostOutcome.{PostOutcome};
 ghost use Rattle.lcm_model.specs.Instances.{is_instantiated};
@@ -12,7 +13,7 @@ ghost use Rattle.lcm_model.specs.Words.{first};
 ghost use Rattle.lcm_tables.specs.Tables.{Judges, Says};
 
 use crate::tables::Tables;
-use instance_table::rows_have_holdings;
+use instance_table::{InstanceRow, rows_have_holdings};
 use lcm_events::{EventKind, Filter, Role, Vnfd};
 use lcm_model::{Refusal, is_valid};
 use std::alloc::{AllocError, Global};
@@ -128,15 +129,16 @@ impl Tables {
         idle && !busy
     }
 
-    /// Why the deletion of a live instance is refused, where it is: it is INSTANTIATED, or one of its operations goes on, in this order.
+    /// Why the deletion of the live instance of this row is refused, where it is: it is INSTANTIATED, or one of its operations goes on, in
+    /// this order.
     ///
     /// Source: SOL 003 5.4.3.3.5 (DELETE of an individual VNF instance).
-    pub fn delete_refusal(&self, instance: u64) -> Option<Refusal>
-        ensures { Says (λ H. is_live H instance ≡ true → result ≡ delete_refusal H instance) self.now }
+    pub fn delete_refusal(&self, row: &InstanceRow) -> Option<Refusal>
+        ensures { Says (λ H. instance H row.now.number ≡ Some row.now → result ≡ delete_refusal H row.now.number) self.now }
     {
-        let idle = self.is_idle(instance);
-        let busy = self.is_busy(instance);
-        if !idle {
+        rows_have_holdings();
+        let busy = self.is_busy(row.number);
+        if row.holding.instantiated {
             Some(Refusal::Instantiated)
         } else if busy {
             Some(Refusal::Ongoing)
