@@ -1,4 +1,3 @@
-mod DocumentLemmas
 mod ListLemmas
 mod MomentLemmas
 mod OccurrenceLemmas
@@ -6,5 +5,4 @@ mod OccurrenceLists
 mod PathLemmas
 mod RangeLemmas
 mod ShowLaws
-pub mod TextLemmas
 mod ViewLemmas

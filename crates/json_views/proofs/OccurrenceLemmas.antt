@@ -25,7 +25,7 @@ use Rattle.json_views.specs.Params.{machine_value, named_where, params, stop_whe
 use Rattle.json_views.specs.Problem.{problem}
 use Rattle.json_views.specs.Resources.{scale_info}
 use Rattle.json_views.specs.Views.{array_of, put_where}
-use Rattle.json_views.specs.Words.{cancel_word}
+use Rattle.json_bodies.specs.Words.{cancel_word}
 use Rattle.json_views.specs.declared.affected.Affected.{Affected}
 use Rattle.json_views.proofs.ViewLemmas.{IsPlain, array_plain, or_false, text_plain, where_plain}
 

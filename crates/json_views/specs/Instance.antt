@@ -10,7 +10,7 @@ use Rattle.lcm_events.specs.declared.descriptor.Vnfd.{Vnfd}
 use Rattle.json_views.specs.Links.{links}
 use Rattle.json_views.specs.Resources.{info_where}
 use Rattle.json_views.specs.Views.{member_where}
-use Rattle.json_views.specs.declared.body.CreateBody.{CreateBody}
+use Rattle.json_bodies.specs.declared.body.CreateBody.{CreateBody}
 
 -- the text of the identifier of instance n (RFC 9562 4)
 unfoldable pub instance_id : ℕ → ℕ → List ℕ

@@ -1,5 +1,4 @@
 pub mod Affected
-pub mod Body
 pub mod Instance
 pub mod Instances
 pub mod Links
@@ -12,6 +11,5 @@ pub mod Params
 pub mod Problem
 pub mod Resources
 pub mod Showable
-pub mod Tables
 pub mod Views
 pub mod Words

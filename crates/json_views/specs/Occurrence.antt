@@ -19,7 +19,8 @@ use Rattle.json_views.specs.Moments.{moment_text}
 use Rattle.json_views.specs.Params.{params}
 use Rattle.json_views.specs.Problem.{problem}
 use Rattle.json_views.specs.Views.{member_where}
-use Rattle.json_views.specs.Words.{cancel_word, operation_word, state_word}
+use Rattle.json_bodies.specs.Words.{cancel_word}
+use Rattle.json_views.specs.Words.{operation_word, state_word}
 
 -- the text of the identifier of occurrence n (RFC 9562 4)
 unfoldable pub occurrence_id : ℕ → ℕ → List ℕ

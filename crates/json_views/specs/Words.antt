@@ -8,8 +8,6 @@ use Rattle.lcm_events.specs.declared.asks.StopType.{StopType}
 use Rattle.lcm_events.specs.declared.asks.StopType.TheVariants as stops
 use Rattle.lcm_events.specs.declared.changes.Verb.{Verb}
 use Rattle.lcm_events.specs.declared.changes.Verb.TheVariants.{Create, Remove, Start, Stop}
-use Rattle.lcm_events.specs.declared.states.CancelMode.{CancelMode}
-use Rattle.lcm_events.specs.declared.states.CancelMode.TheVariants as cancels
 use Rattle.lcm_events.specs.declared.states.OpState.{OpState}
 use Rattle.lcm_events.specs.declared.states.OpState.TheVariants.{Completed, Failed, FailedTemp, Processing, RolledBack, RollingBack, Starting}
 
@@ -31,11 +29,6 @@ state_word FailedTemp = codes "FAILED_TEMP"
 state_word Failed = codes "FAILED"
 state_word RollingBack = codes "ROLLING_BACK"
 state_word RolledBack = codes "ROLLED_BACK"
-
--- how a cancel ends the work that is under way (SOL 003 5.5.4, CancelModeType)
-abbrev pub cancel_word : CancelMode → List ℕ
-cancel_word cancels.Graceful = codes "GRACEFUL"
-cancel_word cancels.Forceful = codes "FORCEFUL"
 
 -- how what runs is stopped (SOL 003 5.5.4, StopType)
 abbrev pub stop_word : StopType → List ℕ

@@ -10,11 +10,11 @@ ghost use Rattle.json_views.specs.Instance.{created_text, instance_id, instance_
 ghost use Rattle.json_views.specs.Links.{links};
 ghost use Rattle.json_views.specs.Made.{needed_members, with_product};
 
-use crate::body::CreateBody;
 use crate::links::links_value;
-use crate::members::{put_line_where, put_name_where, put_text, put_where};
+use crate::members::{body_of, put_line_where, put_name_where, put_text, put_where};
 use crate::resources::info_where;
 use instance_table::InstanceRow;
+use json_bodies::CreateBody;
 use lcm_events::{Holding, Listed, Vnfd};
 use serde_json::{Map, Value, put};
 use std::alloc::{AllocError, Global};
@@ -78,8 +78,7 @@ pub fn instance_view(
     ensures { IfOk result (λ body. body ≡ instance_text manager n row.now vnfd.now) }
 {
     let value = instance_value(alloc, manager, n, row, vnfd)?;
-    let text = value.to_vec(alloc)?;
-    Ok(Bytes::of_vec(text))
+    body_of(alloc, &value)
 }
 
 /// The view of instance `n`, which was just created with this body: that of its row. What product it is its descriptor says.

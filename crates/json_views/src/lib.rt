@@ -1,10 +1,8 @@
-//! Request bodies read from JSON, and the views that answers show written as JSON.
+//! The views that answers show, written as JSON.
 #![tactic(auto)]
 
 mod affected;
-mod body;
 mod errors;
-mod forms;
 mod instance;
 mod instances;
 mod laws;
@@ -17,18 +15,12 @@ mod params;
 mod problem;
 mod resources;
 mod rows;
-mod tasks;
 mod words;
 
-pub use body::{BodyFault, CreateBody, read_create};
 pub use instance::{created_view, instance_id, instance_path, instance_view};
 pub use instances::instances_view;
-pub use laws::{
-    legal_occurrences_can_be_shown, legal_rows_can_be_shown, moments_have_one_text,
-    the_first_failing_member_is_told,
-};
+pub use laws::{legal_occurrences_can_be_shown, legal_rows_can_be_shown, moments_have_one_text};
 pub use occurrence::{occurrence_id, occurrence_path, occurrence_view};
 pub use occurrences::{MAX_LISTED, occurrences_view};
 pub use problem::problem_view;
-pub use tasks::{InstantiateBody, read_cancel, read_instantiate};
 pub use words::state_word;

@@ -4,18 +4,19 @@ ghost use Rattle.serde_json.specs.View.{view, members_view};
 ghost use Rattle.serde_json.specs.Data.{boolean, object, put as with_member, string};
 ghost use Rattle.vnfm_base.specs.Ident.{IsIdentNumber};
 ghost use Rattle.vnfm_base.specs.Text.{IsLine};
+ghost use Rattle.json_bodies.specs.Words.{cancel_word};
 ghost use Rattle.json_views.specs.Instance.{instance_id, instance_path};
 ghost use Rattle.json_views.specs.MadeOccurrence.{occurrence_members, with_moments, with_operation};
 ghost use Rattle.json_views.specs.Moments.{moment_text};
 ghost use Rattle.json_views.specs.Occurrence.{error_where, occurrence_id, occurrence_links, occurrence_path, occurrence_shown, occurrence_text, occurrence_value};
 ghost use Rattle.json_views.specs.Affected.{resource_changes};
 ghost use Rattle.json_views.specs.Params.{params};
-ghost use Rattle.json_views.specs.Words.{cancel_word, operation_word};
+ghost use Rattle.json_views.specs.Words.{operation_word};
 
 use crate::affected::resource_changes;
 use crate::errors::error_where;
 use crate::instance::{identifier, instance_id, instance_path};
-use crate::members::{put_text, put_where, text_value};
+use crate::members::{body_of, put_text, put_where, text_value};
 use crate::occurrence_links::links_by_state;
 use crate::params::params_value;
 use crate::words::{cancel_word, operation_word, state_word};
@@ -70,8 +71,7 @@ pub fn occurrence_view(
     ensures { IfOk result (λ body. body ≡ occurrence_text manager n row.now vnfd.now) }
 {
     let value = occurrence_shown(alloc, manager, n, row, vnfd)?;
-    let text = value.to_vec(alloc)?;
-    Ok(Bytes::of_vec(text))
+    body_of(alloc, &value)
 }
 
 /// The value of the view, with the texts of the row's moments.

@@ -1,6 +1,7 @@
 //! The words of the standard for operations, states and modes.
 ghost use Rattle.std.specs.Prelude.{◌≡◌};
-ghost use Rattle.json_views.specs.Words.{cancel_word, change_word, operation_word, state_word, stop_word, way_word};
+ghost use Rattle.json_bodies.specs.Words.{cancel_word};
+ghost use Rattle.json_views.specs.Words.{change_word, operation_word, state_word, stop_word, way_word};
 
 use lcm_events::{Ask, CancelMode, OpState, ScaleWay, StopType, Verb};
 

@@ -8,7 +8,7 @@ use Rattle.event_codec.specs.Spell as spell
 use Rattle.event_codec.specs.Spell.{spelling, u64, u16}
 use Rattle.event_codec.specs.Valid.{IsEvent, Optionally}
 use Rattle.vnfm_base.specs.Text.{IsName, IsLine}
-use Rattle.json_views.specs.declared.body.CreateBody.{CreateBody}
+use Rattle.json_bodies.specs.declared.body.CreateBody.{CreateBody}
 use Rattle.lcm_events.specs.declared.events.Event.{Event}
 use Rattle.lcm_events.specs.declared.events.EventKind.TheVariants.{Created}
 use Rattle.lcm_events.specs.declared.descriptor.Vnfd.{Vnfd}

@@ -1,7 +1,7 @@
 -- What is answered where a request's body wasn't read (RFC 9110 15.5.1; the texts are an own rule).
 use Rattle.std.specs.Prelude.{◌≡◌, ◌++◌, Bool, codes}
-use Rattle.json_views.specs.declared.body.BodyFault.{BodyFault}
-use Rattle.json_views.specs.declared.body.BodyFault.TheVariants.{Malformed, Lacks, Wrong, Memory}
+use Rattle.json_bodies.specs.declared.body.BodyFault.{BodyFault}
+use Rattle.json_bodies.specs.declared.body.BodyFault.TheVariants.{Malformed, Lacks, Wrong, Memory}
 use Rattle.lcm_api.specs.Replies.{refusal, starved}
 use Rattle.lcm_api.specs.declared.reply.Reply.{Reply}
 

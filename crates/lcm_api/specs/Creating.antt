@@ -4,10 +4,10 @@ use Rattle.lcm_events.specs.declared.events.Event.{Event}
 use Rattle.lcm_events.specs.declared.events.EventKind.TheVariants.{Created}
 use Rattle.lcm_events.specs.declared.descriptor.Vnfd.{Vnfd}
 use Rattle.lcm_model.specs.Lives.{descriptor_named, instances_made, live_instances}
-use Rattle.json_views.specs.Body.{create_of}
+use Rattle.json_bodies.specs.Body.{create_of}
 use Rattle.json_views.specs.Instance.{instance_path, created_text}
-use Rattle.json_views.specs.declared.body.CreateBody.{CreateBody}
-use Rattle.json_views.specs.declared.body.BodyFault.{BodyFault}
+use Rattle.json_bodies.specs.declared.body.CreateBody.{CreateBody}
+use Rattle.json_bodies.specs.declared.body.BodyFault.{BodyFault}
 use Rattle.http_wire.specs.declared.request.Request.{Request}
 use Rattle.lcm_api.specs.Bodies.{unread}
 use Rattle.lcm_api.specs.Media.{is_json}

@@ -3,10 +3,10 @@
 use Rattle.std.specs.Prelude.{ℕ, ◌+◌, ◌≡◌, List, [], ◌∷◌, codes, if◌then◌else◌, Bool, false, Option, Some, None, Result, Ok, Err}
 use Rattle.http_wire.specs.declared.request.Request.{Request}
 use Rattle.instance_table.specs.declared.rows.InstanceRow.{InstanceRow}
-use Rattle.json_views.specs.Body.{instantiate_of}
+use Rattle.json_bodies.specs.Body.{instantiate_of}
 use Rattle.json_views.specs.Occurrence.{occurrence_path}
-use Rattle.json_views.specs.declared.body.BodyFault.{BodyFault}
-use Rattle.json_views.specs.declared.tasks.InstantiateBody.{InstantiateBody}
+use Rattle.json_bodies.specs.declared.body.BodyFault.{BodyFault}
+use Rattle.json_bodies.specs.declared.tasks.InstantiateBody.{InstantiateBody}
 use Rattle.lcm_events.specs.declared.asks.Ask.{Ask}
 use Rattle.lcm_events.specs.declared.asks.Ask.TheVariants.{Instantiate}
 use Rattle.lcm_events.specs.declared.descriptor.Vnfd.{Vnfd}

@@ -2,9 +2,9 @@
 -- texts are an own rule.
 use Rattle.std.specs.Prelude.{◌≡◌, ◌++◌, ℕ, List, [], ◌∷◌, codes, if◌then◌else◌, Bool, false, Option, Some, None, Result, Ok, Err}
 use Rattle.http_wire.specs.declared.request.Request.{Request}
-use Rattle.json_views.specs.Body.{cancel_of}
+use Rattle.json_bodies.specs.Body.{cancel_of}
 use Rattle.json_views.specs.Words.{state_word}
-use Rattle.json_views.specs.declared.body.BodyFault.{BodyFault}
+use Rattle.json_bodies.specs.declared.body.BodyFault.{BodyFault}
 use Rattle.lcm_events.specs.declared.events.Event.{Event}
 use Rattle.lcm_events.specs.declared.events.EventKind.{EventKind}
 use Rattle.lcm_events.specs.declared.events.EventKind.TheVariants.{CancelAsked, Moved}

@@ -3,7 +3,7 @@ ghost use Rattle.std.specs.Prelude.{IfOk};
 ghost use Rattle.lcm_api.specs.Bodies.{IsRefusedBody};
 
 use crate::reply::{Reply, refusal, refusal_about};
-use json_views::BodyFault;
+use json_bodies::BodyFault;
 use std::alloc::{AllocError, Global};
 
 /// The refusal of a body that wasn't read.

@@ -1,10 +1,10 @@
 -- Each reply takes over whether the request is the last.
 use Rattle.std.proofs.Common.{◌≡◌, ◌+◌, ◌++◌, ℕ, List, [], ◌∷◌, length, Bool, true, false, Option, Some, None, Result, Ok, Err, refl}
 use Rattle.std.specs.Prelude.{nat_le, codes, if◌then◌else◌}
-use Rattle.json_views.specs.Body.{and_then, cancel_in, cancel_mode_in, cancel_of, instantiate_in, instantiate_of, object_read, create_of, create_read, document, line_in, name_in, needed, needed_value, needed_member, optional, optional_member, optional_value, some_name_in, member_of}
-use Rattle.json_views.specs.declared.body.BodyFault.{BodyFault}
-use Rattle.json_views.specs.declared.body.BodyFault.TheVariants.{Malformed, Lacks, Wrong, Memory}
-use Rattle.json_views.specs.declared.body.CreateBody.{CreateBody}
+use Rattle.json_bodies.specs.Body.{and_then, cancel_in, cancel_mode_in, cancel_of, instantiate_in, instantiate_of, object_read, create_of, create_read, document, line_in, name_in, needed, needed_value, needed_member, optional, optional_member, optional_value, some_name_in, member_of}
+use Rattle.json_bodies.specs.declared.body.BodyFault.{BodyFault}
+use Rattle.json_bodies.specs.declared.body.BodyFault.TheVariants.{Malformed, Lacks, Wrong, Memory}
+use Rattle.json_bodies.specs.declared.body.CreateBody.{CreateBody}
 use Rattle.lcm_events.specs.declared.events.Event.{Event}
 use Rattle.lcm_events.specs.declared.descriptor.Vnfd.{Vnfd}
 use Rattle.lcm_model.specs.Lives.{descriptor_named, instances_made, live_instances}
@@ -16,7 +16,7 @@ use Rattle.http_wire.specs.declared.request.Request.{Request}
 use Rattle.instance_table.specs.Rows.{rows}
 use Rattle.json_views.specs.Instances.{instances_text}
 use Rattle.json_views.specs.Occurrences.{occurrences_text}
-use Rattle.json_views.specs.declared.tasks.InstantiateBody.{InstantiateBody}
+use Rattle.json_bodies.specs.declared.tasks.InstantiateBody.{InstantiateBody}
 use Rattle.occ_table.specs.Rows as occurrences
 use Rattle.occ_table.specs.Rows.{row}
 use Rattle.lcm_events.specs.declared.asks.Ask.{Ask}

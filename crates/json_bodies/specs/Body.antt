@@ -8,11 +8,11 @@ use Rattle.serde_json.specs.Data.{Data}
 use Rattle.serde_json.specs.Find.{get, as_str, as_object, as_null}
 use Rattle.serde_json.specs.Read.{read}
 use Rattle.vnfm_base.specs.Text.{is_short_text}
-use Rattle.json_views.specs.declared.body.BodyFault.{BodyFault}
-use Rattle.json_views.specs.declared.body.BodyFault.TheVariants.{Malformed, Lacks, Wrong, Memory}
-use Rattle.json_views.specs.declared.body.CreateBody.{CreateBody}
-use Rattle.json_views.specs.declared.tasks.InstantiateBody.{InstantiateBody}
-use Rattle.json_views.specs.Words.{cancel_word}
+use Rattle.json_bodies.specs.declared.body.BodyFault.{BodyFault}
+use Rattle.json_bodies.specs.declared.body.BodyFault.TheVariants.{Malformed, Lacks, Wrong, Memory}
+use Rattle.json_bodies.specs.declared.body.CreateBody.{CreateBody}
+use Rattle.json_bodies.specs.declared.tasks.InstantiateBody.{InstantiateBody}
+use Rattle.json_bodies.specs.Words.{cancel_word}
 
 -- the value is there, where an object is asked for (RFC 8259 4)
 abbrev pub only_object : Data → Option Data

@@ -1,7 +1,7 @@
 //! The bodies of the tasks of an instance, and of those of an occurrence.
 ghost use Rattle.std.specs.Prelude.{◌≡◌, IsOk};
 ghost use Rattle.serde_json.specs.View.{view};
-ghost use Rattle.json_views.specs.Body.{Gives, cancel_in, cancel_of, instantiate_in, instantiate_of};
+ghost use Rattle.json_bodies.specs.Body.{Gives, cancel_in, cancel_of, instantiate_in, instantiate_of};
 
 use crate::body::{BodyFault, object};
 use crate::forms::{AnyCancelMode, AnyName, SomeName, needed, optional};

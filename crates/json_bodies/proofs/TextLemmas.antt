@@ -3,7 +3,7 @@ use Rattle.std.proofs.Common.{◌≡◌, List, ℕ, Some, None, Option, Bool, tr
 use Rattle.std.specs.Option.{IfSome}
 use Rattle.vnfm_base.specs.Text.{IsName, IsLine, is_short_text}
 use Rattle.vnfm_base.proofs.TextTests.{test-from_short_text, no_test-from_none}
-use Rattle.json_views.specs.Body.{name_text, line_text}
+use Rattle.json_bodies.specs.Body.{name_text, line_text}
 
 -- what the constructor of names answers
 pub name_text-is : (bytes : List ℕ) (o : Option (List ℕ)) → (IsSome o ↔ IsName bytes) → IfSome o (λ n. n ≡ bytes) → o ≡ name_text bytes

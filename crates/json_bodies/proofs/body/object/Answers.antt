@@ -1,7 +1,7 @@
 -- What serde_json reads is the document, where it is an object.
 use Rattle.std.proofs.Common.{sym}
-use Rattle.json_views.proofs.DocumentLemmas.{document-object, document-none}
-use Rattle.json_views.proofs.body.object.Goals as goal
+use Rattle.json_bodies.proofs.DocumentLemmas.{document-object, document-none}
+use Rattle.json_bodies.proofs.body.object.Goals as goal
 
 pub returns-then-is_object-clause-ok : goal.returns-then-is_object-clause-ok
 returns-then-is_object-clause-ok c = document-object _ _ c.in-Ok.ensures.ok.0 c.in-Ok.ensures.ok.1 (sym c.if-is_object.ensures)

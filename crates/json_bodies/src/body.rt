@@ -2,7 +2,7 @@
 ghost use Rattle.std.specs.Prelude.{◌≡◌, IfErr, IfOk, IsOk};
 ghost use Rattle.serde_json.specs.Errors.{IsMemory};
 ghost use Rattle.serde_json.specs.View.{view};
-ghost use Rattle.json_views.specs.Body.{Gives, IsMalformedOrMemory, create_in, create_of, document};
+ghost use Rattle.json_bodies.specs.Body.{Gives, IsMalformedOrMemory, create_in, create_of, document};
 
 use crate::forms::{AnyLine, AnyName, SomeName, needed, optional};
 use serde_json::{Error, Value};

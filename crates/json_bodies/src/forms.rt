@@ -2,7 +2,7 @@
 ghost use Rattle.std.specs.Prelude.{◌≡◌, IfErr, IfOk, IsOk, IsSome, false, option_map, true};
 ghost use Rattle.serde_json.specs.View.{view};
 ghost use Rattle.vnfm_base.specs.Text.{is_label};
-ghost use Rattle.json_views.specs.Body.{Gives, cancel_mode_in, cancel_mode_text, line_in, line_text, member_of, name_in, name_text, needed, needed_value, optional, some_name_in, some_name_text};
+ghost use Rattle.json_bodies.specs.Body.{Gives, cancel_mode_in, cancel_mode_text, line_in, line_text, member_of, name_in, name_text, needed, needed_value, optional, some_name_in, some_name_text};
 
 use crate::body::BodyFault;
 use lcm_events::CancelMode;

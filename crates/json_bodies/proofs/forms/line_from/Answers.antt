@@ -1,7 +1,7 @@
 -- The constructor's two clauses are the test.
 use Rattle.std.proofs.Common.{ap, Err}
-use Rattle.json_views.proofs.TextLemmas.{line_text-some, line_text-none, line_text-there}
-use Rattle.json_views.proofs.forms.line_from.Goals as goal
+use Rattle.json_bodies.proofs.TextLemmas.{line_text-some, line_text-none, line_text-there}
+use Rattle.json_bodies.proofs.forms.line_from.Goals as goal
 
 pub returns-in-Ok-clause-ok : goal.returns-in-Ok-clause-ok
 returns-in-Ok-clause-ok c = line_text-some _ _ c.in-Ok.ensures.line

@@ -6,7 +6,7 @@ use Rattle.std.proofs.lemmas.Str.{IsUtf8-from_is_utf8, is_utf8-from_IsUtf8}
 use Rattle.serde_json.specs.Data.{Data}
 use Rattle.serde_json.specs.Find.{as_object}
 use Rattle.serde_json.specs.Read.{read}
-use Rattle.json_views.specs.Body.{document}
+use Rattle.json_bodies.specs.Body.{document}
 
 pub document-object : (bytes : List ℕ) (d : Data) → IsUtf8 bytes → read bytes ≡ Some d → is_some (as_object d) ≡ true → document bytes ≡ Some d
 document-object bytes d utf8 reads object = rw (is_utf8-from_IsUtf8 bytes utf8, reads, object) refl
