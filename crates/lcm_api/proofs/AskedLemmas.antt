@@ -28,7 +28,7 @@ use Rattle.lcm_model.specs.Refusals.{case_in, situation}
 use Rattle.lcm_model.specs.Work.{window}
 use Rattle.lcm_model.specs.Words.{IsIn}
 use Rattle.lcm_model.specs.declared.refusals.Refusal.{Refusal}
-use Rattle.lcm_api.specs.Instantiating.{accepted, ask_described, ask_judged, asking, operation_asked}
+use Rattle.lcm_api.specs.Asks.{accepted, ask_described, ask_judged, asking, operation_asked}
 use Rattle.lcm_api.specs.Recording.{IsPlanned}
 use Rattle.lcm_api.specs.Refusals.{refused_for}
 use Rattle.lcm_api.specs.Replies.{told}

@@ -1,4 +1,5 @@
 mod AskedLemmas
+mod BodyLemmas
 mod IdentLemmas
 mod InstanceLemmas
 mod ListenLemmas

@@ -1,5 +1,5 @@
--- What a request to list, show or delete instances or for a task of one comes to (SOL 003 5.4.2.3.2, 5.4.3.3, 5.4.4 to 5.4.10).
--- The order of the refusals and their texts are an own rule.
+-- What a request to list, show or delete instances comes to (SOL 003 5.4.2.3.2, 5.4.3.3). The order of the refusals and their texts are an
+-- own rule.
 use Rattle.std.specs.Prelude.{ℕ, List, [], ◌∷◌, codes, if◌then◌else◌, Bool, false, Option, Some, None, find}
 use Rattle.std.specs.Str.{bytes_eq}
 use Rattle.http_wire.specs.declared.request.Request.{Request}
@@ -69,11 +69,3 @@ delete_found H now last (Some row) = delete_judged H now row.number last (delete
 
 abbrev pub delete_instance : ℕ → List Event → ℕ → Request → Planned
 delete_instance m H now r = delete_found H now r.last (named_instance m H (asked_id r))
-
--- a task of an instance that isn't served yet: its body isn't read (own rule)
-abbrev pub task_found : Bool → Option InstanceRow → Planned
-task_found last None = no_instance last
-task_found last (Some row) = refused 404 (codes "task is not supported") last
-
-abbrev pub instance_task : ℕ → List Event → Request → Planned
-instance_task m H r = task_found r.last (named_instance m H (asked_id r))

@@ -1,10 +1,10 @@
 pub mod Answering
+pub mod Asks
 pub mod Bodies
 pub mod Creating
 pub mod Failing
 pub mod Hearing
 pub mod Instances
-pub mod Instantiating
 pub mod Judging
 pub mod Laws
 pub mod Media

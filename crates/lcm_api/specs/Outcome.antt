@@ -3,16 +3,16 @@ use Rattle.std.specs.Prelude.{ℕ, List, codes}
 use Rattle.http_wire.specs.declared.request.Request.{Request}
 use Rattle.lcm_events.specs.declared.events.Event.{Event}
 use Rattle.lcm_events.specs.declared.states.Role.{Role}
+use Rattle.lcm_api.specs.Asks.{instance_task}
 use Rattle.lcm_api.specs.Creating.{create_instance}
-use Rattle.lcm_api.specs.Instances.{delete_instance, instance_task, list_instances, show_instance}
-use Rattle.lcm_api.specs.Instantiating.{instantiate}
+use Rattle.lcm_api.specs.Instances.{delete_instance, list_instances, show_instance}
 use Rattle.lcm_api.specs.Occurrences.{list_occurrences, show_occurrence}
 use Rattle.lcm_api.specs.Replies.{Outcome, in_room, refused, told}
 use Rattle.lcm_api.specs.declared.record.Planned.{Planned}
 use Rattle.lcm_api.specs.Routes.{not_allowed, routing}
 use Rattle.lcm_api.specs.Tasks.{occurrence_task}
 use Rattle.lcm_api.specs.declared.route.Route.{Route}
-use Rattle.lcm_api.specs.declared.route.Route.TheVariants.{ListInstances, CreateInstance, ShowInstance, DeleteInstance, Instantiate, InstanceTask, ListOccurrences, ShowOccurrence, OccurrenceTask}
+use Rattle.lcm_api.specs.declared.route.Route.TheVariants.{ListInstances, CreateInstance, ShowInstance, DeleteInstance, InstanceTask, ListOccurrences, ShowOccurrence, OccurrenceTask}
 use Rattle.lcm_api.specs.declared.route.Routing.{Routing}
 use Rattle.lcm_api.specs.declared.route.Routing.TheVariants.{Nowhere, NotAllowed, Served}
 
@@ -22,8 +22,7 @@ served ListInstances m H now role r = list_instances m H r
 served CreateInstance m H now role r = create_instance m H now r
 served ShowInstance m H now role r = show_instance m H r
 served DeleteInstance m H now role r = delete_instance m H now r
-served Instantiate m H now role r = instantiate m H now role r
-served InstanceTask m H now role r = instance_task m H r
+served (InstanceTask kind) m H now role r = instance_task m H now role kind r
 served ListOccurrences m H now role r = list_occurrences m H r
 served ShowOccurrence m H now role r = show_occurrence m H r
 served (OccurrenceTask task) m H now role r = occurrence_task m H now task r

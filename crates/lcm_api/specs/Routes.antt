@@ -4,7 +4,6 @@ use Rattle.std.specs.Option.{option_map_or}
 use Rattle.std.specs.Str.{bytes_eq}
 use Rattle.http_wire.specs.declared.request.Request.{Request}
 use Rattle.json_views.specs.Problem.{problem_text}
-use Rattle.lcm_events.specs.declared.asks.OpKind.TheVariants as kinds
 use Rattle.lcm_routes.specs.Paths.{resource_of}
 use Rattle.lcm_routes.specs.Targets.{path_of}
 use Rattle.lcm_routes.specs.declared.resources.Resource.{Resource}
@@ -27,8 +26,7 @@ by name route = record { name = name; route = route }
 abbrev pub methods : Resource → List Method
 methods Instances = by (codes "GET") routes.ListInstances ∷ by (codes "POST") routes.CreateInstance ∷ []
 methods Instance = by (codes "DELETE") routes.DeleteInstance ∷ by (codes "GET") routes.ShowInstance ∷ []
-methods (InstanceTask kinds.Instantiate) = by (codes "POST") routes.Instantiate ∷ []
-methods (InstanceTask kind) = by (codes "POST") routes.InstanceTask ∷ []
+methods (InstanceTask kind) = by (codes "POST") (routes.InstanceTask kind) ∷ []
 methods Occurrences = by (codes "GET") routes.ListOccurrences ∷ []
 methods Occurrence = by (codes "GET") routes.ShowOccurrence ∷ []
 methods (OccurrenceTask task) = by (codes "POST") (routes.OccurrenceTask task) ∷ []

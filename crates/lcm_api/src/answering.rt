@@ -10,11 +10,10 @@ ghost use Rattle.lcm_events.specs.declared.events.Event.{Event};
 ghost use Rattle.site_traits.specs.Counts.{OnlyDiskFails};
 
 use crate::create::create;
-use crate::instantiate::instantiate;
 use crate::record::{Planned, carry_out};
 use crate::reply::{Reply, refusal};
 use crate::route::{Route, Routing, not_allowed, route_of};
-use crate::{instances, occurrences, tasks};
+use crate::{asks, instances, occurrences, tasks};
 use executor::{Manager, works_add_up};
 use http_wire::Request;
 use lcm_events::Role;
@@ -102,8 +101,7 @@ fn plan_on<S: Site>(
         Route::CreateInstance => create(alloc, manager, request, now),
         Route::ShowInstance => instances::show(alloc, manager, request),
         Route::DeleteInstance => instances::delete(alloc, manager, request, now),
-        Route::Instantiate => instantiate(alloc, manager, role, request, now),
-        Route::InstanceTask => instances::task(alloc, manager, request),
+        Route::InstanceTask(kind) => asks::task(alloc, manager, kind, role, request, now),
         Route::ListOccurrences => occurrences::list(alloc, manager, request),
         Route::ShowOccurrence => occurrences::show(alloc, manager, request),
         Route::OccurrenceTask(task) => tasks::task(alloc, manager, task, request, now),

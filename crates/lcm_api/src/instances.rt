@@ -1,11 +1,11 @@
-//! Listing, showing and deleting instances, and tasks of an instance that aren't served yet.
+//! Listing, showing and deleting instances.
 ghost use Rattle.std.specs.Prelude.{◌≡◌, List, IfOk, IfSome, Some, true, false, option_copied};
 ghost use Rattle.lcm_events.specs.declared.events.Event.{Event};
 ghost use Rattle.executor.specs.Managed.{Keeps};
 ghost use Rattle.executor.specs.Operating.{IsRowOf};
 ghost use Rattle.instance_table.specs.Rows.{rows};
 ghost use Rattle.json_views.specs.Instances.{IsShowable};
-ghost use Rattle.lcm_api.specs.Instances.{asked_id, delete_found, delete_instance, deleted, deletion, instance_task, list_instances, named_instance, no_instance, row_text, show_found, show_instance, task_found};
+ghost use Rattle.lcm_api.specs.Instances.{asked_id, delete_found, delete_instance, deleted, deletion, list_instances, named_instance, no_instance, row_text, show_found, show_instance};
 ghost use Rattle.lcm_api.specs.Recording.{IsPlanned};
 ghost use Rattle.lcm_api.specs.Replies.{told};
 
@@ -58,23 +58,6 @@ pub fn show<S: Site>(
         None => no_instance(alloc, request.last)?,
     };
     Ok(Planned::Told(reply))
-}
-
-/// Refuses a task of an instance that isn't served yet. Its body isn't read.
-///
-/// Source: SOL 003 5.4.4 to 5.4.10; the refusal is an own rule.
-pub fn task<S: Site>(
-    alloc: Global,
-    manager: &Manager<S>,
-    request: &Request,
-) -> Result<Planned, AllocError>
-    requires usable { manager.now.ledger.closed ≡ false }
-    ensures { (H : List Event) → Keeps manager.now H → IfOk result (IsPlanned (instance_task manager.now.ledger.manager H request.now) manager.now H) }
-{
-    match named_instance(manager, asked_id(request)) {
-        Some(_) => Ok(Planned::Told(refusal(alloc, 404, "task is not supported", request.last)?)),
-        None => Ok(Planned::Told(no_instance(alloc, request.last)?)),
-    }
 }
 
 /// What a request to delete an instance comes to, where there is room for its event.

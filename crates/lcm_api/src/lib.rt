@@ -2,11 +2,11 @@
 #![tactic(auto)]
 
 mod answering;
+mod asks;
 mod bodies;
 mod create;
 mod door;
 mod instances;
-mod instantiate;
 mod laws;
 mod listen;
 mod media;

@@ -24,10 +24,8 @@ pub enum Route {
     ShowInstance,
     /// It deletes an instance.
     DeleteInstance,
-    /// It instantiates an instance.
-    Instantiate,
-    /// It asks for another task of an instance.
-    InstanceTask,
+    /// It asks for this task of an instance.
+    InstanceTask(OpKind),
     /// It lists the occurrences.
     ListOccurrences,
     /// It shows an occurrence.
@@ -75,12 +73,8 @@ fn routing_to(resource: Resource, method: &str) -> Routing
             "GET" => Routing::Served(Route::ShowInstance),
             _ => Routing::NotAllowed(resource),
         },
-        Resource::InstanceTask(OpKind::Instantiate) => match method {
-            "POST" => Routing::Served(Route::Instantiate),
-            _ => Routing::NotAllowed(resource),
-        },
-        Resource::InstanceTask(_) => match method {
-            "POST" => Routing::Served(Route::InstanceTask),
+        Resource::InstanceTask(kind) => match method {
+            "POST" => Routing::Served(Route::InstanceTask(kind)),
             _ => Routing::NotAllowed(resource),
         },
         Resource::Occurrences => match method {

@@ -16,7 +16,8 @@ use Rattle.http_wire.specs.declared.request.Request.{Request}
 use Rattle.instance_table.specs.Rows.{rows}
 use Rattle.json_views.specs.Instances.{instances_text}
 use Rattle.json_views.specs.Occurrences.{occurrences_text}
-use Rattle.json_bodies.specs.declared.tasks.InstantiateBody.{InstantiateBody}
+use Rattle.lcm_events.specs.declared.asks.OpKind.{OpKind}
+use Rattle.lcm_events.specs.declared.asks.OpKind.TheVariants as kinds
 use Rattle.occ_table.specs.Rows as occurrences
 use Rattle.occ_table.specs.Rows.{row}
 use Rattle.lcm_events.specs.declared.asks.Ask.{Ask}
@@ -24,10 +25,11 @@ use Rattle.lcm_events.specs.declared.events.Operation.{Operation}
 use Rattle.lcm_events.specs.declared.states.Role.{Role}
 use Rattle.lcm_model.specs.Lives.{descriptor}
 use Rattle.lcm_model.specs.Refusals.{ask_refusal, situation, task_refusal}
-use Rattle.lcm_api.specs.Instantiating.{accepted, ask_described, ask_found, ask_judged, asking, instantiate, instantiate_read, instantiation, operation_asked}
+use Rattle.lcm_api.specs.Asks.{accepted, ask_described, ask_found, ask_judged, ask_of, ask_read, asked_in, asking, instance_task, operation_asked, task_with, unserved_found}
+use Rattle.lcm_api.specs.declared.asks.AskedBody.{AskedBody}
 use Rattle.lcm_api.specs.Occurrences.{list_occurrences, named_operation, occurrence_row_text, show_asked}
 use Rattle.lcm_api.specs.Creating.{body_outcome, create_instance, described_outcome, created, creation}
-use Rattle.lcm_api.specs.Instances.{asked_id, delete_found, delete_judged, deleted, deletion, list_instances, named_instance, row_text, show_found, task_found}
+use Rattle.lcm_api.specs.Instances.{asked_id, delete_found, delete_judged, deleted, deletion, list_instances, named_instance, row_text, show_found}
 use Rattle.lcm_api.specs.Media.{is_json}
 use Rattle.lcm_api.specs.Outcome.{routed, served}
 use Rattle.lcm_api.specs.Refusals.{refusal_status, refusal_text}
@@ -48,7 +50,7 @@ use Rattle.lcm_model.specs.declared.refusals.TaskRefusal.TheVariants.{NotSupport
 use Rattle.json_views.specs.Words.{state_word}
 use Rattle.lcm_routes.specs.declared.resources.Resource.{Resource}
 use Rattle.lcm_api.specs.declared.route.Route.{Route}
-use Rattle.lcm_api.specs.declared.route.Route.TheVariants.{ListInstances, CreateInstance, ShowInstance, DeleteInstance, Instantiate, InstanceTask, ListOccurrences, ShowOccurrence, OccurrenceTask}
+use Rattle.lcm_api.specs.declared.route.Route.TheVariants.{ListInstances, CreateInstance, ShowInstance, DeleteInstance, InstanceTask, ListOccurrences, ShowOccurrence, OccurrenceTask}
 use Rattle.lcm_api.specs.declared.route.Routing.{Routing}
 use Rattle.lcm_api.specs.declared.route.Routing.TheVariants.{Nowhere, NotAllowed, Served}
 use Rattle.executor.specs.Room.{is_full}
@@ -188,10 +190,6 @@ show_ends : (m : ℕ) (H : List Event) (last : Bool) (found : Option InstanceRow
 show_ends m H last None = refusal_ends 404 (codes "no such instance") last
 show_ends m H last (Some row) = shown_ends (row_text m (rows H) row) last
 
-task_ends : (last : Bool) (found : Option InstanceRow) → EndsAs last (task_found last found)
-task_ends last None = refusal_ends 404 (codes "no such instance") last
-task_ends last (Some row) = refusal_ends 404 (codes "task is not supported") last
-
 deletion_ends : (last : Bool) → (deleted last).last ≡ last
 unfolding deleted
 deletion_ends last = refl
@@ -216,24 +214,45 @@ ask_described_ends : (m : ℕ) (H : List Event) (now : ℕ) (role : Role) (i : �
 ask_described_ends m H now role i ask last None = refusal_ends 404 (codes "no such instance") last
 ask_described_ends m H now role i ask last (Some d) = ask_judged_ends m H now (operation_asked H i role ask d) last (ask_refusal d (situation d H i) ask)
 
-ask_ends : (m : ℕ) (H : List Event) (now : ℕ) (role : Role) (ask : Ask) (last : Bool) (found : Option InstanceRow) → EndsAs last (ask_found m H now role ask last found)
-ask_ends m H now role ask last None = refusal_ends 404 (codes "no such instance") last
-ask_ends m H now role ask last (Some row) = ask_described_ends m H now role row.number ask last (descriptor H row.number)
+ask_ends : (m : ℕ) (H : List Event) (now : ℕ) (role : Role) (body : AskedBody) (last : Bool) (found : Option InstanceRow) → EndsAs last (ask_found m H now role body last found)
+ask_ends m H now role body last None = refusal_ends 404 (codes "no such instance") last
+ask_ends m H now role body last (Some row) = ask_described_ends m H now role row.number (ask_of body) last (descriptor H row.number)
 
-instantiate_body_ends : (m : ℕ) (H : List Event) (now : ℕ) (role : Role) (body : Result InstantiateBody BodyFault) (r : Request) → IsOfBytes body
-    → EndsAs r.last (instantiate_read m H now role body r)
-instantiate_body_ends m H now role (Ok body) r is = ask_ends m H now role (instantiation body) r.last (named_instance m H (asked_id r))
-instantiate_body_ends m H now role (Err Malformed) r is = refusal_ends 400 (codes "malformed JSON") r.last
-instantiate_body_ends m H now role (Err (Lacks name)) r is = refusal_ends 400 (codes "missing " ++ name) r.last
-instantiate_body_ends m H now role (Err (Wrong name)) r is = refusal_ends 400 (codes "bad " ++ name) r.last
-instantiate_body_ends m H now role (Err Memory) r is = absurd is
+ask_read_ends : (m : ℕ) (H : List Event) (now : ℕ) (role : Role) (read : Result AskedBody BodyFault) (r : Request) → IsOfBytes read → EndsAs r.last (ask_read m H now role read r)
+ask_read_ends m H now role (Ok body) r is = ask_ends m H now role body r.last (named_instance m H (asked_id r))
+ask_read_ends m H now role (Err Malformed) r is = refusal_ends 400 (codes "malformed JSON") r.last
+ask_read_ends m H now role (Err (Lacks name)) r is = refusal_ends 400 (codes "missing " ++ name) r.last
+ask_read_ends m H now role (Err (Wrong name)) r is = refusal_ends 400 (codes "bad " ++ name) r.last
+ask_read_ends m H now role (Err Memory) r is = absurd is
 
-instantiate_ends : (m : ℕ) (H : List Event) (now : ℕ) (role : Role) (r : Request) → EndsAs r.last (instantiate m H now role r)
-instantiate_ends m H now role r =
-    elim (is_json r.media) as (λ json. EndsAs r.last (if json then instantiate_read m H now role (instantiate_of r.body) r else refused 415 (codes "body must be application/json") r.last)) [
-      | true ↦ instantiate_body_ends m H now role (instantiate_of r.body) r (instantiate_of_bytes r.body)
+unserved_ends : (last : Bool) (found : Option InstanceRow) → EndsAs last (unserved_found last found)
+unserved_ends last None = refusal_ends 404 (codes "no such instance") last
+unserved_ends last (Some row) = refusal_ends 404 (codes "task is not supported") last
+
+-- the body of a task, where it is read, isn't refused for want of memory
+abbrev AreOfBytes : Option (Result AskedBody BodyFault) → Type 0
+AreOfBytes None = Unit {0}
+AreOfBytes (Some read) = IsOfBytes read
+
+asked_of_bytes : (kind : OpKind) (bytes : List ℕ) → AreOfBytes (asked_in kind bytes)
+asked_of_bytes kinds.Instantiate bytes = both_of_bytes (instantiate_of bytes) _ (instantiate_of_bytes bytes) (λ body. tt)
+asked_of_bytes kinds.Scale bytes = tt
+asked_of_bytes kinds.ScaleToLevel bytes = tt
+asked_of_bytes kinds.Heal bytes = tt
+asked_of_bytes kinds.Operate bytes = tt
+asked_of_bytes kinds.Terminate bytes = tt
+asked_of_bytes kinds.ChangeFlavour bytes = tt
+
+task_with_ends : (m : ℕ) (H : List Event) (now : ℕ) (role : Role) (r : Request) (asked : Option (Result AskedBody BodyFault)) → AreOfBytes asked → EndsAs r.last (task_with m H now role r asked)
+task_with_ends m H now role r None are = unserved_ends r.last (named_instance m H (asked_id r))
+task_with_ends m H now role r (Some read) are =
+    elim (is_json r.media) as (λ json. EndsAs r.last (if json then ask_read m H now role read r else refused 415 (codes "body must be application/json") r.last)) [
+      | true ↦ ask_read_ends m H now role read r are
       | false ↦ refusal_ends 415 (codes "body must be application/json") r.last
     ]
+
+task_ends : (m : ℕ) (H : List Event) (now : ℕ) (role : Role) (kind : OpKind) (r : Request) → EndsAs r.last (instance_task m H now role kind r)
+task_ends m H now role kind r = task_with_ends m H now role r (asked_in kind r.body) (asked_of_bytes kind r.body)
 
 list_occurrences_ends : (m : ℕ) (H : List Event) (r : Request) → EndsAs r.last (list_occurrences m H r)
 list_occurrences_ends m H r =
@@ -296,8 +315,7 @@ served_ends ListInstances m H now role r = list_ends m H r
 served_ends CreateInstance m H now role r = create_ends m H now r
 served_ends ShowInstance m H now role r = show_ends m H r.last (named_instance m H (asked_id r))
 served_ends DeleteInstance m H now role r = delete_ends H now r.last (named_instance m H (asked_id r))
-served_ends Instantiate m H now role r = instantiate_ends m H now role r
-served_ends InstanceTask m H now role r = task_ends r.last (named_instance m H (asked_id r))
+served_ends (InstanceTask kind) m H now role r = task_ends m H now role kind r
 served_ends ListOccurrences m H now role r = list_occurrences_ends m H r
 served_ends ShowOccurrence m H now role r = show_asked_ends m H r.last (named_operation m H (asked_id r))
 served_ends (OccurrenceTask task) m H now role r = occurrence_task_ends m H now task r

@@ -1,6 +1,6 @@
 -- What the manager plans is what the ask comes to.
 use Rattle.lcm_api.proofs.AskedLemmas.{asks}
-use Rattle.lcm_api.proofs.instantiate.ask_row.Goals as goal
+use Rattle.lcm_api.proofs.asks.ask_row.Goals as goal
 
 pub returns-in-Ok : goal.returns-in-Ok
 returns-in-Ok g c = λ H keeps.
