@@ -4,7 +4,7 @@ ghost use Rattle.std.specs.Prelude.{◌≡◌, ◌-◌, [], None, true, find, �
 ghost use Rattle.lcm_events.specs.Same.{same_name};
 ghost use Rattle.instance_table.specs.Rows.{Rows, StandsFor};
 ghost use Rattle.instance_table.specs.Steps.{Rises};
-ghost use Rattle.instance_table.specs.Table.{CountsDescriptors, CountsLive, CountsMade, FindsAmong, FindsInstance, FindsSubscription, FindsVnfd, ListsInstances, Reserved, Shown, is_counted, CountsEvents, CountsLiveOf, is_role_of, vnfd_named};
+ghost use Rattle.instance_table.specs.Table.{CountsDescriptors, CountsLive, CountsMade, FindsAmong, FindsInstance, FindsSubscription, FindsVnfd, ListsInstances, ListsSubscriptions, Reserved, Shown, is_counted, CountsEvents, CountsLiveOf, is_role_of, vnfd_named};
 
 use crate::going::{Going, Placing};
 use crate::instances::instance_in;
@@ -164,6 +164,16 @@ impl InstanceTable {
         ensures { Rises (λ r. r.number) self.now.rows.subscriptions → option_copied result ≡ find (λ r. r.number == n) self.now.rows.subscriptions }
     {
         subscription_in(self.subscriptions.as_slice(), n)
+    }
+
+    /// The rows of the live subscriptions of both roles, in the order of their numbers.
+    ///
+    /// Source: SOL 003 5.4.18 (Subscriptions).
+    pub fn subscriptions(&self) -> &[SubscriptionRow]
+        ensures rows { result.now ≡ self.now.rows.subscriptions }
+        ensures lists { ListsSubscriptions result.now self.now.rows }
+    {
+        self.subscriptions.as_slice()
     }
 
     /// How many instances or subscriptions were ever made.
