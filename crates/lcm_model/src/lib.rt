@@ -3,6 +3,7 @@
 #![tactic(auto)]
 
 mod actions;
+mod definitions;
 mod grants;
 mod holding;
 mod levels;
@@ -13,7 +14,8 @@ mod targets;
 mod valid;
 
 pub use actions::Action;
-pub use grants::{is_placing, place_in};
+pub use definitions::is_def_before;
+pub use grants::{each_once, is_placing, is_seen, place_in};
 pub use holding::Effect;
 pub use levels::count_in;
 pub use moves::{ends, may_follow, works};
