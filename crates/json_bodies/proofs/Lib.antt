@@ -1,3 +1,4 @@
+pub mod ByteLemmas
 mod DocumentLemmas
 mod TableLemmas
 mod TextLemmas

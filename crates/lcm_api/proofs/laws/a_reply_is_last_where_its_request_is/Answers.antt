@@ -1,7 +1,8 @@
 -- Each reply takes over whether the request is the last.
 use Rattle.std.proofs.Common.{◌≡◌, ◌+◌, ◌++◌, ℕ, List, [], ◌∷◌, length, Bool, true, false, Option, Some, None, Result, Ok, Err, refl}
 use Rattle.std.specs.Prelude.{nat_le, codes, if◌then◌else◌}
-use Rattle.json_bodies.specs.Body.{and_then, cancel_in, cancel_mode_in, cancel_of, instantiate_in, instantiate_of, object_read, create_of, create_read, document, line_in, name_in, needed, needed_value, needed_member, optional, optional_member, optional_value, some_name_in, member_of}
+use Rattle.json_bodies.proofs.ByteLemmas.{IsOfBytes, both_of_bytes, cancel_of_bytes, create_of_bytes, instantiate_of_bytes}
+use Rattle.json_bodies.specs.Body.{cancel_of, create_of, instantiate_of}
 use Rattle.json_bodies.specs.declared.body.BodyFault.{BodyFault}
 use Rattle.json_bodies.specs.declared.body.BodyFault.TheVariants.{Malformed, Lacks, Wrong, Memory}
 use Rattle.json_bodies.specs.declared.body.CreateBody.{CreateBody}
@@ -57,74 +58,6 @@ use Rattle.executor.specs.Room.{is_full}
 use Rattle.lcm_api.specs.declared.create.TheConstants.{MAX_INSTANCES}
 use Rattle.lcm_api.specs.declared.record.TheConstants.{MAX_REQUESTED}
 use Rattle.lcm_api.proofs.laws.a_reply_is_last_where_its_request_is.Goals as goal
-
--- the reading doesn't speak of memory
-abbrev IsOfBytes : {A : Type 0} → Result A BodyFault → Type 0
-IsOfBytes (Ok a) = Unit {0}
-IsOfBytes (Err Malformed) = Unit {0}
-IsOfBytes (Err (Lacks name)) = Unit {0}
-IsOfBytes (Err (Wrong name)) = Unit {0}
-IsOfBytes (Err Memory) = ⊥
-
-both_of_bytes : {A B : Type 0} (first : Result A BodyFault) (next : A → Result B BodyFault) → IsOfBytes first → ((a : A) → IsOfBytes (next a)) → IsOfBytes (and_then first next)
-both_of_bytes (Ok a) next is behind = behind a
-both_of_bytes (Err Malformed) next is behind = tt
-both_of_bytes (Err (Lacks name)) next is behind = tt
-both_of_bytes (Err (Wrong name)) next is behind = tt
-both_of_bytes (Err Memory) next is behind = absurd is
-
-value_of_bytes : {A : Type 0} (name : List ℕ) (o : Option A) → IsOfBytes (needed_value name o)
-value_of_bytes name None = tt
-value_of_bytes name (Some text) = tt
-
-choice_of_bytes : (name : List ℕ) (o : Option (List ℕ)) → IsOfBytes (optional_value name o)
-choice_of_bytes name None = tt
-choice_of_bytes name (Some text) = tt
-
-create_of_bytes : (bytes : List ℕ) → IsOfBytes (create_of bytes)
-create_of_bytes bytes =
-    elim (document bytes) as (λ o. IsOfBytes (create_read o)) [
-      | None ↦ tt
-      | Some d ↦
-          both_of_bytes (needed some_name_in (codes "vnfdId") d) _ (elim (member_of (codes "vnfdId") d) as (λ o. IsOfBytes (needed_member some_name_in (codes "vnfdId") o)) [
-            | None ↦ tt
-            | Some found ↦ value_of_bytes (codes "vnfdId") _
-          ]) (λ vnfd.
-          both_of_bytes (optional name_in (codes "vnfInstanceName") d) _ (elim (member_of (codes "vnfInstanceName") d) as (λ o. IsOfBytes (optional_member name_in (codes "vnfInstanceName") o)) [
-            | None ↦ tt
-            | Some found ↦ choice_of_bytes (codes "vnfInstanceName") _
-          ]) (λ name.
-          both_of_bytes (optional line_in (codes "vnfInstanceDescription") d) _ (elim (member_of (codes "vnfInstanceDescription") d) as (λ o. IsOfBytes (optional_member line_in (codes "vnfInstanceDescription") o)) [
-            | None ↦ tt
-            | Some found ↦ choice_of_bytes (codes "vnfInstanceDescription") _
-          ]) (λ text. tt)))
-    ]
-
-instantiate_of_bytes : (bytes : List ℕ) → IsOfBytes (instantiate_of bytes)
-instantiate_of_bytes bytes =
-    elim (document bytes) as (λ o. IsOfBytes (object_read instantiate_in o)) [
-      | None ↦ tt
-      | Some d ↦
-          both_of_bytes (needed some_name_in (codes "flavourId") d) _ (elim (member_of (codes "flavourId") d) as (λ o. IsOfBytes (needed_member some_name_in (codes "flavourId") o)) [
-            | None ↦ tt
-            | Some found ↦ value_of_bytes (codes "flavourId") _
-          ]) (λ flavour.
-          both_of_bytes (optional name_in (codes "instantiationLevelId") d) _ (elim (member_of (codes "instantiationLevelId") d) as (λ o. IsOfBytes (optional_member name_in (codes "instantiationLevelId") o)) [
-            | None ↦ tt
-            | Some found ↦ choice_of_bytes (codes "instantiationLevelId") _
-          ]) (λ level. tt))
-    ]
-
-cancel_of_bytes : (bytes : List ℕ) → IsOfBytes (cancel_of bytes)
-cancel_of_bytes bytes =
-    elim (document bytes) as (λ o. IsOfBytes (object_read cancel_in o)) [
-      | None ↦ tt
-      | Some d ↦
-          elim (member_of (codes "cancelMode") d) as (λ o. IsOfBytes (needed_member cancel_mode_in (codes "cancelMode") o)) [
-            | None ↦ tt
-            | Some found ↦ value_of_bytes (codes "cancelMode") _
-          ]
-    ]
 
 -- the connection ends with the reply where this says so
 abbrev EndsAs : Bool → Planned → Type 0
