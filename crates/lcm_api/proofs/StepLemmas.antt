@@ -16,7 +16,7 @@ use Rattle.lcm_model.specs.Lives.{descriptor_named, instances_made, live_instanc
 use Rattle.journal_records.specs.declared.limits.TheConstants.{MAX_RECORD}
 use Rattle.lcm_api.specs.Creating.{create_outcome, creation, created}
 use Rattle.lcm_api.specs.Recording.{IsPlanned}
-use Rattle.lcm_api.specs.declared.create.TheConstants.{MAX_INSTANCES}
+use Rattle.lcm_model.specs.declared.limits.TheConstants.{MAX_INSTANCES}
 use Rattle.lcm_api.specs.declared.reply.Reply.{Reply}
 use Rattle.lcm_api.specs.declared.record.Planned.TheVariants.{Records}
 

@@ -12,7 +12,7 @@ use Rattle.http_wire.specs.declared.request.Request.{Request}
 use Rattle.lcm_api.specs.Bodies.{unread}
 use Rattle.lcm_api.specs.Media.{is_json}
 use Rattle.lcm_api.specs.Replies.{refused, told}
-use Rattle.lcm_api.specs.declared.create.TheConstants.{MAX_INSTANCES}
+use Rattle.lcm_model.specs.declared.limits.TheConstants.{MAX_INSTANCES}
 use Rattle.lcm_api.specs.declared.record.Planned.{Planned}
 use Rattle.lcm_api.specs.declared.record.Planned.TheVariants.{Records}
 use Rattle.lcm_api.specs.declared.reply.Reply.{Reply}

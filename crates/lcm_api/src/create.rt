@@ -17,12 +17,10 @@ use http_wire::Request;
 use json_bodies::{CreateBody, read_create};
 use json_views::{created_view, instance_path};
 use lcm_events::{Event, EventKind, Vnfd};
+use lcm_model::MAX_INSTANCES;
 use site_traits::Site;
 use std::alloc::{AllocError, Global};
 use vnfm_base::{Kind, Moment};
-
-/// Instances that may be live at one time.
-pub const MAX_INSTANCES: u64 = 1_000;
 
 /// What a request that creates an instance comes to, where there is room for its event.
 ///

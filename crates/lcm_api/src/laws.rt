@@ -1,8 +1,7 @@
-//! What holds of every reply, and the limits of what a request may ask for, as the contracts of calls that do nothing.
+//! What holds of every reply, and how far requests fill the journal, as the contracts of calls that do nothing.
 ghost use Rattle.std.specs.Prelude.{◌≡◌};
 ghost use Rattle.lcm_api.specs.Laws.{AreLastAsAsked};
 
-use crate::create::MAX_INSTANCES;
 use crate::record::MAX_REQUESTED;
 
 /// The connection ends with the reply to a request exactly where it ends with the request.
@@ -12,10 +11,9 @@ pub fn a_reply_is_last_where_its_request_is()
     ensures { AreLastAsAsked }
 {}
 
-/// That the limits of what a request may ask for are these. It does nothing, and its contract is the law.
+/// That requests are taken up to this byte of the journal. It does nothing, and its contract is the law.
 ///
 /// Source: own rule, docs/FORMATS.md.
 pub fn limits_are_fixed()
-    ensures instances { MAX_INSTANCES ≡ 1000 }
-    ensures requested { MAX_REQUESTED ≡ 201326592 }
+    ensures { MAX_REQUESTED ≡ 201326592 }
 {}

@@ -20,7 +20,6 @@ mod tasks;
 mod tell;
 
 pub use answering::{ApiFault, answer};
-pub use create::MAX_INSTANCES;
 pub use door::DoorFailed;
 pub use http_wire::{Request, WireFault};
 pub use laws::{a_reply_is_last_where_its_request_is, limits_are_fixed};

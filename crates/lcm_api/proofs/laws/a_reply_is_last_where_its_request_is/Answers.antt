@@ -55,7 +55,7 @@ use Rattle.lcm_api.specs.declared.route.Route.TheVariants.{ListInstances, Create
 use Rattle.lcm_api.specs.declared.route.Routing.{Routing}
 use Rattle.lcm_api.specs.declared.route.Routing.TheVariants.{Nowhere, NotAllowed, Served}
 use Rattle.executor.specs.Room.{is_full}
-use Rattle.lcm_api.specs.declared.create.TheConstants.{MAX_INSTANCES}
+use Rattle.lcm_model.specs.declared.limits.TheConstants.{MAX_INSTANCES}
 use Rattle.lcm_api.specs.declared.record.TheConstants.{MAX_REQUESTED}
 use Rattle.lcm_api.proofs.laws.a_reply_is_last_where_its_request_is.Goals as goal
 
