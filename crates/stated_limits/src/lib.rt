@@ -12,7 +12,8 @@ ghost use Rattle.lcm_model.specs.declared.limits.TheConstants.{MAX_DESCRIPTORS, 
 ghost use Rattle.event_codec.specs.declared.record_buf.TheConstants.{RECORD_MAX};
 ghost use Rattle.json_views.specs.declared.occurrences.TheConstants.{MAX_LISTED};
 
-/// The limits of vnfm_base: a name has 255 bytes at most, a line 2,048, and the last moment is 9999-12-31T23:59:59.999Z.
+/// The limits of vnfm_base: a name has 255 bytes at most, a line 2,048, and the last moment is
+/// 9999-12-31T23:59:59.999Z.
 ///
 /// Source: own rules; RFC 3339 for the moment.
 pub fn limits_of_words()
@@ -21,8 +22,8 @@ pub fn limits_of_words()
     ensures moment { MAX_MOMENT ≡ 253402300799999 }
 {}
 
-/// The limits of lcm_model: 256 descriptors are onboarded at most, 1,000 instances live at one time, and 100 subscriptions of one
-/// role.
+/// The limits of lcm_model: 256 descriptors are onboarded at most, 1,000 instances live at one time, and 100
+/// subscriptions of one role.
 ///
 /// Source: own rules.
 pub fn limits_of_histories()
@@ -38,8 +39,8 @@ pub fn limits_of_spellings()
     ensures record { RECORD_MAX ≡ 65536 }
 {}
 
-/// The limits of site_traits: an answer that is heard has a body of 1,048,576 bytes at most, and an object in memory has room
-/// for 1,048,576 calls and for 67,108,864 bytes.
+/// The limits of site_traits: an answer that is heard has a body of 1,048,576 bytes at most, and an object in memory
+/// has room for 1,048,576 calls and for 67,108,864 bytes.
 ///
 /// Source: own rule.
 pub fn limits_of_objects()
