@@ -11,7 +11,7 @@ ghost use Rattle.json_views.specs.Links.{links};
 ghost use Rattle.json_views.specs.Made.{needed_members, with_product};
 
 use crate::links::links_value;
-use crate::members::{body_of, put_line_where, put_name_where, put_text, put_where};
+use crate::members::{put_line_where, put_name_where, put_text, put_where};
 use crate::resources::info_where;
 use instance_table::InstanceRow;
 use json_bodies::CreateBody;
@@ -78,7 +78,8 @@ pub fn instance_view(
     ensures { IfOk result (λ body. body ≡ instance_text manager n row.now vnfd.now) }
 {
     let value = instance_value(alloc, manager, n, row, vnfd)?;
-    body_of(alloc, &value)
+    let text = value.to_vec(alloc)?;
+    Ok(Bytes::of_vec(text))
 }
 
 /// The view of instance `n`, which was just created with this body: that of its row. What product it is its descriptor says.

@@ -4,7 +4,7 @@ ghost use Rattle.serde_json.specs.View.{view};
 ghost use Rattle.json_views.specs.Instances.{CanBeShown, IsShowable, instances_text, instances_value, row_value};
 
 use crate::instance::instance_value;
-use crate::members::{Shows, array_of, body_of};
+use crate::members::{Shows, array_of};
 use instance_table::{InstanceRow, InstanceTable};
 use serde_json::Value;
 use std::alloc::{AllocError, Global};
@@ -26,7 +26,8 @@ pub fn instances_view(
     ensures { IfOk result (λ body. body ≡ instances_text manager table.now.rows) }
 {
     let value = instances_value(alloc, manager, table)?;
-    body_of(alloc, &value)
+    let text = value.to_vec(alloc)?;
+    Ok(Bytes::of_vec(text))
 }
 
 fn instances_value(alloc: Global, manager: u32, table: &InstanceTable) -> Result<Value, AllocError>

@@ -1,21 +1,13 @@
-//! Members and lists of a view, and its bytes.
+//! Members and lists of a view.
 ghost use Rattle.std.specs.Prelude.{◌≡◌, All, IfOk, OnOk, filter, map, option_map};
 ghost use Rattle.serde_json.specs.View.{items_of, members_view, view};
 ghost use Rattle.serde_json.specs.Data.{array, put as with_member, string};
-ghost use Rattle.serde_json.specs.Written.{compact_text};
 ghost use Rattle.json_views.specs.Views.{array_of, put_where};
 
 pub use json_members::{put_text, text_value};
 use serde_json::{Map, Value, put};
 use std::alloc::{AllocError, Global};
-use vnfm_base::{Bytes, Line, Name};
-
-/// The bytes of a value as a body has them.
-pub fn body_of(alloc: Global, value: &Value) -> Result<Bytes, AllocError>
-    ensures { IfOk result (λ body. body ≡ compact_text (view value.now)) }
-{
-    Ok(Bytes::of_vec(value.to_vec(alloc)?))
-}
+use vnfm_base::{Line, Name};
 
 /// Puts a member whose value is a name that may be absent.
 pub fn put_name_where(

@@ -16,7 +16,7 @@ ghost use Rattle.json_views.specs.Words.{operation_word};
 use crate::affected::resource_changes;
 use crate::errors::error_where;
 use crate::instance::{identifier, instance_id, instance_path};
-use crate::members::{body_of, put_text, put_where, text_value};
+use crate::members::{put_text, put_where, text_value};
 use crate::occurrence_links::links_by_state;
 use crate::params::params_value;
 use crate::words::{cancel_word, operation_word, state_word};
@@ -71,7 +71,8 @@ pub fn occurrence_view(
     ensures { IfOk result (λ body. body ≡ occurrence_text manager n row.now vnfd.now) }
 {
     let value = occurrence_shown(alloc, manager, n, row, vnfd)?;
-    body_of(alloc, &value)
+    let text = value.to_vec(alloc)?;
+    Ok(Bytes::of_vec(text))
 }
 
 /// The value of the view, with the texts of the row's moments.

@@ -3,7 +3,6 @@ ghost use Rattle.std.specs.Prelude.{◌≡◌, ◌<◌, IfOk, length, map, optio
 ghost use Rattle.serde_json.specs.View.{view};
 ghost use Rattle.json_views.specs.Occurrences.{AreOfLegal, CanOccurrencesBeShown, IsOccurrenceShowable, occurrence_row, occurrences_listed, occurrences_text, occurrences_value};
 
-use crate::members::body_of;
 use crate::occurrence::occurrence_shown;
 use instance_table::InstanceTable;
 use occ_table::{OccRow, OccTable};
@@ -31,7 +30,8 @@ pub fn occurrences_view(
     ensures { IfOk result (λ body. body ≡ occurrences_text manager instances.now.rows occurrences.now.rows) }
 {
     let value = occurrences_value(alloc, manager, instances, occurrences)?;
-    body_of(alloc, &value)
+    let text = value.to_vec(alloc)?;
+    Ok(Bytes::of_vec(text))
 }
 
 fn occurrences_value(

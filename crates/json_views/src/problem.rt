@@ -3,7 +3,6 @@ ghost use Rattle.std.specs.Prelude.{◌≡◌, IfOk, IsUtf8};
 ghost use Rattle.serde_json.specs.View.{view};
 ghost use Rattle.json_views.specs.Problem.{problem, problem_text};
 
-use crate::members::body_of;
 use serde_json::{Value, json};
 use std::alloc::{AllocError, Global};
 use vnfm_base::Bytes;
@@ -15,7 +14,8 @@ pub fn problem_view(alloc: Global, status: u16, detail: &str) -> Result<Bytes, A
     ensures { IfOk result (λ body. body ≡ problem_text status detail.now) }
 {
     let value = problem_value(alloc, status, detail)?;
-    body_of(alloc, &value)
+    let text = value.to_vec(alloc)?;
+    Ok(Bytes::of_vec(text))
 }
 
 /// The same, as a value.
