@@ -23,7 +23,7 @@ returns-clause-named g c = λ H keeps.
     rw (c.number.ensures, c.as_bytes.ensures.value) at (named_found _ _ _ H _ reading shown (c.instance.ensures.among window _ H keeps.kept.legal stands))
 
 pub returns-clause-own : goal.returns-clause-own
-returns-clause-own g c = own_of _ _ _ (λ H keeps.
+returns-clause-own g c = own_of c.args.manager.now c.in_ok-n.n c.instance.result (λ H keeps.
     let few = c.instances-table.ensures.few H keeps in
     let stands = c.instances-table.ensures.rows H keeps in
     let each = (c.legal_rows_can_be_shown.ensures window _ H (rows H) (omega (arith, few)) keeps.kept.legal refl).each in
