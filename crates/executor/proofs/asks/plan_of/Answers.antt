@@ -26,8 +26,8 @@ plan_over-requires-clause-held c =
     let asked = row_asked s.history row.number row c.in-Some.vnfd.now held.0 found named held.1 held.2 in
     (can_plan s.manager s.history row.number c.in-Some.vnfd.now row.holding s.legal s.small asked).1
 
-pub returns-in-Some : goal.returns-in-Some
-returns-in-Some c = λ m H small legal tables found.
+pub returns : goal.returns
+returns c = λ m H small legal tables found.
     let row = c.args.row.now in
     let held = c.rows_have_holdings.ensures window m H legal row.number row found in
     let named = sym (ap option_copied c.in-Some.is) ∙ c.vnfd.ensures.finds window m H legal tables.instances in
