@@ -1,13 +1,12 @@
 -- Bytes that go out one piece after another.
-use Rattle.std.proofs.Common.{◌≡◌, ◌≤◌, ◌<◌, ◌⊎◌, inl, inr, ◌+◌, ◌-◌, ℕ, zero, suc, min, List, [], ◌∷◌, ◌++◌, take, drop, length, ap, ◌∙◌, sym, subst, arith, append_assoc, refl, length-append, length-drop, Result, Ok, Err, if◌then◌else◌, nat_lt}
+use Rattle.std.proofs.Common.{◌≡◌, ◌≤◌, ◌<◌, ◌⊎◌, inl, inr, ◌+◌, ◌-◌, ℕ, zero, suc, List, [], ◌∷◌, ◌++◌, take, drop, length, ap, ◌∙◌, sym, subst, arith, append_assoc, refl, length-drop, Result, Ok, Err, if◌then◌else◌}
 use Rattle.std.proofs.Math.Seq.{take-add, take-append-add}
 use Rattle.std.proofs.lemmas.Bool.{cases_lt, le-ltb, lt-ltb}
 use Rattle.std.proofs.lemmas.List.{take_all}
 use Rattle.site_traits.specs.Counts.{one_more}
 use Rattle.site_traits.specs.Door.{Conn, DoorState, ConnIs, WriteCounts, asked_for, has_written, write_broke}
 use Rattle.site_traits.specs.declared.door.WriteAnswer.TheVariants as write
-use Rattle.lcm_api.specs.Telling.{AsksWrites, WorldTells, Writes, many_more, one_piece, pieces}
-use Rattle.lcm_api.specs.declared.outgoing.TheConstants.{ROOM}
+use Rattle.lcm_api.specs.Telling.{AsksWrites, WorldTells, Writes, many_more, one_piece}
 use Rattle.lcm_api.specs.declared.door.DoorFailed.{DoorFailed}
 
 -- what was taken of the rest makes the front longer
@@ -74,11 +73,6 @@ writes_on whole short more_whole more_short a b c first second = record {
   shorts = second.shorts ∙ ap (many_more more_short) first.shorts ∙ more_again more_short short a.short ∙ ap (λ k. many_more k a.short) (omega arith);
 }
 
--- the first piece wasn't told whole, and no second was begun
-pub asks_first : (first rest : ℕ) (failed : DoorFailed) (a b : WriteCounts) → AsksWrites {T = Unit {0}} first (Err failed) a b
-    → AsksWrites {T = Unit {0}} (first + rest) (Err failed) a b
-asks_first first rest failed a b asks = record { whole = asks.whole; short = asks.short; writes = asks.writes; most = omega (arith, asks.most); all = tt }
-
 -- one piece after the other
 pub asks_both : (first rest : ℕ) (done : Unit {0}) (result : Result (Unit {0}) DoorFailed) (a b c : WriteCounts)
     → AsksWrites {E = DoorFailed} first (Ok done) a b → AsksWrites rest result b c → AsksWrites (first + rest) result a c
@@ -96,11 +90,6 @@ asks_both first rest done (Err failed) a b c one two = record {
   most = omega (arith, one.most, two.most);
   all = tt;
 }
-
--- a reply is in these pieces, however it was parted
-pub parted : (front rest total : ℕ) → front + rest ≡ total → front ≤ ROOM → (rest ≡ 0) ⊎ (front ≡ ROOM) → one_piece front + one_piece rest ≡ pieces total
-parted front rest total whole fits (inl none) = omega (arith, whole, fits, none)
-parted front rest total whole fits (inr full) = omega (arith, whole, fits, full)
 
 -- The writes of a piece so far, where so many of its bytes went out: all took less than they were offered, but for the one that took the last.
 pub record SoFar (at size : ℕ) (a b : WriteCounts) : Type 0 where

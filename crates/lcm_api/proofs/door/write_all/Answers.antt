@@ -3,7 +3,7 @@ use Rattle.std.proofs.Common.{ℕ, List, ◌≡◌, ◌+◌, ◌-◌, length, ta
 use Rattle.std.proofs.lemmas.List.{length-take-le}
 use Rattle.site_traits.specs.Door.{ConnIs, asked_for, has_written}
 use Rattle.site_traits.specs.declared.door.WriteAnswer.TheVariants as write
-use Rattle.lcm_api.proofs.TellLemmas.{SoFar, front_more, more_so_far, none_so_far, tells_more, told_in_part, told_whole}
+use Rattle.lcm_api.proofs.TellLemmas.{front_more, more_so_far, none_so_far, tells_more, told_in_part, told_whole}
 use Rattle.lcm_api.proofs.door.write_all.Goals as goal
 
 pub loop-at-preserved : goal.loop-at-preserved

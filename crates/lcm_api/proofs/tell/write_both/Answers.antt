@@ -1,7 +1,7 @@
 -- One piece after the other.
 use Rattle.std.proofs.Common.{Err, ap, ◌∙◌}
 use Rattle.std.proofs.lemmas.Result.{err_from_is_err_and}
-use Rattle.lcm_api.proofs.TellLemmas.{asks_both, asks_first, broken_first, tells_both}
+use Rattle.lcm_api.proofs.TellLemmas.{asks_both, broken_first, tells_both}
 use Rattle.lcm_api.proofs.tell.write_both.Goals as goal
 
 pub returns-clause-told : goal.returns-clause-told
