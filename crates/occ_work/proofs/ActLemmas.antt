@@ -143,7 +143,7 @@ unasked (asked body ended heard) s alone = absurd alone
 unasked (polled at ended heard) s alone = absurd alone
 unasked (began t work answer) s alone = refl
 unasked (looked t answer) s alone = refl
-unasked (aborted t ended answer) s alone = refl
+unasked (aborted aborts t answer) s alone = refl
 
 uncounted : (x : Exchange) (c : CallCounts) → IsWithoutPeer x → Counts x c c
 uncounted nothing c alone = refl
@@ -151,7 +151,7 @@ uncounted (asked body ended heard) c alone = absurd alone
 uncounted (polled at ended heard) c alone = absurd alone
 uncounted (began t work answer) c alone = refl
 uncounted (looked t answer) c alone = refl
-uncounted (aborted t ended answer) c alone = refl
+uncounted (aborted aborts t answer) c alone = refl
 
 -- an attempt was made
 pub attempting_act : (t : ReachTells) (m now : ℕ) (H : List Event) (o : ℕ) (result : Result Acted WorkFault) (n : Managed) (a b : SiteState) (i j : SiteCounts) (told : OrchestratorState) (counts : CallCounts)

@@ -4,7 +4,7 @@ use Rattle.change_planner.specs.Tags.{act_of}
 use Rattle.executor.specs.Managed.{IsReady, KeepsOn, Managed}
 use Rattle.journal_core.specs.Journal.{Ledger, Stands}
 use Rattle.lcm_laws.specs.Acting.{IsAnswer, NextActionsAreAllowed}
-use Rattle.lcm_model.specs.Attempts.{is_open}
+use Rattle.lcm_model.specs.Attempts.{is_open, open_of}
 use Rattle.occ_steps.specs.Active.{IsActive}
 use Rattle.occ_steps.proofs.ActiveLemmas.{active_asked}
 use Rattle.executor.specs.Work.{Extends, StaysSound, Work, Works, WorksAtFile, WorksWithJobs, aimed, recorded, stood, went}
@@ -342,13 +342,14 @@ looked_ends t answer (Err (fault.Full end more)) memory = tt
 looked_ends t answer (Err fault.Memory) memory = memory refl
 looked_ends t answer (Err fault.Disk) memory = tt
 
--- and so may one behind an abort
-aborted_ends : (t : Tag) (how : AbortAnswer) (answer : LookAnswer) (result : Result Acted WorkFault) → (result ≡ Err fault.Memory → ⊥) → MayEnd (aborted t how answer) result
-aborted_ends t how answer (Ok done) memory = tt
-aborted_ends t how answer (Err (fault.TooLong n)) memory = tt
-aborted_ends t how answer (Err (fault.Full end more)) memory = tt
-aborted_ends t how answer (Err fault.Memory) memory = memory refl
-aborted_ends t how answer (Err fault.Disk) memory = tt
+-- and so may one behind aborts
+aborted_ends : (aborts : List (Tag × AbortAnswer)) (t : Tag) (answer : LookAnswer) (result : Result Acted WorkFault) → (result ≡ Err fault.Memory → ⊥)
+    → MayEnd (aborted aborts t answer) result
+aborted_ends aborts t answer (Ok done) memory = tt
+aborted_ends aborts t answer (Err (fault.TooLong n)) memory = tt
+aborted_ends aborts t answer (Err (fault.Full end more)) memory = tt
+aborted_ends aborts t answer (Err fault.Memory) memory = memory refl
+aborted_ends aborts t answer (Err fault.Disk) memory = tt
 
 -- what is recorded of a job that was looked at, where running jobs may have ended before
 looked_records : (tells : Type 0) (m now : ℕ) (H : List Event) (t : Tag) (answer : LookAnswer) (result : Result Acted WorkFault) (n p : Managed) (a b d : SiteState)
@@ -426,21 +427,21 @@ ends_alike : (result : Result Acted WorkFault) (one two : Acted) → one ≡ two
 ends_alike (Ok done) one two same ends = ends ∙ same
 ends_alike (Err why) one two same ends = tt
 
--- an attempt whose job was aborted and then looked at
+-- the attempt whose job was aborted and then looked at, which is the one that is open
 pub aborted_attempt : (tells : Type 0) (m now : ℕ) (H : List Event) (o : ℕ) (t : Tag) (how : AbortAnswer) (answer : LookAnswer) (result : Result Acted WorkFault) (n p : Managed)
-    (a b c d : SiteState) (two : Type 0) (h i j k : SiteCounts) → next_action H o ≡ Some (AbortAndLook t) → IsLegal m (with_events now (looking t (answer_looked answer)) H)
-    → n.ledger.manager ≡ m → IsReady tells n H a → (tells → Aborts t how a b) → (tells → Looks t answer b c)
+    (a b c d : SiteState) (two : Type 0) (h i j k : SiteCounts) → next_action H o ≡ Some (AbortAndLook t) → open_of H o ≡ t ∷ []
+    → IsLegal m (with_events now (looking t (answer_looked answer)) H) → n.ledger.manager ≡ m → IsReady tells n H a → (tells → Aborts t how a b) → (tells → Looks t answer b c)
     → Puts tells (point m now H) (looking t (answer_looked answer)) result p c d → (tells → KeepsJobs c d) → (result ≡ Err fault.Memory → ⊥)
     → IfOk result (λ done. done ≡ ending (Look t) (answer_looked answer)) → i ≡ abort_counts how h → j ≡ look_counts answer i → OnlyDiskFails two j k
     → (x : Deed) × (x.occ ≡ o) × Attempts tells (point m now H) x result p (shows a h) (shows d k)
-aborted_attempt tells m now H o t how answer result n p a b c d two h i j k next legal number ready aborts looks puts alone memory ends called then behind =
+aborted_attempt tells m now H o t how answer result n p a b c d two h i j k next single legal number ready aborts looks puts alone memory ends called then behind =
     let calls : tells → OnJobs Advances a c = λ told. aborted_on t how answer a b c (aborts told) (looks told) in
     let seen : tells → LooksAs t answer a.jobs c.jobs = λ told. aborted_looks t how answer a b c (aborts told) (looks told) in
     let both : j ≡ look_counts answer (abort_counts how h) = then ∙ ap (look_counts answer) called in (
-      record { occ = o; action = AbortAndLook t; exchange = aborted t how answer },
+      record { occ = o; action = AbortAndLook t; exchange = aborted ((t, how) ∷ []) t answer },
       refl,
       record {
-        tried = record { next = next; exchange = inl refl; ended = aborted_ends t how answer result memory };
+        tried = record { next = next; exchange = inl (refl, sym single); ended = aborted_ends ((t, how) ∷ []) t answer result memory };
         alone = tt;
         handled = record {
           jobs = looked_jobs tells t answer a c d calls seen alone;

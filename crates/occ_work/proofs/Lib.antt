@@ -7,6 +7,7 @@ mod BeginLemmas
 mod AttemptLemmas
 mod TakingLemmas
 mod ActLemmas
+mod OpenLemmas
 mod OrderLemmas
 mod TurnLemmas
 mod CountLemmas

@@ -1,9 +1,11 @@
 -- What an act is lent beside the journal, an orchestrator and an infrastructure, and what an exchange does to both.
-use Rattle.std.specs.Prelude.{List, ◌≡◌}
+use Rattle.std.specs.Prelude.{List, [], ◌∷◌, ◌≡◌}
+use Rattle.lcm_events.specs.declared.attempts.Tag.{Tag}
 use Rattle.site_traits.specs.Counts.{CallCounts, SiteCounts, abort_counts, begin_counts, look_counts, one_more}
 use Rattle.site_traits.specs.Jobs.{Advances, Answered, BeginsAs, Job, LooksAs, abort_answered, begin_answered, look_answered}
 use Rattle.site_traits.specs.Peers.{Asks, CallCause, OrchestratorState, Polls}
 use Rattle.site_traits.specs.Site.{SiteState}
+use Rattle.site_traits.specs.declared.jobs.AbortAnswer.{AbortAnswer}
 use Rattle.occ_work.specs.Deeds.{Exchange, aborted, asked, began, looked, nothing, polled}
 
 -- which of the objects outside tell what is done to them
@@ -62,21 +64,30 @@ Counts other a b = b ≡ a
 abbrev pub JobsDo : Exchange → List Job → List Job → Type 0
 JobsDo (began t work answer) before after = BeginsAs t work answer before after
 JobsDo (looked t answer) before after = Advances before after × LooksAs t answer before after
-JobsDo (aborted t ended answer) before after = Advances before after × LooksAs t answer before after
+JobsDo (aborted aborts t answer) before after = Advances before after × LooksAs t answer before after
 JobsDo other before after = Advances before after
+
+-- what it has answered after these aborts, and its counts, the latest first
+abbrev pub aborts_answered : List (Tag × AbortAnswer) → Answered → Answered
+aborts_answered [] l = l
+aborts_answered ((t, ended) ∷ earlier) l = abort_answered t ended (aborts_answered earlier l)
+
+abbrev pub aborts_counted : List (Tag × AbortAnswer) → SiteCounts → SiteCounts
+aborts_counted [] c = c
+aborts_counted ((t, ended) ∷ earlier) c = abort_counts ended (aborts_counted earlier c)
 
 -- what the infrastructure has answered after an exchange (own rule)
 abbrev pub answers_after : Exchange → Answered → Answered
 answers_after (began t work answer) l = begin_answered answer l
 answers_after (looked t answer) l = look_answered t answer l
-answers_after (aborted t ended answer) l = look_answered t answer (abort_answered t ended l)
+answers_after (aborted aborts t answer) l = look_answered t answer (aborts_answered aborts l)
 answers_after other l = l
 
 -- the counts after an exchange: a refusal, or a call that failed (own rule)
 abbrev pub counts_after : Exchange → SiteCounts → SiteCounts
 counts_after (began t work answer) c = begin_counts answer c
 counts_after (looked t answer) c = look_counts answer c
-counts_after (aborted t ended answer) c = look_counts answer (abort_counts ended c)
+counts_after (aborted aborts t answer) c = look_counts answer (aborts_counted aborts c)
 counts_after other c = c
 
 -- these counts tell the same of the calls on jobs

@@ -1,6 +1,6 @@
 -- What is done for an occurrence at one time: its next action, what is exchanged with the orchestrator or the infrastructure, and what that
 -- appends (own rule over SOL 003 5.6.2, 9.4.2, Grants, and 9.4.3, Individual grant).
-use Rattle.std.specs.Prelude.{Bool, List, Some, false, if◌then◌else◌, true, ℕ, ◌≡◌, ◌⊎◌, Result, Err}
+use Rattle.std.specs.Prelude.{Bool, List, map, Some, false, if◌then◌else◌, true, ℕ, ◌≡◌, ◌⊎◌, Result, Err}
 use Rattle.change_planner.specs.Tags.{act_of}
 use Rattle.executor.specs.declared.manager.WorkFault.{WorkFault}
 use Rattle.executor.specs.declared.manager.WorkFault.TheVariants as fault
@@ -13,6 +13,7 @@ use Rattle.lcm_events.specs.declared.changes.Change.{Change}
 use Rattle.lcm_events.specs.declared.events.Event.{Event}
 use Rattle.lcm_events.specs.declared.events.EventKind.{EventKind}
 use Rattle.lcm_laws.specs.Acting.{with_events}
+use Rattle.lcm_model.specs.Attempts.{open_of}
 use Rattle.lcm_model.specs.Grants.{covers, granted_places, granted_spots, location}
 use Rattle.lcm_model.specs.Next.{Answer, BeginFailed, BeginRefused, BeginTaken, GrantCame, GrantDenied, GrantLater, GrantMissesSome, GrantTrouble, LookFailed, LookedAbsent, LookedAborted, LookedBroken, LookedDone, LookedRunning, appended, next_action}
 use Rattle.lcm_model.specs.Operations.{changes}
@@ -40,15 +41,15 @@ abbrev pub point : ℕ → ℕ → List Event → Point
 point m now H = record { manager = m; moment = now; history = H }
 
 -- What was exchanged: nothing; with the orchestrator, a grant request with this body, or a poll of this location, how the call ended and what
--- was heard; with the infrastructure, the begin of an attempt's job with this work, a look at an attempt's job, or an abort of it and then a
--- look, and what was answered.
+-- was heard; with the infrastructure, the begin of an attempt's job with this work, a look at an attempt's job, or aborts of attempts' jobs,
+-- the latest first, and then a look at one, and what was answered.
 pub data Exchange : Type 0 where
   nothing : Exchange
   asked : List ℕ → Call → Heard → Exchange
   polled : List ℕ → Call → Heard → Exchange
   began : Tag → Act → BeginAnswer → Exchange
   looked : Tag → LookAnswer → Exchange
-  aborted : Tag → AbortAnswer → LookAnswer → Exchange
+  aborted : List (Tag × AbortAnswer) → Tag → LookAnswer → Exchange
 
 -- what was done for an occurrence: its action, and what was exchanged for it
 pub record Deed : Type 0 where
@@ -94,18 +95,19 @@ answer_in xs (asked body ended heard) = answer_heard true xs ended heard
 answer_in xs (polled at ended heard) = answer_heard false xs ended heard
 answer_in xs (began t work answer) = answer_begun answer
 answer_in xs (looked t answer) = answer_looked answer
-answer_in xs (aborted t ended answer) = answer_looked answer
+answer_in xs (aborted aborts t answer) = answer_looked answer
 
 -- The exchange is that of the action of occurrence o, over history H of manager m: an ask has the body of its grant request, a poll the
--- location that was told, a begin its attempt with the work that the history gives it, and a look and an abort the attempt
--- (SOL 003 9.4.2, 9.4.3; own rule).
+-- location that was told, a begin its attempt with the work that the history gives it, a look the attempt; and aborts are of all attempts of
+-- the occurrence that are open, one each, in the order of their intents, behind which the first of them is looked at (SOL 003 9.4.2, 9.4.3;
+-- own rule).
 abbrev pub IsExchangeOf : ℕ → List Event → ℕ → Action → Exchange → Type 0
 IsExchangeOf m H o AskForGrant (asked body ended heard) = grant_request m H o ≡ Some body
 IsExchangeOf m H o Poll (polled at ended heard) = location H o ≡ Some at
 IsExchangeOf m H o (MoveTo to) nothing = Unit {0}
 IsExchangeOf m H o (Begin t) (began tag work answer) = (tag ≡ t) × (act_of H t ≡ Some work)
 IsExchangeOf m H o (Look t) (looked tag answer) = tag ≡ t
-IsExchangeOf m H o (AbortAndLook t) (aborted tag ended answer) = tag ≡ t
+IsExchangeOf m H o (AbortAndLook t) (aborted aborts tag answer) = (tag ≡ t) × (map (λ a. a.0) aborts ≡ open_of H o)
 IsExchangeOf m H o _ _ = ⊥
 
 -- what was answered to a deed over history H
@@ -147,7 +149,7 @@ abbrev pub MayEnd : Exchange → Result Acted WorkFault → Type 0
 MayEnd (began t work begin.Begun) (Err why) = ⊥
 MayEnd (began t work answer) (Err fault.Memory) = ⊥
 MayEnd (looked t answer) (Err fault.Memory) = ⊥
-MayEnd (aborted t ended answer) (Err fault.Memory) = ⊥
+MayEnd (aborted aborts t answer) (Err fault.Memory) = ⊥
 MayEnd x result = Unit {0}
 
 -- the deed was tried: it is one, unless what is exchanged for it couldn't be

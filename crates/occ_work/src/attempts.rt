@@ -24,7 +24,7 @@ use crate::work::work_of;
 use executor::{Manager, WorkFault, works_add_up};
 use journal_core::MAX_FILE;
 use lcm_events::{Event, EventKind, Outcome, Tag};
-use lcm_laws::next_actions_are_allowed;
+use lcm_laws::{next_actions_are_allowed, open_attempts_fit_the_window};
 use site_traits::{BeginAnswer, LookAnswer, Site};
 use std::alloc::Global;
 use vnfm_base::{Moment, Name};
@@ -182,8 +182,9 @@ pub fn look<S: Site>(
     settle(manager, site, tag, answer, now)
 }
 
-/// Aborts the job of an open attempt and looks at it, which is the next action of its occurrence, and records where it has ended. All memory is
-/// taken before. An abort that failed or came too late is no end: the look says how the job stands.
+/// Aborts the job of the occurrence's open attempt, of which the window lets it have one, and looks at it, which is the next action of its
+/// occurrence, and records where it has ended. All memory is taken before. An abort that failed or came too late is no end: the look says how
+/// the job stands.
 ///
 /// Refusals: `Memory`, after which nothing was recorded or asked; `Full` and `Disk` as of recording an event: the abort and the look were made.
 pub fn abort_and_look<S: Site>(
@@ -203,6 +204,7 @@ pub fn abort_and_look<S: Site>(
 {
     works_add_up::<S>();
     next_actions_are_allowed();
+    open_attempts_fit_the_window();
     let ending = event_of(now, ended(*tag, Outcome::Done(no_name())));
     manager.reserve_for(alloc, &ending)?;
     let _ended = site.abort(tag);
