@@ -3,7 +3,6 @@
 ghost use Rattle.std.specs.Prelude.{◌↔◌, ◌≡◌, ◌≤◌, ◌==◌, ◌&&◌, IsTrue, filter, length, map, nat_lt};
 ghost use Rattle.std.specs.List.{enumerate_from, list_all};
 ghost use Rattle.lcm_events.specs.Descriptors.{is_rising};
-ghost use Rattle.lcm_events.specs.Same.{kind_number};
 ghost use Rattle.lcm_model.specs.Descriptors.{IsHoldingOf, is_def_before, is_def_up_to};
 ghost use Rattle.lcm_model.specs.Vnfcs.{is_def_of};
 ghost use Rattle.lcm_model.specs.Words.{is_among};
@@ -53,36 +52,13 @@ fn is_holding_of(vnfd: &Vnfd, holding: &Holding) -> bool
     levels && few && rising && known && tops && small
 }
 
-/// The number of a kind in its order.
-fn number_of(kind: DefKind) -> u8
-    ensures { result ≡ kind_number kind }
-{
-    match kind {
-        DefKind::Link => 0,
-        DefKind::Storage => 1,
-        DefKind::Compute => 2,
-        DefKind::Port => 3,
-    }
-}
-
-/// Whether the first definition stands before the second: by VDU, serial, kind and item.
-fn is_before(x: &Def, y: &Def) -> bool
-    ensures { result ≡ is_def_before x.now y.now }
-{
-    let kinds = number_of(x.kind) < number_of(y.kind);
-    x.vdu < y.vdu
-        || (x.vdu == y.vdu
-            && (x.serial < y.serial
-                || (x.serial == y.serial && (kinds || (x.kind == y.kind && x.item < y.item)))))
-}
-
 /// Whether the items rise.
 #[tactic(auto, using(lcm_model::proofs::ListLaws::rising_end))]
 fn are_rising(items: &[Held]) -> bool
     ensures { result ≡ is_rising (λ x y. is_def_before x.def y.def) items.now }
 {
     for at in 1..items.len() {
-        if !is_before(&items[at - 1].def, &items[at].def) {
+        if !lcm_model::is_def_before(&items[at - 1].def, &items[at].def) {
             return false;
         }
     }

@@ -3,7 +3,6 @@ ghost use Rattle.std.specs.Prelude.{◌≡◌, [], IfOk, OnOk, filter, map, opti
 ghost use Rattle.std.specs.List.{enumerate_from};
 ghost use Rattle.std.specs.Option.{option_map_or};
 ghost use Rattle.serde_json.specs.View.{members_view, view};
-ghost use Rattle.serde_json.specs.Data.{put as with_member, string};
 ghost use Rattle.change_planner.specs.Acts.{template_name};
 ghost use Rattle.held_items.specs.Items.{AreInOrder, item_of};
 ghost use Rattle.lcm_model.specs.Grants.{change_id};
@@ -14,6 +13,7 @@ ghost use Rattle.grant_desk.specs.Requests.{entries, entry, handle, resource_for
 use crate::parts::{Part, asks};
 use held_items::find;
 use itoa::Buffer;
+use json_members::{put_text, text_value};
 use lcm_events::{Change, Def, DefKind, Held, Holding, Verb, Vnfd};
 use serde_json::{Map, Value, json, put};
 use std::alloc::{AllocError, Global};
@@ -93,19 +93,6 @@ fn needed_members(
     Ok(members)
 }
 
-/// Puts a member that is a text.
-pub fn put_text(
-    members: &mut Map<String, Value>,
-    alloc: Global,
-    name: &str,
-    text: &str,
-) -> Result<(), AllocError>
-    ensures { OnOk result (members_view members.new.entries ≡ with_member name.now (string text.now) (members_view members.old.entries)) }
-{
-    let value = text_value(alloc, text)?;
-    put(members, alloc, name, value)
-}
-
 /// Puts a member that is there where there is a value of it.
 fn put_where(
     members: &mut Map<String, Value>,
@@ -119,13 +106,6 @@ fn put_where(
         Some(value) => put(members, alloc, name, value),
         None => Ok(()),
     }
-}
-
-/// A text as a value.
-fn text_value(alloc: Global, text: &str) -> Result<Value, AllocError>
-    ensures { IfOk result (λ value. view value ≡ string text.now) }
-{
-    Ok(Value::String(String::from_str(alloc, text)?))
 }
 
 /// The identifier of a change.

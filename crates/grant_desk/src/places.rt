@@ -1,11 +1,11 @@
 //! The distinct places of the rows of a grant, without memory: one more than a grant may have ends the walk.
 ghost use Rattle.std.specs.Prelude.{◌≡◌, ◌↔◌, ◌≤◌, ◌++◌, [], IsTrue, length, map, take};
-ghost use Rattle.std.specs.List.{list_any};
-ghost use Rattle.lcm_model.specs.Grants.{distinct_places, same_place};
+ghost use Rattle.lcm_model.specs.Grants.{distinct_places};
 ghost use Rattle.grant_desk.specs.Seen.{Sees};
 
 use crate::rows::{GrantRow, GrantRows};
 use lcm_events::Place;
+use lcm_model::is_seen;
 use vnfm_base::Name;
 
 /// The most distinct places of a grant.
@@ -16,18 +16,6 @@ pub fn no_name() -> Name
     ensures { result ≡ [] }
 {
     Name::of(b"").unwrap()
-}
-
-/// Whether a place is in a list.
-pub fn is_seen(seen: &[Place], place: &Place) -> bool
-    ensures { result ≡ list_any (same_place place.now) seen.now }
-{
-    for other in seen {
-        if *place == *other {
-            return true;
-        }
-    }
-    false
 }
 
 /// Puts the places of these rows that weren't seen behind those that were, which are so many at the front of the room, and answers how many

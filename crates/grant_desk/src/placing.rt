@@ -4,15 +4,15 @@ ghost use Rattle.lcm_events.specs.declared.events.Event.{Event};
 ghost use Rattle.lcm_events.specs.declared.events.EventKind.TheVariants.{Granted};
 ghost use Rattle.lcm_model.specs.Allowed.{IsAllowedWithin, IsAsking};
 ghost use Rattle.lcm_model.specs.Descriptors.{is_given};
-ghost use Rattle.lcm_model.specs.Grants.{IsPlacing, covers, distinct_places, granted_places, granted_spots, place_number, row_places};
+ghost use Rattle.lcm_model.specs.Grants.{IsPlacing, covers, granted_places, granted_spots, place_number, row_places};
 ghost use Rattle.lcm_model.specs.Operations.{changes as changes_of};
 ghost use Rattle.grant_desk.specs.Placing.{FoundByRow, FoundByRows};
 
 use crate::identifiers::change_number;
 use crate::parts::{Part, asks};
-use crate::places::is_seen;
 use crate::rows::{GrantRow, GrantRows};
 use lcm_events::{Change, Listed, Place};
+use lcm_model::each_once;
 use std::alloc::{AllocError, Global};
 
 /// What a grant gives the changes of a plan, as its event records it.
@@ -38,7 +38,7 @@ pub fn places_of(alloc: Global, changes: &[Change], rows: &GrantRows) -> Result<
         → IfOk result (λ placing. IsAllowedWithin width m H (Granted o rows.now.grant placing.places placing.spots)) }
 {
     let given = places_by_change(alloc, changes, rows)?;
-    let places = distinct(alloc, given.as_slice())?;
+    let places = each_once(alloc, given.as_slice())?;
     let spots = numbers_in(alloc, places.as_slice(), given.as_slice())?;
     Ok(Placing {
         places: Listed::of(places),
@@ -119,20 +119,6 @@ fn those_found(alloc: Global, found: &[Option<Place>]) -> Result<Vec<Place>, All
         }
     }
     Ok(places)
-}
-
-/// Each place once, where it comes first.
-fn distinct(alloc: Global, places: &[Place]) -> Result<Vec<Place>, AllocError>
-    ensures { IfOk result (λ seen. seen.items ≡ distinct_places places.now) }
-{
-    let mut seen: Vec<Place> = Vec::new(alloc);
-    for place in places {
-        let known = is_seen(seen.as_slice(), place);
-        if !known {
-            seen.push(*place)?;
-        }
-    }
-    Ok(seen)
 }
 
 /// The number of a place in a list: that of the first that is the same.

@@ -8,8 +8,9 @@ ghost use Rattle.lcm_model.specs.Operations.{kind_of};
 ghost use Rattle.grant_desk.specs.Made.{text_members};
 ghost use Rattle.grant_desk.specs.Requests.{instance_id, links, occurrence_id, operation_word, request, request_text};
 
-use crate::entries::{entries_value, put_text};
+use crate::entries::entries_value;
 use crate::parts::Part;
+use json_members::put_text;
 use lcm_events::{Ask, Change, Holding, OpKind, Vnfd};
 use lcm_model::op_kind;
 use serde_json::{Map, Value, json, put};

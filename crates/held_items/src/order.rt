@@ -2,34 +2,11 @@
 
 ghost use Rattle.std.specs.Prelude.{◌≡◌, ◌≤◌, false, length, option_copied, slice_get, true};
 ghost use Rattle.std.specs.List.Sorted.{IsPartitionPoint, IsPartitionedBy};
-ghost use Rattle.lcm_events.specs.Same.{kind_number};
 ghost use Rattle.lcm_model.specs.Descriptors.{is_def_before};
 ghost use Rattle.held_items.specs.Items.{AreInOrder, item_of, when_of};
 
-use lcm_events::{Def, DefKind, Held};
-
-/// The number of a kind in the order of definitions.
-fn number_of(kind: DefKind) -> u8
-    ensures { result ≡ kind_number kind }
-{
-    match kind {
-        DefKind::Link => 0,
-        DefKind::Storage => 1,
-        DefKind::Compute => 2,
-        DefKind::Port => 3,
-    }
-}
-
-/// Whether the first definition stands before the second: by VDU, serial, kind and item.
-fn is_before(x: &Def, y: &Def) -> bool
-    ensures { result ≡ is_def_before x.now y.now }
-{
-    let kinds = number_of(x.kind) < number_of(y.kind);
-    x.vdu < y.vdu
-        || (x.vdu == y.vdu
-            && (x.serial < y.serial
-                || (x.serial == y.serial && (kinds || (x.kind == y.kind && x.item < y.item)))))
-}
+use lcm_events::{Def, Held};
+use lcm_model::is_def_before;
 
 /// How many items stand before this definition, where they are in order.
 pub fn place_of(items: &[Held], def: Def) -> usize
@@ -39,7 +16,7 @@ pub fn place_of(items: &[Held], def: Def) -> usize
     items.partition_point(
         |item: &Held| -> bool
             ensures { result ≡ is_def_before item.now.def def }
-        { is_before(&item.def, &def) },
+        { is_def_before(&item.def, &def) },
     )
 }
 

@@ -38,7 +38,7 @@ reads_on x y a b c f s = record {
 
 -- nothing was read
 pub takes_none : (tells : Type 0) (a : IntakeState) → TakesIn tells a a
-takes_none tells a = record { more = []; held = sym (append-nil a.held); door = λ t. reads_none a.door; counts = record { faults = omega arith; next = refl; up = refl } }
+takes_none tells a = record { more = []; held = sym (append-nil a.held); door = λ t. reads_none a.door; counts = record { faults = omega arith; next = refl; up = refl }; writes = refl }
 
 -- one reading behind the other
 pub takes_on : (tells : Type 0) (a b c : IntakeState) → TakesIn tells a b → TakesIn tells b c → TakesIn tells a c
@@ -47,6 +47,7 @@ takes_on tells a b c f s = record {
   held = s.held ∙ ap (λ x. x ++ s.more) f.held ∙ append_assoc a.held f.more s.more;
   door = λ t. reads_on f.more s.more a.door b.door c.door (f.door t) (s.door t);
   counts = record { faults = omega (arith, f.counts.faults, s.counts.faults); next = s.counts.next ∙ f.counts.next; up = s.counts.up ∙ f.counts.up };
+  writes = s.writes ∙ f.writes;
 }
 
 -- no byte that is held goes

@@ -247,12 +247,14 @@ chunked_end_fits held p n h within = at CHUNKED_BYTES within
 
 -- what was read was read
 pub only_takes : (tells : Type 0) (a b : IntakeState) → TakesIn tells a b → OnlyTakesIn tells a b
-only_takes tells a b t = record { door = λ told. (t.more, t.door told); counts = t.counts }
+only_takes tells a b t = record { door = λ told. (t.more, t.door told); counts = t.counts; writes = t.writes }
 
-pub only_takes_and_passes : (tells : Type 0) (a b d : IntakeState) → TakesIn tells a b → d.door ≡ b.door → d.counts ≡ b.counts → OnlyTakesIn tells a d
-only_takes_and_passes tells a b d t door counts = record {
+pub only_takes_and_passes : (tells : Type 0) (a b d : IntakeState) → TakesIn tells a b → d.door ≡ b.door → d.counts ≡ b.counts
+    → d.writes ≡ b.writes → OnlyTakesIn tells a d
+only_takes_and_passes tells a b d t door counts writes = record {
   door = λ told. (t.more, subst (λ (x : DoorState). OnlyReads t.more a.door x) (sym door) (t.door told));
   counts = subst (λ (x : DoorCounts). NoNextFault a.counts x) (sym counts) t.counts;
+  writes = writes ∙ t.writes;
 }
 
 pub takes_request : (tells : Type 0) (at_last : Bool) (a b d : IntakeState) (p : HeadParts) (content : List ℕ) (end : ℕ) (r : Request)

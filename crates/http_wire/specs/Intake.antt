@@ -2,23 +2,24 @@
 use Rattle.std.specs.Prelude.{◌≡◌, ◌<◌, ◌⊎◌, ℕ, List, [], ◌++◌, length, Result, Ok, Err}
 use Rattle.http_frames.specs.Messages.{IsCut, StopsInTarget}
 use Rattle.std.specs.declared.alloc.AllocError.{AllocError}
-use Rattle.site_traits.specs.Door.{DoorState, DoorCounts, NoNextFault, call_failed}
+use Rattle.site_traits.specs.Door.{DoorState, DoorCounts, WriteCounts, NoNextFault, call_failed}
 use Rattle.http_wire.specs.declared.intake.Came.{Came}
 use Rattle.http_wire.specs.declared.intake.Came.TheVariants as came
 
--- what the door tells, its counts of faults, and the bytes that were read and not yet passed
+-- what the door tells, its counts of faults and of writes, and the bytes that were read and not yet passed
 pub record IntakeState : Type 0 where
   pub door : DoorState
   pub counts : DoorCounts
+  pub writes : WriteCounts
   pub held : List ℕ
 
 -- the state that has these parts
-abbrev pub state_of : DoorState → DoorCounts → List ℕ → IntakeState
-state_of door counts held = record { door = door; counts = counts; held = held }
+abbrev pub state_of : DoorState → DoorCounts → WriteCounts → List ℕ → IntakeState
+state_of door counts writes held = record { door = door; counts = counts; writes = writes; held = held }
 
 -- the state once the door is this one
-abbrev pub with_door : {D : Type 0} → (D → DoorState) → (D → DoorCounts) → IntakeState → D → IntakeState
-with_door state counts i door = record { door = state door; counts = counts door; held = i.held }
+abbrev pub with_door : {D : Type 0} → (D → DoorState) → (D → DoorCounts) → (D → WriteCounts) → IntakeState → D → IntakeState
+with_door state counts writes i door = record { door = state door; counts = counts door; writes = writes door; held = i.held }
 
 -- the door read these bytes, and nothing else happened at it but that a read may have failed (own rule)
 pub record OnlyReads (read : List ℕ) (a b : DoorState) : Type 0 where
@@ -30,12 +31,13 @@ pub record OnlyReads (read : List ℕ) (a b : DoorState) : Type 0 where
   pub write_failed : b.conn.write_failed ≡ a.conn.write_failed
   pub hung_up : b.conn.hung_up ≡ a.conn.hung_up
 
--- some bytes were read and stand behind those that were held (own rule)
+-- some bytes were read and stand behind those that were held, and no write was asked for (own rule)
 pub record TakesIn (tells : Type 0) (a b : IntakeState) : Type 0 where
   pub more : List ℕ
   pub held : b.held ≡ a.held ++ more
   pub door : tells → OnlyReads more a.door b.door
   pub counts : NoNextFault a.counts b.counts
+  pub writes : b.writes ≡ a.writes
 
 -- More bytes are needed to say what these begin with: there are none, or they are a part of a request, or they are no more than
 -- a head may have and stop in a request target, where the grammar tells only at its end whether it can go on (own rule).

@@ -3,7 +3,7 @@ use Rattle.std.specs.Prelude.{◌≡◌, ◌≤◌, ◌+◌, ◌==◌, ◌||◌,
 use Rattle.http_frames.specs.declared.TheConstants.{CHUNKED_BYTES}
 use Rattle.httparse.specs.Spans.{span_bytes}
 use Rattle.site_traits.specs.Counts.{Rose}
-use Rattle.site_traits.specs.Door.{DoorState, DoorCounts, NoNextFault, call_failed}
+use Rattle.site_traits.specs.Door.{DoorState, DoorCounts, WriteCounts, NoNextFault, call_failed}
 use Rattle.http_frames.specs.declared.head.Body.TheVariants as framing
 use Rattle.http_frames.specs.declared.head.HeadParts.{HeadParts}
 use Rattle.http_frames.specs.Framing.{fields_of, media, closes}
@@ -26,8 +26,8 @@ pub record WireState : Type 0 where
   pub ended : Bool
 
 -- the state once the door is this one
-abbrev pub over_door : {D : Type 0} → (D → DoorState) → (D → DoorCounts) → WireState → D → WireState
-over_door state counts w door = record w { intake = with_door state counts w.intake door }
+abbrev pub over_door : {D : Type 0} → (D → DoorState) → (D → DoorCounts) → (D → WriteCounts) → WireState → D → WireState
+over_door state counts writes w door = record w { intake = with_door state counts writes w.intake door }
 
 -- the bytes of the connection that belong to no request yet: those that were read, and those that are not read yet
 abbrev pub bytes_of : IntakeState → List ℕ
@@ -108,6 +108,7 @@ KeepsBytes tells a b = tells → bytes_of b ≡ bytes_of a
 pub record OnlyTakesIn (tells : Type 0) (a b : IntakeState) : Type 0 where
   pub door : tells → (read : List ℕ) × OnlyReads read a.door b.door
   pub counts : NoNextFault a.counts b.counts
+  pub writes : b.writes ≡ a.writes
 
 -- what was taken out of the bytes, by the answer: a request, or nothing where there is no byte
 abbrev pub RequestCame : Type 0 → Bool → IntakeState → IntakeState → Result (Option Request) WireFault → Type 0

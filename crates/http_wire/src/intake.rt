@@ -41,7 +41,7 @@ impl<D: Door> Model for Intake<D> {
 
     ghost Value = { IntakeState };
 
-    ghost view = { λ i. record { door = D.state i.door; counts = D.counts i.door; held = drop i.passed i.bytes.items } };
+    ghost view = { λ i. record { door = D.state i.door; counts = D.counts i.door; writes = D.writes i.door; held = drop i.passed i.bytes.items } };
 
     ghost invariant = { λ i. (i.passed ≤ length i.bytes.items) × (1 ≤ length i.piece.items) };
 }
@@ -62,7 +62,7 @@ impl<D: Door> Intake<D> {
     pub fn new(alloc: Global, door: D) -> Result<Intake<D>, AllocError>
     where
         D: Drop,
-        ensures { IfOk result (λ i. (i.door ≡ D.state door) × (i.counts ≡ D.counts door) × (i.held ≡ [])) }
+        ensures { IfOk result (λ i. (i.door ≡ D.state door) × (i.counts ≡ D.counts door) × (i.writes ≡ D.writes door) × (i.held ≡ [])) }
     {
         let mut piece = Vec::with_capacity(alloc, PIECE_BYTES)?;
         piece.resize(PIECE_BYTES, 0)?;
@@ -78,15 +78,17 @@ impl<D: Door> Intake<D> {
     pub fn door(&self) -> &D
         ensures state { D.state result.now ≡ self.now.door }
         ensures counts { D.counts result.now ≡ self.now.counts }
+        ensures writes { D.writes result.now ≡ self.now.writes }
     {
         &self.door
     }
 
     /// The door, to do something else with it than read.
     pub fn door_mut(&mut self) -> &mut D
-        ensures* writes_back { sem 𝓛 (Lends (the_row D.row D.Door) D.row self.entry result (with_door D.state D.counts self.old)) }
+        ensures* writes_back { sem 𝓛 (Lends (the_row D.row D.Door) D.row self.entry result (with_door D.state D.counts D.writes self.old)) }
         ensures state { D.state result.now ≡ self.old.door }
         ensures counts { D.counts result.now ≡ self.old.counts }
+        ensures writes { D.writes result.now ≡ self.old.writes }
     {
         &mut self.door
     }
@@ -104,6 +106,7 @@ impl<D: Door> Intake<D> {
         ensures held { self.new.held ≡ drop n self.old.held }
         ensures door { self.new.door ≡ self.old.door }
         ensures counts { self.new.counts ≡ self.old.counts }
+        ensures writes { self.new.writes ≡ self.old.writes }
     {
         self.passed += n;
     }
@@ -113,6 +116,7 @@ impl<D: Door> Intake<D> {
         ensures held { self.new.held ≡ [] }
         ensures door { self.new.door ≡ self.old.door }
         ensures counts { self.new.counts ≡ self.old.counts }
+        ensures writes { self.new.writes ≡ self.old.writes }
     {
         self.bytes.clear();
         self.passed = 0;
@@ -147,10 +151,10 @@ fn read_into<D: Door>(door: &mut D, piece: &mut [u8], bytes: &mut Vec<u8>) -> Ca
     requires piece { 1 ≤ length piece.old }
     requires room { vec_len bytes.old + length piece.old ≤ vec_capacity bytes.old }
     requires up { (D.counts door.old).up ≡ true }
-    ensures takes { TakesIn D.tells (state_of (D.state door.old) (D.counts door.old) bytes.old.items)
-        (state_of (D.state door.new) (D.counts door.new) bytes.new.items) }
-    ensures came { CameIs D.tells (Ok result) (state_of (D.state door.old) (D.counts door.old) bytes.old.items)
-        (state_of (D.state door.new) (D.counts door.new) bytes.new.items) }
+    ensures takes { TakesIn D.tells (state_of (D.state door.old) (D.counts door.old) (D.writes door.old) bytes.old.items)
+        (state_of (D.state door.new) (D.counts door.new) (D.writes door.new) bytes.new.items) }
+    ensures came { CameIs D.tells (Ok result) (state_of (D.state door.old) (D.counts door.old) (D.writes door.old) bytes.old.items)
+        (state_of (D.state door.new) (D.counts door.new) (D.writes door.new) bytes.new.items) }
 {
     match door.read(piece) {
         ReadAnswer::Got(n) => {

@@ -60,6 +60,7 @@ impl<D: Door> Wire<D> {
         D: Drop,
         ensures door { IfOk result (λ w. w.intake.door ≡ D.state door) }
         ensures counts { IfOk result (λ w. w.intake.counts ≡ D.counts door) }
+        ensures writes { IfOk result (λ w. w.intake.writes ≡ D.writes door) }
         ensures held { IfOk result (λ w. w.intake.held ≡ []) }
         ensures taken { IfOk result (λ w. w.taken ≡ 0) }
         ensures ended { IfOk result (λ w. w.ended ≡ false) }
@@ -79,15 +80,17 @@ impl<D: Door> Wire<D> {
     pub fn door(&self) -> &D
         ensures state { D.state result.now ≡ self.now.intake.door }
         ensures counts { D.counts result.now ≡ self.now.intake.counts }
+        ensures writes { D.writes result.now ≡ self.now.intake.writes }
     {
         self.intake.door()
     }
 
     /// The door, to wait for a connection, to write, or to hang up. What is read from it here is lost to the wire.
     pub fn door_mut(&mut self) -> &mut D
-        ensures* writes_back { sem 𝓛 (Lends (the_row D.row D.Door) D.row self.entry result (over_door D.state D.counts self.old)) }
+        ensures* writes_back { sem 𝓛 (Lends (the_row D.row D.Door) D.row self.entry result (over_door D.state D.counts D.writes self.old)) }
         ensures state { D.state result.now ≡ self.old.intake.door }
         ensures counts { D.counts result.now ≡ self.old.intake.counts }
+        ensures writes { D.writes result.now ≡ self.old.intake.writes }
     {
         self.intake.door_mut()
     }
@@ -96,6 +99,7 @@ impl<D: Door> Wire<D> {
     pub fn renew(&mut self)
         ensures door { self.new.intake.door ≡ self.old.intake.door }
         ensures counts { self.new.intake.counts ≡ self.old.intake.counts }
+        ensures writes { self.new.intake.writes ≡ self.old.intake.writes }
         ensures held { self.new.intake.held ≡ [] }
         ensures taken { self.new.taken ≡ 0 }
         ensures ended { self.new.ended ≡ false }

@@ -11,7 +11,7 @@ use Rattle.lcm_events.specs.declared.states.Role.{Role}
 use Rattle.lcm_model.specs.Lives.{descriptor_named, descriptors, live_subscriptions}
 use Rattle.vnfm_base.specs.declared.identifier.Kind.{Kind}
 use Rattle.vnfm_base.specs.declared.identifier.Kind.TheVariants as kinds
-use Rattle.instance_table.specs.Rows.{Rows, StandsFor, instance, instance_rows, live, made, subscription_at}
+use Rattle.instance_table.specs.Rows.{Rows, StandsFor, instance, instance_rows, live, made, subscription_at, subscription_rows}
 use Rattle.instance_table.specs.Steps.{AreOrdered, first_going, first_instance, first_subscription, items_about}
 use Rattle.instance_table.specs.declared.going.Going.{Going}
 use Rattle.instance_table.specs.declared.going.Placing.{Placing}
@@ -97,6 +97,10 @@ FindsAmong i x rs = (width m : ℕ) (H : List Event) → IsLegalWithin width m H
 -- what is found is the row of the live subscription of this number in each legal history that the rows stand for
 abbrev pub FindsSubscription : ℕ → Option SubscriptionRow → Rows → Type 0
 FindsSubscription s x rs = (width m : ℕ) (H : List Event) → IsLegalWithin width m H → StandsFor rs H → x ≡ subscription_at H s
+
+-- these are the rows of the live subscriptions, in the order of their numbers, of each history that the rows stand for
+abbrev pub ListsSubscriptions : List SubscriptionRow → Rows → Type 0
+ListsSubscriptions xs rs = (H : List Event) → StandsFor rs H → xs ≡ subscription_rows H
 
 -- the table counts the kind
 abbrev pub is_counted : Kind → Bool

@@ -4,9 +4,13 @@
 mod aims;
 mod copies;
 mod deliveries;
+mod following;
 mod going;
+mod instances;
+mod reserving;
 mod rows;
 mod standing;
+mod subscriptions;
 mod table;
 mod tops;
 mod work;

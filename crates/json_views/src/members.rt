@@ -4,29 +4,10 @@ ghost use Rattle.serde_json.specs.View.{items_of, members_view, view};
 ghost use Rattle.serde_json.specs.Data.{array, put as with_member, string};
 ghost use Rattle.json_views.specs.Views.{array_of, put_where};
 
+pub use json_members::{put_text, text_value};
 use serde_json::{Map, Value, put};
 use std::alloc::{AllocError, Global};
 use vnfm_base::{Line, Name};
-
-/// A text as a value.
-pub fn text_value(alloc: Global, text: &str) -> Result<Value, AllocError>
-    ensures { IfOk result (λ value. view value ≡ string text.now) }
-{
-    Ok(Value::String(String::from_str(alloc, text)?))
-}
-
-/// Puts a member whose value is a text.
-pub fn put_text(
-    members: &mut Map<String, Value>,
-    alloc: Global,
-    name: &str,
-    text: &str,
-) -> Result<(), AllocError>
-    ensures { OnOk result (members_view members.new.entries ≡ with_member name.now (string text.now) (members_view members.old.entries)) }
-{
-    let value = text_value(alloc, text)?;
-    put(members, alloc, name, value)
-}
 
 /// Puts a member whose value is a name that may be absent.
 pub fn put_name_where(

@@ -1,9 +1,13 @@
 -- Bytes that go out one piece after another.
-use Rattle.std.proofs.Common.{◌≡◌, ◌≤◌, ◌+◌, ◌-◌, ℕ, zero, suc, List, [], ◌∷◌, ◌++◌, take, drop, length, ap, ◌∙◌, sym, subst, arith, append_assoc, refl, length-drop, Result, Ok, Err}
+use Rattle.std.proofs.Common.{◌≡◌, ◌≤◌, ◌<◌, ◌⊎◌, inl, inr, ◌+◌, ◌-◌, ℕ, zero, suc, min, List, [], ◌∷◌, ◌++◌, take, drop, length, ap, ◌∙◌, sym, subst, arith, append_assoc, refl, length-append, length-drop, Result, Ok, Err, if◌then◌else◌, nat_lt}
 use Rattle.std.proofs.Math.Seq.{take-add, take-append-add}
+use Rattle.std.proofs.lemmas.Bool.{cases_lt, le-ltb, lt-ltb}
 use Rattle.std.proofs.lemmas.List.{take_all}
-use Rattle.site_traits.specs.Door.{Conn, DoorState, ConnIs, has_written, write_broke}
-use Rattle.lcm_api.specs.Telling.{WorldTells}
+use Rattle.site_traits.specs.Counts.{one_more}
+use Rattle.site_traits.specs.Door.{Conn, DoorState, ConnIs, WriteCounts, asked_for, has_written, write_broke}
+use Rattle.site_traits.specs.declared.door.WriteAnswer.TheVariants as write
+use Rattle.lcm_api.specs.Telling.{AsksWrites, WorldTells, Writes, many_more, one_piece, pieces}
+use Rattle.lcm_api.specs.declared.outgoing.TheConstants.{ROOM}
 use Rattle.lcm_api.specs.declared.door.DoorFailed.{DoorFailed}
 
 -- what was taken of the rest makes the front longer
@@ -49,3 +53,121 @@ broken_second x y n a b c first second = record {
 pub tells_both : (x y : List ℕ) (result : Result (Unit {0}) DoorFailed) (a b c : DoorState) → ConnIs (has_written x a.conn) a b → WorldTells y result b c → WorldTells (x ++ y) result a c
 tells_both x y (Ok done) a b c first second = tells_more x y a b c first second
 tells_both x y (Err failed) a b c first second = (length x + second.0, broken_second x y second.0 a b c first second.1)
+
+zero_plus : (k : ℕ) → 0 + k ≡ k
+zero_plus k = omega arith
+
+-- so many more, and then so many
+more_again : (j k n : ℕ) → many_more j (many_more k n) ≡ many_more (j + k) n
+unfolding many_more
+more_again zero k n = ap (λ m. many_more m n) (sym (zero_plus k))
+more_again (suc j) k n =
+    let next : suc (j + k) ≡ suc j + k = omega arith in
+    ap one_more (more_again j k n) ∙ ap (λ m. many_more m n) next
+
+-- writes behind others
+pub writes_on : (whole short more_whole more_short : ℕ) (a b c : WriteCounts) → Writes whole short a b → Writes more_whole more_short b c
+    → Writes (whole + more_whole) (short + more_short) a c
+writes_on whole short more_whole more_short a b c first second = record {
+  made = second.made ∙ ap (many_more (more_whole + more_short)) first.made ∙ more_again (more_whole + more_short) (whole + short) a.made
+      ∙ ap (λ k. many_more k a.made) (omega arith);
+  shorts = second.shorts ∙ ap (many_more more_short) first.shorts ∙ more_again more_short short a.short ∙ ap (λ k. many_more k a.short) (omega arith);
+}
+
+-- the first piece wasn't told whole, and no second was begun
+pub asks_first : (first rest : ℕ) (failed : DoorFailed) (a b : WriteCounts) → AsksWrites {T = Unit {0}} first (Err failed) a b
+    → AsksWrites {T = Unit {0}} (first + rest) (Err failed) a b
+asks_first first rest failed a b asks = record { whole = asks.whole; short = asks.short; writes = asks.writes; most = omega (arith, asks.most); all = tt }
+
+-- one piece after the other
+pub asks_both : (first rest : ℕ) (done : Unit {0}) (result : Result (Unit {0}) DoorFailed) (a b c : WriteCounts)
+    → AsksWrites {E = DoorFailed} first (Ok done) a b → AsksWrites rest result b c → AsksWrites (first + rest) result a c
+asks_both first rest done (Ok end) a b c one two = record {
+  whole = one.whole + two.whole;
+  short = one.short + two.short;
+  writes = writes_on one.whole one.short two.whole two.short a b c one.writes two.writes;
+  most = omega (arith, one.most, two.most);
+  all = omega (arith, one.all, two.all);
+}
+asks_both first rest done (Err failed) a b c one two = record {
+  whole = one.whole + two.whole;
+  short = one.short + two.short;
+  writes = writes_on one.whole one.short two.whole two.short a b c one.writes two.writes;
+  most = omega (arith, one.most, two.most);
+  all = tt;
+}
+
+-- a reply is in these pieces, however it was parted
+pub parted : (front rest total : ℕ) → front + rest ≡ total → front ≤ ROOM → (rest ≡ 0) ⊎ (front ≡ ROOM) → one_piece front + one_piece rest ≡ pieces total
+parted front rest total whole fits (inl none) = omega (arith, whole, fits, none)
+parted front rest total whole fits (inr full) = omega (arith, whole, fits, full)
+
+-- The writes of a piece so far, where so many of its bytes went out: all took less than they were offered, but for the one that took the last.
+pub record SoFar (at size : ℕ) (a b : WriteCounts) : Type 0 where
+  pub whole : ℕ
+  pub short : ℕ
+  pub writes : Writes whole short a b
+  pub before : at < size → whole ≡ 0
+  pub behind : size ≤ at → whole ≡ one_piece size
+
+-- none was asked for
+pub none_so_far : (size : ℕ) (a : WriteCounts) → SoFar 0 size a a
+unfolding many_more
+none_so_far size a = record { whole = 0; short = 0; writes = record { made = refl; shorts = refl }; before = λ left. refl; behind = λ none. omega (arith, none) }
+
+-- all writes before the last byte went out were short
+short_alone : {at size : ℕ} {a b : WriteCounts} → at < size → (far : SoFar at size a b) → b.made ≡ many_more far.short a.made
+short_alone {a = a} left far = far.writes.made ∙ ap (λ k. many_more (k + far.short) a.made) (far.before left) ∙ ap (λ k. many_more k a.made) (zero_plus far.short)
+
+next : (k : ℕ) → suc k ≡ 1 + k
+next k = omega arith
+
+-- one write more, which took some of what was left
+pub more_so_far : (at n size : ℕ) (a b c : WriteCounts) → at < size → at + n ≤ size → SoFar at size a b → c ≡ asked_for (size - at) (write.Took n) b
+    → SoFar (at + n) size a c
+unfolding many_more
+more_so_far at n size a b c left within far asked = by (cases_lt n (size - at)) where
+  made : c.made ≡ many_more (suc far.short) a.made
+  made = ap (λ (w : WriteCounts). w.made) asked ∙ ap one_more (short_alone left far)
+
+  by : (n < size - at) ⊎ (size - at ≤ n) → SoFar (at + n) size a c
+  by (inl less) = record {
+    whole = 0;
+    short = suc far.short;
+    writes = record {
+      made = made ∙ ap (λ k. many_more k a.made) (sym (zero_plus (suc far.short)));
+      shorts = ap (λ (w : WriteCounts). w.short) asked ∙ ap (λ is. if is then one_more b.short else b.short) (lt-ltb n (size - at) less)
+          ∙ ap one_more far.writes.shorts;
+    };
+    before = λ more. refl;
+    behind = λ none. absurd (omega (arith, none, less));
+  }
+  by (inr all) = record {
+    whole = 1;
+    short = far.short;
+    writes = record {
+      made = made ∙ ap (λ k. many_more k a.made) (next far.short);
+      shorts = ap (λ (w : WriteCounts). w.short) asked ∙ ap (λ is. if is then one_more b.short else b.short) (le-ltb n (size - at) all) ∙ far.writes.shorts;
+    };
+    before = λ more. absurd (omega (arith, more, all));
+    behind = λ none. omega (arith, left);
+  }
+
+-- the piece is told
+pub told_whole : (at size : ℕ) (done : Unit {0}) (a b : WriteCounts) → size ≤ at → SoFar at size a b → AsksWrites {E = DoorFailed} (one_piece size) (Ok done) a b
+told_whole at size done a b all far = record { whole = far.whole; short = far.short; writes = far.writes; most = omega (arith, far.behind all); all = far.behind all }
+
+-- a write of the rest failed
+pub told_in_part : (at size : ℕ) (failed : DoorFailed) (a b c : WriteCounts) → at < size → SoFar at size a b → c ≡ asked_for (size - at) write.Failed b
+    → AsksWrites {T = Unit {0}} (one_piece size) (Err failed) a c
+unfolding many_more
+told_in_part at size failed a b c left far asked = record {
+  whole = 1;
+  short = far.short;
+  writes = record {
+    made = ap (λ (w : WriteCounts). w.made) asked ∙ ap one_more (short_alone left far) ∙ ap (λ k. many_more k a.made) (next far.short);
+    shorts = ap (λ (w : WriteCounts). w.short) asked ∙ far.writes.shorts;
+  };
+  most = omega (arith, left);
+  all = tt;
+}

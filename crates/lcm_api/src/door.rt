@@ -2,7 +2,7 @@
 ghost use Rattle.std.specs.Prelude.{◌≡◌, ◌≤◌, length, true};
 ghost use Rattle.std.specs.Result.{is_err};
 ghost use Rattle.lcm_api.specs.Failing.{FailsOnce};
-ghost use Rattle.lcm_api.specs.Telling.{WorldTells};
+ghost use Rattle.lcm_api.specs.Telling.{AsksWrites, WorldTells, one_piece};
 
 use site_traits::{Door, WriteAnswer};
 
@@ -15,6 +15,7 @@ pub fn write_all<D: Door>(door: &mut D, bytes: &[u8]) -> Result<(), DoorFailed>
     requires up { (D.counts door.old).up ≡ true }
     ensures told { D.tells → WorldTells bytes.now result (D.state door.old) (D.state door.new) }
     ensures cause { FailsOnce (is_err result) (D.counts door.old) (D.counts door.new) }
+    ensures asks { AsksWrites (one_piece (length bytes.now)) result (D.writes door.old) (D.writes door.new) }
 {
     let mut at = 0;
     while at < bytes.len() {

@@ -8,7 +8,7 @@ ghost use Rattle.lcm_api.specs.Failing.{FailsOnce};
 ghost use Rattle.lcm_api.specs.Hearing.{Hears};
 ghost use Rattle.lcm_api.specs.Mouth.{Begins, Heard, OnlyAtDoor};
 ghost use Rattle.lcm_api.specs.Response.{text};
-ghost use Rattle.lcm_api.specs.Telling.{WorldTells};
+ghost use Rattle.lcm_api.specs.Telling.{AsksWrites, WorldTells, pieces};
 
 use crate::door::DoorFailed;
 use crate::listen::{Reading, read_to_end};
@@ -66,6 +66,7 @@ impl<D: Door> Mouth<D> {
         D: Drop,
         ensures door { IfOk result (λ m. m.wire.intake.door ≡ D.state door) }
         ensures counts { IfOk result (λ m. m.wire.intake.counts ≡ D.counts door) }
+        ensures writes { IfOk result (λ m. m.wire.intake.writes ≡ D.writes door) }
         ensures begins { IfOk result Begins }
         ensures unnoted { IfOk result (λ m. m.told ≡ []) }
     {
@@ -86,6 +87,7 @@ impl<D: Door> Mouth<D> {
     pub fn door(&self) -> &D
         ensures state { D.state result.now ≡ self.now.wire.intake.door }
         ensures counts { D.counts result.now ≡ self.now.wire.intake.counts }
+        ensures writes { D.writes result.now ≡ self.now.wire.intake.writes }
     {
         self.wire.door()
     }
@@ -94,6 +96,7 @@ impl<D: Door> Mouth<D> {
     pub fn next(&mut self) -> NextAnswer
         ensures told { D.tells → Nexts result self.old.wire.intake.door self.new.wire.intake.door }
         ensures cause { NextCause result self.old.wire.intake.counts self.new.wire.intake.counts }
+        ensures no_write { self.new.wire.intake.writes ≡ self.old.wire.intake.writes }
         ensures begins { Begins self.new }
         ensures role { self.new.role ≡ self.old.role }
         ensures unnoted { self.new.told ≡ self.old.told }
@@ -108,6 +111,7 @@ impl<D: Door> Mouth<D> {
         requires up { self.old.wire.intake.counts.up ≡ true }
         ensures told { D.tells → HangsUp self.old.wire.intake.door self.new.wire.intake.door }
         ensures cause { self.new.wire.intake.counts ≡ closed self.old.wire.intake.counts }
+        ensures no_write { self.new.wire.intake.writes ≡ self.old.wire.intake.writes }
         ensures kept { OnlyAtDoor self.old self.new }
         ensures unnoted { self.new.told ≡ self.old.told }
     {
@@ -123,6 +127,7 @@ impl<D: Door> Mouth<D> {
         ensures within { result.count ≤ length room.old }
         ensures told { D.tells → Hears (length room.old) (take result.count room.new) result.failed self.old.wire.intake.door self.new.wire.intake.door }
         ensures cause { FailsOnce result.failed self.old.wire.intake.counts self.new.wire.intake.counts }
+        ensures no_write { self.new.wire.intake.writes ≡ self.old.wire.intake.writes }
         ensures kept { OnlyAtDoor self.old self.new }
         ensures unnoted { self.new.told ≡ self.old.told }
     {
@@ -157,7 +162,8 @@ impl<D: Door> Mouth<D> {
         }
     }
 
-    /// Tells a reply to the connection, with one write for every reply of at most 65,536 bytes.
+    /// Tells a reply to the connection, by one write for a reply of at most 65,536 bytes and two for a longer one, and one more for each that
+    /// takes less than it is offered. No other call of the mouth writes.
     ///
     /// Condition: the connection is up. Condition of a reply below 400: the manager is open, the reply is the outcome of the request
     /// in hand for its role, and its events end the manager's history, which every stop leaves.
@@ -174,6 +180,7 @@ impl<D: Door> Mouth<D> {
         requires acknowledged { reply.now.status < 400 → IsAcknowledged S.tells manager.now (S.state site.now) self.old.hand self.old.role reply.now }
         ensures told { D.tells → WorldTells (text reply.now) result self.old.wire.intake.door self.new.wire.intake.door }
         ensures cause { FailsOnce (is_err result) self.old.wire.intake.counts self.new.wire.intake.counts }
+        ensures asks { AsksWrites (pieces (length (text reply.now))) result self.old.wire.intake.writes self.new.wire.intake.writes }
         ensures kept { OnlyAtDoor self.old self.new }
         ensures noted { self.new.told ≡ (S.state site.now).moment ∷ self.old.told }
     {

@@ -66,6 +66,7 @@ impl Outgoing {
         requires { length self.old ≤ ROOM }
         ensures whole { self.old ++ body.now ≡ self.new ++ result.now }
         ensures most { (result.now ≡ []) ⊎ (length self.new ≡ ROOM) }
+        ensures fits { length self.new ≤ ROOM }
     {
         let n = body.len().min(ROOM - self.bytes.len());
         let (front, rest) = body.split_at(n);

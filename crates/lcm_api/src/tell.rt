@@ -1,9 +1,9 @@
 //! Telling a reply: its head and the front of its body in one write, and the rest of a longer body behind it.
-ghost use Rattle.std.specs.Prelude.{◌≡◌, ◌++◌, length, true};
+ghost use Rattle.std.specs.Prelude.{◌≡◌, ◌+◌, ◌++◌, length, true};
 ghost use Rattle.std.specs.Result.{is_err};
 ghost use Rattle.lcm_api.specs.Failing.{FailsOnce};
 ghost use Rattle.lcm_api.specs.Response.{body_told, head_text, text};
-ghost use Rattle.lcm_api.specs.Telling.{WorldTells};
+ghost use Rattle.lcm_api.specs.Telling.{AsksWrites, WorldTells, one_piece, pieces};
 
 use crate::door::{DoorFailed, write_all};
 use crate::outgoing::Outgoing;
@@ -19,6 +19,7 @@ pub fn tell_reply<D: Door>(
     requires up { (D.counts door.old).up ≡ true }
     ensures told { D.tells → WorldTells (text reply.now) result (D.state door.old) (D.state door.new) }
     ensures cause { FailsOnce (is_err result) (D.counts door.old) (D.counts door.new) }
+    ensures asks { AsksWrites (pieces (length (text reply.now))) result (D.writes door.old) (D.writes door.new) }
 {
     let body = body_told(reply);
     outgoing.set_head(reply, body.len());
@@ -31,6 +32,7 @@ fn write_both<D: Door>(door: &mut D, first: &[u8], rest: &[u8]) -> Result<(), Do
     requires up { (D.counts door.old).up ≡ true }
     ensures told { D.tells → WorldTells (first.now ++ rest.now) result (D.state door.old) (D.state door.new) }
     ensures cause { FailsOnce (is_err result) (D.counts door.old) (D.counts door.new) }
+    ensures asks { AsksWrites (one_piece (length first.now) + one_piece (length rest.now)) result (D.writes door.old) (D.writes door.new) }
 {
     write_all(door, first)?;
     write_all(door, rest)

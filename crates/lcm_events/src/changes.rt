@@ -1,5 +1,8 @@
 //! Definitions of resources and the changes that a plan makes to them.
 
+ghost use Rattle.std.specs.Prelude.{◌≡◌};
+ghost use Rattle.lcm_events.specs.Same.{kind_number};
+
 use crate::listed::Listed;
 
 /// What a definition names.
@@ -15,6 +18,22 @@ pub enum DefKind {
     Compute,
     /// A connection point of a VDU.
     Port,
+}
+
+impl DefKind {
+    /// Its number in the order of definitions, from 0.
+    ///
+    /// Source: own rule.
+    pub fn number(self) -> u8
+        ensures { result ≡ kind_number self }
+    {
+        match self {
+            DefKind::Link => 0,
+            DefKind::Storage => 1,
+            DefKind::Compute => 2,
+            DefKind::Port => 3,
+        }
+    }
 }
 
 /// The name of a resource of an instance.

@@ -23,18 +23,19 @@ use Rattle.lcm_model.specs.Descriptors.{IsValid, is_given}
 use Rattle.lcm_model.specs.Refusals.{ask_refusal, case_in, delete_refusal, situation}
 use Rattle.lcm_model.specs.Work.{MayBeginWithin, MayMove, window}
 use Rattle.lcm_model.specs.Notices.{is_small_filter, next_notice}
+use Rattle.lcm_model.specs.declared.limits.TheConstants.{MAX_DESCRIPTORS, MAX_INSTANCES, MAX_SUBSCRIPTIONS}
 
 -- the descriptor may be onboarded: it is valid, new, and there is room (own rule)
 pub record MayOnboard (H : List Event) (d : Vnfd) : Type 0 where
   pub valid : IsValid d
   pub unknown : descriptor_named H d.descriptor_id ≡ None
-  pub room : length (descriptors H) < 256
+  pub room : length (descriptors H) < MAX_DESCRIPTORS
 
 -- the instance may be created: its number is the next, its descriptor was onboarded, and there is room (SOL 003 5.4.2)
 pub record MayCreate (H : List Event) (i : ℕ) (vnfd : List ℕ) : Type 0 where
   pub number : i ≡ instances_made H + 1
   pub onboarded : is_some (descriptor_named H vnfd) ≡ true
-  pub room : length (live_instances H) < 1000
+  pub room : length (live_instances H) < MAX_INSTANCES
 
 -- the instance may be deleted (SOL 003 5.4.3)
 pub record MayDelete (H : List Event) (i : ℕ) : Type 0 where
@@ -74,7 +75,7 @@ pub record MayGrant (H : List Event) (o : ℕ) (grant : List ℕ) (places : List
 -- the subscription may be made: its number is the next, its role has room, and its filter is small (SOL 003 5.4.18)
 pub record MaySubscribe (H : List Event) (s : ℕ) (role : Role) (f : Filter) : Type 0 where
   pub number : s ≡ subscriptions_made H + 1
-  pub room : length (live_subscriptions H role) < 100
+  pub room : length (live_subscriptions H role) < MAX_SUBSCRIPTIONS
   pub small : is_small_filter f ≡ true
 
 -- the post may be recorded: the subscription is live, and the place is that of its first notice past the cursor (own rule)

@@ -38,7 +38,9 @@ fn places_named(alloc: Global, places: &[Place], spots: &[u8]) -> Result<Vec<Pla
 }
 
 /// Whether a place is in a list.
-fn is_seen(seen: &[Place], place: &Place) -> bool
+///
+/// Source: own rule.
+pub fn is_seen(seen: &[Place], place: &Place) -> bool
     ensures { result ≡ list_any (same_place place.now) seen.now }
 {
     for other in seen {
@@ -50,7 +52,9 @@ fn is_seen(seen: &[Place], place: &Place) -> bool
 }
 
 /// Each place once, where it comes first.
-fn each_once(alloc: Global, places: &[Place]) -> Result<Vec<Place>, AllocError>
+///
+/// Source: docs/MODEL.md, "Grants".
+pub fn each_once(alloc: Global, places: &[Place]) -> Result<Vec<Place>, AllocError>
     ensures { IfOk result (λ v. v.items ≡ distinct_places places.now) }
 {
     let mut seen: Vec<Place> = Vec::new(alloc);

@@ -3,9 +3,11 @@
 #![tactic(auto)]
 
 mod actions;
+mod definitions;
 mod grants;
 mod holding;
 mod levels;
+mod limits;
 mod moves;
 mod operations;
 mod refusals;
@@ -13,9 +15,11 @@ mod targets;
 mod valid;
 
 pub use actions::Action;
-pub use grants::{is_placing, place_in};
+pub use definitions::is_def_before;
+pub use grants::{each_once, is_placing, is_seen, place_in};
 pub use holding::Effect;
 pub use levels::count_in;
+pub use limits::{MAX_DESCRIPTORS, MAX_INSTANCES, MAX_SUBSCRIPTIONS};
 pub use moves::{ends, may_follow, works};
 pub use operations::{op_kind, verb_in_way};
 pub use refusals::{Refusal, TaskRefusal};

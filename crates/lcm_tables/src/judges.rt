@@ -14,18 +14,9 @@ ghost use Rattle.lcm_tables.specs.Tables.{Judges, Says};
 use crate::tables::Tables;
 use instance_table::rows_have_holdings;
 use lcm_events::{EventKind, Filter, Role, Vnfd};
-use lcm_model::{Refusal, is_valid};
+use lcm_model::{MAX_DESCRIPTORS, MAX_INSTANCES, MAX_SUBSCRIPTIONS, Refusal, is_valid};
 use std::alloc::{AllocError, Global};
 use vnfm_base::{Kind, Name};
-
-/// Descriptors that may be onboarded.
-const MAX_DESCRIPTORS: u64 = 256;
-
-/// Instances that may be live at one time.
-const MAX_INSTANCES: u64 = 1_000;
-
-/// Subscriptions of a role that may be live at one time.
-const MAX_SUBSCRIPTIONS: u64 = 100;
 
 /// Values of one list of a filter.
 const MAX_VALUES: usize = 64;

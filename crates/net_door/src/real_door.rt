@@ -1,7 +1,7 @@
 //! Two addresses as a door.
 ghost use Rattle.std.specs.Prelude.{◌≡◌, ◌≤◌, ◌⊎◌, ◌&&◌, [], IfOk, is_some, false, length, true};
 ghost use Rattle.site_traits.specs.Counts.{one_more};
-ghost use Rattle.site_traits.specs.Door.{IsAmount, IsTaken, NextCause, Nexts, ReadCause, ReadsIn, WriteCause, WritesOut};
+ghost use Rattle.site_traits.specs.Door.{IsAmount, IsTaken, NextCause, Nexts, ReadCause, ReadsIn, WriteCause, WritesOut, asked_for, write_counts};
 ghost use Rattle.net_calls.specs.Network.{IsAt, IsNotAt, offer_of, offers_after};
 ghost use Rattle.net_door.specs.Addresses.{comes, given_by};
 ghost use Rattle.net_door.specs.AtHand.{NextAtHand, ReadsAtHand, WritesAtHand, counts_of, nothing_told, role_at};
@@ -28,6 +28,8 @@ pub struct RealDoor<'a, N: HostNet + Drop, T: Stopwatch + Drop> {
     at_hand: Option<Conversation<N::Connection>>,
     faults: u64,
     next_faults: u64,
+    writes: u64,
+    short_writes: u64,
 }
 
 impl<'a, N: HostNet + Drop, T: Stopwatch + Drop> RealDoor<'a, N, T> {
@@ -43,6 +45,7 @@ impl<'a, N: HostNet + Drop, T: Stopwatch + Drop> RealDoor<'a, N, T> {
         ensures no_address { IfOk result (λ d. (d.addresses.first ≡ None) × (d.addresses.second ≡ None)) }
         ensures nobody { IfOk result (λ d. (d.at_hand ≡ None) × (d.addresses.waiting.taken.items ≡ [])) }
         ensures counts { IfOk result (λ d. (d.faults ≡ 0) × (d.next_faults ≡ 0)) }
+        ensures unasked { IfOk result (λ d. (d.writes ≡ 0) × (d.short_writes ≡ 0)) }
     {
         Ok(RealDoor {
             addresses: TwoAddresses::none(alloc, net)?,
@@ -51,6 +54,8 @@ impl<'a, N: HostNet + Drop, T: Stopwatch + Drop> RealDoor<'a, N, T> {
             at_hand: None,
             faults: 0,
             next_faults: 0,
+            writes: 0,
+            short_writes: 0,
         })
     }
 
@@ -76,17 +81,18 @@ impl<'a, N: HostNet + Drop, T: Stopwatch + Drop> RealDoor<'a, N, T> {
         ensures waiting { self.new.addresses.waiting ≡ self.old.addresses.waiting }
         ensures hand { self.new.at_hand ≡ self.old.at_hand }
         ensures counts { (self.new.faults ≡ self.old.faults) × (self.new.next_faults ≡ self.old.next_faults) }
+        ensures no_write { (self.new.writes ≡ self.old.writes) × (self.new.short_writes ≡ self.old.short_writes) }
     {
         self.addresses.listen(orchestrator, element)
     }
 }
 
-/// One failure more. A count stays at its greatest value.
-fn count_fault(faults: &mut u64)
-    ensures one { faults.new ≡ one_more faults.old }
-    ensures later { faults.old ≤ faults.new }
+/// One more. A count stays at its greatest value.
+fn count_one(count: &mut u64)
+    ensures one { count.new ≡ one_more count.old }
+    ensures later { count.old ≤ count.new }
 {
-    *faults = faults.saturating_add(1);
+    *count = count.saturating_add(1);
 }
 
 /// How long may be waited by what was done, which begins anew.
@@ -109,6 +115,7 @@ fn role_of(side: Side) -> Role
 impl<'a, N: HostNet + Drop, T: Stopwatch + Drop> Door for RealDoor<'a, N, T> {
     ghost use Rattle.std.specs.Prelude.{is_some};
     ghost use Rattle.net_door.specs.AtHand.{counts_of, nothing_told};
+    ghost use Rattle.site_traits.specs.Door.{write_counts};
 
     ghost tells = { ⊥ };
 
@@ -116,10 +123,14 @@ impl<'a, N: HostNet + Drop, T: Stopwatch + Drop> Door for RealDoor<'a, N, T> {
 
     ghost counts = { λ d. counts_of d.faults d.next_faults (is_some d.at_hand) };
 
+    ghost writes = { λ d. write_counts d.writes d.short_writes };
+
     fn next(&mut self) -> NextAnswer
         ensures told { ⊥ → Nexts result (nothing_told) (nothing_told) }
         ensures cause { NextCause result (counts_of self.old.faults self.old.next_faults (is_some self.old.at_hand))
             (counts_of self.new.faults self.new.next_faults (is_some self.new.at_hand)) }
+        ensures no_write { write_counts self.new.writes self.new.short_writes ≡ write_counts self.old.writes
+            self.old.short_writes }
         ensures absent { self.old.addresses.first ≡ None → self.old.addresses.second ≡ None
             → self.old.addresses.waiting.taken.items ≡ [] → result ≡ NextAnswer.Failed }
         ensures finds { N.tells → N.Connection.tells → NextAtHand N.Connection.quiet self.old.addresses.turn
@@ -135,8 +146,8 @@ impl<'a, N: HostNet + Drop, T: Stopwatch + Drop> Door for RealDoor<'a, N, T> {
             }
             Ok(None) => NextAnswer::Nobody,
             Err(_) => {
-                count_fault(&mut self.faults);
-                count_fault(&mut self.next_faults);
+                count_one(&mut self.faults);
+                count_one(&mut self.next_faults);
                 NextAnswer::Failed
             }
         }
@@ -149,6 +160,8 @@ impl<'a, N: HostNet + Drop, T: Stopwatch + Drop> Door for RealDoor<'a, N, T> {
         ensures told { ⊥ → ReadsIn into.old into.new result (nothing_told) (nothing_told) }
         ensures cause { ReadCause result (counts_of self.old.faults self.old.next_faults (is_some self.old.at_hand))
             (counts_of self.new.faults self.new.next_faults (is_some self.new.at_hand)) }
+        ensures no_write { write_counts self.new.writes self.new.short_writes ≡ write_counts self.old.writes
+            self.old.short_writes }
         ensures reads { N.Connection.tells → T.tells → ReadsAtHand N.Connection.incoming N.Connection.vain
             N.Connection.allowed (moment_of (T.shows self.old.watch)) into.old into.new result self.old.at_hand self.new.at_hand }
     {
@@ -157,7 +170,7 @@ impl<'a, N: HostNet + Drop, T: Stopwatch + Drop> Door for RealDoor<'a, N, T> {
             None => ReadAnswer::Failed,
         };
         if let ReadAnswer::Failed = answer {
-            count_fault(&mut self.faults);
+            count_one(&mut self.faults);
         }
         answer
     }
@@ -169,6 +182,8 @@ impl<'a, N: HostNet + Drop, T: Stopwatch + Drop> Door for RealDoor<'a, N, T> {
         ensures told { ⊥ → WritesOut bytes.now result (nothing_told) (nothing_told) }
         ensures cause { WriteCause result (counts_of self.old.faults self.old.next_faults (is_some self.old.at_hand))
             (counts_of self.new.faults self.new.next_faults (is_some self.new.at_hand)) }
+        ensures one { write_counts self.new.writes self.new.short_writes ≡ asked_for (length bytes.now) result
+            (write_counts self.old.writes self.old.short_writes) }
         ensures writes { N.Connection.tells → T.tells → WritesAtHand N.Connection.outgoing N.Connection.vain
             N.Connection.allowed (moment_of (T.shows self.old.watch)) bytes.now result self.old.at_hand self.new.at_hand }
     {
@@ -176,8 +191,11 @@ impl<'a, N: HostNet + Drop, T: Stopwatch + Drop> Door for RealDoor<'a, N, T> {
             Some(conversation) => conversation.write(&mut self.watch, bytes),
             None => WriteAnswer::Failed,
         };
-        if let WriteAnswer::Failed = answer {
-            count_fault(&mut self.faults);
+        count_one(&mut self.writes);
+        match answer {
+            WriteAnswer::Took(count) if count < bytes.len() => count_one(&mut self.short_writes),
+            WriteAnswer::Took(_) => {}
+            WriteAnswer::Failed => count_one(&mut self.faults),
         }
         answer
     }

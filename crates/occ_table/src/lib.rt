@@ -4,6 +4,7 @@
 mod asks;
 mod causes;
 mod cells;
+mod following;
 mod going;
 mod judges;
 mod names;
@@ -13,6 +14,7 @@ mod pending;
 mod phases;
 mod resources;
 mod rooms;
+mod row_judges;
 mod rows;
 mod slots;
 mod table;

@@ -4,7 +4,7 @@ ghost use Rattle.std.specs.List.{list_any};
 ghost use Rattle.std.specs.Option.{option_map_or};
 ghost use Rattle.std.specs.Prelude.{◌≡◌, ◌&&◌, ◌==◌, ◌<◌, ◌≤◌, ℕ, None, Some, false, not, true, OnOk, cond, if◌then◌else◌, option_and_then, option_map};
 ghost use Rattle.std.specs.HashMap.{spare};
-ghost use Rattle.lcm_events.specs.Same.{kind_number, same_def, same_way};
+ghost use Rattle.lcm_events.specs.Same.{same_def, same_way};
 ghost use Rattle.lcm_events.specs.declared.attempts.Way.TheVariants.{Forward};
 ghost use Rattle.lcm_events.specs.declared.changes.Def.{Def};
 ghost use Rattle.lcm_model.specs.Holding.{leaves_it};
@@ -15,7 +15,7 @@ ghost use Rattle.occ_table.specs.declared.resources.Key.{Key};
 use crate::rooms::Rooms;
 use crate::rows::OccRow;
 use crate::used::{PackedUsed, Used};
-use lcm_events::{Change, Def, DefKind, Place, Verb, Way};
+use lcm_events::{Change, Def, Place, Verb, Way};
 use lcm_model::Effect;
 use std::alloc::{AllocError, Global};
 use std::collections::HashMap;
@@ -46,18 +46,6 @@ pub struct Key {
     pub serial: u32,
 }
 
-/// The number of a kind of definitions.
-fn number_of(kind: DefKind) -> u8
-    ensures { result ≡ kind_number kind }
-{
-    match kind {
-        DefKind::Link => 0,
-        DefKind::Storage => 1,
-        DefKind::Compute => 2,
-        DefKind::Port => 3,
-    }
-}
-
 impl Key {
     /// The key of a definition of an instance.
     fn of(instance: u64, def: &Def) -> Key
@@ -65,7 +53,7 @@ impl Key {
     {
         Key {
             instance,
-            kind: number_of(def.kind),
+            kind: def.kind.number(),
             item: def.item,
             vdu: def.vdu,
             serial: def.serial,

@@ -1,7 +1,7 @@
 //! What the changes of an occurrence used: for each the resource that it made, removed or powered, with its place, in as many bytes as
 //! their names have.
 
-ghost use Rattle.std.specs.Prelude.{◌≡◌, ◌≤◌, ◌+◌, ◌++◌, None, Some, IfOk, length, option_and_then, replicate, slice_get, slice_set, vec_capacity, vec_len};
+ghost use Rattle.std.specs.Prelude.{◌≡◌, ◌≤◌, ◌+◌, ◌++◌, None, Some, IfOk, option_and_then, replicate, slice_get, slice_set, vec_capacity, vec_len};
 ghost use Rattle.vnfm_base.specs.Text.{IsName};
 ghost use Rattle.occ_table.specs.Packed.{names_length};
 ghost use Rattle.occ_table.specs.declared.used.Used.{Used};
@@ -160,13 +160,6 @@ impl Uses {
             entries.push(copied_used(alloc, used)?)?;
         }
         Ok(Uses { entries })
-    }
-
-    /// How many changes there are.
-    pub fn len(&self) -> usize
-        ensures { result ≡ length self.now }
-    {
-        self.entries.len()
     }
 
     /// What the change of this number used; none where it used nothing, or there is no such change.

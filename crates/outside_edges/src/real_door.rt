@@ -1,12 +1,12 @@
 //! Standard input and output as a door with one connection.
 ghost use Rattle.std.specs.Prelude.{◌≡◌, ◌≢◌, ◌≤◌, ◌<◌, ◌-◌, ◌^◌, [], IfOk, IfErr, false, true, length};
 ghost use Rattle.std.specs.IoError.{error_kind};
-ghost use Rattle.site_traits.specs.Door.{HangsUp, IsAmount, IsTaken, NextCause, Nexts, ReadCause, ReadsIn, WriteCause, WritesOut, closed};
+ghost use Rattle.site_traits.specs.Door.{HangsUp, IsAmount, IsTaken, NextCause, Nexts, ReadCause, ReadsIn, WriteCause, WritesOut, asked_for, closed, write_counts};
 ghost use Rattle.host_calls.specs.Streams.{Gives, Takes, fault_of};
 ghost use Rattle.outside_edges.specs.Again.{MadeAgain, ReadsAgain, WritesAgain};
 ghost use Rattle.outside_edges.specs.Door.{counted, state_of, IsDoor};
 
-use crate::counted::count_fault;
+use crate::counted::{count_call, count_fault};
 use host_calls::{InStream, OutStream};
 use lcm_events::Role;
 use site_traits::{Door, NextAnswer, ReadAnswer, WriteAnswer};
@@ -26,6 +26,8 @@ pub struct RealDoor<I: InStream, O: OutStream> {
     write_failed: bool,
     faults: u64,
     next_faults: u64,
+    writes: u64,
+    short_writes: u64,
     ghost sound: { IsDoor I.tells O.tells came up ends read_failed write_failed (I.state input) (O.state output) },
 }
 
@@ -38,6 +40,7 @@ impl<I: InStream, O: OutStream> RealDoor<I, O> {
         ensures role { result.role ≡ role }
         ensures none { (result.came ≡ false) × (result.up ≡ false) }
         ensures counts { (result.faults ≡ 0) × (result.next_faults ≡ 0) }
+        ensures unasked { (result.writes ≡ 0) × (result.short_writes ≡ 0) }
     {
         RealDoor {
             input,
@@ -50,6 +53,8 @@ impl<I: InStream, O: OutStream> RealDoor<I, O> {
             write_failed: false,
             faults: 0,
             next_faults: 0,
+            writes: 0,
+            short_writes: 0,
         }
     }
 
@@ -63,6 +68,7 @@ impl<I: InStream, O: OutStream> RealDoor<I, O> {
 
 impl<I: InStream, O: OutStream> Door for RealDoor<I, O> {
     ghost use Rattle.outside_edges.specs.Door.{counted, state_of};
+    ghost use Rattle.site_traits.specs.Door.{write_counts};
 
     ghost tells = { I.tells × O.tells };
 
@@ -70,11 +76,14 @@ impl<I: InStream, O: OutStream> Door for RealDoor<I, O> {
 
     ghost counts = { λ d. counted d.faults d.next_faults d.up };
 
+    ghost writes = { λ d. write_counts d.writes d.short_writes };
+
     fn next(&mut self) -> NextAnswer
         ensures first { self.old.came ≡ false → result ≡ NextAnswer.Came self.old.role }
         ensures later { self.old.came ≡ true → self.old.ends < 2 ^ 64 - 1 → result ≡ NextAnswer.Ended }
         ensures told { I.tells × O.tells → Nexts result (state_of self.old.came self.old.role self.old.ends self.old.up self.old.read_failed self.old.write_failed (I.state self.old.input) (O.state self.old.output)) (state_of self.new.came self.new.role self.new.ends self.new.up self.new.read_failed self.new.write_failed (I.state self.new.input) (O.state self.new.output)) }
         ensures cause { NextCause result (counted self.old.faults self.old.next_faults self.old.up) (counted self.new.faults self.new.next_faults self.new.up) }
+        ensures no_write { write_counts self.new.writes self.new.short_writes ≡ write_counts self.old.writes self.old.short_writes }
         ensures uncalled { (self.new.input ≡ self.old.input) × (self.new.output ≡ self.old.output) }
     {
         if !self.came {
@@ -97,6 +106,7 @@ impl<I: InStream, O: OutStream> Door for RealDoor<I, O> {
         ensures amount { IsAmount result (length into.old) }
         ensures told { I.tells × O.tells → ReadsIn into.old into.new result (state_of self.old.came self.old.role self.old.ends self.old.up self.old.read_failed self.old.write_failed (I.state self.old.input) (O.state self.old.output)) (state_of self.new.came self.new.role self.new.ends self.new.up self.new.read_failed self.new.write_failed (I.state self.new.input) (O.state self.new.output)) }
         ensures cause { ReadCause result (counted self.old.faults self.old.next_faults self.old.up) (counted self.new.faults self.new.next_faults self.new.up) }
+        ensures no_write { write_counts self.new.writes self.new.short_writes ≡ write_counts self.old.writes self.old.short_writes }
         ensures again { I.tells → ReadsAgain (length into.old) result (I.calls self.old.input) (I.calls self.new.input) }
         ensures unwritten { self.new.output ≡ self.old.output }
     {
@@ -117,11 +127,18 @@ impl<I: InStream, O: OutStream> Door for RealDoor<I, O> {
         ensures amount { IsTaken result (length bytes.now) }
         ensures told { I.tells × O.tells → WritesOut bytes.now result (state_of self.old.came self.old.role self.old.ends self.old.up self.old.read_failed self.old.write_failed (I.state self.old.input) (O.state self.old.output)) (state_of self.new.came self.new.role self.new.ends self.new.up self.new.read_failed self.new.write_failed (I.state self.new.input) (O.state self.new.output)) }
         ensures cause { WriteCause result (counted self.old.faults self.old.next_faults self.old.up) (counted self.new.faults self.new.next_faults self.new.up) }
+        ensures one { write_counts self.new.writes self.new.short_writes ≡ asked_for (length bytes.now) result (write_counts self.old.writes self.old.short_writes) }
         ensures again { O.tells → WritesAgain (length bytes.now) result (O.calls self.old.output) (O.calls self.new.output) }
         ensures unread { self.new.input ≡ self.old.input }
     {
+        count_call(&mut self.writes);
         match write_some(&mut self.output, bytes) {
-            Ok(count) if count > 0 => WriteAnswer::Took(count),
+            Ok(count) if count > 0 => {
+                if count < bytes.len() {
+                    count_call(&mut self.short_writes);
+                }
+                WriteAnswer::Took(count)
+            }
             _ => {
                 count_fault(&mut self.faults);
                 self.write_failed = true;
@@ -134,6 +151,7 @@ impl<I: InStream, O: OutStream> Door for RealDoor<I, O> {
         requires up { self.old.up ≡ true }
         ensures told { I.tells × O.tells → HangsUp (state_of self.old.came self.old.role self.old.ends self.old.up self.old.read_failed self.old.write_failed (I.state self.old.input) (O.state self.old.output)) (state_of self.new.came self.new.role self.new.ends self.new.up self.new.read_failed self.new.write_failed (I.state self.new.input) (O.state self.new.output)) }
         ensures cause { counted self.new.faults self.new.next_faults self.new.up ≡ closed (counted self.old.faults self.old.next_faults self.old.up) }
+        ensures no_write { write_counts self.new.writes self.new.short_writes ≡ write_counts self.old.writes self.old.short_writes }
         ensures uncalled { (self.new.input ≡ self.old.input) × (self.new.output ≡ self.old.output) }
     {
         self.up = false;

@@ -15,8 +15,8 @@ use Rattle.site_traits.specs.declared.mem_jobs.JobPlan.{JobPlan}
 use Rattle.site_traits.specs.declared.mem_jobs.KeptJob.{KeptJob}
 use Rattle.site_traits.specs.Site.{Pair, SiteState, pair_of, Passes, FileStep, OnFile, JobStep, OnJobs, Same, Torn, Cut, Reads, Writes, Cuts, Syncs, Begins, Looks, Aborts}
 use Rattle.site_traits.specs.Disk.{Change, wrote, cut, synced, kept, change_of, Disk, overlaid, after, Reaches, fresh, disk, LeftSince, told, told_by, seen_reached, overlaid_torn, put_over, chosen, chosen_all, stopped_image, Takes}
-use Rattle.site_traits.specs.declared.mem_site.Choice.{Choice}
-use Rattle.site_traits.specs.declared.mem_site.Choice.TheVariants as choice
+use Rattle.site_traits.specs.declared.mem_file.Choice.{Choice}
+use Rattle.site_traits.specs.declared.mem_file.Choice.TheVariants as choice
 use Rattle.site_traits.specs.Jobs.{Job, Advances, Arrives, MayArrive, BeginsAs, LooksAs, Answered, unanswered, begin_answered, look_answered, abort_answered}
 use Rattle.site_traits.specs.KeptJobs.{jobs_of, jobs_at, IsEarly, begin_of, arrives, arrived, look_of, found_of, latest_of, latest_changed, looked, aborted_at, is_of, first_changed}
 use Rattle.site_traits.specs.Log.{Recorded, with_call}

@@ -10,7 +10,7 @@ use Rattle.site_traits.specs.declared.jobs.BeginAnswer.TheVariants as begin
 use Rattle.site_traits.specs.declared.jobs.LookAnswer.TheVariants as look
 use Rattle.site_traits.specs.declared.jobs.AbortAnswer.TheVariants as abort
 use Rattle.site_traits.specs.declared.mem_jobs.JobPlan.{JobPlan}
-use Rattle.site_traits.specs.declared.mem_site.Book.{Book}
+use Rattle.site_traits.specs.declared.mem_book.Book.{Book}
 use Rattle.site_traits.specs.declared.past.Past.{Past}
 use Rattle.site_traits.specs.declared.past.SiteCall.{SiteCall}
 use Rattle.site_traits.specs.declared.past.SiteCall.TheVariants as call

@@ -14,7 +14,7 @@ use Rattle.site_traits.specs.declared.jobs.AbortAnswer.TheVariants as abort
 use Rattle.site_traits.specs.declared.mem_jobs.Arrival.TheVariants.{Taken}
 use Rattle.site_traits.specs.declared.mem_jobs.JobEnd.TheVariants.{Done}
 use Rattle.site_traits.specs.declared.mem_jobs.JobPlan.{JobPlan}
-use Rattle.site_traits.specs.declared.mem_site.Book.{Book}
+use Rattle.site_traits.specs.declared.mem_book.Book.{Book}
 use Rattle.site_traits.specs.declared.past.SiteCall.{SiteCall}
 use Rattle.site_traits.specs.declared.past.SiteCall.TheVariants as call
 

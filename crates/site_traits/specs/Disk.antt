@@ -5,8 +5,8 @@ use Rattle.std.proofs.lemmas.List.{take_at, drop_at, take_all, length-take-le}
 use Rattle.site_traits.specs.declared.past.SiteCall.{SiteCall}
 use Rattle.site_traits.specs.declared.past.SiteCall.TheVariants as call
 use Rattle.site_traits.specs.declared.mem_jobs.KeptJob.{KeptJob}
-use Rattle.site_traits.specs.declared.mem_site.Choice.{Choice}
-use Rattle.site_traits.specs.declared.mem_site.Choice.TheVariants as choice
+use Rattle.site_traits.specs.declared.mem_file.Choice.{Choice}
+use Rattle.site_traits.specs.declared.mem_file.Choice.TheVariants as choice
 use Rattle.site_traits.specs.Jobs.{Answered}
 use Rattle.site_traits.specs.KeptJobs.{jobs_at}
 use Rattle.site_traits.specs.Past.{answers_of}

@@ -1,5 +1,5 @@
 -- What a door tells: its answers to `next`, and of each connection what came in, what went out and what failed.
-use Rattle.std.specs.Prelude.{◌≡◌, ◌≢◌, ◌≤◌, ℕ, Bool, true, false, List, [], ◌∷◌, ◌++◌, length, take, drop}
+use Rattle.std.specs.Prelude.{◌≡◌, ◌≢◌, ◌≤◌, ℕ, Bool, true, false, if◌then◌else◌, nat_lt, List, [], ◌∷◌, ◌++◌, length, take, drop}
 use Rattle.lcm_events.specs.declared.states.Role.{Role}
 use Rattle.site_traits.specs.declared.door.NextAnswer.{NextAnswer}
 use Rattle.site_traits.specs.declared.door.NextAnswer.TheVariants as next
@@ -156,3 +156,18 @@ pub record WriteCause (answer : WriteAnswer) (a b : DoorCounts) : Type 0 where
   pub counts : NoNextFault a b
   pub done : answer ≢ write.Failed → b ≡ a
   pub failed : answer ≡ write.Failed → b ≡ call_failed a
+
+-- How often a write was asked for, whether it failed or not, and how often one took less than it was offered, told or not, each as far as a
+-- u64 counts (own rule).
+pub record WriteCounts : Type 0 where
+  pub made : ℕ
+  pub short : ℕ
+
+-- so many were asked for, and so many of them took less
+abbrev pub write_counts : ℕ → ℕ → WriteCounts
+write_counts made short = record { made = made; short = short }
+
+-- once a write of so many bytes was asked for, by its answer
+abbrev pub asked_for : ℕ → WriteAnswer → WriteCounts → WriteCounts
+asked_for size (write.Took n) w = record { made = one_more w.made; short = if nat_lt n size then one_more w.short else w.short }
+asked_for size write.Failed w = record { made = one_more w.made; short = w.short }

@@ -8,7 +8,7 @@ use Rattle.site_traits.specs.declared.door.ReadAnswer.TheVariants as read
 use Rattle.site_traits.specs.declared.door.WriteAnswer.{WriteAnswer}
 use Rattle.site_traits.specs.declared.door.WriteAnswer.TheVariants as write
 use Rattle.site_traits.specs.declared.mem_door.MemDoor.{MemDoor}
-use Rattle.site_traits.specs.Door.{DoorState, DoorCounts, nobody}
+use Rattle.site_traits.specs.Door.{DoorState, DoorCounts, WriteCounts, nobody, write_counts}
 use Rattle.site_traits.specs.DoorPlans.{Does, next_of, rest_of, calls_after}
 use Rattle.site_traits.specs.MemConn.{conn_of, plan_of}
 use Rattle.site_traits.specs.Pieces.{IsOfOnePiece}
@@ -21,6 +21,10 @@ state_of d = record { answers = d.answers.items; conn = conn_of d.conn; past = m
 abbrev pub counts_of : MemDoor → DoorCounts
 counts_of d = record { faults = d.faults; next = d.next_faults; up = not d.conn.hung_up }
 
+-- how often a write was asked for; one takes all that it is offered, or fails
+abbrev pub writes_of : MemDoor → WriteCounts
+writes_of d = write_counts d.writes 0
+
 -- nothing was asked of the door yet
 pub record IsNew (d : MemDoor) : Type 0 where
   pub answers : d.answers.items ≡ []
@@ -29,6 +33,7 @@ pub record IsNew (d : MemDoor) : Type 0 where
   pub calls : d.calls ≡ 0
   pub faults : d.faults ≡ 0
   pub next_faults : d.next_faults ≡ 0
+  pub writes : d.writes ≡ 0
 
 -- the door's calls are spent: there were 1,048,576 (own rule)
 abbrev pub IsSpent : MemDoor → Type 0

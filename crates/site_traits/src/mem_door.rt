@@ -52,6 +52,7 @@ pub struct MemDoor {
     calls: usize,
     faults: u64,
     next_faults: u64,
+    writes: u64,
     ghost answered: { vec_len answers ≤ calls },
     ghost answers_fit: { 1048576 ≤ vec_capacity answers },
     ghost past_fits: { vec_len past + vec_len plans ≤ vec_capacity past },
@@ -68,6 +69,7 @@ impl Drop for MemDoor {
             calls: _,
             faults: _,
             next_faults: _,
+            writes: _,
         } = self;
     }
 }
@@ -92,6 +94,7 @@ impl MemDoor {
             calls: 0,
             faults: 0,
             next_faults: 0,
+            writes: 0,
         })
     }
 
@@ -168,7 +171,7 @@ fn ready_one(alloc: Global, room: usize, plan: DoorPlan) -> Result<Planned, Allo
     })
 }
 
-// Counts one fault more.
+// Counts one more.
 fn count(faults: &mut u64)
     ensures one { faults.new ≡ one_more faults.old }
     ensures later { faults.old ≤ faults.new }
@@ -177,8 +180,8 @@ fn count(faults: &mut u64)
 }
 
 impl Door for MemDoor {
-    ghost use Rattle.site_traits.specs.MemDoor.{state_of, counts_of, RunsNext, RunsRead, RunsWrite, SamePlan};
-    ghost use Rattle.site_traits.specs.Door.{Nexts, ReadsIn, WritesOut, HangsUp, IsAmount, IsTaken, NextCause, ReadCause, WriteCause, closed};
+    ghost use Rattle.site_traits.specs.MemDoor.{state_of, counts_of, writes_of, RunsNext, RunsRead, RunsWrite, SamePlan};
+    ghost use Rattle.site_traits.specs.Door.{Nexts, ReadsIn, WritesOut, HangsUp, IsAmount, IsTaken, NextCause, ReadCause, WriteCause, asked_for, closed};
 
     ghost tells = { Unit {0} };
 
@@ -186,9 +189,12 @@ impl Door for MemDoor {
 
     ghost counts = { counts_of };
 
+    ghost writes = { writes_of };
+
     fn next(&mut self) -> NextAnswer
         ensures told { Nexts result (state_of self.old) (state_of self.new) }
         ensures cause { NextCause result (counts_of self.old) (counts_of self.new) }
+        ensures no_write { writes_of self.new ≡ writes_of self.old }
         ensures runs { RunsNext result self.old self.new }
     {
         if is_spent(&mut self.calls) {
@@ -225,6 +231,7 @@ impl Door for MemDoor {
         ensures amount { IsAmount result (length into.old) }
         ensures told { ReadsIn into.old into.new result (state_of self.old) (state_of self.new) }
         ensures cause { ReadCause result (counts_of self.old) (counts_of self.new) }
+        ensures no_write { writes_of self.new ≡ writes_of self.old }
         ensures runs { RunsRead (length into.old) result self.old self.new }
     {
         if is_spent(&mut self.calls) || self.conn.read_fails() {
@@ -244,8 +251,10 @@ impl Door for MemDoor {
         ensures amount { IsTaken result (length bytes.now) }
         ensures told { WritesOut bytes.now result (state_of self.old) (state_of self.new) }
         ensures cause { WriteCause result (counts_of self.old) (counts_of self.new) }
+        ensures one { writes_of self.new ≡ asked_for (length bytes.now) result (writes_of self.old) }
         ensures runs { RunsWrite bytes.now result self.old self.new }
     {
+        count(&mut self.writes);
         if is_spent(&mut self.calls) || self.conn.write_fails() || !self.conn.put_out(bytes) {
             self.conn.break_write();
             count(&mut self.faults);
@@ -258,6 +267,7 @@ impl Door for MemDoor {
         requires up { (counts_of self.old).up ≡ true }
         ensures told { HangsUp (state_of self.old) (state_of self.new) }
         ensures cause { counts_of self.new ≡ closed (counts_of self.old) }
+        ensures no_write { writes_of self.new ≡ writes_of self.old }
         ensures same { SamePlan self.old self.new }
         ensures calls { self.new.calls ≡ self.old.calls }
     {

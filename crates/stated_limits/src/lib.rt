@@ -8,6 +8,7 @@ ghost use Rattle.site_traits.specs.declared.heard.TheConstants.{HEARD_MAX};
 ghost use Rattle.vnfm_base.specs.declared.name.TheConstants.{NAME_MAX};
 ghost use Rattle.vnfm_base.specs.declared.line.TheConstants.{LINE_MAX};
 ghost use Rattle.vnfm_base.specs.declared.moment.TheConstants.{MAX_MOMENT};
+ghost use Rattle.lcm_model.specs.declared.limits.TheConstants.{MAX_DESCRIPTORS, MAX_INSTANCES, MAX_SUBSCRIPTIONS};
 ghost use Rattle.event_codec.specs.declared.record_buf.TheConstants.{RECORD_MAX};
 ghost use Rattle.json_views.specs.declared.occurrences.TheConstants.{MAX_LISTED};
 
@@ -18,6 +19,16 @@ pub fn limits_of_words()
     ensures name { NAME_MAX ≡ 255 }
     ensures line { LINE_MAX ≡ 2048 }
     ensures moment { MAX_MOMENT ≡ 253402300799999 }
+{}
+
+/// The limits of lcm_model: 256 descriptors are onboarded at most, 1,000 instances live at one time, and 100 subscriptions of one
+/// role.
+///
+/// Source: own rules.
+pub fn limits_of_histories()
+    ensures descriptors { MAX_DESCRIPTORS ≡ 256 }
+    ensures instances { MAX_INSTANCES ≡ 1000 }
+    ensures subscriptions { MAX_SUBSCRIPTIONS ≡ 100 }
 {}
 
 /// The limit of event_codec: an event's spelling has 65,536 bytes at most.

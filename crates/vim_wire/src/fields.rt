@@ -7,10 +7,9 @@ ghost use Rattle.lcm_events.specs.declared.changes.Verb.{Verb as VerbOf};
 ghost use Rattle.vim_wire.specs.Lines.{name_field, way_word, verb_word, kind_word};
 ghost use Rattle.vnfm_base.specs.Text.{IsName};
 
-use itoa::Buffer;
 use lcm_events::{DefKind, Verb, Way};
 use std::str;
-use vnfm_base::{NAME_MAX, Name};
+use vnfm_base::{NAME_MAX, Name, whole_number};
 
 /// The number of this field, in decimal without a sign or a leading zero.
 pub(crate) fn number(field: &[u8]) -> Option<u64>
@@ -27,24 +26,6 @@ fn text(field: &[u8]) -> Option<&str>
     ensures value { IfSome result (λ text. text.now ≡ field.now) }
 {
     str::from_utf8(field).ok()
-}
-
-/// The number that this text is in decimal.
-fn whole_number(digits: &str) -> Option<u64>
-    ensures found { IfSome result (λ n. (n < 2 ^ 64) × (digits.now ≡ decimal n)) }
-    ensures again { (n : ℕ) → n < 2 ^ 64 → digits.now ≡ decimal n → result ≡ Some n }
-{
-    match digits.parse::<u64>() {
-        Ok(number) => {
-            let mut written = Buffer::new();
-            if written.format(number) == digits {
-                Some(number)
-            } else {
-                None
-            }
-        }
-        Err(_) => None,
-    }
 }
 
 /// The name of this field: an x, and two lower-case digits for each byte.

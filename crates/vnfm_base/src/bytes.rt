@@ -80,12 +80,3 @@ impl Bytes {
         self.content.is_empty()
     }
 }
-
-impl Clone for Bytes {
-    ghost is_clone = { λ a b. b ≡ a };
-
-    fn clone(&self) -> Result<Bytes, AllocError> {
-        let content = self.content.clone()?;
-        Ok(Bytes { content })
-    }
-}

@@ -2,6 +2,7 @@
 #![tactic(auto)]
 
 mod bytes;
+mod decimal;
 mod identifier;
 mod line;
 mod moment;
@@ -10,6 +11,7 @@ mod plain;
 mod text;
 
 pub use bytes::Bytes;
+pub use decimal::whole_number;
 pub use identifier::{Kind, ident, ident_read, ident_text};
 pub use line::{LINE_MAX, Line, LineFault};
 pub use moment::{MAX_MOMENT, Moment, moment_text};

@@ -2,7 +2,7 @@
 ghost use Rattle.std.specs.Prelude.{◌≡◌, ◌↔◌, IsTrue, IfOk, IsUtf8, [], length};
 ghost use Rattle.std.specs.String.{string_bytes};
 
-use std::alloc::{AllocError, Global};
+use std::alloc::Global;
 use std::marker::Model;
 use std::str;
 use thiserror::Error;
@@ -94,14 +94,5 @@ impl Text {
         ensures { IsTrue result ↔ (self.now ≡ []) }
     {
         self.text.is_empty()
-    }
-}
-
-impl Clone for Text {
-    ghost is_clone = { λ a b. b ≡ a };
-
-    fn clone(&self) -> Result<Text, AllocError> {
-        let text = self.text.clone()?;
-        Ok(Text { text })
     }
 }

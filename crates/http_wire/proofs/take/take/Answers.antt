@@ -15,7 +15,7 @@ returns-in-Err-request_of-clause-reads g c = only_takes g.D.Door.tells c.args.in
 pub returns-clause-reads : goal.returns-clause-reads
 returns-clause-reads g c = only_takes_and_passes g.D.Door.tells c.args.intake.now c.take_body.new.intake c.pass.new.self
     (takes_on g.D.Door.tells c.args.intake.now c.take_head.new.intake c.take_body.new.intake c.in-Ok-Some.ensures.takes c.in-Ok.ensures.takes)
-    c.pass.ensures.door c.pass.ensures.counts
+    c.pass.ensures.door c.pass.ensures.counts c.pass.ensures.writes
 
 pub returns-clause-came : goal.returns-clause-came
 returns-clause-came g c = takes_request g.D.Door.tells c.args.at_last c.args.intake.now c.take_body.new.intake c.pass.new.self

@@ -26,6 +26,7 @@ loop-at-preserved g c =
     record {
       within = let most = amount.1 in omega (arith, most, piece, room, within);
       counts = search rules;
+      writes = search rules;
       told = λ tells.
           heard_more c.loop-at.at c.in-Got.n c.loop-at.room _ c.read.new.into _ _ _ _ (omega (arith, room, within)) (take-put_mid c.loop-at.at (length c.loop-at.room - c.loop-at.at) c.loop-at.room c.read.new.into (c.loop-at.at + length c.read.new.into) refl (omega (arith, room, within)))
           (c.loop-at.invariant.told tells) (c.in-Got.ensures.told tells);

@@ -9,6 +9,7 @@ invariant-loop-at g l =
     record {
       within : l.at ≤ length l.fn.room;
       counts : g.D.Door.counts l.door ≡ g.D.Door.counts l.fn.door;
+      writes : g.D.Door.writes l.door ≡ g.D.Door.writes l.fn.door;
       told : g.D.Door.tells → HeardSoFar l.at l.room start (g.D.Door.state l.door);
     }
 

@@ -2,7 +2,7 @@ use Rattle.std.proofs.Common.{◌≡◌, ◌∙◌, ◌≤◌, ap, subst, sym, �
 use Rattle.std.specs.Result.{IfOk}
 use Rattle.std.specs.declared.alloc.AllocError.{AllocError}
 use Rattle.site_traits.specs.declared.mem_site.MemSite.{MemSite}
-use Rattle.site_traits.specs.declared.mem_site.Choice.{Choice}
+use Rattle.site_traits.specs.declared.mem_file.Choice.{Choice}
 use Rattle.site_traits.specs.declared.mem_jobs.KeptJob.{KeptJob}
 use Rattle.site_traits.specs.declared.past.SiteCall.{SiteCall}
 use Rattle.site_traits.specs.Book.{IsPlanned}
