@@ -76,6 +76,11 @@ abbrev pub Sends : {T E : Type 0} → List ℕ → List ℕ → List ℕ → Res
 Sends request old new (Ok t) = new ≡ old ++ request
 Sends request old new (Err e) = (k : ℕ) × (new ≡ old ++ take k request)
 
+-- all of a request goes out behind what was sent before, once, or a front of it
+abbrev pub SendsFront : Bool → List ℕ → List ℕ → List ℕ → Type 0
+SendsFront true request old new = new ≡ old ++ request
+SendsFront false request old new = (k : ℕ) × (new ≡ old ++ take k request)
+
 -- what a read does whose moment is told with it
 pub record GivesAt (before after : List ℕ) (result : Result (ℕ × ℕ) Lost) (old new : Incoming) : Type 0 where
   pub got : IfOk result (λ x. Got before after x.0 old new)

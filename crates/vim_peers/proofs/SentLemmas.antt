@@ -1,7 +1,8 @@
 -- What goes out of a line.
 use Rattle.std.proofs.Common.{◌≡◌, ℕ, Bool, true, false, List, ◌++◌, length, Option, Some, None, refl, sym, ap, subst, ◌∙◌, arith, inl}
 use Rattle.std.proofs.lemmas.List.{append-nil, take_all}
-use Rattle.vim_peers.specs.Sent.{GoesOut, SendsFront}
+use Rattle.peer_exchange.specs.Exchanges.{SendsFront}
+use Rattle.vim_peers.specs.Sent.{GoesOut}
 use Rattle.vim_peers.specs.declared.opened.Opened.{Opened}
 
 -- all of a line is a front of it

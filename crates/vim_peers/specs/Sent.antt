@@ -7,6 +7,7 @@ use Rattle.site_traits.specs.declared.jobs.LookAnswer.{LookAnswer}
 use Rattle.site_traits.specs.declared.jobs.LookAnswer.TheVariants as look
 use Rattle.site_traits.specs.declared.jobs.AbortAnswer.{AbortAnswer}
 use Rattle.site_traits.specs.declared.jobs.AbortAnswer.TheVariants as abort
+use Rattle.peer_exchange.specs.Exchanges.{SendsFront}
 use Rattle.vim_peers.specs.declared.opened.Opened.{Opened}
 
 -- whether it is an answer, and no failed call
@@ -26,11 +27,6 @@ has_aborted _ = true
 abbrev pub HadGoneOut : {C : Type 0} → (C → List ℕ) → Option (Opened C) → Option C → List ℕ → Type 0
 HadGoneOut outgoing old offered bytes =
     IsSomeAnd old (λ o. outgoing o.connection ≡ bytes) ⊎ IsSomeAnd offered (λ c. outgoing c ≡ bytes)
-
--- all of a line goes out behind what was sent before, once, or a front of it
-abbrev pub SendsFront : Bool → List ℕ → List ℕ → List ℕ → Type 0
-SendsFront true line old new = new ≡ old ++ line
-SendsFront false line old new = (k : ℕ) × (new ≡ old ++ take k line)
 
 -- The line goes out, once and whole, where there is an answer, on the connection that was open or on the one that the
 -- network offers next; else a front of it does, or nothing.

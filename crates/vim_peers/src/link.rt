@@ -3,9 +3,10 @@ ghost use Rattle.std.specs.Prelude.{◌≡◌, ◌≤◌, ◌<◌, ◌^◌, [], 
 ghost use Rattle.std.specs.Result.{is_ok};
 ghost use Rattle.std.specs.String.{string_bytes};
 ghost use Rattle.net_calls.specs.Network.{offer_of};
+ghost use Rattle.peer_exchange.specs.Exchanges.{SendsFront};
 ghost use Rattle.vim_peers.specs.Lines.{IsLineOf, IsNoLine};
 ghost use Rattle.vim_peers.specs.Links.{EndsBeforeNext, IsReady, IsSpent};
-ghost use Rattle.vim_peers.specs.Sent.{ConnectsAtMostOnce, GoesOut, HadGoneOut, SendsFront};
+ghost use Rattle.vim_peers.specs.Sent.{ConnectsAtMostOnce, GoesOut, HadGoneOut};
 
 use crate::opened::Opened;
 use crate::replies::LineReply;
