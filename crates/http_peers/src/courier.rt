@@ -1,17 +1,20 @@
 //! A courier that posts over HTTP.
 ghost use Rattle.std.specs.Prelude.{◌≡◌, ℕ, [], IfSome, if◌then◌else◌};
+ghost use Rattle.url.specs.Parts.{Parts};
 ghost use Rattle.site_traits.specs.Answer.{Answer};
 ghost use Rattle.site_traits.specs.Counts.{one_more};
 ghost use Rattle.site_traits.specs.Peers.{Posts, PostCause};
 ghost use Rattle.http_peers.specs.Peers.{counted, IsWholeAnswer};
+ghost use Rattle.http_peers.specs.Targets.{IsTargetOf, TellsOf};
 
 use crate::caller::HttpCaller;
-use crate::counted::{count_one, note_failed};
+use crate::counted::count_one;
 use crate::targets::{Target, target_of, url_of};
 use edge_limits::{POST, Pulse};
 use http::Method;
 use http_client::request_bytes;
 use net_calls::{HostNet, Stopwatch};
+use peer_exchange::note_failed;
 use site_traits::{Courier, PostAnswer};
 use std::alloc::{AllocError, Global};
 use std::cell::Cell;
@@ -93,7 +96,9 @@ impl<'a, N: HostNet + Drop, T: Stopwatch + Drop> RealCourier<'a, N, T> {
 }
 
 /// The target of this callback.
-fn target_at(alloc: Global, uri: &Line) -> Option<Target> {
+fn target_at(alloc: Global, uri: &Line) -> Option<Target>
+    ensures { IfSome result (λ target. (url : Parts) × TellsOf uri.now url × IsTargetOf url target) }
+{
     let url = url_of(alloc, uri.as_str()).ok()?;
     target_of(alloc, &url).ok()
 }
