@@ -7,7 +7,7 @@ mod pulse;
 
 pub use laws::limits_are_these;
 pub use limits::{
-    BUSY, CONNECT, CONNECTION, Exchange, INFRASTRUCTURE, LINGER, ORCHESTRATOR, PIECE, POST,
+    BUSY, CONNECT, CONNECTION, ENDING, Exchange, INFRASTRUCTURE, LINGER, ORCHESTRATOR, PIECE, POST,
     SILENCE_BEFORE, SILENCE_WITHIN, STUCK, Stage, TAKEN, WAITING, WHOLE, exchange_limit,
     lingering_limit, reading_limit, writing_limit,
 };

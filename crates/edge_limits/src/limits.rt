@@ -53,6 +53,13 @@ pub const INFRASTRUCTURE: Exchange = Exchange {
     whole: 5_000,
 };
 
+/// Those of the end of a connection to an infrastructure on which a call failed, before another is opened: the reply
+/// that came late, and then the end.
+pub const ENDING: Exchange = Exchange {
+    silence: 1_000,
+    whole: 1_000,
+};
+
 /// Those of an orchestrator: no turn may stand still for longer.
 pub const ORCHESTRATOR: Exchange = Exchange {
     silence: 5_000,

@@ -1,1 +1,4 @@
+pub mod Gone
 pub mod Peers
+pub mod Sent
+pub mod Targets

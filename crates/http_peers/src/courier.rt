@@ -1,17 +1,24 @@
 //! A courier that posts over HTTP.
-ghost use Rattle.std.specs.Prelude.{◌≡◌, ℕ, [], IfSome, if◌then◌else◌};
+ghost use Rattle.std.specs.Prelude.{◌≡◌, ℕ, [], codes, IfSome, if◌then◌else◌};
+ghost use Rattle.std.specs.Option.{is_some};
+ghost use Rattle.http_client.specs.Requests.{request};
+ghost use Rattle.net_calls.specs.Network.{offer_of};
+ghost use Rattle.url.specs.Parts.{Parts};
 ghost use Rattle.site_traits.specs.Answer.{Answer};
 ghost use Rattle.site_traits.specs.Counts.{one_more};
 ghost use Rattle.site_traits.specs.Peers.{Posts, PostCause};
 ghost use Rattle.http_peers.specs.Peers.{counted, IsWholeAnswer};
+ghost use Rattle.http_peers.specs.Sent.{HadGoneOut, Sends, was_posted};
+ghost use Rattle.http_peers.specs.Targets.{IsTargetOf, TellsOf};
 
 use crate::caller::HttpCaller;
-use crate::counted::{count_one, note_failed};
+use crate::counted::count_one;
 use crate::targets::{Target, target_of, url_of};
 use edge_limits::{POST, Pulse};
 use http::Method;
 use http_client::request_bytes;
 use net_calls::{HostNet, Stopwatch};
+use peer_exchange::note_failed;
 use site_traits::{Courier, PostAnswer};
 use std::alloc::{AllocError, Global};
 use std::cell::Cell;
@@ -73,15 +80,15 @@ impl<'a, N: HostNet + Drop, T: Stopwatch + Drop> RealCourier<'a, N, T> {
     fn status_of(&mut self, uri: &Line, body: &[u8]) -> Option<u16>
         ensures counts { (self.new.calls ≡ self.old.calls) × (self.new.faults ≡ self.old.faults) }
         ensures heard { IfSome result (λ status. (answer : Answer) × IsWholeAnswer self.new.caller.room.bytes.items answer × (answer.status ≡ status)) }
+        ensures sends { N.tells → N.Connection.tells → Sends (HadGoneOut N.Connection.outgoing self.old.caller.opened (λ a. offer_of (N.peers self.old.caller.net a))) (λ url _. TellsOf uri.now url) (λ host path. request (codes "POST") host path body.now) (is_some result) self.old.caller.log.sent self.new.caller.log.sent }
     {
-        let target = target_at(self.alloc, uri)?;
-        let bytes = request_bytes(
-            self.alloc,
-            &Method::POST,
-            &target.host,
-            &target.path,
-            body,
-        ).ok()?;
+        let Some(target) = target_at(self.alloc, uri) else {
+            return None;
+        };
+        let Ok(bytes) = request_bytes(self.alloc, &Method::POST, &target.host, &target.path, body)
+        else {
+            return None;
+        };
         if !self.caller.connect(self.alloc, &target.address) {
             return None;
         }
@@ -93,7 +100,9 @@ impl<'a, N: HostNet + Drop, T: Stopwatch + Drop> RealCourier<'a, N, T> {
 }
 
 /// The target of this callback.
-fn target_at(alloc: Global, uri: &Line) -> Option<Target> {
+fn target_at(alloc: Global, uri: &Line) -> Option<Target>
+    ensures { IfSome result (λ target. (url : Parts) × TellsOf uri.now url × IsTargetOf url target) }
+{
     let url = url_of(alloc, uri.as_str()).ok()?;
     target_of(alloc, &url).ok()
 }
@@ -111,6 +120,7 @@ impl<'a, N: HostNet + Drop, T: Stopwatch + Drop> Courier for RealCourier<'a, N, 
     fn post(&mut self, uri: &Line, body: &[u8]) -> PostAnswer
         ensures told { ⊥ → Posts uri.now body.now result [] [] }
         ensures heard { (status : ℕ) → result ≡ PostAnswer.Status status → (answer : Answer) × IsWholeAnswer self.new.caller.room.bytes.items answer × (answer.status ≡ status) }
+        ensures sends { N.tells → N.Connection.tells → Sends (HadGoneOut N.Connection.outgoing self.old.caller.opened (λ a. offer_of (N.peers self.old.caller.net a))) (λ url _. TellsOf uri.now url) (λ host path. request (codes "POST") host path body.now) (was_posted result) self.old.caller.log.sent self.new.caller.log.sent }
         ensures cause { PostCause result (counted self.old.calls self.old.faults) (counted self.new.calls self.new.faults) }
     {
         count_one(&mut self.calls);

@@ -5,12 +5,13 @@ ghost use Rattle.site_traits.specs.Peers.{Asks, Polls, CallCause};
 ghost use Rattle.http_peers.specs.Peers.{counted, silent, IsWholeAnswer};
 
 use crate::caller::HttpCaller;
-use crate::counted::{count_one, note_asked, note_failed};
+use crate::counted::count_one;
 use crate::targets::{Target, TargetFault, target_of, url_of};
 use edge_limits::{ORCHESTRATOR, Pulse};
 use http::Method;
 use http_client::request_bytes;
 use net_calls::{HostNet, Stopwatch};
+use peer_exchange::{note_asked, note_failed};
 use site_traits::{Call, Heard, Orchestrator};
 use std::alloc::{AllocError, Global};
 use std::cell::Cell;

@@ -1,4 +1,8 @@
 //! Where a request goes, by a text from outside.
+ghost use Rattle.std.specs.Prelude.{◌≡◌, IfOk, None, Ok};
+ghost use Rattle.url.specs.Parser.{parse_url};
+ghost use Rattle.http_peers.specs.Targets.{IsTargetOf, TellsOf, path_of};
+
 use std::alloc::Global;
 use url::Url;
 use vnfm_base::{Line, LineFault, Name};
@@ -24,7 +28,9 @@ pub enum TargetFault {
 }
 
 /// The URL of this text, which may lack its scheme.
-pub fn url_of(alloc: Global, text: &str) -> Result<Url, TargetFault> {
+pub fn url_of(alloc: Global, text: &str) -> Result<Url, TargetFault>
+    ensures { IfOk result (TellsOf text.now) }
+{
     if text.starts_with("http://") {
         return parsed(alloc, text);
     }
@@ -35,7 +41,9 @@ pub fn url_of(alloc: Global, text: &str) -> Result<Url, TargetFault> {
 }
 
 /// The URL that is this text.
-fn parsed(alloc: Global, text: &str) -> Result<Url, TargetFault> {
+fn parsed(alloc: Global, text: &str) -> Result<Url, TargetFault>
+    ensures { IfOk result (λ url. parse_url None text.now ≡ Ok url) }
+{
     match Url::parse(alloc, text) {
         Ok(url) => Ok(url),
         Err(url::ParseError::OutOfMemory) => Err(TargetFault::Memory),
@@ -44,15 +52,16 @@ fn parsed(alloc: Global, text: &str) -> Result<Url, TargetFault> {
 }
 
 /// The target of this URL.
-pub fn target_of(alloc: Global, url: &Url) -> Result<Target, TargetFault> {
+pub fn target_of(alloc: Global, url: &Url) -> Result<Target, TargetFault>
+    ensures { IfOk result (IsTargetOf url.now) }
+{
     let Some(host) = url.host_str() else {
         return Err(TargetFault::NoTarget);
     };
     if url.scheme() != "http" {
         return Err(TargetFault::NoTarget);
     }
-    let Ok(address) = format!(in alloc; "{host}:{}", url.port_or_known_default().unwrap_or(80))
-    else {
+    let Ok(address) = format!(in alloc; "{host}:{}", url.port().unwrap_or(80)) else {
         return Err(TargetFault::Memory);
     };
     let named = match url.port() {
@@ -71,7 +80,9 @@ pub fn target_of(alloc: Global, url: &Url) -> Result<Target, TargetFault> {
 }
 
 /// The path and query of this URL.
-fn path_of(alloc: Global, url: &Url) -> Result<Line, TargetFault> {
+fn path_of(alloc: Global, url: &Url) -> Result<Line, TargetFault>
+    ensures { IfOk result (λ path. path ≡ path_of url.now) }
+{
     let found = match url.query() {
         Some(query) => match format!(in alloc; "{}?{query}", url.path()) {
             Ok(text) => Line::of(alloc, text.as_bytes()),

@@ -65,8 +65,8 @@ pub trait HostNet {
     /// The listeners that are offered, the next first; none where one can't be had.
     ghost offered: { Self → List (Option Self.Listener) };
 
-    /// The peers that are offered, the next first; none where one can't be had.
-    ghost peers: { Self → List (Option Self.Connection) };
+    /// The peers that are offered at an address, the next first; none where one can't be had.
+    ghost peers: { Self → List ℕ → List (Option Self.Connection) };
 
     /// How often it was waited, for how long at most the last time, and how often that failed.
     ghost waits: { Self → Waits };
@@ -74,7 +74,7 @@ pub trait HostNet {
     /// Listens at this address, `HOST:PORT`.
     fn listen(&mut self, address: &str) -> io::Result<Self::Listener>
         ensures told { tells → Listens address_of address.now result (offered self.old) (offered self.new) }
-        ensures peers { tells → peers self.new ≡ peers self.old }
+        ensures peers { tells → (a : List ℕ) → peers self.new a ≡ peers self.old a }
         ensures waits { tells → waits self.new ≡ waits self.old };
 
     /// The next connection that has come here, where one has. It doesn't wait.
@@ -95,14 +95,14 @@ pub trait HostNet {
         requires { length connections.now ≤ 64 }
         ensures told { tells → WaitsFor limit result (waits self.old) (waits self.new) }
         ensures offered { tells → offered self.new ≡ offered self.old }
-        ensures peers { tells → peers self.new ≡ peers self.old };
+        ensures peers { tells → (a : List ℕ) → peers self.new a ≡ peers self.old a };
 
     /// Connects to what listens at this address, and waits so many milliseconds for it.
     ///
     /// Refusals: `InvalidInput` where it is no literal address and port; other faults of the call.
     fn connect(&mut self, address: &str, limit: u32) -> io::Result<Self::Connection>
         requires limit { 1 ≤ limit }
-        ensures told { tells → Has result (peers self.old) (peers self.new) }
+        ensures told { tells → Has result (peers self.old address.now) (peers self.new address.now) }
         ensures offered { tells → offered self.new ≡ offered self.old }
         ensures waits { tells → waits self.new ≡ waits self.old };
 }
@@ -137,7 +137,7 @@ impl<'a, R: Net<Listener = TcpListener, Stream = TcpStream>, T: Drop> HostNet fo
 
     ghost offered = { λ _. [] };
 
-    ghost peers = { λ _. [] };
+    ghost peers = { λ _ _. [] };
 
     ghost waits = { λ _. record { count = 0; last = 0; failed = 0 } };
 

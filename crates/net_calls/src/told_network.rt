@@ -93,7 +93,7 @@ impl HostNet for MemNet {
 
     type Connection = MemConnection;
 
-    ghost use Rattle.std.specs.Prelude.{◌≡◌, ◌↔◌, IsErr, true, length};
+    ghost use Rattle.std.specs.Prelude.{◌≡◌, ◌↔◌, ℕ, List, IsErr, true, length};
     ghost use Rattle.net_calls.specs.Network.{WaitsFor, waits_of};
 
     ghost tells = { Unit {0} };
@@ -104,7 +104,7 @@ impl HostNet for MemNet {
 
     ghost offered = { λ n. n.listeners.items };
 
-    ghost peers = { λ n. n.peers.items };
+    ghost peers = { λ n _. n.peers.items };
 
     ghost waits = { λ n. waits_of n.waits n.last_wait n.failed };
 
@@ -133,7 +133,7 @@ impl HostNet for MemNet {
         ensures told { Unit {0} → WaitsFor limit result (waits_of self.old.waits self.old.last_wait self.old.failed)
             (waits_of self.new.waits self.new.last_wait self.new.failed) }
         ensures offered { Unit {0} → self.new.listeners.items ≡ self.old.listeners.items }
-        ensures peers { Unit {0} → self.new.peers.items ≡ self.old.peers.items }
+        ensures peers { Unit {0} → (a : List ℕ) → self.new.peers.items ≡ self.old.peers.items }
         ensures breaks { IsErr result ↔ (self.old.breaks ≡ true) }
         ensures same { self.new.breaks ≡ self.old.breaks }
     {

@@ -3,4 +3,5 @@ pub mod Clock
 pub mod Door
 pub mod Faults
 pub mod Having
+pub mod Jobs
 pub mod Site

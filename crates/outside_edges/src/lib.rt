@@ -3,6 +3,7 @@
 #![tactic(auto)]
 
 mod counted;
+mod job_log;
 mod jobs;
 mod no_peers;
 mod real_clock;
@@ -10,6 +11,7 @@ mod real_door;
 mod real_sink;
 mod real_site;
 
+pub use job_log::JobLog;
 pub use jobs::{Jobs, NoJobs};
 pub use no_peers::{NoCourier, NoOrchestrator};
 pub use real_clock::RealClock;

@@ -1,12 +1,13 @@
 //! The journal's real file, under its exclusive lock.
-ghost use Rattle.std.specs.Prelude.{◌≡◌, ◌≤◌, ◌+◌, IfOk, OnErr, OnOk, IsErr, None, length, take, drop, true, if◌then◌else◌};
+ghost use Rattle.std.specs.Prelude.{◌≡◌, ◌≤◌, ◌+◌, ◌∷◌, IfOk, OnErr, OnOk, IsErr, None, length, take, drop, true, if◌then◌else◌};
 ghost use Rattle.std.specs.Int.{w32, from_be_bytes};
 ghost use Rattle.std.specs.IoError.{error_kind};
-ghost use Rattle.site_traits.specs.Counts.{Ask, asked, DiskCause, one_more};
-ghost use Rattle.site_traits.specs.Site.{Reads, Writes, Cuts, Syncs};
+ghost use Rattle.site_traits.specs.Counts.{Ask, asked, DiskCause, abort_counts, begin_counts, look_counts, one_more};
+ghost use Rattle.site_traits.specs.Site.{Aborts, Begins, Cuts, Looks, Reads, Syncs, Writes};
 ghost use Rattle.outside_edges.specs.Faults.{CountsOne};
 ghost use Rattle.host_calls.specs.Files.{free, new_file};
 ghost use Rattle.outside_edges.specs.Having.{Goes, IsLent, LeavesAll, MakesAtAll, Seeks, lost_by, lost_in, to_lend, to_name};
+ghost use Rattle.outside_edges.specs.Jobs.{JobCall};
 ghost use Rattle.outside_edges.specs.Site.{counts_of, manager_by, number_in, state_in, IsHad, IsExplained, IsHeld, OneCall, why_by};
 
 use crate::counted::{count_call, count_fault};
@@ -89,6 +90,8 @@ impl<F: HostFile + Drop, J: Jobs<F> + Drop> RealSite<F, J> {
     pub fn connect(&mut self) -> bool
         ensures faults { self.new.vim_faults ≡ (if result then self.old.vim_faults else one_more self.old.vim_faults) }
         ensures rest { self.new ≡ record self.old { jobs = self.new.jobs; vim_faults = self.new.vim_faults } }
+        ensures asks { J.calls self.new.jobs ≡ JobCall.connecting result ∷ J.calls self.old.jobs }
+        ensures manager { J.manager self.new.jobs ≡ J.manager self.old.jobs }
     {
         let open = self.jobs.connect();
         if !open {
@@ -258,6 +261,7 @@ impl<F: HostFile, J: Jobs<F>> Site for RealSite<F, J> {
         ensures length { F.tells → IfOk result (λ n. n ≡ length (state_in F.state self.old.file).image) }
         ensures told { F.tells → Reads (state_in F.state self.old.file) (state_in F.state self.new.file) }
         ensures cause { DiskCause (counts_of self.old) (counts_of self.new) result }
+        ensures jobs { self.new.jobs ≡ self.old.jobs }
     {
         length_of(&mut self.file, &mut self.faults)
     }
@@ -270,6 +274,8 @@ impl<F: HostFile, J: Jobs<F>> Site for RealSite<F, J> {
         ensures told { F.tells → Reads (state_in F.state self.old.file) (state_in F.state self.new.file) }
         ensures cause { DiskCause (counts_of self.old) (counts_of self.new) result }
         ensures noted { OnOk result (J.manager self.new.jobs ≡ manager_by (number_in at into.new) (J.manager self.old.jobs)) }
+        ensures unnoted { OnErr result (self.new.jobs ≡ self.old.jobs) }
+        ensures unasked { J.calls self.new.jobs ≡ J.calls self.old.jobs }
     {
         match read_from(&mut self.file, at, into, &mut self.faults) {
             Ok(()) => {
@@ -288,6 +294,7 @@ impl<F: HostFile, J: Jobs<F>> Site for RealSite<F, J> {
         ensures one { F.tells → OneCall F.calls self.old.file self.new.file }
         ensures told { F.tells → Writes at bytes.now result (state_in F.state self.old.file) (state_in F.state self.new.file) }
         ensures cause { DiskCause (asked Ask.write (counts_of self.old)) (counts_of self.new) result }
+        ensures jobs { self.new.jobs ≡ self.old.jobs }
     {
         count_call(&mut self.writes);
         write_to(&mut self.file, at, bytes, &mut self.faults)
@@ -299,6 +306,7 @@ impl<F: HostFile, J: Jobs<F>> Site for RealSite<F, J> {
         ensures one { F.tells → OneCall F.calls self.old.file self.new.file }
         ensures told { F.tells → Cuts to result (state_in F.state self.old.file) (state_in F.state self.new.file) }
         ensures cause { DiskCause (asked Ask.cut (counts_of self.old)) (counts_of self.new) result }
+        ensures jobs { self.new.jobs ≡ self.old.jobs }
     {
         count_call(&mut self.cuts);
         cut_to(&mut self.file, to, &mut self.faults)
@@ -309,12 +317,19 @@ impl<F: HostFile, J: Jobs<F>> Site for RealSite<F, J> {
         ensures one { F.tells → OneCall F.calls self.old.file self.new.file }
         ensures told { F.tells → Syncs result (state_in F.state self.old.file) (state_in F.state self.new.file) }
         ensures cause { DiskCause (asked Ask.sync (counts_of self.old)) (counts_of self.new) result }
+        ensures jobs { self.new.jobs ≡ self.old.jobs }
     {
         count_call(&mut self.syncs);
         sync_of(&mut self.file, &mut self.faults)
     }
 
-    fn begin(&mut self, tag: &Tag, act: &Act) -> BeginAnswer {
+    fn begin(&mut self, tag: &Tag, act: &Act) -> BeginAnswer
+        ensures told { F.tells → Begins tag.now act.now result (state_in F.state self.old.file) (state_in F.state self.new.file) }
+        ensures cause { counts_of self.new ≡ begin_counts result (counts_of self.old) }
+        ensures asks { J.calls self.new.jobs ≡ JobCall.beginning tag.now act.now result ∷ J.calls self.old.jobs }
+        ensures manager { J.manager self.new.jobs ≡ J.manager self.old.jobs }
+        ensures file { self.new.file ≡ self.old.file }
+    {
         match self.jobs.begin(tag, act) {
             BeginAnswer::Begun => BeginAnswer::Begun,
             BeginAnswer::Refused(code) => {
@@ -328,7 +343,13 @@ impl<F: HostFile, J: Jobs<F>> Site for RealSite<F, J> {
         }
     }
 
-    fn look(&mut self, tag: &Tag) -> LookAnswer {
+    fn look(&mut self, tag: &Tag) -> LookAnswer
+        ensures told { F.tells → Looks tag.now result (state_in F.state self.old.file) (state_in F.state self.new.file) }
+        ensures cause { counts_of self.new ≡ look_counts result (counts_of self.old) }
+        ensures asks { J.calls self.new.jobs ≡ JobCall.looking tag.now result ∷ J.calls self.old.jobs }
+        ensures manager { J.manager self.new.jobs ≡ J.manager self.old.jobs }
+        ensures file { self.new.file ≡ self.old.file }
+    {
         match self.jobs.look(tag) {
             LookAnswer::Failed => {
                 count_fault(&mut self.vim_faults);
@@ -339,7 +360,13 @@ impl<F: HostFile, J: Jobs<F>> Site for RealSite<F, J> {
         }
     }
 
-    fn abort(&mut self, tag: &Tag) -> AbortAnswer {
+    fn abort(&mut self, tag: &Tag) -> AbortAnswer
+        ensures told { F.tells → Aborts tag.now result (state_in F.state self.old.file) (state_in F.state self.new.file) }
+        ensures cause { counts_of self.new ≡ abort_counts result (counts_of self.old) }
+        ensures asks { J.calls self.new.jobs ≡ JobCall.aborting tag.now result ∷ J.calls self.old.jobs }
+        ensures manager { J.manager self.new.jobs ≡ J.manager self.old.jobs }
+        ensures file { self.new.file ≡ self.old.file }
+    {
         match self.jobs.abort(tag) {
             AbortAnswer::Asked => AbortAnswer::Asked,
             AbortAnswer::Failed => {

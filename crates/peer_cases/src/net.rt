@@ -52,7 +52,7 @@ impl<'a> HostNet for CaseNet<'a> {
 
     ghost offered = { λ _. [] };
 
-    ghost peers = { λ _. [] };
+    ghost peers = { λ _ _. [] };
 
     ghost waits = { λ _. record { count = 0; last = 0; failed = 0 } };
 

@@ -49,17 +49,22 @@ pub record IsReplied (is : Bool → List ℕ → Judged → Type 0) (tells : Typ
   pub read : tells → HasRead bytes old new
   pub end : tells → ended ≡ true → new.left ≡ []
 
--- why there was no reply, by what came: where the connection ended, what came was no whole reply all the same; where it
--- was refused, it was judged so; where it was too long, as many bytes came as there is room for; and where memory was
--- wanted, so it was told, or none was had to keep what came
+-- nothing came, or what came was judged a part of a reply
+abbrev pub IsPartYet : (Bool → List ℕ → Judged → Type 0) → List ℕ → Type 0
+IsPartYet is bytes = (bytes ≡ []) ⊎ is false bytes judged.Part
+
+-- Why there was no reply, by what came. Where the request couldn't be sent, nothing came; where the connection ended,
+-- what came was no whole reply all the same; where it was refused, it was judged so; where it was too long, as many
+-- bytes came as there is room for; where memory was wanted, so it was told, or none was had to keep more; and but for
+-- these what came was a part of a reply.
 abbrev pub IsLost : (Bool → List ℕ → Judged → Type 0) → ℕ → List ℕ → Lost → Type 0
-IsLost is most bytes lost.Unsent = Unit {0}
-IsLost is most bytes lost.Late = Unit {0}
-IsLost is most bytes lost.Unread = Unit {0}
+IsLost is most bytes lost.Unsent = bytes ≡ []
+IsLost is most bytes lost.Late = IsPartYet is bytes
+IsLost is most bytes lost.Unread = IsPartYet is bytes
 IsLost is most bytes lost.Ended = is true bytes judged.Part ⊎ is true bytes judged.Never
 IsLost is most bytes lost.NoReply = is false bytes judged.Never
-IsLost is most bytes lost.TooLong = most ≤ length bytes
-IsLost is most bytes lost.Memory = Unit {0}
+IsLost is most bytes lost.TooLong = (most ≤ length bytes) × IsPartYet is bytes
+IsLost is most bytes lost.Memory = IsPartYet is bytes ⊎ ((ended : Bool) × is ended bytes judged.Unknown)
 
 -- what came in, by the answer
 abbrev pub Receives : (Bool → List ℕ → Judged → Type 0) → Type 0 → ℕ → Exchange → ℕ → List ℕ → Incoming → Incoming → Result ℕ Lost → Type 0
@@ -70,6 +75,11 @@ Receives is tells most limits began bytes old new (Err why) = IsLost is most byt
 abbrev pub Sends : {T E : Type 0} → List ℕ → List ℕ → List ℕ → Result T E → Type 0
 Sends request old new (Ok t) = new ≡ old ++ request
 Sends request old new (Err e) = (k : ℕ) × (new ≡ old ++ take k request)
+
+-- all of a request goes out behind what was sent before, once, or a front of it
+abbrev pub SendsFront : Bool → List ℕ → List ℕ → List ℕ → Type 0
+SendsFront true request old new = new ≡ old ++ request
+SendsFront false request old new = (k : ℕ) × (new ≡ old ++ take k request)
 
 -- what a read does whose moment is told with it
 pub record GivesAt (before after : List ℕ) (result : Result (ℕ × ℕ) Lost) (old new : Incoming) : Type 0 where

@@ -4,8 +4,10 @@
 
 mod exchanging;
 mod looking;
+mod noted;
 mod replies;
 
 pub use exchanging::{Lost, Room, Spent, exchange};
 pub use looking::{Look, look_now};
+pub use noted::{note_asked, note_failed};
 pub use replies::{Judged, Reply};

@@ -9,7 +9,7 @@ use Rattle.site_traits.specs.declared.jobs.AbortAnswer.{AbortAnswer}
 use Rattle.site_traits.specs.declared.jobs.AbortAnswer.TheVariants as abort
 use Rattle.vim_wire.specs.declared.lines.VimReply.{VimReply}
 use Rattle.vim_wire.specs.declared.lines.VimReply.TheVariants as reply
-use Rattle.vim_peers.specs.Lines.{IsLineOf}
+use Rattle.vim_peers.specs.Lines.{IsLineOf, IsNoLine}
 use Rattle.vim_peers.specs.declared.opened.Opened.{Opened}
 
 -- the connection was read to its end: no byte of it is left
@@ -40,22 +40,27 @@ IsReady (Some o) = o.failed ≡ false
 abbrev pub IsSpent : {C : Type 0} → Option (Opened C) → Type 0
 IsSpent opened = IfSome opened (λ o. o.failed ≡ true)
 
--- what came is the line that says what a begin answers, or it failed
-abbrev pub BeginIs : List ℕ → BeginAnswer → Type 0
-BeginIs came begin.Begun = IsLineOf came reply.Begun
-BeginIs came (begin.Refused code) = IsLineOf came (reply.Refused code)
-BeginIs came begin.Failed = Unit {0}
+-- what a reply says of a begin: one to another call says that it failed
+abbrev pub begin_by : VimReply → BeginAnswer
+begin_by reply.Begun = begin.Begun
+begin_by (reply.Refused code) = begin.Refused code
+begin_by _ = begin.Failed
 
--- what came is the line that says what a look answers, or it failed
-abbrev pub LookIs : List ℕ → LookAnswer → Type 0
-LookIs came look.Absent = IsLineOf came reply.Absent
-LookIs came look.Running = IsLineOf came reply.Running
-LookIs came (look.Done name) = IsLineOf came (reply.Done name)
-LookIs came (look.Broken code) = IsLineOf came (reply.Broken code)
-LookIs came look.Aborted = IsLineOf came reply.Aborted
-LookIs came look.Failed = Unit {0}
+-- what a reply says of a look
+abbrev pub look_by : VimReply → LookAnswer
+look_by reply.Absent = look.Absent
+look_by reply.Running = look.Running
+look_by (reply.Done name) = look.Done name
+look_by (reply.Broken code) = look.Broken code
+look_by reply.Aborted = look.Aborted
+look_by _ = look.Failed
 
--- what came is the line that says what an abort answers, or it failed
-abbrev pub AbortIs : List ℕ → AbortAnswer → Type 0
-AbortIs came abort.Asked = IsLineOf came reply.Asked
-AbortIs came abort.Failed = Unit {0}
+-- what a reply says of an abort
+abbrev pub abort_by : VimReply → AbortAnswer
+abort_by reply.Asked = abort.Asked
+abort_by _ = abort.Failed
+
+-- the answer is what came: what the reply says whose line it is, and where it is no reply's line, that the call failed
+pub record IsSaid {A : Type 0} (by : VimReply → A) (failed : A) (came : List ℕ) (answer : A) : Type 0 where
+  pub said : (reply : VimReply) → IsLineOf came reply → answer ≡ by reply
+  pub unsaid : IsNoLine came → answer ≡ failed

@@ -1,14 +1,19 @@
 //! Calls on jobs, each a line.
-ghost use Rattle.std.specs.Prelude.{◌≡◌, ℕ, List};
-ghost use Rattle.vim_peers.specs.Lines.{IsLineOf};
-ghost use Rattle.vim_peers.specs.Links.{BeginIs, LookIs, AbortIs};
+ghost use Rattle.std.specs.Prelude.{◌≡◌, ◌∷◌, [], false, IfOk, IfSome, IsTrue, None, OnErr, OnOk};
+ghost use Rattle.std.specs.String.{string_bytes};
+ghost use Rattle.net_calls.specs.Network.{offer_of};
+ghost use Rattle.outside_edges.specs.Jobs.{JobCall};
+ghost use Rattle.vim_wire.specs.Lines.{call_line};
+ghost use Rattle.vim_wire.specs.declared.lines.VimCall.TheVariants as calls;
+ghost use Rattle.vim_peers.specs.Links.{IsReady, IsSaid, abort_by, begin_by, look_by};
+ghost use Rattle.vim_peers.specs.Sent.{GoesOut, HadGoneOut, has_aborted, has_begun, has_looked};
 
 use crate::link::VimLink;
-use crate::noted::{note_asked, note_failed};
 use edge_limits::Pulse;
 use lcm_events::{Act, Tag};
 use net_calls::{HostNet, Stopwatch};
-use outside_edges::Jobs;
+use outside_edges::{JobLog, Jobs};
+use peer_exchange::{note_asked, note_failed};
 use site_traits::{AbortAnswer, BeginAnswer, LookAnswer};
 use std::alloc::{AllocError, Global};
 use std::cell::Cell;
@@ -25,29 +30,34 @@ pub struct VimPeer<'a, N: HostNet + Drop, T: Stopwatch + Drop> {
     link: VimLink<N, T>,
     pulse: &'a Cell<Pulse>,
     manager: u32,
+    log: JobLog,
 }
 
 impl<'a, N: HostNet + Drop, T: Stopwatch + Drop> VimPeer<'a, N, T> {
-    /// One that has no address yet, for the manager 0. Its one refusal is want of memory.
+    /// One that has no address yet, for the manager 0, on which no call was made. Its one refusal is want of memory.
     pub fn made(
         alloc: Global,
         net: N,
         watch: T,
         pulse: &'a Cell<Pulse>,
-    ) -> Result<VimPeer<'a, N, T>, AllocError> {
+    ) -> Result<VimPeer<'a, N, T>, AllocError>
+        ensures { IfOk result (λ peer. (peer.manager ≡ 0) × (peer.log.calls ≡ []) × (peer.link.opened ≡ None) × (peer.link.net ≡ net)) }
+    {
         let link = VimLink::new(alloc, net, watch)?;
         Ok(VimPeer {
             alloc,
             link,
             pulse,
             manager: 0,
+            log: JobLog::new(),
         })
     }
 
     /// Calls go to this literal address and port from now on. Its one refusal is want of memory.
     pub fn to(&mut self, address: &str) -> Result<(), AllocError>
-        ensures manager { self.new.manager ≡ self.old.manager }
-        ensures opened { self.new.link.opened ≡ self.old.link.opened }
+        ensures to { OnOk result (self.new ≡ record self.old { link = record self.old.link { address = self.new.link.address } }) }
+        ensures address { OnOk result (string_bytes self.new.link.address ≡ address.now) }
+        ensures refused { OnErr result (self.new ≡ self.old) }
     {
         let kept = String::from_str(self.alloc, address)?;
         self.link.to(kept);
@@ -59,54 +69,70 @@ impl<'a, N: HostNet + Drop, T: Stopwatch + Drop> VimPeer<'a, N, T> {
 impl<'a, N: HostNet + Drop, T: Stopwatch + Drop> Jobs<File> for VimPeer<'a, N, T> {
     ghost manager = { λ peer. peer.manager };
 
+    ghost calls = { λ peer. peer.log.calls };
+
     fn of_manager(&mut self, number: u32) {
         self.manager = number;
     }
 
-    fn connect(&mut self) -> bool {
+    fn connect(&mut self) -> bool
+        ensures vain { ⊥ → result ≡ false }
+        ensures manager { self.new.manager ≡ self.old.manager }
+        ensures asks { self.new.log.calls ≡ JobCall.connecting result ∷ self.old.log.calls }
+        ensures ready { IsTrue result → IsReady self.new.link.opened }
+        ensures sends_nothing { N.tells → N.Connection.tells → IfSome self.new.link.opened (λ o. HadGoneOut N.Connection.outgoing self.old.link.opened (offer_of (N.peers self.old.link.net (string_bytes self.old.link.address))) (N.Connection.outgoing o.connection)) }
+    {
         let open = self.link.connect();
         if !open {
             note_failed(self.pulse);
         }
+        self.log = self.log.with(&open);
         open
     }
 
     fn begin(&mut self, tag: &Tag, act: &Act) -> BeginAnswer
         ensures vain { ⊥ → result ≡ BeginAnswer.Failed }
         ensures manager { self.new.manager ≡ self.old.manager }
-        ensures said { BeginIs self.new.link.room.bytes.items result }
+        ensures asks { self.new.log.calls ≡ JobCall.beginning tag.now act.now result ∷ self.old.log.calls }
+        ensures said { IsSaid begin_by BeginAnswer.Failed self.new.link.room.bytes.items result }
+        ensures sends { N.tells → N.Connection.tells → GoesOut N.Connection.outgoing (call_line (calls.Begin self.old.manager tag.now act.now)) (has_begun result) self.old.link.opened (offer_of (N.peers self.old.link.net (string_bytes self.old.link.address))) self.new.link.opened }
     {
         let answer = begun(self.alloc, &mut self.link, self.manager, tag, act);
         if let BeginAnswer::Failed = answer {
             note_failed(self.pulse);
         }
+        self.log = self.log.with(&(tag, act, answer));
         answer
     }
 
     fn look(&mut self, tag: &Tag) -> LookAnswer
         ensures vain { ⊥ → result ≡ LookAnswer.Failed }
         ensures manager { self.new.manager ≡ self.old.manager }
-        ensures said { LookIs self.new.link.room.bytes.items result }
+        ensures asks { self.new.log.calls ≡ JobCall.looking tag.now result ∷ self.old.log.calls }
+        ensures said { IsSaid look_by LookAnswer.Failed self.new.link.room.bytes.items result }
+        ensures sends { N.tells → N.Connection.tells → GoesOut N.Connection.outgoing (call_line (calls.Look self.old.manager tag.now)) (has_looked result) self.old.link.opened (offer_of (N.peers self.old.link.net (string_bytes self.old.link.address))) self.new.link.opened }
     {
         note_asked(self.pulse);
-        match looked(self.alloc, &mut self.link, self.manager, tag) {
-            LookAnswer::Failed => {
-                note_failed(self.pulse);
-                LookAnswer::Failed
-            }
-            answer => answer,
+        let answer = looked(self.alloc, &mut self.link, self.manager, tag);
+        if let LookAnswer::Failed = answer {
+            note_failed(self.pulse);
         }
+        self.log = self.log.with(&(tag, &answer));
+        answer
     }
 
     fn abort(&mut self, tag: &Tag) -> AbortAnswer
         ensures vain { ⊥ → result ≡ AbortAnswer.Failed }
         ensures manager { self.new.manager ≡ self.old.manager }
-        ensures said { AbortIs self.new.link.room.bytes.items result }
+        ensures asks { self.new.log.calls ≡ JobCall.aborting tag.now result ∷ self.old.log.calls }
+        ensures said { IsSaid abort_by AbortAnswer.Failed self.new.link.room.bytes.items result }
+        ensures sends { N.tells → N.Connection.tells → GoesOut N.Connection.outgoing (call_line (calls.Abort self.old.manager tag.now)) (has_aborted result) self.old.link.opened (offer_of (N.peers self.old.link.net (string_bytes self.old.link.address))) self.new.link.opened }
     {
         let answer = aborted(self.alloc, &mut self.link, self.manager, tag);
         if let AbortAnswer::Failed = answer {
             note_failed(self.pulse);
         }
+        self.log = self.log.with(&(tag, &answer));
         answer
     }
 }
@@ -119,8 +145,10 @@ fn begun<N: HostNet + Drop, T: Stopwatch + Drop>(
     tag: &Tag,
     act: &Act,
 ) -> BeginAnswer
-    ensures { BeginIs link.new.room.bytes.items result }
+    ensures said { IsSaid begin_by BeginAnswer.Failed link.new.room.bytes.items result }
+    ensures sends { N.tells → N.Connection.tells → GoesOut N.Connection.outgoing (call_line (calls.Begin manager tag.now act.now)) (has_begun result) link.old.opened (offer_of (N.peers link.old.net (string_bytes link.old.address))) link.new.opened }
 {
+    link.forget();
     if act.on.len() > MOST_NAMES {
         return BeginAnswer::Failed;
     }
@@ -128,8 +156,18 @@ fn begun<N: HostNet + Drop, T: Stopwatch + Drop>(
         return BeginAnswer::Failed;
     };
     match link.call(line.as_slice()) {
-        Ok(VimReply::Begun) => BeginAnswer::Begun,
-        Ok(VimReply::Refused(code)) => BeginAnswer::Refused(code),
+        Ok(reply) => begin_answer(reply),
+        Err(_) => BeginAnswer::Failed,
+    }
+}
+
+/// What this reply says of a begin.
+fn begin_answer(reply: VimReply) -> BeginAnswer
+    ensures { result ≡ begin_by reply }
+{
+    match reply {
+        VimReply::Begun => BeginAnswer::Begun,
+        VimReply::Refused(code) => BeginAnswer::Refused(code),
         _ => BeginAnswer::Failed,
     }
 }
@@ -141,8 +179,10 @@ fn looked<N: HostNet + Drop, T: Stopwatch + Drop>(
     manager: u32,
     tag: &Tag,
 ) -> LookAnswer
-    ensures { LookIs link.new.room.bytes.items result }
+    ensures said { IsSaid look_by LookAnswer.Failed link.new.room.bytes.items result }
+    ensures sends { N.tells → N.Connection.tells → GoesOut N.Connection.outgoing (call_line (calls.Look manager tag.now)) (has_looked result) link.old.opened (offer_of (N.peers link.old.net (string_bytes link.old.address))) link.new.opened }
 {
+    link.forget();
     let Ok(line) = look_line(alloc, manager, tag) else {
         return LookAnswer::Failed;
     };
@@ -154,7 +194,7 @@ fn looked<N: HostNet + Drop, T: Stopwatch + Drop>(
 
 /// What this reply says of a look.
 fn look_answer(reply: VimReply) -> LookAnswer
-    ensures { (came : List ℕ) → IsLineOf came reply → LookIs came result }
+    ensures { result ≡ look_by reply }
 {
     match reply {
         VimReply::Absent => LookAnswer::Absent,
@@ -173,13 +213,25 @@ fn aborted<N: HostNet + Drop, T: Stopwatch + Drop>(
     manager: u32,
     tag: &Tag,
 ) -> AbortAnswer
-    ensures { AbortIs link.new.room.bytes.items result }
+    ensures said { IsSaid abort_by AbortAnswer.Failed link.new.room.bytes.items result }
+    ensures sends { N.tells → N.Connection.tells → GoesOut N.Connection.outgoing (call_line (calls.Abort manager tag.now)) (has_aborted result) link.old.opened (offer_of (N.peers link.old.net (string_bytes link.old.address))) link.new.opened }
 {
+    link.forget();
     let Ok(line) = abort_line(alloc, manager, tag) else {
         return AbortAnswer::Failed;
     };
     match link.call(line.as_slice()) {
-        Ok(VimReply::Asked) => AbortAnswer::Asked,
+        Ok(reply) => abort_answer(reply),
+        Err(_) => AbortAnswer::Failed,
+    }
+}
+
+/// What this reply says of an abort.
+fn abort_answer(reply: VimReply) -> AbortAnswer
+    ensures { result ≡ abort_by reply }
+{
+    match reply {
+        VimReply::Asked => AbortAnswer::Asked,
         _ => AbortAnswer::Failed,
     }
 }

@@ -4,11 +4,10 @@
 
 mod jobs;
 mod link;
-mod noted;
 mod opened;
 mod replies;
 
 pub use jobs::VimPeer;
-pub use link::{ENDING, VimLink};
+pub use link::VimLink;
 pub use opened::Opened;
 pub use replies::LineReply;

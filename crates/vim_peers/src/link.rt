@@ -1,23 +1,21 @@
 //! The one connection to an infrastructure.
-ghost use Rattle.std.specs.Prelude.{◌≡◌, ◌≤◌, ◌<◌, ◌^◌, [], IsTrue, IfOk, OnErr, OnOk, true, false, Some};
-ghost use Rattle.vim_peers.specs.Lines.{IsLineOf};
+ghost use Rattle.std.specs.Prelude.{◌≡◌, ◌≤◌, ◌<◌, ◌^◌, [], IsTrue, IfOk, IfSome, OnErr, OnOk, None, Some, true, false};
+ghost use Rattle.std.specs.Result.{is_ok};
+ghost use Rattle.std.specs.String.{string_bytes};
+ghost use Rattle.net_calls.specs.Network.{offer_of};
+ghost use Rattle.peer_exchange.specs.Exchanges.{SendsFront};
+ghost use Rattle.vim_peers.specs.Lines.{IsLineOf, IsNoLine};
 ghost use Rattle.vim_peers.specs.Links.{EndsBeforeNext, IsReady, IsSpent};
+ghost use Rattle.vim_peers.specs.Sent.{ConnectsAtMostOnce, GoesOut, HadGoneOut};
 
 use crate::opened::Opened;
 use crate::replies::LineReply;
-use edge_limits::{CONNECT, Exchange, INFRASTRUCTURE};
+use edge_limits::{CONNECT, ENDING, INFRASTRUCTURE};
 use net_calls::{Connection, HostNet, Stopwatch};
 use peer_exchange::{Lost, Room, exchange, look_now};
 use std::alloc::{AllocError, Global};
 use std::io::ErrorKind;
 use vim_wire::{LINE_BYTES, VimReply};
-
-/// For which the end of a connection is waited for on which a call failed, before another is opened: the peer's answer
-/// that came late, and then its end. Where it doesn't come, the call fails.
-pub const ENDING: Exchange = Exchange {
-    silence: 1_000,
-    whole: 1_000,
-};
 
 /// Bytes that are dropped by one read.
 const DROPPED_BYTES: usize = 4_096;
@@ -36,8 +34,10 @@ pub struct VimLink<N: HostNet + Drop, T: Stopwatch + Drop> {
 }
 
 impl<N: HostNet + Drop, T: Stopwatch + Drop> VimLink<N, T> {
-    /// A link to nowhere, with the room for every reply.
-    pub fn new(alloc: Global, net: N, watch: T) -> Result<VimLink<N, T>, AllocError> {
+    /// A link to nowhere, with the room for every reply. No connection is open.
+    pub fn new(alloc: Global, net: N, watch: T) -> Result<VimLink<N, T>, AllocError>
+        ensures { IfOk result (λ link. (link.opened ≡ None) × (link.net ≡ net)) }
+    {
         let room = Room::new(alloc, LINE_BYTES)?;
         Ok(VimLink {
             net,
@@ -50,9 +50,17 @@ impl<N: HostNet + Drop, T: Stopwatch + Drop> VimLink<N, T> {
 
     /// Calls go to this literal address and port from now on. A connection to another is kept until it has ended.
     pub fn to(&mut self, address: String)
-        ensures opened { self.new.opened ≡ self.old.opened }
+        ensures { self.new ≡ record self.old { address = address } }
     {
         self.address = address;
+    }
+
+    /// Forgets what came, so that it isn't taken for a reply again.
+    pub fn forget(&mut self)
+        ensures nothing { self.new.room.bytes.items ≡ [] }
+        ensures rest { self.new ≡ record self.old { room = self.new.room } }
+    {
+        self.room.bytes.clear();
     }
 
     /// Opens a connection where none is open, and in place of one that has ended. Whether one is open on which a call
@@ -61,7 +69,11 @@ impl<N: HostNet + Drop, T: Stopwatch + Drop> VimLink<N, T> {
     pub fn connect(&mut self) -> bool
         ensures ready { IsTrue result → IsReady self.new.opened }
         ensures spent { result ≡ false → IsSpent self.new.opened }
+        ensures room { self.new.room ≡ self.old.room }
         ensures one { N.Connection.tells → EndsBeforeNext N.Connection.incoming self.old.opened self.new.opened }
+        ensures sends_nothing { N.tells → N.Connection.tells → IfSome self.new.opened (λ o. HadGoneOut N.Connection.outgoing self.old.opened (offer_of (N.peers self.old.net (string_bytes self.old.address))) (N.Connection.outgoing o.connection)) }
+        ensures once { N.tells → ConnectsAtMostOnce (N.peers self.old.net (string_bytes self.old.address)) (N.peers self.new.net (string_bytes self.old.address)) }
+        ensures address { self.new.address ≡ self.old.address }
     {
         if let Some(opened) = &mut self.opened {
             if is_ready(opened) {
@@ -88,9 +100,14 @@ impl<N: HostNet + Drop, T: Stopwatch + Drop> VimLink<N, T> {
     /// Sends this line once, and gives the reply.
     pub fn call(&mut self, line: &[u8]) -> Result<VimReply, Lost>
         ensures said { IfOk result (IsLineOf self.new.room.bytes.items) }
+        ensures lost { OnErr result (IsNoLine self.new.room.bytes.items) }
         ensures spent { OnErr result (IsSpent self.new.opened) }
         ensures one { N.Connection.tells → EndsBeforeNext N.Connection.incoming self.old.opened self.new.opened }
+        ensures sends { N.tells → N.Connection.tells → GoesOut N.Connection.outgoing line.now (is_ok result) self.old.opened (offer_of (N.peers self.old.net (string_bytes self.old.address))) self.new.opened }
+        ensures once { N.tells → ConnectsAtMostOnce (N.peers self.old.net (string_bytes self.old.address)) (N.peers self.new.net (string_bytes self.old.address)) }
+        ensures address { self.new.address ≡ self.old.address }
     {
+        self.forget();
         if !self.connect() {
             return Err(Lost::Unsent);
         }
@@ -110,9 +127,11 @@ fn call_on<C: Connection + Drop, T: Stopwatch>(
 ) -> Result<VimReply, Lost>
     requires { opened.old.failed ≡ false }
     ensures said { IfOk result (IsLineOf room.new.bytes.items) }
+    ensures lost { OnErr result (IsNoLine room.new.bytes.items) }
     ensures failed { OnErr result (opened.new.failed ≡ true) }
     ensures sound { OnOk result (opened.new.failed ≡ false) }
     ensures used { opened.new.used ≡ true }
+    ensures sends { C.tells → SendsFront (is_ok result) line.now (C.outgoing opened.old.connection) (C.outgoing opened.new.connection) }
 {
     opened.used = true;
     let mut reply = LineReply::new();
@@ -143,6 +162,7 @@ fn is_ready<C: Connection + Drop>(opened: &mut Opened<C>) -> bool
     ensures ready { IsTrue result → opened.new.failed ≡ false }
     ensures kept { (opened.new.used ≡ opened.old.used) × (opened.new.failed ≡ opened.old.failed) }
     ensures bytes { C.tells → C.incoming opened.new.connection ≡ C.incoming opened.old.connection }
+    ensures sends_nothing { C.tells → C.outgoing opened.new.connection ≡ C.outgoing opened.old.connection }
 {
     !opened.failed && (!opened.used || opened.connection.is_quiet())
 }
@@ -154,6 +174,7 @@ fn has_ended<C: Connection + Drop, T: Stopwatch>(opened: &mut Opened<C>, watch: 
     ensures used { opened.new.used ≡ opened.old.used }
     ensures bytes { C.tells → (C.incoming opened.new.connection).bytes ≡ (C.incoming opened.old.connection).bytes }
     ensures ended { C.tells → IsTrue result → (C.incoming opened.new.connection).left ≡ [] }
+    ensures sends_nothing { C.tells → C.outgoing opened.new.connection ≡ C.outgoing opened.old.connection }
 {
     opened.failed = true;
     let _ = opened.connection.finish();

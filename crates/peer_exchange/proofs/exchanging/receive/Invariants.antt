@@ -1,9 +1,10 @@
 use Rattle.std.proofs.Common.{◌≡◌, ◌-◌, length}
-use Rattle.peer_exchange.specs.Exchanges.{HasRead}
+use Rattle.peer_exchange.specs.Exchanges.{HasRead, IsPartYet}
 use Rattle.peer_exchange.proofs.exchanging.receive.Given as goal
 
 abbrev pub invariant-reads : goal.invariant-reads
 invariant-reads g l = g.R.Reply.judged l.reply l.room.bytes.items
+    × IsPartYet (g.R.Reply.is l.reply) l.room.bytes.items
     × (l.room.most ≡ l.fn.room.most)
     × (g.C.Connection.tells → (g.C.Connection.outgoing l.connection ≡ g.C.Connection.outgoing l.fn.connection)
     × HasRead l.room.bytes.items (g.C.Connection.incoming l.fn.connection) (g.C.Connection.incoming l.connection))

@@ -1,0 +1,6 @@
+-- The call that is noted is the one that was made.
+use Rattle.outside_edges.specs.Jobs.{JobCall}
+use Rattle.outside_edges.proofs.jobs.NoJobsJobs.abort.Given as goal
+
+abbrev pub ghost-with : goal.ghost-with
+ghost-with g a = JobCall.aborting a.object.now.0.now a.object.now.1

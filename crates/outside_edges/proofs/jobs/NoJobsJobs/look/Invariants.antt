@@ -1,0 +1,6 @@
+-- The call that is noted is the one that was made.
+use Rattle.outside_edges.specs.Jobs.{JobCall}
+use Rattle.outside_edges.proofs.jobs.NoJobsJobs.look.Given as goal
+
+abbrev pub ghost-with : goal.ghost-with
+ghost-with g a = JobCall.looking a.object.now.0.now a.object.now.1
