@@ -4,6 +4,8 @@ use Rattle.std.specs.String.{string_bytes}
 use Rattle.peer_exchange.specs.Exchanges.{SendsFront}
 use Rattle.site_traits.specs.declared.courier.PostAnswer.{PostAnswer}
 use Rattle.site_traits.specs.declared.courier.PostAnswer.TheVariants as post
+use Rattle.site_traits.specs.declared.orchestrator.Call.{Call}
+use Rattle.site_traits.specs.declared.orchestrator.Call.TheVariants as call
 use Rattle.url.specs.Parts.{Parts}
 use Rattle.http_peers.specs.Gone.{GoneOut}
 use Rattle.http_peers.specs.Targets.{IsTargetOf}
@@ -11,6 +13,11 @@ use Rattle.http_peers.specs.declared.opened.Opened.{Opened}
 use Rattle.http_peers.specs.declared.targets.Target.{Target}
 
 -- whether an answer came
+abbrev pub has_come : Call → Bool
+has_come call.Came = true
+has_come call.Failed = false
+
+-- whether an answer came to a post
 abbrev pub was_posted : PostAnswer → Bool
 was_posted (post.Status status) = true
 was_posted post.Failed = false

@@ -1,5 +1,5 @@
 -- Where a request goes, by the URL of its resource (RFC 3986 3 and 5, RFC 9110 4.2.1 and 7.2, RFC 9112 3.2).
-use Rattle.std.specs.Prelude.{◌≡◌, ◌⊎◌, ℕ, List, [], ◌++◌, codes, decimal, Option, Some, None, Ok, unwrap_or, option_map}
+use Rattle.std.specs.Prelude.{◌≡◌, ◌⊎◌, ℕ, List, [], ◌++◌, codes, decimal, Option, Some, None, Ok, IsSomeAnd, unwrap_or, option_map}
 use Rattle.std.specs.String.{string_bytes}
 use Rattle.url.specs.Host.{host_text}
 use Rattle.url.specs.Parser.{parse_url}
@@ -31,3 +31,13 @@ pub record IsTargetOf (url : Parts) (target : Target) : Type 0 where
 -- a text tells of this URL: it is a text of it, or one without its scheme
 abbrev pub TellsOf : List ℕ → Parts → Type 0
 TellsOf text url = (parse_url None text ≡ Ok url) ⊎ (parse_url None (codes "http://" ++ text) ≡ Ok url)
+
+-- what a location means beside the grants, whose target is at the same address
+abbrev pub IsLocatedAt : Parts → List ℕ → Parts → Target → Type 0
+IsLocatedAt grants location url target =
+    (parse_url (Some grants) location ≡ Ok url) × ((of : Target) × IsTargetOf grants of × (string_bytes target.address ≡ string_bytes of.address))
+
+-- what is asked of the orchestrator: its grants, or what a location means beside them
+abbrev pub IsAskedAt : Option Parts → Option (List ℕ) → Parts → Target → Type 0
+IsAskedAt grants None url target = grants ≡ Some url
+IsAskedAt grants (Some location) url target = IsSomeAnd grants (λ base. IsLocatedAt base location url target)

@@ -1,8 +1,13 @@
 //! An orchestrator that is asked over HTTP.
-ghost use Rattle.std.specs.Prelude.{◌≡◌, IsTrue, if◌then◌else◌};
+ghost use Rattle.std.specs.Prelude.{◌≡◌, [], codes, IfOk, IfSome, IsTrue, None, OnOk, Some, option_copied, if◌then◌else◌};
+ghost use Rattle.http_client.specs.Requests.{request};
+ghost use Rattle.net_calls.specs.Network.{offer_of};
+ghost use Rattle.url.specs.Parts.{Parts};
 ghost use Rattle.site_traits.specs.Counts.{one_more};
 ghost use Rattle.site_traits.specs.Peers.{Asks, Polls, CallCause};
 ghost use Rattle.http_peers.specs.Peers.{counted, silent, IsWholeAnswer};
+ghost use Rattle.http_peers.specs.Sent.{HadGoneOut, Sends, has_come};
+ghost use Rattle.http_peers.specs.Targets.{IsAskedAt, IsLocatedAt, IsTargetOf};
 
 use crate::caller::HttpCaller;
 use crate::counted::count_one;
@@ -104,6 +109,7 @@ impl<'a, N: HostNet + Drop, T: Stopwatch + Drop> RealOrchestrator<'a, N, T> {
     ) -> bool
         ensures counts { (self.new.calls ≡ self.old.calls) × (self.new.faults ≡ self.old.faults) }
         ensures heard { IsTrue result → IsWholeAnswer self.new.caller.room.bytes.items heard.new }
+        ensures sends { N.tells → N.Connection.tells → Sends (HadGoneOut N.Connection.outgoing self.old.caller.opened (λ a. offer_of (N.peers self.old.caller.net a))) (IsAskedAt self.old.at (option_copied location.entry)) (λ host path. request method.now host path body.now) result self.old.caller.log.sent self.new.caller.log.sent }
     {
         let Some(target) = target_at(self.alloc, &self.at, location) else {
             return false;
@@ -139,17 +145,31 @@ fn grants_at(alloc: Global, address: &str) -> Result<Url, TargetFault> {
     Ok(found)
 }
 
-/// The target of a request to the orchestrator: that of the grants, or of this location, which has to be at the same
-/// address.
-fn target_at(alloc: Global, at: &Option<Url>, location: Option<&Line>) -> Option<Target> {
-    let base = at.as_ref()?;
-    let grants = target_of(alloc, base).ok()?;
-    let Some(location) = location else {
-        return Some(grants);
+/// The target of a request to the orchestrator: that of the grants, or of this location.
+fn target_at(alloc: Global, at: &Option<Url>, location: Option<&Line>) -> Option<Target>
+    ensures { IfSome result (λ target. (url : Parts) × IsAskedAt at.now (option_copied location.entry) url target × IsTargetOf url target) }
+{
+    let grants = at.as_ref()?;
+    match location {
+        Some(location) => target_beside(alloc, grants, location),
+        None => target_of(alloc, grants).ok(),
+    }
+}
+
+/// The target of this location beside the grants, which has to be at the same address.
+fn target_beside(alloc: Global, grants: &Url, location: &Line) -> Option<Target>
+    ensures { IfSome result (λ target. (url : Parts) × IsLocatedAt grants.now location.now url target × IsTargetOf url target) }
+{
+    let Ok(of_grants) = target_of(alloc, grants) else {
+        return None;
     };
-    let url = base.join(location.as_str()).ok()?;
-    let target = target_of(alloc, &url).ok()?;
-    if target.address.as_str() == grants.address.as_str() {
+    let Ok(url) = grants.join(location.as_str()) else {
+        return None;
+    };
+    let Ok(target) = target_of(alloc, &url) else {
+        return None;
+    };
+    if target.address.as_str() == of_grants.address.as_str() {
         Some(target)
     } else {
         None
@@ -168,6 +188,7 @@ impl<'a, N: HostNet + Drop, T: Stopwatch + Drop> Orchestrator for RealOrchestrat
     fn ask(&mut self, body: &[u8], heard: &mut Heard) -> Call
         ensures told { ⊥ → Asks body.now heard.new result silent silent }
         ensures heard { result ≡ Call.Came → IsWholeAnswer self.new.caller.room.bytes.items heard.new }
+        ensures sends { N.tells → N.Connection.tells → Sends (HadGoneOut N.Connection.outgoing self.old.caller.opened (λ a. offer_of (N.peers self.old.caller.net a))) (IsAskedAt self.old.at None) (λ host path. request (codes "POST") host path body.now) (has_come result) self.old.caller.log.sent self.new.caller.log.sent }
         ensures cause { CallCause result (counted self.old.calls self.old.faults) (counted self.new.calls self.new.faults) }
     {
         count_one(&mut self.calls);
@@ -182,6 +203,7 @@ impl<'a, N: HostNet + Drop, T: Stopwatch + Drop> Orchestrator for RealOrchestrat
     fn poll(&mut self, location: &Line, heard: &mut Heard) -> Call
         ensures told { ⊥ → Polls location.now heard.new result silent silent }
         ensures heard { result ≡ Call.Came → IsWholeAnswer self.new.caller.room.bytes.items heard.new }
+        ensures sends { N.tells → N.Connection.tells → Sends (HadGoneOut N.Connection.outgoing self.old.caller.opened (λ a. offer_of (N.peers self.old.caller.net a))) (IsAskedAt self.old.at (Some location.now)) (λ host path. request (codes "GET") host path []) (has_come result) self.old.caller.log.sent self.new.caller.log.sent }
         ensures cause { CallCause result (counted self.old.calls self.old.faults) (counted self.new.calls self.new.faults) }
     {
         count_one(&mut self.calls);
