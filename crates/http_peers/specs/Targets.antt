@@ -32,6 +32,15 @@ pub record IsTargetOf (url : Parts) (target : Target) : Type 0 where
 abbrev pub TellsOf : List ℕ → Parts → Type 0
 TellsOf text url = (parse_url None text ≡ Ok url) ⊎ (parse_url None (codes "http://" ++ text) ≡ Ok url)
 
+-- the grants by the URL of an address: what it names, and where it names a host alone, these there (SOL 003 9.4.1)
+abbrev pub AreGrantsOf : Parts → Parts → Type 0
+AreGrantsOf told grants =
+    ((told.path ≡ codes "/") × (told.query ≡ None) × (parse_url (Some told) (codes "/grant/v1/grants") ≡ Ok grants)) ⊎ ((((told.path ≡ codes "/") × (told.query ≡ None)) → ⊥) × (grants ≡ told))
+
+-- the grants at an address
+abbrev pub AreGrantsAt : List ℕ → Parts → Type 0
+AreGrantsAt address grants = (told : Parts) × TellsOf address told × AreGrantsOf told grants
+
 -- what a location means beside the grants, whose target is at the same address
 abbrev pub IsLocatedAt : Parts → List ℕ → Parts → Target → Type 0
 IsLocatedAt grants location url target =

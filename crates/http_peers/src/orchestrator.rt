@@ -1,5 +1,5 @@
 //! An orchestrator that is asked over HTTP.
-ghost use Rattle.std.specs.Prelude.{◌≡◌, [], codes, IfOk, IfSome, IsTrue, None, OnOk, Some, option_copied, if◌then◌else◌};
+ghost use Rattle.std.specs.Prelude.{◌≡◌, [], codes, IfOk, IfSome, IsSomeAnd, IsTrue, None, OnErr, OnOk, Some, option_copied, if◌then◌else◌};
 ghost use Rattle.http_client.specs.Requests.{request};
 ghost use Rattle.net_calls.specs.Network.{offer_of};
 ghost use Rattle.url.specs.Parts.{Parts};
@@ -7,7 +7,7 @@ ghost use Rattle.site_traits.specs.Counts.{one_more};
 ghost use Rattle.site_traits.specs.Peers.{Asks, Polls, CallCause};
 ghost use Rattle.http_peers.specs.Peers.{counted, silent, IsWholeAnswer};
 ghost use Rattle.http_peers.specs.Sent.{HadGoneOut, Sends, has_come};
-ghost use Rattle.http_peers.specs.Targets.{IsAskedAt, IsLocatedAt, IsTargetOf};
+ghost use Rattle.http_peers.specs.Targets.{AreGrantsAt, AreGrantsOf, IsAskedAt, IsLocatedAt, IsTargetOf};
 
 use crate::caller::HttpCaller;
 use crate::counted::count_one;
@@ -45,7 +45,9 @@ impl<'a, N: HostNet + Drop, T: Stopwatch + Drop> RealOrchestrator<'a, N, T> {
         net: N,
         watch: T,
         pulse: &'a Cell<Pulse>,
-    ) -> Result<RealOrchestrator<'a, N, T>, AllocError> {
+    ) -> Result<RealOrchestrator<'a, N, T>, AllocError>
+        ensures { IfOk result (λ o. o.at ≡ None) }
+    {
         let caller = HttpCaller::new(alloc, net, watch)?;
         Ok(RealOrchestrator {
             alloc,
@@ -63,6 +65,8 @@ impl<'a, N: HostNet + Drop, T: Stopwatch + Drop> RealOrchestrator<'a, N, T> {
     /// Refusals: `NoTarget` where it leads nowhere; `Memory`.
     pub fn to(&mut self, address: &str) -> Result<(), TargetFault>
         ensures counts { (self.new.calls ≡ self.old.calls) × (self.new.faults ≡ self.old.faults) }
+        ensures to { OnOk result (IsSomeAnd self.new.at (AreGrantsAt address.now)) }
+        ensures nowhere { OnErr result (self.new.at ≡ None) }
     {
         match grants_at(self.alloc, address) {
             Ok(url) => {
@@ -131,18 +135,26 @@ impl<'a, N: HostNet + Drop, T: Stopwatch + Drop> RealOrchestrator<'a, N, T> {
 }
 
 /// The URL of the grants at this address.
-fn grants_at(alloc: Global, address: &str) -> Result<Url, TargetFault> {
-    let url = url_of(alloc, address)?;
-    let found = if url.path() == "/" && url.query().is_none() {
-        match url.join(GRANTS) {
-            Ok(url) => url,
-            Err(_) => return Err(TargetFault::Memory),
+fn grants_at(alloc: Global, address: &str) -> Result<Url, TargetFault>
+    ensures { IfOk result (AreGrantsAt address.now) }
+{
+    let grants = grants_of(url_of(alloc, address)?)?;
+    target_of(alloc, &grants)?;
+    Ok(grants)
+}
+
+/// The URL of the grants, by that of an address.
+fn grants_of(told: Url) -> Result<Url, TargetFault>
+    ensures { IfOk result (AreGrantsOf told) }
+{
+    if told.path() == "/" && told.query().is_none() {
+        match told.join(GRANTS) {
+            Ok(grants) => Ok(grants),
+            Err(_) => Err(TargetFault::Memory),
         }
     } else {
-        url
-    };
-    target_of(alloc, &found)?;
-    Ok(found)
+        Ok(told)
+    }
 }
 
 /// The target of a request to the orchestrator: that of the grants, or of this location.

@@ -1,6 +1,5 @@
 -- What is noted is what went out on the connection.
 use Rattle.std.specs.String.{string_bytes}
-use Rattle.http_peers.specs.Gone.{GoneOut}
 use Rattle.http_peers.proofs.caller.HttpCaller.call.Given as goal
 
 abbrev pub ghost-with : goal.ghost-with
