@@ -4,6 +4,7 @@
 The program is built by `rt run`, so a first run takes minutes; the trial itself takes about a minute. Prints what it saw, and ends with 1
 where that differs from what is wanted.
 """
+import concurrent.futures
 import os
 import signal
 import socket
@@ -177,6 +178,44 @@ def kept(door):
     within("one each 100 ms on one connection, it ends after", time.time() - begun, 0.9, 1.6)
 
 
+def busy(door):
+    """Requests of which the next one is always there already: the door takes longer for a chunk of a byte than the sender does."""
+    connection, at = door.connect(), len(door.lines)
+    request = b"POST /fine HTTP/1.1\r\nTransfer-Encoding: chunked\r\n\r\n" + b"1\r\nx\r\n" * 10_000 + b"0\r\n\r\n"
+
+    def send():
+        try:
+            while True:
+                connection.sendall(request)
+        except OSError:
+            pass
+
+    sender = threading.Thread(target=send, daemon=True)
+    sender.start()
+    got, seconds = until_end(connection)
+    connection.close()
+    sender.join()
+    replies = len(got) // len(FINE)
+    within(f"requests without a gap on one connection, {replies} replies, it ends after", seconds, 4.8, 5.8)
+    expect("  those are all that came", got.removesuffix(b" reset") == FINE * replies, True)
+    expect("  it says", door.lines_from(at, 1), [f"orchestrator: {replies} told, unfinished"])
+
+
+def slow():
+    """A reply of which some is taken all the time, but not all of it in its time, at a door of its own: when it ends, and what the door says."""
+    door = Program()
+    connection, begun = door.connect(), time.time()
+    connection.sendall(b"GET /2000000000 HTTP/1.1\r\n\r\n")
+    while time.time() - begun < 40 and not door.lines:
+        connection.recv(65_536)
+        time.sleep(0.02)
+    seconds = time.time() - begun
+    connection.close()
+    said = door.lines_from(0, 1)
+    door.end()
+    return seconds, said
+
+
 def uploads(door):
     told, at = 0, len(door.lines)
     for _ in range(20):
@@ -272,9 +311,14 @@ door = Program()
 spent = door.processor()
 time.sleep(2)
 within("nobody comes: in two seconds of the processor", door.processor() - spent, 0.0, 0.05)
-for trial in (pieces, silences, kept, uploads, silent, gone):
-    trial(door)
-door.end()
-descriptors()
-addresses()
+with concurrent.futures.ThreadPoolExecutor() as beside:
+    slowly = beside.submit(slow)
+    for trial in (pieces, silences, kept, busy, uploads, silent, gone):
+        trial(door)
+    door.end()
+    descriptors()
+    addresses()
+    seconds, said = slowly.result()
+within("a reply of which some is taken all the time, it ends after", seconds, 29.5, 32.0)
+expect("  it says", said, ["orchestrator: 0 told, a write failed"])
 sys.exit(1 if differs else 0)
