@@ -1,7 +1,7 @@
 #!/usr/bin/env python3
 """Runs the door of crates/net_door on loopback: pieces, silences, limits, refused uploads and peers that say nothing.
 
-The program is built by `rt run`, so a first run takes minutes; the trial itself takes about a minute. Prints what it saw, and ends with 1
+The program is built by `rt run`, so a first run takes minutes; the trial itself takes about half a minute. Prints what it saw, and ends with 1
 where that differs from what is wanted.
 """
 import concurrent.futures
@@ -202,7 +202,8 @@ def busy(door):
 
 
 def slow():
-    """A reply of which some is taken all the time, but not all of it in its time, at a door of its own: when it ends, and what the door says."""
+    """A reply of which some is taken all the time, but not all of it in its time, at a door of its own: after which
+    time it ends, and what the door says."""
     door = Program()
     connection, begun = door.connect(), time.time()
     connection.sendall(b"GET /2000000000 HTTP/1.1\r\n\r\n")

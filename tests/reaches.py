@@ -17,6 +17,7 @@ import tempfile
 
 HERE = pathlib.Path(__file__).resolve().parent.parent
 PROGRAM = HERE / "vnfm"
+BUILT = HERE / ".build" / "vnfm"  # what PROGRAM looks after and starts, which takes longer than a run that is killed
 EXAMPLES = HERE / "examples"
 NOWHERE = "127.0.0.1:1"
 MOST_RUNS = 400
@@ -61,7 +62,7 @@ class Manager:
         self.once("create.http")
 
     def words(self, command, *words):
-        return [PROGRAM, command, "--journal", self.journal, *words]
+        return [BUILT, command, "--journal", self.journal, *words]
 
     def run(self, command, *words, request=None):
         stdin = open(EXAMPLES / request, "rb") if request else subprocess.DEVNULL
@@ -89,18 +90,22 @@ class Manager:
         ended."""
         killed = 0
         for _ in range(MOST_RUNS):
-            for _ in range(8):
-                process = subprocess.Popen(self.words("once", "--rounds", "4", *self.peers), stdin=subprocess.DEVNULL,
-                                           stdout=subprocess.DEVNULL, stderr=subprocess.DEVNULL)
-                try:
-                    process.wait(draw.uniform(0.0005, 0.02))
-                except subprocess.TimeoutExpired:
-                    process.send_signal(signal.SIGKILL)
-                    process.wait()
-                    killed += 1
+            killed += sum(self.is_killed(draw) for _ in range(8))
             if self.ended():
                 break
         return killed
+
+    def is_killed(self, draw):
+        """Makes a run of four rounds that is killed after up to 20 ms, and gives whether it was before it ended."""
+        process = subprocess.Popen(self.words("once", "--rounds", "4", *self.peers), stdin=subprocess.DEVNULL,
+                                   stdout=subprocess.DEVNULL, stderr=subprocess.DEVNULL)
+        try:
+            process.wait(draw.uniform(0.0005, 0.02))
+            return False
+        except subprocess.TimeoutExpired:
+            process.send_signal(signal.SIGKILL)
+            process.wait()
+            return True
 
 
 def standing(folder):
