@@ -150,9 +150,9 @@ all_well = ["look: running, 0 faults", "begin: begun, 0 faults"] + ["look: runni
 kept = Infrastructure()
 expect("a kept connection", calls("vim", f"127.0.0.1:{kept.port}"), all_well)
 expect("connections", (kept.had, kept.most), (1, 1))
-ending = Infrastructure(lines=2)
-expect("an end behind every second line", calls("vim", f"127.0.0.1:{ending.port}"), all_well)
-expect("connections", (ending.had, ending.most), (6, 1))
+ending = Infrastructure(lines=3)
+expect("an end behind every third line", calls("vim", f"127.0.0.1:{ending.port}"), all_well)
+expect("connections", (ending.had, ending.most), (4, 1))
 
 late = Infrastructure(late=2, delay=2.5)
 expect("a begin that is answered after 2.5 s", calls("vim", f"127.0.0.1:{late.port}"),
