@@ -137,6 +137,29 @@ def slow_server(answer, pause):
     return listener.getsockname()[1]
 
 
+def spent_by(call, *words):
+    """The lines that the calls print, and the seconds that they take."""
+    before = time.monotonic()
+    lines = calls(call, *words)
+    return lines, time.monotonic() - before
+
+
+def full_listener():
+    """A listener that takes no connection more: on loopback a connect to it gets no answer. And what fills it."""
+    listener = socket.socket()
+    listener.bind(("127.0.0.1", 0))
+    listener.listen(0)
+    held = []
+    while True:
+        one = socket.socket()
+        one.settimeout(0.5)
+        held.append(one)
+        try:
+            one.connect(listener.getsockname())
+        except OSError:
+            return listener, held
+
+
 port = free_port()
 server = start("vim_sim", "--listen", f"127.0.0.1:{port}", "--looks", "2")
 until_listening(port)
@@ -171,11 +194,19 @@ expect("an orchestrator whose answers end with their connections", calls("ask", 
 chunked = b"HTTP/1.1 100 Continue\r\n\r\nHTTP/1.1 201 Created\r\nTransfer-Encoding: chunked\r\n\r\n2\r\n{}\r\n0\r\n\r\n"
 expect("chunks, a byte at a time, behind a 100", calls("ask", f"http://127.0.0.1:{slow_server(chunked, 0.001)}/grants"),
        ["ask: 201 {}, 0 faults"] * 2 + ["poll: 201 {}, 0 faults"])
-before = time.monotonic()
-expect("a byte each 100 ms", calls("post", f"http://127.0.0.1:{slow_server(b'HTTP/1.1 204 No Content' + b' ' * 1000, 0.1)}/n"),
-       ["post: failed, 1 faults", "post: failed, 2 faults"])
-spent = time.monotonic() - before
-expect("each post ends by its limit, and not before", spent >= 10.0, True)
+posted, spent = spent_by("post", f"http://127.0.0.1:{slow_server(b'HTTP/1.1 204 No Content' + b' ' * 1000, 0.1)}/n")
+expect("a byte each 100 ms", posted, ["post: failed, 1 faults", "post: failed, 2 faults"])
+expect("each post ends by its limit of 5 s, and not before", 10 <= spent < 12, True)
+asked, spent = spent_by("ask", f"http://127.0.0.1:{slow_server(b'HTTP/1.1 201 Created' + b' ' * 1000, 0.1)}/grants")
+expect("a byte of an orchestrator each 100 ms", asked, ["ask: failed, 1 faults", "ask: failed, 2 faults", "poll: failed, 3 faults"])
+expect("each ask and poll ends by its limit of 5 s, and not before", 15 <= spent < 18, True)
+looked, spent = spent_by("vim", f"127.0.0.1:{slow_server(b'RUNNING' * 3, 0.9)}")
+expect("a byte of an infrastructure each 900 ms, calls that failed", sum(": failed, " in line for line in looked), 11)
+expect("the first ends by its limit of 5 s, and each that waits for its end by 1 s", 14 <= spent < 20, True)
+listener, held = full_listener()
+asked, spent = spent_by("ask", f"127.0.0.1:{listener.getsockname()[1]}")
+expect("an orchestrator that takes no connection", asked, ["ask: failed, 1 faults", "ask: failed, 2 faults", "poll: failed, 3 faults"])
+expect("each connect ends by its limit of 1 s, and not before", 3 <= spent < 5, True)
 expect("a callback", calls("post", f"http://127.0.0.1:{slow_server(b'HTTP/1.1 204 No Content' + bytes([13, 10, 13, 10]), 0)}/n"),
        ["post: 204, 0 faults"] * 2)
 sys.exit(differs)
