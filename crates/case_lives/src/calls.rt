@@ -54,8 +54,8 @@ pub fn opening(site: &MemSite) -> usize {
     site.moment()
 }
 
-/// How many of the operation's records a stop leaves behind so many disk calls of them, where what isn't synced is left like this: those
-/// whose gates are open on the disk.
+/// How many of the operation's records a stop leaves behind so many disk calls of them, where what isn't synced is left
+/// like this: those whose gates are open on the disk.
 pub fn left_behind(calls: usize, choice: Choice) -> usize {
     match choice {
         Choice::New => records_standing(calls),
@@ -63,7 +63,8 @@ pub fn left_behind(calls: usize, choice: Choice) -> usize {
     }
 }
 
-/// How many of the operation's records stand behind so many disk calls of them: a record stands once its gate was written.
+/// How many of the operation's records stand behind so many disk calls of them: a record stands once its gate was
+/// written.
 pub fn records_standing(calls: usize) -> usize {
     let whole = calls / CALLS;
     if calls % CALLS == 3 {

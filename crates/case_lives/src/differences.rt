@@ -82,7 +82,8 @@ pub fn same_word(alloc: Global, wanted: &str, came: &str) -> Result<(), ActFault
     ))
 }
 
-/// These texts are the same, or the first lines that differ are told, each from a little before its first byte that does.
+/// These texts are the same, or the first lines that differ are told, each from a little before its first byte that
+/// does.
 pub fn same_text(alloc: Global, wanted: &[u8], came: &[u8]) -> Result<(), ActFault> {
     if wanted == came {
         return Ok(());
@@ -155,7 +156,8 @@ fn line_text(alloc: Global, text: &[u8], place: usize) -> Result<String, AllocEr
     }
 }
 
-/// The number, from 1, of the record of this journal that has this place, and where it begins; of what stands behind its records, where none has.
+/// The number, from 1, of the record of this journal that has this place, and where it begins; of what stands behind
+/// its records, where none has.
 fn record_around(file: &[u8], place: usize) -> (usize, usize) {
     let mut at = HEADER;
     let mut number: usize = 1;

@@ -44,8 +44,8 @@ pub fn name(act: &[Value], place: usize) -> Result<Name, CaseFault> {
     }
 }
 
-/// The word for what an event says that happened, and the number of what it happened to: of an instance, an occurrence or a subscription; 0 for a
-/// descriptor.
+/// The word for what an event says that happened, and the number of what it happened to: of an instance, an occurrence
+/// or a subscription; 0 for a descriptor.
 pub fn about(event: &Event) -> (&'static str, u64) {
     match &event.kind {
         EventKind::Onboarded(_) => ("onboarded", 0),
@@ -66,7 +66,8 @@ pub fn about(event: &Event) -> (&'static str, u64) {
     }
 }
 
-/// An event by its kind and its fields: what happened, to the one of which number, when, and what else is said of it. Of lists only the lengths are told.
+/// An event by its kind and its fields: what happened, to the one of which number, when, and what else is said of it.
+/// Of lists only the lengths are told.
 pub fn event_text(alloc: Global, event: &Event) -> Result<String, AllocError> {
     let (word, number) = about(event);
     let moment = event.moment.milliseconds();

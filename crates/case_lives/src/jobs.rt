@@ -82,7 +82,8 @@ fn put_call(alloc: Global, text: &mut String, call: SiteCall) -> Result<(), Allo
     text.push_str(&line)
 }
 
-/// The calls on jobs that came through since the site was made, each a line: `begin`, `look` or `abort`, the tag, and what came of it.
+/// The calls on jobs that came through since the site was made, each a line: `begin`, `look` or `abort`, the tag, and
+/// what came of it.
 pub fn calls_on_jobs(alloc: Global, site: &MemSite) -> Result<String, AllocError> {
     let mut text = String::new(alloc);
     for place in 0..site.moment() {

@@ -1,6 +1,6 @@
-//! Lives of an instantiation of the edge router, as runs have them: the steps that are recorded and their records, the calls on a site, what a stop
-//! among them leaves, and whether the jobs agree with what is recorded. Beside them the words, numbers and lists that acts are spelled in, and the texts that
-//! runs ask with and compare with.
+//! Lives of an instantiation of the edge router, as runs have them: the steps that are recorded and their records, the
+//! calls on a site, what a stop among them leaves, and whether the jobs agree with what is recorded. Beside them the
+//! words, numbers and lists that acts are spelled in, and the texts that runs ask with and compare with.
 #![tactic(auto)]
 
 mod calls;

@@ -40,8 +40,8 @@ pub enum Step {
 /// The moment of each record, the clock's 1,700,000,000,000, and behind it the number of occurrence 1.
 const ABOUT: [u8; 16] = [0, 0, 1, 139, 207, 229, 104, 0, 0, 0, 0, 0, 0, 0, 0, 1];
 
-/// What is asked behind the number of the occurrence: instance 1, by the orchestrator, in the flavour `simple` at the default level; 2 links,
-/// 3 storages, 3 machines and 5 ports are made.
+/// What is asked behind the number of the occurrence: instance 1, by the orchestrator, in the flavour `simple` at the
+/// default level; 2 links, 3 storages, 3 machines and 5 ports are made.
 const PLAN: &[u8] =
     b"\0\0\0\0\0\0\0\x01\0\x01\x06simple\0\0\x0d\0\0\0\0\0\xff\xff\0\0\0\0\0\0\0\0\x01\xff\xff\0\0\0\0\x01\0\x01\0\0\0\0\0\0\0\x01\x01\0\x01\0\0\0\0\0\0\0\x02\x01\0\x01\0\x01\0\x01\0\0\0\x01\x02\0\x02\0\0\0\0\0\0\0\x01\x02\0\x02\0\0\0\0\0\0\0\x02\x02\0\x02\0\0\0\x01\0\0\0\x01\x03\0\x03\0\0\0\0\0\0\0\x01\x03\0\x03\0\x01\0\0\0\0\0\x01\x03\0\x03\0\0\0\0\0\0\0\x02\x03\0\x03\0\x01\0\0\0\0\0\x02\x03\0\x03\0\x02\0\x01\0\0\0\x01";
 
@@ -114,7 +114,8 @@ fn end_of(alloc: Global, at: At) -> Result<Vec<u8>, AllocError> {
     }
 }
 
-/// What stands behind the number of the occurrence in this record of this attempt at this change in the way of this number.
+/// What stands behind the number of the occurrence in this record of this attempt at this change in the way of this
+/// number.
 fn attempt(
     alloc: Global,
     change: u16,

@@ -82,8 +82,9 @@ fn with_jobs(steps: &[Step]) -> usize {
     count
 }
 
-/// Whether this job, at this place from 0, has its intent among the steps from this place on and stands as its attempt ended: the place behind
-/// that intent, and whether the attempt was settled Done or Aborted; none where it has not or does not.
+/// Whether this job, at this place from 0, has its intent among the steps from this place on and stands as its attempt
+/// ended: the place behind that intent, and whether the attempt was settled Done or Aborted; none where it has not or
+/// does not.
 fn follows(
     alloc: Global,
     site: &MemSite,
@@ -118,8 +119,8 @@ fn unsound(alloc: Global, site: &MemSite, place: usize) -> Result<ActFault, Allo
     ))
 }
 
-/// All jobs have their intents among the steps, in their order, and stand as their attempts ended, and each attempt that was settled Done or
-/// Aborted has its job; or the first that is otherwise is told.
+/// All jobs have their intents among the steps, in their order, and stand as their attempts ended, and each attempt
+/// that was settled Done or Aborted has its job; or the first that is otherwise is told.
 fn are_sound(alloc: Global, site: &MemSite, steps: &[Step]) -> Result<(), ActFault> {
     let mut from = 0;
     let mut settled: usize = 0;
@@ -185,7 +186,8 @@ fn done_by(site: &MemSite, steps: &[Step], change: u16, way: Way) -> usize {
     settled_done(steps, change, way).saturating_add(open)
 }
 
-/// The done jobs of this change are the attempts settled Done, and the open one where its job is done; and it stands at most once. Else both are told.
+/// The done jobs of this change are the attempts settled Done, and the open one where its job is done; and it stands at
+/// most once. Else both are told.
 fn stands_by_its_net(
     alloc: Global,
     site: &MemSite,
@@ -208,8 +210,9 @@ fn stands_by_its_net(
     ))
 }
 
-/// The jobs of this site agree with these steps: each has its intent and stands as its attempt ended, and of each change there stands what is made
-/// by the steps, or by these and the open attempt whose job is done. Else the first change or job that doesn't is told.
+/// The jobs of this site agree with these steps: each has its intent and stands as its attempt ended, and of each
+/// change there stands what is made by the steps, or by these and the open attempt whose job is done. Else the first
+/// change or job that doesn't is told.
 pub fn agrees(alloc: Global, site: &MemSite, steps: &[Step]) -> Result<(), ActFault> {
     for change in 0..CHANGES {
         stands_by_its_net(alloc, site, steps, change)?;

@@ -1,10 +1,12 @@
 //! The steps of an operation, as runs spell them.
 //!
-//! A step is a word or an array: `asked`, `granted`, a state, which it moved to, `graceful` and `forceful`; `["forward", CHANGE, ATTEMPT, AT]` and
-//! `["undo", CHANGE, ATTEMPT, AT]`, where AT is `intent`, `call failed`, `done` with its job behind it, `broken` with its code, `aborted` or
-//! `not begun`. Several stand for `["made", N]`, an operation up to N changes made in PROCESSING; `["make", FROM, TO, ATTEMPT, JOB]`, the changes
-//! from FROM to before TO, each made at that attempt, by that job and those behind it; `["unmake", FROM, TO, ATTEMPT, JOB]`, the same changes undone,
-//! the last of them first.
+//! A step is a word or an array: `asked`, `granted`, a state, which it moved to, `graceful` and `forceful`;
+//! `["forward", CHANGE, ATTEMPT, AT]` and
+//! `["undo", CHANGE, ATTEMPT, AT]`, where AT is `intent`, `call failed`, `done` with its job behind it, `broken` with
+//! its code, `aborted` or
+//! `not begun`. Several stand for `["made", N]`, an operation up to N changes made in PROCESSING; `["make", FROM, TO,
+//! ATTEMPT, JOB]`, the changes from FROM to before TO, each made at that attempt, by that job and those behind it;
+//! `["unmake", FROM, TO, ATTEMPT, JOB]`, the same changes undone, the last of them first.
 
 use crate::records::{At, Step};
 use crate::words::{CaseFault, code, entries, small, word};
@@ -42,8 +44,8 @@ fn at(step: &[Value]) -> Result<At, CaseFault> {
     })
 }
 
-/// Changes that are attempted one after the other: from this one to before that one, each by the attempt of this number, by this job and those behind
-/// it.
+/// Changes that are attempted one after the other: from this one to before that one, each by the attempt of this
+/// number, by this job and those behind it.
 #[derive(Clone, Copy)]
 struct Attempts {
     from: u16,

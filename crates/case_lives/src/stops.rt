@@ -1,4 +1,5 @@
-//! Lives that are stopped at each moment, or of which each disk call fails in turn: what is left, and which attempt had no job yet.
+//! Lives that are stopped at each moment, or of which each disk call fails in turn: what is left, and which attempt had
+//! no job yet.
 
 use crate::calls::{calls_of, calls_until, left_behind, not_begun, opening, records_standing};
 use crate::plan::plain_site;
@@ -118,7 +119,8 @@ impl Whole {
         Ok(steps)
     }
 
-    /// All of these steps, where the attempt at this change had no job yet: that attempt is ended by the look at it, and there is another.
+    /// All of these steps, where the attempt at this change had no job yet: that attempt is ended by the look at it,
+    /// and there is another.
     pub fn steps_again(&self, alloc: Global, lost: Option<u16>) -> Result<Vec<Step>, AllocError> {
         let mut steps = self.before.to_vec(alloc)?;
         for step in &self.steps {

@@ -1,8 +1,9 @@
 //! The bytes that runs ask with and compare with, and their names.
 //!
-//! A text is spelled as a string, whose characters are bytes, up to U+00FF; as `$` and a name; as an object; or as an array of these, one behind
-//! the other. `{"times": N, "of": T}` is T so many times; `{"from": A, "to": B, "of": [..]}` is what stands there for each number from A to before B,
-//! where `{"digits": W}` are its decimal digits, W with zeros in front, and `{"bytes": W}` its last W bytes, the greatest first.
+//! A text is spelled as a string, whose characters are bytes, up to U+00FF; as `$` and a name; as an object; or as an
+//! array of these, one behind the other. `{"times": N, "of": T}` is T so many times; `{"from": A, "to": B, "of": [..]}`
+//! is what stands there for each number from A to before B, where `{"digits": W}` are its decimal digits, W with zeros
+//! in front, and `{"bytes": W}` its last W bytes, the greatest first.
 
 use crate::words::{CaseFault, entries, put_bytes};
 use serde_json::Value;

@@ -23,8 +23,8 @@ fn kind_word(kind: DefKind) -> &'static str {
     }
 }
 
-/// The work of a job: what is done to what, the template, the VDU, the serial number, the connection, the zone, the size, the processors, and behind
-/// them the resources that it is done on, each behind a space.
+/// The work of a job: what is done to what, the template, the VDU, the serial number, the connection, the zone, the
+/// size, the processors, and behind them the resources that it is done on, each behind a space.
 pub fn work_text(alloc: Global, work: &Act) -> Result<String, AllocError> {
     let (verb, kind) = (verb_word(work.verb), kind_word(work.kind));
     let (template, vdu) = (work.template.as_str(), work.vdu.as_str());

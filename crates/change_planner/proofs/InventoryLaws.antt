@@ -1,5 +1,6 @@
 -- The holding of an instance says what the history does.
-use Rattle.std.proofs.Common.{◌≡◌, ◌≤◌, ◌<◌, ◌+◌, ◌&&◌, ◌||◌, ◌∙◌, ℕ, zero, suc, List, [], ◌∷◌, Bool, true, false, None, Some, refl, ap, sym, subst, length, map, filter, arith, inl, inr, ltb, eqb-true, slice_get, ltb-true, ltb-false}
+use Rattle.std.proofs.Common.{◌≡◌, ◌≤◌, ◌<◌, ◌+◌, ◌&&◌, ◌||◌, ◌∙◌, ℕ, zero, suc, List, [], ◌∷◌, Bool, true, false, None, Some, refl, ap}
+use Rattle.std.proofs.Common.{sym, subst, length, map, filter, arith, inl, inr, ltb, eqb-true, slice_get, ltb-true, ltb-false}
 use Rattle.std.proofs.Math.Path.{fun_ext}
 use Rattle.std.specs.List.{list_any, range_with_len}
 use Rattle.std.specs.Prelude.{unwrap_or}
@@ -67,18 +68,22 @@ stands_same d H i x h = same_test (says_stands (holding d H i).items x) (stands 
     (λ e. (h.exactly x).1 (says (holding d H i).items x e))
     (λ e. said (holding d H i).items x ((h.exactly x).0 e))
 
-runs_here : (d : Vnfd) (H : List Event) (i : ℕ) (x : Def) → HoldsWhatStands d H i → says_runs (holding d H i).items x ≡ true → runs H i x ≡ true
+runs_here : (d : Vnfd) (H : List Event) (i : ℕ) (x : Def) → HoldsWhatStands d H i → says_runs (holding d H i).items x ≡ true
+    → runs H i x ≡ true
 runs_here d H i x h e =
     let from = of_any (λ (y : Held). same_def y.def x && y.running) (holding d H i).items e in
     let same : from.0.def ≡ x = same_def-true from.0.def x (and_left _ _ from.2) in
-    let moving : runs H i from.0.def ≡ true = (h.as_it_stands from.0 from.1).running ∙ and_right (same_def from.0.def x) from.0.running from.2 in
+    let moving : runs H i from.0.def ≡ true = (h.as_it_stands from.0 from.1).running
+    ∙ and_right (same_def from.0.def x) from.0.running from.2 in
     subst (λ (z : Def). runs H i z ≡ true) same moving
 
-runs_said : (d : Vnfd) (H : List Event) (i : ℕ) (x : Def) → HoldsWhatStands d H i → runs H i x ≡ true → says_runs (holding d H i).items x ≡ true
+runs_said : (d : Vnfd) (H : List Event) (i : ℕ) (x : Def) → HoldsWhatStands d H i → runs H i x ≡ true
+    → says_runs (holding d H i).items x ≡ true
 runs_said d H i x h e =
     let from = of_map (λ (y : Held). y.def) x (holding d H i).items ((h.exactly x).0 (runs-stands H i x e)) in
     let same : same_def from.0.def x ≡ true = subst (λ (z : Def). same_def from.0.def z ≡ true) from.2 (same_def-refl from.0.def) in
-    let running : from.0.running ≡ true = sym (h.as_it_stands from.0 from.1).running ∙ subst (λ (z : Def). runs H i z ≡ true) (sym from.2) e in
+    let running : from.0.running ≡ true = sym (h.as_it_stands from.0 from.1).running
+    ∙ subst (λ (z : Def). runs H i z ≡ true) (sym from.2) e in
     any_in (λ y. same_def y.def x && y.running) from.0 (holding d H i).items from.1 (and_true _ _ same running)
 
 -- the greatest serials
@@ -94,7 +99,8 @@ map_past f (y ∷ xs) (suc n) e = map_past f xs n e
 
 pub top_within : (d : Vnfd) (f : ℕ → ℕ) (v : ℕ) → v < length d.vdus → unwrap_or (slice_get (map f (vdu_numbers d)) v) 0 ≡ f v
 top_within d f v h =
-    let at : slice_get (map f (vdu_numbers d)) v ≡ Some (f (0 + v)) = map_get f (vdu_numbers d) v (0 + v) (range_get 0 (length d.vdus) v h) in
+    let at : slice_get (map f (vdu_numbers d)) v ≡ Some (f (0 + v)) =
+    map_get f (vdu_numbers d) v (0 + v) (range_get 0 (length d.vdus) v h) in
     let same : 0 + v ≡ v = omega arith in
     rw at (ap f same)
 
@@ -105,11 +111,15 @@ none_greatest f (x ∷ xs) h =
 
 serial_none : (d : Vnfd) (kind : DefKind) (x : Def) → is_def_in d kind x ≡ true → length d.vdus ≤ x.vdu → x.serial ≡ 0
 serial_none d Link x e h = eqb-true x.serial 0 (and_right _ _ e)
-serial_none d Storage x e h = let less : x.vdu < length d.vdus = ltb-true x.vdu (length d.vdus) (and_left _ _ (and_left _ _ e)) in absurd (omega (arith, less, h))
-serial_none d Compute x e h = let less : x.vdu < length d.vdus = ltb-true x.vdu (length d.vdus) (and_left _ _ (and_left _ _ e)) in absurd (omega (arith, less, h))
-serial_none d Port x e h = let less : x.vdu < length d.vdus = ltb-true x.vdu (length d.vdus) (and_left _ _ (and_left _ _ e)) in absurd (omega (arith, less, h))
+serial_none d Storage x e h = let less : x.vdu < length d.vdus = ltb-true x.vdu (length d.vdus) (and_left _ _ (and_left _ _ e)) in
+    absurd (omega (arith, less, h))
+serial_none d Compute x e h = let less : x.vdu < length d.vdus = ltb-true x.vdu (length d.vdus) (and_left _ _ (and_left _ _ e)) in
+    absurd (omega (arith, less, h))
+serial_none d Port x e h = let less : x.vdu < length d.vdus = ltb-true x.vdu (length d.vdus) (and_left _ _ (and_left _ _ e)) in
+    absurd (omega (arith, less, h))
 
-top_in_none : (width m : ℕ) (H : List Event) → IsLegalWithin width m H → (i : ℕ) (d : Vnfd) → descriptor H i ≡ Some d → (v : ℕ) → length d.vdus ≤ v
+top_in_none : (width m : ℕ) (H : List Event) → IsLegalWithin width m H → (i : ℕ) (d : Vnfd) → descriptor H i ≡ Some d → (v : ℕ)
+    → length d.vdus ≤ v
     → (a : Operation) → IsIn a (filter (is_of_instance i) (operations H)) → top_in v a ≡ 0
 unfolding top_in
 top_in_none width m H legal i d known v past a h =
@@ -129,8 +139,10 @@ top_same width m H legal i d known v = by_test (ltb v (length d.vdus))
     (λ within. top_within d (top H i) v (ltb-true v (length d.vdus) within))
     (λ past.
     let beyond : length d.vdus ≤ v = ltb-false v (length d.vdus) past in
-    let none : slice_get (map (top H i) (vdu_numbers d)) v ≡ None = map_past (top H i) (vdu_numbers d) v (range_past 0 (length d.vdus) v beyond) in
-    let zero_top : top H i v ≡ 0 = none_greatest (top_in v) (filter (is_of_instance i) (operations H)) (top_in_none width m H legal i d known v beyond) in
+    let none : slice_get (map (top H i) (vdu_numbers d)) v ≡ None =
+    map_past (top H i) (vdu_numbers d) v (range_past 0 (length d.vdus) v beyond) in
+    let zero_top : top H i v ≡ 0 = none_greatest (top_in v) (filter (is_of_instance i) (operations H))
+    (top_in_none width m H legal i d known v beyond) in
     rw none (sym zero_top))
 
 inventory_by : (Def → Bool) → (Def → Bool) → (ℕ → ℕ) → Inventory
@@ -144,7 +156,8 @@ pub holding_tells : HoldingsAreInventories
 unfolding inventory_by
 holding_tells width m H legal i d known =
     let exact = holding_exact width m H legal i d known in
-    inventory_join (inventory_of (holding d H i)).stands (stands H i) (inventory_of (holding d H i)).runs (runs H i) (inventory_of (holding d H i)).top (top H i)
+    inventory_join (inventory_of (holding d H i)).stands (stands H i) (inventory_of (holding d H i)).runs (runs H i)
+    (inventory_of (holding d H i)).top (top H i)
     (fun_ext (λ x. stands_same d H i x exact))
     (fun_ext (λ x. same_test (says_runs (holding d H i).items x) (runs H i x) (runs_here d H i x exact) (runs_said d H i x exact)))
     (fun_ext (λ v. top_same width m H legal i d known v))

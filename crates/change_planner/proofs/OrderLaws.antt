@@ -1,5 +1,6 @@
 -- Lists in order, and the order of a holding's items.
-use Rattle.std.proofs.Common.{◌≡◌, ◌≤◌, ◌<◌, ◌&&◌, ◌||◌, ◌==◌, ◌∙◌, ℕ, List, [], ◌∷◌, Bool, true, false, refl, ap, sym, subst, arith, inl, inr, ◌⊎◌, ltb, ltb-true, eqb-true, get_or, drop, zero, ◌-◌, length, suc, ◌+◌}
+use Rattle.std.proofs.Common.{◌≡◌, ◌≤◌, ◌<◌, ◌&&◌, ◌||◌, ◌==◌, ◌∙◌, ℕ, List, [], ◌∷◌, Bool, true, false, refl, ap, sym, subst, arith, inl}
+use Rattle.std.proofs.Common.{inr, ◌⊎◌, ltb, ltb-true, eqb-true, get_or, drop, zero, ◌-◌, length, suc, ◌+◌}
 use Rattle.lcm_events.specs.Descriptors.{is_rising}
 use Rattle.lcm_events.specs.Same.{kind_number, same_kind}
 use Rattle.lcm_events.specs.declared.changes.Def.{Def}
@@ -13,13 +14,15 @@ use Rattle.lcm_model.specs.Descriptors.{IsHoldingOf, is_def_before}
 use Rattle.lcm_model.specs.Planned.{is_before}
 use Rattle.lcm_model.specs.Words.{IsIn}
 
-heads : {A : Type 0} → (R : A → A → Type 0) → ((x y : A) → R x y → R y x → ⊥) → (x y : A) (xs ys : List A) → ((z : A) → IsIn z xs → R x z) → ((z : A) → IsIn z ys → R y z)
+heads : {A : Type 0} → (R : A → A → Type 0) → ((x y : A) → R x y → R y x → ⊥) → (x y : A) (xs ys : List A) → ((z : A) → IsIn z xs → R x z)
+    → ((z : A) → IsIn z ys → R y z)
     → (y ≡ x) ⊎ IsIn x ys → (x ≡ y) ⊎ IsIn y xs → x ≡ y
 heads R asym x y xs ys hx hy (inl e) h = sym e
 heads R asym x y xs ys hx hy (inr k) (inl e) = e
 heads R asym x y xs ys hx hy (inr k) (inr h) = absurd (asym x y (hx y h) (hy x k))
 
-not_head : {A : Type 0} → (R : A → A → Type 0) → ((x y : A) → R x y → R y x → ⊥) → (x y z : A) (ys : List A) → x ≡ y → R x z → (y ≡ z) ⊎ IsIn z ys → IsIn z ys
+not_head : {A : Type 0} → (R : A → A → Type 0) → ((x y : A) → R x y → R y x → ⊥) → (x y z : A) (ys : List A) → x ≡ y → R x z
+    → (y ≡ z) ⊎ IsIn z ys → IsIn z ys
 not_head {A} R asym x y z ys e later (inl same) =
     let own : R x x = subst (λ (w : A). R x w) (sym (e ∙ same)) later in absurd (asym x x own own)
 not_head R asym x y z ys e later (inr k) = k
@@ -94,13 +97,14 @@ by_key x y =
 pub rising_on : (xs : List Held) → is_rising (λ x y. is_def_before x.def y.def) xs ≡ true → Rises Sooner xs
 rising_on [] e = tt
 rising_on (x ∷ []) e = (λ y h. absurd h, tt)
-rising_on (x ∷ y ∷ xs) e = all (by_key x.def y.def ∙ and_left (is_def_before x.def y.def) _ e) (rising_on (y ∷ xs) (and_right (is_def_before x.def y.def) _ e)) where
-  step : Sooner x y → Rises Sooner (y ∷ xs) → (z : Held) → IsIn z (y ∷ xs) → Sooner x z
-  step first rest z (inl is) = subst (λ (w : Held). Sooner x w) is first
-  step first rest z (inr h) = before_on (def_key x.def) (def_key y.def) (def_key z.def) first (rest.0 z h)
+rising_on (x ∷ y ∷ xs) e = all (by_key x.def y.def ∙ and_left (is_def_before x.def y.def) _ e)
+    (rising_on (y ∷ xs) (and_right (is_def_before x.def y.def) _ e)) where
+      step : Sooner x y → Rises Sooner (y ∷ xs) → (z : Held) → IsIn z (y ∷ xs) → Sooner x z
+      step first rest z (inl is) = subst (λ (w : Held). Sooner x w) is first
+      step first rest z (inr h) = before_on (def_key x.def) (def_key y.def) (def_key z.def) first (rest.0 z h)
 
-  all : Sooner x y → Rises Sooner (y ∷ xs) → Rises Sooner (x ∷ y ∷ xs)
-  all first rest = (λ z h. step first rest z h, rest)
+      all : Sooner x y → Rises Sooner (y ∷ xs) → Rises Sooner (x ∷ y ∷ xs)
+      all first rest = (λ z h. step first rest z h, rest)
 
 -- the items of a holding are in order
 pub items_in_order : (d : Vnfd) (h : Holding) → IsHoldingOf d h → Rises Sooner h.items
@@ -109,12 +113,14 @@ items_in_order d h is = rising_on h.items is.rising
 -- of two items of a VDU the later has no smaller serial
 pub serials_in_order : (v : ℕ) (x y : Held) → Sooner x y → x.def.vdu ≡ v → y.def.vdu ≡ v → x.def.serial ≤ y.def.serial
 serials_in_order v x y e hx hy =
-    elim (leads x.def.vdu y.def.vdu (x.def.serial ∷ kind_number x.def.kind ∷ x.def.item ∷ []) (y.def.serial ∷ kind_number y.def.kind ∷ y.def.item ∷ []) e) [
+    elim (leads x.def.vdu y.def.vdu (x.def.serial ∷ kind_number x.def.kind ∷ x.def.item ∷ [])
+    (y.def.serial ∷ kind_number y.def.kind ∷ y.def.item ∷ []) e) [
       | inl less ↦ absurd (omega (arith, less, hx, hy))
-      | inr same ↦ (elim (leads x.def.serial y.def.serial (kind_number x.def.kind ∷ x.def.item ∷ []) (kind_number y.def.kind ∷ y.def.item ∷ []) same.1) [
-        | inl less ↦ omega (arith, less)
-        | inr equal ↦ (let e = equal.0 in omega (arith, e))
-      ])
+      | inr same ↦ (elim (leads x.def.serial y.def.serial (kind_number x.def.kind ∷ x.def.item ∷ [])
+          (kind_number y.def.kind ∷ y.def.item ∷ []) same.1) [
+            | inl less ↦ omega (arith, less)
+            | inr equal ↦ (let e = equal.0 in omega (arith, e))
+          ])
     ]
 
 -- two items of a holding differ
@@ -124,7 +130,8 @@ sooner_differs x y e same =
     before_once (def_key x.def) (def_key x.def) again again
 
 -- where two items stand in order, the rest rises as the whole does
-pub rising_past : {A : Type 0} → (p : A → A → Bool) (xs : List A) (i : ℕ) (c d : A) (b : Bool) → 1 ≤ i → i < length xs → p (get_or xs (i - 1) c) (get_or xs i d) ≡ true
+pub rising_past : {A : Type 0} → (p : A → A → Bool) (xs : List A) (i : ℕ) (c d : A) (b : Bool) → 1 ≤ i → i < length xs
+    → p (get_or xs (i - 1) c) (get_or xs i d) ≡ true
     → is_rising p (drop (i - 1) xs) ≡ b → is_rising p (drop (i + 1 - 1) xs) ≡ b
 rising_past p [] i c d b from within e h = absurd (omega (arith, within))
 rising_past p (x ∷ []) i c d b from within e h = absurd (omega (arith, from, within))

@@ -1,9 +1,11 @@
 -- Laws of ranges that loops cite.
-use Rattle.std.proofs.Common.{◌≡◌, ℕ, ◌+◌, ◌-◌, ◌<◌, ◌≤◌, ◌*◌, suc, List, [], ◌∷◌, ◌++◌, ap, arith, append_assoc, map, flat_map, refl, sym, ◌∙◌}
+use Rattle.std.proofs.Common.{◌≡◌, ℕ, ◌+◌, ◌-◌, ◌<◌, ◌≤◌, ◌*◌, suc, List, [], ◌∷◌, ◌++◌, ap, arith, append_assoc, map, flat_map, refl, sym}
+use Rattle.std.proofs.Common.{◌∙◌}
 use Rattle.std.proofs.lemmas.Nat.{mul-le}
 use Rattle.std.specs.List.{range_with_len}
 
-shifted : (first at count : ℕ) → at < count → range_with_len (first + at) (count - at) ≡ (first + at) ∷ range_with_len (first + (at + 1)) (count - (at + 1))
+shifted : (first at count : ℕ) → at < count → range_with_len (first + at) (count - at)
+    ≡ (first + at) ∷ range_with_len (first + (at + 1)) (count - (at + 1))
 shifted first at count h =
     let e : count - at ≡ suc (count - (at + 1)) = omega arith in
     let s : first + at + 1 ≡ first + (at + 1) = omega arith in
@@ -14,7 +16,8 @@ map_both f [] ys = refl
 map_both f (x ∷ xs) ys = ap (λ zs. f x ∷ zs) (map_both f xs ys)
 
 -- what the numbers so far give, and then the next one, is what the numbers give
-pub made_on : {A B : Type 0} → (f : A → B) (g : ℕ → List A) (made now whole : List B) (first at count : ℕ) → at < count → now ≡ made ++ map f (g (first + at))
+pub made_on : {A B : Type 0} → (f : A → B) (g : ℕ → List A) (made now whole : List B) (first at count : ℕ) → at < count
+    → now ≡ made ++ map f (g (first + at))
     → made ++ map f (flat_map g (range_with_len (first + at) (count - at))) ≡ whole
     → now ++ map f (flat_map g (range_with_len (first + (at + 1)) (count - (at + 1)))) ≡ whole
 made_on f g made now whole first at count h is e =
@@ -31,7 +34,8 @@ one_more at count h = let e : count - at ≡ suc (count - (at + 1)) = omega arit
 pub range_on : (numbers whole : List ℕ) (at count : ℕ) → at < count → numbers ++ range_with_len at (count - at) ≡ whole
     → (numbers ++ at ∷ []) ++ range_with_len (at + 1) (count - (at + 1)) ≡ whole
 range_on numbers whole at count h e =
-    append_assoc numbers (at ∷ []) (range_with_len (at + 1) (count - (at + 1))) ∙ ap (λ (ns : List ℕ). numbers ++ ns) (sym (one_more at count h)) ∙ e
+    append_assoc numbers (at ∷ []) (range_with_len (at + 1) (count - (at + 1)))
+    ∙ ap (λ (ns : List ℕ). numbers ++ ns) (sym (one_more at count h)) ∙ e
 
 -- the definitions of a VDU's new machines are no more than this
 pub parts_bound : (machines parts : ℕ) → machines ≤ 1048625535 → parts ≤ 385 → machines * parts ≤ 403720830975

@@ -1,5 +1,6 @@
 -- What is asked for fits a record.
-use Rattle.std.proofs.Common.{◌≡◌, ◌≤◌, ◌+◌, ◌*◌, ◌||◌, ◌∙◌, ℕ, List, [], ◌∷◌, Bool, true, false, cond, not, Option, None, Some, is_some, refl, sym, subst, length, map, find, flat_map, arith, inl, inr}
+use Rattle.std.proofs.Common.{◌≡◌, ◌≤◌, ◌+◌, ◌*◌, ◌||◌, ◌∙◌, ℕ, List, [], ◌∷◌, Bool, true, false, cond, not, Option, None, Some, is_some}
+use Rattle.std.proofs.Common.{refl, sym, subst, length, map, find, flat_map, arith, inl, inr}
 use Rattle.std.specs.List.{AllByRecursion, list_any}
 use Rattle.std.proofs.Math.Nat.{suc-mul}
 use Rattle.std.proofs.lemmas.Bool.{leb-true}
@@ -26,7 +27,8 @@ use Rattle.lcm_model.specs.declared.refusals.Refusal.TheVariants as refusals
 use Rattle.lcm_model.specs.Words.{IsIn, when}
 use Rattle.lcm_model.specs.Lives.{descriptor}
 use Rattle.lcm_model.specs.Descriptors.{IsValid}
-use Rattle.lcm_model.specs.Refusals.{aim_refusal, aspect_named, content_refusal, has_aspect, is_above, names_twice, plan_refusal, situation, state_refusal}
+use Rattle.lcm_model.specs.Refusals.{aim_refusal, aspect_named, content_refusal, has_aspect, is_above, names_twice, plan_refusal, situation}
+use Rattle.lcm_model.specs.Refusals.{state_refusal}
 use Rattle.lcm_model.specs.Allowed.{IsAllowedWithin, IsLegalWithin, IsPlanOf}
 use Rattle.change_planner.specs.Records.{NamesFew}
 use Rattle.lcm_laws.proofs.Lists.{and_left, and_right, by_test, none_of-front, none_of-rest, when-none}
@@ -52,15 +54,18 @@ most_name : (text : List ℕ) → IsName text → length (spell.name text) ≤ 2
 most_name text h = let k : length text ≤ 255 = h.short in omega arith
 
 most_line : (text : List ℕ) → IsLine text → length (spell.line text) ≤ 2050
-most_line text h = let k : length text ≤ 2048 = h.short in omega (arith, length-append (spell.u16 (length text)) text, length-u16 (length text))
+most_line text h = let k : length text ≤ 2048 = h.short in omega
+    (arith, length-append (spell.u16 (length text)) text, length-u16 (length text))
 
-most_optional : {A : Type 0} → (spells : A → List ℕ) (Fits : A → Type 0) (m : ℕ) → ((x : A) → Fits x → length (spells x) ≤ m) → (o : Option A) → Optionally Fits o
+most_optional : {A : Type 0} → (spells : A → List ℕ) (Fits : A → Type 0) (m : ℕ) → ((x : A) → Fits x → length (spells x) ≤ m)
+    → (o : Option A) → Optionally Fits o
     → length (spell.optional spells o) ≤ m + 1
 most_optional spells Fits m most None h = omega arith
 most_optional spells Fits m most (Some x) h = let k = most x h in omega (arith, k)
 
 -- entries of a list, each of so many bytes at most
-most_entries : {A : Type 0} → (spells : A → List ℕ) (Fits : A → Type 0) (m : ℕ) → ((x : A) → Fits x → length (spells x) ≤ m) → (xs : List A) → AllByRecursion Fits xs
+most_entries : {A : Type 0} → (spells : A → List ℕ) (Fits : A → Type 0) (m : ℕ) → ((x : A) → Fits x → length (spells x) ≤ m) → (xs : List A)
+    → AllByRecursion Fits xs
     → length (flat_map spells xs) ≤ length xs * m
 most_entries spells Fits m most [] h = omega arith
 most_entries spells Fits m most (x ∷ xs) h =
@@ -81,7 +86,12 @@ most_vnfc : (v : Vnfc) → IsVnfc v → length (spell.vnfc v) ≤ 6
 most_vnfc v h = omega (arith, length-append (spell.u16 v.vdu) (spell.u32 v.serial), length-u16 v.vdu, length-u32 v.serial)
 
 most_level : (x : AspectLevel) → IsAspectLevel x → length (spell.aspect_level x) ≤ 260
-most_level x h = let name = most_name x.aspect h.0 in omega (arith, length-append (spell.name x.aspect) (spell.u32 x.level), length-u32 x.level, name)
+most_level x h = let name = most_name x.aspect h.0 in omega (
+  arith,
+  length-append (spell.name x.aspect) (spell.u32 x.level),
+  length-u32 x.level,
+  name,
+)
 
 -- names that differ are at most as many as those that they are among
 or_left : (a b : Bool) → (a || b) ≡ false → a ≡ false
@@ -102,9 +112,11 @@ names_differ [] e = tt
 names_differ (x ∷ named) e = (
   λ y within same.
       (let from = of_map (λ (z : AspectLevel). z.aspect) y named within in
-      let no : same_name from.0.aspect x.aspect ≡ false = none_passes (λ y. same_name y.aspect x.aspect) from.0 named (or_left (list_any (λ y. same_name y.aspect x.aspect) named) (names_twice named) e) from.1 in
+      let no : same_name from.0.aspect x.aspect ≡ false = none_passes (λ y. same_name y.aspect x.aspect) from.0 named
+      (or_left (list_any (λ y. same_name y.aspect x.aspect) named) (names_twice named) e) from.1 in
       let one : x.aspect ≡ from.0.aspect = same ∙ sym from.2 in
-      let yes : same_name from.0.aspect x.aspect ≡ true = subst (λ (n : List ℕ). same_name n x.aspect ≡ true) one (same_name-refl x.aspect) in
+      let yes : same_name from.0.aspect x.aspect ≡ true = subst (λ (n : List ℕ). same_name n x.aspect ≡ true) one
+      (same_name-refl x.aspect) in
       let clash : true ≡ false = sym yes ∙ no in cc),
   names_differ named (or_right (list_any (λ y. same_name y.aspect x.aspect) named) (names_twice named) e),
 )
@@ -122,11 +134,13 @@ found_passes {A} p (y ∷ xs) x e = by_test (p y)
     subst (λ (z : A). p z ≡ true) one passes)
     (λ fails. found_passes p xs x (subst (λ (b : Bool). cond b (Some y) (find p xs) ≡ Some x) fails e))
 
-known_aspect : (d : Vnfd) (name : List ℕ) (o : Option Aspect) → find (λ a. same_name a.name name) d.aspects ≡ o → is_some o ≡ true → IsIn name (map (λ a. a.name) d.aspects)
+known_aspect : (d : Vnfd) (name : List ℕ) (o : Option Aspect) → find (λ a. same_name a.name name) d.aspects ≡ o → is_some o ≡ true
+    → IsIn name (map (λ a. a.name) d.aspects)
 known_aspect d name None is e = cc
 known_aspect d name (Some a) is e =
     let one : a.name ≡ name = same_name-true a.name name (found_passes (λ a. same_name a.name name) d.aspects a is) in
-    subst (λ (n : List ℕ). IsIn n (map (λ a. a.name) d.aspects)) one (in_map (λ (a : Aspect). a.name) a d.aspects (found_in (λ a. same_name a.name name) d.aspects a is))
+    subst (λ (n : List ℕ). IsIn n (map (λ a. a.name) d.aspects)) one
+    (in_map (λ (a : Aspect). a.name) a d.aspects (found_in (λ a. same_name a.name name) d.aspects a is))
 
 few_named : (d : Vnfd) (named : List AspectLevel) → IsValid d → aim_refusal d (aims.Aspects named) ≡ None → length named ≤ 16
 few_named d named valid e =
@@ -136,12 +150,15 @@ few_named d named valid e =
     let all : list_any (λ x. not (has_aspect d x.aspect)) named ≡ false =
     when-none unknown refusals.UnknownAspect (none_of-front (when unknown refusals.UnknownAspect) (twice ∷ above ∷ []) e) in
     let once : names_twice named ≡ false =
-    when-none (names_twice named) refusals.AspectTwice (none_of-front twice (above ∷ []) (none_of-rest (when unknown refusals.UnknownAspect) (twice ∷ above ∷ []) e)) in
+    when-none (names_twice named) refusals.AspectTwice (none_of-front twice (above ∷ [])
+    (none_of-rest (when unknown refusals.UnknownAspect) (twice ∷ above ∷ []) e)) in
     let less : length (map (λ x. x.aspect) named) ≤ length (map (λ a. a.name) d.aspects) =
     few (map (λ x. x.aspect) named) (map (λ a. a.name) d.aspects) (names_differ named once) (λ n within.
     let from = of_map (λ (x : AspectLevel). x.aspect) n named within in
-    let known : has_aspect d from.0.aspect ≡ true = not-not-true (has_aspect d from.0.aspect) (none_passes (λ x. not (has_aspect d x.aspect)) from.0 named all from.1) in
-    subst (λ (k : List ℕ). IsIn k (map (λ a. a.name) d.aspects)) from.2 (known_aspect d from.0.aspect (aspect_named d from.0.aspect) refl known)) in
+    let known : has_aspect d from.0.aspect ≡ true = not-not-true (has_aspect d from.0.aspect)
+    (none_passes (λ x. not (has_aspect d x.aspect)) from.0 named all from.1) in
+    subst (λ (k : List ℕ). IsIn k (map (λ a. a.name) d.aspects)) from.2
+    (known_aspect d from.0.aspect (aspect_named d from.0.aspect) refl known)) in
     let sixteen : length d.aspects ≤ 16 = leb-true (length d.aspects) 16 (and_right _ _ (and_left _ _ (and_left _ _ valid.counts))) in
     omega (arith, less, sixteen, length-map named (λ x. x.aspect), length-map d.aspects (λ a. a.name))
 
@@ -153,7 +170,8 @@ most_aim d (aims.Aspects named) valid e h =
     omega (arith, length-append (spell.u16 (length named)) (flat_map spell.aspect_level named), length-u16 (length named), n, bytes)
 
 -- what an ask is spelled in
-pub most_ask : (d : Vnfd) (ask : Ask) → IsValid d → content_refusal d ask ≡ None → TypedAsk ask → NamesFew ask → length (spell.ask ask) ≤ 6000
+pub most_ask : (d : Vnfd) (ask : Ask) → IsValid d → content_refusal d ask ≡ None → TypedAsk ask → NamesFew ask
+    → length (spell.ask ask) ≤ 6000
 most_ask d (asks.Instantiate flavour level) valid e h n =
     let a = most_name flavour h.0 in
     let b = most_optional spell.name IsName 256 (λ x p. most_name x p) level h.1 in
@@ -164,21 +182,32 @@ most_ask d (asks.ScaleToLevel aim) valid e h n = let a = most_aim d aim valid e 
 most_ask d (asks.Heal cause named) valid e h n =
     let a = most_optional spell.line IsLine 2050 (λ x p. most_line x p) cause h.0 in
     let b = most_entries spell.vnfc IsVnfc 6 (λ x p. most_vnfc x p) named h.1 in
-    omega (arith, length-append (spell.optional spell.line cause) (spell.many spell.vnfc named), length-append (spell.u16 (length named)) (flat_map spell.vnfc named), length-u16 (length named), a, b, n)
+    omega (
+      arith,
+      length-append (spell.optional spell.line cause) (spell.many spell.vnfc named),
+      length-append (spell.u16 (length named)) (flat_map spell.vnfc named),
+      length-u16 (length named),
+      a,
+      b,
+      n,
+    )
 most_ask d (asks.Operate started stop) valid e h n = omega arith
 most_ask d (asks.Terminate mode timeout) valid e h n =
     let a = most_optional spell.u32 IsU32 4 (λ x p. four x) timeout h in omega (arith, a) where
       four : (x : ℕ) → length (spell.u32 x) ≤ 4
       four x = omega (arith, length-u32 x)
 
-most_asked : (H : List Event) (a : Operation) (d : Option Vnfd) → ((e : Vnfd) → d ≡ Some e → IsValid e) → IsPlanOf H a d → TypedAsk a.ask → NamesFew a.ask → length (spell.ask a.ask) ≤ 6000
+most_asked : (H : List Event) (a : Operation) (d : Option Vnfd) → ((e : Vnfd) → d ≡ Some e → IsValid e) → IsPlanOf H a d → TypedAsk a.ask
+    → NamesFew a.ask → length (spell.ask a.ask) ≤ 6000
 most_asked H a None f h typed n = absurd h
 most_asked H a (Some d) f h typed n =
     let content : content_refusal d a.ask ≡ None =
-    none_of-front (content_refusal d a.ask) (state_refusal d (situation d H a.instance) a.ask ∷ plan_refusal d (situation d H a.instance) a.ask ∷ []) h.0 in
+    none_of-front (content_refusal d a.ask) (state_refusal d (situation d H a.instance) a.ask
+    ∷ plan_refusal d (situation d H a.instance) a.ask ∷ []) h.0 in
     most_ask d a.ask (f d refl) content typed n
 
-pub length-operation : (o : Operation) → length (spell.operation o) ≡ 8 + (8 + (1 + (length (spell.ask o.ask) + (2 + length o.changes * 11))))
+pub length-operation : (o : Operation) → length (spell.operation o)
+    ≡ 8 + (8 + (1 + (length (spell.ask o.ask) + (2 + length o.changes * 11))))
 length-operation o =
     omega (arith, length-append {A = ℕ}, length-u64 o.occ, length-u64 o.instance, length-u16 (length o.changes), length-changes o.changes)
 

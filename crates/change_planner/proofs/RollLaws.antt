@@ -1,5 +1,7 @@
 -- What stands of the machines of a VDU, read off a holding's items.
-use Rattle.std.proofs.Common.{◌≡◌, ◌≤◌, ◌<◌, ◌+◌, ◌++◌, ◌&&◌, ◌||◌, ◌==◌, ◌∙◌, ℕ, List, [], ◌∷◌, Bool, true, false, not, Option, None, Some, refl, ap, sym, subst, length, map, filter, arith, inl, inr, ◌⊎◌, ltb, ltb-true, lt-ltb, eqb-true, eq-eqb, slice_get, length-append, ◌-◌, append_assoc}
+use Rattle.std.proofs.Common.{◌≡◌, ◌≤◌, ◌<◌, ◌+◌, ◌++◌, ◌&&◌, ◌||◌, ◌==◌, ◌∙◌, ℕ, List, [], ◌∷◌, Bool, true, false, not, Option, None, Some}
+use Rattle.std.proofs.Common.{refl, ap, sym, subst, length, map, filter, arith, inl, inr, ◌⊎◌, ltb, ltb-true, lt-ltb, eqb-true, eq-eqb}
+use Rattle.std.proofs.Common.{slice_get, length-append, ◌-◌, append_assoc}
 use Rattle.std.proofs.lemmas.Bool.{leb-true}
 use Rattle.std.proofs.lemmas.List.{length-map}
 use Rattle.std.specs.List.{list_all, range_with_len}
@@ -18,7 +20,8 @@ use Rattle.lcm_laws.proofs.BoundLaws.{Differ, all_parts, few, machine_differs}
 use Rattle.lcm_laws.proofs.CoverLaws.{all_in}
 use Rattle.lcm_laws.proofs.HoldingLaws.{all_of, few_vdus}
 use Rattle.lcm_laws.proofs.Lists.{and_left, and_right, and_true, by_test}
-use Rattle.lcm_laws.proofs.Members.{Less, Rises, among_in, any_in, get_in, in_filter, in_map, in_range, of_filter, of_map, of_range, rises_filter, rises_map, rises_range, rising_rises}
+use Rattle.lcm_laws.proofs.Members.{Less, Rises, among_in, any_in, get_in, in_filter, in_map, in_range, of_filter, of_map, of_range}
+use Rattle.lcm_laws.proofs.Members.{rises_filter, rises_map, rises_range, rising_rises}
 use Rattle.lcm_laws.proofs.PlanMembers.{OfMachine, in_all}
 use Rattle.lcm_model.specs.Descriptors.{IsHoldingOf, IsValid, is_def_up_to, is_valid_vdu}
 use Rattle.lcm_model.specs.Instances.{inventory_of}
@@ -53,24 +56,29 @@ distinct_rises v last (y ∷ ys) h f = by_test ((y.def.vdu == v) && not (y.def.s
       above m n s ns less g (inr k) = let more = g s k in omega (arith, less, more)
 
 -- a serial that is read is one of an item
-distinct_from : (v last s : ℕ) (ys : List Held) → IsIn s (distinct v last ys) → (y : Held) × IsIn y ys × (y.def.vdu ≡ v) × (y.def.serial ≡ s)
+distinct_from : (v last s : ℕ) (ys : List Held) → IsIn s (distinct v last ys)
+    → (y : Held) × IsIn y ys × (y.def.vdu ≡ v) × (y.def.serial ≡ s)
 distinct_from v last s [] k = absurd k
 distinct_from v last s (y ∷ ys) k = by_test ((y.def.vdu == v) && not (y.def.serial == last))
-    (λ new. here (eqb-true y.def.vdu v (and_left _ _ new)) (subst (λ (b : Bool). IsIn s (if_then b)) new k) (λ j. distinct_from v y.def.serial s ys j))
+    (λ new. here (eqb-true y.def.vdu v (and_left _ _ new)) (subst (λ (b : Bool). IsIn s (if_then b)) new k)
+    (λ j. distinct_from v y.def.serial s ys j))
     (λ old. later (distinct_from v last s ys (subst (λ (b : Bool). IsIn s (if_then b)) old k))) where
       if_then : Bool → List ℕ
       if_then b = if b then y.def.serial ∷ distinct v y.def.serial ys else distinct v last ys
 
-      later : (z : Held) × IsIn z ys × (z.def.vdu ≡ v) × (z.def.serial ≡ s) → (z : Held) × IsIn z (y ∷ ys) × (z.def.vdu ≡ v) × (z.def.serial ≡ s)
+      later : (z : Held) × IsIn z ys × (z.def.vdu ≡ v) × (z.def.serial ≡ s)
+          → (z : Held) × IsIn z (y ∷ ys) × (z.def.vdu ≡ v) × (z.def.serial ≡ s)
       later f = (f.0, inr f.1, f.2, f.3)
 
-      here : y.def.vdu ≡ v → (y.def.serial ≡ s) ⊎ IsIn s (distinct v y.def.serial ys) → (IsIn s (distinct v y.def.serial ys) → (z : Held) × IsIn z ys × (z.def.vdu ≡ v) × (z.def.serial ≡ s))
+      here : y.def.vdu ≡ v → (y.def.serial ≡ s) ⊎ IsIn s (distinct v y.def.serial ys)
+          → (IsIn s (distinct v y.def.serial ys) → (z : Held) × IsIn z ys × (z.def.vdu ≡ v) × (z.def.serial ≡ s))
           → (z : Held) × IsIn z (y ∷ ys) × (z.def.vdu ≡ v) × (z.def.serial ≡ s)
       here at (inl e) on = (y, inl refl, at, e)
       here at (inr j) on = later (on j)
 
 -- the serial of an item is read, where it isn't the one before
-distinct_has : (v last : ℕ) (y : Held) (ys : List Held) → IsIn y ys → y.def.vdu ≡ v → (y.def.serial ≡ last) ⊎ IsIn y.def.serial (distinct v last ys)
+distinct_has : (v last : ℕ) (y : Held) (ys : List Held) → IsIn y ys → y.def.vdu ≡ v
+    → (y.def.serial ≡ last) ⊎ IsIn y.def.serial (distinct v last ys)
 distinct_has v last y [] k at = absurd k
 distinct_has v last y (z ∷ ys) k at = by_test ((z.def.vdu == v) && not (z.def.serial == last))
     (λ new. rw new (at_new k (λ j. distinct_has v z.def.serial y ys j at)))
@@ -80,14 +88,16 @@ distinct_has v last y (z ∷ ys) k at = by_test ((z.def.vdu == v) && not (z.def.
       at_new (inl e) on = inr (inl (ap (λ (w : Held). w.def.serial) e))
       at_new (inr j) on = elim (on j) [ inl e ↦ inr (inl (sym e)) | inr i ↦ inr (inr i) ]
 
-      at_old : (z ≡ y) ⊎ IsIn y ys → ((z.def.vdu == v) && not (z.def.serial == last)) ≡ false → (IsIn y ys → (y.def.serial ≡ last) ⊎ IsIn y.def.serial (distinct v last ys))
+      at_old : (z ≡ y) ⊎ IsIn y ys → ((z.def.vdu == v) && not (z.def.serial == last)) ≡ false
+          → (IsIn y ys → (y.def.serial ≡ last) ⊎ IsIn y.def.serial (distinct v last ys))
           → (y.def.serial ≡ last) ⊎ IsIn y.def.serial (distinct v last ys)
       at_old (inr j) old on = on j
       at_old (inl e) old on = by_test (y.def.serial == last)
           (λ same. inl (eqb-true y.def.serial last same))
           (λ apart.
           let here : (y.def.vdu == v) ≡ true = eq-eqb y.def.vdu v at in
-          let test : ((y.def.vdu == v) && not (y.def.serial == last)) ≡ false = subst (λ (w : Held). ((w.def.vdu == v) && not (w.def.serial == last)) ≡ false) e old in
+          let test : ((y.def.vdu == v) && not (y.def.serial == last)) ≡ false =
+          subst (λ (w : Held). ((w.def.vdu == v) && not (w.def.serial == last)) ≡ false) e old in
           let yes : ((y.def.vdu == v) && not (y.def.serial == last)) ≡ true = and_true _ _ here (ap not apart) in
           let clash : true ≡ false = sym yes ∙ test in absurd cc)
 
@@ -121,12 +131,14 @@ pub machine_of : (d : Vnfd) (h : Holding) (y : Held) → IsHoldingOf d h → IsI
 machine_of d h y is k other =
     let known = known_item d h y is k in
     let facts = kind_item d y.def.kind y.def refl other (and_left _ _ known) in
-    let low : (same_kind y.def.kind Link || nat_le y.def.serial (unwrap_or (slice_get h.top y.def.vdu) 0)) ≡ true = and_right (is_def_of d y.def) _ known in
+    let low : (same_kind y.def.kind Link || nat_le y.def.serial (unwrap_or (slice_get h.top y.def.vdu) 0)) ≡ true =
+    and_right (is_def_of d y.def) _ known in
     record {
       vdu = facts.0;
       among = facts.1;
       above = facts.2;
-      low = leb-true y.def.serial (unwrap_or (slice_get h.top y.def.vdu) 0) (subst (λ (b : Bool). (b || nat_le y.def.serial (unwrap_or (slice_get h.top y.def.vdu) 0)) ≡ true) other low);
+      low = leb-true y.def.serial (unwrap_or (slice_get h.top y.def.vdu) 0)
+          (subst (λ (b : Bool). (b || nat_le y.def.serial (unwrap_or (slice_get h.top y.def.vdu) 0)) ≡ true) other low);
     }
 
 link_item : (d : Vnfd) (kind : DefKind) (x : Def) → (same_kind kind Link ≡ true) → is_def_in d kind x ≡ true → x.vdu ≡ 65535
@@ -136,7 +148,8 @@ link_item d Compute x is e = absurd cc
 link_item d Port x is e = absurd cc
 
 -- an item of a VDU of the descriptor is no link
-pub no_link : (d : Vnfd) (h : Holding) (y : Held) → IsValid d → IsHoldingOf d h → IsIn y h.items → y.def.vdu < length d.vdus → same_kind y.def.kind Link ≡ false
+pub no_link : (d : Vnfd) (h : Holding) (y : Held) → IsValid d → IsHoldingOf d h → IsIn y h.items → y.def.vdu < length d.vdus
+    → same_kind y.def.kind Link ≡ false
 no_link d h y valid is k within = by_test (same_kind y.def.kind Link)
     (λ link.
     let far = link_item d y.def.kind y.def link (and_left _ _ (known_item d h y is k)) in
@@ -145,9 +158,11 @@ no_link d h y valid is k within = by_test (same_kind y.def.kind Link)
     (λ other. other)
 
 -- an item of a machine says that something of it stands
-pub item_there : (d : Vnfd) (h : Holding) (y : Held) → IsOfVdu d h y → IsIn y h.items → is_there d (inventory_of h) y.def.vdu y.def.serial ≡ true
+pub item_there : (d : Vnfd) (h : Holding) (y : Held) → IsOfVdu d h y → IsIn y h.items
+    → is_there d (inventory_of h) y.def.vdu y.def.serial ≡ true
 item_there d h y is k =
-    any_in (inventory_of h).stands y.def (all_defs d y.def.vdu y.def.serial) is.among (said h.items y.def (in_map (λ (z : Held). z.def) y h.items k))
+    any_in (inventory_of h).stands y.def (all_defs d y.def.vdu y.def.serial) is.among
+    (said h.items y.def (in_map (λ (z : Held). z.def) y h.items k))
 
 -- where something of a machine stands, an item says so
 there_item : (d : Vnfd) (h : Holding) (v s : ℕ) → is_there d (inventory_of h) v s ≡ true
@@ -156,14 +171,20 @@ there_item d h v s e =
     let some = of_any (inventory_of h).stands (all_defs d v s) e in
     let parts = all_parts d v s some.0 some.1 in
     let from = of_map (λ (z : Held). z.def) some.0 h.items (says h.items some.0 some.2) in
-    let same : some.0 ≡ from.0.def = sym from.2 in
-    (from.0, from.1, subst (λ (x : Def). OfMachine x.kind) same parts.0, ap (λ (x : Def). x.vdu) from.2 ∙ parts.1, ap (λ (x : Def). x.serial) from.2 ∙ parts.2)
+    let same : some.0 ≡ from.0.def = sym from.2 in (
+      from.0,
+      from.1,
+      subst (λ (x : Def). OfMachine x.kind) same parts.0,
+      ap (λ (x : Def). x.vdu) from.2 ∙ parts.1,
+      ap (λ (x : Def). x.serial) from.2 ∙ parts.2,
+    )
 
 less_once : (m n : ℕ) → m < n → n < m → ⊥
 less_once m n a b = absurd (omega (arith, a, b))
 
 -- the serials that are read off the items are those of which something stands
-pub distinct_there : (d : Vnfd) (h : Holding) (to : List ℕ) (v : ℕ) → CanBePlanned d h to → v < length d.vdus → distinct v 0 h.items ≡ there d (inventory_of h) v
+pub distinct_there : (d : Vnfd) (h : Holding) (to : List ℕ) (v : ℕ) → CanBePlanned d h to → v < length d.vdus
+    → distinct v 0 h.items ≡ there d (inventory_of h) v
 distinct_there d h to v can within =
     let rises = distinct_rises v 0 h.items (items_in_order d h can.held) (λ y k e. omega arith) in
     unique Less less_once (distinct v 0 h.items) (there d (inventory_of h) v) rises.0
@@ -177,7 +198,8 @@ distinct_there d h to v can within =
     let facts = machine_of d h y can.held from.1 other in
     let above = facts.above in
     let low : y.def.serial ≤ (inventory_of h).top v = subst (λ (n : ℕ). y.def.serial ≤ (inventory_of h).top n) at facts.low in
-    let stands : is_there d (inventory_of h) v y.def.serial ≡ true = subst (λ (n : ℕ). is_there d (inventory_of h) n y.def.serial ≡ true) at (item_there d h y facts from.1) in
+    let stands : is_there d (inventory_of h) v y.def.serial ≡ true =
+    subst (λ (n : ℕ). is_there d (inventory_of h) n y.def.serial ≡ true) at (item_there d h y facts from.1) in
     in_filter (is_there d (inventory_of h) v) s (range_with_len 1 ((inventory_of h).top v))
     (in_range s 1 ((inventory_of h).top v) (omega (arith, is, above)) (omega (arith, is, low)))
     (subst (λ (n : ℕ). is_there d (inventory_of h) v n ≡ true) is stands))
@@ -200,7 +222,8 @@ distinct_own v last (y ∷ ys) = by_test (y.def.vdu == v)
     (λ new. rw own (rw own (rw new (ap (λ ns. y.def.serial ∷ ns) (distinct_own v y.def.serial ys))))))
     (λ other. rw other (distinct_own v last ys))
 
-pub own_there : (d : Vnfd) (h : Holding) (to : List ℕ) (v : ℕ) (ys : List Held) → CanBePlanned d h to → v < length d.vdus → ys ≡ filter (has_vdu v) h.items
+pub own_there : (d : Vnfd) (h : Holding) (to : List ℕ) (v : ℕ) (ys : List Held) → CanBePlanned d h to → v < length d.vdus
+    → ys ≡ filter (has_vdu v) h.items
     → distinct v 0 ys ≡ there d (inventory_of h) v
 own_there d h to v ys can within own = ap (distinct v 0) own ∙ (distinct_own v 0 h.items ∙ distinct_there d h to v can within)
 
@@ -234,7 +257,8 @@ there_at d h to v s ys can own = same_test (ltb v (length d.vdus) && ltb 0 (leng
     let is : y.def.serial ≡ s = eqb-true y.def.serial s (and_right (y.def.vdu == v) _ from.1) in
     let facts = machine_of d h y can.held from.0 (no_link d h y can.valid can.held from.0 (omega (arith, at, within))) in
     let there : is_there d (inventory_of h) y.def.vdu y.def.serial ≡ true = item_there d h y facts from.0 in
-    subst (λ (n : ℕ). is_there d (inventory_of h) v n ≡ true) is (subst (λ (n : ℕ). is_there d (inventory_of h) n y.def.serial ≡ true) at there))
+    subst (λ (n : ℕ). is_there d (inventory_of h) v n ≡ true) is (subst
+    (λ (n : ℕ). is_there d (inventory_of h) n y.def.serial ≡ true) at there))
     (λ e.
     let item = there_item d h v s e in
     let y = item.0 in
@@ -253,16 +277,20 @@ first_is : (a b r : Bool) → a ≡ false → (a && b) ≡ r → a ≡ r
 first_is true b r e f = absurd cc
 first_is false b r e f = f
 
-pub there_known : (d : Vnfd) (h : Holding) (to : List ℕ) (v s : ℕ) (ys : List Held) → CanBePlanned d h to → ys ≡ filter (is_at v s) h.items → v < length d.vdus
+pub there_known : (d : Vnfd) (h : Holding) (to : List ℕ) (v s : ℕ) (ys : List Held) → CanBePlanned d h to → ys ≡ filter (is_at v s) h.items
+    → v < length d.vdus
     → ltb 0 (length ys) ≡ is_there d (inventory_of h) v s
 there_known d h to v s ys can own within =
-    second_is (ltb v (length d.vdus)) (ltb 0 (length ys)) (is_there d (inventory_of h) v s) (lt-ltb v (length d.vdus) within) (there_at d h to v s ys can own)
+    second_is (ltb v (length d.vdus)) (ltb 0 (length ys)) (is_there d (inventory_of h) v s) (lt-ltb v (length d.vdus) within)
+    (there_at d h to v s ys can own)
 
-pub there_unknown : (d : Vnfd) (h : Holding) (to : List ℕ) (v s : ℕ) (ys : List Held) → CanBePlanned d h to → ys ≡ filter (is_at v s) h.items → length d.vdus ≤ v
+pub there_unknown : (d : Vnfd) (h : Holding) (to : List ℕ) (v s : ℕ) (ys : List Held) → CanBePlanned d h to
+    → ys ≡ filter (is_at v s) h.items → length d.vdus ≤ v
     → ltb v (length d.vdus) ≡ is_there d (inventory_of h) v s
 there_unknown d h to v s ys can own past = by_test (ltb v (length d.vdus))
     (λ within. let less = ltb-true v (length d.vdus) within in absurd (omega (arith, less, past)))
-    (λ beyond. first_is (ltb v (length d.vdus)) (ltb 0 (length ys)) (is_there d (inventory_of h) v s) beyond (there_at d h to v s ys can own))
+    (λ beyond. first_is (ltb v (length d.vdus)) (ltb 0 (length ys)) (is_there d (inventory_of h) v s) beyond
+    (there_at d h to v s ys can own))
 
 -- the definitions of the items that pass a test
 abbrev pub defs_where : (Held → Bool) → List Held → List Def
@@ -279,18 +307,22 @@ where_stands h p x k =
     let own = of_filter p from.0 h.items from.1 in
     said h.items x (subst (λ (z : Def). IsIn z (map (λ y. y.def) h.items)) from.2 (in_map (λ (y : Held). y.def) from.0 h.items own.0))
 
-pub standing_where : (h : Holding) (p : Held → Bool) (x : Def) → ((y : Held) → y.def ≡ x → p y ≡ true) → (inventory_of h).stands x ≡ true → IsIn x (defs_where p h.items)
+pub standing_where : (h : Holding) (p : Held → Bool) (x : Def) → ((y : Held) → y.def ≡ x → p y ≡ true) → (inventory_of h).stands x ≡ true
+    → IsIn x (defs_where p h.items)
 standing_where h p x passes stands =
     let from = of_map (λ (y : Held). y.def) x h.items (says h.items x stands) in
-    subst (λ (z : Def). IsIn z (defs_where p h.items)) from.2 (in_map (λ (y : Held). y.def) from.0 (filter p h.items) (in_filter p from.0 h.items from.1 (passes from.0 from.2)))
+    subst (λ (z : Def). IsIn z (defs_where p h.items)) from.2 (in_map (λ (y : Held). y.def) from.0 (filter p h.items)
+    (in_filter p from.0 h.items from.1 (passes from.0 from.2)))
 
 with_first : {A : Type 0} → (z x : A) (ys zs : List A) → (x ≡ z) ⊎ IsIn z ys → IsIn x zs → (IsIn z ys → IsIn z zs) → IsIn z zs
 with_first {A} z x ys zs (inl e) among f = subst (λ (w : A). IsIn w zs) e among
 with_first z x ys zs (inr k) among f = f k
 
 -- of these definitions as many stand as there are, exactly where all do
-pub counted_all : (h : Holding) (xs ds : List Def) → Rises Differ xs → Rises Differ ds → ((x : Def) → IsIn x xs → IsIn x ds) → ((x : Def) → IsIn x xs → (inventory_of h).stands x ≡ true)
-    → ((x : Def) → IsIn x ds → (inventory_of h).stands x ≡ true → IsIn x xs) → (length xs == length ds) ≡ list_all (inventory_of h).stands ds
+pub counted_all : (h : Holding) (xs ds : List Def) → Rises Differ xs → Rises Differ ds → ((x : Def) → IsIn x xs → IsIn x ds)
+    → ((x : Def) → IsIn x xs → (inventory_of h).stands x ≡ true)
+    → ((x : Def) → IsIn x ds → (inventory_of h).stands x ≡ true → IsIn x xs)
+    → (length xs == length ds) ≡ list_all (inventory_of h).stands ds
 counted_all h xs ds hx hd among stands standing =
     let most : length xs ≤ length ds = few xs ds hx among in
     same_test (length xs == length ds) (list_all (inventory_of h).stands ds)
@@ -300,7 +332,8 @@ counted_all h xs ds hx hd among stands standing =
     (λ yes. yes)
     (λ missing.
     let more : length (x ∷ xs) ≤ length ds = few (x ∷ xs) ds (
-      λ z k same. let has : (inventory_of h).stands x ≡ true = subst (λ (w : Def). (inventory_of h).stands w ≡ true) (sym same) (stands z k) in
+      λ z k same. let has : (inventory_of h).stands x ≡ true = subst (λ (w : Def). (inventory_of h).stands w ≡ true) (sym same)
+          (stands z k) in
           let clash : true ≡ false = sym has ∙ missing in absurd cc,
       hx,
     )
@@ -320,7 +353,8 @@ size_all d v s =
     omega (arith, a, b, m, n, k)
 
 -- an item of a machine has one of its definitions
-part_among : (d : Vnfd) (h : Holding) (v s : ℕ) (x : Def) → IsValid d → IsHoldingOf d h → v < length d.vdus → IsIn x (defs_where (is_at v s) h.items) → IsIn x (all_defs d v s)
+part_among : (d : Vnfd) (h : Holding) (v s : ℕ) (x : Def) → IsValid d → IsHoldingOf d h → v < length d.vdus
+    → IsIn x (defs_where (is_at v s) h.items) → IsIn x (all_defs d v s)
 part_among d h v s x valid is within k =
     let from = of_map (λ (y : Held). y.def) x (filter (is_at v s) h.items) k in
     let own = of_filter (is_at v s) from.0 h.items from.1 in
@@ -328,23 +362,29 @@ part_among d h v s x valid is within k =
     let at : y.def.vdu ≡ v = eqb-true y.def.vdu v (and_left _ _ own.1) in
     let same : y.def.serial ≡ s = eqb-true y.def.serial s (and_right (y.def.vdu == v) _ own.1) in
     let facts = machine_of d h y is own.0 (no_link d h y valid is own.0 (omega (arith, at, within))) in
-    let here : IsIn y.def (all_defs d v s) = subst (λ (n : ℕ). IsIn y.def (all_defs d v n)) same (subst (λ (n : ℕ). IsIn y.def (all_defs d n y.def.serial)) at facts.among) in
+    let here : IsIn y.def (all_defs d v s) = subst (λ (n : ℕ). IsIn y.def (all_defs d v n)) same
+    (subst (λ (n : ℕ). IsIn y.def (all_defs d n y.def.serial)) at facts.among) in
     subst (λ (z : Def). IsIn z (all_defs d v s)) from.2 here
 
-among_part : (d : Vnfd) (h : Holding) (v s : ℕ) (x : Def) → IsIn x (all_defs d v s) → (inventory_of h).stands x ≡ true → IsIn x (defs_where (is_at v s) h.items)
+among_part : (d : Vnfd) (h : Holding) (v s : ℕ) (x : Def) → IsIn x (all_defs d v s) → (inventory_of h).stands x ≡ true
+    → IsIn x (defs_where (is_at v s) h.items)
 among_part d h v s x among stands =
     let parts = all_parts d v s x among in
-    standing_where h (is_at v s) x (λ y e. and_true _ _ (eq-eqb y.def.vdu v (ap (λ (z : Def). z.vdu) e ∙ parts.1)) (eq-eqb y.def.serial s (ap (λ (z : Def). z.serial) e ∙ parts.2))) stands
+    standing_where h (is_at v s) x (λ y e. and_true _ _ (eq-eqb y.def.vdu v (ap (λ (z : Def). z.vdu) e ∙ parts.1))
+    (eq-eqb y.def.serial s (ap (λ (z : Def). z.serial) e ∙ parts.2))) stands
 
 -- a machine is whole where as many of its definitions stand as it has
-pub counted_whole : (d : Vnfd) (h : Holding) (to : List ℕ) (v s : ℕ) (ys : List Held) → CanBePlanned d h to → v < length d.vdus → ys ≡ filter (is_at v s) h.items
+pub counted_whole : (d : Vnfd) (h : Holding) (to : List ℕ) (v s : ℕ) (ys : List Held) → CanBePlanned d h to → v < length d.vdus
+    → ys ≡ filter (is_at v s) h.items
     → (length ys == parts_of d v) ≡ is_whole d (inventory_of h) v s
 counted_whole d h to v s ys can within own =
     ap (λ (zs : List Held). length zs == parts_of d v) own
     ∙ (ap (λ n. n == parts_of d v) (sym (length-map (filter (is_at v s) h.items) (λ y. y.def)))
     ∙ (ap (λ n. length (defs_where (is_at v s) h.items) == n) (sym (size_all d v s))
-    ∙ counted_all h (defs_where (is_at v s) h.items) (all_defs d v s) (where_differ d h (is_at v s) can.held) (machine_differs d v s can.valid)
-    (λ x k. part_among d h v s x can.valid can.held within k) (λ x k. where_stands h (is_at v s) x k) (λ x k stands. among_part d h v s x k stands)))
+    ∙ counted_all h (defs_where (is_at v s) h.items) (all_defs d v s) (where_differ d h (is_at v s) can.held)
+    (machine_differs d v s can.valid)
+    (λ x k. part_among d h v s x can.valid can.held within k) (λ x k. where_stands h (is_at v s) x k)
+    (λ x k stands. among_part d h v s x k stands)))
 
 map_same : (xs : List ℕ) → map (λ x. x) xs ≡ xs
 map_same [] = refl
@@ -352,26 +392,31 @@ map_same (x ∷ xs) = ap (λ ys. x ∷ ys) (map_same xs)
 
 less_differs : (xs : List ℕ) → Rises Less xs → Rises Differ xs
 less_differs xs h =
-    subst (λ (ys : List ℕ). Rises Differ ys) (map_same xs) (rises_map Less Differ (λ x. x) xs (λ a b ha hb less e. absurd (omega (arith, less, e))) h)
+    subst (λ (ys : List ℕ). Rises Differ ys) (map_same xs) (rises_map Less Differ (λ x. x) xs
+    (λ a b ha hb less e. absurd (omega (arith, less, e))) h)
 
 rising_few : (n : ℕ) (xs : List ℕ) → Rises Less xs → ((x : ℕ) → IsIn x xs → x < n) → length xs ≤ n
 rising_few n xs h f =
-    let most = few xs (range_with_len 0 n) (less_differs xs h) (λ x k. let low = f x k in in_range x 0 n (omega arith) (omega (arith, low))) in
+    let most = few xs (range_with_len 0 n) (less_differs xs h) (λ x k. let low = f x k in in_range x 0 n (omega arith) (omega (arith, low)))
+    in
     let size = range_length 0 n in
     omega (arith, most, size)
 
-storages_by : (d : Vnfd) (o : Option Vdu) → ((u : Vdu) → o ≡ Some u → is_valid_vdu d u ≡ true) → length d.storages ≤ 128 → length (option_map_or (λ u. u.storages) o []) ≤ 128
+storages_by : (d : Vnfd) (o : Option Vdu) → ((u : Vdu) → o ≡ Some u → is_valid_vdu d u ≡ true) → length d.storages ≤ 128
+    → length (option_map_or (λ u. u.storages) o []) ≤ 128
 storages_by d None f few_storages = omega arith
 storages_by d (Some u) f few_storages =
     let valid = f u refl in
     rising_few 128 u.storages (rising_rises u.storages (and_right _ _ (and_left _ _ valid)))
-    (λ x k. let low = ltb-true x (length d.storages) (all_in (λ n. ltb n (length d.storages)) x u.storages (and_right _ _ valid) k) in omega (arith, low, few_storages))
+    (λ x k. let low = ltb-true x (length d.storages) (all_in (λ n. ltb n (length d.storages)) x u.storages (and_right _ _ valid) k) in
+    omega (arith, low, few_storages))
 
 -- a machine has few storages
 pub storages_few : (d : Vnfd) (v : ℕ) → IsValid d → length (storages_of d v) ≤ 128
 storages_few d v valid =
     storages_by d (slice_get d.vdus v) (λ u e. all_in (is_valid_vdu d) u d.vdus valid.vdus (get_in u d.vdus v e))
-    (leb-true (length d.storages) 128 (and_right _ _ (and_left _ _ (and_left _ _ (and_left _ _ (and_left _ _ (and_left _ _ valid.counts)))))))
+    (leb-true (length d.storages) 128 (and_right _ _ (and_left _ _
+    (and_left _ _ (and_left _ _ (and_left _ _ (and_left _ _ valid.counts)))))))
 
 pub ports_few : (d : Vnfd) → IsValid d → length d.ports ≤ 256
 ports_few d valid = leb-true (length d.ports) 256 (and_right _ _ (and_left _ _ (and_left _ _ (and_left _ _ valid.counts))))
@@ -382,7 +427,8 @@ all_more p [] x h e = and_true (p x) true e refl
 all_more p (y ∷ xs) x h e = and_true (p y) _ (and_left (p y) _ h) (all_more p xs x (and_right (p y) _ h) e)
 
 -- what a function gives of a number, and then of the next ones, is what it gives of all
-pub map_range_on : {A : Type 0} → (f : ℕ → A) (made whole : List A) (x : A) (i n : ℕ) → i < n → x ≡ f i → made ++ map f (range_with_len i (n - i)) ≡ whole
+pub map_range_on : {A : Type 0} → (f : ℕ → A) (made whole : List A) (x : A) (i n : ℕ) → i < n → x ≡ f i
+    → made ++ map f (range_with_len i (n - i)) ≡ whole
     → (made ++ x ∷ []) ++ map f (range_with_len (i + 1) (n - (i + 1))) ≡ whole
 map_range_on f made whole x i n h is e =
     let step : map f (range_with_len i (n - i)) ≡ f i ∷ map f (range_with_len (i + 1) (n - (i + 1))) = ap (map f) (range_step i n h) in

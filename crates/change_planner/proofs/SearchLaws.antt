@@ -1,5 +1,6 @@
 -- A search among rising numbers finds what is among them.
-use Rattle.std.proofs.Common.{◌≡◌, ◌≤◌, ◌<◌, ◌+◌, ℕ, zero, suc, List, [], ◌∷◌, true, Some, refl, sym, subst, length, get_or, map, filter, ◌==◌, ◌||◌, ◌∙◌, Bool, ap, arith, inl, inr, ltb, ltb-true, ltb-false, slice_get}
+use Rattle.std.proofs.Common.{◌≡◌, ◌≤◌, ◌<◌, ◌+◌, ℕ, zero, suc, List, [], ◌∷◌, true, Some, refl, sym, subst, length, get_or, map, filter}
+use Rattle.std.proofs.Common.{◌==◌, ◌||◌, ◌∙◌, Bool, ap, arith, inl, inr, ltb, ltb-true, ltb-false, slice_get}
 use Rattle.std.proofs.lemmas.Bool.{leb-true}
 use Rattle.std.proofs.lemmas.List.Sorted.{IsNonDecreasingBy-from_default, list_any-IsPermutation, searched}
 use Rattle.std.proofs.Math.Path.{fun_ext}
@@ -34,7 +35,8 @@ rises_by (n ∷ ns) h zero (suc j) le less = let more = h.0 (get_or ns j 0) (at_
 rises_by (n ∷ ns) h (suc i) zero le less = absurd (omega (arith, le))
 rises_by (n ∷ ns) h (suc i) (suc j) le less = rises_by ns h.1 i j (omega (arith, le)) (omega (arith, less))
 
-pub searched_among : (ns : List ℕ) (x : ℕ) (r : Result ℕ ℕ) → IsNonDecreasing ns → IsBinarySearchResult (λ y. nat_cmp y x) ns r → is_ok r ≡ is_among ns x
+pub searched_among : (ns : List ℕ) (x : ℕ) (r : Result ℕ ℕ) → IsNonDecreasing ns → IsBinarySearchResult (λ y. nat_cmp y x) ns r
+    → is_ok r ≡ is_among ns x
 searched_among ns x (Ok i) sorted found =
     let at = searched ns x (Ok i) found (λ i j le less. sorted i j 0 le less) in
     sym (in_among ns x (subst (λ (n : ℕ). IsIn n ns) at.1 (at_in ns i at.0)))
@@ -53,7 +55,8 @@ searched_among ns x (Err i) sorted found =
 pub rising_sorted : (ns : List ℕ) → is_rising ltb ns ≡ true → IsNonDecreasing ns
 rising_sorted ns rising = IsNonDecreasingBy-from_default (λ n. n) ns 0 (rises_by ns (rising_rises ns rising))
 
-pub rising_at : (rolls : List Roll) (v : ℕ) (r : Roll) → are_rising rolls ≡ true → slice_get rolls v ≡ Some r → is_rising ltb r.staying ≡ true
+pub rising_at : (rolls : List Roll) (v : ℕ) (r : Roll) → are_rising rolls ≡ true → slice_get rolls v ≡ Some r
+    → is_rising ltb r.staying ≡ true
 rising_at rolls v r all at = all_in (λ r. is_rising ltb r.staying) r rolls all (get_in r rolls v at)
 
 -- the serials of a VDU that are named
@@ -64,7 +67,8 @@ named_among (x ∷ named) v s = by_test (x.vdu == v)
     (λ other. rw other (named_among named v s))
 
 -- and the same once they are sorted
-pub named_sorted : (named : List Vnfc) (v : ℕ) (ns ms : List ℕ) → ns ≡ map (λ x. x.serial) (filter (λ x. x.vdu == v) named) → IsPermutation ns ms
+pub named_sorted : (named : List Vnfc) (v : ℕ) (ns ms : List ℕ) → ns ≡ map (λ x. x.serial) (filter (λ x. x.vdu == v) named)
+    → IsPermutation ns ms
     → (s : ℕ) → is_among ms s ≡ is_named named v s
 named_sorted named v ns ms own shuffled s =
     sym (list_any-IsPermutation (λ m. m == s) ns ms shuffled) ∙ (ap (λ ks. is_among ks s) own ∙ named_among named v s)
@@ -73,12 +77,15 @@ named_sorted named v ns ms own shuffled s =
 pub filter_like : (p q : ℕ → Bool) (ns : List ℕ) → ((n : ℕ) → p n ≡ q n) → filter p ns ≡ filter q ns
 filter_like p q ns f = ap (λ r. filter r ns) (fun_ext f)
 
-pub small_at : (rolls : List Roll) (v : ℕ) (r : Roll) → list_all is_small rolls ≡ true → slice_get rolls v ≡ Some r → r.top + r.missing < 4294967296
+pub small_at : (rolls : List Roll) (v : ℕ) (r : Roll) → list_all is_small rolls ≡ true → slice_get rolls v ≡ Some r
+    → r.top + r.missing < 4294967296
 small_at rolls v r all at =
     let small = all_in is_small r rolls all (get_in r rolls v at) in
     let top = ltb-true r.top 2147483648 (and_left _ _ small) in
     let missing = leb-true r.missing 1048625535 (and_right (ltb r.top 2147483648) _ small) in
     omega (arith, top, missing)
 
-pub missing_at : (rolls : List Roll) (v : ℕ) (r : Roll) → list_all is_small rolls ≡ true → slice_get rolls v ≡ Some r → r.missing ≤ 1048625535
-missing_at rolls v r all at = leb-true r.missing 1048625535 (and_right (ltb r.top 2147483648) _ (all_in is_small r rolls all (get_in r rolls v at)))
+pub missing_at : (rolls : List Roll) (v : ℕ) (r : Roll) → list_all is_small rolls ≡ true → slice_get rolls v ≡ Some r
+    → r.missing ≤ 1048625535
+missing_at rolls v r all at = leb-true r.missing 1048625535 (and_right (ltb r.top 2147483648) _
+    (all_in is_small r rolls all (get_in r rolls v at)))

@@ -1,5 +1,6 @@
 -- A VDU is in step where its items are as many as its machines have.
-use Rattle.std.proofs.Common.{◌≡◌, ◌≤◌, ◌<◌, ◌*◌, ◌++◌, ◌&&◌, ◌||◌, ◌==◌, ◌∙◌, ℕ, List, [], ◌∷◌, Bool, true, false, not, refl, ap, sym, subst, length, filter, flat_map, arith, inl, inr, eqb-true, eq-eqb, length-append}
+use Rattle.std.proofs.Common.{◌≡◌, ◌≤◌, ◌<◌, ◌*◌, ◌++◌, ◌&&◌, ◌||◌, ◌==◌, ◌∙◌, ℕ, List, [], ◌∷◌, Bool, true, false, not, refl, ap, sym}
+use Rattle.std.proofs.Common.{subst, length, filter, flat_map, arith, inl, inr, eqb-true, eq-eqb, length-append}
 use Rattle.std.proofs.Math.Nat.{suc-mul}
 use Rattle.std.proofs.lemmas.List.{length-map}
 use Rattle.std.specs.List.{list_all, range_with_len}
@@ -15,7 +16,8 @@ use Rattle.lcm_laws.proofs.BoundLaws.{Differ, all_parts, machine_differs}
 use Rattle.lcm_laws.proofs.CoverLaws.{all_in}
 use Rattle.lcm_laws.proofs.HoldingLaws.{all_of, few_vdus}
 use Rattle.lcm_laws.proofs.Lists.{and_left, by_test}
-use Rattle.lcm_laws.proofs.Members.{Less, Rises, in_back, in_filter, in_flat_map, in_front, of_filter, of_flat_map, of_map, rises_filter, rises_flat_map, rises_map, rises_range}
+use Rattle.lcm_laws.proofs.Members.{Less, Rises, in_back, in_filter, in_flat_map, in_front, of_filter, of_flat_map, of_map, rises_filter}
+use Rattle.lcm_laws.proofs.Members.{rises_flat_map, rises_map, rises_range}
 use Rattle.lcm_laws.proofs.PlanMembers.{of_all}
 use Rattle.lcm_laws.proofs.SerialLaws.{range_length}
 use Rattle.lcm_model.specs.Descriptors.{IsHoldingOf, IsValid}
@@ -26,7 +28,8 @@ use Rattle.lcm_model.specs.Words.{IsIn, same_bool}
 use Rattle.change_planner.specs.Rolls.{CanBePlanned, distinct, has_vdu, parts_of, runs_as_meant}
 use Rattle.change_planner.proofs.InventoryLaws.{same_test}
 use Rattle.change_planner.proofs.OrderLaws.{items_in_order}
-use Rattle.change_planner.proofs.RollLaws.{counted_all, defs_where, known_item, machine_of, no_link, own_there, size_all, standing_where, where_differ, where_stands}
+use Rattle.change_planner.proofs.RollLaws.{counted_all, defs_where, known_item, machine_of, no_link, own_there, size_all, standing_where}
+use Rattle.change_planner.proofs.RollLaws.{where_differ, where_stands}
 use Rattle.change_planner.proofs.SectionLaws.{item_of, link_known, moves, serial_there, still}
 
 -- a holding can be planned at its own levels
@@ -38,7 +41,8 @@ abbrev meant_defs : Vnfd → Holding → ℕ → List Def
 meant_defs d h v = flat_map (all_defs d v) (there d (inventory_of h) v)
 
 there_rises : (d : Vnfd) (h : Holding) (v : ℕ) → Rises Less (there d (inventory_of h) v)
-there_rises d h v = rises_filter Less (is_there d (inventory_of h) v) (range_with_len 1 ((inventory_of h).top v)) (rises_range 1 ((inventory_of h).top v))
+there_rises d h v = rises_filter Less (is_there d (inventory_of h) v) (range_with_len 1 ((inventory_of h).top v))
+    (rises_range 1 ((inventory_of h).top v))
 
 meant_differ : (d : Vnfd) (h : Holding) (v : ℕ) → IsValid d → Rises Differ (meant_defs d h v)
 meant_differ d h v valid =
@@ -58,13 +62,16 @@ all_both : {A : Type 0} → (p : A → Bool) (xs ys : List A) → list_all p (xs
 all_both p [] ys = refl
 all_both p (x ∷ xs) ys = by_test (p x) (λ passes. rw passes (all_both p xs ys)) (λ fails. rw fails refl)
 
-meant_stand : (d : Vnfd) (h : Holding) (v : ℕ) (ns : List ℕ) → list_all (inventory_of h).stands (flat_map (all_defs d v) ns) ≡ list_all (is_whole d (inventory_of h) v) ns
+meant_stand : (d : Vnfd) (h : Holding) (v : ℕ) (ns : List ℕ) → list_all (inventory_of h).stands (flat_map (all_defs d v) ns)
+    ≡ list_all (is_whole d (inventory_of h) v) ns
 meant_stand d h v [] = refl
 meant_stand d h v (s ∷ ns) =
-    all_both (inventory_of h).stands (all_defs d v s) (flat_map (all_defs d v) ns) ∙ ap (λ b. is_whole d (inventory_of h) v s && b) (meant_stand d h v ns)
+    all_both (inventory_of h).stands (all_defs d v s) (flat_map (all_defs d v) ns)
+    ∙ ap (λ b. is_whole d (inventory_of h) v s && b) (meant_stand d h v ns)
 
 -- the items of a VDU are of its machines
-item_meant : (d : Vnfd) (h : Holding) (v : ℕ) (x : Def) → IsValid d → IsHoldingOf d h → v < length d.vdus → IsIn x (defs_where (has_vdu v) h.items) → IsIn x (meant_defs d h v)
+item_meant : (d : Vnfd) (h : Holding) (v : ℕ) (x : Def) → IsValid d → IsHoldingOf d h → v < length d.vdus
+    → IsIn x (defs_where (has_vdu v) h.items) → IsIn x (meant_defs d h v)
 item_meant d h v x valid is within k =
     let from = of_map (λ (y : Held). y.def) x (filter (has_vdu v) h.items) k in
     let own = of_filter (has_vdu v) from.0 h.items from.1 in
@@ -72,10 +79,12 @@ item_meant d h v x valid is within k =
     let at : y.def.vdu ≡ v = eqb-true y.def.vdu v own.1 in
     let facts = machine_of d h y is own.0 (no_link d h y valid is own.0 (omega (arith, at, within))) in
     let serial = serial_there d h y facts own.0 in
-    let here : IsIn y.def (meant_defs d h y.def.vdu) = in_flat_map (all_defs d y.def.vdu) y.def.serial y.def (there d (inventory_of h) y.def.vdu) serial facts.among in
+    let here : IsIn y.def (meant_defs d h y.def.vdu) = in_flat_map (all_defs d y.def.vdu) y.def.serial y.def
+    (there d (inventory_of h) y.def.vdu) serial facts.among in
     subst (λ (z : Def). IsIn z (meant_defs d h v)) from.2 (subst (λ (n : ℕ). IsIn y.def (meant_defs d h n)) at here)
 
-meant_item : (d : Vnfd) (h : Holding) (v : ℕ) (x : Def) → IsIn x (meant_defs d h v) → (inventory_of h).stands x ≡ true → IsIn x (defs_where (has_vdu v) h.items)
+meant_item : (d : Vnfd) (h : Holding) (v : ℕ) (x : Def) → IsIn x (meant_defs d h v) → (inventory_of h).stands x ≡ true
+    → IsIn x (defs_where (has_vdu v) h.items)
 meant_item d h v x k stands =
     let from = of_flat_map (all_defs d v) x (there d (inventory_of h) v) k in
     let parts = all_parts d v from.0 x from.2 in
@@ -83,7 +92,8 @@ meant_item d h v x k stands =
 
 -- the machines of a VDU that are there are whole exactly where it has as many items as they have
 whole_counted : (d : Vnfd) (h : Holding) (v : ℕ) → IsValid d → IsHoldingOf d h → v < length d.vdus
-    → (length (filter (has_vdu v) h.items) == length (there d (inventory_of h) v) * parts_of d v) ≡ list_all (is_whole d (inventory_of h) v) (there d (inventory_of h) v)
+    → (length (filter (has_vdu v) h.items) == length (there d (inventory_of h) v) * parts_of d v)
+    ≡ list_all (is_whole d (inventory_of h) v) (there d (inventory_of h) v)
 whole_counted d h v valid is within =
     ap (λ n. n == length (there d (inventory_of h) v) * parts_of d v) (sym (length-map (filter (has_vdu v) h.items) (λ y. y.def)))
     ∙ (ap (λ n. length (defs_where (has_vdu v) h.items) == n) (sym (meant_size d v (there d (inventory_of h) v)))
@@ -100,7 +110,8 @@ runs_is d h y is k = by_test y.running
 -- the compute of a machine is one of its definitions
 compute_in : (d : Vnfd) (v s : ℕ) → IsIn (compute_def v s) (all_defs d v s)
 compute_in d v s =
-    in_front (compute_def v s) (defs d Storage v s ++ defs d Compute v s) (defs d Port v s) (in_back (compute_def v s) (defs d Storage v s) (defs d Compute v s) (inl refl))
+    in_front (compute_def v s) (defs d Storage v s ++ defs d Compute v s) (defs d Port v s)
+    (in_back (compute_def v s) (defs d Storage v s) (defs d Compute v s) (inl refl))
 
 compute_of : (d : Vnfd) (v s : ℕ) (x : Def) → x.kind ≡ Compute → IsIn x (all_defs d v s) → x ≡ compute_def v s
 compute_of d v s x is k =
@@ -108,30 +119,39 @@ compute_of d v s x is k =
     elim own [ inl e ↦ sym e | inr none ↦ absurd none ]
 
 -- where the machines of a VDU are whole, its items say which computes run
-running_told : (d : Vnfd) (h : Holding) (v : ℕ) → IsValid d → IsHoldingOf d h → v < length d.vdus → list_all (is_whole d (inventory_of h) v) (there d (inventory_of h) v) ≡ true
-    → list_all (runs_as_meant h.started) (filter (has_vdu v) h.items) ≡ list_all (λ s. same_bool h.started ((inventory_of h).runs (compute_def v s))) (there d (inventory_of h) v)
+running_told : (d : Vnfd) (h : Holding) (v : ℕ) → IsValid d → IsHoldingOf d h → v < length d.vdus
+    → list_all (is_whole d (inventory_of h) v) (there d (inventory_of h) v) ≡ true
+    → list_all (runs_as_meant h.started) (filter (has_vdu v) h.items)
+    ≡ list_all (λ s. same_bool h.started ((inventory_of h).runs (compute_def v s))) (there d (inventory_of h) v)
 running_told d h v valid is within all =
-    same_test (list_all (runs_as_meant h.started) (filter (has_vdu v) h.items)) (list_all (λ s. same_bool h.started ((inventory_of h).runs (compute_def v s))) (there d (inventory_of h) v))
+    same_test (list_all (runs_as_meant h.started) (filter (has_vdu v) h.items))
+    (list_all (λ s. same_bool h.started ((inventory_of h).runs (compute_def v s))) (there d (inventory_of h) v))
     (λ e. all_of (λ s. same_bool h.started ((inventory_of h).runs (compute_def v s))) (there d (inventory_of h) v) (λ s k.
     let whole = all_in (is_whole d (inventory_of h) v) s (there d (inventory_of h) v) all k in
-    let item = item_of h.items (compute_def v s) (all_in (inventory_of h).stands (compute_def v s) (all_defs d v s) whole (compute_in d v s)) in
+    let item = item_of h.items (compute_def v s) (all_in (inventory_of h).stands (compute_def v s) (all_defs d v s) whole
+    (compute_in d v s)) in
     let at : has_vdu v item.0 ≡ true = eq-eqb item.0.def.vdu v (ap (λ (z : Def). z.vdu) item.2) in
-    let meant : runs_as_meant h.started item.0 ≡ true = all_in (runs_as_meant h.started) item.0 (filter (has_vdu v) h.items) e (in_filter (has_vdu v) item.0 h.items item.1 at) in
+    let meant : runs_as_meant h.started item.0 ≡ true = all_in (runs_as_meant h.started) item.0 (filter (has_vdu v) h.items) e
+    (in_filter (has_vdu v) item.0 h.items item.1 at) in
     let kind : same_kind item.0.def.kind Compute ≡ true = subst (λ (x : Def). same_kind x.kind Compute ≡ true) (sym item.2) refl in
-    let run : same_bool h.started item.0.running ≡ true = subst (λ (b : Bool). (not b || same_bool h.started item.0.running) ≡ true) kind meant in
-    let told : same_bool h.started ((inventory_of h).runs item.0.def) ≡ true = subst (λ (b : Bool). same_bool h.started b ≡ true) (sym (runs_is d h item.0 is item.1)) run in
+    let run : same_bool h.started item.0.running ≡ true = subst (λ (b : Bool). (not b || same_bool h.started item.0.running) ≡ true) kind
+    meant in
+    let told : same_bool h.started ((inventory_of h).runs item.0.def) ≡ true =
+    subst (λ (b : Bool). same_bool h.started b ≡ true) (sym (runs_is d h item.0 is item.1)) run in
     subst (λ (x : Def). same_bool h.started ((inventory_of h).runs x) ≡ true) item.2 told))
     (λ e. all_of (runs_as_meant h.started) (filter (has_vdu v) h.items) (λ y k. by_test (same_kind y.def.kind Compute)
     (λ compute.
     let own = of_filter (has_vdu v) y h.items k in
     let at : y.def.vdu ≡ v = eqb-true y.def.vdu v own.1 in
     let facts = machine_of d h y is own.0 (no_link d h y valid is own.0 (omega (arith, at, within))) in
-    let serial : IsIn y.def.serial (there d (inventory_of h) v) = subst (λ (n : ℕ). IsIn y.def.serial (there d (inventory_of h) n)) at (serial_there d h y facts own.0) in
+    let serial : IsIn y.def.serial (there d (inventory_of h) v) = subst (λ (n : ℕ). IsIn y.def.serial (there d (inventory_of h) n)) at
+    (serial_there d h y facts own.0) in
     let run : same_bool h.started ((inventory_of h).runs (compute_def v y.def.serial)) ≡ true =
     all_in (λ s. same_bool h.started ((inventory_of h).runs (compute_def v s))) y.def.serial (there d (inventory_of h) v) e serial in
     let among : IsIn y.def (all_defs d v y.def.serial) = subst (λ (n : ℕ). IsIn y.def (all_defs d n y.def.serial)) at facts.among in
     let same : y.def ≡ compute_def v y.def.serial = compute_of d v y.def.serial y.def (same_kind-true y.def.kind Compute compute) among in
-    let told : same_bool h.started ((inventory_of h).runs y.def) ≡ true = subst (λ (x : Def). same_bool h.started ((inventory_of h).runs x) ≡ true) (sym same) run in
+    let told : same_bool h.started ((inventory_of h).runs y.def) ≡ true =
+    subst (λ (x : Def). same_bool h.started ((inventory_of h).runs x) ≡ true) (sym same) run in
     let runs : same_bool h.started y.running ≡ true = subst (λ (b : Bool). same_bool h.started b ≡ true) (runs_is d h y is own.0) told in
     rw compute runs)
     (λ other. rw other refl)))
@@ -145,7 +165,8 @@ same_whole false false m r f = refl
 all_pair : (p q : ℕ → Bool) (ns : List ℕ) → list_all (λ s. p s && q s) ns ≡ (list_all p ns && list_all q ns)
 all_pair p q [] = refl
 all_pair p q (s ∷ ns) = by_test (p s)
-    (λ passes. by_test (q s) (λ also. rw passes (rw also (all_pair p q ns))) (λ fails. rw passes (rw fails (sym (and_none (list_all p ns))))))
+    (λ passes. by_test (q s) (λ also. rw passes (rw also (all_pair p q ns)))
+    (λ fails. rw passes (rw fails (sym (and_none (list_all p ns))))))
     (λ fails. rw fails refl) where
       and_none : (b : Bool) → (b && false) ≡ false
       and_none true = refl
@@ -153,40 +174,49 @@ all_pair p q (s ∷ ns) = by_test (p s)
 
 -- a VDU is in step exactly where its own items are as many as its machines have, its machines as many as the levels say, and each
 -- compute runs as meant
-pub vdu_steps : (d : Vnfd) (h : Holding) (v : ℕ) (ys : List Held) → IsValid d → IsHoldingOf d h → v < length d.vdus → ys ≡ filter (has_vdu v) h.items
-    → (((length (distinct v 0 ys) == count d v h.levels) && (length ys == length (distinct v 0 ys) * parts_of d v)) && list_all (runs_as_meant h.started) ys)
+pub vdu_steps : (d : Vnfd) (h : Holding) (v : ℕ) (ys : List Held) → IsValid d → IsHoldingOf d h → v < length d.vdus
+    → ys ≡ filter (has_vdu v) h.items
+    → (((length (distinct v 0 ys) == count d v h.levels) && (length ys == length (distinct v 0 ys) * parts_of d v))
+    && list_all (runs_as_meant h.started) ys)
     ≡ is_vdu_in_step d (inventory_of h) h.levels h.started v
 vdu_steps d h v ys valid is within own =
     let t = there d (inventory_of h) v in
     let size = parts_of d v in
     let read : distinct v 0 ys ≡ t = own_there d h h.levels v ys (own_case d h valid is) within own in
-    let whole : (length ys == length t * size) ≡ list_all (is_whole d (inventory_of h) v) t = ap (λ (zs : List Held). length zs == length t * size) own ∙ whole_counted d h v valid is within in
+    let whole : (length ys == length t * size) ≡ list_all (is_whole d (inventory_of h) v) t =
+    ap (λ (zs : List Held). length zs == length t * size) own ∙ whole_counted d h v valid is within in
     let runs = list_all (λ s. same_bool h.started ((inventory_of h).runs (compute_def v s))) t in
-    ap (λ (ns : List ℕ). ((length ns == count d v h.levels) && (length ys == length ns * size)) && list_all (runs_as_meant h.started) ys) read
+    ap (λ (ns : List ℕ). ((length ns == count d v h.levels) && (length ys == length ns * size)) && list_all (runs_as_meant h.started) ys)
+    read
     ∙ (ap (λ (b : Bool). ((length t == count d v h.levels) && b) && list_all (runs_as_meant h.started) ys) whole
     ∙ (same_whole (length t == count d v h.levels) (list_all (is_whole d (inventory_of h) v) t) (list_all (runs_as_meant h.started) ys) runs
     (λ all. ap (list_all (runs_as_meant h.started)) own ∙ running_told d h v valid is within all)
-    ∙ ap (λ (b : Bool). (length t == count d v h.levels) && b) (sym (all_pair (is_whole d (inventory_of h) v) (λ s. same_bool h.started ((inventory_of h).runs (compute_def v s))) t))))
+    ∙ ap (λ (b : Bool). (length t == count d v h.levels) && b) (sym
+    (all_pair (is_whole d (inventory_of h) v) (λ s. same_bool h.started ((inventory_of h).runs (compute_def v s))) t))))
 
 links_differ : (d : Vnfd) → Rises Differ (links d)
 links_differ d =
     rises_map Less Differ link_def (range_with_len 0 (length d.links)) (λ a b ha hb less e.
     let same : a ≡ b = ap (λ (x : Def). x.item) e in absurd (omega (arith, less, same))) (rises_range 0 (length d.links))
 
-item_link : (d : Vnfd) (h : Holding) (x : Def) → IsValid d → IsHoldingOf d h → IsIn x (defs_where (has_vdu 65535) h.items) → IsIn x (links d)
+item_link : (d : Vnfd) (h : Holding) (x : Def) → IsValid d → IsHoldingOf d h → IsIn x (defs_where (has_vdu 65535) h.items)
+    → IsIn x (links d)
 item_link d h x valid is k =
     let from = of_map (λ (y : Held). y.def) x (filter (has_vdu 65535) h.items) k in
     let own = of_filter (has_vdu 65535) from.0 h.items from.1 in
     let at = eqb-true from.0.def.vdu 65535 own.1 in
     let here : IsIn from.0.def (links d) = by_test (same_kind from.0.def.kind Link)
     (λ link. link_known d from.0.def.kind from.0.def refl link (and_left _ _ (known_item d h from.0 is own.0)))
-    (λ other. let low = (machine_of d h from.0 is own.0 other).vdu in let most = few_vdus d valid in absurd (omega (arith, at, low, most))) in
+    (λ other. let low = (machine_of d h from.0 is own.0 other).vdu in let most = few_vdus d valid in absurd (omega (arith, at, low, most)))
+    in
     subst (λ (z : Def). IsIn z (links d)) from.2 here
 
-link_item : (d : Vnfd) (h : Holding) (x : Def) → IsIn x (links d) → (inventory_of h).stands x ≡ true → IsIn x (defs_where (has_vdu 65535) h.items)
+link_item : (d : Vnfd) (h : Holding) (x : Def) → IsIn x (links d) → (inventory_of h).stands x ≡ true
+    → IsIn x (defs_where (has_vdu 65535) h.items)
 link_item d h x k stands =
     let from = of_map link_def x (range_with_len 0 (length d.links)) k in
-    standing_where h (has_vdu 65535) x (λ y e. eq-eqb y.def.vdu 65535 (ap (λ (z : Def). z.vdu) e ∙ sym (ap (λ (z : Def). z.vdu) from.2))) stands
+    standing_where h (has_vdu 65535) x (λ y e. eq-eqb y.def.vdu 65535 (ap (λ (z : Def). z.vdu) e ∙ sym (ap (λ (z : Def). z.vdu) from.2)))
+    stands
 
 -- every link stands exactly where as many stand as the descriptor has
 pub links_step : (d : Vnfd) (h : Holding) (ys : List Held) → IsValid d → IsHoldingOf d h → ys ≡ filter (has_vdu 65535) h.items
@@ -194,14 +224,16 @@ pub links_step : (d : Vnfd) (h : Holding) (ys : List Held) → IsValid d → IsH
 links_step d h ys valid is own =
     ap (λ (zs : List Held). length zs == length d.links) own
     ∙ (ap (λ n. n == length d.links) (sym (length-map (filter (has_vdu 65535) h.items) (λ y. y.def)))
-    ∙ (ap (λ n. length (defs_where (has_vdu 65535) h.items) == n) (sym (length-map (range_with_len 0 (length d.links)) link_def ∙ range_length 0 (length d.links)))
+    ∙ (ap (λ n. length (defs_where (has_vdu 65535) h.items) == n) (sym
+    (length-map (range_with_len 0 (length d.links)) link_def ∙ range_length 0 (length d.links)))
     ∙ counted_all h (defs_where (has_vdu 65535) h.items) (links d) (where_differ d h (has_vdu 65535) is) (links_differ d)
     (λ x k. item_link d h x valid is k) (λ x k. where_stands h (has_vdu 65535) x k) (λ x k stands. link_item d h x k stands)))
 
 -- a VDU has no more machines than a holding may have items
 filter_few : (p : Held → Bool) (ys : List Held) → length (filter p ys) ≤ length ys
 filter_few p [] = omega arith
-filter_few p (y ∷ ys) = let rest = filter_few p ys in by_test (p y) (λ passes. rw passes (omega (arith, rest))) (λ fails. rw fails (omega (arith, rest)))
+filter_few p (y ∷ ys) = let rest = filter_few p ys in by_test (p y) (λ passes. rw passes (omega (arith, rest)))
+    (λ fails. rw fails (omega (arith, rest)))
 
 pub machines_few : (d : Vnfd) (h : Holding) (v : ℕ) (ys : List Held) → IsHoldingOf d h → ys ≡ filter (has_vdu v) h.items → length ys ≤ 2500
 machines_few d h v ys is own =

@@ -34,7 +34,8 @@ on_what_stands d h k H t s =
     acts_on_what_stands d H s.asked.instance (verb_done t.way k.verb) k.def
     (λ y needed. (exact.exactly y).0 (work_needs s.width s.manager H t s.legal s.allowed s.asked k d s.found s.change s.described y needed))
 
-found_work : (H : List Event) (t : Tag) (a : Operation) (k : Change) (d : Vnfd) (at : Place) → work_place H t a.instance t.way k.verb k.def ≡ Some at
+found_work : (H : List Event) (t : Tag) (a : Operation) (k : Change) (d : Vnfd) (at : Place)
+    → work_place H t a.instance t.way k.verb k.def ≡ Some at
     → act_on H t a k ≡ option_and_then (λ d. option_map (work_at H t a k d) (Some at)) (descriptor H a.instance)
 found_work H t a k d at e = ap (λ o. option_and_then (λ d. option_map (work_at H t a k d) o) (descriptor H a.instance)) e
 
@@ -44,18 +45,23 @@ pub act_at : (d : Vnfd) (h : Holding) (k : Change) (H : List Event) (t : Tag) (a
 act_at d h k H t at s e =
     let asked : act_of H t ≡ option_and_then (act_on H t s.asked) (slice_get s.asked.changes t.change) =
     ap (λ o. option_and_then (λ a. option_and_then (act_on H t a) (slice_get a.changes t.change)) o) s.found in
-    let change : option_and_then (act_on H t s.asked) (slice_get s.asked.changes t.change) ≡ act_on H t s.asked k = ap (option_and_then (act_on H t s.asked)) s.change in
-    let described : option_and_then (λ d. option_map (work_at H t s.asked k d) (Some at)) (descriptor H s.asked.instance) ≡ Some (work_at H t s.asked k d at) =
+    let change : option_and_then (act_on H t s.asked) (slice_get s.asked.changes t.change) ≡ act_on H t s.asked k =
+    ap (option_and_then (act_on H t s.asked)) s.change in
+    let described : option_and_then (λ d. option_map (work_at H t s.asked k d) (Some at)) (descriptor H s.asked.instance)
+    ≡ Some (work_at H t s.asked k d at) =
     ap (option_and_then (λ d. option_map (work_at H t s.asked k d) (Some at))) s.described in
     let on = (on_what_stands d h k H t s).on in
     let same : Some (work_at H t s.asked k d at) ≡ Some (act d (holding d H s.asked.instance) (verb_done t.way k.verb) k.def at) =
     ap (λ names. Some (work d (verb_done t.way k.verb) k.def at names)) (sym on) in
-    let held : Some (act d (holding d H s.asked.instance) (verb_done t.way k.verb) k.def at) ≡ Some (act d h (verb_done t.way k.verb) k.def at) =
+    let held : Some (act d (holding d H s.asked.instance) (verb_done t.way k.verb) k.def at)
+    ≡ Some (act d h (verb_done t.way k.verb) k.def at) =
     ap (λ g. Some (act d g (verb_done t.way k.verb) k.def at)) (sym s.held) in
     asked ∙ (change ∙ (found_work H t s.asked k d at e ∙ (described ∙ (same ∙ held))))
 
-forward_place : (d : Vnfd) (k : Change) (H : List Event) (t : Tag) (i : ℕ) (v : Verb) (at : Place) → (v ≡ Create → granted_place H t.occ t.change ≡ Some at)
-    → (¬ (v ≡ Create) → Some (place_of (holding d H i) v k.def at) ≡ place H i k.def) → work_place H t i Forward v k.def ≡ Some (place_of (holding d H i) v k.def at)
+forward_place : (d : Vnfd) (k : Change) (H : List Event) (t : Tag) (i : ℕ) (v : Verb) (at : Place)
+    → (v ≡ Create → granted_place H t.occ t.change ≡ Some at)
+    → (¬ (v ≡ Create) → Some (place_of (holding d H i) v k.def at) ≡ place H i k.def)
+    → work_place H t i Forward v k.def ≡ Some (place_of (holding d H i) v k.def at)
 forward_place d k H t i Create at granted held = granted refl
 forward_place d k H t i Remove at granted held = sym (held (λ e. cc))
 forward_place d k H t i Start at granted held = sym (held (λ e. cc))
@@ -66,11 +72,14 @@ pub forward_work : (d : Vnfd) (h : Holding) (k : Change) (H : List Event) (t : T
     → (k.verb ≡ Create → granted_place H t.occ t.change ≡ Some at) → act_of H t ≡ Some (act d h k.verb k.def (place_of h k.verb k.def at))
 forward_work d h k H t at s way granted =
     let i = s.asked.instance in
-    let stand : IsOnWhatStands d H i k.verb k.def = subst (λ (w : Way). IsOnWhatStands d H i (verb_done w k.verb) k.def) way (on_what_stands d h k H t s) in
-    let there : work_place H t i Forward k.verb k.def ≡ Some (place_of (holding d H i) k.verb k.def at) = forward_place d k H t i k.verb at granted (stand.place at) in
+    let stand : IsOnWhatStands d H i k.verb k.def = subst (λ (w : Way). IsOnWhatStands d H i (verb_done w k.verb) k.def) way
+    (on_what_stands d h k H t s) in
+    let there : work_place H t i Forward k.verb k.def ≡ Some (place_of (holding d H i) k.verb k.def at) =
+    forward_place d k H t i k.verb at granted (stand.place at) in
     let place : work_place H t i t.way k.verb k.def ≡ Some (place_of h k.verb k.def at) =
     ap (λ w. work_place H t i w k.verb k.def) way ∙ (there ∙ ap (λ g. Some (place_of g k.verb k.def at)) (sym s.held)) in
-    act_at d h k H t (place_of h k.verb k.def at) s place ∙ ap (λ w. Some (act d h (verb_done w k.verb) k.def (place_of h k.verb k.def at))) way
+    act_at d h k H t (place_of h k.verb k.def at) s place ∙ ap (λ w. Some (act d h (verb_done w k.verb) k.def (place_of h k.verb k.def at)))
+    way
 
 undo_place : (H : List Event) (t : Tag) (i : ℕ) (v : Verb) (x : Def) → work_place H t i Undo v x ≡ place H i x
 undo_place H t i Create x = refl
@@ -83,7 +92,8 @@ pub undo_work : (d : Vnfd) (h : Holding) (k : Change) (H : List Event) (t : Tag)
     → place H s.asked.instance k.def ≡ Some at → act_of H t ≡ Some (act d h (undo k.verb) k.def at)
 undo_work d h k H t at s way stood =
     let i = s.asked.instance in
-    let place : work_place H t i t.way k.verb k.def ≡ Some at = ap (λ w. work_place H t i w k.verb k.def) way ∙ (undo_place H t i k.verb k.def ∙ stood) in
+    let place : work_place H t i t.way k.verb k.def ≡ Some at = ap (λ w. work_place H t i w k.verb k.def) way
+    ∙ (undo_place H t i k.verb k.def ∙ stood) in
     act_at d h k H t at s place ∙ ap (λ w. Some (act d h (verb_done w k.verb) k.def at)) way
 
 pub ok_is : (r : Result Act AllocError) (w : Act) (o : Option Act) → IfOk r (λ x. x ≡ w) → o ≡ Some w → IfOk r (λ x. o ≡ Some x)

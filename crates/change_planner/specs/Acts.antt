@@ -1,4 +1,5 @@
--- The work that is asked of the infrastructure for a change, over what stands (SOL 001, Vdu.Compute, Vdu.VirtualBlockStorage, VduCp, VnfVirtualLink).
+-- The work that is asked of the infrastructure for a change, over what stands (SOL 001, Vdu.Compute,
+-- Vdu.VirtualBlockStorage, VduCp, VnfVirtualLink).
 use Rattle.std.specs.Option.{option_map_or}
 use Rattle.std.specs.Prelude.{List, Option, Some, [], filter_map, find, map, option_map, slice_get, unwrap_or, ℕ, ◌≡◌}
 use Rattle.lcm_events.specs.Same.{same_def}
@@ -72,12 +73,14 @@ work d verb x at on = record {
 abbrev pub act : Vnfd → Holding → Verb → Def → Place → Act
 act d h verb x at = work d verb x at (done_on d h verb x)
 
--- where a change does its work: what is made, at the place that the grant gives; all else, where it is held (SOL 003 9.5.2.3)
+-- where a change does its work: what is made, at the place that the grant gives; all else, where it is held (SOL 003
+-- 9.5.2.3)
 abbrev pub place_of : Holding → Verb → Def → Place → Place
 place_of h Create x at = at
 place_of h _ x at = option_map_or (λ y. y.place) (held h x) at
 
--- the work is done on the resources that the history has, and where the definition last stood, where it isn't a making (own rule)
+-- the work is done on the resources that the history has, and where the definition last stood, where it isn't a making
+-- (own rule)
 pub record IsOnWhatStands (d : Vnfd) (H : List Event) (i : ℕ) (verb : Verb) (x : Def) : Type 0 where
   pub on : done_on d (holding d H i) verb x ≡ filter_map (resource H i) (needs d verb x)
   pub place : (at : Place) → ¬ (verb ≡ Create) → Some (place_of (holding d H i) verb x at) ≡ place H i x
@@ -85,5 +88,6 @@ pub record IsOnWhatStands (d : Vnfd) (H : List Event) (i : ℕ) (verb : Verb) (x
 -- after every history, over the instance's holding: where all that work needs is held, it is on what stands (own rule)
 abbrev pub ActsAreOnWhatStands : Type 0
 ActsAreOnWhatStands =
-    (d : Vnfd) (H : List Event) (i : ℕ) (verb : Verb) (x : Def) → ((y : Def) → IsIn y (needs d verb x) → IsIn y (map (λ z. z.def) (holding d H i).items))
+    (d : Vnfd) (H : List Event) (i : ℕ) (verb : Verb) (x : Def)
+    → ((y : Def) → IsIn y (needs d verb x) → IsIn y (map (λ z. z.def) (holding d H i).items))
     → IsOnWhatStands d H i verb x

@@ -1,6 +1,7 @@
 -- Plans over what a holding says stands, and why there is none (own rule over SOL 003 5.4.4 to 5.4.10).
 use Rattle.std.specs.List.{enumerate_from}
-use Rattle.std.specs.Prelude.{Bool, List, None, Option, [], false, find, length, nat_lt, not, option_map, true, ℕ, ◌&&◌, ◌+◌, ◌==◌, ◌∷◌, ◌≡◌, ◌≤◌}
+use Rattle.std.specs.Prelude.{Bool, List, None, Option, [], false, find, length, nat_lt, not, option_map, true, ℕ, ◌&&◌}
+use Rattle.std.specs.Prelude.{◌+◌, ◌==◌, ◌∷◌, ◌≡◌, ◌≤◌}
 use Rattle.std.specs.Cmp.Lexicographic.{pointwise}
 use Rattle.lcm_events.specs.declared.asks.Ask.{Ask}
 use Rattle.lcm_events.specs.declared.asks.Ask.TheVariants.{Heal, Operate, ScaleToLevel, Terminate}
@@ -21,7 +22,8 @@ use Rattle.lcm_model.specs.Vnfcs.{is_there}
 use Rattle.lcm_model.specs.Words.{first_some, same_bool, when}
 use Rattle.change_planner.specs.Inventories.{case_of}
 use Rattle.change_planner.specs.declared.refusals.PlanRefusal.{PlanRefusal}
-use Rattle.change_planner.specs.declared.refusals.PlanRefusal.TheVariants.{AboveProfile, NothingToDo, TooMany, UnknownVnfc}
+use Rattle.change_planner.specs.declared.refusals.PlanRefusal.TheVariants.{AboveProfile, NothingToDo, TooMany}
+use Rattle.change_planner.specs.declared.refusals.PlanRefusal.TheVariants.{UnknownVnfc}
 
 -- the place, from 0, of the first of these machines of which nothing stands (own rule)
 abbrev pub unknown_among : Vnfd → Holding → List Vnfc → Option ℕ
@@ -63,17 +65,24 @@ first_refusal d h ask to = first_some (
     ∷ when (aims_at_present h ask to) NothingToDo
     ∷ option_map AboveProfile (above_profile d ask to) ∷ [])
 
--- why there is no plan: the first of these that applies (SOL 003 5.4.4 to 5.4.10; the limits and the order are own rules)
+-- why there is no plan: the first of these that applies (SOL 003 5.4.4 to 5.4.10; the limits and the order are own
+-- rules)
 abbrev pub refusal : Vnfd → Holding → Ask → List ℕ → Option PlanRefusal
-refusal d h ask to = first_some (first_refusal d h ask to ∷ when (is_oversized d h ask to) (TooMany (planned_size d h ask to)) ∷ [])
+refusal d h ask to = first_some (first_refusal d h ask to
+    ∷ when (is_oversized d h ask to) (TooMany (planned_size d h ask to)) ∷ [])
 
 -- the refusal is that of a plan that is too large (own limit)
 abbrev pub IsTooMany : Vnfd → Holding → Ask → List ℕ → PlanRefusal → Type 0
 IsTooMany d h ask to why = (is_oversized d h ask to ≡ true) × (why ≡ TooMany (planned_size d h ask to))
 
--- the ask with these changes fits a record of 65,536 bytes, whatever its texts and its numbers are, where its content isn't refused, so
--- that its names are the descriptor's and no aspect is named twice, and it names at most 512 machines (own limit)
+-- the ask with these changes fits a record of 65,536 bytes, whatever its texts and its numbers are, where its content
+-- isn't refused, so that its names are the descriptor's and no aspect is named twice, and it names at most 512 machines
+-- (own limit)
 abbrev pub FitsRecord : Vnfd → Ask → List Change → Type 0
 FitsRecord d ask changes =
     content_refusal d ask ≡ None → TypedAsk ask → NamesFew ask → (time occ instance : ℕ) (role : Role)
-    → length (spelling (record { moment = time; kind = Asked (record { occ = occ; instance = instance; role = role; ask = ask; changes = changes }) })) ≤ 65536
+    → length (spelling (record {
+      moment = time;
+      kind = Asked
+          (record { occ = occ; instance = instance; role = role; ask = ask; changes = changes });
+    })) ≤ 65536

@@ -14,9 +14,11 @@ abbrev pub NamesFew : Ask → Type 0
 NamesFew (Heal cause named) = length named ≤ 512
 NamesFew _ = Unit {0}
 
--- an operation that may be asked for after a legal history fits a record of 65,536 bytes, whatever its texts are, where it names at most 512 machines
--- (own limit). That its names are the descriptor's and no aspect is named twice follows from its being allowed
+-- an operation that may be asked for after a legal history fits a record of 65,536 bytes, whatever its texts are, where
+-- it names at most 512 machines (own limit). That its names are the descriptor's and no aspect is named twice follows
+-- from its being allowed
 abbrev pub AskedEventsFitRecords : Type 0
 AskedEventsFitRecords =
-    (width m : ℕ) (H : List Event) (time : ℕ) (a : Operation) → IsLegalWithin width m H → IsAllowedWithin width m H (Asked a)
+    (width m : ℕ) (H : List Event) (time : ℕ) (a : Operation) → IsLegalWithin width m H
+    → IsAllowedWithin width m H (Asked a)
     → TypedAsk a.ask → NamesFew a.ask → length (spelling (record { moment = time; kind = Asked a })) ≤ 65536

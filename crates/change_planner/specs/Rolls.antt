@@ -1,7 +1,8 @@
 -- What becomes of the machines of a VDU, and which changes of a plan what stands gives (own rule).
 use Rattle.std.specs.List.{enumerate_from, list_all}
 use Rattle.std.specs.Option.{option_map_or}
-use Rattle.std.specs.Prelude.{Bool, List, [], false, filter, flat_map, if◌then◌else◌, length, map, nat_le, nat_lt, not, slice_get, true, ℕ, ◌&&◌, ◌*◌, ◌+◌, ◌++◌, ◌-◌, ◌==◌, ◌||◌, ◌∷◌, ◌≡◌}
+use Rattle.std.specs.Prelude.{Bool, List, [], false, filter, flat_map, if◌then◌else◌, length, map, nat_le, nat_lt, not}
+use Rattle.std.specs.Prelude.{slice_get, true, ℕ, ◌&&◌, ◌*◌, ◌+◌, ◌++◌, ◌-◌, ◌==◌, ◌||◌, ◌∷◌, ◌≡◌}
 use Rattle.std.specs.List.{range_with_len}
 use Rattle.lcm_events.specs.Descriptors.{is_rising}
 use Rattle.lcm_events.specs.Same.{same_kind}
@@ -115,13 +116,15 @@ plan_by d ask rolls ys =
     map (change Create) (map link_def (links_to_make d ask ys))
     ++ made_by d Storage rolls ++ made_by d Compute rolls ++ made_by d Port rolls
     ++ changes_if (starts ask) Start (is_stopped rolls) ys ++ changes_if (stops ask) Stop is_running ys
-    ++ changes_where Remove (leaves Port rolls) ys ++ changes_where Remove (leaves Compute rolls) ys ++ changes_where Remove (leaves Storage rolls) ys
+    ++ changes_where Remove (leaves Port rolls) ys ++ changes_where Remove (leaves Compute rolls) ys
+    ++ changes_where Remove (leaves Storage rolls) ys
     ++ changes_if (removes_links ask) Remove is_link ys
 
 -- the rising serials of the items of a VDU, each once, where the one before them is this (own rule)
 abbrev pub distinct : ℕ → ℕ → List Held → List ℕ
 distinct v last [] = []
-distinct v last (y ∷ ys) = if (y.def.vdu == v) && not (y.def.serial == last) then y.def.serial ∷ distinct v y.def.serial ys else distinct v last ys
+distinct v last (y ∷ ys) = if (y.def.vdu == v) && not (y.def.serial == last)
+    then y.def.serial ∷ distinct v y.def.serial ys else distinct v last ys
 
 -- the items stand in the order of a holding: by VDU, serial, kind and item (own rule)
 abbrev pub are_in_order : List Held → Bool

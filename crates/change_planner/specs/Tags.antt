@@ -23,28 +23,31 @@ use Rattle.lcm_model.specs.Needs.{needs}
 use Rattle.lcm_model.specs.Operations.{operation, verb_done}
 use Rattle.change_planner.specs.Acts.{work}
 
--- where an attempt does its work on a definition of an instance: a change that makes, where it was granted; all else, where the
--- definition last stood (SOL 003 9.5.2.3)
+-- where an attempt does its work on a definition of an instance: a change that makes, where it was granted; all else,
+-- where the definition last stood (SOL 003 9.5.2.3)
 abbrev pub work_place : List Event → Tag → ℕ → Way → Verb → Def → Option Place
 work_place H t i Forward Create x = granted_place H t.occ t.change
 work_place H t i way verb x = place H i x
 
--- the work of an attempt at a change of an operation over its descriptor, at a place: it is done on the resources that the
--- history has (own rule)
+-- the work of an attempt at a change of an operation over its descriptor, at a place: it is done on the resources that
+-- the history has (own rule)
 abbrev pub work_at : List Event → Tag → Operation → Change → Vnfd → Place → Act
 work_at H t a k d at =
-    work d (verb_done t.way k.verb) k.def at (filter_map (resource H a.instance) (needs d (verb_done t.way k.verb) k.def))
+    work d (verb_done t.way k.verb) k.def at (filter_map (resource H a.instance)
+    (needs d (verb_done t.way k.verb) k.def))
 
 -- the work of an attempt at a change of an operation (own rule)
 abbrev pub act_on : List Event → Tag → Operation → Change → Option Act
 act_on H t a k =
-    option_and_then (λ d. option_map (work_at H t a k d) (work_place H t a.instance t.way k.verb k.def)) (descriptor H a.instance)
+    option_and_then (λ d. option_map (work_at H t a k d) (work_place H t a.instance t.way k.verb k.def))
+    (descriptor H a.instance)
 
 -- the work of an attempt, over the history before its Intent: that of the change that its tag names (own rule)
 abbrev pub act_of : List Event → Tag → Option Act
 act_of H t = option_and_then (λ a. option_and_then (act_on H t a) (slice_get a.changes t.change)) (operation H t.occ)
 
--- an attempt with this tag may begin after a legal history at this change, and the descriptor and the holding are its instance's (own rule)
+-- an attempt with this tag may begin after a legal history at this change, and the descriptor and the holding are its
+-- instance's (own rule)
 pub record IsOfAttempt (d : Vnfd) (h : Holding) (k : Change) (H : List Event) (t : Tag) : Type 0 where
   pub width : ℕ
   pub manager : ℕ

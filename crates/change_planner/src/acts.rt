@@ -1,9 +1,11 @@
 //! The work that is asked of the infrastructure for a change.
 
-ghost use Rattle.std.specs.Prelude.{◌≡◌, ◌++◌, ◌∷◌, IfOk, List, OnOk, [], filter_map, map, option_copied, slice_get, unwrap_or};
+ghost use Rattle.std.specs.Prelude.{◌≡◌, ◌++◌, ◌∷◌, IfOk, List, OnOk, [], filter_map, map, option_copied, slice_get};
+ghost use Rattle.std.specs.Prelude.{unwrap_or};
 ghost use Rattle.std.specs.Option.{option_map_or};
 ghost use Rattle.lcm_model.specs.Vnfcs.{def_of, link_def};
-ghost use Rattle.change_planner.specs.Acts.{ActsAreOnWhatStands, act, done_on, held, place_of, processors, resource_held, size, template_name, vdu_name};
+ghost use Rattle.change_planner.specs.Acts.{ActsAreOnWhatStands, act, done_on, held, place_of, processors};
+ghost use Rattle.change_planner.specs.Acts.{resource_held, size, template_name, vdu_name};
 ghost use Rattle.change_planner.specs.Tags.{IsOfAttempt, act_of};
 ghost use Rattle.lcm_events.specs.declared.attempts.Tag.{Tag};
 ghost use Rattle.lcm_events.specs.declared.events.Event.{Event};
@@ -45,7 +47,8 @@ fn push_storages(
     vdu: u16,
     serial: u32,
 ) -> Result<(), AllocError>
-    ensures { OnOk result (names.new ≡ names.old ++ filter_map (resource_held holding.now) (map (def_of DefKind.Storage vdu serial) storages.now)) }
+    ensures { OnOk result (names.new ≡ names.old ++ filter_map (resource_held holding.now)
+        (map (def_of DefKind.Storage vdu serial) storages.now)) }
 {
     for item in storages {
         let def = Def {
@@ -225,10 +228,11 @@ fn processors_in(vnfd: &Vnfd, def: &Def) -> u32
 
 /// The work with this verb on a definition of the descriptor, at a place.
 ///
-/// Its template is the descriptor's name of the link, storage or port, and the VDU's for a compute; its VDU is empty for a
-/// link; its size is in bytes. What it is done on are resources that are held: for a compute that is made its storages by
-/// item, for a port that is made its compute and then its link, for what is removed, started or stopped its own. A name
-/// that the descriptor lacks is empty, and a resource that isn't held is left out. `AllocError` is want of memory.
+/// Its template is the descriptor's name of the link, storage or port, and the VDU's for a compute; its VDU is empty
+/// for a link; its size is in bytes. What it is done on are resources that are held: for a compute that is made its
+/// storages by item, for a port that is made its compute and then its link, for what is removed, started or stopped its
+/// own. A name that the descriptor lacks is empty, and a resource that isn't held is left out. `AllocError` is want of
+/// memory.
 ///
 /// Source: SOL 001, Vdu.Compute, Vdu.VirtualBlockStorage, VduCp, VnfVirtualLink; SOL 003 9.5.2.3 (Grant).
 pub fn act_in(
@@ -270,7 +274,8 @@ fn place_in(holding: &Holding, verb: Verb, def: &Def, place: &Place) -> Place
 }
 
 /// The work that makes a change of the descriptor's plan, over what stands: a creation at this place, which is the
-/// grant's for it, all else where its resource is held. Where an attempt at the change may begin, it is the attempt's work.
+/// grant's for it, all else where its resource is held. Where an attempt at the change may begin, it is the attempt's
+/// work.
 /// `AllocError` is want of memory.
 ///
 /// Source: SOL 001, Vdu.Compute, Vdu.VirtualBlockStorage, VduCp, VnfVirtualLink; SOL 003 9.5.2.3 (Grant).
@@ -281,15 +286,18 @@ pub fn forward_act(
     change: &Change,
     place: &Place,
 ) -> Result<Act, AllocError>
-    ensures work { IfOk result (λ work. work ≡ act vnfd.now holding.now change.now.verb change.now.def (place_of holding.now change.now.verb change.now.def place.now)) }
-    ensures of_attempt { (H : List Event) (t : Tag) → IsOfAttempt vnfd.now holding.now change.now H t → t.way ≡ Way.Forward → (change.now.verb ≡ Verb.Create → granted_place H t.occ t.change ≡ Some place.now) → IfOk result (λ work. act_of H t ≡ Some work) }
+    ensures work { IfOk result (λ work. work ≡ act vnfd.now holding.now change.now.verb change.now.def
+        (place_of holding.now change.now.verb change.now.def place.now)) }
+    ensures of_attempt { (H : List Event) (t : Tag) → IsOfAttempt vnfd.now holding.now change.now H t
+        → t.way ≡ Way.Forward → (change.now.verb ≡ Verb.Create → granted_place H t.occ t.change ≡ Some place.now)
+        → IfOk result (λ work. act_of H t ≡ Some work) }
 {
     let place = place_in(holding, change.verb, &change.def, place);
     act_in(alloc, vnfd, holding, change.verb, &change.def, &place)
 }
 
-/// Over the holding of an instance after a history, an act whose needs are held names the resources that the history has,
-/// and the place where the history last had the definition, where it isn't a making.
+/// Over the holding of an instance after a history, an act whose needs are held names the resources that the history
+/// has, and the place where the history last had the definition, where it isn't a making.
 ///
 /// Source: own rule.
 pub fn acts_are_on_what_stands()

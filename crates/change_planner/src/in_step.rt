@@ -50,12 +50,14 @@ fn run_as_meant(items: &[Held], started: bool) -> bool
     true
 }
 
-/// Whether these items of a VDU are those of so many whole machines of this size, each running exactly where the instance is
-/// started.
+/// Whether these items of a VDU are those of so many whole machines of this size, each running exactly where the
+/// instance is started.
 fn are_as_meant(items: &[Held], vdu: u16, count: u32, size: usize, started: bool) -> bool
     requires few { length items.now ≤ 2500 }
     requires small { size ≤ 385 }
-    ensures { result ≡ (((length (distinct vdu 0 items.now) == count) && (length items.now == length (distinct vdu 0 items.now) * size)) && list_all (runs_as_meant started) items.now) }
+    ensures { result ≡ (((length (distinct vdu 0 items.now) == count)
+        && (length items.now == length (distinct vdu 0 items.now) * size))
+        && list_all (runs_as_meant started) items.now) }
 {
     let machines = count_machines(items, vdu);
     let meant = items_of_machines(machines, size);
@@ -81,7 +83,8 @@ fn is_vdu_in_step_in(vnfd: &Vnfd, holding: &Holding, vdu: u16) -> bool
 fn are_vdus_in_step(vnfd: &Vnfd, holding: &Holding) -> bool
     requires valid { IsValid vnfd.now }
     requires held { IsHoldingOf vnfd.now holding.now }
-    ensures { result ≡ list_all (is_vdu_in_step vnfd.now (inventory_of holding.now) holding.now.levels holding.now.started) (vdu_numbers vnfd.now) }
+    ensures { result ≡ list_all (is_vdu_in_step vnfd.now (inventory_of holding.now) holding.now.levels
+        holding.now.started) (vdu_numbers vnfd.now) }
 {
     let count = vnfd.vdus.len();
     for vdu in 0..count {
@@ -101,10 +104,11 @@ fn all_links_stand(vnfd: &Vnfd, holding: &Holding) -> bool
     items_of_vdu(holding.items.as_slice(), 65_535).len() == vnfd.links.len()
 }
 
-/// Whether an instance is in step: each VDU has as many machines as the levels say, all of them whole and each running exactly
-/// where the instance is started, and every link stands.
+/// Whether an instance is in step: each VDU has as many machines as the levels say, all of them whole and each running
+/// exactly where the instance is started, and every link stands.
 ///
-/// Its time is that of one pass over what stands, and of a search and a pass over the descriptor's ports and aspects for each VDU.
+/// Its time is that of one pass over what stands, and of a search and a pass over the descriptor's ports and aspects
+/// for each VDU.
 ///
 /// Source: docs/MODEL.md, "Machines, whole and partial" (own rule over SOL 003 5.5.2.2, instantiatedVnfInfo).
 pub fn is_in_step(vnfd: &Vnfd, holding: &Holding) -> bool

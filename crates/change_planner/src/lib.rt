@@ -27,8 +27,8 @@ pub use records::asked_events_fit_records;
 pub use refusals::PlanRefusal;
 pub use rolls::storages_in;
 
-/// The least number, from 0, of a change whose net is 0, which is the one to make next. `nets` has the net of each change
-/// at the change's number; a change past its end has no net and is passed over.
+/// The least number, from 0, of a change whose net is 0, which is the one to make next. `nets` has the net of each
+/// change at the change's number; a change past its end has no net and is passed over.
 ///
 /// `None` exactly where there is none: every change that has a net is made.
 /// Source: own rule: changes are made in the order of their plan.
@@ -37,7 +37,9 @@ pub fn next_change(changes: &[Change], nets: &[u8]) -> Option<usize>
     ensures open { IfSome result (λ number. slice_get nets.now number ≡ Some 0) }
     ensures least { IfSome result (λ number. (lower : ℕ) → lower < number → ¬ (slice_get nets.now lower ≡ Some 0)) }
     ensures none { result ≡ None → (number : ℕ) → number < length changes.now → ¬ (slice_get nets.now number ≡ Some 0) }
-    ensures in_history { (H : List Event) (o : ℕ) → changes.now ≡ changes_of H o → ((number : ℕ) → number < length changes.now → slice_get nets.now number ≡ Some (net H o number)) → result ≡ first (with_net H o 0) }
+    ensures in_history { (H : List Event) (o : ℕ) → changes.now ≡ changes_of H o
+        → ((number : ℕ) → number < length changes.now → slice_get nets.now number ≡ Some (net H o number))
+        → result ≡ first (with_net H o 0) }
 {
     changes.iter().zip(nets).position(|(_, net)| *net == 0)
 }

@@ -1,14 +1,17 @@
 //! The plan of an operation over what stands, or why there is none.
 
-ghost use Rattle.std.specs.Prelude.{◌≡◌, ◌*◌, ◌≤◌, ◌⊎◌, ◌&&◌, ◌==◌, Err, IfErr, IfOk, IfSome, None, Some, false, length, map, nat_lt, true};
+ghost use Rattle.std.specs.Prelude.{◌≡◌, ◌*◌, ◌≤◌, ◌⊎◌, ◌&&◌, ◌==◌, Err, IfErr, IfOk, IfSome, None, Some, false};
+ghost use Rattle.std.specs.Prelude.{length, map, nat_lt, true};
 ghost use Rattle.std.specs.Cmp.Lexicographic.{pointwise};
 ghost use Rattle.std.specs.List.{enumerate_from, list_all};
 ghost use Rattle.lcm_model.specs.Descriptors.{IsValid, are_levels_of};
 ghost use Rattle.lcm_model.specs.Plans.{plan};
 ghost use Rattle.lcm_model.specs.Vnfcs.{vdu_numbers};
 ghost use Rattle.change_planner.specs.Inventories.{case_of};
-ghost use Rattle.change_planner.specs.Planning.{FitsRecord, IsTooMany, above_profile, aims_at_present, first_refusal, is_oversized, refusal, vdu_above};
-ghost use Rattle.change_planner.specs.Rolls.{CanBePlanned, are_rising, case_in, is_small, links_to_make, parts_made, parts_of, roll_of};
+ghost use Rattle.change_planner.specs.Planning.{FitsRecord, IsTooMany, above_profile, aims_at_present, first_refusal};
+ghost use Rattle.change_planner.specs.Planning.{is_oversized, refusal, vdu_above};
+ghost use Rattle.change_planner.specs.Rolls.{CanBePlanned, are_rising, case_in, is_small, links_to_make, parts_made};
+ghost use Rattle.change_planner.specs.Rolls.{parts_of, roll_of};
 
 use crate::plans::{changes_in, links_in};
 use crate::refusals::PlanRefusal;
@@ -128,9 +131,11 @@ fn sized_plan(
     requires rising { are_rising rolls.now ≡ true }
     requires links { links.now ≡ links_to_make case.now.vnfd.now case.now.ask.now case.now.holding.now.items }
     ensures planned { IfOk result (λ changes. changes.items ≡ plan (case_in case.now)) }
-    ensures fits { IfOk result (λ changes. is_oversized case.now.vnfd.now case.now.holding.now case.now.ask.now case.now.to.now ≡ false) }
+    ensures fits { IfOk result (λ changes. is_oversized case.now.vnfd.now case.now.holding.now case.now.ask.now
+        case.now.to.now ≡ false) }
     ensures small { IfOk result (λ changes. length changes.items ≤ 5000) }
-    ensures refused { IfErr result (λ why. (why ≡ PlanRefusal.Memory) ⊎ IsTooMany case.now.vnfd.now case.now.holding.now case.now.ask.now case.now.to.now why) }
+    ensures refused { IfErr result (λ why. (why ≡ PlanRefusal.Memory)
+        ⊎ IsTooMany case.now.vnfd.now case.now.holding.now case.now.ask.now case.now.to.now why) }
 {
     let items = case.holding.items.as_slice();
     let made = links.len() as u64 + count_made(case.vnfd, rolls);
@@ -148,10 +153,13 @@ fn sized_plan(
 /// The plan of a case, or why there is none.
 fn plan_in(alloc: Global, case: &PlanCase) -> Result<Vec<Change>, PlanRefusal>
     requires { CanBePlanned case.now.vnfd.now case.now.holding.now case.now.to.now }
-    ensures first { IfSome (first_refusal case.now.vnfd.now case.now.holding.now case.now.ask.now case.now.to.now) (λ why. result ≡ Err why) }
+    ensures first { IfSome (first_refusal case.now.vnfd.now case.now.holding.now case.now.ask.now case.now.to.now)
+        (λ why. result ≡ Err why) }
     ensures planned { IfOk result (λ changes. changes.items ≡ plan (case_in case.now)) }
-    ensures accepted { IfOk result (λ changes. refusal case.now.vnfd.now case.now.holding.now case.now.ask.now case.now.to.now ≡ None) }
-    ensures refused { IfErr result (λ why. (why ≡ PlanRefusal.Memory) ⊎ (refusal case.now.vnfd.now case.now.holding.now case.now.ask.now case.now.to.now ≡ Some why)) }
+    ensures accepted { IfOk result (λ changes. refusal case.now.vnfd.now case.now.holding.now case.now.ask.now
+        case.now.to.now ≡ None) }
+    ensures refused { IfErr result (λ why. (why ≡ PlanRefusal.Memory)
+        ⊎ (refusal case.now.vnfd.now case.now.holding.now case.now.ask.now case.now.to.now ≡ Some why)) }
     ensures small { IfOk result (λ changes. length changes.items ≤ 5000) }
 {
     if let Some(why) = first_refusal_in(case) {
@@ -169,16 +177,17 @@ fn plan_in(alloc: Global, case: &PlanCase) -> Result<Vec<Change>, PlanRefusal>
 /// The changes that lead an instance to what an ask aims at, over what stands of it: which, and in which order, is the
 /// definition of docs/MODEL.md, "Plans". `to` has the levels that the ask aims at.
 ///
-/// Refusals, in this order: `UnknownVnfc` exactly where HEAL names a machine of which nothing stands; `NothingToDo` exactly
-/// where SCALE_TO_LEVEL aims at the present levels or OPERATE at the present state; `AboveProfile` exactly where a VDU would
-/// have more machines than its maximum, but for TERMINATE; `TooMany` exactly where something is made, and what stands and what
-/// is made are more than 2,500 definitions; `Memory`, which may stand in place of a plan or of `TooMany` alone.
-/// A plan has at most 5,000 changes, and the event that asks for it fits a record of 65,536 bytes, where the ask's content isn't
-/// refused and it names at most 512 machines. Its time is that of a few passes over what stands and over the plan, and of some
-/// searches for each item, each VDU and each machine that HEAL names, whose list is walked once for each VDU.
+/// Refusals, in this order: `UnknownVnfc` exactly where HEAL names a machine of which nothing stands; `NothingToDo`
+/// exactly where SCALE_TO_LEVEL aims at the present levels or OPERATE at the present state; `AboveProfile` exactly
+/// where a VDU would have more machines than its maximum, but for TERMINATE; `TooMany` exactly where something is made,
+/// and what stands and what is made are more than 2,500 definitions; `Memory`, which may stand in place of a plan or of
+/// `TooMany` alone. A plan has at most 5,000 changes, and the event that asks for it fits a record of 65,536 bytes,
+/// where the ask's content isn't refused and it names at most 512 machines. Its time is that of a few passes over what
+/// stands and over the plan, and of some searches for each item, each VDU and each machine that HEAL names, whose list
+/// is walked once for each VDU.
 ///
-/// Source: SOL 003 5.4.4 to 5.4.10 (the tasks of an individual VNF instance); the changes, their order and the limits are own
-/// rules.
+/// Source: SOL 003 5.4.4 to 5.4.10 (the tasks of an individual VNF instance); the changes, their order and the limits
+/// are own rules.
 #[tactic(auto, using(crate::proofs::FitLaws::record_fits))]
 pub fn plan(
     alloc: Global,
@@ -191,7 +200,8 @@ pub fn plan(
     ensures first { IfSome (first_refusal vnfd.now holding.now ask.now to.now) (λ why. result ≡ Err why) }
     ensures planned { IfOk result (λ changes. changes ≡ plan (case_of vnfd.now holding.now ask.now to.now)) }
     ensures accepted { IfOk result (λ changes. refusal vnfd.now holding.now ask.now to.now ≡ None) }
-    ensures refused { IfErr result (λ why. (why ≡ PlanRefusal.Memory) ⊎ (refusal vnfd.now holding.now ask.now to.now ≡ Some why)) }
+    ensures refused { IfErr result (λ why. (why ≡ PlanRefusal.Memory)
+        ⊎ (refusal vnfd.now holding.now ask.now to.now ≡ Some why)) }
     ensures small { IfOk result (λ changes. length changes ≤ 5000) }
     ensures fits { IfOk result (λ changes. FitsRecord vnfd.now ask.now changes) }
 {

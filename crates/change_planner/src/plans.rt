@@ -1,6 +1,7 @@
 //! The plan of an operation over what stands.
 
-ghost use Rattle.std.specs.Prelude.{◌≡◌, ◌++◌, ◌+◌, ◌*◌, ◌<◌, ◌≤◌, ◌==◌, IfOk, OnOk, filter, flat_map, length, map, nat_lt, not, true};
+ghost use Rattle.std.specs.Prelude.{◌≡◌, ◌++◌, ◌+◌, ◌*◌, ◌<◌, ◌≤◌, ◌==◌, IfOk, OnOk, filter, flat_map, length, map};
+ghost use Rattle.std.specs.Prelude.{nat_lt, not, true};
 ghost use Rattle.std.specs.List.{enumerate_from, list_all, range_with_len};
 ghost use Rattle.std.specs.List.Sorted.{IsNonDecreasing};
 ghost use Rattle.lcm_events.specs.Descriptors.{is_rising};
@@ -8,7 +9,8 @@ ghost use Rattle.lcm_model.specs.Descriptors.{IsValid};
 ghost use Rattle.lcm_model.specs.Plans.{change, makes_links, phase, removes_links, starts, stops};
 ghost use Rattle.lcm_model.specs.Vnfcs.{def_of, defs, items, link_def};
 ghost use Rattle.lcm_model.specs.Words.{is_among};
-ghost use Rattle.change_planner.specs.Rolls.{are_rising, changes_if, changes_where, held_links, is_picked, is_small, links_to_make, made_by, missing_links, new_defs, plan_by, stays_by};
+ghost use Rattle.change_planner.specs.Rolls.{are_rising, changes_if, changes_where, held_links, is_picked, is_small};
+ghost use Rattle.change_planner.specs.Rolls.{links_to_make, made_by, missing_links, new_defs, plan_by, stays_by};
 
 use crate::rolls::{Roll, storages_in};
 use lcm_events::{Ask, Change, Def, DefKind, Held, Port, StopType, Verb, Vnfd};
@@ -246,7 +248,8 @@ fn push_machine(
     serial: u32,
     items: &[u16],
 ) -> Result<(), AllocError>
-    ensures { OnOk result (list.new.items ≡ list.old.items ++ map (change Verb.Create) (map (def_of kind vdu serial) items.now)) }
+    ensures { OnOk result (list.new.items ≡ list.old.items
+        ++ map (change Verb.Create) (map (def_of kind vdu serial) items.now)) }
 {
     for item in items {
         let def = Def {
@@ -270,7 +273,9 @@ fn push_machines(
     items: &[u16],
 ) -> Result<(), AllocError>
     requires { top + missing < 4294967296 }
-    ensures { OnOk result (list.new.items ≡ list.old.items ++ map (change Verb.Create) (flat_map (λ s. map (def_of kind vdu s) items.now) (range_with_len (top + 1) missing))) }
+    ensures { OnOk result (list.new.items ≡ list.old.items
+        ++ map (change Verb.Create) (flat_map (λ s. map (def_of kind vdu s) items.now)
+        (range_with_len (top + 1) missing))) }
 {
     for at in 0..missing {
         push_machine(list, kind, vdu, top + 1 + at, items)?;
@@ -309,7 +314,8 @@ fn push_new(
 ) -> Result<(), AllocError>
     requires valid { IsValid vnfd.now }
     requires small { roll.now.top + roll.now.missing < 4294967296 }
-    ensures { OnOk result (list.new.items ≡ list.old.items ++ map (change Verb.Create) (new_defs vnfd.now kind (vdu, roll.now))) }
+    ensures { OnOk result (list.new.items ≡ list.old.items
+        ++ map (change Verb.Create) (new_defs vnfd.now kind (vdu, roll.now))) }
 {
     let items = items_in(alloc, vnfd, kind, vdu)?;
     push_machines(list, kind, vdu, roll.top, roll.missing, items.as_slice())
@@ -350,7 +356,8 @@ fn push_if(
     items: &[Held],
 ) -> Result<(), AllocError>
     requires { are_rising rolls.now ≡ true }
-    ensures { OnOk result (list.new.items ≡ list.old.items ++ changes_if asked verb (is_picked pick rolls.now) items.now) }
+    ensures { OnOk result (list.new.items ≡ list.old.items
+        ++ changes_if asked verb (is_picked pick rolls.now) items.now) }
 {
     if asked {
         push_picked(list, verb, pick, rolls, items)

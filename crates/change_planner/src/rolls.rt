@@ -9,7 +9,8 @@ ghost use Rattle.lcm_model.specs.Plans.{is_named, may_stay, stay, want};
 ghost use Rattle.lcm_model.specs.Vnfcs.{is_there, is_whole, storages_of, there, vdu_numbers};
 ghost use Rattle.lcm_model.specs.Words.{is_among};
 ghost use Rattle.change_planner.specs.Planning.{unknown_among, unknown_vnfc};
-ghost use Rattle.change_planner.specs.Rolls.{CanBePlanned, are_rising, case_in, distinct, is_small, missing_by, parts_of, roll_of};
+ghost use Rattle.change_planner.specs.Rolls.{CanBePlanned, are_rising, case_in, distinct, is_small, missing_by};
+ghost use Rattle.change_planner.specs.Rolls.{parts_of, roll_of};
 
 use crate::plans::is_among_sorted;
 use crate::spans::{items_at, items_of_vdu};
@@ -138,7 +139,8 @@ fn is_whole_in(case: &PlanCase, vdu: u16, size: usize, serial: u32) -> bool
     standing.len() == size
 }
 
-/// Those of these serials whose machines are whole, of this size, and aren't in a list in which none stands before a lesser one.
+/// Those of these serials whose machines are whole, of this size, and aren't in a list in which none stands before a
+/// lesser one.
 fn whole_without(
     alloc: Global,
     case: &PlanCase,
@@ -151,7 +153,8 @@ fn whole_without(
     requires known { vdu < length case.now.vnfd.now.vdus }
     requires size { size ≡ parts_of case.now.vnfd.now vdu }
     requires sorted { IsNonDecreasing named.now }
-    ensures { IfOk result (λ v. v.items ≡ filter (λ s. is_whole case.now.vnfd.now (inventory_of case.now.holding.now) vdu s && not (is_among named.now s)) serials.now) }
+    ensures { IfOk result (λ v. v.items ≡ filter (λ s. is_whole case.now.vnfd.now
+        (inventory_of case.now.holding.now) vdu s && not (is_among named.now s)) serials.now) }
 {
     let mut kept: Vec<u32> = Vec::new(alloc);
     for serial in serials {
@@ -172,7 +175,8 @@ fn whole_unnamed(
 ) -> Result<Vec<u32>, AllocError>
     requires held { CanBePlanned case.now.vnfd.now case.now.holding.now case.now.to.now }
     requires known { vdu < length case.now.vnfd.now.vdus }
-    ensures { IfOk result (λ v. v.items ≡ filter (λ s. is_whole case.now.vnfd.now (inventory_of case.now.holding.now) vdu s && not (is_named named.now vdu s)) serials.now) }
+    ensures { IfOk result (λ v. v.items ≡ filter (λ s. is_whole case.now.vnfd.now
+        (inventory_of case.now.holding.now) vdu s && not (is_named named.now vdu s)) serials.now) }
 {
     let named = named_in(alloc, named, vdu)?;
     let size = size_of_machine(case.vnfd, vdu);
@@ -279,7 +283,8 @@ fn roll_in(alloc: Global, case: &PlanCase, vdu: u16) -> Result<Roll, AllocError>
 /// What becomes of the machines of each VDU.
 pub(crate) fn rolls_in(alloc: Global, case: &PlanCase) -> Result<Vec<Roll>, AllocError>
     requires { CanBePlanned case.now.vnfd.now case.now.holding.now case.now.to.now }
-    ensures rolls { IfOk result (λ rolls. rolls.items ≡ map (roll_of (case_in case.now)) (vdu_numbers case.now.vnfd.now)) }
+    ensures rolls { IfOk result (λ rolls. rolls.items ≡ map (roll_of (case_in case.now))
+        (vdu_numbers case.now.vnfd.now)) }
     ensures small { IfOk result (λ rolls. list_all is_small rolls.items ≡ true) }
     ensures few { IfOk result (λ rolls. length rolls.items ≤ 64) }
     ensures rising { IfOk result (λ rolls. are_rising rolls.items ≡ true) }

@@ -1,4 +1,5 @@
-//! Which items of a holding are of a VDU, and which of a machine. They stand side by side, so each is found by two searches.
+//! Which items of a holding are of a VDU, and which of a machine. They stand side by side, so each is found by two
+//! searches.
 
 ghost use Rattle.std.specs.Prelude.{◌≡◌, ◌-◌, ◌≤◌, drop, filter, length, take, true};
 ghost use Rattle.change_planner.specs.Rolls.{are_in_order, comes_before, has_vdu, is_at};

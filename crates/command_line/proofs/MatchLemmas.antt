@@ -1,5 +1,6 @@
 -- What `clap` finds for the options of words that are a command.
-use Rattle.std.proofs.Common.{◌≡◌, ◌⊎◌, ◌∙◌, ℕ, List, [], ◌∷◌, ◌++◌, Bool, true, false, not, Option, Some, None, ap, ap₂, refl, sym, subst, inl, inr, codes, map, is_some}
+use Rattle.std.proofs.Common.{◌≡◌, ◌⊎◌, ◌∙◌, ℕ, List, [], ◌∷◌, ◌++◌, Bool, true, false, not, Option, Some, None, ap, ap₂, refl, sym, subst}
+use Rattle.std.proofs.Common.{inl, inr, codes, map, is_some}
 use Rattle.std.specs.Prelude.{◌&&◌, ◌||◌, if◌then◌else◌, drop, find, fold, option_map, option_and_then, unwrap_or, slice_get}
 use Rattle.std.specs.List.{list_all, list_any}
 use Rattle.std.specs.Str.{bytes_eq}
@@ -8,7 +9,8 @@ use Rattle.std.proofs.lemmas.List.{append-nil, append_assoc}
 use Rattle.std.proofs.lemmas.Bool.{and_parts, false≢true, true≢false}
 use Rattle.clap.specs.Lexer.{long_of, short_of}
 use Rattle.clap.specs.Simple.{App, built, is_simple, matches_of, new_app, new_rule, with_rule}
-use Rattle.clap.specs.Walk.{Held, Row, Rule, Walk, at_row, default_rows, more_values, finished, first_of, has_row, nothing_held, option, reading_by, rows_after, rows_of, settled, walk, walk_from, walked, with_default, with_values, without}
+use Rattle.clap.specs.Walk.{Held, Row, Rule, Walk, at_row, default_rows, more_values, finished, first_of, has_row, nothing_held, option}
+use Rattle.clap.specs.Walk.{reading_by, rows_after, rows_of, settled, walk, walk_from, walked, with_default, with_values, without}
 use Rattle.clap.specs.Matches.{first_value}
 use Rattle.clap.specs.declared.builder.value_parser.Reading.{Reading}
 use Rattle.clap.specs.declared.parser.matches.Found.{Found}
@@ -17,7 +19,8 @@ use Rattle.clap.proofs.OnLiterals.{clap_on_literals}
 use Rattle.clap.proofs.WalkLemmas.{first_value-rows}
 use Rattle.command_line.proofs.ShapeLemmas.{pairs_behind, some_pairs}
 use Rattle.command_line.specs.Found.{HasValues}
-use Rattle.command_line.specs.Words.{Pair, Word, are_of, command_named, fits, given, is_option, needed_of, options_of, pairs_of, parted, stand_once, stands, takes}
+use Rattle.command_line.specs.Words.{Pair, Word, are_of, command_named, fits, given, is_option, needed_of, options_of, pairs_of, parted}
+use Rattle.command_line.specs.Words.{stand_once, stands, takes}
 use Rattle.command_line.specs.declared.options.Command.{Command}
 use Rattle.command_line.specs.declared.options.Command.TheVariants.{Init, Onboard, Once}
 
@@ -26,8 +29,10 @@ abbrev pub option_rule : Word → Word → Rule
 option_rule name default = record (new_rule name) { long = Some name; defaults = default ∷ [] }
 
 abbrev pub reader : App
-reader = with_rule (with_rule (with_rule (with_rule (with_rule (with_rule (new_app (codes "vnfm")) (option_rule (codes "journal") [])) (option_rule (codes "manager") (codes "0")))
-    (option_rule (codes "role") (codes "orchestrator"))) (option_rule (codes "rounds") (codes "1"))) (option_rule (codes "orchestrator") [])) (option_rule (codes "vim") [])
+reader = with_rule (with_rule (with_rule (with_rule (with_rule (with_rule (new_app (codes "vnfm")) (option_rule (codes "journal") []))
+    (option_rule (codes "manager") (codes "0")))
+    (option_rule (codes "role") (codes "orchestrator"))) (option_rule (codes "rounds") (codes "1")))
+    (option_rule (codes "orchestrator") [])) (option_rule (codes "vim") [])
 
 -- what it makes of that
 abbrev rules : List Rule
@@ -39,10 +44,12 @@ reader_is_simple = refl
 
 -- an option of a command
 abbrev IsKnown : Word → Type 0
-IsKnown o = (o ≡ codes "--journal") ⊎ ((o ≡ codes "--manager") ⊎ ((o ≡ codes "--role") ⊎ ((o ≡ codes "--rounds") ⊎ ((o ≡ codes "--orchestrator") ⊎ (o ≡ codes "--vim")))))
+IsKnown o = (o ≡ codes "--journal") ⊎ ((o ≡ codes "--manager") ⊎ ((o ≡ codes "--role")
+    ⊎ ((o ≡ codes "--rounds") ⊎ ((o ≡ codes "--orchestrator") ⊎ (o ≡ codes "--vim")))))
 
 -- what holds of each option holds of a known one
-known_by : (P : Word → Type 0) → P (codes "--journal") → P (codes "--manager") → P (codes "--role") → P (codes "--rounds") → P (codes "--orchestrator") → P (codes "--vim") → (o : Word) → IsKnown o → P o
+known_by : (P : Word → Type 0) → P (codes "--journal") → P (codes "--manager") → P (codes "--role") → P (codes "--rounds")
+    → P (codes "--orchestrator") → P (codes "--vim") → (o : Word) → IsKnown o → P o
 known_by P journal manager role rounds orchestrator vim o known = elim known [
   | inl e ↦ subst P (sym e) journal
   | inr (inl e) ↦ subst P (sym e) manager
@@ -73,11 +80,13 @@ no_option [] plain = (refl, refl, refl)
 no_option (x ∷ xs) plain = (rw plain refl, rw plain refl, rw plain refl)
 
 -- the word behind an option's name is its value
-value_walked : (h : Held) (v : Word) → is_option v ≡ false → (o : Word) → IsKnown o → walked rules [] (waiting_for o h) v ≡ walk_from (had (o, v) h)
+value_walked : (h : Held) (v : Word) → is_option v ≡ false → (o : Word) → IsKnown o
+    → walked rules [] (waiting_for o h) v ≡ walk_from (had (o, v) h)
 unfolding clap_on_literals
 value_walked h v plain =
     let it = no_option v plain in
-    known_by (λ o. walked rules [] (waiting_for o h) v ≡ walk_from (had (o, v) h)) (rw (it.0, it.1, it.2) refl) (rw (it.0, it.1, it.2) refl) (rw (it.0, it.1, it.2) refl)
+    known_by (λ o. walked rules [] (waiting_for o h) v ≡ walk_from (had (o, v) h)) (rw (it.0, it.1, it.2) refl) (rw (it.0, it.1, it.2) refl)
+    (rw (it.0, it.1, it.2) refl)
     (rw (it.0, it.1, it.2) refl) (rw (it.0, it.1, it.2) refl) (rw (it.0, it.1, it.2) refl)
 
 -- the words of these pairs
@@ -107,25 +116,38 @@ abbrev row : Pair → Row
 row p = record { id = drop 2 p.0; values = p.1 ∷ []; count = None; source = Some CommandLine; reading = reading_by (option_rule [] []) }
 
 -- a row that isn't there is added
-unmet : (id : Word) (change : Row → List Row) (missing rows : List Row) → has_row id rows ≡ false → at_row id change missing rows ≡ rows ++ missing
+unmet : (id : Word) (change : Row → List Row) (missing rows : List Row) → has_row id rows ≡ false
+    → at_row id change missing rows ≡ rows ++ missing
 unmet id change missing [] no_row = refl
 unmet id change missing (r ∷ rs) no_row = go (bytes_eq r.id id) refl (unmet id change missing rs) where
-  go : (b : Bool) → bytes_eq r.id id ≡ b → (has_row id rs ≡ false → at_row id change missing rs ≡ rs ++ missing) → at_row id change missing (r ∷ rs) ≡ r ∷ (rs ++ missing)
+  go : (b : Bool) → bytes_eq r.id id ≡ b → (has_row id rs ≡ false → at_row id change missing rs ≡ rs ++ missing)
+      → at_row id change missing (r ∷ rs) ≡ r ∷ (rs ++ missing)
   go true e later = let bad : true ≡ false = rw e at no_row in absurd (true≢false bad)
   go false e later = let none : has_row id rs ≡ false = rw e at no_row in rw (e, later none) refl
 
 -- a value that isn't there is added
-with_row : (rows : List Row) (v id : Word) → has_row id rows ≡ false → with_values id (reading_by (option_rule [] [])) CommandLine (v ∷ []) (without id rows) ≡
+with_row : (rows : List Row) (v id : Word) → has_row id rows ≡ false
+    → with_values id (reading_by (option_rule [] [])) CommandLine (v ∷ []) (without id rows) ≡
     rows ++ (record { id = id; values = v ∷ []; count = None; source = Some CommandLine; reading = reading_by (option_rule [] []) }) ∷ []
 with_row rows v id none =
     let same : without id rows ≡ rows = unmet id (λ r. []) [] rows none ∙ append-nil rows in
     ap (with_values id (reading_by (option_rule [] [])) CommandLine (v ∷ [])) same
-    ∙ unmet id (more_values CommandLine (v ∷ [])) ((record { id = id; values = v ∷ []; count = None; source = Some CommandLine; reading = reading_by (option_rule [] []) }) ∷ []) rows none
+    ∙ unmet id (more_values CommandLine (v ∷ [])) ((record {
+      id = id;
+      values = v ∷ [];
+      count = None;
+      source = Some CommandLine;
+      reading =
+          reading_by (option_rule [] []);
+    }) ∷ []) rows none
 
 -- a pair is settled as its row
-settled_row : (rows : List Row) (k : ℕ) (v : Word) (o : Word) → IsKnown o → has_row (drop 2 o) rows ≡ false → (settled rules (record { rows = rows; pending = Some (drop 2 o, v ∷ []); skip = k })).rows ≡ rows ++ row (o, v) ∷ []
-settled_row rows k v o known = known_by (λ o. has_row (drop 2 o) rows ≡ false → (settled rules (record { rows = rows; pending = Some (drop 2 o, v ∷ []); skip = k })).rows ≡ rows ++ row (o, v) ∷ [])
-    (with_row rows v (codes "journal")) (with_row rows v (codes "manager")) (with_row rows v (codes "role")) (with_row rows v (codes "rounds"))
+settled_row : (rows : List Row) (k : ℕ) (v : Word) (o : Word) → IsKnown o → has_row (drop 2 o) rows ≡ false
+    → (settled rules (record { rows = rows; pending = Some (drop 2 o, v ∷ []); skip = k })).rows ≡ rows ++ row (o, v) ∷ []
+settled_row rows k v o known = known_by (λ o. has_row (drop 2 o) rows ≡ false
+    → (settled rules (record { rows = rows; pending = Some (drop 2 o, v ∷ []); skip = k })).rows ≡ rows ++ row (o, v) ∷ [])
+    (with_row rows v (codes "journal")) (with_row rows v (codes "manager")) (with_row rows v (codes "role"))
+    (with_row rows v (codes "rounds"))
     (with_row rows v (codes "orchestrator")) (with_row rows v (codes "vim")) o known
 
 -- no pair has a row yet
@@ -151,7 +173,8 @@ differ a b apart = go (bytes_eq b a) refl where
       absurd (true≢false (sym bad ∙ apart))
 
 -- one row more is another's
-has_more : (id : Word) (r : Row) (rows : List Row) → has_row id rows ≡ false → bytes_eq r.id id ≡ false → has_row id (rows ++ r ∷ []) ≡ false
+has_more : (id : Word) (r : Row) (rows : List Row) → has_row id rows ≡ false → bytes_eq r.id id ≡ false
+    → has_row id (rows ++ r ∷ []) ≡ false
 has_more id r [] none other = rw other refl
 has_more id r (x ∷ xs) none other =
     let parts = or_parts (bytes_eq x.id id) (has_row id xs) none in
@@ -162,10 +185,12 @@ has_more id r (x ∷ xs) none other =
     or_parts false b e = (refl, e)
 
 -- an option that doesn't stand again is none of those behind it
-others : (p : Pair) (rows : List Row) (ps : List Pair) → IsKnown p.0 → AreKnown ps → stands p.0 ps ≡ false → AreNew rows ps → AreNew (rows ++ row p ∷ []) ps
+others : (p : Pair) (rows : List Row) (ps : List Pair) → IsKnown p.0 → AreKnown ps → stands p.0 ps ≡ false → AreNew rows ps
+    → AreNew (rows ++ row p ∷ []) ps
 others p rows [] known all once new = tt
 others p rows (q ∷ ps) known all once new = go (bytes_eq q.0 p.0) refl (others p rows ps known all.2) where
-  go : (b : Bool) → bytes_eq q.0 p.0 ≡ b → (stands p.0 ps ≡ false → AreNew rows ps → AreNew (rows ++ row p ∷ []) ps) → AreNew (rows ++ row p ∷ []) (q ∷ ps)
+  go : (b : Bool) → bytes_eq q.0 p.0 ≡ b → (stands p.0 ps ≡ false → AreNew rows ps → AreNew (rows ++ row p ∷ []) ps)
+      → AreNew (rows ++ row p ∷ []) (q ∷ ps)
   go true e later = let bad : true ≡ false = rw e at once in absurd (true≢false bad)
   go false e later =
       let rest : stands p.0 ps ≡ false = rw e at once in
@@ -173,13 +198,16 @@ others p rows (q ∷ ps) known all once new = go (bytes_eq q.0 p.0) refl (others
       (has_more (drop 2 q.0) (row p) rows new.0 other, later rest new.1)
 
 -- the pairs are settled as their rows
-rows_settled : (h : Held) (ps : List Pair) → AreKnown ps → stand_once ps ≡ true → AreNew (settled rules h).rows ps → (settled rules (held_after h ps)).rows ≡ (settled rules h).rows ++ map row ps
+rows_settled : (h : Held) (ps : List Pair) → AreKnown ps → stand_once ps ≡ true → AreNew (settled rules h).rows ps
+    → (settled rules (held_after h ps)).rows ≡ (settled rules h).rows ++ map row ps
 rows_settled h [] known once new = sym (append-nil (settled rules h).rows)
 rows_settled h (p ∷ ps) known once new =
     let parts = and_parts (not (stands p.0 ps)) (stand_once ps) once in
     let alone : stands p.0 ps ≡ false = not_true (stands p.0 ps) parts.0 in
-    let one : (settled rules (had p h)).rows ≡ (settled rules h).rows ++ row p ∷ [] = settled_row (settled rules h).rows h.skip p.1 p.0 known.0 new.0 in
-    rows_settled (had p h) ps known.2 parts.1 (subst (λ rows. AreNew rows ps) (sym one) (others p (settled rules h).rows ps known.0 known.2 alone new.1))
+    let one : (settled rules (had p h)).rows ≡ (settled rules h).rows ++ row p ∷ [] =
+    settled_row (settled rules h).rows h.skip p.1 p.0 known.0 new.0 in
+    rows_settled (had p h) ps known.2 parts.1 (subst (λ rows. AreNew rows ps) (sym one)
+    (others p (settled rules h).rows ps known.0 known.2 alone new.1))
     ∙ ap (λ rows. rows ++ map row ps) one ∙ append_assoc (settled rules h).rows (row p ∷ []) (map row ps)
   where
     not_true : (b : Bool) → not b ≡ true → b ≡ false
@@ -219,7 +247,8 @@ has_is id (r ∷ rs) = go (bytes_eq r.id id) refl (has_is id rs) where
   go false e later = rw e later
 
 -- one row more
-row_more : (id : Word) (r : Row) (rows : List Row) → row_at id (rows ++ r ∷ []) ≡ or_else (row_at id rows) (if bytes_eq r.id id then Some r else None)
+row_more : (id : Word) (r : Row) (rows : List Row) → row_at id (rows ++ r ∷ [])
+    ≡ or_else (row_at id rows) (if bytes_eq r.id id then Some r else None)
 row_more id r [] = refl
 row_more id r (x ∷ xs) = go (bytes_eq x.id id) refl (row_more id r xs) where
   go : (b : Bool) → bytes_eq x.id id ≡ b → row_at id (xs ++ r ∷ []) ≡ or_else (row_at id xs) (if bytes_eq r.id id then Some r else None)
@@ -234,7 +263,8 @@ none_either false = refl
 -- an argument that has no row gets its default's
 defaulted : (id : Word) (a : Rule) (rows : List Row) → row_at id (with_default rows a) ≡ or_else (row_at id rows) (default_at id a)
 defaulted id a rows = go (has_row a.id rows) refl where
-  present : (t : Bool) → bytes_eq a.id id ≡ t → (x : Option Row) → row_at id rows ≡ x → has_row a.id rows ≡ true → row_at id rows ≡ or_else (row_at id rows) (default_at id a)
+  present : (t : Bool) → bytes_eq a.id id ≡ t → (x : Option Row) → row_at id rows ≡ x → has_row a.id rows ≡ true
+      → row_at id rows ≡ or_else (row_at id rows) (default_at id a)
   present false e x is has = rw e (or_none (row_at id rows))
   present true e (Some r) is has = rw is refl
   present true e None is has =
@@ -242,7 +272,9 @@ defaulted id a rows = go (has_row a.id rows) refl where
       let bad : false ≡ true = sym (has_is id rows ∙ ap is_some is) ∙ ap (λ i. has_row i rows) (sym same) ∙ has in
       absurd (false≢true bad)
 
-  absent : (ds : List Word) → a.defaults ≡ ds → has_row a.id rows ≡ false → row_at id (default_rows a.id (reading_by a) ds rows) ≡ or_else (row_at id rows) (if bytes_eq a.id id then row_by a.id (reading_by a) ds else None)
+  absent : (ds : List Word) → a.defaults ≡ ds → has_row a.id rows ≡ false
+      → row_at id (default_rows a.id (reading_by a) ds rows) ≡ or_else (row_at id rows)
+      (if bytes_eq a.id id then row_by a.id (reading_by a) ds else None)
   absent [] is none = or_none (row_at id rows) ∙ ap (or_else (row_at id rows)) (none_either (bytes_eq a.id id))
   absent (v ∷ vs) is none =
       let r : Row = record { id = a.id; values = v ∷ vs; count = None; source = Some DefaultValue; reading = reading_by a } in
@@ -260,10 +292,12 @@ all_defaulted id [] rows = refl
 all_defaulted id (a ∷ more) rows = all_defaulted id more (with_default rows a) ∙ ap (λ x. defaults_at id x more) (defaulted id a rows)
 
 -- the row of an option is that of its pair
-row_of_pair : (o : Word) → IsKnown o → (ps : List Pair) → AreKnown ps → row_at (drop 2 o) (map row ps) ≡ option_map row (find (λ p. bytes_eq p.0 o) ps)
+row_of_pair : (o : Word) → IsKnown o → (ps : List Pair) → AreKnown ps
+    → row_at (drop 2 o) (map row ps) ≡ option_map row (find (λ p. bytes_eq p.0 o) ps)
 row_of_pair o known [] all = refl
 row_of_pair o known (p ∷ ps) all = go (bytes_eq p.0 o) refl (same_name p.0 o all.0 known) (row_of_pair o known ps all.2) where
-  go : (b : Bool) → bytes_eq p.0 o ≡ b → bytes_eq (drop 2 p.0) (drop 2 o) ≡ bytes_eq p.0 o → row_at (drop 2 o) (map row ps) ≡ option_map row (find (λ p. bytes_eq p.0 o) ps)
+  go : (b : Bool) → bytes_eq p.0 o ≡ b → bytes_eq (drop 2 p.0) (drop 2 o) ≡ bytes_eq p.0 o
+      → row_at (drop 2 o) (map row ps) ≡ option_map row (find (λ p. bytes_eq p.0 o) ps)
       → row_at (drop 2 o) (map row (p ∷ ps)) ≡ option_map row (find (λ p. bytes_eq p.0 o) (p ∷ ps))
   go true e same later = rw (same, e) refl
   go false e same later = rw (same, e) later
@@ -271,7 +305,8 @@ row_of_pair o known (p ∷ ps) all = go (bytes_eq p.0 o) refl (same_name p.0 o a
 -- what is found behind the words of these pairs
 rows_are : (ps : List Pair) → AreKnown ps → stand_once ps ≡ true → rows_after rules [] (spelled ps) ≡ fold with_default (map row ps) rules
 rows_are ps known once =
-    ap (λ (w : Walk). finished rules w.held) (pairs_walked nothing_held ps known) ∙ ap (λ rows. fold with_default rows rules) (rows_settled nothing_held ps known once (all_new ps))
+    ap (λ (w : Walk). finished rules w.held) (pairs_walked nothing_held ps known)
+    ∙ ap (λ rows. fold with_default rows rules) (rows_settled nothing_held ps known once (all_new ps))
 
 -- an option's first value, by its pair
 abbrev first_by : Word → Option Pair → Option Word
@@ -284,11 +319,13 @@ either : (P : Option Pair → Type 0) → P None → ((p : Pair) → P (Some p))
 either P none some None = none
 either P none some (Some p) = some p
 
-value_found : (o default : Word) → IsKnown o → ((x : Option Pair) → IsGiven o default x) → (ps : List Pair) → AreKnown ps → stand_once ps ≡ true
+value_found : (o default : Word) → IsKnown o → ((x : Option Pair) → IsGiven o default x) → (ps : List Pair) → AreKnown ps
+    → stand_once ps ≡ true
     → first_of (drop 2 o) (rows_after rules [] (spelled ps)) ≡ Some (given o default ps)
 value_found o default known is ps all once =
     ap (first_of (drop 2 o)) (rows_are ps all once)
-    ∙ ap (option_and_then (λ r. slice_get r.values 0)) (all_defaulted (drop 2 o) rules (map row ps) ∙ ap (λ x. defaults_at (drop 2 o) x rules) (row_of_pair o known ps all))
+    ∙ ap (option_and_then (λ r. slice_get r.values 0)) (all_defaulted (drop 2 o) rules (map row ps)
+    ∙ ap (λ x. defaults_at (drop 2 o) x rules) (row_of_pair o known ps all))
     ∙ is (find (λ p. bytes_eq p.0 o) ps)
 
 -- the pairs that a command takes are known
@@ -306,7 +343,16 @@ known_among o (q ∷ qs) all any = go (bytes_eq o q) refl (known_among o qs all.
 options_known : (c : Command) → AllKnown (options_of c)
 options_known Init = (inl refl, (inr (inl refl), tt))
 options_known Onboard = (inl refl, tt)
-options_known Once = (inl refl, (inr (inr (inl refl)), (inr (inr (inr (inl refl))), (inr (inr (inr (inr (inl refl)))), (inr (inr (inr (inr (inr refl)))), tt)))))
+options_known Once = (
+  inl refl,
+  (
+    inr (inr (inl refl)),
+    (
+      inr (inr (inr (inl refl))),
+      (inr (inr (inr (inr (inl refl)))), (inr (inr (inr (inr (inr refl)))), tt)),
+    ),
+  ),
+)
 
 not_true : (b : Bool) → not b ≡ true → b ≡ false
 not_true true e = absurd (false≢true e)
@@ -329,7 +375,8 @@ spelled_are (o ∷ v ∷ rest) ps are =
     ap (λ ws. o ∷ v ∷ ws) (spelled_are rest at.0 at.1) ∙ ap spelled (sym at.2)
 
 -- the pairs of words that are a command
-parted_from : (name : Word) (rest : List Word) (c : Command) (ps : List Pair) → parted (name ∷ rest) ≡ Some (c, ps) → (pairs_of rest ≡ Some ps) × (are_of c ps ≡ true)
+parted_from : (name : Word) (rest : List Word) (c : Command) (ps : List Pair) → parted (name ∷ rest) ≡ Some (c, ps)
+    → (pairs_of rest ≡ Some ps) × (are_of c ps ≡ true)
 parted_from name rest c ps are = named (command_named name) refl where
   some_parts : (x y : Command × List Pair) → Some x ≡ Some y → x ≡ y
   some_parts x y same = cc
@@ -337,14 +384,16 @@ parted_from name rest c ps are = named (command_named name) refl where
   both : Command → List Pair → Command × List Pair
   both d qs = (d, qs)
 
-  judged : (d : Command) → command_named name ≡ Some d → (qs : List Pair) → pairs_of rest ≡ Some qs → (b : Bool) → are_of d qs ≡ b → (pairs_of rest ≡ Some ps) × (are_of c ps ≡ true)
+  judged : (d : Command) → command_named name ≡ Some d → (qs : List Pair) → pairs_of rest ≡ Some qs → (b : Bool) → are_of d qs ≡ b
+      → (pairs_of rest ≡ Some ps) × (are_of c ps ≡ true)
   judged d e qs is false judge = let no : None ≡ Some (both c ps) = rw (e, is, judge) at are in cc
   judged d e qs is true judge =
       let same : Some (both d qs) ≡ Some (both c ps) = rw (e, is, judge) at are in
       let parts = some_parts (both d qs) (both c ps) same in
       (is ∙ ap (λ (x : Command × List Pair). Some x.1) parts, sym (ap (λ (x : Command × List Pair). are_of x.0 x.1) parts) ∙ judge)
 
-  paired : (d : Command) → command_named name ≡ Some d → (x : Option (List Pair)) → pairs_of rest ≡ x → (pairs_of rest ≡ Some ps) × (are_of c ps ≡ true)
+  paired : (d : Command) → command_named name ≡ Some d → (x : Option (List Pair)) → pairs_of rest ≡ x
+      → (pairs_of rest ≡ Some ps) × (are_of c ps ≡ true)
   paired d e None is = let no : None ≡ Some (both c ps) = rw (e, is) at are in cc
   paired d e (Some qs) is = judged d e qs is (are_of d qs) refl
 
@@ -353,7 +402,8 @@ parted_from name rest c ps are = named (command_named name) refl where
   named (Some d) e = paired d e (pairs_of rest) refl
 
 -- what `clap` finds in words that are a command
-pub has_values : (f : Found) (words : List Word) (c : Command) (ps : List Pair) → rows_of f ≡ matches_of reader words → parted words ≡ Some (c, ps) → HasValues f ps
+pub has_values : (f : Found) (words : List Word) (c : Command) (ps : List Pair) → rows_of f ≡ matches_of reader words
+    → parted words ≡ Some (c, ps) → HasValues f ps
 has_values f [] c ps found are = cc
 has_values f (name ∷ rest) c ps found are =
     let it = parted_from name rest c ps are in
@@ -361,13 +411,18 @@ has_values f (name ∷ rest) c ps found are =
     let front = and_parts (list_all (takes c) ps) (stand_once ps) judged.0 in
     let known = are_known c ps front.0 in
     let rows : rows_of f ≡ rows_after rules [] (spelled ps) = found ∙ ap (rows_after rules []) (spelled_are rest ps it.0) in
-    let value : (o default : Word) → IsKnown o → ((x : Option Pair) → IsGiven o default x) → first_value f (drop 2 o) ≡ Some (given o default ps) =
-    λ o default is_known is. first_value-rows f (drop 2 o) ∙ ap (first_of (drop 2 o)) rows ∙ value_found o default is_known is ps known front.1 in
+    let value : (o default : Word) → IsKnown o → ((x : Option Pair) → IsGiven o default x)
+    → first_value f (drop 2 o) ≡ Some (given o default ps) =
+    λ o default is_known is. first_value-rows f (drop 2 o) ∙ ap (first_of (drop 2 o)) rows
+    ∙ value_found o default is_known is ps known front.1 in
     record {
       journal = value (codes "--journal") [] (inl refl) (either (IsGiven (codes "--journal") []) refl (λ p. refl));
       manager = value (codes "--manager") (codes "0") (inr (inl refl)) (either (IsGiven (codes "--manager") (codes "0")) refl (λ p. refl));
-      role = value (codes "--role") (codes "orchestrator") (inr (inr (inl refl))) (either (IsGiven (codes "--role") (codes "orchestrator")) refl (λ p. refl));
-      rounds = value (codes "--rounds") (codes "1") (inr (inr (inr (inl refl)))) (either (IsGiven (codes "--rounds") (codes "1")) refl (λ p. refl));
-      orchestrator = value (codes "--orchestrator") [] (inr (inr (inr (inr (inl refl))))) (either (IsGiven (codes "--orchestrator") []) refl (λ p. refl));
+      role = value (codes "--role") (codes "orchestrator") (inr (inr (inl refl)))
+          (either (IsGiven (codes "--role") (codes "orchestrator")) refl (λ p. refl));
+      rounds = value (codes "--rounds") (codes "1") (inr (inr (inr (inl refl))))
+          (either (IsGiven (codes "--rounds") (codes "1")) refl (λ p. refl));
+      orchestrator = value (codes "--orchestrator") [] (inr (inr (inr (inr (inl refl)))))
+          (either (IsGiven (codes "--orchestrator") []) refl (λ p. refl));
       vim = value (codes "--vim") [] (inr (inr (inr (inr (inr refl))))) (either (IsGiven (codes "--vim") []) refl (λ p. refl));
     }

@@ -8,7 +8,8 @@ use Rattle.command_line.specs.Words.{Pair, Word, are_taken, pairs_of, parted, se
 use Rattle.command_line.specs.declared.options.Command.{Command}
 
 -- words of which two or more are left begin with a pair
-two_front : (ws : List Word) (o v : Word) → 2 ≤ length ws → o ≡ slice_index_or ws 0 o → v ≡ slice_index_or ws 1 v → ws ≡ o ∷ v ∷ take (length ws - 2) (drop 2 ws)
+two_front : (ws : List Word) (o v : Word) → 2 ≤ length ws → o ≡ slice_index_or ws 0 o → v ≡ slice_index_or ws 1 v
+    → ws ≡ o ∷ v ∷ take (length ws - 2) (drop 2 ws)
 two_front [] o v two first second = absurd (omega (arith, two))
 two_front (x ∷ []) o v two first second = absurd (omega (arith, two))
 two_front (x ∷ y ∷ ws) o v two first second =
@@ -19,7 +20,8 @@ pub some_pairs : (xs ys : List Pair) → Some xs ≡ Some ys → xs ≡ ys
 some_pairs xs ys same = cc
 
 -- the pairs of words that begin with one
-pub pairs_behind : (o v : Word) (behind : List Word) (pairs : List Pair) → pairs_of (o ∷ v ∷ behind) ≡ Some pairs → (more : List Pair) × (pairs_of behind ≡ Some more) × (pairs ≡ (o, v) ∷ more)
+pub pairs_behind : (o v : Word) (behind : List Word) (pairs : List Pair) → pairs_of (o ∷ v ∷ behind) ≡ Some pairs
+    → (more : List Pair) × (pairs_of behind ≡ Some more) × (pairs ≡ (o, v) ∷ more)
 pairs_behind o v behind pairs are = go (pairs_of behind) refl where
   go : (p : Option (List Pair)) → pairs_of behind ≡ p → (more : List Pair) × (pairs_of behind ≡ Some more) × (pairs ≡ (o, v) ∷ more)
   go None e = let no : None ≡ Some pairs = rw e at are in cc
@@ -38,12 +40,14 @@ value_is name (o ∷ v ∷ rest) ps are =
     let at = pairs_behind o v rest ps are in
     go (bytes_eq o name) refl (value_is name rest at.0 at.1) ∙ ap (value_of name) (sym at.2)
   where
-    go : (b : Bool) → bytes_eq o name ≡ b → value_in name rest ≡ value_of name (pairs_behind o v rest ps are).0 → value_in name (o ∷ v ∷ rest) ≡ value_of name ((o, v) ∷ (pairs_behind o v rest ps are).0)
+    go : (b : Bool) → bytes_eq o name ≡ b → value_in name rest ≡ value_of name (pairs_behind o v rest ps are).0
+        → value_in name (o ∷ v ∷ rest) ≡ value_of name ((o, v) ∷ (pairs_behind o v rest ps are).0)
     go true e later = rw e refl
     go false e later = rw e later
 
 -- a pair that is taken, and whose option doesn't stand behind it, leaves the question to the words behind it
-pub taken_more : (c : Command) (o v : Word) (behind : List Word) (b : Bool) → takes c (o, v) ≡ true → ((pairs : List Pair) → pairs_of behind ≡ Some pairs → b ≡ stands o pairs) → b ≡ false
+pub taken_more : (c : Command) (o v : Word) (behind : List Word) (b : Bool) → takes c (o, v) ≡ true
+    → ((pairs : List Pair) → pairs_of behind ≡ Some pairs → b ≡ stands o pairs) → b ≡ false
     → are_taken c (o ∷ v ∷ behind) ≡ are_taken c behind
 taken_more c o v behind b taken is clear = go (pairs_of behind) refl where
   go : (p : Option (List Pair)) → pairs_of behind ≡ p → are_taken c (o ∷ v ∷ behind) ≡ are_taken c behind
@@ -51,9 +55,12 @@ taken_more c o v behind b taken is clear = go (pairs_of behind) refl where
   go (Some ps) e = rw (e, taken, sym (is ps e) ∙ clear) refl
 
 -- the same of words of which two or more are left
-pub taken_behind : (c : Command) (o v : Word) (rest : List Word) (b : Bool) → 2 ≤ length rest → o ≡ slice_index_or rest 0 o → v ≡ slice_index_or rest 1 v → takes c (o, v) ≡ true
-    → ((pairs : List Pair) → pairs_of (take (length rest - 2) (drop 2 rest)) ≡ Some pairs → b ≡ stands o pairs) → b ≡ false → are_taken c rest ≡ are_taken c (take (length rest - 2) (drop 2 rest))
-taken_behind c o v rest b two first second taken is clear = ap (are_taken c) (two_front rest o v two first second) ∙ taken_more c o v (take (length rest - 2) (drop 2 rest)) b taken is clear
+pub taken_behind : (c : Command) (o v : Word) (rest : List Word) (b : Bool) → 2 ≤ length rest → o ≡ slice_index_or rest 0 o
+    → v ≡ slice_index_or rest 1 v → takes c (o, v) ≡ true
+    → ((pairs : List Pair) → pairs_of (take (length rest - 2) (drop 2 rest)) ≡ Some pairs → b ≡ stands o pairs) → b ≡ false
+    → are_taken c rest ≡ are_taken c (take (length rest - 2) (drop 2 rest))
+taken_behind c o v rest b two first second taken is clear = ap (are_taken c) (two_front rest o v two first second)
+    ∙ taken_more c o v (take (length rest - 2) (drop 2 rest)) b taken is clear
 
 -- words with a pair that isn't taken aren't
 pub untaken : (c : Command) (o v : Word) (behind : List Word) → takes c (o, v) ≡ false → are_taken c (o ∷ v ∷ behind) ≡ false
@@ -63,7 +70,8 @@ untaken c o v behind wrong = go (pairs_of behind) refl where
   go (Some ps) e = rw (e, wrong) refl
 
 -- words with an option that stands again aren't
-pub again : (c : Command) (o v : Word) (behind : List Word) (b : Bool) → ((pairs : List Pair) → pairs_of behind ≡ Some pairs → b ≡ stands o pairs) → b ≡ true → are_taken c (o ∷ v ∷ behind) ≡ false
+pub again : (c : Command) (o v : Word) (behind : List Word) (b : Bool)
+    → ((pairs : List Pair) → pairs_of behind ≡ Some pairs → b ≡ stands o pairs) → b ≡ true → are_taken c (o ∷ v ∷ behind) ≡ false
 again c o v behind b is twice = go (pairs_of behind) refl where
   and_false : (b : Bool) → (b && false) ≡ false
   and_false true = refl
@@ -74,19 +82,25 @@ again c o v behind b is twice = go (pairs_of behind) refl where
   go (Some ps) e = rw (e, sym (is ps e) ∙ twice) (and_false _)
 
 -- the same of words of which two or more are left
-pub untaken_behind : (c : Command) (o v : Word) (rest : List Word) → 2 ≤ length rest → o ≡ slice_index_or rest 0 o → v ≡ slice_index_or rest 1 v → takes c (o, v) ≡ false → are_taken c rest ≡ false
-untaken_behind c o v rest two first second wrong = ap (are_taken c) (two_front rest o v two first second) ∙ untaken c o v (take (length rest - 2) (drop 2 rest)) wrong
+pub untaken_behind : (c : Command) (o v : Word) (rest : List Word) → 2 ≤ length rest → o ≡ slice_index_or rest 0 o
+    → v ≡ slice_index_or rest 1 v → takes c (o, v) ≡ false → are_taken c rest ≡ false
+untaken_behind c o v rest two first second wrong = ap (are_taken c) (two_front rest o v two first second)
+    ∙ untaken c o v (take (length rest - 2) (drop 2 rest)) wrong
 
-pub again_behind : (c : Command) (o v : Word) (rest : List Word) (b : Bool) → 2 ≤ length rest → o ≡ slice_index_or rest 0 o → v ≡ slice_index_or rest 1 v
-    → ((pairs : List Pair) → pairs_of (take (length rest - 2) (drop 2 rest)) ≡ Some pairs → b ≡ stands o pairs) → b ≡ true → are_taken c rest ≡ false
-again_behind c o v rest b two first second is twice = ap (are_taken c) (two_front rest o v two first second) ∙ again c o v (take (length rest - 2) (drop 2 rest)) b is twice
+pub again_behind : (c : Command) (o v : Word) (rest : List Word) (b : Bool) → 2 ≤ length rest → o ≡ slice_index_or rest 0 o
+    → v ≡ slice_index_or rest 1 v
+    → ((pairs : List Pair) → pairs_of (take (length rest - 2) (drop 2 rest)) ≡ Some pairs → b ≡ stands o pairs) → b ≡ true
+    → are_taken c rest ≡ false
+again_behind c o v rest b two first second is twice = ap (are_taken c) (two_front rest o v two first second)
+    ∙ again c o v (take (length rest - 2) (drop 2 rest)) b is twice
 
 -- words that are a command set what it sets
 pub sets : (words : List Word) (c : Command) (ps : List Pair) → parted words ≡ Some (c, ps) → settings_of words ≡ Some (settings_for c ps)
 sets words c ps are = rw are refl
 
 -- a command has its pairs
-pub has_pairs : (words : List Word) (c : Command) → Some c ≡ option_map (λ parts. parts.0) (parted words) → (ps : List Pair) × (parted words ≡ Some (c, ps))
+pub has_pairs : (words : List Word) (c : Command) → Some c ≡ option_map (λ parts. parts.0) (parted words)
+    → (ps : List Pair) × (parted words ≡ Some (c, ps))
 has_pairs words c is = go (parted words) refl where
   go : (x : Option (Command × List Pair)) → parted words ≡ x → (ps : List Pair) × (parted words ≡ Some (c, ps))
   go None e = let no : Some c ≡ None = rw e at is in cc

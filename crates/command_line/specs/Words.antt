@@ -1,5 +1,7 @@
 -- Which words are a command, and what they set (own rule, docs/FORMATS.md).
-use Rattle.std.specs.Prelude.{◌≡◌, ◌==◌, ◌&&◌, ◌||◌, not, ℕ, List, [], ◌∷◌, codes, length, nat_le, if◌then◌else◌, Bool, true, false, Option, Some, None, is_some, find, option_and_then, option_map, unwrap_or, Result, Ok, Err}
+use Rattle.std.specs.Prelude.{◌≡◌, ◌==◌, ◌&&◌, ◌||◌, not, ℕ, List, [], ◌∷◌, codes, length, nat_le, if◌then◌else◌, Bool}
+use Rattle.std.specs.Prelude.{true, false, Option, Some, None, is_some, find, option_and_then, option_map, unwrap_or}
+use Rattle.std.specs.Prelude.{Result, Ok, Err}
 use Rattle.std.specs.List.{list_all, list_any}
 use Rattle.std.specs.Option.{option_map_or}
 use Rattle.std.specs.Str.{bytes_eq}
@@ -32,17 +34,20 @@ is_number word = nat_le 1 (length word) && nat_le (length word) 20 && list_all i
 
 -- the number that a word gives: one of at most 4,294,967,295
 abbrev pub number_of : Word → Option ℕ
-number_of word = if is_number word && nat_le (digits_value 10 word) 4294967295 then Some (digits_value 10 word) else None
+number_of word = if is_number word && nat_le (digits_value 10 word) 4294967295 then Some (digits_value 10 word)
+    else None
 
 -- the role of this name
 abbrev pub role_of : Word → Option Role
-role_of name = if bytes_eq name (codes "orchestrator") then Some Orchestrator else (if bytes_eq name (codes "em") then Some Element else None)
+role_of name = if bytes_eq name (codes "orchestrator") then Some Orchestrator
+    else (if bytes_eq name (codes "em") then Some Element else None)
 
 -- the command of this name
 abbrev pub command_named : Word → Option Command
 command_named name =
     if bytes_eq name (codes "init") then Some Init
-    else (if bytes_eq name (codes "onboard") then Some Onboard else (if bytes_eq name (codes "once") then Some Once else None))
+    else (if bytes_eq name (codes "onboard") then Some Onboard
+    else (if bytes_eq name (codes "once") then Some Once else None))
 
 -- the options of a command
 abbrev pub options_of : Command → List Word
@@ -70,7 +75,8 @@ fits (option, value) =
 
 -- the pair is one of the command's options, with a value of its form
 abbrev pub takes : Command → Pair → Bool
-takes command pair = list_any (λ known. bytes_eq pair.0 known) (options_of command) && not (is_option pair.1) && fits pair
+takes command pair = list_any (λ known. bytes_eq pair.0 known) (options_of command) && not (is_option pair.1)
+    && fits pair
 
 -- the value of an option, where it stands
 abbrev pub value_of : Word → List Pair → Option Word
@@ -93,17 +99,20 @@ stand_once (pair ∷ rest) = not (stands pair.0 rest) && stand_once rest
 
 -- the words are pairs that the command takes, and no option stands twice
 abbrev pub are_taken : Command → List Word → Bool
-are_taken command words = option_map_or (λ pairs. list_all (takes command) pairs && stand_once pairs) (pairs_of words) false
+are_taken command words = option_map_or (λ pairs. list_all (takes command) pairs && stand_once pairs)
+    (pairs_of words) false
 
 -- the pairs are those of a command: it takes each, no option stands twice, and each that has to stand does
 abbrev pub are_of : Command → List Pair → Bool
-are_of command pairs = (list_all (takes command) pairs && stand_once pairs) && list_all (λ option. stands option pairs) (needed_of command)
+are_of command pairs = (list_all (takes command) pairs && stand_once pairs)
+    && list_all (λ option. stands option pairs) (needed_of command)
 
 -- the command and the pairs that the words are, where they are one with its pairs
 abbrev pub parted : List Word → Option (Command × List Pair)
 parted [] = None
 parted (name ∷ rest) =
-    option_and_then (λ command. option_and_then (λ pairs. if are_of command pairs then Some (command, pairs) else None) (pairs_of rest)) (command_named name)
+    option_and_then (λ command. option_and_then (λ pairs. if are_of command pairs then Some (command, pairs) else None)
+    (pairs_of rest)) (command_named name)
 
 -- what an option is: its value where it stands, else its default
 abbrev pub given : Word → Word → List Pair → Word

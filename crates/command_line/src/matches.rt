@@ -10,7 +10,8 @@ use std::alloc::Global;
 
 /// What `clap` finds in words that are a command, of which the first stands for the program's name.
 pub fn matches_of<'a>(alloc: Global, words: &'a [&'a str]) -> Result<ArgMatches<'a>, Error>
-    ensures { IfOk result (λ m. (command : Command) (pairs : List Pair) → parted (map (λ word. word.now) words.entry.now) ≡ Some (command, pairs) → HasValues (found_of m) pairs) }
+    ensures { IfOk result (λ m. (command : Command) (pairs : List Pair)
+        → parted (map (λ word. word.now) words.entry.now) ≡ Some (command, pairs) → HasValues (found_of m) pairs) }
 {
     let all = clap::Command::new(alloc, "vnfm")
         .arg(option(alloc, "journal", ""))?
@@ -24,7 +25,11 @@ pub fn matches_of<'a>(alloc: Global, words: &'a [&'a str]) -> Result<ArgMatches<
 
 /// An option of this name, with what it is where it doesn't stand.
 fn option<'a>(alloc: Global, name: &'a str, default: &'a str) -> Arg<'a>
-    ensures rule { rule_of result ≡ record (new_rule name.entry.now) { long = Some name.entry.now; defaults = default.entry.now ∷ [] } }
+    ensures rule { rule_of result ≡ record (new_rule name.entry.now) {
+      long = Some name.entry.now;
+      defaults =
+          default.entry.now ∷ [];
+    } }
     ensures local { result.global ≡ false }
 {
     Arg::new(alloc, name).long(name).default_value(default)

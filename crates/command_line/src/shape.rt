@@ -3,7 +3,8 @@ ghost use Rattle.std.specs.Prelude.{◌≡◌, List, Some, option_map};
 ghost use Rattle.std.specs.Char.{is_ascii_digit};
 ghost use Rattle.std.specs.List.{list_all, list_any};
 ghost use Rattle.std.specs.Str.{bytes_eq};
-ghost use Rattle.command_line.specs.Words.{Pair, are_taken, command_named, fits, is_number, is_option, needed_of, number_of, options_of, pairs_of, parted, role_of, stands, takes, value_in};
+ghost use Rattle.command_line.specs.Words.{Pair, are_taken, command_named, fits, is_number, is_option, needed_of};
+ghost use Rattle.command_line.specs.Words.{number_of, options_of, pairs_of, parted, role_of, stands, takes, value_in};
 
 use crate::options::Command;
 use lcm_events::Role;
@@ -59,7 +60,8 @@ fn are_taken(command: Command, words: &[Text]) -> bool
 
 /// Whether each option that has to stand does.
 fn has_needed(command: Command, words: &[Text]) -> bool
-    ensures { (pairs : List Pair) → pairs_of words.now ≡ Some pairs → result ≡ list_all (λ option. stands option pairs) (needed_of command) }
+    ensures { (pairs : List Pair) → pairs_of words.now ≡ Some pairs
+        → result ≡ list_all (λ option. stands option pairs) (needed_of command) }
 {
     match command {
         Command::Init => stands("--journal", words) && stands("--manager", words),

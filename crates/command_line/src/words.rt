@@ -3,7 +3,8 @@ ghost use Rattle.std.specs.Prelude.{◌≡◌, [], List, IfOk, Some, codes, map,
 ghost use Rattle.clap.specs.Words.{first_value, found_of};
 ghost use Rattle.lcm_events.specs.declared.states.Role.TheVariants.{Orchestrator};
 ghost use Rattle.command_line.specs.Found.{HasValues};
-ghost use Rattle.command_line.specs.Words.{Pair, Settles, Word, number_of, parted, role_of, rounds_for, settings_for, settings_of};
+ghost use Rattle.command_line.specs.Words.{Pair, Settles, Word, number_of, parted, role_of, rounds_for, settings_for};
+ghost use Rattle.command_line.specs.Words.{settings_of};
 
 use crate::matches::matches_of;
 use crate::options::{Command, Settings, SettingsFault};
@@ -60,7 +61,8 @@ fn settings_by(
     command: Command,
     matches: &ArgMatches<'_>,
 ) -> Result<Settings, AllocError>
-    ensures { IfOk result (λ settings. (pairs : List Pair) → HasValues (found_of matches.now) pairs → settings ≡ settings_for command pairs) }
+    ensures { IfOk result (λ settings. (pairs : List Pair) → HasValues (found_of matches.now) pairs
+        → settings ≡ settings_for command pairs) }
 {
     Ok(Settings {
         command,
@@ -89,7 +91,8 @@ fn rounds_for(command: Command, rounds: u32) -> u32
 
 /// An option's value, as a text of its own.
 fn text(alloc: Global, matches: &ArgMatches<'_>, name: &str) -> Result<Text, AllocError>
-    ensures { IfOk result (λ text. (word : Word) → first_value (found_of matches.now) name.now ≡ Some word → text ≡ word) }
+    ensures { IfOk result (λ text. (word : Word) → first_value (found_of matches.now) name.now ≡ Some word
+        → text ≡ word) }
 {
     let text = String::from_str(alloc, value(matches, name))?;
     Ok(Text::of_string(text))
@@ -97,14 +100,16 @@ fn text(alloc: Global, matches: &ArgMatches<'_>, name: &str) -> Result<Text, All
 
 /// An option's value, as a number.
 fn number(matches: &ArgMatches<'_>, name: &str) -> u32
-    ensures { (word : Word) → first_value (found_of matches.now) name.now ≡ Some word → result ≡ unwrap_or (number_of word) 0 }
+    ensures { (word : Word) → first_value (found_of matches.now) name.now ≡ Some word
+        → result ≡ unwrap_or (number_of word) 0 }
 {
     number_of(value(matches, name)).unwrap_or(0)
 }
 
 /// The value of `--role`.
 fn role(matches: &ArgMatches<'_>) -> Role
-    ensures { (word : Word) → first_value (found_of matches.now) (codes "role") ≡ Some word → result ≡ unwrap_or (role_of word) Orchestrator }
+    ensures { (word : Word) → first_value (found_of matches.now) (codes "role") ≡ Some word
+        → result ≡ unwrap_or (role_of word) Orchestrator }
 {
     role_of(value(matches, "role")).unwrap_or(Role::Orchestrator)
 }

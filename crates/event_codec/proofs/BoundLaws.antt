@@ -1,5 +1,6 @@
 -- No event's spelling has 2^63 bytes: the count of what is put never stands still.
-use Rattle.std.proofs.Common.{◌≡◌, ℕ, ◌+◌, ◌*◌, ◌-◌, ◌^◌, ◌<◌, ◌≤◌, List, [], ◌∷◌, ◌++◌, Option, Some, None, length, min, nat_lt, false, refl, ◌∙◌, ap, arith}
+use Rattle.std.proofs.Common.{◌≡◌, ℕ, ◌+◌, ◌*◌, ◌-◌, ◌^◌, ◌<◌, ◌≤◌, List, [], ◌∷◌, ◌++◌, Option, Some, None, length, min, nat_lt, false}
+use Rattle.std.proofs.Common.{refl, ◌∙◌, ap, arith}
 use Rattle.std.specs.List.{AllByRecursion, flat_map}
 use Rattle.std.proofs.Math.Nat.{suc-mul, mul-le-mul_right}
 use Rattle.std.proofs.lemmas.Bool.{le-ltb}
@@ -33,7 +34,9 @@ use Rattle.lcm_events.specs.declared.places.Place.{Place}
 use Rattle.event_codec.specs.Numbers as number
 use Rattle.event_codec.specs.Spell as spell
 use Rattle.event_codec.specs.Spell.{u16, u32, u64, spelling, fields}
-use Rattle.event_codec.specs.Valid.{IsU8, IsU16, IsU32, IsAny, Optionally, AreMany, IsChange, IsVnfc, IsAspectLevel, IsAim, IsAsk, IsOperation, IsGrantTry, IsPlace, IsOutcome, IsFilter, IsStorage, IsVdu, IsPort, IsRow, IsAspect, IsLevel, IsVnfd, IsKind, IsEvent}
+use Rattle.event_codec.specs.Valid.{IsU8, IsU16, IsU32, IsAny, Optionally, AreMany, IsChange, IsVnfc, IsAspectLevel, IsAim, IsAsk}
+use Rattle.event_codec.specs.Valid.{IsOperation, IsGrantTry, IsPlace, IsOutcome, IsFilter, IsStorage, IsVdu, IsPort, IsRow, IsAspect}
+use Rattle.event_codec.specs.Valid.{IsLevel, IsVnfd, IsKind, IsEvent}
 use Rattle.event_codec.specs.Written.{Written, nothing, put}
 
 length-u16 : (n : ℕ) → length (spell.u16 n) ≡ 2
@@ -52,7 +55,8 @@ most_name : (text : List ℕ) → IsName text → length (spell.name text) ≤ 2
 most_name text h = let k : length text ≤ 255 = h.short in omega arith
 
 most_line : (text : List ℕ) → IsLine text → length (spell.line text) ≤ 2050
-most_line text h = let k : length text ≤ 2048 = h.short in omega (arith, length-append (spell.u16 (length text)) text, length-u16 (length text))
+most_line text h = let k : length text ≤ 2048 = h.short in omega
+    (arith, length-append (spell.u16 (length text)) text, length-u16 (length text))
 
 most_optional : {A : Type 0} (a_spell : A → List ℕ) (Fits : A → Type 0) (m : ℕ) → ((x : A) → Fits x → length (a_spell x) ≤ m)
     → (o : Option A) → Optionally Fits o → length (spell.optional a_spell o) ≤ m + 1
@@ -63,13 +67,25 @@ most_entries : {A : Type 0} (a_spell : A → List ℕ) (Fits : A → Type 0) (m 
     → (xs : List A) → AllByRecursion Fits xs → length (flat_map a_spell xs) ≤ length xs * m
 most_entries a_spell Fits m most [] h = omega arith
 most_entries a_spell Fits m most (x ∷ xs) h =
-    omega (arith, length-append (a_spell x) (flat_map a_spell xs), most x h.0, most_entries a_spell Fits m most xs h.1, suc-mul (length xs) m)
+    omega (
+      arith,
+      length-append (a_spell x) (flat_map a_spell xs),
+      most x h.0,
+      most_entries a_spell Fits m most xs h.1,
+      suc-mul (length xs) m,
+    )
 
 most_many : {A : Type 0} (a_spell : A → List ℕ) (Fits : A → Type 0) (m : ℕ) → ((x : A) → Fits x → length (a_spell x) ≤ m)
     → (xs : List A) → AreMany Fits xs → length (spell.many a_spell xs) ≤ 65535 * m + 2
 most_many a_spell Fits m most xs h =
     let short : length xs ≤ 65535 = (let k : length xs < 2 ^ 16 = h.0 in omega arith) in
-    omega (arith, length-append (spell.u16 (length xs)) (flat_map a_spell xs), length-u16 (length xs), most_entries a_spell Fits m most xs h.1, mul-le-mul_right m short)
+    omega (
+      arith,
+      length-append (spell.u16 (length xs)) (flat_map a_spell xs),
+      length-u16 (length xs),
+      most_entries a_spell Fits m most xs h.1,
+      mul-le-mul_right m short,
+    )
 
 most_numbers : (n : ℕ) (xs : List ℕ) → (length xs ≡ n) × AllByRecursion IsU32 xs → n < 2 ^ 16 → length (flat_map spell.u32 xs) ≤ 262140
 most_numbers n xs h few =
@@ -94,8 +110,18 @@ most_aim (aims.Aspects aspects) h = omega (arith, most_many spell.aspect_level I
 
 most_ask : (x : Ask) → IsAsk x → length (spell.ask x) ≤ 20000000
 most_ask (asks.Instantiate flavour level) h =
-    omega (arith, length-append (spell.name flavour) (spell.optional spell.name level), most_name flavour h.0, most_optional spell.name IsName 256 most_name level h.1)
-most_ask (asks.Scale way aspect steps) h = omega (arith, length-append (spell.name aspect) (spell.u32 steps), most_name aspect h.0, length-u32 steps)
+    omega (
+      arith,
+      length-append (spell.name flavour) (spell.optional spell.name level),
+      most_name flavour h.0,
+      most_optional spell.name IsName 256 most_name level h.1,
+    )
+most_ask (asks.Scale way aspect steps) h = omega (
+  arith,
+  length-append (spell.name aspect) (spell.u32 steps),
+  most_name aspect h.0,
+  length-u32 steps,
+)
 most_ask (asks.ScaleToLevel to) h = omega (arith, most_aim to h)
 most_ask (asks.Heal cause named) h =
     omega (
@@ -110,7 +136,14 @@ most_ask (asks.Terminate mode timeout) h =
 
 most_operation : (o : Operation) → IsOperation o → length (spell.operation o) ≤ 30000000
 most_operation o h =
-    omega (arith, length-append {A = ℕ}, length-u64 o.occ, length-u64 o.instance, most_ask o.ask h.2, most_many spell.change IsChange 11 most_change o.changes h.3)
+    omega (
+      arith,
+      length-append {A = ℕ},
+      length-u64 o.occ,
+      length-u64 o.instance,
+      most_ask o.ask h.2,
+      most_many spell.change IsChange 11 most_change o.changes h.3,
+    )
 
 most_grant_try : (x : GrantTry) → IsGrantTry x → length (spell.grant_try x) ≤ 2051
 most_grant_try (grants.Later location) h = omega (arith, most_line location h)
@@ -144,7 +177,8 @@ most_vdu v h =
     omega (
       arith,
       length-append {A = ℕ},
-      length-append (spell.name v.name) (spell.u64 v.memory ++ (spell.u32 v.cpus ++ (spell.u32 v.maximum ++ (spell.u32 v.initial ++ spell.many spell.u16 v.storages)))),
+      length-append (spell.name v.name) (spell.u64 v.memory ++ (spell.u32 v.cpus
+          ++ (spell.u32 v.maximum ++ (spell.u32 v.initial ++ spell.many spell.u16 v.storages)))),
       most_name v.name h.0,
       length-u64 v.memory,
       length-u32 v.cpus,
@@ -161,7 +195,14 @@ most_link None = omega (arith, length-u16 65535)
 most_link (Some n) = omega (arith, length-u16 n)
 
 most_port : (p : Port) → IsPort p → length (spell.port p) ≤ 260
-most_port p h = omega (arith, length-append {A = ℕ}, length-append (spell.name p.name) (spell.u16 p.vdu ++ spell.link p.link), most_name p.name h.0, length-u16 p.vdu, most_link p.link)
+most_port p h = omega (
+  arith,
+  length-append {A = ℕ},
+  length-append (spell.name p.name) (spell.u16 p.vdu ++ spell.link p.link),
+  most_name p.name h.0,
+  length-u16 p.vdu,
+  most_link p.link,
+)
 
 most_row : (steps : ℕ) → steps < 2 ^ 16 → (r : Row) → IsRow steps r → length (spell.row r) ≤ 262142
 most_row steps few r h = omega (arith, length-append {A = ℕ}, length-u16 r.vdu, most_numbers steps r.deltas h.1 few)
@@ -179,7 +220,12 @@ most_aspect a h =
     )
 
 most_level : (n : ℕ) → n < 2 ^ 16 → (l : Level) → IsLevel n l → length (spell.level l) ≤ 262396
-most_level n few l h = omega (arith, length-append (spell.name l.name) (flat_map spell.u32 l.numbers), most_name l.name h.0, most_numbers n l.numbers h.1 few)
+most_level n few l h = omega (
+  arith,
+  length-append (spell.name l.name) (flat_map spell.u32 l.numbers),
+  most_name l.name h.0,
+  most_numbers n l.numbers h.1 few,
+)
 
 most_lists : (v : Vnfd) → IsVnfd v → length (spell.vnfd_lists v) ≤ 1200000000000000
 most_lists v h =
@@ -200,7 +246,8 @@ most_named text rest m h few = omega (arith, length-append (spell.name text) res
 
 most_vnfd : (v : Vnfd) → IsVnfd v → length (spell.vnfd v) ≤ 1200000000001536
 most_vnfd v h =
-    most_named v.descriptor_id _ 1200000000001280 h.0 (most_named v.provider _ 1200000000001024 h.1 (most_named v.product_name _ 1200000000000768 h.2
+    most_named v.descriptor_id _ 1200000000001280 h.0 (most_named v.provider _ 1200000000001024 h.1
+    (most_named v.product_name _ 1200000000000768 h.2
     (most_named v.software_version _ 1200000000000512 h.3 (most_named v.descriptor_version _ 1200000000000256 h.4
     (most_named v.flavour_id _ 1200000000000000 h.5 (most_lists v h))))))
 
@@ -256,7 +303,8 @@ put-kept w text is few =
     (ap (λ (v : Written). v.kept) is ∙ rw test refl, short)
 
 -- what doesn't was counted too
-pub put-long : (w : Written) (text : List ℕ) → w ≡ put nothing text → 65536 < w.len → length text < 2 ^ 63 → (w.len ≡ length text) × (65536 < length text)
+pub put-long : (w : Written) (text : List ℕ) → w ≡ put nothing text → 65536 < w.len → length text < 2 ^ 63
+    → (w.len ≡ length text) × (65536 < length text)
 unfolding put
 put-long w text is long within =
     let count : w.len ≡ min (0 + length text) (2 ^ 64 - 1) = ap (λ (v : Written). v.len) is in

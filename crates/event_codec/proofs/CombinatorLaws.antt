@@ -1,9 +1,11 @@
 -- A reader takes just the spelling of what it gives, and finds a value again in front of any bytes. Each combinator
 -- keeps these two laws.
-use Rattle.std.proofs.Common.{◌≡◌, ℕ, zero, suc, ◌+◌, ◌^◌, ◌<◌, ◌==◌, List, [], ◌∷◌, ◌++◌, Option, Some, None, Bool, true, false, length, take, drop, get_or, nat_lt, refl, sym, ◌∙◌, ap, subst, if◌then◌else◌, append_assoc, inl, inr, arith}
+use Rattle.std.proofs.Common.{◌≡◌, ℕ, zero, suc, ◌+◌, ◌^◌, ◌<◌, ◌==◌, List, [], ◌∷◌, ◌++◌, Option, Some, None, Bool, true, false, length}
+use Rattle.std.proofs.Common.{take, drop, get_or, nat_lt, refl, sym, ◌∙◌, ap, subst, if◌then◌else◌, append_assoc, inl, inr, arith}
 use Rattle.std.specs.Int.{Width, byte_len, from_be_bytes}
 use Rattle.std.specs.List.{AllByRecursion, flat_map}
-use Rattle.std.proofs.lemmas.List.{get_or-append-add, take-append-drop, length-take-le, take_at, drop_at, get_or_past, get_or_append_left, length-append}
+use Rattle.std.proofs.lemmas.List.{get_or-append-add, take-append-drop, length-take-le, take_at, drop_at, get_or_past, get_or_append_left}
+use Rattle.std.proofs.lemmas.List.{length-append}
 use Rattle.std.proofs.lemmas.Bool.{eqb-true, ltb-false, le-ltb, cases_lt}
 use Rattle.event_codec.specs.Combinators.{Reader, bind, pair_by, pair, shape, only, cases, sum, word, entries, piece, big_endian, u8_at}
 
@@ -44,10 +46,14 @@ reads_pair_by {A} {B} a_spell AFits a b_spell BFits b ra rb = record {
       let second = bind-some (b u.0 u.1) (λ (v : B × List ℕ). Some ((u.0, v.0), v.1)) x first.2 in
       let v : B × List ℕ = second.0 in
       let front = ra.takes bytes u small first.1 in
-      let behind = (rb u.0).takes u.1 v (IsBytes-rest (a_spell u.0) u.1 (let P : List ℕ → Type 0 = IsBytes in subst P front.0 small)) second.1 in
+      let behind = (rb u.0).takes u.1 v (IsBytes-rest (a_spell u.0) u.1 (let P : List ℕ → Type 0 = IsBytes in subst P front.0 small))
+      second.1 in
       let same : ((u.0, v.0), v.1) ≡ x = (let e : Some ((u.0, v.0), v.1) ≡ Some x = second.2 in cc) in
       let P : (A × B) × List ℕ → Type 0 = λ y. (bytes ≡ (a_spell y.0.0 ++ b_spell y.0.1) ++ y.1) × (AFits y.0.0 × BFits y.0.0 y.0.1) in
-      subst P same (front.0 ∙ ap (λ t. a_spell u.0 ++ t) behind.0 ∙ sym (append_assoc (a_spell u.0) (b_spell v.0) v.1), (front.1, behind.1));
+      subst P same (
+        front.0 ∙ ap (λ t. a_spell u.0 ++ t) behind.0 ∙ sym (append_assoc (a_spell u.0) (b_spell v.0) v.1),
+        (front.1, behind.1),
+      );
   again = λ p rest fits.
       let e : a (a_spell p.0 ++ (b_spell p.1 ++ rest)) ≡ Some (p.0, b_spell p.1 ++ rest) = ra.again p.0 (b_spell p.1 ++ rest) fits.0 in
       let f : b p.0 (b_spell p.1 ++ rest) ≡ Some (p.1, rest) = (rb p.0).again p.1 rest fits.1 in
@@ -61,8 +67,10 @@ pub reads_pair : {A B : Type 0} (a_spell : A → List ℕ) (AFits : A → Type 0
 reads_pair a_spell AFits a b_spell BFits b ra rb = reads_pair_by a_spell AFits a b_spell (λ x. BFits) (λ x. b) ra (λ x. rb)
 
 -- what is made of a value is spelled as the value
-pub shape_takes : {A B : Type 0} (f : B → A) (spell : A → List ℕ) (Fits : A → Type 0) (b_spell : B → List ℕ) (BFits : B → Type 0) (b : Reader B)
-    → ((x : B) → BFits x → spell (f x) ≡ b_spell x) → ((x : B) → BFits x → Fits (f x)) → Takes b_spell BFits b → Takes spell Fits (shape f b)
+pub shape_takes : {A B : Type 0} (f : B → A) (spell : A → List ℕ) (Fits : A → Type 0) (b_spell : B → List ℕ) (BFits : B → Type 0)
+    (b : Reader B)
+    → ((x : B) → BFits x → spell (f x) ≡ b_spell x) → ((x : B) → BFits x → Fits (f x)) → Takes b_spell BFits b
+    → Takes spell Fits (shape f b)
 shape_takes {A} {B} f spell Fits b_spell BFits b same down takes bytes y small h =
     let first = bind-some (b bytes) (λ (u : B × List ℕ). Some (f u.0, u.1)) y h in
     let u : B × List ℕ = first.0 in
@@ -84,7 +92,8 @@ reads_shape {A} {B} f back spell Fits b_spell BFits b round same down up rb = re
   takes = shape_takes f spell Fits b_spell BFits b same down rb.takes;
   again = λ x rest fits.
       let e : spell x ≡ b_spell (back x) = ap spell (sym (round x fits)) ∙ same (back x) (up x fits) in
-      ap (λ t. shape f b (t ++ rest)) e ∙ (shape_again f b_spell BFits b rb (back x) rest (up x fits) ∙ ap (λ z. Some (z, rest)) (round x fits));
+      ap (λ t. shape f b (t ++ rest)) e ∙ (shape_again f b_spell BFits b rb (back x) rest (up x fits)
+      ∙ ap (λ z. Some (z, rest)) (round x fits));
 }
 
 pub reads_only : {A : Type 0} (test : A → Bool) (spell : A → List ℕ) (Fits : A → Type 0) (a : Reader A)
@@ -121,7 +130,8 @@ pub cases-takes : {A : Type 0} (spell : A → List ℕ) (Fits : A → Type 0) (c
 cases-takes spell Fits [] all n bytes x small h = absurd cc
 cases-takes {A} spell Fits (c ∷ cs) all n bytes x small h =
     pick (n == c.0) refl (λ k. cases-takes spell Fits cs all.1 n bytes x small k) where
-      pick : (b : Bool) → (n == c.0) ≡ b → (cases cs n bytes ≡ Some x → (n ∷ bytes ≡ spell x.0 ++ x.1) × Fits x.0) → (n ∷ bytes ≡ spell x.0 ++ x.1) × Fits x.0
+      pick : (b : Bool) → (n == c.0) ≡ b → (cases cs n bytes ≡ Some x → (n ∷ bytes ≡ spell x.0 ++ x.1) × Fits x.0)
+          → (n ∷ bytes ≡ spell x.0 ++ x.1) × Fits x.0
       pick true is later =
           let k : c.1 bytes ≡ Some x = (rw is at h) in
           let got = all.0 bytes x small k in
@@ -135,8 +145,10 @@ reads_sum {A} spell Fits cs all again = record { takes = takes; again = again } 
   takes [] x small h = absurd cc
   takes (n ∷ bytes) x small h = cases-takes spell Fits cs all n bytes x (IsBytes-rest (n ∷ []) bytes small) h
 
-pub case_of : {A B : Type 0} (n : ℕ) (f : B → A) (spell : A → List ℕ) (Fits : A → Type 0) (b_spell : B → List ℕ) (BFits : B → Type 0) (b : Reader B)
-    → ((x : B) → BFits x → spell (f x) ≡ n ∷ b_spell x) → ((x : B) → BFits x → Fits (f x)) → Reads b_spell BFits b → Case spell Fits (n, shape f b)
+pub case_of : {A B : Type 0} (n : ℕ) (f : B → A) (spell : A → List ℕ) (Fits : A → Type 0) (b_spell : B → List ℕ) (BFits : B → Type 0)
+    (b : Reader B)
+    → ((x : B) → BFits x → spell (f x) ≡ n ∷ b_spell x) → ((x : B) → BFits x → Fits (f x)) → Reads b_spell BFits b
+    → Case spell Fits (n, shape f b)
 case_of {A} {B} n f spell Fits b_spell BFits b same down rb bytes y small h =
     let first = bind-some (b bytes) (λ (u : B × List ℕ). Some (f u.0, u.1)) y h in
     let u : B × List ℕ = first.0 in
@@ -145,7 +157,8 @@ case_of {A} {B} n f spell Fits b_spell BFits b same down rb bytes y small h =
     let P : A × List ℕ → Type 0 = λ z. (n ∷ bytes ≡ spell z.0 ++ z.1) × Fits z.0 in
     subst P is (ap (λ t. n ∷ t) got.0 ∙ ap (λ t. t ++ u.1) (sym (same u.0 got.1)), down u.0 got.1)
 
-pub case_word : {A : Type 0} (n : ℕ) (x : A) (spell : A → List ℕ) (Fits : A → Type 0) → spell x ≡ n ∷ [] → Fits x → Case spell Fits (n, word x)
+pub case_word : {A : Type 0} (n : ℕ) (x : A) (spell : A → List ℕ) (Fits : A → Type 0) → spell x ≡ n ∷ [] → Fits x
+    → Case spell Fits (n, word x)
 case_word {A} n x spell Fits same fits bytes y small h =
     let is : (x, bytes) ≡ y = (let e : Some (x, bytes) ≡ Some y = h in cc) in
     let P : A × List ℕ → Type 0 = λ z. (n ∷ bytes ≡ spell z.0 ++ z.1) × Fits z.0 in
@@ -169,9 +182,13 @@ reads_entries {A} spell Fits a ra n = record { takes = takes n; again = again n 
       let behind = takes n u.1 v (IsBytes-rest (spell u.0) u.1 (let P : List ℕ → Type 0 = IsBytes in subst P front.0 small)) second.1 in
       let is : (u.0 ∷ v.0, v.1) ≡ x = (let e : Some (u.0 ∷ v.0, v.1) ≡ Some x = second.2 in cc) in
       let P : List A × List ℕ → Type 0 = λ z. (bytes ≡ flat_map spell z.0 ++ z.1) × ((length z.0 ≡ suc n) × AllByRecursion Fits z.0) in
-      subst P is (front.0 ∙ ap (λ t. spell u.0 ++ t) behind.0 ∙ sym (append_assoc (spell u.0) (flat_map spell v.0) v.1), (ap suc behind.1.0, (front.1, behind.1.1)))
+      subst P is (
+        front.0 ∙ ap (λ t. spell u.0 ++ t) behind.0 ∙ sym (append_assoc (spell u.0) (flat_map spell v.0) v.1),
+        (ap suc behind.1.0, (front.1, behind.1.1)),
+      )
 
-  again : (n : ℕ) (xs : List A) (rest : List ℕ) → (length xs ≡ n) × AllByRecursion Fits xs → entries a n (flat_map spell xs ++ rest) ≡ Some (xs, rest)
+  again : (n : ℕ) (xs : List A) (rest : List ℕ) → (length xs ≡ n) × AllByRecursion Fits xs
+      → entries a n (flat_map spell xs ++ rest) ≡ Some (xs, rest)
   again zero [] rest fits = refl
   again zero (x ∷ xs) rest fits = absurd (let e : suc (length xs) ≡ 0 = fits.0 in omega arith)
   again (suc n) [] rest fits = absurd (let e : 0 ≡ suc n = fits.0 in omega arith)
@@ -206,7 +223,8 @@ reads_piece n = record { takes = takes; again = again } where
 
   again : (text rest : List ℕ) → length text ≡ n → piece n (text ++ rest) ≡ Some (text, rest)
   again text rest fits =
-      let long : nat_lt (length (text ++ rest)) n ≡ false = le-ltb (length (text ++ rest)) n (omega (arith, length-append text rest, fits)) in
+      let long : nat_lt (length (text ++ rest)) n ≡ false = le-ltb (length (text ++ rest)) n
+      (omega (arith, length-append text rest, fits)) in
       rw (long, take_at text rest n fits, drop_at text rest n fits) refl
 
 pub IsBytes-front : (front rest : List ℕ) → IsBytes (front ++ rest) → IsBytes front
@@ -220,7 +238,8 @@ IsBytes-front front rest h i =
 -- a number of more bytes
 pub reads_big_endian : (w : Width) (spell : ℕ → List ℕ) (most : ℕ)
     → ((n : ℕ) → length (spell n) ≡ byte_len w)
-    → ((bytes : List ℕ) → length bytes ≡ byte_len w → IsBytes bytes → (spell (from_be_bytes w bytes) ≡ bytes) × (from_be_bytes w bytes < most))
+    → ((bytes : List ℕ) → length bytes ≡ byte_len w → IsBytes bytes
+    → (spell (from_be_bytes w bytes) ≡ bytes) × (from_be_bytes w bytes < most))
     → ((n : ℕ) → n < most → from_be_bytes w (spell n) ≡ n)
     → Reads spell (λ n. n < most) (big_endian w)
 reads_big_endian w spell most len back round = record {
@@ -240,7 +259,8 @@ reads_big_endian w spell most len back round = record {
 
 -- the same laws, with what the readers say of themselves left out
 
-pub pair_of : {A B : Type 0} {a_spell : A → List ℕ} {AFits : A → Type 0} {a : Reader A} {b_spell : B → List ℕ} {BFits : B → Type 0} {b : Reader B}
+pub pair_of : {A B : Type 0} {a_spell : A → List ℕ} {AFits : A → Type 0} {a : Reader A} {b_spell : B → List ℕ} {BFits : B → Type 0}
+    {b : Reader B}
     → Reads a_spell AFits a → Reads b_spell BFits b
     → Reads (λ (p : A × B). a_spell p.0 ++ b_spell p.1) (λ (p : A × B). AFits p.0 × BFits p.1) (pair a b)
 pair_of {A} {B} {a_spell} {AFits} {a} {b_spell} {BFits} {b} ra rb = reads_pair a_spell AFits a b_spell BFits b ra rb

@@ -1,5 +1,6 @@
 -- Events are read as they are spelled, and nothing else is read.
-use Rattle.std.proofs.Common.{◌≡◌, ℕ, suc, ◌<◌, ◌==◌, List, [], ◌∷◌, ◌++◌, Some, None, Result, Ok, Err, IfOk, true, length, nat_le, if◌then◌else◌, refl, sym, ◌∙◌, ap, subst, append-nil, arith}
+use Rattle.std.proofs.Common.{◌≡◌, ℕ, suc, ◌<◌, ◌==◌, List, [], ◌∷◌, ◌++◌, Some, None, Result, Ok, Err, IfOk, true, length, nat_le}
+use Rattle.std.proofs.Common.{if◌then◌else◌, refl, sym, ◌∙◌, ap, subst, append-nil, arith}
 use Rattle.std.proofs.lemmas.Bool.{leb-true, le-leb, eqb-true}
 use Rattle.vnfm_base.specs.Text.{IsName, IsLine}
 use Rattle.vnfm_base.specs.Moment.{IsMoment}
@@ -10,11 +11,14 @@ use Rattle.event_codec.specs.Combinators.{pair, u8_at}
 use Rattle.event_codec.specs.Gives.{GivesWhole}
 use Rattle.event_codec.specs.declared.fault.DecodeFault.{DecodeFault}
 use Rattle.event_codec.specs.declared.fault.DecodeFault.TheVariants.{NotEvent}
-use Rattle.event_codec.specs.Readers.{u64_at, name_at, line_at, onboarded_at, created_at, deleted_at, asked_at, grant_tried_at, granted_at, denied_at, intent_at, call_failed_at, settled_at, moved_kind_at, cancel_asked_at, subscribed_at, unsubscribed_at, posted_at, kind_cases, kind_at, moment_at, event_at, whole_event}
+use Rattle.event_codec.specs.Readers.{u64_at, name_at, line_at, onboarded_at, created_at, deleted_at, asked_at, grant_tried_at, granted_at}
+use Rattle.event_codec.specs.Readers.{denied_at, intent_at, call_failed_at, settled_at, moved_kind_at, cancel_asked_at, subscribed_at}
+use Rattle.event_codec.specs.Readers.{unsubscribed_at, posted_at, kind_cases, kind_at, moment_at, event_at, whole_event}
 use Rattle.event_codec.specs.Spell as spell
 use Rattle.event_codec.specs.Spell.{spelling, kind_number, fields}
 use Rattle.event_codec.specs.Valid.{IsU8, IsU64, IsKind, IsEvent}
-use Rattle.event_codec.proofs.CombinatorLaws.{IsBytes, Reads, Case, AllCases, cases-takes, bind-some, chosen, reads_pair_by, reads_only, reads_fits, pair_of, shape_of, case_by, again_of, reads_u8}
+use Rattle.event_codec.proofs.CombinatorLaws.{IsBytes, Reads, Case, AllCases, cases-takes, bind-some, chosen, reads_pair_by, reads_only}
+use Rattle.event_codec.proofs.CombinatorLaws.{reads_fits, pair_of, shape_of, case_by, again_of, reads_u8}
 use Rattle.event_codec.proofs.NumberLaws.{reads_u64}
 use Rattle.event_codec.proofs.TextLaws.{reads_name, reads_line, reads_optional}
 use Rattle.event_codec.proofs.WordLaws.{reads_role, reads_cancel_mode, reads_moved, reads_post_outcome}
@@ -30,7 +34,9 @@ case_onboarded = case_by reads_vnfd 1 events.Onboarded spell_kind IsKind (λ x h
 
 case_created : Case spell_kind IsKind (2, created_at)
 unfolding created_at
-case_created = case_by (pair_of reads_u64 (pair_of reads_name (pair_of (reads_optional spell.name IsName name_at reads_name) (reads_optional spell.line IsLine line_at reads_line)))) 2 (λ p. events.Created p.0 p.1.0 p.1.1.0 p.1.1.1) spell_kind IsKind (λ x h. refl) (λ x h. (h.0, h.1.0, h.1.1.0, h.1.1.1))
+case_created = case_by (pair_of reads_u64 (pair_of reads_name (pair_of (reads_optional spell.name IsName name_at reads_name)
+    (reads_optional spell.line IsLine line_at reads_line)))) 2 (λ p. events.Created p.0 p.1.0 p.1.1.0 p.1.1.1) spell_kind IsKind
+    (λ x h. refl) (λ x h. (h.0, h.1.0, h.1.1.0, h.1.1.1))
 
 case_deleted : Case spell_kind IsKind (3, deleted_at)
 unfolding deleted_at
@@ -46,7 +52,8 @@ case_grant_tried = case_by (pair_of reads_u64 reads_grant_try) 5 (λ p. events.G
 
 case_granted : Case spell_kind IsKind (6, granted_at)
 unfolding granted_at
-case_granted = case_by (pair_of reads_u64 (pair_of reads_name reads_placed)) 6 (λ p. events.Granted p.0 p.1.0 p.1.1.0 p.1.1.1) spell_kind IsKind (λ x h. refl) (λ x h. (h.0, h.1.0, h.1.1))
+case_granted = case_by (pair_of reads_u64 (pair_of reads_name reads_placed)) 6
+    (λ p. events.Granted p.0 p.1.0 p.1.1.0 p.1.1.1) spell_kind IsKind (λ x h. refl) (λ x h. (h.0, h.1.0, h.1.1))
 
 case_denied : Case spell_kind IsKind (7, denied_at)
 unfolding denied_at
@@ -70,11 +77,13 @@ case_moved_kind = case_by (pair_of reads_u64 reads_moved) 11 (λ p. events.Moved
 
 case_cancel_asked : Case spell_kind IsKind (12, cancel_asked_at)
 unfolding cancel_asked_at
-case_cancel_asked = case_by (pair_of reads_u64 reads_cancel_mode) 12 (λ p. events.CancelAsked p.0 p.1) spell_kind IsKind (λ x h. refl) (λ x h. h.0)
+case_cancel_asked = case_by (pair_of reads_u64 reads_cancel_mode) 12 (λ p. events.CancelAsked p.0 p.1) spell_kind IsKind (λ x h. refl)
+    (λ x h. h.0)
 
 case_subscribed : Case spell_kind IsKind (13, subscribed_at)
 unfolding subscribed_at
-case_subscribed = case_by (pair_of reads_u64 (pair_of reads_role (pair_of reads_line reads_filter))) 13 (λ p. events.Subscribed p.0 p.1.0 p.1.1.0 p.1.1.1) spell_kind IsKind (λ x h. refl) (λ x h. (h.0, h.1.1.0, h.1.1.1))
+case_subscribed = case_by (pair_of reads_u64 (pair_of reads_role (pair_of reads_line reads_filter))) 13
+    (λ p. events.Subscribed p.0 p.1.0 p.1.1.0 p.1.1.1) spell_kind IsKind (λ x h. refl) (λ x h. (h.0, h.1.1.0, h.1.1.1))
 
 case_unsubscribed : Case spell_kind IsKind (14, unsubscribed_at)
 unfolding unsubscribed_at
@@ -82,28 +91,64 @@ case_unsubscribed = case_by reads_u64 14 events.Unsubscribed spell_kind IsKind (
 
 case_posted : Case spell_kind IsKind (15, posted_at)
 unfolding posted_at
-case_posted = case_by (pair_of reads_u64 (pair_of reads_u64 reads_post_outcome)) 15 (λ p. events.Posted p.0 p.1.0 p.1.1) spell_kind IsKind (λ x h. refl) (λ x h. (h.0, h.1.0))
+case_posted = case_by (pair_of reads_u64 (pair_of reads_u64 reads_post_outcome)) 15 (λ p. events.Posted p.0 p.1.0 p.1.1) spell_kind IsKind
+    (λ x h. refl) (λ x h. (h.0, h.1.0))
 
 pub all_kinds : AllCases spell_kind IsKind kind_cases
-all_kinds = (case_onboarded, (case_created, (case_deleted, (case_asked, (case_grant_tried, (case_granted, (case_denied, (case_intent, (case_call_failed, (case_settled, (case_moved_kind, (case_cancel_asked, (case_subscribed, (case_unsubscribed, (case_posted, tt)))))))))))))))
+all_kinds = (
+  case_onboarded,
+  (
+    case_created,
+    (
+      case_deleted,
+      (
+        case_asked,
+        (
+          case_grant_tried,
+          (
+            case_granted,
+            (
+              case_denied,
+              (
+                case_intent,
+                (
+                  case_call_failed,
+                  (case_settled, (case_moved_kind, (case_cancel_asked, (case_subscribed, (case_unsubscribed, (case_posted, tt)))))),
+                ),
+              ),
+            ),
+          ),
+        ),
+      ),
+    ),
+  ),
+)
 
 pub kind-again : (k : EventKind) (rest : List ℕ) → IsKind k → kind_at (kind_number k) (fields k ++ rest) ≡ Some (k, rest)
-unfolding kind_at onboarded_at created_at deleted_at asked_at grant_tried_at granted_at denied_at intent_at call_failed_at settled_at moved_kind_at cancel_asked_at subscribed_at unsubscribed_at posted_at
+unfolding kind_at onboarded_at created_at deleted_at asked_at grant_tried_at granted_at denied_at intent_at call_failed_at settled_at
+    moved_kind_at cancel_asked_at subscribed_at unsubscribed_at posted_at
 kind-again (events.Onboarded v) rest h = again_of reads_vnfd events.Onboarded v rest h
-kind-again (events.Created i v n t) rest h = again_of (pair_of reads_u64 (pair_of reads_name (pair_of (reads_optional spell.name IsName name_at reads_name) (reads_optional spell.line IsLine line_at reads_line)))) (λ p. events.Created p.0 p.1.0 p.1.1.0 p.1.1.1) (i, (v, (n, t))) rest (h.0, (h.1, (h.2, h.3)))
+kind-again (events.Created i v n t) rest h = again_of (pair_of reads_u64
+    (pair_of reads_name (pair_of (reads_optional spell.name IsName name_at reads_name)
+    (reads_optional spell.line IsLine line_at reads_line)))) (λ p. events.Created p.0 p.1.0 p.1.1.0 p.1.1.1) (i, (v, (n, t))) rest
+    (h.0, (h.1, (h.2, h.3)))
 kind-again (events.Deleted i) rest h = again_of reads_u64 events.Deleted i rest h
 kind-again (events.Asked o) rest h = again_of reads_operation events.Asked o rest h
 kind-again (events.GrantTried o a) rest h = again_of (pair_of reads_u64 reads_grant_try) (λ p. events.GrantTried p.0 p.1) (o, a) rest h
-kind-again (events.Granted o g p s) rest h = again_of (pair_of reads_u64 (pair_of reads_name reads_placed)) (λ p. events.Granted p.0 p.1.0 p.1.1.0 p.1.1.1) (o, (g, (p, s))) rest (h.0, (h.1, h.2))
+kind-again (events.Granted o g p s) rest h = again_of (pair_of reads_u64 (pair_of reads_name reads_placed))
+    (λ p. events.Granted p.0 p.1.0 p.1.1.0 p.1.1.1) (o, (g, (p, s))) rest (h.0, (h.1, h.2))
 kind-again (events.Denied o) rest h = again_of reads_u64 events.Denied o rest h
 kind-again (events.Intent t) rest h = again_of reads_tag events.Intent t rest h
 kind-again (events.CallFailed t) rest h = again_of reads_tag events.CallFailed t rest h
 kind-again (events.Settled t o) rest h = again_of (pair_of reads_tag reads_outcome) (λ p. events.Settled p.0 p.1) (t, o) rest h
 kind-again (events.Moved o to) rest h = again_of (pair_of reads_u64 reads_moved) (λ p. events.Moved p.0 p.1) (o, to) rest h
-kind-again (events.CancelAsked o m) rest h = again_of (pair_of reads_u64 reads_cancel_mode) (λ p. events.CancelAsked p.0 p.1) (o, m) rest (h, tt)
-kind-again (events.Subscribed s r c f) rest h = again_of (pair_of reads_u64 (pair_of reads_role (pair_of reads_line reads_filter))) (λ p. events.Subscribed p.0 p.1.0 p.1.1.0 p.1.1.1) (s, (r, (c, f))) rest (h.0, (tt, (h.1, h.2)))
+kind-again (events.CancelAsked o m) rest h = again_of (pair_of reads_u64 reads_cancel_mode) (λ p. events.CancelAsked p.0 p.1) (o, m) rest
+    (h, tt)
+kind-again (events.Subscribed s r c f) rest h = again_of (pair_of reads_u64 (pair_of reads_role (pair_of reads_line reads_filter)))
+    (λ p. events.Subscribed p.0 p.1.0 p.1.1.0 p.1.1.1) (s, (r, (c, f))) rest (h.0, (tt, (h.1, h.2)))
 kind-again (events.Unsubscribed s) rest h = again_of reads_u64 events.Unsubscribed s rest h
-kind-again (events.Posted s p o) rest h = again_of (pair_of reads_u64 (pair_of reads_u64 reads_post_outcome)) (λ p. events.Posted p.0 p.1.0 p.1.1) (s, (p, o)) rest (h.0, (h.1, tt))
+kind-again (events.Posted s p o) rest h = again_of (pair_of reads_u64 (pair_of reads_u64 reads_post_outcome))
+    (λ p. events.Posted p.0 p.1.0 p.1.1) (s, (p, o)) rest (h.0, (h.1, tt))
 
 pub reads_kind : (n : ℕ) → Reads fields (λ k. (n ≡ kind_number k) × IsKind k) (kind_at n)
 unfolding kind_at
@@ -114,7 +159,8 @@ reads_kind n = record {
       let number_is : n ≡ kind_number x.0 = cc in
       let bytes_are : bytes ≡ fields x.0 ++ x.1 = cc in
       (bytes_are, (number_is, got.1));
-  again = λ k rest h. (let P : ℕ → Type 0 = λ m. kind_at m (fields k ++ rest) ≡ Some (k, rest) in subst P (sym h.0) (kind-again k rest h.1));
+  again = λ k rest h. (let P : ℕ → Type 0 = λ m. kind_at m (fields k ++ rest) ≡ Some (k, rest) in
+      subst P (sym h.0) (kind-again k rest h.1));
 }
 
 reads_moment : Reads spell.u64 IsMoment moment_at
@@ -191,7 +237,8 @@ pub whole-none : (bytes : List ℕ) → whole_event bytes ≡ None → (e : Even
 whole-none bytes none e is same = let p : Some e ≡ None = sym (whole-again bytes e is same) ∙ none in absurd cc
 
 -- the answer about the whole bytes says so in both directions
-pub decode-found : (bytes : List ℕ) (r : Result Event DecodeFault) → IsBytes bytes → GivesWhole r (whole_event bytes) → IfOk r (λ e. IsEvent e × (bytes ≡ spelling e))
+pub decode-found : (bytes : List ℕ) (r : Result Event DecodeFault) → IsBytes bytes → GivesWhole r (whole_event bytes)
+    → IfOk r (λ e. IsEvent e × (bytes ≡ spelling e))
 decode-found bytes (Ok e) small h = whole-found bytes e small h
 decode-found bytes (Err fault) small h = tt
 

@@ -1,7 +1,8 @@
 -- Numbers are read as they are spelled.
 use Rattle.std.proofs.Common.{ℕ, ◌^◌, ◌<◌, List, refl, arith}
 use Rattle.std.specs.Int.{from_be_bytes, to_be_bytes, w16, w32, w64}
-use Rattle.std.proofs.lemmas.Nat.{be_bytes_2, be_bytes_4, be_bytes_8, from_be_bytes-to_be_bytes_2, from_be_bytes-to_be_bytes_4, from_be_bytes-to_be_bytes_8}
+use Rattle.std.proofs.lemmas.Nat.{be_bytes_2, be_bytes_4, be_bytes_8, from_be_bytes-to_be_bytes_2, from_be_bytes-to_be_bytes_4}
+use Rattle.std.proofs.lemmas.Nat.{from_be_bytes-to_be_bytes_8}
 use Rattle.event_codec.specs.Readers.{u16_at, u32_at, u64_at}
 use Rattle.event_codec.specs.Spell as spell
 use Rattle.event_codec.specs.Spell.{u16, u32, u64}

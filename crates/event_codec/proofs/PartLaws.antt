@@ -1,5 +1,6 @@
 -- The parts of events are read as they are spelled.
-use Rattle.std.proofs.Common.{◌≡◌, ℕ, ◌<◌, ◌≤◌, ◌==◌, List, [], ◌∷◌, ◌++◌, Option, Some, None, Bool, true, false, ◌&&◌, length, nat_le, nat_lt, if◌then◌else◌, refl, sym, ap, subst, arith}
+use Rattle.std.proofs.Common.{◌≡◌, ℕ, ◌<◌, ◌≤◌, ◌==◌, List, [], ◌∷◌, ◌++◌, Option, Some, None, Bool, true, false, ◌&&◌, length, nat_le}
+use Rattle.std.proofs.Common.{nat_lt, if◌then◌else◌, refl, sym, ap, subst, arith}
 use Rattle.std.specs.List.{AllByRecursion, list_all}
 use Rattle.std.proofs.lemmas.Bool.{leb-true, le-leb, eqb-true}
 use Rattle.vnfm_base.specs.Text.{IsName, IsLine}
@@ -18,14 +19,21 @@ use Rattle.lcm_events.specs.declared.events.GrantTry.{GrantTry}
 use Rattle.lcm_events.specs.declared.events.GrantTry.TheVariants as grants
 use Rattle.lcm_events.specs.declared.places.Place.{Place}
 use Rattle.event_codec.specs.Combinators.{pair, only, sum, u8_at}
-use Rattle.event_codec.specs.Readers.{u16_at, u32_at, many_at, few_at, name_at, line_at, tag_at, change_at, vnfc_at, aspect_level_at, aim_cases, aim_at, ask_cases, ask_at, operation_at, grant_try_cases, grant_try_at, place_at, placed_at, outcome_cases, outcome_at, filter_at, vdu_at, storage_at, link_of, link_at, port_at, row_at, rows_at, aspect_at, level_at, scaling_at, vnfd_at}
+use Rattle.event_codec.specs.Readers.{u16_at, u32_at, many_at, few_at, name_at, line_at, tag_at, change_at, vnfc_at, aspect_level_at}
+use Rattle.event_codec.specs.Readers.{aim_cases, aim_at, ask_cases, ask_at, operation_at, grant_try_cases, grant_try_at, place_at}
+use Rattle.event_codec.specs.Readers.{placed_at, outcome_cases, outcome_at, filter_at, vdu_at, storage_at, link_of, link_at, port_at}
+use Rattle.event_codec.specs.Readers.{row_at, rows_at, aspect_at, level_at, scaling_at, vnfd_at}
 use Rattle.event_codec.specs.Spell as spell
-use Rattle.event_codec.specs.Valid.{IsU8, IsU16, IsU32, IsU64, IsAny, AreMany, IsTag, IsChange, IsVnfc, IsAspectLevel, IsAim, IsAsk, IsOperation, IsGrantTry, IsPlace, ArePlaced, IsOutcome, IsFilter, IsStorage, IsVdu, IsLink, IsPort, IsRow, IsAspect, IsLevel, IsVnfd, in_order, names_entries}
+use Rattle.event_codec.specs.Valid.{IsU8, IsU16, IsU32, IsU64, IsAny, AreMany, IsTag, IsChange, IsVnfc, IsAspectLevel, IsAim, IsAsk}
+use Rattle.event_codec.specs.Valid.{IsOperation, IsGrantTry, IsPlace, ArePlaced, IsOutcome, IsFilter, IsStorage, IsVdu, IsLink, IsPort}
+use Rattle.event_codec.specs.Valid.{IsRow, IsAspect, IsLevel, IsVnfd, in_order, names_entries}
 use Rattle.lcm_events.specs.Descriptors.{is_rising, is_valid_steps}
-use Rattle.event_codec.proofs.CombinatorLaws.{Reads, reads_pair_by, reads_only, reads_fits, reads_sum, reads_entries, case_word, pair_of, shape_of, case_by, again_of, reads_u8}
+use Rattle.event_codec.proofs.CombinatorLaws.{Reads, reads_pair_by, reads_only, reads_fits, reads_sum, reads_entries, case_word, pair_of}
+use Rattle.event_codec.proofs.CombinatorLaws.{shape_of, case_by, again_of, reads_u8}
 use Rattle.event_codec.proofs.NumberLaws.{reads_u16, reads_u32, reads_u64}
 use Rattle.event_codec.proofs.TextLaws.{both, from_both, reads_name, reads_line, reads_optional, reads_many, reads_few}
-use Rattle.event_codec.proofs.WordLaws.{reads_role, reads_terminate_mode, reads_stop_type, reads_started, reads_op_state, reads_way, reads_verb, reads_def_kind, reads_scale_way, reads_notice_kind, reads_operation_type}
+use Rattle.event_codec.proofs.WordLaws.{reads_role, reads_terminate_mode, reads_stop_type, reads_started, reads_op_state, reads_way}
+use Rattle.event_codec.proofs.WordLaws.{reads_verb, reads_def_kind, reads_scale_way, reads_notice_kind, reads_operation_type}
 
 reads_attempt : Reads spell.u32 (λ n. (1 ≤ n) × IsU32 n) (only (λ n. nat_le 1 n) u32_at)
 reads_attempt =
@@ -62,7 +70,8 @@ reads_vnfc =
 pub reads_aspect_level : Reads spell.aspect_level IsAspectLevel aspect_level_at
 unfolding aspect_level_at
 reads_aspect_level =
-    shape_of (pair_of reads_name reads_u32) (λ p. record { aspect = p.0; level = p.1 }) (λ a. (a.aspect, a.level)) spell.aspect_level IsAspectLevel
+    shape_of (pair_of reads_name reads_u32) (λ p. record { aspect = p.0; level = p.1 })
+    (λ a. (a.aspect, a.level)) spell.aspect_level IsAspectLevel
     (λ x h. refl) (λ p h. refl) (λ p h. h) (λ v h. h)
 
 pub reads_aim : Reads spell.aim IsAim aim_at
@@ -70,12 +79,17 @@ unfolding aim_at
 reads_aim =
     reads_sum spell.aim IsAim aim_cases (
       case_by reads_name 0 aims.Level spell.aim IsAim (λ x h. refl) (λ x h. h),
-      (case_by (reads_many spell.aspect_level IsAspectLevel aspect_level_at reads_aspect_level) 1 aims.Aspects spell.aim IsAim (λ x h. refl) (λ x h. h), tt),
+      (
+        case_by (reads_many spell.aspect_level IsAspectLevel aspect_level_at reads_aspect_level) 1 aims.Aspects spell.aim IsAim (λ x h. refl)
+            (λ x h. h),
+        tt,
+      ),
     )
     again where
       again : (x : Aim) (rest : List ℕ) → IsAim x → sum aim_cases (spell.aim x ++ rest) ≡ Some (x, rest)
       again (aims.Level level) rest h = again_of reads_name aims.Level level rest h
-      again (aims.Aspects aspects) rest h = again_of (reads_many spell.aspect_level IsAspectLevel aspect_level_at reads_aspect_level) aims.Aspects aspects rest h
+      again (aims.Aspects aspects) rest h = again_of (reads_many spell.aspect_level IsAspectLevel aspect_level_at reads_aspect_level)
+          aims.Aspects aspects rest h
 
 pub reads_ask : Reads spell.ask IsAsk ask_at
 unfolding ask_at
@@ -104,21 +118,26 @@ reads_ask =
     again where
       again : (x : Ask) (rest : List ℕ) → IsAsk x → sum ask_cases (spell.ask x ++ rest) ≡ Some (x, rest)
       again (asks.Instantiate flavour level) rest h =
-          again_of (pair_of reads_name (reads_optional spell.name IsName name_at reads_name)) (λ p. asks.Instantiate p.0 p.1) (flavour, level) rest h
+          again_of (pair_of reads_name (reads_optional spell.name IsName name_at reads_name)) (λ p. asks.Instantiate p.0 p.1)
+          (flavour, level) rest h
       again (asks.Scale way aspect steps) rest h =
-          again_of (pair_of reads_scale_way (pair_of reads_name reads_u32)) (λ p. asks.Scale p.0 p.1.0 p.1.1) (way, (aspect, steps)) rest (tt, h)
+          again_of (pair_of reads_scale_way (pair_of reads_name reads_u32)) (λ p. asks.Scale p.0 p.1.0 p.1.1) (way, (aspect, steps)) rest
+          (tt, h)
       again (asks.ScaleToLevel to) rest h = again_of reads_aim asks.ScaleToLevel to rest h
       again (asks.Heal cause named) rest h =
           again_of (pair_of (reads_optional spell.line IsLine line_at reads_line) (reads_many spell.vnfc IsVnfc vnfc_at reads_vnfc))
           (λ p. asks.Heal p.0 p.1) (cause, named) rest h
-      again (asks.Operate started stop) rest h = again_of (pair_of reads_started reads_stop_type) (λ p. asks.Operate p.0 p.1) (started, stop) rest (tt, tt)
+      again (asks.Operate started stop) rest h = again_of (pair_of reads_started reads_stop_type) (λ p. asks.Operate p.0 p.1)
+          (started, stop) rest (tt, tt)
       again (asks.Terminate mode timeout) rest h =
-          again_of (pair_of reads_terminate_mode (reads_optional spell.u32 IsU32 u32_at reads_u32)) (λ p. asks.Terminate p.0 p.1) (mode, timeout) rest (tt, h)
+          again_of (pair_of reads_terminate_mode (reads_optional spell.u32 IsU32 u32_at reads_u32)) (λ p. asks.Terminate p.0 p.1)
+          (mode, timeout) rest (tt, h)
 
 pub reads_operation : Reads spell.operation IsOperation operation_at
 unfolding operation_at
 reads_operation =
-    shape_of (pair_of reads_u64 (pair_of reads_u64 (pair_of reads_role (pair_of reads_ask (reads_many spell.change IsChange change_at reads_change)))))
+    shape_of (pair_of reads_u64 (pair_of reads_u64 (pair_of reads_role
+    (pair_of reads_ask (reads_many spell.change IsChange change_at reads_change)))))
     (λ p. record { occ = p.0; instance = p.1.0; role = p.1.1.0; ask = p.1.1.1.0; changes = p.1.1.1.1 })
     (λ o. (o.occ, (o.instance, (o.role, (o.ask, o.changes))))) spell.operation IsOperation (λ x h. refl) (λ p h. refl)
     (λ p h. (h.0, h.1.0, h.1.1.1.0, h.1.1.1.1)) (λ o h. (h.0, (h.1, (tt, (h.2, h.3)))))
@@ -128,7 +147,10 @@ unfolding grant_try_at
 reads_grant_try =
     reads_sum spell.grant_try IsGrantTry grant_try_cases (
       case_by reads_line 0 grants.Later spell.grant_try IsGrantTry (λ x h. refl) (λ x h. h),
-      (case_word 1 grants.Trouble spell.grant_try IsGrantTry refl tt, (case_word 2 grants.NotCovering spell.grant_try IsGrantTry refl tt, tt)),
+      (
+        case_word 1 grants.Trouble spell.grant_try IsGrantTry refl tt,
+        (case_word 2 grants.NotCovering spell.grant_try IsGrantTry refl tt, tt),
+      ),
     )
     again where
       again : (x : GrantTry) (rest : List ℕ) → IsGrantTry x → sum grant_try_cases (spell.grant_try x ++ rest) ≡ Some (x, rest)
@@ -142,16 +164,19 @@ reads_place =
     shape_of (pair_of reads_name reads_name) (λ p. record { vim = p.0; zone = p.1 }) (λ p. (p.vim, p.zone)) spell.place IsPlace
     (λ x h. refl) (λ p h. refl) (λ p h. h) (λ p h. h)
 
-pub reads_placed : Reads (λ (p : List Place × List ℕ). spell.few spell.place p.0 ++ spell.many spell.u8 p.1) (λ (p : List Place × List ℕ). ArePlaced p.0 p.1) placed_at
+pub reads_placed : Reads (λ (p : List Place × List ℕ). spell.few spell.place p.0 ++ spell.many spell.u8 p.1)
+    (λ (p : List Place × List ℕ). ArePlaced p.0 p.1) placed_at
 unfolding placed_at
 reads_placed =
     reads_fits (λ (p : List Place × List ℕ). spell.few spell.place p.0 ++ spell.many spell.u8 p.1)
-    (λ (p : List Place × List ℕ). (((length p.0 ≤ 32) × AllByRecursion IsPlace p.0) × AreMany IsU8 p.1) × (list_all (λ s. nat_lt s (length p.0)) p.1 ≡ true))
+    (λ (p : List Place × List ℕ). (((length p.0 ≤ 32) × AllByRecursion IsPlace p.0) × AreMany IsU8 p.1)
+    × (list_all (λ s. nat_lt s (length p.0)) p.1 ≡ true))
     (λ (p : List Place × List ℕ). ArePlaced p.0 p.1) placed_at
     (λ p h. (h.0.0.0, h.0.0.1, h.0.1, h.1)) (λ p h. (((h.0, h.1), h.2), h.3))
     (reads_only (λ (p : List Place × List ℕ). list_all (λ s. nat_lt s (length p.0)) p.1)
     (λ (p : List Place × List ℕ). spell.few spell.place p.0 ++ spell.many spell.u8 p.1)
-    (λ (p : List Place × List ℕ). ((length p.0 ≤ 32) × AllByRecursion IsPlace p.0) × AreMany IsU8 p.1) (pair (few_at place_at) (many_at u8_at))
+    (λ (p : List Place × List ℕ). ((length p.0 ≤ 32) × AllByRecursion IsPlace p.0) × AreMany IsU8 p.1)
+    (pair (few_at place_at) (many_at u8_at))
     (pair_of (reads_few spell.place IsPlace place_at reads_place) (reads_many spell.u8 IsU8 u8_at reads_u8)))
 
 pub reads_outcome : Reads spell.outcome IsOutcome outcome_at
@@ -176,7 +201,8 @@ unfolding filter_at
 reads_filter =
     let names = reads_many spell.name IsName name_at reads_name in
     shape_of (pair_of names (pair_of names (pair_of names
-    (pair_of (reads_many _ IsAny _ reads_notice_kind) (pair_of (reads_many _ IsAny _ reads_operation_type) (reads_many _ IsAny _ reads_op_state))))))
+    (pair_of (reads_many _ IsAny _ reads_notice_kind) (pair_of (reads_many _ IsAny _ reads_operation_type)
+    (reads_many _ IsAny _ reads_op_state))))))
     (λ p. record { vnfds = p.0; instances = p.1.0; names = p.1.1.0; notices = p.1.1.1.0; operations = p.1.1.1.1.0; states = p.1.1.1.1.1 })
     (λ f. (f.vnfds, (f.instances, (f.names, (f.notices, (f.operations, f.states)))))) spell.filter IsFilter (λ x h. refl) (λ p h. refl)
     (λ p h. (h.0, h.1.0, h.1.1.0, h.1.1.1.0, h.1.1.1.1.0, h.1.1.1.1.1)) (λ f h. (h.0, (h.1, (h.2, (h.3, (h.4, h.5))))))
@@ -190,8 +216,10 @@ reads_storage =
 pub reads_vdu : Reads spell.vdu IsVdu vdu_at
 unfolding vdu_at
 reads_vdu =
-    let fields = pair_of reads_name (pair_of reads_u64 (pair_of reads_u32 (pair_of reads_u32 (pair_of reads_u32 (reads_many spell.u16 IsU16 u16_at reads_u16))))) in
-    let Plain : Vdu → Type 0 = λ v. IsName v.name × IsU64 v.memory × IsU32 v.cpus × IsU32 v.maximum × IsU32 v.initial × AreMany IsU16 v.storages in
+    let fields = pair_of reads_name (pair_of reads_u64 (pair_of reads_u32
+    (pair_of reads_u32 (pair_of reads_u32 (reads_many spell.u16 IsU16 u16_at reads_u16))))) in
+    let Plain : Vdu → Type 0 = λ v. IsName v.name × IsU64 v.memory × IsU32 v.cpus × IsU32 v.maximum × IsU32 v.initial
+    × AreMany IsU16 v.storages in
     reads_fits spell.vdu (λ v. Plain v × (is_rising nat_lt v.storages ≡ true)) IsVdu _
     (λ v h. (h.0.0, h.0.1, h.0.2, h.0.3, h.0.4, h.0.5, h.1)) (λ v h. ((h.0, h.1, h.2, h.3, h.4, h.5), h.6))
     (reads_only (λ v. is_rising nat_lt v.storages) spell.vdu Plain _
@@ -225,7 +253,9 @@ reads_link =
 
       below : (b : Bool) (n : ℕ) → (n == 65535) ≡ b → IsU16 n → IsLink (if b then None else Some n)
       below true n e h = tt
-      below false n e h = let k : (n ≡ 65535) → ⊥ = (λ (q : n ≡ 65535). (let r : (65535 == 65535) ≡ false = (let P : ℕ → Type 0 = λ m. (m == 65535) ≡ false in subst P q e) in absurd cc)) in omega (arith, k)
+      below false n e h = let k : (n ≡ 65535) → ⊥ = (λ (q : n ≡ 65535).
+          (let r : (65535 == 65535) ≡ false = (let P : ℕ → Type 0 = λ m. (m == 65535) ≡ false in subst P q e) in absurd cc)) in
+          omega (arith, k)
 
       down : (n : ℕ) → IsU16 n → IsLink (link_of n)
       down n h = below (n == 65535) n refl h
@@ -237,16 +267,19 @@ reads_link =
 pub reads_port : Reads spell.port IsPort port_at
 unfolding port_at
 reads_port =
-    shape_of (pair_of reads_name (pair_of reads_u16 reads_link)) (λ p. record { name = p.0; vdu = p.1.0; link = p.1.1 }) (λ p. (p.name, (p.vdu, p.link)))
+    shape_of (pair_of reads_name (pair_of reads_u16 reads_link)) (λ p. record { name = p.0; vdu = p.1.0; link = p.1.1 })
+    (λ p. (p.name, (p.vdu, p.link)))
     spell.port IsPort (λ x h. refl) (λ p h. refl) (λ p h. (h.0, h.1.0, h.1.1)) (λ p h. (h.0, (h.1, h.2)))
 
 pub reads_row : (steps : ℕ) → Reads spell.row (IsRow steps) (row_at steps)
 unfolding row_at
 reads_row steps =
-    shape_of (pair_of reads_u16 (reads_entries spell.u32 IsU32 u32_at reads_u32 steps)) (λ p. record { vdu = p.0; deltas = p.1 }) (λ r. (r.vdu, r.deltas))
+    shape_of (pair_of reads_u16 (reads_entries spell.u32 IsU32 u32_at reads_u32 steps)) (λ p. record { vdu = p.0; deltas = p.1 })
+    (λ r. (r.vdu, r.deltas))
     spell.row (IsRow steps) (λ x h. refl) (λ p h. refl) (λ p h. h) (λ r h. h)
 
-pub reads_rows : Reads (λ (p : ℕ × List Row). spell.u16 p.0 ++ spell.many spell.row p.1) (λ (p : ℕ × List Row). IsU16 p.0 × AreMany (IsRow p.0) p.1) rows_at
+pub reads_rows : Reads (λ (p : ℕ × List Row). spell.u16 p.0 ++ spell.many spell.row p.1)
+    (λ (p : ℕ × List Row). IsU16 p.0 × AreMany (IsRow p.0) p.1) rows_at
 unfolding rows_at
 reads_rows =
     reads_pair_by spell.u16 IsU16 u16_at (spell.many spell.row) (λ steps. AreMany (IsRow steps)) (λ steps. many_at (row_at steps)) reads_u16
@@ -256,21 +289,26 @@ pub reads_aspect : Reads spell.aspect IsAspect aspect_at
 unfolding aspect_at
 reads_aspect =
     let Plain : Aspect → Type 0 = λ a. IsName a.name × IsU32 a.maximum × IsU16 a.steps × AreMany (IsRow a.steps) a.rows in
-    reads_fits spell.aspect (λ a. Plain a × ((is_valid_steps a.maximum a.steps && is_rising (λ r s. nat_lt r.vdu s.vdu) a.rows) ≡ true)) IsAspect _
-    (λ a h. let t = both (is_valid_steps a.maximum a.steps) (is_rising (λ r s. nat_lt r.vdu s.vdu) a.rows) h.1 in (h.0.0, h.0.1, h.0.2, h.0.3, t.0, t.1))
+    reads_fits spell.aspect (λ a. Plain a × ((is_valid_steps a.maximum a.steps && is_rising (λ r s. nat_lt r.vdu s.vdu) a.rows) ≡ true))
+    IsAspect _
+    (λ a h. let t = both (is_valid_steps a.maximum a.steps) (is_rising (λ r s. nat_lt r.vdu s.vdu) a.rows) h.1 in
+    (h.0.0, h.0.1, h.0.2, h.0.3, t.0, t.1))
     (λ a h. ((h.0, h.1, h.2, h.3), from_both (is_valid_steps a.maximum a.steps) (is_rising (λ r s. nat_lt r.vdu s.vdu) a.rows) h.4 h.5))
     (reads_only (λ a. is_valid_steps a.maximum a.steps && is_rising (λ r s. nat_lt r.vdu s.vdu) a.rows) spell.aspect Plain _
     (shape_of (pair_of reads_name (pair_of reads_u32 reads_rows))
-    (λ p. record { name = p.0; maximum = p.1.0; steps = p.1.1.0; rows = p.1.1.1 }) (λ a. (a.name, (a.maximum, (a.steps, a.rows)))) spell.aspect Plain
+    (λ p. record { name = p.0; maximum = p.1.0; steps = p.1.1.0; rows = p.1.1.1 })
+    (λ a. (a.name, (a.maximum, (a.steps, a.rows)))) spell.aspect Plain
     (λ x h. refl) (λ p h. refl) (λ p h. (h.0, h.1.0, h.1.1.0, h.1.1.1)) (λ a h. (h.0, (h.1, (h.2, h.3))))))
 
 pub reads_level : (aspects : ℕ) → Reads spell.level (IsLevel aspects) (level_at aspects)
 unfolding level_at
 reads_level aspects =
-    shape_of (pair_of reads_name (reads_entries spell.u32 IsU32 u32_at reads_u32 aspects)) (λ p. record { name = p.0; numbers = p.1 }) (λ l. (l.name, l.numbers))
+    shape_of (pair_of reads_name (reads_entries spell.u32 IsU32 u32_at reads_u32 aspects)) (λ p. record { name = p.0; numbers = p.1 })
+    (λ l. (l.name, l.numbers))
     spell.level (IsLevel aspects) (λ x h. refl) (λ p h. refl) (λ p h. h) (λ l h. h)
 
-pub reads_scaling : Reads (λ (p : List Aspect × (List Level × ℕ)). spell.many spell.aspect p.0 ++ (spell.many spell.level p.1.0 ++ spell.u16 p.1.1))
+pub reads_scaling : Reads (λ (p : List Aspect × (List Level × ℕ)). spell.many spell.aspect p.0
+    ++ (spell.many spell.level p.1.0 ++ spell.u16 p.1.1))
     (λ (p : List Aspect × (List Level × ℕ)). AreMany IsAspect p.0 × (AreMany (IsLevel (length p.0)) p.1.0 × IsU16 p.1.1)) scaling_at
 unfolding scaling_at
 reads_scaling =
@@ -279,7 +317,8 @@ reads_scaling =
     (λ (aspects : List Aspect) (q : List Level × ℕ). AreMany (IsLevel (length aspects)) q.0 × IsU16 q.1)
     (λ (aspects : List Aspect). pair (many_at (level_at (length aspects))) u16_at)
     (reads_many spell.aspect IsAspect aspect_at reads_aspect)
-    (λ (aspects : List Aspect). pair_of (reads_many spell.level (IsLevel (length aspects)) (level_at (length aspects)) (reads_level (length aspects))) reads_u16)
+    (λ (aspects : List Aspect). pair_of (reads_many spell.level (IsLevel (length aspects)) (level_at (length aspects))
+    (reads_level (length aspects))) reads_u16)
 
 pub reads_vnfd : Reads spell.vnfd IsVnfd vnfd_at
 unfolding vnfd_at
@@ -290,7 +329,8 @@ reads_vnfd =
     × AreMany (IsLevel (length v.aspects)) v.levels × IsU16 v.default_level in
     let fields = pair_of reads_name (pair_of reads_name (pair_of reads_name (pair_of reads_name (pair_of reads_name (pair_of reads_name
     (pair_of (reads_many spell.vdu IsVdu vdu_at reads_vdu) (pair_of (reads_many spell.storage IsStorage storage_at reads_storage)
-    (pair_of (reads_many spell.name IsName name_at reads_name) (pair_of (reads_many spell.port IsPort port_at reads_port) reads_scaling))))))))) in
+    (pair_of (reads_many spell.name IsName name_at reads_name) (pair_of
+    (reads_many spell.port IsPort port_at reads_port) reads_scaling))))))))) in
     reads_fits spell.vnfd (λ v. Plain v × ((in_order v && names_entries v) ≡ true)) IsVnfd _
     (λ v h. let t = both (in_order v) (names_entries v) h.1 in
     (h.0.0, h.0.1, h.0.2, h.0.3, h.0.4, h.0.5, h.0.6, h.0.7, h.0.8, h.0.9, h.0.10, h.0.11, h.0.12, t.0, t.1))

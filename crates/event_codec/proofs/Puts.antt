@@ -1,5 +1,6 @@
 -- What is put in two pieces is put as one.
-use Rattle.std.proofs.Common.{◌≡◌, ℕ, ◌+◌, ◌-◌, ◌/◌, ◌%◌, ◌^◌, ◌<◌, ◌≤◌, List, [], ◌∷◌, ◌++◌, Bool, true, false, length, min, nat_lt, if◌then◌else◌, refl, sym, ◌∙◌, ap, append_assoc, append-nil, subst, get_or, take, add-one, inl, inr, arith}
+use Rattle.std.proofs.Common.{◌≡◌, ℕ, ◌+◌, ◌-◌, ◌/◌, ◌%◌, ◌^◌, ◌<◌, ◌≤◌, List, [], ◌∷◌, ◌++◌, Bool, true, false, length, min, nat_lt}
+use Rattle.std.proofs.Common.{if◌then◌else◌, refl, sym, ◌∙◌, ap, append_assoc, append-nil, subst, get_or, take, add-one, inl, inr, arith}
 use Rattle.std.proofs.lemmas.Bool.{ltb-false, lt-ltb, le-ltb, cases_lt}
 use Rattle.std.proofs.lemmas.List.{length-append}
 use Rattle.std.specs.List.{AllByRecursion, flat_map}
@@ -26,20 +27,24 @@ kept_twice true false kept x y h = absurd (let e : true ≡ false = h refl in cc
 pub put_twice : (w : Written) (x y : List ℕ) → put (put w x) y ≡ put w (x ++ y)
 unfolding put
 put_twice w x y =
-    let count : min (min (w.len + length x) (2 ^ 64 - 1) + length y) (2 ^ 64 - 1) ≡ min (w.len + length (x ++ y)) (2 ^ 64 - 1) = omega (arith, length-append x y) in
+    let count : min (min (w.len + length x) (2 ^ 64 - 1) + length y) (2 ^ 64 - 1) ≡ min (w.len + length (x ++ y)) (2 ^ 64 - 1) =
+    omega (arith, length-append x y) in
     let test : nat_lt 65536 (min (w.len + length x) (2 ^ 64 - 1) + length y) ≡ nat_lt 65536 (w.len + length (x ++ y)) =
     same_test (min (w.len + length x) (2 ^ 64 - 1) + length y) (w.len + length (x ++ y))
     (λ h. omega (arith, length-append x y)) (λ h. omega (arith, length-append x y)) in
-    let texts : (if nat_lt 65536 (min (w.len + length x) (2 ^ 64 - 1) + length y) then [] else (if nat_lt 65536 (w.len + length x) then [] else w.kept ++ x) ++ y)
+    let texts : (if nat_lt 65536 (min (w.len + length x) (2 ^ 64 - 1) + length y) then []
+    else (if nat_lt 65536 (w.len + length x) then [] else w.kept ++ x) ++ y)
     ≡ (if nat_lt 65536 (w.len + length (x ++ y)) then [] else w.kept ++ (x ++ y)) =
     ap (λ (b : Bool). if b then [] else (if nat_lt 65536 (w.len + length x) then [] else w.kept ++ x) ++ y) test
     ∙ kept_twice (nat_lt 65536 (w.len + length x)) (nat_lt 65536 (w.len + length (x ++ y))) w.kept x y
-    (λ e. le-ltb 65536 (w.len + length x) (let k : w.len + length (x ++ y) ≤ 65536 = ltb-false 65536 (w.len + length (x ++ y)) e in omega (arith, length-append x y))) in
+    (λ e. le-ltb 65536 (w.len + length x) (let k : w.len + length (x ++ y) ≤ 65536 = ltb-false 65536 (w.len + length (x ++ y)) e in
+    omega (arith, length-append x y))) in
     λ i. record { len = count i; kept = texts i }
 
 -- a count that is cut to its bytes has the same bytes
 pub count_2 : (n : ℕ) → to_be_bytes w16 (n % 65536) ≡ to_be_bytes w16 n
-count_2 n = let high : n % 65536 / 256 % 256 ≡ n / 256 % 256 = omega arith in let low : n % 65536 % 256 ≡ n % 256 = omega arith in λ i. high i ∷ low i ∷ []
+count_2 n = let high : n % 65536 / 256 % 256 ≡ n / 256 % 256 = omega arith in let low : n % 65536 % 256 ≡ n % 256 = omega arith in
+    λ i. high i ∷ low i ∷ []
 
 pub count_1 : (n : ℕ) → to_be_bytes w8 (n % 256) ≡ to_be_bytes w8 n
 count_1 n = let low : n % 256 % 256 ≡ n % 256 = omega arith in λ i. low i ∷ []
@@ -50,7 +55,8 @@ AllByRecursion-push P [] x h p = (p, tt)
 AllByRecursion-push P (y ∷ ys) x h p = (h.0, AllByRecursion-push P ys x h.1 p)
 
 -- the front with one entry more
-take-push : {A : Type 0} (items : List A) (i : ℕ) (x : A) → i < length items → x ≡ get_or items i x → take (i + 1) items ≡ take i items ++ x ∷ []
+take-push : {A : Type 0} (items : List A) (i : ℕ) (x : A) → i < length items → x ≡ get_or items i x
+    → take (i + 1) items ≡ take i items ++ x ∷ []
 take-push items i x within is = ap (λ k. take k items) (add-one i) ∙ take-suc items i x within ∙ ap (λ y. take i items ++ y ∷ []) (sym is)
 
 -- one turn of the loop
@@ -67,7 +73,8 @@ put-more spell w out new head items i x within is written before =
 pub typed-more : {A : Type 0} (P : A → Type 0) (items : List A) (i : ℕ) (x : A)
     → i < length items → x ≡ get_or items i x → P x → AllByRecursion P (take i items) → AllByRecursion P (take (i + 1) items)
 typed-more {A} P items i x within is p before =
-    let Q : List A → Type 0 = AllByRecursion P in subst Q (sym (take-push items i x within is)) (AllByRecursion-push P (take i items) x before p)
+    let Q : List A → Type 0 = AllByRecursion P in subst Q (sym (take-push items i x within is))
+    (AllByRecursion-push P (take i items) x before p)
 
 -- a piece that is put before what is put behind it
 pub put_before : (out mid new : Written) (x rest : List ℕ) → mid ≡ put out x → new ≡ put mid rest → new ≡ put out (x ++ rest)

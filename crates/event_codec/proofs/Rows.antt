@@ -70,12 +70,16 @@ pub spelling-onboarded : spelling (at (events.Onboarded (record {
   levels = record { name = codes "x"; numbers = 1 ∷ [] } ∷ [];
   default_level = 0;
 })))
-    ≡ 1 ∷ 0 ∷ 0 ∷ 1 ∷ 139 ∷ 207 ∷ 229 ∷ 104 ∷ 0 ∷ 1 ∷ 100 ∷ 1 ∷ 112 ∷ 1 ∷ 110 ∷ 1 ∷ 49 ∷ 1 ∷ 50 ∷ 1 ∷ 102 ∷ 0 ∷ 1 ∷ 1 ∷ 86 ∷ 0 ∷ 0 ∷ 0 ∷ 0 ∷ 0 ∷ 0 ∷ 4 ∷ 0 ∷ 0 ∷ 0 ∷ 0 ∷ 2 ∷ 255 ∷ 255 ∷ 255 ∷ 255 ∷ 0 ∷ 0 ∷ 0 ∷ 1 ∷ 0 ∷ 1 ∷ 0 ∷ 0 ∷ 0 ∷ 1 ∷ 1 ∷ 115 ∷ 0 ∷ 0 ∷ 0 ∷ 0 ∷ 0 ∷ 0 ∷ 0 ∷ 5 ∷ 0 ∷ 1 ∷ 1 ∷ 108 ∷ 0 ∷ 2 ∷ 1 ∷ 99 ∷ 0 ∷ 0 ∷ 0 ∷ 0 ∷ 1 ∷ 109 ∷ 0 ∷ 0 ∷ 255 ∷ 255 ∷ 0 ∷ 1 ∷ 1 ∷ 97 ∷ 0 ∷ 0 ∷ 0 ∷ 3 ∷ 0 ∷ 1 ∷ 0 ∷ 1 ∷ 0 ∷ 0 ∷ 0 ∷ 0 ∷ 0 ∷ 2 ∷ 0 ∷ 1 ∷ 1 ∷ 120 ∷ 0 ∷ 0 ∷ 0 ∷ 1 ∷ 0 ∷ 0 ∷ []
+    ≡ 1 ∷ 0 ∷ 0 ∷ 1 ∷ 139 ∷ 207 ∷ 229 ∷ 104 ∷ 0 ∷ 1 ∷ 100 ∷ 1 ∷ 112 ∷ 1 ∷ 110 ∷ 1 ∷ 49 ∷ 1 ∷ 50 ∷ 1 ∷ 102 ∷ 0 ∷ 1 ∷ 1 ∷ 86 ∷ 0 ∷ 0 ∷ 0 ∷ 0
+    ∷ 0 ∷ 0 ∷ 4 ∷ 0 ∷ 0 ∷ 0 ∷ 0 ∷ 2 ∷ 255 ∷ 255 ∷ 255 ∷ 255 ∷ 0 ∷ 0 ∷ 0 ∷ 1 ∷ 0 ∷ 1 ∷ 0 ∷ 0 ∷ 0 ∷ 1 ∷ 1 ∷ 115 ∷ 0 ∷ 0 ∷ 0 ∷ 0 ∷ 0 ∷ 0 ∷ 0
+    ∷ 5 ∷ 0 ∷ 1 ∷ 1 ∷ 108 ∷ 0 ∷ 2 ∷ 1 ∷ 99 ∷ 0 ∷ 0 ∷ 0 ∷ 0 ∷ 1 ∷ 109 ∷ 0 ∷ 0 ∷ 255 ∷ 255 ∷ 0 ∷ 1 ∷ 1 ∷ 97 ∷ 0 ∷ 0 ∷ 0 ∷ 3 ∷ 0 ∷ 1 ∷ 0 ∷ 1
+    ∷ 0 ∷ 0 ∷ 0 ∷ 0 ∷ 0 ∷ 2 ∷ 0 ∷ 1 ∷ 1 ∷ 120 ∷ 0 ∷ 0 ∷ 0 ∷ 1 ∷ 0 ∷ 0 ∷ []
 unfolding spelling u16 u32 u64
 spelling-onboarded = refl
 
 pub spelling-created : spelling (at (events.Created 1 (codes "vnfd-1") (Some (codes "edge-1")) None))
-    ≡ 2 ∷ 0 ∷ 0 ∷ 1 ∷ 139 ∷ 207 ∷ 229 ∷ 104 ∷ 0 ∷ 0 ∷ 0 ∷ 0 ∷ 0 ∷ 0 ∷ 0 ∷ 0 ∷ 1 ∷ 6 ∷ 118 ∷ 110 ∷ 102 ∷ 100 ∷ 45 ∷ 49 ∷ 1 ∷ 6 ∷ 101 ∷ 100 ∷ 103 ∷ 101 ∷ 45 ∷ 49 ∷ 0 ∷ []
+    ≡ 2 ∷ 0 ∷ 0 ∷ 1 ∷ 139 ∷ 207 ∷ 229 ∷ 104 ∷ 0 ∷ 0 ∷ 0 ∷ 0 ∷ 0 ∷ 0 ∷ 0 ∷ 0 ∷ 1 ∷ 6 ∷ 118 ∷ 110 ∷ 102 ∷ 100 ∷ 45 ∷ 49 ∷ 1 ∷ 6 ∷ 101 ∷ 100
+    ∷ 103 ∷ 101 ∷ 45 ∷ 49 ∷ 0 ∷ []
 unfolding spelling u16 u32 u64
 spelling-created = refl
 
@@ -91,7 +95,8 @@ pub spelling-asked : spelling (at (events.Asked (record {
   ask = asks.Scale scale.In (codes "workers") 2;
   changes = record { phase = 6; verb = verbs.Remove; def = record { kind = item.Compute; item = 0; vdu = 1; serial = 3 } } ∷ [];
 })))
-    ≡ 4 ∷ 0 ∷ 0 ∷ 1 ∷ 139 ∷ 207 ∷ 229 ∷ 104 ∷ 0 ∷ 0 ∷ 0 ∷ 0 ∷ 0 ∷ 0 ∷ 0 ∷ 0 ∷ 1 ∷ 0 ∷ 0 ∷ 0 ∷ 0 ∷ 0 ∷ 0 ∷ 0 ∷ 2 ∷ 0 ∷ 2 ∷ 1 ∷ 7 ∷ 119 ∷ 111 ∷ 114 ∷ 107 ∷ 101 ∷ 114 ∷ 115 ∷ 0 ∷ 0 ∷ 0 ∷ 2 ∷ 0 ∷ 1 ∷ 6 ∷ 1 ∷ 2 ∷ 0 ∷ 0 ∷ 0 ∷ 1 ∷ 0 ∷ 0 ∷ 0 ∷ 3 ∷ []
+    ≡ 4 ∷ 0 ∷ 0 ∷ 1 ∷ 139 ∷ 207 ∷ 229 ∷ 104 ∷ 0 ∷ 0 ∷ 0 ∷ 0 ∷ 0 ∷ 0 ∷ 0 ∷ 0 ∷ 1 ∷ 0 ∷ 0 ∷ 0 ∷ 0 ∷ 0 ∷ 0 ∷ 0 ∷ 2 ∷ 0 ∷ 2 ∷ 1 ∷ 7 ∷ 119 ∷ 111
+    ∷ 114 ∷ 107 ∷ 101 ∷ 114 ∷ 115 ∷ 0 ∷ 0 ∷ 0 ∷ 2 ∷ 0 ∷ 1 ∷ 6 ∷ 1 ∷ 2 ∷ 0 ∷ 0 ∷ 0 ∷ 1 ∷ 0 ∷ 0 ∷ 0 ∷ 3 ∷ []
 unfolding spelling u16 u32 u64
 spelling-asked = refl
 
@@ -120,7 +125,8 @@ pub spelling-call_failed : spelling (at (events.CallFailed (record { occ = 1; ch
 unfolding spelling u16 u32 u64
 spelling-call_failed = refl
 
-pub spelling-settled : spelling (at (events.Settled (record { occ = 1; change = 2; attempt = 1; way = ways.Forward }) (outcomes.Done (codes "r1"))))
+pub spelling-settled : spelling (at (events.Settled (record { occ = 1; change = 2; attempt = 1; way = ways.Forward })
+    (outcomes.Done (codes "r1"))))
     ≡ 10 ∷ 0 ∷ 0 ∷ 1 ∷ 139 ∷ 207 ∷ 229 ∷ 104 ∷ 0 ∷ 0 ∷ 0 ∷ 0 ∷ 0 ∷ 0 ∷ 0 ∷ 0 ∷ 1 ∷ 0 ∷ 2 ∷ 0 ∷ 0 ∷ 0 ∷ 1 ∷ 0 ∷ 0 ∷ 2 ∷ 114 ∷ 49 ∷ []
 unfolding spelling u16 u32 u64
 spelling-settled = refl
@@ -143,7 +149,8 @@ pub spelling-subscribed : spelling (at (events.Subscribed 1 who.Element (codes "
   operations = kind.Of op.Instantiate ∷ kind.ModifyInfo ∷ [];
   states = state.Completed ∷ [];
 })))
-    ≡ 13 ∷ 0 ∷ 0 ∷ 1 ∷ 139 ∷ 207 ∷ 229 ∷ 104 ∷ 0 ∷ 0 ∷ 0 ∷ 0 ∷ 0 ∷ 0 ∷ 0 ∷ 0 ∷ 1 ∷ 1 ∷ 0 ∷ 10 ∷ 104 ∷ 116 ∷ 116 ∷ 112 ∷ 58 ∷ 47 ∷ 47 ∷ 104 ∷ 47 ∷ 120 ∷ 0 ∷ 1 ∷ 1 ∷ 100 ∷ 0 ∷ 0 ∷ 0 ∷ 0 ∷ 0 ∷ 2 ∷ 0 ∷ 2 ∷ 0 ∷ 2 ∷ 1 ∷ 9 ∷ 0 ∷ 1 ∷ 2 ∷ []
+    ≡ 13 ∷ 0 ∷ 0 ∷ 1 ∷ 139 ∷ 207 ∷ 229 ∷ 104 ∷ 0 ∷ 0 ∷ 0 ∷ 0 ∷ 0 ∷ 0 ∷ 0 ∷ 0 ∷ 1 ∷ 1 ∷ 0 ∷ 10 ∷ 104 ∷ 116 ∷ 116 ∷ 112 ∷ 58 ∷ 47 ∷ 47 ∷ 104
+    ∷ 47 ∷ 120 ∷ 0 ∷ 1 ∷ 1 ∷ 100 ∷ 0 ∷ 0 ∷ 0 ∷ 0 ∷ 0 ∷ 2 ∷ 0 ∷ 2 ∷ 0 ∷ 2 ∷ 1 ∷ 9 ∷ 0 ∷ 1 ∷ 2 ∷ []
 unfolding spelling u16 u32 u64
 spelling-subscribed = refl
 

@@ -25,7 +25,11 @@ use Rattle.lcm_events.specs.declared.states.Role.{Role}
 use Rattle.lcm_events.specs.declared.states.Role.TheVariants as who
 use Rattle.event_codec.specs.Combinators.{sum}
 use Rattle.event_codec.specs.Numbers as number
-use Rattle.event_codec.specs.Readers.{role_cases, role_at, cancel_mode_cases, cancel_mode_at, terminate_mode_cases, terminate_mode_at, stop_type_cases, stop_type_at, started_cases, started_at, op_state_cases, op_state_at, way_cases, way_at, verb_cases, verb_at, def_kind_cases, def_kind_at, scale_way_cases, scale_way_at, post_outcome_cases, post_outcome_at, notice_kind_cases, notice_kind_at, operation_type_cases, operation_type_at, moved_at}
+use Rattle.event_codec.specs.Readers.{role_cases, role_at, cancel_mode_cases, cancel_mode_at, terminate_mode_cases, terminate_mode_at}
+use Rattle.event_codec.specs.Readers.{stop_type_cases, stop_type_at, started_cases, started_at, op_state_cases, op_state_at, way_cases}
+use Rattle.event_codec.specs.Readers.{way_at, verb_cases, verb_at, def_kind_cases, def_kind_at, scale_way_cases, scale_way_at}
+use Rattle.event_codec.specs.Readers.{post_outcome_cases, post_outcome_at, notice_kind_cases, notice_kind_at, operation_type_cases}
+use Rattle.event_codec.specs.Readers.{operation_type_at, moved_at}
 use Rattle.event_codec.specs.Spell as spell
 use Rattle.event_codec.specs.Valid.{IsAny, IsMoved}
 use Rattle.event_codec.proofs.CombinatorLaws.{Reads, reads_sum, reads_only, reads_fits, case_word}
@@ -273,7 +277,8 @@ reads_operation_type =
         ),
       ),
     ) again where
-      again : (x : OperationType) (rest : List ℕ) → IsAny x → sum operation_type_cases ((number.operation_type x ∷ []) ++ rest) ≡ Some (x, rest)
+      again : (x : OperationType) (rest : List ℕ) → IsAny x → sum operation_type_cases ((number.operation_type x ∷ []) ++ rest)
+          ≡ Some (x, rest)
       again (kind.Of op.Instantiate) rest h = refl
       again (kind.Of op.Scale) rest h = refl
       again (kind.Of op.ScaleToLevel) rest h = refl

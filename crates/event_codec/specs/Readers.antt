@@ -1,7 +1,9 @@
--- What stands at the front of some bytes, kind by kind: the value of which they begin with the spelling, if there is one
--- (own format, docs/EVENTS.md). These definitions are a tool of the proof: the contract of `decode` speaks of spellings
--- alone. One without a sentence of its own gives the kind or part that its name says, with what is left behind it.
-use Rattle.std.specs.Prelude.{ℕ, ◌==◌, List, [], ◌∷◌, Option, Some, None, Bool, true, false, length, nat_lt, nat_le, ◌&&◌, not, if◌then◌else◌}
+-- What stands at the front of some bytes, kind by kind: the value of which they begin with the spelling, if there is
+-- one (own format, docs/EVENTS.md). These definitions are a tool of the proof: the contract of `decode` speaks of
+-- spellings alone. One without a sentence of its own gives the kind or part that its name says, with what is left
+-- behind it.
+use Rattle.std.specs.Prelude.{ℕ, ◌==◌, List, [], ◌∷◌, Option, Some, None, Bool, true, false, length, nat_lt, nat_le}
+use Rattle.std.specs.Prelude.{◌&&◌, not, if◌then◌else◌}
 use Rattle.std.specs.Int.{w16, w32, w64}
 use Rattle.std.specs.List.{list_all}
 use Rattle.lcm_events.specs.declared.asks.Aim.{Aim}
@@ -53,7 +55,8 @@ use Rattle.lcm_events.specs.declared.states.OpState.TheVariants as state
 use Rattle.lcm_events.specs.declared.states.Role.{Role}
 use Rattle.lcm_events.specs.declared.states.Role.TheVariants as who
 use Rattle.vnfm_base.specs.Text.{is_short_text}
-use Rattle.event_codec.specs.Combinators.{Reader, bind, pair_by, pair, shape, only, cases, sum, word, entries, piece, big_endian, u8_at}
+use Rattle.event_codec.specs.Combinators.{Reader, bind, pair_by, pair, shape, only, cases, sum, word, entries, piece}
+use Rattle.event_codec.specs.Combinators.{big_endian, u8_at}
 use Rattle.event_codec.specs.Numbers as number
 use Rattle.event_codec.specs.Valid.{in_order, names_entries}
 use Rattle.lcm_events.specs.Descriptors.{is_rising, is_valid_steps}
@@ -123,7 +126,8 @@ started_at = sum started_cases
 
 abbrev pub op_state_cases : List (ℕ × Reader OpState)
 op_state_cases = (0, word state.Starting) ∷ (1, word state.Processing) ∷ (2, word state.Completed)
-    ∷ (3, word state.FailedTemp) ∷ (4, word state.Failed) ∷ (5, word state.RollingBack) ∷ (6, word state.RolledBack) ∷ []
+    ∷ (3, word state.FailedTemp) ∷ (4, word state.Failed) ∷ (5, word state.RollingBack) ∷ (6, word state.RolledBack)
+    ∷ []
 
 unfoldable pub op_state_at : Reader OpState
 op_state_at = sum op_state_cases
@@ -169,7 +173,8 @@ unfoldable pub notice_kind_at : Reader NoticeKind
 notice_kind_at = sum notice_kind_cases
 
 abbrev pub operation_type_cases : List (ℕ × Reader OperationType)
-operation_type_cases = (1, word (kind.Of op.Instantiate)) ∷ (2, word (kind.Of op.Scale)) ∷ (3, word (kind.Of op.ScaleToLevel))
+operation_type_cases = (1, word (kind.Of op.Instantiate)) ∷ (2, word (kind.Of op.Scale))
+    ∷ (3, word (kind.Of op.ScaleToLevel))
     ∷ (4, word (kind.Of op.Heal)) ∷ (5, word (kind.Of op.Operate)) ∷ (6, word (kind.Of op.Terminate))
     ∷ (7, word (kind.Of op.ChangeFlavour)) ∷ (8, word kind.ChangeExtConn) ∷ (9, word kind.ModifyInfo) ∷ []
 
@@ -183,7 +188,12 @@ tag_at = shape (λ p. record { occ = p.0; change = p.1.0; attempt = p.1.1.0; way
     (pair u64_at (pair u16_at (pair (only (λ n. nat_le 1 n) u32_at) way_at)))
 
 unfoldable pub change_at : Reader Change
-change_at = shape (λ p. record { phase = p.0; verb = p.1.0; def = record { kind = p.1.1.0; item = p.1.1.1.0; vdu = p.1.1.1.1.0; serial = p.1.1.1.1.1 } })
+change_at = shape (λ p. record {
+  phase = p.0;
+  verb = p.1.0;
+  def =
+      record { kind = p.1.1.0; item = p.1.1.1.0; vdu = p.1.1.1.1.0; serial = p.1.1.1.1.1 };
+})
     (pair (only (λ n. nat_le n 8) u8_at) (pair verb_at (pair def_kind_at (pair u16_at (pair u16_at u32_at)))))
 
 unfoldable pub vnfc_at : Reader Vnfc
@@ -234,13 +244,28 @@ unfoldable pub outcome_at : Reader Outcome
 outcome_at = sum outcome_cases
 
 unfoldable pub filter_at : Reader Filter
-filter_at = shape (λ p. record { vnfds = p.0; instances = p.1.0; names = p.1.1.0; notices = p.1.1.1.0; operations = p.1.1.1.1.0; states = p.1.1.1.1.1 })
+filter_at = shape (λ p. record {
+  vnfds = p.0;
+  instances = p.1.0;
+  names = p.1.1.0;
+  notices = p.1.1.1.0;
+  operations =
+      p.1.1.1.1.0;
+  states = p.1.1.1.1.1;
+})
     (pair (many_at name_at) (pair (many_at name_at) (pair (many_at name_at)
     (pair (many_at notice_kind_at) (pair (many_at operation_type_at) (many_at op_state_at))))))
 
 unfoldable pub vdu_at : Reader Vdu
 vdu_at = only (λ v. is_rising nat_lt v.storages)
-    (shape (λ p. record { name = p.0; memory = p.1.0; cpus = p.1.1.0; maximum = p.1.1.1.0; initial = p.1.1.1.1.0; storages = p.1.1.1.1.1 })
+    (shape (λ p. record {
+      name = p.0;
+      memory = p.1.0;
+      cpus = p.1.1.0;
+      maximum = p.1.1.1.0;
+      initial = p.1.1.1.1.0;
+      storages = p.1.1.1.1.1;
+    })
     (pair name_at (pair u64_at (pair u32_at (pair u32_at (pair u32_at (many_at u16_at)))))))
 
 unfoldable pub storage_at : Reader Storage
@@ -265,7 +290,8 @@ rows_at = pair_by u16_at (λ steps. many_at (row_at steps))
 
 unfoldable pub aspect_at : Reader Aspect
 aspect_at = only (λ a. is_valid_steps a.maximum a.steps && is_rising (λ r s. nat_lt r.vdu s.vdu) a.rows)
-    (shape (λ p. record { name = p.0; maximum = p.1.0; steps = p.1.1.0; rows = p.1.1.1 }) (pair name_at (pair u32_at rows_at)))
+    (shape (λ p. record { name = p.0; maximum = p.1.0; steps = p.1.1.0; rows = p.1.1.1 })
+    (pair name_at (pair u32_at rows_at)))
 
 unfoldable pub level_at : ℕ → Reader Level
 level_at aspects = shape (λ p. record { name = p.0; numbers = p.1 }) (pair name_at (entries u32_at aspects))
@@ -291,7 +317,8 @@ vnfd_at = only (λ v. in_order v && names_entries v)
       levels = p.1.1.1.1.1.1.1.1.1.1.1.0;
       default_level = p.1.1.1.1.1.1.1.1.1.1.1.1;
     })
-    (pair name_at (pair name_at (pair name_at (pair name_at (pair name_at (pair name_at (pair (many_at vdu_at) (pair (many_at storage_at)
+    (pair name_at (pair name_at (pair name_at (pair name_at
+    (pair name_at (pair name_at (pair (many_at vdu_at) (pair (many_at storage_at)
     (pair (many_at name_at) (pair (many_at port_at) scaling_at)))))))))))
 
 -- the kinds
@@ -334,7 +361,8 @@ unfoldable pub cancel_asked_at : Reader EventKind
 cancel_asked_at = shape (λ p. events.CancelAsked p.0 p.1) (pair u64_at cancel_mode_at)
 
 unfoldable pub subscribed_at : Reader EventKind
-subscribed_at = shape (λ p. events.Subscribed p.0 p.1.0 p.1.1.0 p.1.1.1) (pair u64_at (pair role_at (pair line_at filter_at)))
+subscribed_at = shape (λ p. events.Subscribed p.0 p.1.0 p.1.1.0 p.1.1.1)
+    (pair u64_at (pair role_at (pair line_at filter_at)))
 
 unfoldable pub unsubscribed_at : Reader EventKind
 unsubscribed_at = shape events.Unsubscribed u64_at
@@ -343,8 +371,10 @@ unfoldable pub posted_at : Reader EventKind
 posted_at = shape (λ p. events.Posted p.0 p.1.0 p.1.1) (pair u64_at (pair u64_at post_outcome_at))
 
 abbrev pub kind_cases : List (ℕ × Reader EventKind)
-kind_cases = (1, onboarded_at) ∷ (2, created_at) ∷ (3, deleted_at) ∷ (4, asked_at) ∷ (5, grant_tried_at) ∷ (6, granted_at)
-    ∷ (7, denied_at) ∷ (8, intent_at) ∷ (9, call_failed_at) ∷ (10, settled_at) ∷ (11, moved_kind_at) ∷ (12, cancel_asked_at)
+kind_cases = (1, onboarded_at) ∷ (2, created_at) ∷ (3, deleted_at) ∷ (4, asked_at) ∷ (5, grant_tried_at)
+    ∷ (6, granted_at)
+    ∷ (7, denied_at) ∷ (8, intent_at) ∷ (9, call_failed_at) ∷ (10, settled_at) ∷ (11, moved_kind_at)
+    ∷ (12, cancel_asked_at)
     ∷ (13, subscribed_at) ∷ (14, unsubscribed_at) ∷ (15, posted_at) ∷ []
 
 -- the fields of the kind with this number

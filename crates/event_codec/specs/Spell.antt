@@ -184,7 +184,8 @@ kind_number (events.Posted s p o) = 15
 -- the fields of an event, in the order of the format
 abbrev pub fields : EventKind → List ℕ
 fields (events.Onboarded v) = vnfd v
-fields (events.Created instance of_vnfd named text) = u64 instance ++ (name of_vnfd ++ (optional name named ++ optional line text))
+fields (events.Created instance of_vnfd named text) = u64 instance
+    ++ (name of_vnfd ++ (optional name named ++ optional line text))
 fields (events.Deleted instance) = u64 instance
 fields (events.Asked o) = operation o
 fields (events.GrantTried occ answer) = u64 occ ++ grant_try answer

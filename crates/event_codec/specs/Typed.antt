@@ -20,7 +20,8 @@ use Rattle.lcm_events.specs.declared.events.EventKind.{EventKind}
 use Rattle.lcm_events.specs.declared.events.EventKind.TheVariants as events
 use Rattle.lcm_events.specs.declared.events.Operation.{Operation}
 use Rattle.lcm_events.specs.declared.filters.Filter.{Filter}
-use Rattle.event_codec.specs.Valid.{IsU8, IsU16, IsU32, IsU64, Optionally, IsVnfc, IsAspectLevel, IsGrantTry, IsPlace, IsOutcome, IsStorage}
+use Rattle.event_codec.specs.Valid.{IsU8, IsU16, IsU32, IsU64, Optionally, IsVnfc, IsAspectLevel, IsGrantTry, IsPlace}
+use Rattle.event_codec.specs.Valid.{IsOutcome, IsStorage}
 
 abbrev pub TypedTag : Tag → Type 0
 TypedTag t = IsU64 t.occ × IsU16 t.change × IsU32 t.attempt
@@ -47,7 +48,8 @@ abbrev pub TypedFilter : Filter → Type 0
 TypedFilter f = AllByRecursion IsName f.vnfds × AllByRecursion IsName f.instances × AllByRecursion IsName f.names
 
 abbrev pub TypedVdu : Vdu → Type 0
-TypedVdu v = IsName v.name × IsU64 v.memory × IsU32 v.cpus × IsU32 v.maximum × IsU32 v.initial × AllByRecursion IsU16 v.storages
+TypedVdu v = IsName v.name × IsU64 v.memory × IsU32 v.cpus × IsU32 v.maximum × IsU32 v.initial
+    × AllByRecursion IsU16 v.storages
 
 abbrev pub TypedPort : Port → Type 0
 TypedPort p = IsName p.name × IsU16 p.vdu × Optionally IsU16 p.link
@@ -63,7 +65,8 @@ TypedLevel l = IsName l.name × AllByRecursion IsU32 l.numbers
 
 abbrev pub TypedLists : Vnfd → Type 0
 TypedLists v = AllByRecursion TypedVdu v.vdus × AllByRecursion IsStorage v.storages × AllByRecursion IsName v.links
-    × AllByRecursion TypedPort v.ports × AllByRecursion TypedAspect v.aspects × AllByRecursion TypedLevel v.levels × IsU16 v.default_level
+    × AllByRecursion TypedPort v.ports × AllByRecursion TypedAspect v.aspects × AllByRecursion TypedLevel v.levels
+    × IsU16 v.default_level
 
 abbrev pub TypedVnfd : Vnfd → Type 0
 TypedVnfd v = IsName v.descriptor_id × IsName v.provider × IsName v.product_name × IsName v.software_version
@@ -76,14 +79,16 @@ TypedKind (events.Created instance of_vnfd named text) =
 TypedKind (events.Deleted instance) = IsU64 instance
 TypedKind (events.Asked o) = TypedOperation o
 TypedKind (events.GrantTried occ answer) = IsU64 occ × IsGrantTry answer
-TypedKind (events.Granted occ grant places spots) = IsU64 occ × IsName grant × AllByRecursion IsPlace places × AllByRecursion IsU8 spots
+TypedKind (events.Granted occ grant places spots) = IsU64 occ × IsName grant × AllByRecursion IsPlace places
+    × AllByRecursion IsU8 spots
 TypedKind (events.Denied occ) = IsU64 occ
 TypedKind (events.Intent t) = TypedTag t
 TypedKind (events.CallFailed t) = TypedTag t
 TypedKind (events.Settled t how) = TypedTag t × IsOutcome how
 TypedKind (events.Moved occ to) = IsU64 occ
 TypedKind (events.CancelAsked occ mode) = IsU64 occ
-TypedKind (events.Subscribed subscription role callback asked) = IsU64 subscription × IsLine callback × TypedFilter asked
+TypedKind (events.Subscribed subscription role callback asked) =
+    IsU64 subscription × IsLine callback × TypedFilter asked
 TypedKind (events.Unsubscribed subscription) = IsU64 subscription
 TypedKind (events.Posted subscription place how) = IsU64 subscription × IsU64 place
 

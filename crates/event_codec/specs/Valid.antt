@@ -1,7 +1,8 @@
 -- Which events have a spelling: each number within its values, each text a name or a line, each list in order and of
 -- a length that its count can say (own format, docs/EVENTS.md).
 -- A definition without a sentence of its own says this of the part that its name says, and is a tool of the proof.
-use Rattle.std.specs.Prelude.{ℕ, ◌≡◌, ◌^◌, ◌<◌, ◌≤◌, ◌==◌, List, [], ◌∷◌, Option, Some, None, Bool, true, false, length, nat_lt, ◌&&◌, ◌||◌, if◌then◌else◌}
+use Rattle.std.specs.Prelude.{ℕ, ◌≡◌, ◌^◌, ◌<◌, ◌≤◌, ◌==◌, List, [], ◌∷◌, Option, Some, None, Bool, true, false, length}
+use Rattle.std.specs.Prelude.{nat_lt, ◌&&◌, ◌||◌, if◌then◌else◌}
 use Rattle.std.specs.List.{AllByRecursion, list_all}
 use Rattle.lcm_events.specs.Descriptors.{is_name_before, is_rising, is_valid_steps}
 use Rattle.vnfm_base.specs.Text.{IsName, IsLine}

@@ -2,7 +2,8 @@
 ghost use Rattle.std.specs.Prelude.{◌≡◌, ◌&&◌, Bool, length, nat_lt};
 ghost use Rattle.std.specs.List.{list_all};
 ghost use Rattle.event_codec.specs.Gives.{Gives};
-ghost use Rattle.event_codec.specs.Readers.{vdu_at, storage_at, link_at, port_at, row_at, rows_at, aspect_at, level_at, scaling_at, vnfd_at};
+ghost use Rattle.event_codec.specs.Readers.{vdu_at, storage_at, link_at, port_at, row_at, rows_at, aspect_at, level_at};
+ghost use Rattle.event_codec.specs.Readers.{scaling_at, vnfd_at};
 ghost use Rattle.event_codec.specs.Valid.{in_order, names_entries, optionally_below};
 ghost use Rattle.lcm_events.specs.Descriptors.{is_rising, is_name_before, is_valid_steps};
 

@@ -1,7 +1,10 @@
 //! The kinds of events, one reading function each.
 ghost use Rattle.std.specs.Prelude.{◌≡◌};
 ghost use Rattle.event_codec.specs.Gives.{Gives};
-ghost use Rattle.event_codec.specs.Readers.{onboarded_at, created_at, deleted_at, asked_at, grant_tried_at, granted_at, denied_at, intent_at, call_failed_at, settled_at, moved_kind_at, cancel_asked_at, subscribed_at, unsubscribed_at, posted_at, kind_at, moment_at, event_at};
+ghost use Rattle.event_codec.specs.Readers.{onboarded_at, created_at, deleted_at, asked_at, grant_tried_at, granted_at};
+ghost use Rattle.event_codec.specs.Readers.{denied_at, intent_at, call_failed_at, settled_at, moved_kind_at};
+ghost use Rattle.event_codec.specs.Readers.{cancel_asked_at, subscribed_at, unsubscribed_at, posted_at, kind_at};
+ghost use Rattle.event_codec.specs.Readers.{moment_at, event_at};
 
 use crate::descriptor::vnfd;
 use crate::fault::DecodeFault;

@@ -3,7 +3,10 @@ ghost use Rattle.std.specs.Prelude.{◌≡◌, length, nat_lt};
 ghost use Rattle.std.specs.List.{list_all};
 ghost use Rattle.event_codec.specs.Combinators.{u8_at};
 ghost use Rattle.event_codec.specs.Gives.{Gives};
-ghost use Rattle.event_codec.specs.Readers.{u16_at, u32_at, name_at, line_at, tag_at, change_at, vnfc_at, aspect_level_at, aim_at, ask_at, operation_at, grant_try_at, place_at, placed_at, outcome_at, filter_at, notice_kind_at, operation_type_at, op_state_at};
+ghost use Rattle.event_codec.specs.Readers.{u16_at, u32_at, name_at, line_at, tag_at, change_at, vnfc_at};
+ghost use Rattle.event_codec.specs.Readers.{aspect_level_at, aim_at, ask_at, operation_at, grant_try_at, place_at};
+ghost use Rattle.event_codec.specs.Readers.{placed_at, outcome_at, filter_at, notice_kind_at, operation_type_at};
+ghost use Rattle.event_codec.specs.Readers.{op_state_at};
 
 use crate::fault::DecodeFault;
 use crate::input::Input;

@@ -1,7 +1,9 @@
 //! Words: each is one byte with the number that stands for it.
 ghost use Rattle.std.specs.Prelude.{◌≡◌};
 ghost use Rattle.event_codec.specs.Gives.{Gives};
-ghost use Rattle.event_codec.specs.Readers.{role_at, cancel_mode_at, terminate_mode_at, stop_type_at, started_at, op_state_at, way_at, verb_at, def_kind_at, scale_way_at, post_outcome_at, notice_kind_at, operation_type_at, moved_at};
+ghost use Rattle.event_codec.specs.Readers.{role_at, cancel_mode_at, terminate_mode_at, stop_type_at, started_at};
+ghost use Rattle.event_codec.specs.Readers.{op_state_at, way_at, verb_at, def_kind_at, scale_way_at, post_outcome_at};
+ghost use Rattle.event_codec.specs.Readers.{notice_kind_at, operation_type_at, moved_at};
 
 use crate::fault::DecodeFault;
 use crate::input::Input;

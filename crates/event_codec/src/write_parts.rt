@@ -3,8 +3,11 @@ ghost use Rattle.std.specs.Prelude.{◌≡◌};
 ghost use Rattle.std.specs.List.{AllByRecursion};
 ghost use Rattle.event_codec.specs.Numbers as number;
 ghost use Rattle.event_codec.specs.Spell as spell;
-ghost use Rattle.event_codec.specs.Typed.{TypedTag, TypedChange, TypedAim, TypedAsk, TypedOperation, TypedFilter, TypedVdu, TypedPort, TypedRow, TypedAspect, TypedLevel, TypedLists, TypedVnfd};
-ghost use Rattle.event_codec.specs.Valid.{IsU8, IsU16, IsU32, IsAny, IsVnfc, IsAspectLevel, IsGrantTry, IsPlace, IsOutcome, IsStorage, Optionally};
+ghost use Rattle.event_codec.specs.Typed.{TypedTag, TypedChange, TypedAim, TypedAsk, TypedOperation, TypedFilter};
+ghost use Rattle.event_codec.specs.Typed.{TypedVdu, TypedPort, TypedRow, TypedAspect, TypedLevel, TypedLists};
+ghost use Rattle.event_codec.specs.Typed.{TypedVnfd};
+ghost use Rattle.event_codec.specs.Valid.{IsU8, IsU16, IsU32, IsAny, IsVnfc, IsAspectLevel, IsGrantTry, IsPlace};
+ghost use Rattle.event_codec.specs.Valid.{IsOutcome, IsStorage, Optionally};
 ghost use Rattle.event_codec.specs.Written.{put};
 ghost use Rattle.vnfm_base.specs.Text.{IsName, IsLine};
 

@@ -1,5 +1,6 @@
 -- What an ask comes to over the row of its instance it comes to after the history.
-use Rattle.std.proofs.Common.{◌≡◌, ◌∙◌, ℕ, List, [], ◌∷◌, Bool, true, false, cond, not, Option, None, Some, is_some, option_map, refl, ap, sym, subst}
+use Rattle.std.proofs.Common.{◌≡◌, ◌∙◌, ℕ, List, [], ◌∷◌, Bool, true, false, cond, not, Option, None, Some, is_some, option_map, refl, ap}
+use Rattle.std.proofs.Common.{sym, subst}
 use Rattle.std.specs.Prelude.{option_and_then}
 use Rattle.std.proofs.lemmas.Option.{none-some}
 use Rattle.lcm_events.specs.declared.asks.Ask.{Ask}
@@ -48,14 +49,16 @@ found H i r e =
     let mine = mapped (instance_row H) (creation H i) r live.1 in
     record {
       live = live.0;
-      named = ap (option_and_then (λ (x : CreatedInstance). descriptor_named H x.vnfd)) mine.1 ∙ ap (λ (y : InstanceRow). descriptor_named H y.vnfd) mine.2;
+      named = ap (option_and_then (λ (x : CreatedInstance). descriptor_named H x.vnfd)) mine.1
+          ∙ ap (λ (y : InstanceRow). descriptor_named H y.vnfd) mine.2;
     }
 
 some_same : {A : Type 0} → {x y : A} → Some x ≡ Some y → x ≡ y
 some_same e = cc
 
 -- an ask of the instance of this row is of the descriptor that it names and of what it says stands
-pub row_asked : (H : List Event) (i : ℕ) (r : InstanceRow) (v d : Vnfd) → instance H i ≡ Some r → Some v ≡ descriptor_named H r.vnfd → descriptor H i ≡ Some d
+pub row_asked : (H : List Event) (i : ℕ) (r : InstanceRow) (v d : Vnfd) → instance H i ≡ Some r → Some v ≡ descriptor_named H r.vnfd
+    → descriptor H i ≡ Some d
     → r.holding ≡ holding d H i → IsAskedOf H i v r.holding
 row_asked H i r v d e is described held =
     let mine = found H i r e in
@@ -67,14 +70,23 @@ row_asked H i r v d e is described held =
     }
 
 -- the row of a live instance names a descriptor that is there
-pub row_described : (H : List Event) (i : ℕ) (r : InstanceRow) (d : Vnfd) → instance H i ≡ Some r → descriptor H i ≡ Some d → descriptor_named H r.vnfd ≡ Some d
+pub row_described : (H : List Event) (i : ℕ) (r : InstanceRow) (d : Vnfd) → instance H i ≡ Some r → descriptor H i ≡ Some d
+    → descriptor_named H r.vnfd ≡ Some d
 row_described H i r d e described = sym (found H i r e).named ∙ described
 
 can_ask : (m : ℕ) (H : List Event) (i : ℕ) (v : Vnfd) (h : Holding) → IsLegal m H → IsSmall H → IsAskedOf H i v h → CanBeAsked v H i
-can_ask m H i v h legal small asked = record { width = window; manager = m; legal = legal; described = asked.described; small = λ n. small.serials i n }
+can_ask m H i v h legal small asked = record {
+  width = window;
+  manager = m;
+  legal = legal;
+  described = asked.described;
+  small =
+      λ n. small.serials i n;
+}
 
 -- its descriptor is valid, and what stands is of it
-pub can_plan : (m : ℕ) (H : List Event) (i : ℕ) (v : Vnfd) (h : Holding) → IsLegal m H → IsSmall H → IsAskedOf H i v h → IsValid v × IsHoldingOf v h
+pub can_plan : (m : ℕ) (H : List Event) (i : ℕ) (v : Vnfd) (h : Holding) → IsLegal m H → IsSmall H → IsAskedOf H i v h
+    → IsValid v × IsHoldingOf v h
 can_plan m H i v h legal small asked =
     let can = can_ask m H i v h legal small asked in
     (asked_valid v H i can, asked_held v H i h can asked.held)
@@ -88,34 +100,50 @@ passed None xs e = refl
 passed (Some y) xs e = cc
 
 -- an ask that its content refuses
-pub content_refused : (H : List Event) (i : ℕ) (d : Vnfd) (h : Holding) (ask : Ask) (why : Refusal) → IsAskedOf H i d h → content_refusal d ask ≡ Some why → IsRefused H i ask why
+pub content_refused : (H : List Event) (i : ℕ) (d : Vnfd) (h : Holding) (ask : Ask) (why : Refusal) → IsAskedOf H i d h
+    → content_refusal d ask ≡ Some why → IsRefused H i ask why
 content_refused H i d h ask why asked refused = (
   d,
   record { live = asked.live; described = asked.described; judged = at_once (content_refusal d ask) _ why refused },
 )
 
 -- why an ask is refused whose content isn't is why it is refused over what stands
-judged_over : (m : ℕ) (H : List Event) (i : ℕ) (d : Vnfd) (h : Holding) (busy : Bool) (ask : Ask) → IsLegal m H → IsSmall H → IsAskedOf H i d h
-    → busy ≡ is_some (first (ongoing H i)) → content_refusal d ask ≡ None → ask_refusal d (situation d H i) ask ≡ standing_refusal d h busy ask
+judged_over : (m : ℕ) (H : List Event) (i : ℕ) (d : Vnfd) (h : Holding) (busy : Bool) (ask : Ask) → IsLegal m H → IsSmall H
+    → IsAskedOf H i d h
+    → busy ≡ is_some (first (ongoing H i)) → content_refusal d ask ≡ None
+    → ask_refusal d (situation d H i) ask ≡ standing_refusal d h busy ask
 judged_over m H i d h busy ask legal small asked goes content =
     let can = can_ask m H i d h legal small asked in
     let now = situation d H i in
-    passed (content_refusal d ask) (state_refusal d now ask ∷ plan_refusal d now ask ∷ []) content ∙ sym (standing_same d H i h busy ask can asked.held goes)
+    passed (content_refusal d ask) (state_refusal d now ask ∷ plan_refusal d now ask ∷ []) content
+    ∙ sym (standing_same d H i h busy ask can asked.held goes)
 
 -- an ask that is refused over what stands
-pub standing_refused : (m : ℕ) (H : List Event) (i : ℕ) (d : Vnfd) (h : Holding) (busy : Bool) (ask : Ask) (why : Refusal) → IsLegal m H → IsSmall H → IsAskedOf H i d h
+pub standing_refused : (m : ℕ) (H : List Event) (i : ℕ) (d : Vnfd) (h : Holding) (busy : Bool) (ask : Ask) (why : Refusal) → IsLegal m H
+    → IsSmall H → IsAskedOf H i d h
     → busy ≡ is_some (first (ongoing H i)) → content_refusal d ask ≡ None → standing_refusal d h busy ask ≡ Some why → IsRefused H i ask why
 standing_refused m H i d h busy ask why legal small asked goes content refused = (
   d,
-  record { live = asked.live; described = asked.described; judged = judged_over m H i d h busy ask legal small asked goes content ∙ refused },
+  record {
+    live = asked.live;
+    described = asked.described;
+    judged =
+        judged_over m H i d h busy ask legal small asked goes content ∙ refused;
+  },
 )
 
 -- an ask that nothing refuses, with the changes of its plan
-pub accepted : (m : ℕ) (H : List Event) (i : ℕ) (d : Vnfd) (h : Holding) (busy : Bool) (ask : Ask) (xs : List Change) → IsLegal m H → IsSmall H → IsAskedOf H i d h
+pub accepted : (m : ℕ) (H : List Event) (i : ℕ) (d : Vnfd) (h : Holding) (busy : Bool) (ask : Ask) (xs : List Change) → IsLegal m H
+    → IsSmall H → IsAskedOf H i d h
     → busy ≡ is_some (first (ongoing H i)) → content_refusal d ask ≡ None → standing_refusal d h busy ask ≡ None
     → xs ≡ plan (case_of d h ask (target d h.levels ask)) → IsAccepted H i ask xs
 accepted m H i d h busy ask xs legal small asked goes content standing planned = record {
   vnfd = d;
-  accepted = record { live = asked.live; described = asked.described; judged = judged_over m H i d h busy ask legal small asked goes content ∙ standing };
+  accepted = record {
+    live = asked.live;
+    described = asked.described;
+    judged =
+        judged_over m H i d h busy ask legal small asked goes content ∙ standing;
+  };
   planned = planned ∙ planned_same d H i h ask (can_ask m H i d h legal small asked) asked.held;
 }

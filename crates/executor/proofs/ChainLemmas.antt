@@ -27,8 +27,10 @@ stays_on m G H moment w n a b c at from stays =
     }
 
 -- and so do all that were told of
-told_on : (tells : Type 0) (m : ℕ) (H : List Event) (w : Work) (n : Managed) (histories : List (List Event)) (before now : List ℕ) (a b c : SiteState)
-    → (tells → AtSite m H w n b c) → AreWithin H histories → AreTold tells m histories before now a b → AreTold tells m histories before now a c
+told_on : (tells : Type 0) (m : ℕ) (H : List Event) (w : Work) (n : Managed) (histories : List (List Event)) (before now : List ℕ)
+    (a b c : SiteState)
+    → (tells → AtSite m H w n b c) → AreWithin H histories → AreTold tells m histories before now a b
+    → AreTold tells m histories before now a c
 told_on tells m H w n [] before now a b c at within are = are
 told_on tells m H w n (G ∷ earlier) before now a b c at within are = (
   are.0,
@@ -39,7 +41,8 @@ told_on tells m H w n (G ∷ earlier) before now a b c at within are = (
 )
 
 -- what was told of since a state of the site was so since an earlier one
-pub told_since : (tells : Type 0) (m : ℕ) (histories : List (List Event)) (before now : List ℕ) (a b c : SiteState) → (tells → a.moment ≤ b.moment)
+pub told_since : (tells : Type 0) (m : ℕ) (histories : List (List Event)) (before now : List ℕ) (a b c : SiteState)
+    → (tells → a.moment ≤ b.moment)
     → AreTold tells m histories before now b c → AreTold tells m histories before now a c
 told_since tells m [] before now a b c later are = are
 told_since tells m (G ∷ earlier) before now a b c later are = (
@@ -56,12 +59,14 @@ told_since tells m (G ∷ earlier) before now a b c later are = (
 -- one chain behind another
 told_then : (tells : Type 0) (m : ℕ) (later earlier : List (List Event)) (before between now : List ℕ) (a b : SiteState)
     → AreTold tells m earlier before between a b → AreTold tells m later between now a b → AreTold tells m (later ++ earlier) before now a b
-told_then tells m [] earlier before between now a b first second = subst (λ (noted : List ℕ). AreTold tells m earlier before noted a b) (sym second) first
+told_then tells m [] earlier before between now a b first second =
+    subst (λ (noted : List ℕ). AreTold tells m earlier before noted a b) (sym second) first
 told_then tells m (G ∷ later) earlier before between now a b first second =
     (second.0, second.1, second.2, second.3, told_then tells m later earlier before between second.1 a b first second.4)
 
 -- two works in a row have one chain
-pub chains_join : (tells : Type 0) (m : ℕ) (H G : List Event) (w : Work) (n o : Managed) (later earlier : List (List Event)) (before between now : List ℕ) (a b c : SiteState)
+pub chains_join : (tells : Type 0) (m : ℕ) (H G : List Event) (w : Work) (n o : Managed) (later earlier : List (List Event))
+    (before between now : List ℕ) (a b c : SiteState)
     → (tells → AtSite m H (went G) n a b) → AreWithin G earlier → AreTold tells m earlier before between a b
     → (tells → AtSite m G w o b c) → AreTold tells m later between now b c → AreTold tells m (later ++ earlier) before now a c
 chains_join tells m H G w n o later earlier before between now a b c one within first other second =
@@ -69,7 +74,8 @@ chains_join tells m H G w n o later earlier before between now a b c one within 
     (told_since tells m later between now a b c (λ told. (one told).any_moment.later) second)
 
 -- what stands behind work stays from its end on
-pub standing_stays : (m : ℕ) (H : List Event) (w : Work) (n : Managed) (a b : SiteState) → AtSite m H w n a b → StaysSince m (stood w) b.moment a b
+pub standing_stays : (m : ℕ) (H : List Event) (w : Work) (n : Managed) (a b : SiteState) → AtSite m H w n a b
+    → StaysSince m (stood w) b.moment a b
 standing_stays m H w n a b at = record {
   behind = at.any_moment.later;
   before = omega arith;

@@ -1,5 +1,6 @@
 -- What recording an event does, from what the append does.
-use Rattle.std.proofs.Common.{◌≡◌, ◌≤◌, ◌<◌, ◌⊎◌, ◌∙◌, ℕ, List, [], ◌∷◌, ◌++◌, length, length-append, true, false, true≢false, Result, Ok, Err, ap, arith, inl, inr, sym, subst, refl, ⊎_elim}
+use Rattle.std.proofs.Common.{◌≡◌, ◌≤◌, ◌<◌, ◌⊎◌, ◌∙◌, ℕ, List, [], ◌∷◌, ◌++◌, length, length-append, true, false, true≢false, Result, Ok}
+use Rattle.std.proofs.Common.{Err, ap, arith, inl, inr, sym, subst, refl, ⊎_elim}
 use Rattle.std.proofs.lemmas.Bool.{cases_lt, le-leb, lt-leb}
 use Rattle.event_codec.specs.Spell.{spelling}
 use Rattle.event_codec.specs.Valid.{IsEvent}
@@ -29,17 +30,21 @@ use Rattle.site_traits.specs.Site.{KeepsJobs, LeavesOnly, Pair, SiteState}
 use Rattle.site_traits.specs.Moments.{is_since}
 
 -- there is room for the event
-pub room_told : HasRoomBefore → (limit end more : ℕ) (H : List Event) (e : Event) → end ≡ journal_end H → more ≡ length (spelling e) → HasRoom end more limit → is_full limit (e ∷ H) ≡ false
+pub room_told : HasRoomBefore → (limit end more : ℕ) (H : List Event) (e : Event) → end ≡ journal_end H → more ≡ length (spelling e)
+    → HasRoom end more limit → is_full limit (e ∷ H) ≡ false
 unfolding is_full
 room_told before limit end more H e end_is more_is room =
-    let less : journal_end (e ∷ H) < limit = rw (spellings-cons e H) ((before (spellings H) (spelling e) limit).0 (rw (← end_is, ← more_is) room)) in
+    let less : journal_end (e ∷ H) < limit = rw (spellings-cons e H)
+    ((before (spellings H) (spelling e) limit).0 (rw (← end_is, ← more_is) room)) in
     lt-leb limit (journal_end (e ∷ H)) less
 
 -- there is none
-pub full_told : HasRoomBefore → (limit end more : ℕ) (H : List Event) (e : Event) → end ≡ journal_end H → more ≡ length (spelling e) → (HasRoom end more limit → ⊥) → is_full limit (e ∷ H) ≡ true
+pub full_told : HasRoomBefore → (limit end more : ℕ) (H : List Event) (e : Event) → end ≡ journal_end H → more ≡ length (spelling e)
+    → (HasRoom end more limit → ⊥) → is_full limit (e ∷ H) ≡ true
 unfolding is_full
 full_told before limit end more H e end_is more_is none = ⊎_elim
-    (λ (less : journal_end (e ∷ H) < limit). absurd (none (rw (end_is, more_is) ((before (spellings H) (spelling e) limit).1 (rw (spellings-cons e H) at less)))))
+    (λ (less : journal_end (e ∷ H) < limit). absurd (none (rw (end_is, more_is)
+    ((before (spellings H) (spelling e) limit).1 (rw (spellings-cons e H) at less)))))
     (λ (most : limit ≤ journal_end (e ∷ H)). le-leb limit (journal_end (e ∷ H)) most)
     (cases_lt (journal_end (e ∷ H)) limit)
 
@@ -72,14 +77,16 @@ aims H e (Err fault.Memory) = extends_one e H
 aims H e (Err fault.Disk) = extends_refl (e ∷ H)
 
 -- what putting an event that fits the jobs leaves of sound ones
-pub put_sound : (tells : Type 0) (m : ℕ) (H : List Event) (e : Event) (result : Result (Unit {0}) WorkFault) (n : Managed) (a b : SiteState) → tells
+pub put_sound : (tells : Type 0) (m : ℕ) (H : List Event) (e : Event) (result : Result (Unit {0}) WorkFault) (n : Managed) (a b : SiteState)
+    → tells
     → WorksAtFile tells m H (recorded H e result) n a b → KeepsJobs a b → IsAllowed m H e.kind → IsSound m H a.jobs → FitsJobs e.kind a.jobs
     → StaysSound m H (recorded H e result) a b
 put_sound tells m H e result n a b told works alone allowed sound fits =
     kept_sound tells m H (recorded H e result) n a b told works alone
     (λ K from to. ⊎_elim
     (λ (is : K ≡ H). subst (λ (X : List Event). IsSound m X a.jobs) (sym is) sound)
-    (λ (is : K ≡ e ∷ H). subst (λ (X : List Event). IsSound m X a.jobs) (sym is) (sound_more window m H e.moment e.kind a.jobs sound allowed fits))
+    (λ (is : K ≡ e ∷ H). subst (λ (X : List Event). IsSound m X a.jobs) (sym is)
+    (sound_more window m H e.moment e.kind a.jobs sound allowed fits))
     (between_one H K e from (extends_trans K (aimed (recorded H e result)) (e ∷ H) to (aims H e result))))
 
 -- and so putting one that is no Settled is work that leaves the jobs alone, and sound ones sound
@@ -115,7 +122,12 @@ committed tells m n H e a b ready keeps number usable event appended = record {
       let here : (p : Pair) → b.since b.moment p → HasSome m.ledger.manager (e ∷ H) (e ∷ H) p =
       let P : ℕ → Type 0 = λ k. (p : Pair) → b.since b.moment p → HasSome k (e ∷ H) (e ∷ H) p in
       subst P number (some_everywhere n (e ∷ H) b stands) in
-      record { any_moment = commit_moments m H e a b (ready.stands told) event (appended told).any_moment; at_exit = here; stands = λ fine. stands };
+      record {
+        any_moment = commit_moments m H e a b (ready.stands told) event (appended told).any_moment;
+        at_exit = here;
+        stands =
+            λ fine. stands;
+      };
 }
 
 -- the disk failed on the way there
@@ -130,28 +142,40 @@ broken tells m n H e a b ready keeps number shut event allowed left = record {
   grows = record { to_stood = extends_refl H; to_aimed = extends_one e H; legal = (allowed, ready.keeps.kept.legal) };
   site = λ told.
       let run = commit_moments m H e a b (ready.stands told) event (left told) in
-      record { any_moment = run; at_exit = is_since (HasSome m.ledger.manager H (e ∷ H)) a b run; stands = λ fine. absurd (true≢false fine) };
+      record {
+        any_moment = run;
+        at_exit = is_since (HasSome m.ledger.manager H (e ∷ H)) a b run;
+        stands =
+            λ fine. absurd (true≢false fine);
+      };
 }
 
 -- a manager with the same ledger, whose tables stand for the same, is as ready
-pub ready_same : (tells : Type 0) (m n : Managed) (H : List Event) (a : SiteState) → IsReady tells m H a → n.ledger ≡ m.ledger → StandForSame m.tables n.tables → IsReady tells n H a
+pub ready_same : (tells : Type 0) (m n : Managed) (H : List Event) (a : SiteState) → IsReady tells m H a → n.ledger ≡ m.ledger
+    → StandForSame m.tables n.tables → IsReady tells n H a
 ready_same tells m n H a ready same tables =
     let P : Ledger → Type 0 = λ l. l.closed ≡ false in
     let Q : Ledger → Type 0 = λ l. Stands a l in
     record {
       usable = subst P (sym same) ready.usable;
       keeps = keeps_same m n same tables H ready.keeps;
-      stands = λ told. let stands = ready.stands told in record { journal = subst Q (sym same) stands.journal; records = stands.records; events = stands.events };
+      stands = λ told. let stands = ready.stands told in record {
+        journal = subst Q (sym same) stands.journal;
+        records = stands.records;
+        events = stands.events;
+      };
     }
 
 -- nothing was done but that room was reserved
-pub left_alone : (tells : Type 0) (m n : Managed) (H : List Event) (a : SiteState) → IsReady tells m H a → n.ledger ≡ m.ledger → StandForSame m.tables n.tables → Works tells m.ledger.manager H (went H) n a a
+pub left_alone : (tells : Type 0) (m n : Managed) (H : List Event) (a : SiteState) → IsReady tells m H a → n.ledger ≡ m.ledger
+    → StandForSame m.tables n.tables → Works tells m.ledger.manager H (went H) n a a
 left_alone tells m n H a ready same tables =
     let P : Ledger → Type 0 = λ l. Works tells l.manager H (went H) n a a in
     subst P same (idle tells n H a (ready_same tells m n H a ready same tables))
 
 -- the event was refused before the disk was asked for anything
-pub refused : (tells : Type 0) (m : Managed) (H : List Event) (e : Event) (s : SiteState) (r : Result (Unit {0}) WorkFault) (why : WorkFault) → r ≡ Err why → (why ≡ fault.Disk → ⊥)
+pub refused : (tells : Type 0) (m : Managed) (H : List Event) (e : Event) (s : SiteState) (r : Result (Unit {0}) WorkFault)
+    (why : WorkFault) → r ≡ Err why → (why ≡ fault.Disk → ⊥)
     → IsReady tells m H s → Works tells m.ledger.manager H (recorded H e r) m s s
 refused tells m H e s r why is other ready =
     let P : Work → Type 0 = λ w. Works tells m.ledger.manager H w m s s in

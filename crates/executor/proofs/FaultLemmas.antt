@@ -25,12 +25,14 @@ on_err (Ok done) P Q leads on = tt
 on_err (Err why) P Q leads on = leads on
 
 -- an append for which the file has room fails for the disk
-pub disk_failed : (why : AppendFault) (end more : ℕ) → HasRoom end more MAX_FILE → ((a b : ℕ) → why ≡ appending.Full a b → MAX_FILE < end + 6 + more) → why ≡ appending.Disk
+pub disk_failed : (why : AppendFault) (end more : ℕ) → HasRoom end more MAX_FILE
+    → ((a b : ℕ) → why ≡ appending.Full a b → MAX_FILE < end + 6 + more) → why ≡ appending.Disk
 disk_failed (appending.Full a b) end more room over = let past = over a b refl in absurd (omega (arith, past, room))
 disk_failed appending.Disk end more room over = refl
 
 -- reading the next record fails for the disk exactly where opening does
-pub next_failed : {T : Type 0} (r : Result T OpenFault) (q : Result Found LoadFault) (why : LoadFault) (a b : SiteCounts) → r ≡ Err (opened_fault why) → q ≡ Err why
+pub next_failed : {T : Type 0} (r : Result T OpenFault) (q : Result Found LoadFault) (why : LoadFault) (a b : SiteCounts)
+    → r ≡ Err (opened_fault why) → q ≡ Err why
     → FailsWhere (q ≡ Err loading.Disk) a b → FailsWhere (r ≡ Err opening.Disk) a b
 next_failed r q loading.Unmade a b is was fails = record { rose = λ disk. cc; stays = λ other. fails.stays (λ wrong. cc) }
 next_failed r q (loading.Foreign place) a b is was fails = record { rose = λ disk. cc; stays = λ other. fails.stays (λ wrong. cc) }

@@ -1,5 +1,6 @@
 -- A file's records are the spellings of one history, and none of them is bad where that history is legal.
-use Rattle.std.proofs.Common.{◌≡◌, ◌≤◌, ◌<◌, ℕ, List, [], ◌∷◌, ◌++◌, length, reverse, ◌⊎◌, ap, ◌∙◌, sym, subst, refl, arith, inl, inr, ⊎_elim, length-append, append_assoc}
+use Rattle.std.proofs.Common.{◌≡◌, ◌≤◌, ◌<◌, ℕ, List, [], ◌∷◌, ◌++◌, length, reverse, ◌⊎◌, ap, ◌∙◌, sym, subst, refl, arith, inl, inr}
+use Rattle.std.proofs.Common.{⊎_elim, length-append, append_assoc}
 use Rattle.std.specs.List.{AllByRecursion}
 use Rattle.std.proofs.lemmas.Bool.{cases_lt}
 use Rattle.std.proofs.lemmas.List.{length-map, length-reverse, same_from_push}
@@ -28,7 +29,8 @@ last_of {X} (x ∷ xs) = ⊎_elim
     (last_of xs)
 
 -- what stands at one place of a list stands there in each longer front of it
-front_of : {X : Type 0} (xs ys : List X) (x y : X) (rest more : List X) → xs ++ x ∷ rest ≡ ys ++ y ∷ more → length xs < length ys → (between : List X) × (ys ≡ xs ++ x ∷ between)
+front_of : {X : Type 0} (xs ys : List X) (x y : X) (rest more : List X) → xs ++ x ∷ rest ≡ ys ++ y ∷ more → length xs < length ys
+    → (between : List X) × (ys ≡ xs ++ x ∷ between)
 front_of [] [] x y rest more same less = let no : ⊥ = omega (arith, less) in absurd no
 front_of {X = X} [] (z ∷ ys) x y rest more same less = let first : x ≡ z = cc in (ys, ap (λ (t : X). t ∷ ys) (sym first))
 front_of (w ∷ xs) [] x y rest more same less = let no : ⊥ = omega (arith, less) in absurd no
@@ -42,31 +44,36 @@ spellings-length : (H : List Event) → length (spellings H) ≡ length H
 spellings-length H = length-map (reverse H) spelling ∙ length-reverse H
 
 -- what is known of spellings and of files
-module _ (one_spelling : NoSpellingBeginsAnother) (once : IsWholeOnce) (its : ReadsItsRecords) (unbroken : IsWholeOrBroken) (breaks : BreaksOnce) (headed : IsHeadedOnce) where
+module _ (one_spelling : NoSpellingBeginsAnother) (once : IsWholeOnce) (its : ReadsItsRecords) (unbroken : IsWholeOrBroken)
+    (breaks : BreaksOnce) (headed : IsHeadedOnce) where
   -- one history's spellings are no other's
   pub spellings-inj : (H G : List Event) → AllByRecursion IsEvent H → AllByRecursion IsEvent G → spellings H ≡ spellings G → H ≡ G
   spellings-inj [] [] is also same = refl
   spellings-inj [] (g ∷ G) is also same = absurd (never_empty (spellings G) (spelling g) [] (same ∙ spellings-cons g G))
   spellings-inj (h ∷ H) [] is also same = absurd (never_empty (spellings H) (spelling h) [] (sym same ∙ spellings-cons h H))
   spellings-inj (h ∷ H) (g ∷ G) is also same =
-      let parts = same_from_push (spellings H) (spellings G) (spelling h) (spelling g) (sym (spellings-cons h H) ∙ same ∙ spellings-cons g G) in
+      let parts = same_from_push (spellings H) (spellings G) (spelling h) (spelling g)
+      (sym (spellings-cons h H) ∙ same ∙ spellings-cons g G) in
       let first : h ≡ g = same_event one_spelling h g (spelling h) is.0 also.0 refl parts.1 in
       let rest : H ≡ G = spellings-inj H G is.1 also.1 parts.0 in
       ap (λ (e : Event). e ∷ H) first ∙ ap (λ (F : List Event). g ∷ F) rest
 
   -- where each event was allowed after those before it, no record is one that wasn't
-  no_bad : (m : ℕ) (H before : List Event) (bytes : List ℕ) (rest : List (List ℕ)) → AllByRecursion IsEvent H → AllByRecursion IsEvent before → IsLegal m H
+  no_bad : (m : ℕ) (H before : List Event) (bytes : List ℕ) (rest : List (List ℕ)) → AllByRecursion IsEvent H
+      → AllByRecursion IsEvent before → IsLegal m H
       → spellings H ≡ spellings before ++ bytes ∷ rest → ((e : Event) → IsEvent e → bytes ≡ spelling e → IsAllowed m before e.kind → ⊥) → ⊥
   no_bad m [] before bytes rest is also legal same none = never_empty (spellings before) bytes rest same
   no_bad m (h ∷ H) before bytes rest is also legal same none = ⊎_elim
       (λ (empty : rest ≡ []).
-      let parts = same_from_push (spellings H) (spellings before) (spelling h) bytes (sym (spellings-cons h H) ∙ same ∙ ap (λ (t : List (List ℕ)). spellings before ++ bytes ∷ t) empty) in
+      let parts = same_from_push (spellings H) (spellings before) (spelling h) bytes
+      (sym (spellings-cons h H) ∙ same ∙ ap (λ (t : List (List ℕ)). spellings before ++ bytes ∷ t) empty) in
       let past : H ≡ before = spellings-inj H before is.1 also parts.0 in
       let P : List Event → Type 0 = λ G. IsAllowed m G h.kind in
       none h is.0 (sym parts.1) (subst P past legal.0))
       (λ (some : (front : List (List ℕ)) × (last : List ℕ) × (rest ≡ front ++ last ∷ [])).
       let parts = same_from_push (spellings H) (spellings before ++ bytes ∷ some.0) (spelling h) some.1
-      (sym (spellings-cons h H) ∙ same ∙ ap (λ (t : List (List ℕ)). spellings before ++ bytes ∷ t) some.2 ∙ sym (append_assoc (spellings before) (bytes ∷ some.0) (some.1 ∷ []))) in
+      (sym (spellings-cons h H) ∙ same ∙ ap (λ (t : List (List ℕ)). spellings before ++ bytes ∷ t) some.2
+      ∙ sym (append_assoc (spellings before) (bytes ∷ some.0) (some.1 ∷ []))) in
       no_bad m H before bytes some.0 is.1 also legal.1 parts.0 none)
       (last_of rest)
 
@@ -78,7 +85,8 @@ module _ (one_spelling : NoSpellingBeginsAnother) (once : IsWholeOnce) (its : Re
 
   late_bad : (m n : ℕ) (H : List Event) (image : List ℕ) → HasHistory m H image → IsLegal m H → IsBadAt m n (records image) → ⊥
   late_bad m n H image has legal found =
-      no_bad m H found.before found.bytes found.rest has.events found.events legal (sym (its m (spellings H) image has.file) ∙ found.is) found.none
+      no_bad m H found.before found.bytes found.rest has.events found.events legal
+      (sym (its m (spellings H) image has.file) ∙ found.is) found.none
 
   -- where a file's history is legal, none of its records is bad
   pub no_bad_record : HasNoBadRecord
@@ -91,7 +99,8 @@ module _ (one_spelling : NoSpellingBeginsAnother) (once : IsWholeOnce) (its : Re
       bad.2
 
   -- a bad record isn't among those that were allowed before another
-  no_earlier : (m n k : ℕ) (rs : List (List ℕ)) → (one : IsBadAt m n rs) → (other : IsBadAt m k rs) → length one.before < length other.before → ⊥
+  no_earlier : (m n k : ℕ) (rs : List (List ℕ)) → (one : IsBadAt m n rs) → (other : IsBadAt m k rs)
+      → length one.before < length other.before → ⊥
   no_earlier m n k rs one other less =
       let found = front_of (spellings one.before) (spellings other.before) one.bytes other.bytes one.rest other.rest (sym one.is ∙ other.is)
       (omega (arith, less, spellings-length one.before, spellings-length other.before)) in
@@ -111,7 +120,8 @@ module _ (one_spelling : NoSpellingBeginsAnother) (once : IsWholeOnce) (its : Re
   one_bad_record n k image one other = ⊎_elim
       (λ (broken : IsBrokenAt one.0 n image). ⊎_elim
       (λ (also : IsBrokenAt other.0 k image). breaks one.0 other.0 n k image broken also)
-      (λ (late : HasRecords other.0 (records image) image × IsBadAt other.0 k (records image)). absurd (unbroken other.0 one.0 n (records image) image late.0 broken))
+      (λ (late : HasRecords other.0 (records image) image × IsBadAt other.0 k (records image)). absurd
+      (unbroken other.0 one.0 n (records image) image late.0 broken))
       other.2)
       (λ (late : HasRecords one.0 (records image) image × IsBadAt one.0 n (records image)). ⊎_elim
       (λ (broken : IsBrokenAt other.0 k image). absurd (unbroken one.0 other.0 k (records image) image late.0 broken))

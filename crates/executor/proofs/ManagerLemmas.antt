@@ -1,5 +1,6 @@
 -- What a load and a commit do, from what the journal's calls do.
-use Rattle.std.proofs.Common.{◌≡◌, ◌≤◌, ◌<◌, ◌+◌, ℕ, List, [], ◌∷◌, ◌++◌, length, true, false, Ok, Err, Result, true≢false, ap, ◌∙◌, sym, subst, refl, inl, inr, arith, Option, Some, None, ⊎_elim}
+use Rattle.std.proofs.Common.{◌≡◌, ◌≤◌, ◌<◌, ◌+◌, ℕ, List, [], ◌∷◌, ◌++◌, length, true, false, Ok, Err, Result, true≢false, ap, ◌∙◌, sym}
+use Rattle.std.proofs.Common.{subst, refl, inl, inr, arith, Option, Some, None, ⊎_elim}
 use Rattle.std.specs.Result.{IsErrAnd}
 use Rattle.event_codec.specs.Spell.{spelling}
 use Rattle.event_codec.specs.Valid.{IsEvent}
@@ -39,7 +40,8 @@ unfolding spelling
 spelling-some e = omega arith
 
 -- a kept history, and the next event
-pub kept_more : AddsUp → (l k : Ledger) (H : List Event) (e : Event) → IsKept l H → l.closed ≡ false → k.manager ≡ l.manager → k.count ≡ l.count + 1
+pub kept_more : AddsUp → (l k : Ledger) (H : List Event) (e : Event) → IsKept l H → l.closed ≡ false → k.manager ≡ l.manager
+    → k.count ≡ l.count + 1
     → Adds (spelling e) l.end k.end → IsEvent e → IsAllowed l.manager H e.kind → IsKept k (e ∷ H)
 kept_more up l k H e kept usable manager count end event allowed = record {
   legal = let P : ℕ → Type 0 = λ m. IsLegal m (e ∷ H) in subst P (sym manager) (allowed, kept.legal);
@@ -66,7 +68,8 @@ leaves_event m H e a p stands event left =
 pub commit_moments : (m : Managed) (H : List Event) (e : Event) (a b : SiteState) → StandsFor m H a → IsEvent e
     → LeavesOnly (journal.HasOrAdds m.ledger.manager (spelling e) a) a b → LeavesOnly (HasSome m.ledger.manager H (e ∷ H)) a b
 commit_moments m H e a b stands event run =
-    weakened (HasSome m.ledger.manager H (e ∷ H)) (journal.HasOrAdds m.ledger.manager (spelling e) a) a b run (λ p left. leaves_event m H e a p stands event left)
+    weakened (HasSome m.ledger.manager H (e ∷ H)) (journal.HasOrAdds m.ledger.manager (spelling e) a) a b run
+    (λ p left. leaves_event m H e a p stands event left)
 
 pub commit_stands : (m n : Managed) (H : List Event) (e : Event) (a b : SiteState) → IsEvent e → StandsFor m H a → Stands b n.ledger
     → records b.image ≡ records a.image ++ spelling e ∷ [] → StandsFor n (e ∷ H) b
@@ -96,13 +99,17 @@ opened tells j l s through none =
       through.history,
       record {
         usable = refl;
-        keeps = record { kept = record { legal = is.legal; events = is.events; count = λ _. is.count none; end = λ _. is.end none }; tables = is.tables };
+        keeps = record {
+          kept = record { legal = is.legal; events = is.events; count = λ _. is.count none; end = λ _. is.end none };
+          tables = is.tables;
+        };
         stands = stands;
       },
     )
 
 -- one of them is bad
-pub bad_found : (tells : Type 0) (j : Judged) (l : Progress) (s : SiteState) (n : ℕ) → IsThrough tells j l s → j.bad ≡ Some n → tells → IsBadRecord n s.image
+pub bad_found : (tells : Type 0) (j : Judged) (l : Progress) (s : SiteState) (n : ℕ) → IsThrough tells j l s → j.bad ≡ Some n → tells
+    → IsBadRecord n s.image
 bad_found tells j l s n through bad told =
     let all = through.all told in
     let P : Option ℕ → Type 0 = λ b. AreJudged l.manager through.history b all.rs in
@@ -110,7 +117,8 @@ bad_found tells j l s n through bad told =
     (l.manager, all.loads.loads.header, inr (all.loads.stands.file, subst Q (sym all.loads.records) (subst P bad all.judged)))
 
 -- the file has a header
-pub header_found : (tells : Type 0) (j : Judged) (l : Progress) (s : SiteState) → IsThrough tells j l s → tells → (m : ℕ) × HasHeader m s.image
+pub header_found : (tells : Type 0) (j : Judged) (l : Progress) (s : SiteState) → IsThrough tells j l s → tells
+    → (m : ℕ) × HasHeader m s.image
 header_found tells j l s through told = let all = through.all told in (l.manager, all.loads.loads.header)
 
 -- a journal that wasn't opened for this cause
@@ -136,14 +144,21 @@ keeps_same m n same tables H keeps =
     record { kept = subst P (sym same) keeps.kept; tables = subst Q (sym same) (tables m.ledger.manager H keeps.tables) }
 
 -- and by one of the same manager that is closed
-pub keeps_closed : (m n : Managed) → n.ledger.manager ≡ m.ledger.manager → n.ledger.closed ≡ true → StandForSame m.tables n.tables → KeepsOn m n
+pub keeps_closed : (m n : Managed) → n.ledger.manager ≡ m.ledger.manager → n.ledger.closed ≡ true → StandForSame m.tables n.tables
+    → KeepsOn m n
 keeps_closed m n number closed tables H keeps =
     let Q : ℕ → Type 0 = λ k. AreTablesOf k n.tables H in
-    record { kept = kept_closed m.ledger n.ledger H keeps.kept number closed; tables = subst Q (sym number) (tables m.ledger.manager H keeps.tables) }
+    record {
+      kept = kept_closed m.ledger n.ledger H keeps.kept number closed;
+      tables =
+          subst Q (sym number) (tables m.ledger.manager H keeps.tables);
+    }
 
 -- and the history with an event more that was recorded, by one whose tables followed the event from room that was reserved
-pub keeps_more : AddsUp → (m n : Managed) (between : Tables) (H : List Event) (e : Event) → Keeps m H → m.ledger.closed ≡ false → n.ledger.manager ≡ m.ledger.manager
-    → n.ledger.count ≡ m.ledger.count + 1 → Adds (spelling e) m.ledger.end n.ledger.end → IsEvent e → IsAllowed m.ledger.manager H e.kind → StandForSame m.tables between
+pub keeps_more : AddsUp → (m n : Managed) (between : Tables) (H : List Event) (e : Event) → Keeps m H → m.ledger.closed ≡ false
+    → n.ledger.manager ≡ m.ledger.manager
+    → n.ledger.count ≡ m.ledger.count + 1 → Adds (spelling e) m.ledger.end n.ledger.end → IsEvent e → IsAllowed m.ledger.manager H e.kind
+    → StandForSame m.tables between
     → Applies e between n.tables → length H < 4611686018427387903 → Keeps n (e ∷ H)
 keeps_more up m n between H e keeps usable number count end event allowed same applies few =
     let Q : ℕ → Type 0 = λ k. AreTablesOf k n.tables (e ∷ H) in

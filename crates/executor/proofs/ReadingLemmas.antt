@@ -1,5 +1,6 @@
 -- What is read back is the history's event.
-use Rattle.std.proofs.Common.{◌≡◌, ◌≤◌, ◌<◌, ◌-◌, ◌++◌, ◌∙◌, ℕ, zero, suc, List, [], ◌∷◌, Option, Some, Ok, Err, Result, length, map, reverse, slice_get, get_or, refl, ap, sym, subst, arith, false}
+use Rattle.std.proofs.Common.{◌≡◌, ◌≤◌, ◌<◌, ◌-◌, ◌++◌, ◌∙◌, ℕ, zero, suc, List, [], ◌∷◌, Option, Some, Ok, Err, Result, length, map}
+use Rattle.std.proofs.Common.{reverse, slice_get, get_or, refl, ap, sym, subst, arith, false}
 use Rattle.std.specs.List.{AllByRecursion}
 use Rattle.std.specs.Result.{IfOk}
 use Rattle.std.proofs.lemmas.List.{length-reverse}
@@ -45,7 +46,8 @@ pub record HasEvent (H : List Event) (n : ℕ) (bytes : List ℕ) : Type 0 where
   pub rules : IsEvent event
   pub spelled : bytes ≡ spelling event
 
-pub has_event : (m : Managed) (H : List Event) (s : SiteState) (n : ℕ) (bytes : List ℕ) → 1 ≤ n → n ≤ m.ledger.count → m.ledger.count ≡ length H → StandsFor m H s
+pub has_event : (m : Managed) (H : List Event) (s : SiteState) (n : ℕ) (bytes : List ℕ) → 1 ≤ n → n ≤ m.ledger.count
+    → m.ledger.count ≡ length H → StandsFor m H s
     → bytes ≡ get_or (records s.image) (n - 1) [] → HasEvent H n bytes
 has_event m H s n bytes some within count stands is =
     let found = there (reverse H) (n - 1) (omega (arith, some, within, count, length-reverse H)) (all_reversed H stands.events) in
@@ -71,7 +73,8 @@ keeps_read m n usable same tables H keeps =
     }
 
 -- and is ready as it was, where it stands for the file
-pub ready_read : (tells : Type 0) (m n : Managed) (H : List Event) (a b : SiteState) → IsReady tells m H a → KeepsRecords m.ledger n.ledger → n.tables ≡ m.tables
+pub ready_read : (tells : Type 0) (m n : Managed) (H : List Event) (a b : SiteState) → IsReady tells m H a → KeepsRecords m.ledger n.ledger
+    → n.tables ≡ m.tables
     → n.ledger.closed ≡ false → (tells → Reads a b) → (tells → Stands b n.ledger) → IsReady tells n H b
 ready_read tells m n H a b ready same tables usable reads stands = record {
   usable = usable;

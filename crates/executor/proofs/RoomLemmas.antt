@@ -19,11 +19,26 @@ use Rattle.occ_table.specs.Table as occurrences
 laid_none : (k : EventKind) (T : Tables) → T.notice ≡ None → ((H : List Event) → facts_of H k ≡ None) → IsNoticeLaid k T
 laid_none k T none silent m H legal tables few allowed = record { facts = rw none (sym (silent H)); manager = rw none tt }
 
-quiet : (time : ℕ) (k : EventKind) (T : Tables) → T.notice ≡ None → needs_no_memory k ≡ true → HasRoom (record { moment = time; kind = k }) T
+quiet : (time : ℕ) (k : EventKind) (T : Tables) → T.notice ≡ None → needs_no_memory k ≡ true
+    → HasRoom (record { moment = time; kind = k }) T
 quiet time (Intent t) T none free =
-    record { instances = tt; occurrences = tt; notices = record { notice = rw none tt; queue = tt }; identified = rw none tt; laid = laid_none (Intent t) T none (λ H. refl) }
+    record {
+      instances = tt;
+      occurrences = tt;
+      notices = record { notice = rw none tt; queue = tt };
+      identified = rw none tt;
+      laid =
+          laid_none (Intent t) T none (λ H. refl);
+    }
 quiet time (CallFailed t) T none free =
-    record { instances = tt; occurrences = tt; notices = record { notice = rw none tt; queue = tt }; identified = rw none tt; laid = laid_none (CallFailed t) T none (λ H. refl) }
+    record {
+      instances = tt;
+      occurrences = tt;
+      notices = record { notice = rw none tt; queue = tt };
+      identified = rw none tt;
+      laid =
+          laid_none (CallFailed t) T none (λ H. refl);
+    }
 quiet time (Settled t out) T none free = record {
   instances = rows out free;
   occurrences = names out free;
@@ -49,22 +64,26 @@ no_facts f None is = refl
 no_facts f (Some x) is = cc
 
 -- where room was reserved for the begin of an attempt that may begin, no notice is laid aside: that event makes none
-pub laid_quiet : (m : Managed) (H : List Event) (time : ℕ) (t : Tag) → Keeps m H → length H < 4611686018427387903 → IsAllowed m.ledger.manager H (Intent t)
+pub laid_quiet : (m : Managed) (H : List Event) (time : ℕ) (t : Tag) → Keeps m H → length H < 4611686018427387903
+    → IsAllowed m.ledger.manager H (Intent t)
     → HasRoom (record { moment = time; kind = Intent t }) m.tables → HasNoNotice m
 laid_quiet m H time t keeps few allowed room =
     no_facts _ m.tables.notice (room.laid m.ledger.manager H keeps.kept.legal keeps.tables few allowed).facts
 
-end_rows : (t : Tag) (name : List ℕ) (out : Outcome) (T : Tables) → instances.HasRoom (Settled t (Done name)) T.instances.rows T.instances.reserved
+end_rows : (t : Tag) (name : List ℕ) (out : Outcome) (T : Tables)
+    → instances.HasRoom (Settled t (Done name)) T.instances.rows T.instances.reserved
     → instances.HasRoom (Settled t out) T.instances.rows T.instances.reserved
 end_rows t name (Done other) T room = room
 end_rows t name _ T room = tt
 
-end_names : (name : List ℕ) (out : Outcome) (T : Tables) → occurrences.HasNames (Done name) T.occurrences.reserved → occurrences.HasNames out T.occurrences.reserved
+end_names : (name : List ℕ) (out : Outcome) (T : Tables) → occurrences.HasNames (Done name) T.occurrences.reserved
+    → occurrences.HasNames out T.occurrences.reserved
 end_names name (Done other) T room = room
 end_names name _ T room = tt
 
 -- where there is room for an attempt to end as done, there is room for it to end in any way, at any moment
-pub end_room : (T : Tables) (now later : ℕ) (t : Tag) (name : List ℕ) (out : Outcome) → HasRoom (record { moment = now; kind = Settled t (Done name) }) T
+pub end_room : (T : Tables) (now later : ℕ) (t : Tag) (name : List ℕ) (out : Outcome)
+    → HasRoom (record { moment = now; kind = Settled t (Done name) }) T
     → HasRoom (record { moment = later; kind = Settled t out }) T
 end_room T now later t name out room = record {
   instances = end_rows t name out T room.instances;

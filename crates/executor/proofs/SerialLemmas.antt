@@ -1,5 +1,6 @@
 -- A history whose spellings fit a file has small numbers: each change that was asked for takes eleven bytes, and each event one.
-use Rattle.std.proofs.Common.{◌≡◌, ◌<◌, ◌≤◌, ◌+◌, ◌*◌, ℕ, List, [], ◌∷◌, ◌++◌, Option, Some, None, length, flat_map, refl, arith, length-append}
+use Rattle.std.proofs.Common.{◌≡◌, ◌<◌, ◌≤◌, ◌+◌, ◌*◌, ℕ, List, [], ◌∷◌, ◌++◌, Option, Some, None, length, flat_map, refl, arith}
+use Rattle.std.proofs.Common.{length-append}
 use Rattle.std.specs.List.{filter_map}
 use Rattle.event_codec.specs.Numbers as number
 use Rattle.event_codec.specs.Spell as spell
@@ -61,7 +62,8 @@ asked_long t a =
     (behind (spell.u64 a.instance) _ (11 * length a.changes)
     (behind (spell.u8 (number.role a.role)) _ (11 * length a.changes)
     (behind (spell.ask a.ask) (spell.many spell.change a.changes) (11 * length a.changes) list))) in
-    let fields : 11 * length a.changes ≤ length (spell.u64 t ++ spell.operation a) = behind (spell.u64 t) (spell.operation a) (11 * length a.changes) all in
+    let fields : 11 * length a.changes ≤ length (spell.u64 t ++ spell.operation a) =
+    behind (spell.u64 t) (spell.operation a) (11 * length a.changes) all in
     omega (arith, fields)
 
 changes_step : (H : List Event) (t n : ℕ) (k : EventKind) → 11 * changes_asked H ≤ n

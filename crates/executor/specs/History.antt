@@ -1,5 +1,5 @@
--- What a journal's file says happened (own rule, docs/JOURNAL.md). A history has the latest event first; the file has the
--- oldest first.
+-- What a journal's file says happened (own rule, docs/JOURNAL.md). A history has the latest event first; the file has
+-- the oldest first.
 use Rattle.std.specs.Prelude.{ℕ, List, map, reverse}
 use Rattle.std.specs.List.{AllByRecursion}
 use Rattle.event_codec.specs.Spell.{spelling}

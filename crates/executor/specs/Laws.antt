@@ -12,7 +12,8 @@ HasOneHistory = (m n : ℕ) (H G : List Event) (image : List ℕ) → m < 429496
 
 -- where a file's history is legal, none of its records is bad
 abbrev pub HasNoBadRecord : Type 0
-HasNoBadRecord = (m n : ℕ) (H : List Event) (image : List ℕ) → m < 4294967296 → HasHistory m H image → IsLegal m H → IsBadRecord n image → ⊥
+HasNoBadRecord = (m n : ℕ) (H : List Event) (image : List ℕ) → m < 4294967296 → HasHistory m H image → IsLegal m H
+    → IsBadRecord n image → ⊥
 
 -- a file has one bad record at most
 abbrev pub HasOneBadRecord : Type 0

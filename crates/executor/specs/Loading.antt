@@ -28,11 +28,13 @@ pub record IsNext (m : ℕ) (H : List Event) (bytes : List ℕ) (e : Event) : Ty
 abbrev pub HasNoNext : ℕ → List Event → List ℕ → Type 0
 HasNoNext m H bytes = (e : Event) → IsNext m H bytes e → ⊥
 
--- The record is judged after each small legal history whose tables the old ones are: it is the next event, and the new tables are those of the
--- history with it; or it is none, and they are those of the history still.
+-- The record is judged after each small legal history whose tables the old ones are: it is the next event, and the new
+-- tables are those of the history with it; or it is none, and they are those of the history still.
 abbrev pub Judges : List ℕ → Bool → Tables → Tables → Type 0
-Judges bytes true old new = (m : ℕ) (H : List Event) → IsSmall H → IsLegal m H → AreTablesOf m old H → (e : Event) × IsNext m H bytes e × AreTablesOf m new (e ∷ H)
-Judges bytes false old new = (m : ℕ) (H : List Event) → IsSmall H → IsLegal m H → AreTablesOf m old H → HasNoNext m H bytes × AreTablesOf m new H
+Judges bytes true old new = (m : ℕ) (H : List Event) → IsSmall H → IsLegal m H → AreTablesOf m old H
+    → (e : Event) × IsNext m H bytes e × AreTablesOf m new (e ∷ H)
+Judges bytes false old new = (m : ℕ) (H : List Event) → IsSmall H → IsLegal m H → AreTablesOf m old H
+    → HasNoNext m H bytes × AreTablesOf m new H
 
 -- the records read so far are the spellings of the history, or record n of them is the first bad one
 abbrev pub AreJudged : ℕ → List Event → Option ℕ → List (List ℕ) → Type 0
@@ -90,8 +92,9 @@ pub record JudgesAll (result : Result Judged OpenFault) (l : Progress) (a b : Si
   pub finds : Finds result l b
   pub reads : Reads a b
 
--- One record more is judged, which is record n, after each legal history whose tables the old ones are, and which is small where no record
--- was bad. Behind a bad one nothing is judged.
+-- One record more is judged, which is record n, after each legal history whose tables the old ones are, and which is
+-- small where no record was bad. Behind a bad one nothing is judged.
 abbrev pub JudgesNext : ℕ → List ℕ → Judged → Judged → Type 0
-JudgesNext n bytes old new = (m : ℕ) (H : List Event) → (old.bad ≡ None → IsSmall H) → IsLegal m H → AreTablesOf m old.tables H
+JudgesNext n bytes old new = (m : ℕ) (H : List Event) → (old.bad ≡ None → IsSmall H) → IsLegal m H
+    → AreTablesOf m old.tables H
     → (H' : List Event) × StepsFrom m n bytes old.bad H new.bad H' × AreTablesOf m new.tables H'

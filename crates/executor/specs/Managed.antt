@@ -76,14 +76,16 @@ pub record MayPut (m : ℕ) (H : List Event) (e : Event) : Type 0 where
 abbrev pub HasNoNotice : Managed → Type 0
 HasNoNotice m = m.tables.notice ≡ None
 
--- the tables follow the event without memory, and it makes no notice: an attempt begins, a call failed, or an attempt ends that wasn't done
+-- the tables follow the event without memory, and it makes no notice: an attempt begins, a call failed, or an attempt
+-- ends that wasn't done
 abbrev pub needs_no_memory : EventKind → Bool
 needs_no_memory (Intent tag) = true
 needs_no_memory (CallFailed tag) = true
 needs_no_memory (Settled tag outcome) = not (is_done outcome)
 needs_no_memory _ = false
 
--- the event may be recorded behind this history of manager m: it keeps the format's rules, is allowed there, and is no Settled
+-- the event may be recorded behind this history of manager m: it keeps the format's rules, is allowed there, and is no
+-- Settled
 pub record MayRecord (m : ℕ) (H : List Event) (e : Event) : Type 0 where
   pub rules : TypedEvent e → IsEvent e
   pub allowed : IsAllowed m H e.kind

@@ -28,7 +28,8 @@ pub record IsBadAt (m n : ℕ) (rs : List (List ℕ)) : Type 0 where
 -- record n is bad: the file is broken there, or is broken nowhere and that record is the first bad one
 abbrev pub IsBadRecord : ℕ → List ℕ → Type 0
 IsBadRecord n image =
-    (m : ℕ) × HasHeader m image × (IsBrokenAt m n image ⊎ (HasRecords m (records image) image × IsBadAt m n (records image)))
+    (m : ℕ) × HasHeader m image × (IsBrokenAt m n image ⊎ (HasRecords m (records image) image
+    × IsBadAt m n (records image)))
 
 -- why a journal wasn't opened, by the file's bytes
 abbrev pub Refuses : OpenFault → List ℕ → Type 0

@@ -1,4 +1,5 @@
--- What asking an instance for an operation comes to: the changes of its plan, or why it is refused (SOL 003 5.4.4 to 5.4.10).
+-- What asking an instance for an operation comes to: the changes of its plan, or why it is refused (SOL 003 5.4.4 to
+-- 5.4.10).
 use Rattle.std.specs.Prelude.{List, None, Option, Some, Result, Ok, Err, true, ℕ, ◌≡◌}
 use Rattle.instance_table.specs.Rows.{instance}
 use Rattle.instance_table.specs.declared.rows.InstanceRow.{InstanceRow}

@@ -1,5 +1,5 @@
--- How many were made of each kind that is numbered (SOL 003 5.4.2, VNF instances; 5.4.12, VNF LCM operation occurrences;
--- 5.4.18, Subscriptions).
+-- How many were made of each kind that is numbered (SOL 003 5.4.2, VNF instances; 5.4.12, VNF LCM operation
+-- occurrences; 5.4.18, Subscriptions).
 use Rattle.std.specs.Prelude.{Bool, List, false, true, ℕ}
 use Rattle.lcm_events.specs.declared.events.Event.{Event}
 use Rattle.lcm_model.specs.Lives.{instances_made, subscriptions_made}

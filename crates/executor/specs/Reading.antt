@@ -15,7 +15,8 @@ event_in H n = slice_get (reverse H) (n - 1)
 abbrev pub IsNoSpelling : List ℕ → Type 0
 IsNoSpelling bytes = (e : Event) → IsEvent e → bytes ≡ spelling e → ⊥
 
--- Reading event n back makes only reads and leaves the jobs, and gives the history's event. The file has it, so it isn't missed.
+-- Reading event n back makes only reads and leaves the jobs, and gives the history's event. The file has it, so it
+-- isn't missed.
 pub record ReadsEvent (H : List Event) (n : ℕ) (result : Result Event ReadFault) (a b : SiteState) : Type 0 where
   pub event : IfOk result (λ e. event_in H n ≡ Some e)
   pub whole : (k : ℕ) → result ≡ Err (fault.BadRecord k) → ⊥

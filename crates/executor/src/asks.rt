@@ -48,7 +48,8 @@ pub fn plan_of(
     ask: &Ask,
 ) -> Result<Changes, AskFault>
     requires own { (s : HasSmallHistory tables.now) × (instance s.history row.now.number ≡ Some row.now) }
-    ensures { (m : ℕ) (H : List Event) → IsSmall H → IsLegal m H → AreTablesOf m tables.now H → instance H row.now.number ≡ Some row.now
+    ensures { (m : ℕ) (H : List Event) → IsSmall H → IsLegal m H → AreTablesOf m tables.now H
+        → instance H row.now.number ≡ Some row.now
         → TellsAsk H row.now.number ask.now result }
 {
     rows_have_holdings();
@@ -69,7 +70,8 @@ fn plan_over(
 ) -> Result<Changes, AskFault>
     requires valid { IsValid vnfd.now }
     requires held { IsHoldingOf vnfd.now row.now.holding }
-    ensures { (m : ℕ) (H : List Event) → IsSmall H → IsLegal m H → AreTablesOf m tables.now H → IsAskedOf H row.now.number vnfd.now row.now.holding
+    ensures { (m : ℕ) (H : List Event) → IsSmall H → IsLegal m H → AreTablesOf m tables.now H
+        → IsAskedOf H row.now.number vnfd.now row.now.holding
         → TellsAsk H row.now.number ask.now result }
 {
     let busy = is_busy(tables, row.number);

@@ -2,7 +2,8 @@
 ghost use Rattle.executor.specs.Chain.{ChainsJoin, StandingStays};
 ghost use Rattle.executor.specs.Laws.{HasNoBadRecord, HasOneBadRecord, HasOneHistory};
 ghost use Rattle.site_traits.specs.Site.{KeepsJobs};
-ghost use Rattle.executor.specs.Work.{Follows, Idles, Joins, LeadsOn, LeavesJobs, Stays, WorksAreWithJobs, WorksWithJobsJoin, WorksWithJobsLeadOn};
+ghost use Rattle.executor.specs.Work.{Follows, Idles, Joins, LeadsOn, LeavesJobs, Stays, WorksAreWithJobs};
+ghost use Rattle.executor.specs.Work.{WorksWithJobsJoin, WorksWithJobsLeadOn};
 
 use event_codec::no_spelling_begins_another;
 use journal_core::files_are_one_thing;
@@ -39,9 +40,9 @@ pub fn a_bad_record_is_the_only_one()
     files_are_one_thing();
 }
 
-/// How works add up: those in a row are one, and whatever came of the last of them came of them all; nothing is a work; behind one in
-/// which the disk didn't fail the manager is ready for more; what it stands for is in the file, whatever a stop leaves; and the jobs are
-/// left alone by an opening, by work behind it, and where nothing is done.
+/// How works add up: those in a row are one, and whatever came of the last of them came of them all; nothing is a work;
+/// behind one in which the disk didn't fail the manager is ready for more; what it stands for is in the file, whatever
+/// a stop leaves; and the jobs are left alone by an opening, by work behind it, and where nothing is done.
 ///
 /// Source: own rule.
 pub fn works_add_up<S: Site>()
@@ -53,9 +54,10 @@ pub fn works_add_up<S: Site>()
     ensures idle_jobs { (s : S) → KeepsJobs (S.state s) (S.state s) }
 {}
 
-/// How works add up in which jobs may have been begun, looked at or aborted: those in a row are one, and whatever came of the last of
-/// them came of them all; work that leaves the jobs alone is such work; behind one in which the disk didn't fail the manager is ready for
-/// more; and it follows the opening of a journal. From sound jobs on, each pair that a stop leaves has sound ones.
+/// How works add up in which jobs may have been begun, looked at or aborted: those in a row are one, and whatever came
+/// of the last of them came of them all; work that leaves the jobs alone is such work; behind one in which the disk
+/// didn't fail the manager is ready for more; and it follows the opening of a journal. From sound jobs on, each pair
+/// that a stop leaves has sound ones.
 ///
 /// Source: own rule.
 pub fn works_with_jobs_add_up<S: Site>()
@@ -67,8 +69,8 @@ pub fn works_with_jobs_add_up<S: Site>()
     jobs_may_end();
 }
 
-/// What was told of stays: at each moment since a stop leaves the history that it tells of, or more, through all work behind it. The chain of
-/// two works in a row is that of both, and what stands behind work may be told of.
+/// What was told of stays: at each moment since a stop leaves the history that it tells of, or more, through all work
+/// behind it. The chain of two works in a row is that of both, and what stands behind work may be told of.
 ///
 /// Source: own rule.
 pub fn what_was_told_of_stays<S: Site>()

@@ -1,5 +1,7 @@
-//! The manager: its journal, and the tables of the events in it. What is acknowledged is on the disk before the tables follow it.
-ghost use Rattle.std.specs.Prelude.{◌≡◌, ◌≢◌, ◌≤◌, ◌<◌, ◌+◌, ℕ, List, length, option_copied, IfOk, OnOk, OnErr, Some, false, true};
+//! The manager: its journal, and the tables of the events in it. What is acknowledged is on the disk before the tables
+//! follow it.
+ghost use Rattle.std.specs.Prelude.{◌≡◌, ◌≢◌, ◌≤◌, ◌<◌, ◌+◌, ℕ, List, length, option_copied, IfOk, OnOk, OnErr, Some};
+ghost use Rattle.std.specs.Prelude.{false, true};
 ghost use Rattle.event_codec.specs.Spell.{spelling};
 ghost use Rattle.event_codec.specs.Valid.{IsEvent};
 ghost use Rattle.journal_core.specs.Load.{SyncsAndReads};
@@ -109,7 +111,8 @@ pub enum WorkFault {
     /// There is no memory.
     #[error("no memory")]
     Memory,
-    /// A disk call failed. The manager is closed: whether the event was recorded is known once the journal is loaded again.
+    /// A disk call failed. The manager is closed: whether the event was recorded is known once the journal is loaded
+    /// again.
     #[error("site fault")]
     Disk,
 }
@@ -131,15 +134,16 @@ pub enum ReadFault {
 impl<S: Site> Manager<S> {
     /// Opens the journal of a site's file, and judges each record once, in order.
     ///
-    /// Refusals: `Unmade` and `Foreign` by the header; `BadRecord(n)` where the file is broken at record n, or, where it is
-    /// broken nowhere, that record is the first that is no event or isn't allowed after those before it; `Disk`; `Memory`.
-    /// After Ok nothing is pending on the site. The file is as it was, whatever the answer.
+    /// Refusals: `Unmade` and `Foreign` by the header; `BadRecord(n)` where the file is broken at record n, or, where
+    /// it is broken nowhere, that record is the first that is no event or isn't allowed after those before it; `Disk`;
+    /// `Memory`. After Ok nothing is pending on the site. The file is as it was, whatever the answer.
     /// Source: own format, docs/JOURNAL.md and docs/EVENTS.md.
     pub fn load(alloc: Global, site: &mut S) -> Result<Manager<S>, OpenFault>
         ensures opens { Opens S.tells result (S.state site.new) }
         ensures number { IfOk result (λ m. m.ledger.manager < 4294967296) }
         ensures told { S.tells → SyncsAndReads (S.state site.old) (S.state site.new) }
-        ensures counts { FailsWhere (result ≡ Err OpenFault.Disk) (asked Ask.sync (S.counts site.old)) (S.counts site.new) }
+        ensures counts { FailsWhere (result ≡ Err OpenFault.Disk) (asked Ask.sync (S.counts site.old))
+            (S.counts site.new) }
     {
         let mut loading = Journal::open(alloc, site)?;
         let judged = judge_all(alloc, &mut loading, site)?;
@@ -154,14 +158,16 @@ impl<S: Site> Manager<S> {
         })
     }
 
-    /// Records an event in a journal that is to end at byte `limit` of the file or before it, with its closed gate: the event is on the
-    /// disk before the tables follow it. It is spelled once, and all memory is taken before it is appended.
+    /// Records an event in a journal that is to end at byte `limit` of the file or before it, with its closed gate: the
+    /// event is on the disk before the tables follow it. It is spelled once, and all memory is taken before it is
+    /// appended.
     ///
-    /// Conditions: the manager isn't closed, and its file has its history; the event keeps the format's rules, is allowed after that
-    /// history, and isn't a Settled; the limit is at most the file's.
-    /// Refusals, in this order: `TooLong(n)` (bytes), `Full {end, more}` (bytes), each exactly where the spelling and the limit say so;
-    /// `Memory`. After these the journal and the site are as before, and so is the history. `Disk`, after which the manager is closed, with the
-    /// history that it had: load it again.
+    /// Conditions: the manager isn't closed, and its file has its history; the event keeps the format's rules, is
+    /// allowed after that history, and isn't a Settled; the limit is at most the file's.
+    /// Refusals, in this order: `TooLong(n)` (bytes), `Full {end, more}` (bytes), each exactly where the spelling and
+    /// the limit say so;
+    /// `Memory`. After these the journal and the site are as before, and so is the history. `Disk`, after which the
+    /// manager is closed, with the history that it had: load it again.
     /// Source: own format, docs/JOURNAL.md and docs/EVENTS.md.
     pub fn commit(
         &mut self,
@@ -170,12 +176,16 @@ impl<S: Site> Manager<S> {
         e: &Event,
         limit: u64,
     ) -> Result<(), WorkFault>
-        requires may { (H : List Event) × IsReady S.tells self.old H (S.state site.old) × MayRecord self.old.ledger.manager H e.now }
+        requires may { (H : List Event) × IsReady S.tells self.old H (S.state site.old)
+            × MayRecord self.old.ledger.manager H e.now }
         requires within { limit ≤ MAX_FILE }
         ensures event { IsEvent e.now }
-        ensures works { (H : List Event) → IsReady S.tells self.old H (S.state site.old) → MayRecord self.old.ledger.manager H e.now
-            → Works S.tells self.old.ledger.manager H (recorded H e.now result) self.new (S.state site.old) (S.state site.new) }
-        ensures refused { result ≢ Err WorkFault.Disk → OnErr result ((self.new.ledger ≡ self.old.ledger) × (site.new ≡ site.old)) }
+        ensures works { (H : List Event) → IsReady S.tells self.old H (S.state site.old)
+            → MayRecord self.old.ledger.manager H e.now
+            → Works S.tells self.old.ledger.manager H (recorded H e.now result) self.new (S.state site.old)
+            (S.state site.new) }
+        ensures refused { result ≢ Err WorkFault.Disk → OnErr result
+            ((self.new.ledger ≡ self.old.ledger) × (site.new ≡ site.old)) }
         ensures keeps { OnErr result (KeepsOn self.old self.new) }
         ensures room { (H : List Event) → Keeps self.old H → TellsRoom limit H e.now result }
         ensures asks { CommitAsks result (S.counts site.old) (S.counts site.new) }
@@ -192,8 +202,8 @@ impl<S: Site> Manager<S> {
         )
     }
 
-    /// Reserves the memory that the tables need to follow an event, so that `put` takes none. The history and the journal stay, also after
-    /// want of memory.
+    /// Reserves the memory that the tables need to follow an event, so that `put` takes none. The history and the
+    /// journal stay, also after want of memory.
     ///
     /// Source: own rule.
     pub fn reserve_for(&mut self, alloc: Global, e: &Event) -> Result<(), AllocError>
@@ -204,23 +214,27 @@ impl<S: Site> Manager<S> {
         self.tables.reserve_for(alloc, e)
     }
 
-    /// Records an event, for which the tables have room, in a journal that is to end at byte `limit` of the file or before it, with its closed
-    /// gate: the event is on the disk before the tables follow it. It is spelled once, and no memory is taken.
+    /// Records an event, for which the tables have room, in a journal that is to end at byte `limit` of the file or
+    /// before it, with its closed gate: the event is on the disk before the tables follow it. It is spelled once, and
+    /// no memory is taken.
     ///
-    /// Conditions: the manager isn't closed, and its file has its history; the event keeps the format's rules and is allowed after that
-    /// history; what the tables need for it is reserved; the limit is at most the file's. Whether jobs stay sound is the caller's to show, by
-    /// what it knows of the attempt whose end it puts.
-    /// Refusals, in this order: `TooLong(n)` (bytes), `Full {end, more}` (bytes), each exactly where the spelling and the limit say so. After
-    /// these the manager and the site are as before. `Disk`, after which the manager is closed, with the history that it had: load it again.
-    /// Never `Memory`.
+    /// Conditions: the manager isn't closed, and its file has its history; the event keeps the format's rules and is
+    /// allowed after that history; what the tables need for it is reserved; the limit is at most the file's. Whether
+    /// jobs stay sound is the caller's to show, by what it knows of the attempt whose end it puts.
+    /// Refusals, in this order: `TooLong(n)` (bytes), `Full {end, more}` (bytes), each exactly where the spelling and
+    /// the limit say so. After these the manager and the site are as before. `Disk`, after which the manager is closed,
+    /// with the history that it had: load it again. Never `Memory`.
     /// Source: own format, docs/JOURNAL.md and docs/EVENTS.md.
     pub fn put(&mut self, site: &mut S, e: &Event, limit: u64) -> Result<(), WorkFault>
-        requires may { (H : List Event) × IsReady S.tells self.old H (S.state site.old) × MayPut self.old.ledger.manager H e.now }
+        requires may { (H : List Event) × IsReady S.tells self.old H (S.state site.old)
+            × MayPut self.old.ledger.manager H e.now }
         requires reserved { HasRoom e.now self.old.tables }
         requires within { limit ≤ MAX_FILE }
         ensures event { IsEvent e.now }
-        ensures works { (H : List Event) → IsReady S.tells self.old H (S.state site.old) → MayPut self.old.ledger.manager H e.now
-            → WorksAtFile S.tells self.old.ledger.manager H (recorded H e.now result) self.new (S.state site.old) (S.state site.new) }
+        ensures works { (H : List Event) → IsReady S.tells self.old H (S.state site.old)
+            → MayPut self.old.ledger.manager H e.now
+            → WorksAtFile S.tells self.old.ledger.manager H (recorded H e.now result) self.new (S.state site.old)
+            (S.state site.new) }
         ensures jobs { S.tells → KeepsJobs (S.state site.old) (S.state site.new) }
         ensures refused { result ≢ Err WorkFault.Disk → OnErr result ((self.new ≡ self.old) × (site.new ≡ site.old)) }
         ensures keeps { OnErr result (KeepsOn self.old self.new) }
@@ -243,15 +257,17 @@ impl<S: Site> Manager<S> {
     /// Event n of the history, from 1, in the order in which the events happened: it is read back from the site's file.
     ///
     /// Conditions: the manager isn't closed, and its file has its history; n is from 1 to `records`.
-    /// Refusals: `BadRecord(n)`, which never comes where the site tells its content; `Disk`, after which the manager is closed; `Memory`.
-    /// The history and the file are as before, whatever the answer.
+    /// Refusals: `BadRecord(n)`, which never comes where the site tells its content; `Disk`, after which the manager is
+    /// closed; `Memory`. The history and the file are as before, whatever the answer.
     /// Source: own format, docs/JOURNAL.md and docs/EVENTS.md.
     pub fn event_at(&mut self, alloc: Global, site: &mut S, n: u64) -> Result<Event, ReadFault>
         requires some { 1 ≤ n }
         requires within { n ≤ self.old.ledger.count }
         requires ready { (H : List Event) × IsReady S.tells self.old H (S.state site.old) }
-        ensures reads { (H : List Event) → IsReady S.tells self.old H (S.state site.old) → S.tells → ReadsEvent H n result (S.state site.old) (S.state site.new) }
-        ensures ready { (H : List Event) → IsReady S.tells self.old H (S.state site.old) → result ≢ Err ReadFault.Disk → IsReady S.tells self.new H (S.state site.new) }
+        ensures reads { (H : List Event) → IsReady S.tells self.old H (S.state site.old) → S.tells
+            → ReadsEvent H n result (S.state site.old) (S.state site.new) }
+        ensures ready { (H : List Event) → IsReady S.tells self.old H (S.state site.old) → result ≢ Err ReadFault.Disk
+            → IsReady S.tells self.new H (S.state site.new) }
         ensures keeps { KeepsOn self.old self.new }
         ensures bad { (k : ℕ) → result ≡ Err (ReadFault.BadRecord k) → k ≡ n }
         ensures closed { result ≡ Err ReadFault.Disk → self.new.ledger.closed ≡ true }
@@ -318,7 +334,8 @@ impl<S: Site> Manager<S> {
         self.tables.instances.vnfd(id)
     }
 
-    /// The table of descriptors, live instances and live subscriptions of the history. Condition: the manager isn't closed.
+    /// The table of descriptors, live instances and live subscriptions of the history. Condition: the manager isn't
+    /// closed.
     ///
     /// Source: SOL 003 5.4.2 (VNF instances), 5.4.18 (Subscriptions).
     pub fn instances(&self) -> &InstanceTable
@@ -342,12 +359,13 @@ impl<S: Site> Manager<S> {
         &self.tables.occurrences
     }
 
-    /// Why the deletion of the live instance of this row is refused, where it is: it is INSTANTIATED, or one of its operations goes on, in
-    /// this order.
+    /// Why the deletion of the live instance of this row is refused, where it is: it is INSTANTIATED, or one of its
+    /// operations goes on, in this order.
     ///
     /// Source: SOL 003 5.4.3.3.5 (DELETE of an individual VNF instance).
     pub fn delete_refusal(&self, row: &InstanceRow) -> Option<Refusal>
-        ensures { (H : List Event) → Keeps self.now H → instance H row.now.number ≡ Some row.now → result ≡ delete_refusal H row.now.number }
+        ensures { (H : List Event) → Keeps self.now H → instance H row.now.number ≡ Some row.now
+            → result ≡ delete_refusal H row.now.number }
     {
         self.tables.delete_refusal(row)
     }
@@ -378,7 +396,8 @@ impl<S: Site> Manager<S> {
         after(made, records)
     }
 
-    /// The changes of the plan of an operation that the live instance of this row is asked for, which are to be recorded with it.
+    /// The changes of the plan of an operation that the live instance of this row is asked for, which are to be
+    /// recorded with it.
     ///
     /// Conditions: the manager isn't closed, and the row is one of its live instances.
     /// Refusals, in this order: `Refused`, exactly where the ask is refused, with the first cause; `Memory`.

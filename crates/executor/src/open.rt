@@ -1,4 +1,5 @@
-//! Opening a journal as a manager: each record is judged once, in order, as it is read, by the tables of those before it.
+//! Opening a journal as a manager: each record is judged once, in order, as it is read, by the tables of those before
+//! it.
 ghost use Rattle.std.specs.Prelude.{◌≡◌, ◌<◌, List, [], IfOk, OnOk, None, true};
 ghost use Rattle.journal_core.specs.Load.{IsBegun, Loads};
 ghost use Rattle.journal_core.specs.Asking.{FailsWhere};

@@ -22,7 +22,8 @@ use site_traits::Site;
 
 /// Puts the event's spelling into the buffer, where the journal has room for it before byte `limit` of the file.
 ///
-/// Refusals, in this order: `TooLong(n)` (bytes), `Full {end, more}` (bytes), each exactly where the spelling and the limit say so.
+/// Refusals, in this order: `TooLong(n)` (bytes), `Full {end, more}` (bytes), each exactly where the spelling and the
+/// limit say so.
 pub fn spell_within<S: Site>(
     journal: &Journal<S>,
     buffer: &mut RecordBuf,
@@ -55,13 +56,15 @@ fn spell(buffer: &mut RecordBuf, e: &Event) -> Result<u32, WorkFault>
     ensures spelled { OnOk result (buffer.new.kept ≡ spelling e.now) }
     ensures some { 1 ≤ length (spelling e.now) }
     ensures length { IfOk result (λ n. (n ≡ length (spelling e.now)) × (n ≤ MAX_RECORD)) }
-    ensures too_long { IfErr result (λ why. (why ≡ WorkFault.TooLong (length (spelling e.now))) × (MAX_RECORD < length (spelling e.now))) }
+    ensures too_long { IfErr result (λ why. (why ≡ WorkFault.TooLong (length (spelling e.now)))
+        × (MAX_RECORD < length (spelling e.now))) }
 {
     encode(e, buffer)?;
     Ok(buffer.as_slice().len() as u32)
 }
 
-/// Appends the event's spelling, for which the file has room, and then lets the tables follow the event. No memory is taken.
+/// Appends the event's spelling, for which the file has room, and then lets the tables follow the event. No memory is
+/// taken.
 ///
 /// Refusal: `Disk`, after which the journal is closed, and the tables are those of the history that it had.
 pub fn append_and_follow<S: Site>(
@@ -71,12 +74,15 @@ pub fn append_and_follow<S: Site>(
     bytes: &[u8],
     e: &Event,
 ) -> Result<(), WorkFault>
-    requires may { (H : List Event) × IsReady S.tells (managed journal.old tables.old) H (S.state site.old) × MayPut journal.old.manager H e.now }
+    requires may { (H : List Event) × IsReady S.tells (managed journal.old tables.old) H (S.state site.old)
+        × MayPut journal.old.manager H e.now }
     requires event { IsEvent e.now }
     requires spelled { IsRecordOf bytes.now e.now journal.old.end }
     requires reserved { HasRoom e.now tables.old }
-    ensures works { (H : List Event) → IsReady S.tells (managed journal.old tables.old) H (S.state site.old) → MayPut journal.old.manager H e.now
-        → WorksAtFile S.tells journal.old.manager H (recorded H e.now result) (managed journal.new tables.new) (S.state site.old) (S.state site.new) }
+    ensures works { (H : List Event) → IsReady S.tells (managed journal.old tables.old) H (S.state site.old)
+        → MayPut journal.old.manager H e.now
+        → WorksAtFile S.tells journal.old.manager H (recorded H e.now result) (managed journal.new tables.new)
+        (S.state site.old) (S.state site.new) }
     ensures jobs { S.tells → KeepsJobs (S.state site.old) (S.state site.new) }
     ensures keeps_one { KeepsOne (managed journal.new tables.new) }
     ensures within { IsWithinFile journal.new }

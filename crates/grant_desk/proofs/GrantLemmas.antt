@@ -1,5 +1,6 @@
 -- What is read of a grant.
-use Rattle.std.proofs.Common.{◌≡◌, ◌++◌, ◌∙◌, ◌<◌, ◌+◌, List, [], ◌∷◌, ℕ, Some, None, Option, refl, ap, ◌↔◌, IsSome, sym, map, drop, length, append_assoc, Bool, true, false}
+use Rattle.std.proofs.Common.{◌≡◌, ◌++◌, ◌∙◌, ◌<◌, ◌+◌, List, [], ◌∷◌, ℕ, Some, None, Option, refl, ap, ◌↔◌, IsSome, sym, map, drop, length}
+use Rattle.std.proofs.Common.{append_assoc, Bool, true, false}
 use Rattle.std.specs.Option.{IfSome}
 use Rattle.std.specs.Prelude.{IsUtf8, option_map}
 use Rattle.std.specs.Str.{is_utf8}
@@ -27,7 +28,8 @@ pub row_read : (rows : List (List ℕ × Place)) (row : List ℕ × Place) (d : 
 row_read rows row d ds e = rw e (behind rows row (rows_in ds))
 
 -- a value that is no row
-pub no_row : (rows : List (List ℕ × Place)) (d : Data) (ds : Items) → row_in d ≡ None → option_map (λ ys. rows ++ ys) (rows_in (item d ds)) ≡ None
+pub no_row : (rows : List (List ℕ × Place)) (d : Data) (ds : Items) → row_in d ≡ None
+    → option_map (λ ys. rows ++ ys) (rows_in (item d ds)) ≡ None
 no_row rows d ds e = rw e refl
 
 -- the grant that the bytes are, by what they are read as

@@ -20,7 +20,8 @@ use Rattle.lcm_events.specs.declared.descriptor.Vnfd.{Vnfd}
 use Rattle.lcm_events.specs.declared.held.Held.{Held}
 use Rattle.lcm_events.specs.declared.held.Holding.{Holding}
 use Rattle.grant_desk.specs.Parts.{asks}
-use Rattle.grant_desk.specs.Requests.{entries, entry, handle, instance_id, links, member_where, occurrence_id, request, resource_for, type_word, vdu_for}
+use Rattle.grant_desk.specs.Requests.{entries, entry, handle, instance_id, links, member_where, occurrence_id, request, resource_for}
+use Rattle.grant_desk.specs.Requests.{type_word, vdu_for}
 use Rattle.grant_desk.specs.declared.parts.Part.{Part}
 use Rattle.grant_desk.specs.declared.parts.Part.TheVariants as part
 use Rattle.grant_desk.specs.declared.requests.GrantAsker.{GrantAsker}
@@ -30,7 +31,8 @@ or_false : (a b : Bool) → a ≡ false → b ≡ false → (a || b) ≡ false
 or_false a b ha hb = rw (ha, hb) refl
 
 -- an array of values without a float has none
-array_plain : {A : Type 0} (shown : A → Data) → ((x : A) → has_float (shown x) ≡ false) → (xs : List A) → items_have_float (items_of (map shown xs)) ≡ false
+array_plain : {A : Type 0} (shown : A → Data) → ((x : A) → has_float (shown x) ≡ false) → (xs : List A)
+    → items_have_float (items_of (map shown xs)) ≡ false
 array_plain shown plain [] = refl
 array_plain shown plain (x ∷ xs) = or_false _ _ (plain x) (array_plain shown plain xs)
 
@@ -39,7 +41,8 @@ abbrev IsPlain : Option Data → Type 0
 IsPlain None = Unit {0}
 IsPlain (Some d) = has_float d ≡ false
 
-where_plain : (name : List ℕ) (o : Option Data) (rest : Members) → IsPlain o → members_have_float rest ≡ false → members_have_float (member_where name o rest) ≡ false
+where_plain : (name : List ℕ) (o : Option Data) (rest : Members) → IsPlain o → members_have_float rest ≡ false
+    → members_have_float (member_where name o rest) ≡ false
 where_plain name None rest plain others = others
 where_plain name (Some d) rest plain others = or_false (has_float d) (members_have_float rest) plain others
 
@@ -70,10 +73,12 @@ entries_plain d h p xs = array_plain (entry d h) (entry_plain d h) (filter (λ x
 
 pub request_plain : (d : Vnfd) (h : Holding) (who : GrantAsker) (ask : Ask) (xs : List Change) → has_float (request d h who ask xs) ≡ false
 request_plain d h who ask xs =
-    or_false _ _ (entries_plain d h part.Add xs) (or_false _ _ (entries_plain d h part.Remove xs) (or_false _ _ (entries_plain d h part.Update xs) refl))
+    or_false _ _ (entries_plain d h part.Add xs) (or_false _ _ (entries_plain d h part.Remove xs)
+    (or_false _ _ (entries_plain d h part.Update xs) refl))
 
 -- the values of an array nest no deeper than each of them
-array_depth : {A : Type 0} (shown : A → Data) (k : ℕ) → ((x : A) → depth (shown x) ≤ k) → (xs : List A) → items_depth (items_of (map shown xs)) ≤ k
+array_depth : {A : Type 0} (shown : A → Data) (k : ℕ) → ((x : A) → depth (shown x) ≤ k) → (xs : List A)
+    → items_depth (items_of (map shown xs)) ≤ k
 array_depth shown k within [] = omega arith
 array_depth shown k within (x ∷ xs) = max-le (within x) (array_depth shown k within xs)
 
@@ -82,7 +87,8 @@ abbrev Nests : ℕ → Option Data → Type 0
 Nests k None = Unit {0}
 Nests k (Some d) = depth d ≤ k
 
-where_depth : (k : ℕ) (name : List ℕ) (o : Option Data) (rest : Members) → Nests k o → members_depth rest ≤ k → members_depth (member_where name o rest) ≤ k
+where_depth : (k : ℕ) (name : List ℕ) (o : Option Data) (rest : Members) → Nests k o → members_depth rest ≤ k
+    → members_depth (member_where name o rest) ≤ k
 where_depth k name None rest within others = others
 where_depth k name (Some d) rest within others = max-le within others
 
@@ -110,12 +116,15 @@ entry_depth : (d : Vnfd) (h : Holding) (x : ℕ × Change) → depth (entry d h 
 entry_depth d h x =
     let flat : 0 ≤ 1 = omega arith in
     let last : Members = member_where (codes "vduId") (vdu_for d x.1.def.kind x.1.def) no_members in
-    let rest : Members = member (codes "resourceTemplateId") (string (template_name d x.1.def.kind x.1.def)) (member (codes "type") (string (type_word x.1.def.kind)) last) in
+    let rest : Members = member (codes "resourceTemplateId") (string (template_name d x.1.def.kind x.1.def))
+    (member (codes "type") (string (type_word x.1.def.kind)) last) in
     let of_rest : members_depth rest ≤ 1 =
-    max-le flat (max-le flat (where_depth 1 (codes "vduId") (vdu_for d x.1.def.kind x.1.def) no_members (vdu_depth d x.1.def.kind x.1.def) flat)) in
+    max-le flat (max-le flat (where_depth 1 (codes "vduId") (vdu_for d x.1.def.kind x.1.def) no_members
+    (vdu_depth d x.1.def.kind x.1.def) flat)) in
     deeper _ 1
     (max-le flat
-    (where_depth 1 (codes "resource") (resource_for x.1.verb (item_of x.1.def h.items)) rest (resource_depth x.1.verb (item_of x.1.def h.items)) of_rest))
+    (where_depth 1 (codes "resource") (resource_for x.1.verb (item_of x.1.def h.items)) rest
+    (resource_depth x.1.verb (item_of x.1.def h.items)) of_rest))
 
 entries_depth : (d : Vnfd) (h : Holding) (p : Part) (xs : List Change) → depth (entries d h p xs) ≤ 3
 unfolding entries
@@ -125,7 +134,8 @@ links_depth : (a b : List ℕ) → depth (links a b) ≤ 3
 links_depth a b = omega arith
 
 -- a grant request nests no deeper than is read
-pub request_shallow : (d : Vnfd) (h : Holding) (who : GrantAsker) (ask : Ask) (xs : List Change) → depth (request d h who ask xs) ≤ max_depth
+pub request_shallow : (d : Vnfd) (h : Holding) (who : GrantAsker) (ask : Ask) (xs : List Change)
+    → depth (request d h who ask xs) ≤ max_depth
 request_shallow d h who ask xs =
     let flat : 0 ≤ 3 = omega arith in
     let four : depth (request d h who ask xs) ≤ 4 =

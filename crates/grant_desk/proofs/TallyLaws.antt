@@ -1,5 +1,7 @@
 -- Laws of counts, and of what is named once.
-use Rattle.std.proofs.Common.{◌≡◌, ◌≤◌, ◌<◌, ◌+◌, ◌-◌, ◌^◌, ◌++◌, ◌∙◌, ◌&&◌, ◌||◌, ◌==◌, ℕ, List, [], ◌∷◌, Bool, true, false, cond, not, refl, ap, sym, subst, length, map, filter, take, drop, get_or, arith, suc, zero, min, length-append, eqb, eqb-true, eq-eqb, false-eqb, ne_eqb, add-zero, ◌≢◌}
+use Rattle.std.proofs.Common.{◌≡◌, ◌≤◌, ◌<◌, ◌+◌, ◌-◌, ◌^◌, ◌++◌, ◌∙◌, ◌&&◌, ◌||◌, ◌==◌, ℕ, List, [], ◌∷◌, Bool, true, false, cond, not}
+use Rattle.std.proofs.Common.{refl, ap, sym, subst, length, map, filter, take, drop, get_or, arith, suc, zero, min, length-append, eqb}
+use Rattle.std.proofs.Common.{eqb-true, eq-eqb, false-eqb, ne_eqb, add-zero, ◌≢◌}
 use Rattle.std.specs.List.{enumerate_from, list_all}
 use Rattle.std.specs.Prelude.{count_by, if◌then◌else◌, slice_index, zip}
 use Rattle.std.proofs.lemmas.List.{take_more}
@@ -34,20 +36,23 @@ times_more : (rows : List (List ℕ × Place)) (i k : ℕ) (r : List ℕ × Plac
 unfolding times
 times_more rows i k r lt is =
     let p : List ℕ × Place → Bool = λ x. same_name x.0 (change_id k) in
-    ap (λ (xs : List (List ℕ × Place)). length (filter p xs)) (take_more rows i r lt ∙ ap (λ (x : List ℕ × Place). take i rows ++ x ∷ []) is)
+    ap (λ (xs : List (List ℕ × Place)). length (filter p xs)) (take_more rows i r lt
+    ∙ ap (λ (x : List ℕ × Place). take i rows ++ x ∷ []) is)
     ∙ ap length (filter-append p (take i rows) (r ∷ []))
     ∙ length-append (filter p (take i rows)) (filter p (r ∷ []))
     ∙ ap (λ (n : ℕ). length (filter p (take i rows)) + n) (length_one (p r) r)
 
 -- the counts with one row more
-pub tallied_more : (rows : List (List ℕ × Place)) (i first : ℕ) (r : List ℕ × Place) (old new : List ℕ) → i < length rows → get_or rows i r ≡ r
+pub tallied_more : (rows : List (List ℕ × Place)) (i first : ℕ) (r : List ℕ × Place) (old new : List ℕ) → i < length rows
+    → get_or rows i r ≡ r
     → AreTallied (take i rows) first old → length new ≡ length old
     → ((j : ℕ) → j < length old → first + j < 2 ^ 64 → get_or new j 0 ≡ counted r.0 (first + j) (get_or old j 0))
     → AreTallied (take (i + 1) rows) first new
 tallied_more rows i first r old new lt is h size step = record {
   each = λ j short small.
       let within : j < length old = omega (arith, short, size) in
-      counted_step (same_name r.0 (change_id (first + j))) (get_or old j 0) (get_or new j 0) (times (take i rows) (first + j)) (h.each j within small) (step j within small)
+      counted_step (same_name r.0 (change_id (first + j))) (get_or old j 0) (get_or new j 0) (times (take i rows) (first + j))
+      (h.each j within small) (step j within small)
       ∙ ap (λ (n : ℕ). min n 255) (sym (times_more rows i (first + j) r lt is));
 }
 
@@ -62,12 +67,14 @@ one_is n t e = by_test (t == 1)
     (λ no. let other : t ≢ 1 = false-eqb t 1 (sym no) in let differs : n ≢ 1 = omega (arith, e, other) in rw no (ne_eqb n 1 differs))
 
 -- what the counts say of as many changes is what the rows say
-pub counted_named : (part : Part) (rows : List (List ℕ × Place)) (first : ℕ) (xs : List Change) (counts : List ℕ) → AreTallied rows first counts
+pub counted_named : (part : Part) (rows : List (List ℕ × Place)) (first : ℕ) (xs : List Change) (counts : List ℕ)
+    → AreTallied rows first counts
     → length xs ≤ length counts → first + length xs < 2 ^ 64 → are_counted_once part xs counts ≡ are_named_once part rows first xs
 counted_named part rows first [] counts h fits small = refl
 counted_named part rows first (x ∷ xs) [] h fits small = absurd (omega (arith, fits))
 counted_named part rows first (x ∷ xs) (n ∷ counts) h fits small =
-    let here : n ≡ min (times rows first) 255 = subst (λ (k : ℕ). n ≡ min (times rows k) 255) (add-zero first) (h.each 0 (omega arith) (omega (arith, small))) in
+    let here : n ≡ min (times rows first) 255 = subst (λ (k : ℕ). n ≡ min (times rows k) 255) (add-zero first)
+    (h.each 0 (omega arith) (omega (arith, small))) in
     let later : AreTallied rows (first + 1) counts = record {
       each = λ j lt within. (
           let at : first + suc j ≡ (first + 1) + j = omega arith in
@@ -87,10 +94,12 @@ named-append part rows first [] ys = ap (λ (k : ℕ). are_named_once part rows 
 named-append part rows first (x ∷ xs) ys =
     let at : (first + 1) + length xs ≡ first + suc (length xs) = omega arith in
     ap (λ (b : Bool). is_named_once part rows (first, x) && b) (named-append part rows (first + 1) xs ys)
-    ∙ and_assoc (is_named_once part rows (first, x)) (are_named_once part rows (first + 1) xs) (are_named_once part rows ((first + 1) + length xs) ys)
+    ∙ and_assoc (is_named_once part rows (first, x)) (are_named_once part rows (first + 1) xs)
+    (are_named_once part rows ((first + 1) + length xs) ys)
     ∙ ap (λ (k : ℕ). are_named_once part rows first (x ∷ xs) && are_named_once part rows k ys) at
 
-all_filtered : {A B : Type 0} (g : A → B) (p : A → Bool) (f : B → Bool) (xs : List A) → list_all f (map g (filter p xs)) ≡ list_all (λ x. not (p x) || f (g x)) xs
+all_filtered : {A B : Type 0} (g : A → B) (p : A → Bool) (f : B → Bool) (xs : List A)
+    → list_all f (map g (filter p xs)) ≡ list_all (λ x. not (p x) || f (g x)) xs
 all_filtered g p f [] = refl
 all_filtered g p f (x ∷ xs) = by_test (p x)
     (λ yes. rw yes (ap (λ (b : Bool). f (g x) && b) (all_filtered g p f xs)))
@@ -101,16 +110,19 @@ pub named_ids : (part : Part) (rows : List (List ℕ × Place)) (xs : List Chang
     → list_all (λ id. length (filter (λ r. same_name r.0 id) rows) == 1) (ids_of (asks part) xs) ≡ are_named_once part rows 0 xs
 unfolding times
 named_ids part rows xs =
-    all_filtered (λ (x : ℕ × Change). change_id x.0) (λ x. asks part x.1.verb) (λ id. length (filter (λ r. same_name r.0 id) rows) == 1) (enumerate_from 0 xs)
+    all_filtered (λ (x : ℕ × Change). change_id x.0) (λ x. asks part x.1.verb) (λ id. length (filter (λ r. same_name r.0 id) rows) == 1)
+    (enumerate_from 0 xs)
 
 asked_from : (part : Part) (first : ℕ) (xs : List Change)
-    → length (map (λ (x : ℕ × Change). change_id x.0) (filter (λ x. asks part x.1.verb) (enumerate_from first xs))) ≡ count_by (λ x. asks part x.verb) xs
+    → length (map (λ (x : ℕ × Change). change_id x.0) (filter (λ x. asks part x.1.verb) (enumerate_from first xs)))
+    ≡ count_by (λ x. asks part x.verb) xs
 asked_from part first [] = refl
 asked_from part first (x ∷ xs) =
     let rest = asked_from part (first + 1) xs in
     let counts : count_by (λ x. asks part x.verb) (x ∷ xs) ≡ cond (asks part x.verb) 1 0 + count_by (λ x. asks part x.verb) xs =
     sum_by-cons (λ x. cond (asks part x.verb) 1 0) x xs in
-    asked_step (asks part x.verb) (first, x) (filter (λ x. asks part x.1.verb) (enumerate_from (first + 1) xs)) (count_by (λ x. asks part x.verb) xs) rest ∙ sym counts where
+    asked_step (asks part x.verb) (first, x) (filter (λ x. asks part x.1.verb) (enumerate_from (first + 1) xs))
+    (count_by (λ x. asks part x.verb) xs) rest ∙ sym counts where
       asked_step : (b : Bool) (y : ℕ × Change) (ys : List (ℕ × Change)) (n : ℕ) → length (map (λ (x : ℕ × Change). change_id x.0) ys) ≡ n
           → length (map (λ (x : ℕ × Change). change_id x.0) (cond b (y ∷ ys) ys)) ≡ cond b 1 0 + n
       asked_step true y ys n e = omega (arith, e)
@@ -121,12 +133,14 @@ pub ids_asked : (part : Part) (xs : List Change) → length (ids_of (asks part) 
 ids_asked part xs = asked_from part 0 xs
 
 -- one walk over the rows: what the counts say of its changes, and what the rows say of the later ones
-pub walk : (part : Part) (rows : List (List ℕ × Place)) (first : ℕ) (left now later : List Change) (counts : List ℕ) (b : Bool) → AreTallied rows first counts
+pub walk : (part : Part) (rows : List (List ℕ × Place)) (first : ℕ) (left now later : List Change) (counts : List ℕ) (b : Bool)
+    → AreTallied rows first counts
     → left ≡ now ++ later → length now ≤ length counts → first + length now < 2 ^ 64 → b ≡ are_counted_once part now counts
     → are_named_once part rows first left ≡ (b && are_named_once part rows (first + length now) later)
 walk part rows first left now later counts b tallied is fits small e =
     ap (are_named_once part rows first) is ∙ named-append part rows first now later
-    ∙ ap (λ (x : Bool). x && are_named_once part rows (first + length now) later) (sym (e ∙ counted_named part rows first now counts tallied fits small))
+    ∙ ap (λ (x : Bool). x && are_named_once part rows (first + length now) later)
+    (sym (e ∙ counted_named part rows first now counts tallied fits small))
 
 -- as many as are asked for, and each once
 pub as_many : (n m k : ℕ) (a b : Bool) → n ≡ m → m ≡ k → a ≡ b → a ≡ ((n == k) && b)

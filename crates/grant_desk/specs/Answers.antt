@@ -1,6 +1,7 @@
--- What an answer to a grant request or to a poll says. A grant is hostile input: what has another form than this isn't read (SOL 003
--- 9.4.2, Grants; 9.4.3, Individual grant; 9.5.2.3, Grant; 9.5.3.3, GrantInfo; RFC 8259).
-use Rattle.std.specs.Prelude.{Bool, true, false, ℕ, List, [], ◌∷◌, length, nat_le, codes, if◌then◌else◌, ◌==◌, ◌||◌, Option, Some, None, option_and_then, option_map}
+-- What an answer to a grant request or to a poll says. A grant is hostile input: what has another form than this isn't
+-- read (SOL 003 9.4.2, Grants; 9.4.3, Individual grant; 9.5.2.3, Grant; 9.5.3.3, GrantInfo; RFC 8259).
+use Rattle.std.specs.Prelude.{Bool, true, false, ℕ, List, [], ◌∷◌, length, nat_le, codes, if◌then◌else◌, ◌==◌, ◌||◌}
+use Rattle.std.specs.Prelude.{Option, Some, None, option_and_then, option_map}
 use Rattle.std.specs.Str.{is_utf8}
 use Rattle.serde_json.specs.Data.{Data, Items, no_items, item}
 use Rattle.serde_json.specs.Find.{get, as_str, as_array}
@@ -36,13 +37,15 @@ name_where (Some d) = name_in d
 -- the place of a row: a connection and a zone (SOL 003 9.5.3.3)
 abbrev pub place_in : Data → Option Place
 place_in d =
-    option_and_then (λ vim. option_map (λ zone. record { vim = vim; zone = zone }) (name_where (get (codes "zoneId") d)))
+    option_and_then (λ vim. option_map (λ zone. record { vim = vim; zone = zone })
+    (name_where (get (codes "zoneId") d)))
     (name_where (get (codes "vimConnectionId") d))
 
 -- a row: the identifier of a resource definition, maybe empty, and its place (SOL 003 9.5.3.3)
 abbrev pub row_in : Data → Option (List ℕ × Place)
 row_in d =
-    option_and_then (λ id. option_map (λ place. (id, place)) (place_in d)) (option_and_then name_in (get (codes "resourceDefinitionId") d))
+    option_and_then (λ id. option_map (λ place. (id, place)) (place_in d))
+    (option_and_then name_in (get (codes "resourceDefinitionId") d))
 
 -- the rows of a list, where each entry is one (SOL 003 9.5.2.3)
 abbrev pub rows_in : Items → Option (List (List ℕ × Place))

@@ -1,6 +1,8 @@
--- An orchestrator in memory that grants whatever it is asked for (SOL 003 9.5.2.2, GrantRequest; 9.5.2.3, Grant; RFC 8259).
+-- An orchestrator in memory that grants whatever it is asked for (SOL 003 9.5.2.2, GrantRequest; 9.5.2.3, Grant; RFC
+-- 8259).
 use Rattle.std.specs.Fmt.{decimal}
-use Rattle.std.specs.Prelude.{Bool, IsUtf8, List, [], ℕ, Option, None, Some, ◌≡◌, ◌+◌, ◌∷◌, ◌++◌, codes, drop, false, length, map, nat_le, option_and_then, option_map, take, true, if◌then◌else◌}
+use Rattle.std.specs.Prelude.{Bool, IsUtf8, List, [], ℕ, Option, None, Some, ◌≡◌, ◌+◌, ◌∷◌, ◌++◌, codes, drop, false}
+use Rattle.std.specs.Prelude.{length, map, nat_le, option_and_then, option_map, take, true, if◌then◌else◌}
 use Rattle.std.specs.Str.{is_utf8}
 use Rattle.serde_json.specs.Data.{Data, Items, array, item, member, no_items, no_members, object, string}
 use Rattle.serde_json.specs.Find.{as_array, as_object, as_str, get}
@@ -25,9 +27,11 @@ use Rattle.grant_desk.specs.declared.parts.Part.{Part}
 use Rattle.grant_desk.specs.declared.parts.Part.TheVariants as part
 use Rattle.grant_desk.specs.declared.requests.GrantAsker.{GrantAsker}
 
--- what is granted for the identifier of an entry: that it stands at the connection `vim1`, in no zone (SOL 003 9.5.3.3, GrantInfo)
+-- what is granted for the identifier of an entry: that it stands at the connection `vim1`, in no zone (SOL 003 9.5.3.3,
+-- GrantInfo)
 abbrev pub row : List ℕ → Data
-row id = object (member (codes "resourceDefinitionId") (string id) (member (codes "vimConnectionId") (string (codes "vim1")) no_members))
+row id = object (member (codes "resourceDefinitionId") (string id)
+    (member (codes "vimConnectionId") (string (codes "vim1")) no_members))
 
 -- what is granted for an entry, where its identifier is a text (SOL 003 9.5.3.2, ResourceDefinition)
 abbrev pub row_for : Data → Option Data
@@ -75,7 +79,8 @@ grant_text n body = if is_utf8 body then option_map compact_text (option_and_the
 
 -- the answer with this text; one with a longer text than is heard fails (own rule)
 abbrev pub answer_with : List ℕ → Option Answer
-answer_with text = if nat_le (length text) 1048576 then Some (record { status = 201; location = None; body = text }) else None
+answer_with text = if nat_le (length text) 1048576 then Some (record { status = 201; location = None; body = text })
+    else None
 
 -- the answer to the request behind so many, where there is one (SOL 003 9.4.2)
 abbrev pub answer_to : ℕ → List ℕ → Option Answer
@@ -103,15 +108,15 @@ pub record IsNew (g : GrantAll) : Type 0 where
   pub faults : g.faults ≡ 0
   pub starved : g.starved ≡ 0
 
--- The request with this body, to which this answer is given, where one is, got this answer: both are on record, in room that was there for them
--- (own rule).
+-- The request with this body, to which this answer is given, where one is, got this answer: both are on record, in room
+-- that was there for them (own rule).
 pub record IsServed (given : Option Answer) (body : List ℕ) (answer : Answer) (old new : Recorded ℕ) : Type 0 where
   pub answer_is : given ≡ Some answer
   pub room : HasRoom (length body + length answer.body) old
   pub put : new ≡ with_call (length body) (body ++ answer.body) old
 
--- The request with this body, to which this answer is given, where one is, got none: none is given, or there was no room for both. The record
--- stays (own rule).
+-- The request with this body, to which this answer is given, where one is, got none: none is given, or there was no
+-- room for both. The record stays (own rule).
 pub record IsPassed (given : Option Answer) (body : List ℕ) (old new : Recorded ℕ) : Type 0 where
   pub why : (answer : Answer) → given ≡ Some answer → ¬ HasRoom (length body + length answer.body) old
   pub kept : new ≡ old
@@ -121,11 +126,12 @@ abbrev pub Serves : Option Answer → List ℕ → Bool → Answer → Recorded 
 Serves given body true answer old new = IsServed given body answer old new
 Serves given body false answer old new = IsPassed given body old new
 
--- A request is served where an answer is given to it and there is room for both. It isn't where none is given, where there is no room, or where
--- memory is wanted, which is counted (own rule).
+-- A request is served where an answer is given to it and there is room for both. It isn't where none is given, where
+-- there is no room, or where memory is wanted, which is counted (own rule).
 pub record RunsAsk (body : List ℕ) (answer : Answer) (result : Call) (old new : GrantAll) : Type 0 where
   pub came : result ≡ call.Came → IsServed (answer_to (length old.served.calls) body) body answer old.served new.served
-  pub failed : result ≡ call.Failed → ¬ Rose old.starved new.starved → IsPassed (answer_to (length old.served.calls) body) body old.served new.served
+  pub failed : result ≡ call.Failed → ¬ Rose old.starved new.starved
+      → IsPassed (answer_to (length old.served.calls) body) body old.served new.served
   pub starved : result ≡ call.Came → new.starved ≡ old.starved
 
 -- what is granted for the changes of a plan that are asked for in a part, in the order of the plan (SOL 003 9.5.2.3)
@@ -136,8 +142,10 @@ part_rows p xs = map row (ids_of (asks p) xs)
 abbrev pub plan_grant : ℕ → List Change → Data
 plan_grant n xs = grant n (part_rows part.Add xs) (part_rows part.Remove xs) (part_rows part.Update xs)
 
--- each request for a plan can be read, and is granted whole: its changes in their order, and nothing else (SOL 003 9.5.2.3)
+-- each request for a plan can be read, and is granted whole: its changes in their order, and nothing else (SOL 003
+-- 9.5.2.3)
 abbrev pub RequestsAreGranted : Type 0
 RequestsAreGranted =
-    (n : ℕ) (d : Vnfd) (h : Holding) (who : GrantAsker) (ask : Ask) (xs : List Change) (body : List ℕ) → IsUtf8 body → read body ≡ Some (request d h who ask xs)
+    (n : ℕ) (d : Vnfd) (h : Holding) (who : GrantAsker) (ask : Ask) (xs : List Change) (body : List ℕ) → IsUtf8 body
+    → read body ≡ Some (request d h who ask xs)
     → grant_text n body ≡ Some (compact_text (plan_grant n xs))

@@ -10,7 +10,8 @@ put_where name (Some d) rest = put name d rest
 -- the members that every entry has: its identifier, its template and its type
 abbrev pub needed_members : List ℕ → List ℕ → List ℕ → Members
 needed_members id template word =
-    member (codes "id") (string id) (member (codes "resourceTemplateId") (string template) (member (codes "type") (string word) no_members))
+    member (codes "id") (string id) (member (codes "resourceTemplateId") (string template)
+    (member (codes "type") (string word) no_members))
 
 -- the members of a request that are texts, and that which says that it isn't automatic
 abbrev pub text_members : List ℕ → List ℕ → List ℕ → List ℕ → List ℕ → Members

@@ -1,4 +1,5 @@
--- The three parts of a grant request and a grant: what is added, what is removed, what is updated (SOL 003 9.5.2.2, GrantRequest; 9.5.2.3, Grant).
+-- The three parts of a grant request and a grant: what is added, what is removed, what is updated (SOL 003 9.5.2.2,
+-- GrantRequest; 9.5.2.3, Grant).
 use Rattle.std.specs.Prelude.{Bool}
 use Rattle.lcm_events.specs.Same.{same_verb}
 use Rattle.lcm_events.specs.declared.changes.Verb.{Verb}

@@ -1,8 +1,9 @@
--- The body of a grant request: who asks, what for, and what is to be created, removed and updated (SOL 003 9.4.2, Grants; 9.5.2.2,
--- GrantRequest; 9.5.3.2, ResourceDefinition). Members stand in byte order of their names.
+-- The body of a grant request: who asks, what for, and what is to be created, removed and updated (SOL 003 9.4.2,
+-- Grants; 9.5.2.2, GrantRequest; 9.5.3.2, ResourceDefinition). Members stand in byte order of their names.
 use Rattle.std.specs.List.{enumerate_from}
 use Rattle.std.specs.Option.{option_map_or}
-use Rattle.std.specs.Prelude.{Bool, List, [], ℕ, Option, None, Some, ◌++◌, codes, false, filter, map, option_map, slice_get}
+use Rattle.std.specs.Prelude.{Bool, List, [], ℕ, Option, None, Some, ◌++◌, codes, false, filter, map, option_map}
+use Rattle.std.specs.Prelude.{slice_get}
 use Rattle.serde_json.specs.Data.{Data, Members, array, boolean, member, no_members, object, string}
 use Rattle.serde_json.specs.View.{items_of}
 use Rattle.serde_json.specs.Written.{compact_text}
@@ -10,7 +11,8 @@ use Rattle.vnfm_base.specs.Ident.{ident, ident_text}
 use Rattle.vnfm_base.specs.declared.identifier.Kind.TheVariants as named
 use Rattle.lcm_events.specs.declared.asks.Ask.{Ask}
 use Rattle.lcm_events.specs.declared.asks.OpKind.{OpKind}
-use Rattle.lcm_events.specs.declared.asks.OpKind.TheVariants.{ChangeFlavour, Heal, Instantiate, Operate, Scale, ScaleToLevel, Terminate}
+use Rattle.lcm_events.specs.declared.asks.OpKind.TheVariants.{ChangeFlavour, Heal, Instantiate, Operate, Scale}
+use Rattle.lcm_events.specs.declared.asks.OpKind.TheVariants.{ScaleToLevel, Terminate}
 use Rattle.lcm_events.specs.declared.changes.Change.{Change}
 use Rattle.lcm_events.specs.declared.changes.Def.{Def}
 use Rattle.lcm_events.specs.declared.changes.DefKind.{DefKind}
@@ -34,9 +36,11 @@ abbrev pub member_where : List ℕ → Option Data → Members → Members
 member_where name None rest = rest
 member_where name (Some d) rest = member name d rest
 
--- the infrastructure's name of a resource, and the connection to where it stands (SOL 003 9.5.3.2, resource; 4.4.1.7, ResourceHandle)
+-- the infrastructure's name of a resource, and the connection to where it stands (SOL 003 9.5.3.2, resource; 4.4.1.7,
+-- ResourceHandle)
 abbrev pub handle : Held → Data
-handle y = object (member (codes "resourceId") (string y.resource) (member (codes "vimConnectionId") (string y.place.vim) no_members))
+handle y = object (member (codes "resourceId") (string y.resource)
+    (member (codes "vimConnectionId") (string y.place.vim) no_members))
 
 -- the resource of a change: none where it is created, else what stands (SOL 003 9.5.3.2)
 abbrev pub resource_for : Verb → Option Held → Option Data

@@ -1,5 +1,6 @@
 -- How often rows name the changes of a plan (own rule).
-use Rattle.std.specs.Prelude.{Bool, List, length, filter, ℕ, ◌≡◌, ◌<◌, ◌+◌, ◌^◌, ◌==◌, ◌||◌, not, min, slice_index, if◌then◌else◌, zip}
+use Rattle.std.specs.Prelude.{Bool, List, length, filter, ℕ, ◌≡◌, ◌<◌, ◌+◌, ◌^◌, ◌==◌, ◌||◌, not, min, slice_index}
+use Rattle.std.specs.Prelude.{if◌then◌else◌, zip}
 use Rattle.std.specs.List.{enumerate_from, list_all}
 use Rattle.lcm_events.specs.Same.{same_name}
 use Rattle.lcm_events.specs.declared.changes.Change.{Change}

@@ -27,10 +27,11 @@ pub enum GrantAnswer {
 
 /// What an answer to a grant request (`asked`), or else to a poll, says.
 ///
-/// A grant is a JSON object with `id`, a name that isn't empty, and `addResources`, `removeResources` and `updateResources`, each absent or a
-/// list of objects with `resourceDefinitionId`, a name, and `vimConnectionId` and `zoneId`, names, each empty where it is absent. Other
-/// members are passed over. Whatever has another form, `null` among it, makes the answer `Trouble`. `AllocError` is want of memory, and comes
-/// for no other status than 200, 201 and 202.
+/// A grant is a JSON object with `id`, a name that isn't empty, and `addResources`, `removeResources` and
+/// `updateResources`, each absent or a list of objects with `resourceDefinitionId`, a name, and `vimConnectionId` and
+/// `zoneId`, names, each empty where it is absent. Other members are passed over. Whatever has another form, `null`
+/// among it, makes the answer `Trouble`. `AllocError` is want of memory, and comes for no other status than 200, 201
+/// and 202.
 ///
 /// Source: SOL 003 9.4.2 (Grants), 9.4.3 (Individual grant), 9.5.2.3 (Grant).
 pub fn read_answer(alloc: Global, asked: bool, heard: &Heard) -> Result<GrantAnswer, AllocError>

@@ -21,9 +21,10 @@ fn names_each_once(changes: &[Change], part: Part, rows: &[GrantRow], counts: &m
     rows.len() == asked_in(changes, part) && are_named_once(changes, part, rows, counts)
 }
 
-/// Whether a grant covers the changes of a plan: each of its three lists names exactly the identifiers that were asked in that list, each
-/// once, in any order, and all rows together have at most 32 distinct places. It takes no memory. The time is linear in the changes and
-/// the rows, up to 8,192 changes; beyond them the rows are walked over once for each 8,192.
+/// Whether a grant covers the changes of a plan: each of its three lists names exactly the identifiers that were asked
+/// in that list, each once, in any order, and all rows together have at most 32 distinct places. It takes no memory.
+/// The time is linear in the changes and the rows, up to 8,192 changes; beyond them the rows are walked over once for
+/// each 8,192.
 ///
 /// Source: SOL 003 9.5.2.3 (Grant); own rule.
 pub fn covers(changes: &[Change], rows: &GrantRows) -> bool

@@ -1,5 +1,6 @@
 //! The entries of a grant request: what is asked for, change by change.
-ghost use Rattle.std.specs.Prelude.{◌≡◌, [], IfOk, OnOk, filter, map, option_copied, option_map, slice_get, string_bytes, unwrap_or};
+ghost use Rattle.std.specs.Prelude.{◌≡◌, [], IfOk, OnOk, filter, map, option_copied, option_map, slice_get};
+ghost use Rattle.std.specs.Prelude.{string_bytes, unwrap_or};
 ghost use Rattle.std.specs.List.{enumerate_from};
 ghost use Rattle.std.specs.Option.{option_map_or};
 ghost use Rattle.serde_json.specs.View.{members_view, view};
@@ -41,7 +42,8 @@ fn entry_values(
     changes: &[Change],
 ) -> Result<Vec<Value>, AllocError>
     requires { AreInOrder holding.now.items }
-    ensures { IfOk result (λ values. map view values.items ≡ map (entry vnfd.now holding.now) (filter (λ x. asks part x.1.verb) (enumerate_from 0 changes.now))) }
+    ensures { IfOk result (λ values. map view values.items
+        ≡ map (entry vnfd.now holding.now) (filter (λ x. asks part x.1.verb) (enumerate_from 0 changes.now))) }
 {
     let mut values = Vec::new(alloc);
     for (k, change) in changes.iter().enumerate() {
@@ -78,7 +80,8 @@ fn needed_members(
     k: usize,
     def: &Def,
 ) -> Result<Map<String, Value>, AllocError>
-    ensures { IfOk result (λ members. members_view members.entries ≡ needed_members (change_id k) (template_name vnfd.now def.now.kind def.now) (type_word def.now.kind)) }
+    ensures { IfOk result (λ members. members_view members.entries
+        ≡ needed_members (change_id k) (template_name vnfd.now def.now.kind def.now) (type_word def.now.kind)) }
 {
     let id = change_id(alloc, k)?;
     let mut members = Map::new(alloc);
@@ -100,7 +103,8 @@ fn put_where(
     name: &str,
     value: Option<Value>,
 ) -> Result<(), AllocError>
-    ensures { OnOk result (members_view members.new.entries ≡ put_where name.now (option_map view value) (members_view members.old.entries)) }
+    ensures { OnOk result (members_view members.new.entries
+        ≡ put_where name.now (option_map view value) (members_view members.old.entries)) }
 {
     match value {
         Some(value) => put(members, alloc, name, value),
@@ -125,7 +129,8 @@ fn resource_for(
     change: &Change,
 ) -> Result<Option<Value>, AllocError>
     requires { AreInOrder holding.now.items }
-    ensures { IfOk result (λ value. option_map view value ≡ resource_for change.now.verb (item_of change.now.def holding.now.items)) }
+    ensures { IfOk result (λ value. option_map view value
+        ≡ resource_for change.now.verb (item_of change.now.def holding.now.items)) }
 {
     match change.verb {
         Verb::Create => Ok(None),

@@ -1,10 +1,12 @@
 //! An orchestrator in memory that grants whatever it is asked for.
-ghost use Rattle.std.specs.Prelude.{◌≡◌, ◌≢◌, IfErr, IfOk, Ok, codes, false, length, map, option_and_then, option_copied, option_map, true};
+ghost use Rattle.std.specs.Prelude.{◌≡◌, ◌≢◌, IfErr, IfOk, Ok, codes, false, length, map, option_and_then};
+ghost use Rattle.std.specs.Prelude.{option_copied, option_map, true};
 ghost use Rattle.serde_json.specs.Data.{string};
 ghost use Rattle.serde_json.specs.Find.{as_str, get};
 ghost use Rattle.serde_json.specs.View.{items_view, view};
 ghost use Rattle.serde_json.specs.Written.{compact_text};
-ghost use Rattle.grant_desk.specs.GrantAll.{Serves, answer_to, answer_with, grant, grant_for, grant_id, grant_text, row, rows_for, rows_where, RequestsAreGranted};
+ghost use Rattle.grant_desk.specs.GrantAll.{Serves, answer_to, answer_with, grant, grant_for, grant_id, grant_text};
+ghost use Rattle.grant_desk.specs.GrantAll.{row, rows_for, rows_where, RequestsAreGranted};
 
 use itoa::Buffer;
 use serde_json::{Map, Value, json, put};
@@ -14,12 +16,14 @@ use vnfm_base::Line;
 
 /// An orchestrator in memory, which tells all: it grants whatever it is asked for.
 ///
-/// A request that it can read is answered by 201 with a grant of each identifier in the order asked, all at the connection `vim1` and in no
-/// zone. The grants are `g1`, `g2` and on. A request is a JSON object in which `addResources`, `removeResources` and `updateResources` are
-/// absent or lists of objects whose `id` is a text. Another request fails, as does one whose grant has more than 1,048,576 bytes, and each poll.
+/// A request that it can read is answered by 201 with a grant of each identifier in the order asked, all at the
+/// connection `vim1` and in no zone. The grants are `g1`, `g2` and on. A request is a JSON object in which
+/// `addResources`, `removeResources` and `updateResources` are absent or lists of objects whose `id` is a text. Another
+/// request fails, as does one whose grant has more than 1,048,576 bytes, and each poll.
 ///
-/// It has room for 1,048,576 requests, and for 64 MiB of them and their answers; a request past it fails. Reading a request takes memory, from
-/// the allocator that `new` was given: where there is none, the request fails, and is counted as such.
+/// It has room for 1,048,576 requests, and for 64 MiB of them and their answers; a request past it fails. Reading a
+/// request takes memory, from the allocator that `new` was given: where there is none, the request fails, and is
+/// counted as such.
 ///
 /// Source: SOL 003 9.4.2 (Grants), 9.5.2.2 (GrantRequest), 9.5.2.3 (Grant); own rule.
 pub struct GrantAll {
@@ -99,7 +103,8 @@ fn grant_text(alloc: Global, before: usize, bytes: &[u8]) -> Result<Option<Vec<u
 
 /// The text of the grant behind so many for a request.
 fn text_for(alloc: Global, before: usize, request: &Value) -> Result<Option<Vec<u8>>, AllocError>
-    ensures { IfOk result (λ text. option_map (λ t. t.items) text ≡ option_map compact_text (grant_for before (view request.now))) }
+    ensures { IfOk result (λ text. option_map (λ t. t.items) text
+        ≡ option_map compact_text (grant_for before (view request.now))) }
 {
     let Some(grant) = grant_for(alloc, before, request)? else {
         return Ok(None);
@@ -134,7 +139,8 @@ fn grant(
     remove: Vec<Value>,
     update: Vec<Value>,
 ) -> Result<Value, AllocError>
-    ensures { IfOk result (λ value. view value ≡ grant before (map view add.items) (map view remove.items) (map view update.items)) }
+    ensures { IfOk result (λ value. view value ≡ grant before (map view add.items) (map view remove.items)
+        (map view update.items)) }
 {
     let mut members = Map::new(alloc);
     put(&mut members, alloc, "addResources", Value::Array(add))?;
@@ -156,7 +162,8 @@ fn grant_id(alloc: Global, before: usize) -> Result<Value, AllocError>
 
 /// What is granted for a list that may be absent.
 fn rows_where(alloc: Global, list: Option<&Value>) -> Result<Option<Vec<Value>>, AllocError>
-    ensures { IfOk result (λ rows. option_map (λ r. map view r.items) rows ≡ rows_where (option_map (λ v. view v.now) list.entry)) }
+    ensures { IfOk result (λ rows. option_map (λ r. map view r.items) rows
+        ≡ rows_where (option_map (λ v. view v.now) list.entry)) }
 {
     let Some(list) = list else {
         return Ok(Some(Vec::new(alloc)));
@@ -214,7 +221,8 @@ fn serve(
     body: &[u8],
     heard: &mut Heard,
 ) -> Result<bool, AllocError>
-    ensures serves { IfOk result (λ is. Serves (answer_to (length served.old.calls) body.now) body.now is heard.new served.old served.new) }
+    ensures serves { IfOk result (λ is. Serves (answer_to (length served.old.calls) body.now) body.now is heard.new
+        served.old served.new) }
     ensures kept { IfErr result (λ e. served.new ≡ served.old) }
     ensures unheard { result ≢ Ok true → heard.new ≡ heard.old }
 {
@@ -268,8 +276,9 @@ impl Orchestrator for GrantAll {
     }
 }
 
-/// That an orchestrator that grants all can read each request that `grant_body` gives, and grants each change of its plan once, in the list
-/// that asks for it, in the order of the plan, and nothing else. It does nothing, and its contract is the law.
+/// That an orchestrator that grants all can read each request that `grant_body` gives, and grants each change of its
+/// plan once, in the list that asks for it, in the order of the plan, and nothing else. It does nothing, and its
+/// contract is the law.
 ///
 /// Source: SOL 003 9.5.2.3 (Grant).
 pub fn requests_are_granted()

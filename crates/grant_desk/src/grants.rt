@@ -1,7 +1,8 @@
 //! A grant, read from JSON.
 ghost use Rattle.std.specs.Prelude.{◌≡◌, IfOk, option_and_then, option_map};
 ghost use Rattle.serde_json.specs.View.{items_view, view};
-ghost use Rattle.grant_desk.specs.Answers.{given_in, given_text, grant_in, grant_of, name_in, name_text, name_where, place_in, row_in, rows_in, rows_where};
+ghost use Rattle.grant_desk.specs.Answers.{given_in, given_text, grant_in, grant_of, name_in, name_text, name_where};
+ghost use Rattle.grant_desk.specs.Answers.{place_in, row_in, rows_in, rows_where};
 
 use crate::places::no_name;
 use crate::rows::{GrantRow, GrantRows};

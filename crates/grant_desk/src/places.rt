@@ -18,8 +18,8 @@ pub fn no_name() -> Name
     Name::of(b"").unwrap()
 }
 
-/// Puts the places of these rows that weren't seen behind those that were, which are so many at the front of the room, and answers how many
-/// there are; `None` exactly where they are more than the room.
+/// Puts the places of these rows that weren't seen behind those that were, which are so many at the front of the room,
+/// and answers how many there are; `None` exactly where they are more than the room.
 fn see_rows(room: &mut [Place], seen: usize, rows: &[GrantRow]) -> Option<usize>
     requires { seen ≤ length room.old }
     ensures length { length room.new ≡ length room.old }
@@ -38,7 +38,8 @@ fn see_rows(room: &mut [Place], seen: usize, rows: &[GrantRow]) -> Option<usize>
     Some(count)
 }
 
-/// Puts the distinct places of all rows into the room, and answers how many there are; `None` exactly where they are more than the room.
+/// Puts the distinct places of all rows into the room, and answers how many there are; `None` exactly where they are
+/// more than the room.
 fn see_all(room: &mut [Place], rows: &GrantRows) -> Option<usize>
     ensures length { length room.new ≡ length room.old }
     ensures sees { Sees [] (rows.now.add ++ rows.now.remove ++ rows.now.update) result room.new }
@@ -54,7 +55,8 @@ fn see_all(room: &mut [Place], rows: &GrantRows) -> Option<usize>
 
 /// Whether all rows together have at most 32 distinct places.
 pub fn has_few_places(rows: &GrantRows) -> bool
-    ensures { IsTrue result ↔ (length (distinct_places (map (λ r. r.1) (rows.now.add ++ rows.now.remove ++ rows.now.update))) ≤ 32) }
+    ensures { IsTrue result ↔ (length (distinct_places (map (λ r. r.1)
+        (rows.now.add ++ rows.now.remove ++ rows.now.update))) ≤ 32) }
 {
     let none = Place {
         vim: no_name(),

@@ -26,15 +26,19 @@ pub struct Placing {
     pub spots: Listed<u8>,
 }
 
-/// What a grant that covers a plan gives its changes. The time is linear in the changes and the rows. `AllocError` is want of memory.
+/// What a grant that covers a plan gives its changes. The time is linear in the changes and the rows. `AllocError` is
+/// want of memory.
 ///
 /// Condition: the grant covers the changes (`covers`).
 /// Source: SOL 003 9.5.2.3 (Grant); own format.
 pub fn places_of(alloc: Global, changes: &[Change], rows: &GrantRows) -> Result<Placing, AllocError>
     requires { covers changes.now rows.now.add rows.now.remove rows.now.update ≡ true }
-    ensures places { IfOk result (λ placing. placing.places ≡ granted_places changes.now rows.now.add rows.now.remove rows.now.update) }
-    ensures spots { IfOk result (λ placing. placing.spots ≡ granted_spots changes.now rows.now.add rows.now.remove rows.now.update) }
-    ensures allowed { (width m : ℕ) (H : List Event) (o : ℕ) → IsAsking H o → changes_of H o ≡ changes.now → is_given rows.now.grant ≡ true
+    ensures places { IfOk result (λ placing. placing.places
+        ≡ granted_places changes.now rows.now.add rows.now.remove rows.now.update) }
+    ensures spots { IfOk result (λ placing. placing.spots
+        ≡ granted_spots changes.now rows.now.add rows.now.remove rows.now.update) }
+    ensures allowed { (width m : ℕ) (H : List Event) (o : ℕ) → IsAsking H o → changes_of H o ≡ changes.now
+        → is_given rows.now.grant ≡ true
         → IfOk result (λ placing. IsAllowedWithin width m H (Granted o rows.now.grant placing.places placing.spots)) }
 {
     let given = places_by_change(alloc, changes, rows)?;
@@ -52,7 +56,8 @@ fn places_by_change(
     changes: &[Change],
     rows: &GrantRows,
 ) -> Result<Vec<Place>, AllocError>
-    ensures { IfOk result (λ places. places.items ≡ row_places changes.now rows.now.add rows.now.remove rows.now.update) }
+    ensures { IfOk result (λ places. places.items ≡ row_places changes.now rows.now.add rows.now.remove
+        rows.now.update) }
 {
     let mut found = no_places(alloc, changes.len())?;
     find_all(&mut found, changes, rows);
@@ -63,7 +68,8 @@ fn places_by_change(
 fn find_all(found: &mut [Option<Place>], changes: &[Change], rows: &GrantRows)
     requires { found.old ≡ replicate (length changes.now) None }
     ensures length { length found.new ≡ length found.old }
-    ensures found { filter_map (λ place. place) found.new ≡ row_places changes.now rows.now.add rows.now.remove rows.now.update }
+    ensures found { filter_map (λ place. place) found.new
+        ≡ row_places changes.now rows.now.add rows.now.remove rows.now.update }
 {
     find_rows(found, changes, Part::Add, rows.add.as_slice());
     find_rows(found, changes, Part::Remove, rows.remove.as_slice());
@@ -81,7 +87,8 @@ fn no_places(alloc: Global, count: usize) -> Result<Vec<Option<Place>>, AllocErr
     Ok(found)
 }
 
-/// Finds the place of the change that a row of a part names, where it is one that is asked for there and none was found for it.
+/// Finds the place of the change that a row of a part names, where it is one that is asked for there and none was found
+/// for it.
 fn find_row(found: &mut [Option<Place>], changes: &[Change], part: Part, row: &GrantRow)
     requires { length found.old ≡ length changes.now }
     ensures { FoundByRow part row.now changes.now found.old found.new }

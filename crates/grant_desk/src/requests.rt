@@ -33,13 +33,14 @@ pub struct GrantAsker {
 
 /// The body of the grant request for an operation with this plan: a JSON object as compact text.
 ///
-/// A change that creates is asked for in `addResources`, one that removes in `removeResources`, one that starts or stops in
-/// `updateResources`, each in the order of the plan, under the identifier `d` and its number. What the descriptor lacks has an empty name. What
-/// isn't created names its resource, where it stands. The time is linear in the changes, times the logarithm of what stands. `AllocError` is
-/// want of memory.
+/// A change that creates is asked for in `addResources`, one that removes in `removeResources`, one that starts or
+/// stops in
+/// `updateResources`, each in the order of the plan, under the identifier `d` and its number. What the descriptor lacks
+/// has an empty name. What isn't created names its resource, where it stands. The time is linear in the changes, times
+/// the logarithm of what stands. `AllocError` is want of memory.
 ///
-/// Condition: what stands is in order of definition; the numbers of the instance and the occurrence are from 1 to 2^62 - 1.
-/// Source: SOL 003 9.4.2 (Grants), 9.5.2.2 (GrantRequest).
+/// Condition: what stands is in order of definition; the numbers of the instance and the occurrence are from 1 to 2^62
+/// - 1. Source: SOL 003 9.4.2 (Grants), 9.5.2.2 (GrantRequest).
 #[tactic(auto, unfolding(crate::specs::Requests::request_text))]
 pub fn grant_body(
     alloc: Global,
@@ -53,7 +54,8 @@ pub fn grant_body(
     requires instance { IsIdentNumber who.now.instance }
     requires occ { IsIdentNumber who.now.occ }
     ensures text { IfOk result (λ body. body ≡ request_text vnfd.now holding.now who.now ask.now changes.now) }
-    ensures reads { IfOk result (λ body. IsUtf8 body × (read body ≡ Some (request vnfd.now holding.now who.now ask.now changes.now))) }
+    ensures reads { IfOk result (λ body. IsUtf8 body × (read body
+        ≡ Some (request vnfd.now holding.now who.now ask.now changes.now))) }
 {
     let value = request_value(alloc, vnfd, holding, who, ask, changes)?;
     let text = value.to_vec(alloc)?;
@@ -95,7 +97,9 @@ fn text_members(
     occ: &str,
     ask: &Ask,
 ) -> Result<Map<String, Value>, AllocError>
-    ensures { IfOk result (λ members. members_view members.entries ≡ text_members vnfd.now.flavour_id (operation_word (kind_of ask.now)) instance.now occ.now vnfd.now.descriptor_id) }
+    ensures { IfOk result (λ members. members_view members.entries
+        ≡ text_members vnfd.now.flavour_id (operation_word (kind_of ask.now)) instance.now occ.now
+        vnfd.now.descriptor_id) }
 {
     let mut members = Map::new(alloc);
     put_text(&mut members, alloc, "flavourId", vnfd.flavour_id.as_str())?;

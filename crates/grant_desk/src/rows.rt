@@ -8,7 +8,8 @@ use vnfm_base::Name;
 /// Source: SOL 003 9.5.3.3 (GrantInfo).
 pub type GrantRow = (Name, Place);
 
-/// A grant as it was read: its identifier, and its rows in order. What a row names may be any name, and may be named twice.
+/// A grant as it was read: its identifier, and its rows in order. What a row names may be any name, and may be named
+/// twice.
 ///
 /// Source: SOL 003 9.5.2.3 (Grant).
 

@@ -1,4 +1,5 @@
-//! How often rows name each change of a part of a plan, counted without memory: so many changes at a time in one walk over the rows.
+//! How often rows name each change of a part of a plan, counted without memory: so many changes at a time in one walk
+//! over the rows.
 ghost use Rattle.std.specs.Prelude.{◌≡◌, ◌<◌, ◌≤◌, ◌+◌, ◌^◌, ℕ, length, slice_index, count_by, EachIndex};
 ghost use Rattle.grant_desk.specs.Parts.{asks};
 ghost use Rattle.grant_desk.specs.Tallies.{AreTallied, are_counted_once, are_named_once, counted};
@@ -12,7 +13,8 @@ use vnfm_base::Name;
 /// Counts of changes, that of change `first` in front, after a row with this identifier.
 fn count_row(id: &Name, first: u64, counts: &mut [u8])
     ensures length { length counts.new ≡ length counts.old }
-    ensures counted { (j : ℕ) → j < length counts.old → first + j < 2 ^ 64 → slice_index counts.new j ≡ counted id.now (first + j) (slice_index counts.old j) }
+    ensures counted { (j : ℕ) → j < length counts.old → first + j < 2 ^ 64
+        → slice_index counts.new j ≡ counted id.now (first + j) (slice_index counts.old j) }
 {
     let Some(number) = change_number(id) else {
         return;
@@ -59,8 +61,9 @@ fn are_counted_once(changes: &[Change], part: Part, counts: &[u8]) -> bool
     true
 }
 
-/// Whether the rows name each of these changes that is asked for in this part once. The counts are room for the work: the time is linear in
-/// the changes, and in the rows for each walk over them, of which there is one for as many changes as there are counts.
+/// Whether the rows name each of these changes that is asked for in this part once. The counts are room for the work:
+/// the time is linear in the changes, and in the rows for each walk over them, of which there is one for as many
+/// changes as there are counts.
 pub fn are_named_once(changes: &[Change], part: Part, rows: &[GrantRow], counts: &mut [u8]) -> bool
     requires { 0 < length counts.old }
     ensures length { length counts.new ≡ length counts.old }

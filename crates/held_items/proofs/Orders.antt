@@ -1,5 +1,6 @@
 -- The order of definitions, and that a descriptor's definitions stand in it.
-use Rattle.std.proofs.Common.{◌≡◌, ◌<◌, ◌++◌, ◌&&◌, ◌||◌, ◌==◌, ◌∙◌, ◌⊎◌, ℕ, List, Bool, true, false, inl, inr, refl, ap, sym, subst, length, flat_map, arith, ltb, ltb-true, ltb-false, lt-ltb, eqb-true, eq-eqb}
+use Rattle.std.proofs.Common.{◌≡◌, ◌<◌, ◌++◌, ◌&&◌, ◌||◌, ◌==◌, ◌∙◌, ◌⊎◌, ℕ, List, Bool, true, false, inl, inr, refl, ap, sym, subst}
+use Rattle.std.proofs.Common.{length, flat_map, arith, ltb, ltb-true, ltb-false, lt-ltb, eqb-true, eq-eqb}
 use Rattle.std.specs.List.{range_with_len}
 use Rattle.lcm_events.specs.Same.{kind_number, same_def}
 use Rattle.lcm_events.specs.declared.changes.Def.{Def}
@@ -13,7 +14,8 @@ use Rattle.lcm_model.specs.Words.{IsIn}
 use Rattle.lcm_laws.proofs.BoundLaws.{all_parts}
 use Rattle.lcm_laws.proofs.HoldingLaws.{few_vdus}
 use Rattle.lcm_laws.proofs.Lists.{and_left, and_right, and_true, by_test}
-use Rattle.lcm_laws.proofs.Members.{Less, Rises, in_either, of_flat_map, of_map, of_range, rises_append, rises_flat_map, rises_map, rises_range}
+use Rattle.lcm_laws.proofs.Members.{Less, Rises, in_either, of_flat_map, of_map, of_range, rises_append, rises_flat_map, rises_map}
+use Rattle.lcm_laws.proofs.Members.{rises_range}
 use Rattle.lcm_laws.proofs.PlanMembers.{of_defs}
 use Rattle.lcm_laws.proofs.PlanOrder.{items_rise}
 
@@ -36,13 +38,15 @@ by_rest m n rest h e =
     let both : ((m == n) && rest) ≡ true = and_true (m == n) rest (eq-eqb m n h) e in
     by_test (ltb m n) (λ less. rw less refl) (λ no. rw no both)
 
-on_by : (m n k : ℕ) (a b c : Bool) → (a ≡ true → b ≡ true → c ≡ true) → (m < n) ⊎ ((m ≡ n) × (a ≡ true)) → (n < k) ⊎ ((n ≡ k) × (b ≡ true)) → by_number m k c ≡ true
+on_by : (m n k : ℕ) (a b c : Bool) → (a ≡ true → b ≡ true → c ≡ true) → (m < n) ⊎ ((m ≡ n) × (a ≡ true)) → (n < k) ⊎ ((n ≡ k) × (b ≡ true))
+    → by_number m k c ≡ true
 on_by m n k a b c f (inl h) (inl g) = by_less m k c (omega (arith, h, g))
 on_by m n k a b c f (inl h) (inr g) = let same = g.0 in by_less m k c (omega (arith, h, same))
 on_by m n k a b c f (inr h) (inl g) = let same = h.0 in by_less m k c (omega (arith, g, same))
 on_by m n k a b c f (inr h) (inr g) = by_rest m k c (h.0 ∙ g.0) (f h.1 g.1)
 
-on : (m n k : ℕ) (a b c : Bool) → (a ≡ true → b ≡ true → c ≡ true) → by_number m n a ≡ true → by_number n k b ≡ true → by_number m k c ≡ true
+on : (m n k : ℕ) (a b c : Bool) → (a ≡ true → b ≡ true → c ≡ true) → by_number m n a ≡ true → by_number n k b ≡ true
+    → by_number m k c ≡ true
 on m n k a b c f e g = on_by m n k a b c f (numbers m n a e) (numbers n k b g)
 
 once_by : (m n : ℕ) (a b : Bool) → (a ≡ true → b ≡ true → ⊥) → (m < n) ⊎ ((m ≡ n) × (a ≡ true)) → (n < m) ⊎ ((n ≡ m) × (b ≡ true)) → ⊥
@@ -79,7 +83,8 @@ before_on x y z e f =
     on x.vdu y.vdu z.vdu _ _ _
     (on x.serial y.serial z.serial _ _ _
     (on (kind_number x.kind) (kind_number y.kind) (kind_number z.kind) (ltb x.item y.item) (ltb y.item z.item) (ltb x.item z.item)
-    (λ h g. lt-ltb x.item z.item (let less = ltb-true x.item y.item h in let more = ltb-true y.item z.item g in omega (arith, less, more))))) e f
+    (λ h g. lt-ltb x.item z.item (let less = ltb-true x.item y.item h in let more = ltb-true y.item z.item g in
+    omega (arith, less, more))))) e f
 
 -- of two definitions not each is before the other
 pub before_once : (x y : Def) → DefBefore x y → DefBefore y x → ⊥
@@ -114,7 +119,8 @@ before_or x y unless differ = by_test (is_def_before y x)
     let ge = ltb-false x.item y.item k.1 in
     let le = ltb-false y.item x.item k.2 in
     let same : same_def x y ≡ true =
-    and_true _ _ (and_true _ _ (and_true _ _ (eq-eqb (kind_number x.kind) (kind_number y.kind) k.0) (eq-eqb x.item y.item (omega (arith, ge, le)))) (eq-eqb x.vdu y.vdu v.0))
+    and_true _ _ (and_true _ _ (and_true _ _ (eq-eqb (kind_number x.kind) (kind_number y.kind) k.0)
+    (eq-eqb x.item y.item (omega (arith, ge, le)))) (eq-eqb x.vdu y.vdu v.0))
     (eq-eqb x.serial y.serial s.0) in
     let clash : true ≡ false = sym same ∙ differ in cc)
 
@@ -129,9 +135,11 @@ by_kind x y v s h = by_rest x.vdu y.vdu _ v (by_rest x.serial y.serial _ s (by_l
 
 by_item : (x y : Def) → x.vdu ≡ y.vdu → x.serial ≡ y.serial → x.kind ≡ y.kind → x.item < y.item → DefBefore x y
 by_item x y v s k h =
-    by_rest x.vdu y.vdu _ v (by_rest x.serial y.serial _ s (by_rest (kind_number x.kind) (kind_number y.kind) _ (ap kind_number k) (lt-ltb x.item y.item h)))
+    by_rest x.vdu y.vdu _ v (by_rest x.serial y.serial _ s (by_rest (kind_number x.kind) (kind_number y.kind) _ (ap kind_number k)
+    (lt-ltb x.item y.item h)))
 
-kinds_before : (d : Vnfd) (j k : DefKind) (v s : ℕ) (x y : Def) → kind_number j < kind_number k → IsIn x (defs d j v s) → IsIn y (defs d k v s) → DefBefore x y
+kinds_before : (d : Vnfd) (j k : DefKind) (v s : ℕ) (x y : Def) → kind_number j < kind_number k → IsIn x (defs d j v s)
+    → IsIn y (defs d k v s) → DefBefore x y
 kinds_before d j k v s x y less hx hy =
     let px = of_defs d j v s x hx in
     let py = of_defs d k v s y hy in
@@ -141,7 +149,8 @@ kinds_before d j k v s x y less hx hy =
 
 items_before : (d : Vnfd) (kind : DefKind) (v s : ℕ) → IsValid d → Rises DefBefore (defs d kind v s)
 items_before d kind v s valid =
-    rises_map Less DefBefore (def_of kind v s) (items d kind v) (λ a b ha hb less. by_item (def_of kind v s a) (def_of kind v s b) refl refl refl less)
+    rises_map Less DefBefore (def_of kind v s) (items d kind v) (λ a b ha hb less.
+    by_item (def_of kind v s a) (def_of kind v s b) refl refl refl less)
     (items_rise d kind v valid)
 
 machine_before : (d : Vnfd) (v s : ℕ) → IsValid d → Rises DefBefore (all_defs d v s)
@@ -180,12 +189,14 @@ link_vdu d y h = let from = of_map link_def y (range_with_len 0 (length d.links)
 pub up_to_before : (d : Vnfd) (top : ℕ → ℕ) → IsValid d → Rises DefBefore (defs_up_to d top)
 up_to_before d top valid =
     rises_append DefBefore (flat_map (machines d top) (vdu_numbers d)) (links d)
-    (rises_flat_map Less DefBefore (machines d top) (vdu_numbers d) (rises_range 0 (length d.vdus)) (λ v within. machines_before d top v valid)
+    (rises_flat_map Less DefBefore (machines d top) (vdu_numbers d) (rises_range 0 (length d.vdus))
+    (λ v within. machines_before d top v valid)
     (λ u v x y less hx hy.
     let a = of_machines d top u x hx in
     let b = of_machines d top v y hy in
     by_vdu x y (omega (arith, less, a, b))))
-    (rises_map Less DefBefore link_def (range_with_len 0 (length d.links)) (λ a b ha hb less. by_item (link_def a) (link_def b) refl refl refl less)
+    (rises_map Less DefBefore link_def (range_with_len 0 (length d.links))
+    (λ a b ha hb less. by_item (link_def a) (link_def b) refl refl refl less)
     (rises_range 0 (length d.links)))
     (λ x y hx hy.
     let from = of_flat_map (machines d top) x (vdu_numbers d) hx in

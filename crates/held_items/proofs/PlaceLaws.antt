@@ -33,13 +33,15 @@ use Rattle.held_items.proofs.ItemLaws.{no_effect}
 use Rattle.held_items.proofs.PowerLaws.{HasCase, case_at}
 
 -- an event without effect leaves the places
-pub places_left : (width m : ℕ) (H : List Event) (time : ℕ) (k : EventKind) (i : ℕ) (x : Def) → IsLegalWithin width m H → IsAllowedWithin width m H k → is_done k ≡ false
+pub places_left : (width m : ℕ) (H : List Event) (time : ℕ) (k : EventKind) (i : ℕ) (x : Def) → IsLegalWithin width m H
+    → IsAllowedWithin width m H k → is_done k ≡ false
     → place (event time k ∷ H) i x ≡ place H i x
 places_left width m H time k i x legal allowed e =
     place_same H (event time k ∷ H) i x (let none = no_effect H k e in rw none refl) (places_stay width m H time k legal allowed)
 
 -- an effect that makes nothing of this definition leaves its place
-place_next : (H : List Event) (time : ℕ) (t : Tag) (name : List ℕ) (i : ℕ) (x : Def) (y : Effect) → effect_in H (Settled t (Done name)) ≡ Some y
+place_next : (H : List Event) (time : ℕ) (t : Tag) (name : List ℕ) (i : ℕ) (x : Def) (y : Effect)
+    → effect_in H (Settled t (Done name)) ≡ Some y
     → (is_effect_on i x y ≡ true → is_forward_creation y ≡ false) → place (with_done H time t name) i x ≡ place H i x
 place_next H time t name i x y e keeps =
     let now = effects-next H time (Settled t (Done name)) i x y e in
@@ -53,15 +55,19 @@ created_forward w v e is = subst (λ (u : Way). verb_done u v ≡ Create) e is
 
 -- what an operation removes it doesn't make
 never_made : (width m : ℕ) (H : List Event) (t : Tag) (name : List ℕ) (o : ℕ) (a b : Operation) (j k : Change) → IsLegalWithin width m H
-    → IsAllowedWithin width m H (Settled t (Done name)) → operation H o ≡ Some a → is_final (state H o) ≡ false → IsIn k a.changes → k.verb ≡ Remove
+    → IsAllowedWithin width m H (Settled t (Done name)) → operation H o ≡ Some a → is_final (state H o) ≡ false → IsIn k a.changes
+    → k.verb ≡ Remove
     → operation H t.occ ≡ Some b → is_final (state H t.occ) ≡ false → slice_get b.changes t.change ≡ Some j
     → is_effect_on a.instance k.def (effect t name b j) ≡ true → is_forward_creation (effect t name b j) ≡ false
-never_made width m H t name o a b j k legal allowed found goes has remove other on change here = by_test (is_forward_creation (effect t name b j))
+never_made width m H t name o a b j k legal allowed found goes has remove other on change here =
+    by_test (is_forward_creation (effect t name b j))
     (λ makes.
     let at : b.instance ≡ a.instance = eqb-true b.instance a.instance (and_left (b.instance == a.instance) (same_def j.def k.def) here) in
     let def : j.def ≡ k.def = same_def-true j.def k.def (and_right (b.instance == a.instance) (same_def j.def k.def) here) in
-    let verb : verb_done t.way j.verb ≡ Create = same_verb-true (verb_done t.way j.verb) Create (and_left (same_verb (verb_done t.way j.verb) Create) (same_way t.way Forward) makes) in
-    let way : t.way ≡ Forward = same_way-true t.way Forward (and_right (same_verb (verb_done t.way j.verb) Create) (same_way t.way Forward) makes) in
+    let verb : verb_done t.way j.verb ≡ Create = same_verb-true (verb_done t.way j.verb) Create
+    (and_left (same_verb (verb_done t.way j.verb) Create) (same_way t.way Forward) makes) in
+    let way : t.way ≡ Forward = same_way-true t.way Forward (and_right (same_verb (verb_done t.way j.verb) Create)
+    (same_way t.way Forward) makes) in
     let made : j.verb ≡ Create = created_forward t.way j.verb way verb in
     let occ : t.occ ≡ o = one_going width m H a.instance o t.occ a b legal found refl goes other at on in
     let one : b ≡ a = one_value (operation H o) b a (subst (λ (n : ℕ). operation H n ≡ Some b) occ other) found in
@@ -72,8 +78,10 @@ never_made width m H t name o a b j k legal allowed found goes has remove other 
     let clash : true ≡ false = sym there ∙ (ap h.p.held.stands (sym def) ∙ absent) in cc)
     (λ other. other)
 
-done_stays : (width m : ℕ) (H : List Event) (time : ℕ) (t : Tag) (name : List ℕ) (o : ℕ) (a : Operation) (k : Change) → IsLegalWithin width m H
-    → IsAllowedWithin width m H (Settled t (Done name)) → operation H o ≡ Some a → is_final (state H o) ≡ false → IsIn k a.changes → k.verb ≡ Remove
+done_stays : (width m : ℕ) (H : List Event) (time : ℕ) (t : Tag) (name : List ℕ) (o : ℕ) (a : Operation) (k : Change)
+    → IsLegalWithin width m H
+    → IsAllowedWithin width m H (Settled t (Done name)) → operation H o ≡ Some a → is_final (state H o) ≡ false → IsIn k a.changes
+    → k.verb ≡ Remove
     → place (with_done H time t name) a.instance k.def ≡ place H a.instance k.def
 done_stays width m H time t name o a k legal allowed found goes has remove =
     let mine = open_operation width m H t legal allowed in
@@ -85,13 +93,17 @@ done_stays width m H time t name o a k legal allowed found goes has remove =
     ]
 
 -- no event changes the place of what an operation that goes on removes
-pub removals_stay : (width m : ℕ) (H : List Event) (time : ℕ) (kind : EventKind) (o : ℕ) (a : Operation) (k : Change) → IsLegalWithin width m H → IsAllowedWithin width m H kind
+pub removals_stay : (width m : ℕ) (H : List Event) (time : ℕ) (kind : EventKind) (o : ℕ) (a : Operation) (k : Change)
+    → IsLegalWithin width m H → IsAllowedWithin width m H kind
     → operation H o ≡ Some a → is_final (state H o) ≡ false → IsIn k a.changes → k.verb ≡ Remove
     → place (event time kind ∷ H) a.instance k.def ≡ place H a.instance k.def
 removals_stay width m H time (Settled t (Done name)) o a k legal allowed found goes has remove =
     done_stays width m H time t name o a k legal allowed found goes has remove
 removals_stay width m H time (Settled t (Broken code)) o a k legal allowed found goes has remove =
     places_left width m H time (Settled t (Broken code)) a.instance k.def legal allowed refl
-removals_stay width m H time (Settled t Aborted) o a k legal allowed found goes has remove = places_left width m H time (Settled t Aborted) a.instance k.def legal allowed refl
-removals_stay width m H time (Settled t NotBegun) o a k legal allowed found goes has remove = places_left width m H time (Settled t NotBegun) a.instance k.def legal allowed refl
-removals_stay width m H time kind o a k legal allowed found goes has remove = places_left width m H time kind a.instance k.def legal allowed refl
+removals_stay width m H time (Settled t Aborted) o a k legal allowed found goes has remove =
+    places_left width m H time (Settled t Aborted) a.instance k.def legal allowed refl
+removals_stay width m H time (Settled t NotBegun) o a k legal allowed found goes has remove =
+    places_left width m H time (Settled t NotBegun) a.instance k.def legal allowed refl
+removals_stay width m H time kind o a k legal allowed found goes has remove =
+    places_left width m H time kind a.instance k.def legal allowed refl

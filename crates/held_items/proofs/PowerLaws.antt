@@ -1,5 +1,6 @@
 -- What an open attempt is to start or stop stands.
-use Rattle.std.proofs.Common.{◌≡◌, ◌&&◌, ◌==◌, ◌∙◌, ◌⊎◌, ℕ, List, ◌∷◌, Bool, true, false, cond, Option, None, Some, inl, inr, refl, ap, sym, subst, arith, eqb-true, slice_get}
+use Rattle.std.proofs.Common.{◌≡◌, ◌&&◌, ◌==◌, ◌∙◌, ◌⊎◌, ℕ, List, ◌∷◌, Bool, true, false, cond, Option, None, Some, inl, inr, refl, ap, sym}
+use Rattle.std.proofs.Common.{subst, arith, eqb-true, slice_get}
 use Rattle.lcm_events.specs.Same.{same_def, same_tag}
 use Rattle.lcm_events.proofs.SameLaws.{same_def-true, same_tag-true}
 use Rattle.lcm_events.specs.declared.attempts.Outcome.{Outcome}
@@ -52,7 +53,8 @@ pub record HasCase (a : Operation) : Type 0 where
 abbrev AllHaveCases : List Event → Type 0
 AllHaveCases H = (a : Operation) → IsIn a (operations H) → HasCase a
 
-case_of : (width m : ℕ) (H : List Event) (b : Operation) (d : Option Vnfd) → IsLegalWithin width m H → IsAllowedWithin width m H (Asked b) → IsPlanOf H b d → HasCase b
+case_of : (width m : ℕ) (H : List Event) (b : Operation) (d : Option Vnfd) → IsLegalWithin width m H → IsAllowedWithin width m H (Asked b)
+    → IsPlanOf H b d → HasCase b
 case_of width m H b None legal allowed h = absurd h
 case_of width m H b (Some d) legal allowed h = record {
   p = case_in d (situation d H b.instance) b.ask;
@@ -61,14 +63,16 @@ case_of width m H b (Some d) legal allowed h = record {
   others = λ k has other. asked_stands width m H b allowed k has other;
 }
 
-cases_step : (width m : ℕ) (H : List Event) (time : ℕ) (k : EventKind) → IsLegalWithin width m H → IsAllowedWithin width m H k → AllHaveCases H → AllHaveCases (event time k ∷ H)
+cases_step : (width m : ℕ) (H : List Event) (time : ℕ) (k : EventKind) → IsLegalWithin width m H → IsAllowedWithin width m H k
+    → AllHaveCases H → AllHaveCases (event time k ∷ H)
 cases_step width m H time (Asked b) legal allowed h a (inl e) =
     subst (λ (z : Operation). HasCase z) e (case_of width m H b (descriptor H b.instance) legal allowed allowed.planned)
 cases_step width m H time (Asked b) legal allowed h a (inr g) = h a g
 cases_step width m H time k legal allowed h a g = h a g
 
 all_have_cases : (width m : ℕ) (H : List Event) → IsLegalWithin width m H → AllHaveCases H
-all_have_cases width m H legal = legal_induction width m AllHaveCases (λ a g. absurd g) (λ H time k legal allowed h. cases_step width m H time k legal allowed h) H legal
+all_have_cases width m H legal = legal_induction width m AllHaveCases (λ a g. absurd g)
+    (λ H time k legal allowed h. cases_step width m H time k legal allowed h) H legal
 
 -- an operation's plan, over what stood when it was asked for
 pub case_at : (width m : ℕ) (H : List Event) (o : ℕ) (a : Operation) → IsLegalWithin width m H → operation H o ≡ Some a → HasCase a
@@ -84,12 +88,14 @@ planned_in a c k v h is verb =
 abbrev pub IsPower : Verb → Type 0
 IsPower v = (v ≡ Start) ⊎ (v ≡ Stop)
 
-power_by : (a : Operation) (c : ℕ) (k : Change) → HasCase a → slice_get a.changes c ≡ Some k → IsPower k.verb → (k.def.kind ≡ Compute) × (k.phase ≡ 4)
+power_by : (a : Operation) (c : ℕ) (k : Change) → HasCase a → slice_get a.changes c ≡ Some k → IsPower k.verb
+    → (k.def.kind ≡ Compute) × (k.phase ≡ 4)
 power_by a c k h is (inl start) = let by = planned_in a c k Start h is start in (by.2.1, by.1)
 power_by a c k h is (inr stop) = let by = planned_in a c k Stop h is stop in (by.2.1, by.1)
 
 -- a start or a stop is of a compute
-pub power_compute : (width m : ℕ) (H : List Event) (o c : ℕ) (a : Operation) (k : Change) → IsLegalWithin width m H → operation H o ≡ Some a → slice_get a.changes c ≡ Some k → IsPower k.verb
+pub power_compute : (width m : ℕ) (H : List Event) (o c : ℕ) (a : Operation) (k : Change) → IsLegalWithin width m H → operation H o ≡ Some a
+    → slice_get a.changes c ≡ Some k → IsPower k.verb
     → k.def.kind ≡ Compute
 power_compute width m H o c a k legal found is power = (power_by a c k (case_at width m H o a legal found) is power).0
 
@@ -109,23 +115,29 @@ not_made Undo v Stop h e is = cc
 
 -- what open attempts are to start or stop stands
 abbrev PowerStands : List Event → Type 0
-PowerStands H = (t : Tag) (a : Operation) (k : Change) → is_open H t ≡ true → operation H t.occ ≡ Some a → slice_get a.changes t.change ≡ Some k → IsPower k.verb
+PowerStands H = (t : Tag) (a : Operation) (k : Change) → is_open H t ≡ true → operation H t.occ ≡ Some a
+    → slice_get a.changes t.change ≡ Some k → IsPower k.verb
     → stands H a.instance k.def ≡ true
 
-begun_stands : (width m : ℕ) (H : List Event) (time : ℕ) (u t : Tag) (a : Operation) (k : Change) → IsLegalWithin width m H → IsAllowedWithin width m H (Intent u) → PowerStands H
-    → is_open (event time (Intent u) ∷ H) t ≡ true → operation H t.occ ≡ Some a → slice_get a.changes t.change ≡ Some k → IsPower k.verb → stands H a.instance k.def ≡ true
+begun_stands : (width m : ℕ) (H : List Event) (time : ℕ) (u t : Tag) (a : Operation) (k : Change) → IsLegalWithin width m H
+    → IsAllowedWithin width m H (Intent u) → PowerStands H
+    → is_open (event time (Intent u) ∷ H) t ≡ true → operation H t.occ ≡ Some a → slice_get a.changes t.change ≡ Some k → IsPower k.verb
+    → stands H a.instance k.def ≡ true
 unfolding is_unsettled
 begun_stands width m H time u t a k legal allowed h opened found is power = by_test (same_tag t u)
     (λ same.
     let one : t ≡ u = same_tag-true t u same in
-    (work_fits width m H u legal allowed a k (subst (λ (z : Tag). operation H z.occ ≡ Some a) one found) (subst (λ (z : Tag). slice_get a.changes z.change ≡ Some k) one is)).others
+    (work_fits width m H u legal allowed a k (subst (λ (z : Tag). operation H z.occ ≡ Some a) one found)
+    (subst (λ (z : Tag). slice_get a.changes z.change ≡ Some k) one is)).others
     (not_made u.way k.verb k.verb power refl))
     (λ other. h t a k (begun_open u t (is_unsettled H u) (open_tags H) opened other) found is power)
 
 -- what is open once another attempt has ended was open before
-pub still_open : (H : List Event) (time : ℕ) (u t : Tag) (out : Outcome) → is_open (event time (Settled u out) ∷ H) t ≡ true → is_open H t ≡ true
+pub still_open : (H : List Event) (time : ℕ) (u t : Tag) (out : Outcome) → is_open (event time (Settled u out) ∷ H) t ≡ true
+    → is_open H t ≡ true
 still_open H time u t out opened =
-    any_of_filter (same_tag t) (another u) (open_tags H) (subst (λ (ts : List Tag). list_any (same_tag t) ts ≡ true) (open_tags-settled H time u out) opened)
+    any_of_filter (same_tag t) (another u) (open_tags H) (subst (λ (ts : List Tag). list_any (same_tag t) ts ≡ true)
+    (open_tags-settled H time u out) opened)
 
 same_ways : (v w : Way) → works_in v ≡ works_in w → v ≡ w
 same_ways Forward Forward e = refl
@@ -138,7 +150,8 @@ record AreTogether (H : List Event) (t u : Tag) : Type 0 where
   occ : u.occ ≡ t.occ
   way : u.way ≡ t.way
 
-together : (width m : ℕ) (H : List Event) (t u : Tag) (a b : Operation) → IsLegalWithin width m H → is_open H t ≡ true → is_open H u ≡ true → operation H t.occ ≡ Some a
+together : (width m : ℕ) (H : List Event) (t u : Tag) (a b : Operation) → IsLegalWithin width m H → is_open H t ≡ true → is_open H u ≡ true
+    → operation H t.occ ≡ Some a
     → operation H u.occ ≡ Some b → b.instance ≡ a.instance → AreTogether H t u
 together width m H t u a b legal ot ou fa fb at =
     let mine = open_operation width m H t legal ot in
@@ -149,8 +162,10 @@ together width m H t u a b legal ot ou fa fb at =
     record { occ = one; way = same_ways u.way t.way works }
 
 -- nothing that is to be started or stopped is removed meanwhile
-never_removed : (width m : ℕ) (H : List Event) (t u : Tag) (a : Operation) (j k : Change) (w : Way) (v : Verb) → IsLegalWithin width m H → is_open H t ≡ true → is_open H u ≡ true
-    → operation H t.occ ≡ Some a → slice_get a.changes t.change ≡ Some k → IsPower k.verb → AreTogether H t u → slice_get a.changes u.change ≡ Some j → j.def ≡ k.def
+never_removed : (width m : ℕ) (H : List Event) (t u : Tag) (a : Operation) (j k : Change) (w : Way) (v : Verb) → IsLegalWithin width m H
+    → is_open H t ≡ true → is_open H u ≡ true
+    → operation H t.occ ≡ Some a → slice_get a.changes t.change ≡ Some k → IsPower k.verb → AreTogether H t u
+    → slice_get a.changes u.change ≡ Some j → j.def ≡ k.def
     → u.way ≡ w → j.verb ≡ v → leaves_it (verb_done w v) ≡ false → ⊥
 never_removed width m H t u a j k Forward Remove legal ot ou found ek power with ej def way verb gone =
     let h : HasCase a = case_at width m H t.occ a legal found in
@@ -178,7 +193,8 @@ after_stands true true s e f = refl
 after_stands true false s e f = absurd (f refl refl)
 after_stands false l s e f = e
 
-ended_stands : (width m : ℕ) (H : List Event) (time : ℕ) (u t : Tag) (out : Outcome) (a : Operation) (k : Change) → IsLegalWithin width m H → is_open H u ≡ true → PowerStands H
+ended_stands : (width m : ℕ) (H : List Event) (time : ℕ) (u t : Tag) (out : Outcome) (a : Operation) (k : Change) → IsLegalWithin width m H
+    → is_open H u ≡ true → PowerStands H
     → is_open H t ≡ true → operation H t.occ ≡ Some a → slice_get a.changes t.change ≡ Some k → IsPower k.verb
     → stands (event time (Settled u out) ∷ H) a.instance k.def ≡ true
 ended_stands width m H time u t out a k legal ou h ot found is power =
@@ -189,9 +205,11 @@ ended_stands width m H time u t out a k legal ou h ot found is power =
       | inr change ↦
           (let j : Change = change.1 in
           stands-done H time u out a.instance k.def (effect u change.0 other.0 j) change.4
-          ∙ after_stands ((other.0.instance == a.instance) && same_def j.def k.def) (leaves_it (verb_done u.way j.verb)) (stands H a.instance k.def) before
+          ∙ after_stands ((other.0.instance == a.instance) && same_def j.def k.def) (leaves_it (verb_done u.way j.verb))
+          (stands H a.instance k.def) before
           (λ on gone.
-          let at : other.0.instance ≡ a.instance = eqb-true other.0.instance a.instance (and_left (other.0.instance == a.instance) (same_def j.def k.def) on) in
+          let at : other.0.instance ≡ a.instance = eqb-true other.0.instance a.instance
+          (and_left (other.0.instance == a.instance) (same_def j.def k.def) on) in
           let def : j.def ≡ k.def = same_def-true j.def k.def (and_right (other.0.instance == a.instance) (same_def j.def k.def) on) in
           let with : AreTogether H t u = together width m H t u a other.0 legal ot ou found other.1 at in
           let here : operation H t.occ ≡ Some other.0 = subst (λ (n : ℕ). operation H n ≡ Some other.0) with.occ other.1 in
@@ -201,16 +219,19 @@ ended_stands width m H time u t out a k legal ou h ot found is power =
     ]
 
 -- the operation of an attempt that was open before
-found_before : (width m : ℕ) (H : List Event) (time : ℕ) (k : EventKind) (t : Tag) (a : Operation) → IsLegalWithin width m H → IsAllowedWithin width m H k → is_open H t ≡ true
+found_before : (width m : ℕ) (H : List Event) (time : ℕ) (k : EventKind) (t : Tag) (a : Operation) → IsLegalWithin width m H
+    → IsAllowedWithin width m H k → is_open H t ≡ true
     → operation (event time k ∷ H) t.occ ≡ Some a → operation H t.occ ≡ Some a
 found_before width m H time k t a legal allowed opened found =
     let mine = open_operation width m H t legal opened in
     let later : operation (event time k ∷ H) t.occ ≡ Some mine.0 = operation-next width m H time k t.occ mine.0 legal allowed mine.1 in
     mine.1 ∙ ap Some (one_value (operation (event time k ∷ H) t.occ) mine.0 a later found)
 
-power_step : (width m : ℕ) (H : List Event) (time : ℕ) (k : EventKind) → IsLegalWithin width m H → IsAllowedWithin width m H k → PowerStands H → PowerStands (event time k ∷ H)
+power_step : (width m : ℕ) (H : List Event) (time : ℕ) (k : EventKind) → IsLegalWithin width m H → IsAllowedWithin width m H k
+    → PowerStands H → PowerStands (event time k ∷ H)
 unfolding is_unsettled effect_in
-power_step width m H time (Intent u) legal allowed h t a k opened found is power = begun_stands width m H time u t a k legal allowed h opened found is power
+power_step width m H time (Intent u) legal allowed h t a k opened found is power =
+    begun_stands width m H time u t a k legal allowed h opened found is power
 power_step width m H time (Settled u out) legal allowed h t a k opened found is power =
     ended_stands width m H time u t out a k legal allowed h (still_open H time u t out opened) found is power
 power_step width m H time (Asked b) legal allowed h t a k opened found is power =
@@ -220,4 +241,5 @@ power_step width m H time other legal allowed h t a k opened found is power = h 
 -- what an open attempt is to start or stop stands
 pub power_stands : (width m : ℕ) (H : List Event) → IsLegalWithin width m H → PowerStands H
 power_stands width m H legal =
-    legal_induction width m PowerStands (λ t a k opened found. cc) (λ H time k legal allowed h. power_step width m H time k legal allowed h) H legal
+    legal_induction width m PowerStands (λ t a k opened found. cc)
+    (λ H time k legal allowed h. power_step width m H time k legal allowed h) H legal

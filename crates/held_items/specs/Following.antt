@@ -1,6 +1,7 @@
 -- What each event makes of what stands of an instance (SOL 003 5.5.2.2, instantiatedVnfInfo).
 use Rattle.std.specs.Option.{option_map_or}
-use Rattle.std.specs.Prelude.{Bool, List, Option, Some, [], false, is_some, length, option_map, slice_get, true, ℕ, ◌==◌, ◌∷◌, ◌≡◌, ◌≤◌}
+use Rattle.std.specs.Prelude.{Bool, List, Option, Some, [], false, is_some, length, option_map, slice_get, true, ℕ}
+use Rattle.std.specs.Prelude.{◌==◌, ◌∷◌, ◌≡◌, ◌≤◌}
 use Rattle.lcm_events.specs.Same.{same_kind}
 use Rattle.lcm_events.specs.declared.attempts.Outcome.TheVariants.{Done}
 use Rattle.lcm_events.specs.declared.attempts.Tag.{Tag}
@@ -43,7 +44,8 @@ place_made H t Undo i x = place H i x
 abbrev pub made : Def → List ℕ → Place → Held
 made x name at = record { def = x; resource = name; place = at; running = same_kind x.kind Compute }
 
--- the items once this was done to a definition, and, where it was made, which resource was made of it at which place (own rule)
+-- the items once this was done to a definition, and, where it was made, which resource was made of it at which place
+-- (own rule)
 abbrev pub once_done : Verb → Def → List ℕ → Option Place → List Held → List Held
 once_done Create x name at ys = option_map_or (λ at. with_item (made x name at) ys) at ys
 once_done Remove x name at ys = without x ys
@@ -57,13 +59,14 @@ OpenAttemptsHaveChanges =
     → (a : Operation) × (k : Change) × (operation H t.occ ≡ Some a) × (slice_get a.changes t.change ≡ Some k)
 
 -- the items of an operation's instance follow its attempt that is done (SOL 003 5.5.3)
-pub record IsFollowed (H : List Event) (time : ℕ) (t : Tag) (name : List ℕ) (a : Operation) (k : Change) (d : Vnfd) : Type 0 where
+pub record IsFollowed (H : List Event) (time : ℕ) (t : Tag) (name : List ℕ) (a : Operation) (k : Change)
+    (d : Vnfd) : Type 0 where
   pub items : items d (record { moment = time; kind = Settled t (Done name) } ∷ H) a.instance
       ≡ once_done (verb_done t.way k.verb) k.def name (place_made H t t.way a.instance k.def) (items d H a.instance)
   pub placed : verb_done t.way k.verb ≡ Create → is_some (place_made H t t.way a.instance k.def) ≡ true
 
--- where an attempt is done, its definition is made, removed, started or stopped among the items of its instance, by a change or
--- by an undo; where it is made, there is a place for it (SOL 003 5.5.3)
+-- where an attempt is done, its definition is made, removed, started or stopped among the items of its instance, by a
+-- change or by an undo; where it is made, there is a place for it (SOL 003 5.5.3)
 abbrev pub ItemsFollowWhatIsDone : Type 0
 ItemsFollowWhatIsDone =
     (width m : ℕ) (H : List Event) (time : ℕ) (t : Tag) (name : List ℕ) (a : Operation) (k : Change) (d : Vnfd)
@@ -121,9 +124,11 @@ OtherEventsLeavePlaces =
     → IsLegalWithin width m H → IsAllowedWithin width m H kind → is_done kind ≡ false
     → place (record { moment = time; kind = kind } ∷ H) i x ≡ place H i x
 
--- no event changes the place of what an operation removes while the operation goes on, so that an undo finds it (own rule)
+-- no event changes the place of what an operation removes while the operation goes on, so that an undo finds it (own
+-- rule)
 abbrev pub PlacesOfRemovalsStay : Type 0
 PlacesOfRemovalsStay =
     (width m : ℕ) (H : List Event) (time : ℕ) (kind : EventKind) (o : ℕ) (a : Operation) (k : Change)
     → IsLegalWithin width m H → IsAllowedWithin width m H kind → operation H o ≡ Some a → is_final (state H o) ≡ false
-    → IsIn k a.changes → k.verb ≡ Remove → place (record { moment = time; kind = kind } ∷ H) a.instance k.def ≡ place H a.instance k.def
+    → IsIn k a.changes → k.verb ≡ Remove → place (record { moment = time; kind = kind } ∷ H) a.instance k.def
+    ≡ place H a.instance k.def

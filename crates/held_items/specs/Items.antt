@@ -1,5 +1,6 @@
 -- Words on what stands of an instance, as a list in order of definition (SOL 003 5.5.2.2, instantiatedVnfInfo).
-use Rattle.std.specs.Prelude.{Bool, List, None, Option, Some, filter, find, if◌then◌else◌, map, not, true, ◌++◌, ◌∷◌, ◌≡◌}
+use Rattle.std.specs.Prelude.{Bool, List, None, Option, Some, filter, find, if◌then◌else◌, map, not, true, ◌++◌, ◌∷◌}
+use Rattle.std.specs.Prelude.{◌≡◌}
 use Rattle.lcm_events.specs.Descriptors.{is_rising}
 use Rattle.lcm_events.specs.Same.{same_def}
 use Rattle.lcm_events.specs.declared.changes.Def.{Def}
@@ -31,6 +32,7 @@ powered x running y = if same_def y.def x then record y { running = running } el
 abbrev pub with_power : Def → Bool → List Held → List Held
 with_power x running ys = map (powered x running) ys
 
--- the items with this one in its place: those before it, itself, those after it; one of its definition gives way to it (own rule)
+-- the items with this one in its place: those before it, itself, those after it; one of its definition gives way to it
+-- (own rule)
 abbrev pub with_item : Held → List Held → List Held
 with_item y ys = filter (λ z. is_def_before z.def y.def) ys ++ y ∷ filter (λ z. is_def_before y.def z.def) ys

@@ -25,8 +25,8 @@ fn made(def: Def, resource: &Name, place: &Place) -> Held
     }
 }
 
-/// An editor of lists of items, each in order of definition. It keeps room to which the items of a list move where the list has no room
-/// for one more.
+/// An editor of lists of items, each in order of definition. It keeps room to which the items of a list move where the
+/// list has no room for one more.
 ///
 /// A contract sees how many items the editor has room for.
 #[derive(Drop)]
@@ -70,8 +70,8 @@ impl Editor {
         mem::replace(items, Listed::new(alloc)).into_vec()
     }
 
-    /// Reserves room for one more item than these, in their own list and beside it. The items stay, and the room never shrinks, also after
-    /// an error.
+    /// Reserves room for one more item than these, in their own list and beside it. The items stay, and the room never
+    /// shrinks, also after an error.
     ///
     /// Source: own rule.
     pub fn reserve_for(&mut self, items: &mut Listed<Held>) -> Result<(), AllocError>
@@ -88,8 +88,9 @@ impl Editor {
         self.room.reserve(count + 1)
     }
 
-    /// Does to items in order of definition what work with this verb did to a definition. What is made is of this resource and at this
-    /// place; without a place nothing is made. It takes no memory, for what is made after `reserve_for` these items.
+    /// Does to items in order of definition what work with this verb did to a definition. What is made is of this
+    /// resource and at this place; without a place nothing is made. It takes no memory, for what is made after
+    /// `reserve_for` these items.
     ///
     /// Source: SOL 003 5.5.3 (the resource infos of an instance).
     pub fn follow(
@@ -101,7 +102,8 @@ impl Editor {
         place: Option<&Place>,
     )
         requires room { verb ≡ Create → length items.old < self.old }
-        ensures items { AreInOrder items.old → items.new ≡ once_done verb def resource.now (option_copied place.entry) items.old }
+        ensures items { AreInOrder items.old → items.new ≡ once_done verb def resource.now
+            (option_copied place.entry) items.old }
         ensures stays { same_verb verb Create ≡ false → self.new ≡ self.old }
     {
         match verb {
@@ -116,9 +118,9 @@ impl Editor {
         }
     }
 
-    /// Puts an item in its place among items in order of definition, over one of its definition. It takes no memory after `reserve_for`
-    /// these items, and moves the items behind the new one. Where their own list has no room after all, all of them move, and the room that
-    /// is left is their old list's.
+    /// Puts an item in its place among items in order of definition, over one of its definition. It takes no memory
+    /// after `reserve_for` these items, and moves the items behind the new one. Where their own list has no room after
+    /// all, all of them move, and the room that is left is their old list's.
     ///
     /// Source: own rule.
     pub fn put(&mut self, items: &mut Listed<Held>, item: Held)
@@ -130,8 +132,8 @@ impl Editor {
         *items = Listed::of(held);
     }
 
-    /// Takes the item of a definition out of items in order of definition. Nothing happens where there is none. It takes no memory, and
-    /// moves the items behind the one that goes.
+    /// Takes the item of a definition out of items in order of definition. Nothing happens where there is none. It
+    /// takes no memory, and moves the items behind the one that goes.
     ///
     /// Source: own rule.
     pub fn remove(&self, items: &mut Listed<Held>, def: Def)
@@ -142,8 +144,8 @@ impl Editor {
         *items = Listed::of(held);
     }
 
-    /// Says among items in order of definition that that of a definition runs, or doesn't. Nothing happens where there is none. It takes no
-    /// memory.
+    /// Says among items in order of definition that that of a definition runs, or doesn't. Nothing happens where there
+    /// is none. It takes no memory.
     ///
     /// Source: own rule.
     pub fn set_running(&self, items: &mut Listed<Held>, def: Def, running: bool)

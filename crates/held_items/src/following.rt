@@ -1,6 +1,8 @@
 //! What each event makes of what stands of an instance.
 
-ghost use Rattle.held_items.specs.Following.{ItemsAreFound, ItemsAreInOrder, ItemsFollowWhatIsDone, ItemsOfOthersStay, ItemsTellPlaces, NewInstancesHoldNothing, OpenAttemptsHaveChanges, OtherEventsLeaveItems, OtherEventsLeavePlaces, PlacesOfRemovalsStay};
+ghost use Rattle.held_items.specs.Following.{ItemsAreFound, ItemsAreInOrder, ItemsFollowWhatIsDone, ItemsOfOthersStay};
+ghost use Rattle.held_items.specs.Following.{ItemsTellPlaces, NewInstancesHoldNothing, OpenAttemptsHaveChanges};
+ghost use Rattle.held_items.specs.Following.{OtherEventsLeaveItems, OtherEventsLeavePlaces, PlacesOfRemovalsStay};
 
 /// An open attempt is of an operation, and of one of its changes.
 ///
@@ -9,8 +11,8 @@ pub fn open_attempts_have_changes()
     ensures { OpenAttemptsHaveChanges }
 {}
 
-/// Where an attempt is done, its definition is made, removed, started or stopped among the items of its instance, by a change or by an
-/// undo. Where it is made, there is a place for it.
+/// Where an attempt is done, its definition is made, removed, started or stopped among the items of its instance, by a
+/// change or by an undo. Where it is made, there is a place for it.
 ///
 /// Source: SOL 003 5.5.3 (the resource infos of an instance).
 pub fn items_follow_what_is_done()

@@ -11,7 +11,9 @@ use lcm_model::is_def_before;
 /// How many items stand before this definition, where they are in order.
 pub fn place_of(items: &[Held], def: Def) -> usize
     ensures bound { result ≤ length items.now }
-    ensures place { IsPartitionedBy (λ y. is_def_before y.def def) items.now → IsPartitionPoint (λ y. is_def_before y.def def ≡ true) (λ y. is_def_before y.def def ≡ false) items.now result }
+    ensures place { IsPartitionedBy (λ y. is_def_before y.def def) items.now
+        → IsPartitionPoint (λ y. is_def_before y.def def ≡ true)
+        (λ y. is_def_before y.def def ≡ false) items.now result }
 {
     items.partition_point(
         |item: &Held| -> bool

@@ -1,5 +1,6 @@
 -- What calls of std on paths and open files do to the files that stand there.
-use Rattle.std.specs.Prelude.{◌≡◌, ◌≢◌, ◌*◌, ℕ, List, [], ◌∷◌, Bool, true, false, Option, Some, None, Result, Ok, Err, IfOk, IfErr, OnOk, OnErr}
+use Rattle.std.specs.Prelude.{◌≡◌, ◌≢◌, ◌*◌, ℕ, List, [], ◌∷◌, Bool, true, false, Option, Some, None, Result, Ok, Err}
+use Rattle.std.specs.Prelude.{IfOk, IfErr, OnOk, OnErr}
 use Rattle.std.specs.IoError.{error_kind}
 use Rattle.std.specs.Path.{cur_dir, path_parent}
 use Rattle.std.specs.declared.io.ErrorKind.{ErrorKind}
@@ -8,8 +9,8 @@ use Rattle.std.specs.declared.io.Error.{Error}
 use Rattle.site_traits.specs.Counts.{one_more}
 use Rattle.site_traits.specs.Site.{SiteState}
 
--- how an open file is held: whether it is a regular file, whether it is locked against every other opening, and whether what it reads is
--- what the disk has
+-- how an open file is held: whether it is a regular file, whether it is locked against every other opening, and whether
+-- what it reads is what the disk has
 pub record Hold : Type 0 where
   pub regular : Bool
   pub locked : Bool
@@ -108,13 +109,15 @@ called call answer s = record s { calls = made_once call s.calls; last = answer 
 
 -- What stands at the path was opened as it is, or nothing was; that none is there is said only where it is so (std,
 -- `OpenOptions::open`).
-pub record Finds {F : Type 0} (standing : F → Standing) (hold : F → Hold) (path : List ℕ) (result : Result F Error) (old new : FilesState) : Type 0 where
+pub record Finds {F : Type 0} (standing : F → Standing) (hold : F → Hold) (path : List ℕ) (result : Result F Error)
+    (old new : FilesState) : Type 0 where
   pub file : IfOk result (λ f. (old.at path ≡ Some (standing f)) × (hold f ≡ free (standing f).regular))
   pub missing : IfErr result (λ e. error_kind e ≡ kind.NotFound → old.at path ≡ None)
   pub called_once : new ≡ called opening (answer_of result) old
 
 -- an empty file was made where nothing was, and opened, or nothing changed (std, `OpenOptions::create_new`)
-pub record Makes {F : Type 0} (standing : F → Standing) (hold : F → Hold) (path : List ℕ) (result : Result F Error) (old new : FilesState) : Type 0 where
+pub record Makes {F : Type 0} (standing : F → Standing) (hold : F → Hold) (path : List ℕ) (result : Result F Error)
+    (old new : FilesState) : Type 0 where
   pub missing : OnOk result (old.at path ≡ None)
   pub file : IfOk result (λ f. (standing f ≡ new_file) × (hold f ≡ free true))
   pub here : OnOk result (new.at path ≡ Some new_file)
@@ -133,7 +136,8 @@ pub record SyncsFolder {T : Type 0} (path : List ℕ) (result : Result T Error) 
   pub last : new.last ≡ answer_of result
 
 -- what was opened was lent, as it stood there
-pub record Lends {F : Type 0} (state : F → SiteState) (hold : F → Hold) (opened : Standing) (file : F) (old new : FilesState) : Type 0 where
+pub record Lends {F : Type 0} (state : F → SiteState) (hold : F → Hold) (opened : Standing) (file : F)
+    (old new : FilesState) : Type 0 where
   pub image : (state file).image ≡ opened.content
   pub hold_is : hold file ≡ whole
   pub called_once : new ≡ called lending yes old

@@ -1,5 +1,6 @@
 -- What calls of std on streams do to their bytes.
-use Rattle.std.specs.Prelude.{◌≡◌, ◌≤◌, ℕ, ◌+◌, List, [], ◌++◌, length, take, drop, Option, Some, None, Result, Ok, Err, IfOk, OnOk, OnErr}
+use Rattle.std.specs.Prelude.{◌≡◌, ◌≤◌, ℕ, ◌+◌, List, [], ◌++◌, length, take, drop, Option, Some, None, Result, Ok, Err}
+use Rattle.std.specs.Prelude.{IfOk, OnOk, OnErr}
 use Rattle.std.specs.IoError.{error_kind}
 use Rattle.std.specs.declared.io.ErrorKind.{ErrorKind}
 use Rattle.std.specs.declared.io.ErrorKind.TheVariants as kind
@@ -15,7 +16,8 @@ pub record Incoming : Type 0 where
 abbrev pub nothing : Incoming
 nothing = record { bytes = []; left = [] }
 
--- n bytes were read to the front of the piece, the rest of which stays; none only at the end or where the piece has no room (std, `Read::read`)
+-- n bytes were read to the front of the piece, the rest of which stays; none only at the end or where the piece has no
+-- room (std, `Read::read`)
 pub record Got (before after : List ℕ) (n : ℕ) (old new : Incoming) : Type 0 where
   pub within : n ≤ length old.left
   pub piece : after ≡ take n old.left ++ drop n before
@@ -66,9 +68,24 @@ uncalled = record { interrupted = 0; answered = 0; last = record { size = 0; fau
 
 -- one call more, for so many bytes, which ended so
 abbrev pub called : ℕ → Option ErrorKind → StreamCalls → StreamCalls
-called size (Some kind.Interrupted) c = record { interrupted = c.interrupted + 1; answered = c.answered; last = record { size = size; fault = Some kind.Interrupted } }
-called size fault c = record { interrupted = c.interrupted; answered = one_more c.answered; last = record { size = size; fault = fault } }
+called size (Some kind.Interrupted) c = record {
+  interrupted = c.interrupted + 1;
+  answered = c.answered;
+  last =
+      record { size = size; fault = Some kind.Interrupted };
+}
+called size fault c = record {
+  interrupted = c.interrupted;
+  answered = one_more c.answered;
+  last =
+      record { size = size; fault = fault };
+}
 
 -- so many were answered, the last of them for so many bytes and so, and none was interrupted
 abbrev pub uninterrupted : ℕ → ℕ → Option ErrorKind → StreamCalls
-uninterrupted answered size fault = record { interrupted = 0; answered = answered; last = record { size = size; fault = fault } }
+uninterrupted answered size fault = record {
+  interrupted = 0;
+  answered = answered;
+  last =
+      record { size = size; fault = fault };
+}

@@ -3,7 +3,8 @@ ghost use Rattle.std.specs.Prelude.{◌≡◌, ◌≤◌, ◌+◌, ℕ, IfOk, On
 ghost use Rattle.std.specs.Path.{path_bytes};
 ghost use Rattle.site_traits.specs.Counts.{one_more};
 ghost use Rattle.site_traits.specs.Site.{SiteState, Reads, Writes, Cuts, Syncs};
-ghost use Rattle.host_calls.specs.Files.{FileCall, FilesState, Finds, Forgets, Hold, Lends, Locks, Makes, Standing, SyncsFolder, answer_of, called, folder_in, whole, yes_or_no};
+ghost use Rattle.host_calls.specs.Files.{FileCall, FilesState, Finds, Forgets, Hold, Lends, Locks, Makes, Standing};
+ghost use Rattle.host_calls.specs.Files.{SyncsFolder, answer_of, called, folder_in, whole, yes_or_no};
 
 use standard_streams::HeldStreams;
 use std::fs::{File, OpenOptions};
@@ -123,8 +124,8 @@ pub trait HostFiles {
         ensures same { tells → standing opened.new ≡ standing opened.old }
         ensures told { tells → state self.new ≡ called FileCall.locking (answer_of result) (state self.old) };
 
-    /// Drops the kernel's copies of its pages. After a sync that failed they may hold what never reached the disk and be taken for
-    /// clean, so that no later sync would write or report them.
+    /// Drops the kernel's copies of its pages. After a sync that failed they may hold what never reached the disk and
+    /// be taken for clean, so that no later sync would write or report them.
     fn forget_pages(&mut self, opened: &mut Self::Opened) -> io::Result<()>
         ensures hold { tells → Forgets result (hold opened.old) (hold opened.new) }
         ensures same { tells → standing opened.new ≡ standing opened.old }
@@ -133,7 +134,8 @@ pub trait HostFiles {
     /// Lends this to whoever reads and writes it.
     fn lend(&mut self, opened: Self::Opened) -> Self::File
         requires whole { tells → hold opened ≡ whole }
-        ensures told { tells → Lends Self.File.state Self.File.hold (standing opened) result (state self.old) (state self.new) };
+        ensures told { tells → Lends Self.File.state Self.File.hold (standing opened) result (state self.old)
+            (state self.new) };
 }
 
 impl HostFile for File {

@@ -19,8 +19,8 @@ pub trait InStream {
     /// The calls on it.
     ghost calls: { Self → StreamCalls };
 
-    /// Reads the next bytes to the front of `into`. It gives how many, none at the end alone. It may give fewer than there are,
-    /// be interrupted, or fail; then it has read nothing.
+    /// Reads the next bytes to the front of `into`. It gives how many, none at the end alone. It may give fewer than
+    /// there are, be interrupted, or fail; then it has read nothing.
     fn read(&mut self, into: &mut [u8]) -> io::Result<usize>
         ensures most { IfOk result (λ n. n ≤ length into.old) }
         ensures told { tells → Gives into.old into.new result (state self.old) (state self.new) }
@@ -40,8 +40,8 @@ pub trait OutStream {
     /// The calls on it.
     ghost calls: { Self → StreamCalls };
 
-    /// Writes the first of these bytes, and gives how many. It may take fewer than there are, be interrupted, or fail; then it has
-    /// written nothing.
+    /// Writes the first of these bytes, and gives how many. It may take fewer than there are, be interrupted, or fail;
+    /// then it has written nothing.
     fn write(&mut self, bytes: &[u8]) -> io::Result<usize>
         ensures most { IfOk result (λ n. n ≤ length bytes.now) }
         ensures told { tells → Takes bytes.now result (state self.old) (state self.new) }

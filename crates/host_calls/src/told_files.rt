@@ -175,7 +175,17 @@ impl HostFiles for Folder {
 
     ghost tells = { Unit {0} };
 
-    ghost state = { λ f. folder_state f.path.items (standing_with f.stands f.content.items) f.synced (record { opens = f.calls.opens; makes = f.calls.makes; folder_syncs = f.calls.folder_syncs; kinds = f.calls.kinds; locks = f.calls.locks; drops = f.calls.drops; lends = f.calls.lends }) f.fault };
+    ghost state = { λ f. folder_state f.path.items (standing_with f.stands f.content.items) f.synced
+        (record {
+          opens = f.calls.opens;
+          makes = f.calls.makes;
+          folder_syncs = f.calls.folder_syncs;
+          kinds =
+              f.calls.kinds;
+          locks = f.calls.locks;
+          drops = f.calls.drops;
+          lends = f.calls.lends;
+        }) f.fault };
 
     ghost standing = { λ f. record new_file { content = (state_of f.site).image } };
 

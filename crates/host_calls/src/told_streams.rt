@@ -114,7 +114,8 @@ impl Drain {
 
     /// Takes these bytes, where they are those that are to come, and else none.
     fn take(&mut self, bytes: &[u8]) -> bool
-        ensures took { IsTrue result → take self.new.at self.new.expected.items ≡ take self.old.at self.old.expected.items ++ bytes.now }
+        ensures took { IsTrue result → take self.new.at self.new.expected.items
+            ≡ take self.old.at self.old.expected.items ++ bytes.now }
         ensures calls { self.new.calls ≡ self.old.calls }
         ensures none { ¬ (IsTrue result) → self.new ≡ self.old }
     {
@@ -127,9 +128,13 @@ impl Drain {
 
     /// Takes these bytes by a call that is noted, or fails with none taken.
     fn put(&mut self, bytes: &[u8]) -> io::Result<()>
-        ensures took { OnOk result (take self.new.at self.new.expected.items ≡ take self.old.at self.old.expected.items ++ bytes.now) }
-        ensures none { OnErr result (take self.new.at self.new.expected.items ≡ take self.old.at self.old.expected.items) }
-        ensures one { uninterrupted self.new.calls.answered self.new.calls.size self.new.calls.fault ≡ called (length bytes.now) (fault_of result) (uninterrupted self.old.calls.answered self.old.calls.size self.old.calls.fault) }
+        ensures took { OnOk result (take self.new.at self.new.expected.items
+            ≡ take self.old.at self.old.expected.items ++ bytes.now) }
+        ensures none { OnErr result (take self.new.at self.new.expected.items
+            ≡ take self.old.at self.old.expected.items) }
+        ensures one { uninterrupted self.new.calls.answered self.new.calls.size self.new.calls.fault
+            ≡ called (length bytes.now) (fault_of result) (uninterrupted self.old.calls.answered self.old.calls.size
+            self.old.calls.fault) }
     {
         if !self.take(bytes) {
             note(&mut self.calls, bytes.len(), Some(ErrorKind::InvalidData));

@@ -1,10 +1,13 @@
 -- What a head is behind lines of it that are known to be whole.
-use Rattle.std.proofs.Common.{◌≡◌, ℕ, List, [], ◌∷◌, ◌++◌, length, refl, sym, ap, ◌∙◌, subst, arith, append_assoc, append-nil, length-append}
+use Rattle.std.proofs.Common.{◌≡◌, ℕ, List, [], ◌∷◌, ◌++◌, length, refl, sym, ap, ◌∙◌, subst, arith, append_assoc, append-nil}
+use Rattle.std.proofs.Common.{length-append}
 use Rattle.std.specs.List.{flat_map}
 use Rattle.std.proofs.lemmas.List.{append_cancel_right}
 use Rattle.std.proofs.lemmas.List.Elements.{All-append}
 use Rattle.std.proofs.lemmas.Grind.{flat_map-append}
-use Rattle.httparse.specs.Grammar.{LineEnd, crlf, lf, print_end, print_blank, print_version, print_reason, Field, IsField, print_field, print_section, ReadsSection, HasNoSection, MayBecomeSection, ResponseHead, print_response, ReadsResponse, HasNoResponse, MayBecomeResponse}
+use Rattle.httparse.specs.Grammar.{LineEnd, crlf, lf, print_end, print_blank, print_version, print_reason, Field, IsField, print_field}
+use Rattle.httparse.specs.Grammar.{print_section, ReadsSection, HasNoSection, MayBecomeSection, ResponseHead, print_response, ReadsResponse}
+use Rattle.httparse.specs.Grammar.{HasNoResponse, MayBecomeResponse}
 use Rattle.httparse.proofs.GrammarLemmas.{response_unique, ReadsResponse-append, print_response-append}
 use Rattle.http_client.specs.Reading.{AreWholeLines}
 use Rattle.http_frames.proofs.ListLaws.{same_front}
@@ -28,7 +31,8 @@ unfolding begun
 printed h rest = print_response-append h rest
 
 -- the fields and the end of a head, apart
-section_ends : (fields : List Field) (last : LineEnd) (rest : List ℕ) → print_section fields last ++ rest ≡ flat_map print_field fields ++ (print_end last ++ rest)
+section_ends : (fields : List Field) (last : LineEnd) (rest : List ℕ)
+    → print_section fields last ++ rest ≡ flat_map print_field fields ++ (print_end last ++ rest)
 section_ends fields last rest = append_assoc (flat_map print_field fields) (print_end last) rest
 
 -- the lines themselves
@@ -43,7 +47,8 @@ lines_are w a =
 abbrev longer : ResponseHead → List Field → LineEnd → ResponseHead
 longer h fields last = record h { fields = h.fields ++ fields; last = last }
 
-reads_longer : (w tail more : List ℕ) (a : AreWholeLines w) (fields : List Field) (last : LineEnd) → ReadsSection (tail ++ more) fields last []
+reads_longer : (w tail more : List ℕ) (a : AreWholeLines w) (fields : List Field) (last : LineEnd)
+    → ReadsSection (tail ++ more) fields last []
     → ReadsResponse ((w ++ tail) ++ more) (longer a.head fields last) []
 unfolding begun
 reads_longer w tail more a fields last s =
@@ -51,17 +56,27 @@ reads_longer w tail more a fields last s =
     let known : List ℕ = flat_map print_field h.fields in
     let behind : known ++ (tail ++ more) ≡ print_section (h.fields ++ fields) last ++ [] =
     ap (λ z. known ++ z) (s.1 ∙ section_ends fields last []) ∙ sym (append_assoc known (flat_map print_field fields) (print_end last ++ []))
-    ∙ ap (λ z. z ++ (print_end last ++ [])) (sym (flat_map-append print_field h.fields fields)) ∙ sym (section_ends (h.fields ++ fields) last []) in (
-      record { minor = a.reads.0.minor; digits = a.reads.0.digits; reason = a.reads.0.reason; fields = All-append IsField h.fields fields a.reads.0.fields s.0 },
-      append_assoc w tail more ∙ ap (λ z. z ++ (tail ++ more)) (lines_are w a) ∙ begun-append h known (tail ++ more) ∙ ap (λ z. begun h z) behind
+    ∙ ap (λ z. z ++ (print_end last ++ [])) (sym (flat_map-append print_field h.fields fields))
+    ∙ sym (section_ends (h.fields ++ fields) last []) in (
+      record {
+        minor = a.reads.0.minor;
+        digits = a.reads.0.digits;
+        reason = a.reads.0.reason;
+        fields =
+            All-append IsField h.fields fields a.reads.0.fields s.0;
+      },
+      append_assoc w tail more ∙ ap (λ z. z ++ (tail ++ more)) (lines_are w a) ∙ begun-append h known (tail ++ more)
+          ∙ ap (λ z. begun h z) behind
           ∙ sym (printed (longer h fields last) []),
     )
 
 -- where the fields behind them go on, so does the head
-pub goes_on : (w tail : List ℕ) → AreWholeLines w → HasNoSection tail → MayBecomeSection tail → HasNoResponse (w ++ tail) × MayBecomeResponse (w ++ tail)
+pub goes_on : (w tail : List ℕ) → AreWholeLines w → HasNoSection tail → MayBecomeSection tail
+    → HasNoResponse (w ++ tail) × MayBecomeResponse (w ++ tail)
 goes_on w tail a none may =
     let whole = reads_longer w tail may.0 a may.1 may.2 may.3 in (
-      λ k rest reads. missing rest (response_unique ((w ++ tail) ++ may.0) k (longer a.head may.1 may.2) (rest ++ may.0) [] (ReadsResponse-append (w ++ tail) k rest may.0 reads) whole).1,
+      λ k rest reads. missing rest (response_unique ((w ++ tail) ++ may.0) k (longer a.head may.1 may.2) (rest ++ may.0) []
+          (ReadsResponse-append (w ++ tail) k rest may.0 reads) whole).1,
       (may.0, longer a.head may.1 may.2, whole),
     )
   where
@@ -80,7 +95,12 @@ ends_in_feed w f h e reads = at h.last refl
     no_return : (x y : List ℕ) → (x ++ 10 ∷ []) ++ 10 ∷ [] ≡ (y ++ 13 ∷ []) ++ 10 ∷ [] → ⊥
     no_return x y same =
         let shorter : x ++ 10 ∷ [] ≡ y ++ 13 ∷ [] = append_cancel_right (x ++ 10 ∷ []) (y ++ 13 ∷ []) (10 ∷ []) same in
-        let front = same_front x y (10 ∷ []) (13 ∷ []) (omega (arith, ap length shorter, length-append x (10 ∷ []), length-append y (13 ∷ []))) shorter in
+        let front = same_front x y (10 ∷ []) (13 ∷ []) (omega (
+          arith,
+          ap length shorter,
+          length-append x (10 ∷ []),
+          length-append y (13 ∷ []),
+        )) shorter in
         thirteen front.1
       where
         thirteen : ◌≡◌ {A = List ℕ} (10 ∷ []) (13 ∷ []) → ⊥
@@ -90,5 +110,7 @@ ends_in_feed w f h e reads = at h.last refl
     at lf is = is
     at crlf is =
         let fields : List ℕ = flat_map print_field h.fields in
-        absurd (no_return f (begun h fields) (ap (λ x. x ++ 10 ∷ []) (sym e) ∙ reads.1 ∙ printed h [] ∙ ap (λ z. begun h z) (section_ends h.fields h.last []
-        ∙ ap (λ (l : LineEnd). fields ++ (print_end l ++ [])) is) ∙ sym (begun-append h fields (13 ∷ 10 ∷ [])) ∙ sym (append_assoc (begun h fields) (13 ∷ []) (10 ∷ []))))
+        absurd (no_return f (begun h fields) (ap (λ x. x ++ 10 ∷ []) (sym e) ∙ reads.1 ∙ printed h []
+        ∙ ap (λ z. begun h z) (section_ends h.fields h.last []
+        ∙ ap (λ (l : LineEnd). fields ++ (print_end l ++ [])) is) ∙ sym (begun-append h fields (13 ∷ 10 ∷ []))
+        ∙ sym (append_assoc (begun h fields) (13 ∷ []) (10 ∷ []))))

@@ -1,9 +1,11 @@
 -- What a reader has read stays so when more bytes follow, and what it says of them.
-use Rattle.std.proofs.Common.{◌≡◌, ◌≢◌, ℕ, ◌+◌, ◌*◌, ◌<◌, ◌≤◌, Bool, true, false, List, [], ◌∷◌, ◌++◌, length, take, drop, min, map, Option, Some, None, refl, sym, ap, ◌∙◌, subst, inl, inr, arith, append-nil, length-append, Result, Ok, Err}
+use Rattle.std.proofs.Common.{◌≡◌, ◌≢◌, ℕ, ◌+◌, ◌*◌, ◌<◌, ◌≤◌, Bool, true, false, List, [], ◌∷◌, ◌++◌, length, take, drop, min, map, Option}
+use Rattle.std.proofs.Common.{Some, None, refl, sym, ap, ◌∙◌, subst, inl, inr, arith, append-nil, length-append, Result, Ok, Err}
 use Rattle.std.specs.Prelude.{IfSome, option_map, codes, if◌then◌else◌}
 use Rattle.std.specs.List.{flat_map}
 use Rattle.std.proofs.lemmas.Bool.{cases_lt}
-use Rattle.std.proofs.lemmas.List.{take_all, take_min, take-append-drop, take-append-le, drop-append-le, drop-drop, drop_all, length-drop, length-take}
+use Rattle.std.proofs.lemmas.List.{take_all, take_min, take-append-drop, take-append-le, drop-append-le, drop-drop, drop_all, length-drop}
+use Rattle.std.proofs.lemmas.List.{length-take}
 use Rattle.httparse.specs.declared.Status.{Status}
 use Rattle.httparse.specs.declared.Error.{Error}
 use Rattle.httparse.specs.declared.Error.TheVariants as error
@@ -33,8 +35,11 @@ use Rattle.http_client.specs.declared.lines.LineReader.{LineReader}
 use Rattle.http_client.specs.declared.responses.ResponseReader.{ResponseReader}
 use Rattle.http_client.specs.declared.responses.ResponseFault.{ResponseFault}
 use Rattle.http_client.specs.declared.responses.ResponseFault.TheVariants as fault
-use Rattle.http_client.specs.Responses.{AnswerState, whole, cut, bad, big, is_interim, is_bodiless, response_fields, frame_behind, response_frame, BeginsHead, Interims, HasManyFields, IsLast, AreAnswer, HoldsBody, CutsBody, HasMoreBehind, BreaksBody, PassesLimit, IsLocation, IsOf, IsBehind}
-use Rattle.http_client.specs.Reading.{HasAnswerHead, AreWholeLines, HasReadLines, HasInterimHead, HasResponseSpans, chunk_window, HasReadLast, HasRead, HasReadFront, HeadCame, IsHeard, said_by, SaysWhatIs}
+use Rattle.http_client.specs.Responses.{AnswerState, whole, cut, bad, big, is_interim, is_bodiless, response_fields, frame_behind}
+use Rattle.http_client.specs.Responses.{response_frame, BeginsHead, Interims, HasManyFields, IsLast, AreAnswer, HoldsBody, CutsBody}
+use Rattle.http_client.specs.Responses.{HasMoreBehind, BreaksBody, PassesLimit, IsLocation, IsOf, IsBehind}
+use Rattle.http_client.specs.Reading.{HasAnswerHead, AreWholeLines, HasReadLines, HasInterimHead, HasResponseSpans, chunk_window}
+use Rattle.http_client.specs.Reading.{HasReadLast, HasRead, HasReadFront, HeadCame, IsHeard, said_by, SaysWhatIs}
 use Rattle.http_client.proofs.ResponseLaws.{one_way}
 
 -- the parts of a head
@@ -43,18 +48,28 @@ parts_of r location body = record { len = r.len; status = r.code; location = loc
 
 -- ---- more bytes
 
-begins_grows : (bytes more : List ℕ) (h : ResponseHead) (tail : List ℕ) → BeginsHead bytes h tail → BeginsHead (bytes ++ more) h (tail ++ more)
+begins_grows : (bytes more : List ℕ) (h : ResponseHead) (tail : List ℕ) → BeginsHead bytes h tail
+    → BeginsHead (bytes ++ more) h (tail ++ more)
 begins_grows bytes more h tail b = record { reads = ReadsResponse-append bytes h tail more b.reads; short = b.short; few = b.few }
 
 -- the same, with what follows as what is behind so many bytes
 begins_at : (bytes more : List ℕ) (h : ResponseHead) (len : ℕ) → len ≤ length bytes → BeginsHead bytes h (drop len bytes)
     → BeginsHead (bytes ++ more) h (drop len (bytes ++ more))
 begins_at bytes more h len within b =
-    subst (λ (x : List ℕ). BeginsHead (bytes ++ more) h x) (sym (drop-append-le len bytes more within)) (begins_grows bytes more h (drop len bytes) b)
+    subst (λ (x : List ℕ). BeginsHead (bytes ++ more) h x) (sym (drop-append-le len bytes more within))
+    (begins_grows bytes more h (drop len bytes) b)
 
-interims_grow : (bytes more : List ℕ) (hs : List ResponseHead) (left : List ℕ) → Interims bytes hs left → Interims (bytes ++ more) hs (left ++ more)
+interims_grow : (bytes more : List ℕ) (hs : List ResponseHead) (left : List ℕ) → Interims bytes hs left
+    → Interims (bytes ++ more) hs (left ++ more)
 interims_grow bytes more [] left e = ap (λ x. x ++ more) e
-interims_grow bytes more (h ∷ hs) left x = (x.0, (x.1.0 ++ more, begins_grows bytes more h x.1.0 x.1.1, interims_grow x.1.0 more hs left x.1.2))
+interims_grow bytes more (h ∷ hs) left x = (
+  x.0,
+  (
+    x.1.0 ++ more,
+    begins_grows bytes more h x.1.0 x.1.1,
+    interims_grow x.1.0 more hs left x.1.2,
+  ),
+)
 
 pub interims_push : (bytes : List ℕ) (hs : List ResponseHead) (left : List ℕ) (h : ResponseHead) (mid : List ℕ) → Interims bytes hs left
     → is_interim (status_code h) ≡ true → BeginsHead left h mid → Interims bytes (hs ++ h ∷ []) mid
@@ -79,7 +94,8 @@ window_grows : (left more : List ℕ) (p : AnswerParts) (d : Decoder) → p.len 
     → HasDecoded (chunk_window (left ++ more) p) d
 window_grows left more p d within has =
     let longer = take_grows CHUNKED_BYTES (drop p.len left) more in
-    let e : chunk_window (left ++ more) p ≡ chunk_window left p ++ longer.0 = ap (λ x. take CHUNKED_BYTES x) (drop-append-le p.len left more within) ∙ longer.1 in
+    let e : chunk_window (left ++ more) p ≡ chunk_window left p ++ longer.0 =
+    ap (λ x. take CHUNKED_BYTES x) (drop-append-le p.len left more within) ∙ longer.1 in
     subst (λ (x : List ℕ). HasDecoded x d) (sym e) (decoded_grows (chunk_window left p) longer.0 d.at d.body.items d.place has)
 
 last_grows : (left more : List ℕ) (o : Option AnswerParts) (d : Decoder) → HasReadLast left o d → HasReadLast (left ++ more) o d
@@ -101,7 +117,8 @@ read_grows bytes more r x =
     record {
       within = omega (arith, x.within, length-append bytes more);
       interims = x.interims;
-      passed = subst (λ (y : List ℕ). Interims (bytes ++ more) x.interims y) (sym e) (interims_grow bytes more x.interims (drop r.passed bytes) x.passed);
+      passed = subst (λ (y : List ℕ). Interims (bytes ++ more) x.interims y) (sym e)
+          (interims_grow bytes more x.interims (drop r.passed bytes) x.passed);
       last = subst (λ (y : List ℕ). HasReadLast y r.head r.decoder) (sym e) (last_grows (drop r.passed bytes) more r.head r.decoder x.last);
       lines = subst (λ (y : List ℕ). HasReadLines y r.lines) (sym e) (lines_grow (drop r.passed bytes) more r.lines x.lines);
     }
@@ -113,7 +130,8 @@ read_on bytes r x = subst (λ (y : List ℕ). HasRead y r) (sym x.is) (read_grow
 -- ---- what is said
 
 -- what the last answer is, the bytes are
-pub are_last : (ended : Bool) (bytes : List ℕ) (r : ResponseReader) (v : AnswerState) → HasRead bytes r → IsLast ended (drop r.passed bytes) v → AreAnswer ended bytes v
+pub are_last : (ended : Bool) (bytes : List ℕ) (r : ResponseReader) (v : AnswerState) → HasRead bytes r
+    → IsLast ended (drop r.passed bytes) v → AreAnswer ended bytes v
 are_last ended bytes r v x last = record { interims = x.interims; left = drop r.passed bytes; passed = x.passed; last = last }
 
 pub says : (ended : Bool) (bytes : List ℕ) (said : Option AnswerState) → IfSome said (AreAnswer ended bytes) → SaysWhatIs ended bytes said
@@ -140,7 +158,8 @@ within_there : (window bytes : List ℕ) (len : ℕ) → window ≡ take HEAD_BY
 within_there window bytes len e within =
     omega (arith, within, length-append window (drop HEAD_BYTES bytes), ap length (windowed window bytes e))
 
-pub interim_there : (window bytes : List ℕ) (fields : List HeaderSpan) (r : ResponseSpans) → HasResponseSpans window fields r → window ≡ take HEAD_BYTES bytes
+pub interim_there : (window bytes : List ℕ) (fields : List HeaderSpan) (r : ResponseSpans) → HasResponseSpans window fields r
+    → window ≡ take HEAD_BYTES bytes
     → is_interim r.code ≡ true → HasInterimHead bytes r.len
 interim_there window bytes fields r s e interim = record {
   head = s.head;
@@ -154,7 +173,8 @@ frame_there : (window : List ℕ) (fields : List HeaderSpan) (r : ResponseSpans)
     → frame_behind r.code (map (header_bytes window) fields) ≡ response_frame s.head
 frame_there window fields r s = ap (frame_behind r.code) s.fields_are ∙ ap (λ x. frame_behind x (response_fields s.head)) s.status
 
-last_there : (window bytes : List ℕ) (fields : List HeaderSpan) (r : ResponseSpans) (ended : Bool) (v : AnswerState) (s : HasResponseSpans window fields r)
+last_there : (window bytes : List ℕ) (fields : List HeaderSpan) (r : ResponseSpans) (ended : Bool) (v : AnswerState)
+    (s : HasResponseSpans window fields r)
     → window ≡ take HEAD_BYTES bytes → is_interim r.code ≡ false → IsBehind ended s.head (drop r.len bytes) v → IsLast ended bytes v
 last_there window bytes fields r ended v s e final behind = inr (record {
   head = s.head;
@@ -164,14 +184,17 @@ last_there window bytes fields r ended v s e final behind = inr (record {
   behind = behind;
 })
 
-pub too_long_there : (window bytes : List ℕ) (fields : List HeaderSpan) (r : ResponseSpans) (ended : Bool) → HasResponseSpans window fields r
-    → window ≡ take HEAD_BYTES bytes → is_interim r.code ≡ false → frame_behind r.code (map (header_bytes window) fields) ≡ TooLong → IsLast ended bytes big
+pub too_long_there : (window bytes : List ℕ) (fields : List HeaderSpan) (r : ResponseSpans) (ended : Bool)
+    → HasResponseSpans window fields r
+    → window ≡ take HEAD_BYTES bytes → is_interim r.code ≡ false → frame_behind r.code (map (header_bytes window) fields) ≡ TooLong
+    → IsLast ended bytes big
 too_long_there window bytes fields r ended s e final is =
     last_there window bytes fields r ended big s e final
     (subst (λ (f : Frame). PassesLimit f (drop r.len bytes)) (sym is ∙ frame_there window fields r s) tt)
 
 pub broken_there : (window bytes : List ℕ) (fields : List HeaderSpan) (r : ResponseSpans) (ended : Bool) → HasResponseSpans window fields r
-    → window ≡ take HEAD_BYTES bytes → is_interim r.code ≡ false → frame_behind r.code (map (header_bytes window) fields) ≡ Broken → IsLast ended bytes bad
+    → window ≡ take HEAD_BYTES bytes → is_interim r.code ≡ false → frame_behind r.code (map (header_bytes window) fields) ≡ Broken
+    → IsLast ended bytes bad
 broken_there window bytes fields r ended s e final is =
     last_there window bytes fields r ended bad s e final
     (subst (λ (f : Frame). BreaksBody f (drop r.len bytes)) (sym is ∙ frame_there window fields r s) tt)
@@ -193,7 +216,8 @@ parts_there window bytes fields r location body s e final framed within located 
       location_within = within;
       location = located ∙ ap (λ x. first_value (values_of (codes "location") x)) s.fields_are;
     } in
-    subst (λ (x : List ℕ). HasAnswerHead x (parts_of r location body)) (windowed window bytes e) (head_grows window (drop HEAD_BYTES bytes) (parts_of r location body) here)
+    subst (λ (x : List ℕ). HasAnswerHead x (parts_of r location body)) (windowed window bytes e)
+    (head_grows window (drop HEAD_BYTES bytes) (parts_of r location body) here)
 
 -- a head has some bytes
 response_some : (h : ResponseHead) → 1 ≤ length (print_response h)
@@ -207,11 +231,17 @@ section_in_response h = simp length-append (omega arith)
 pub spans_there : (window : List ℕ) (room : List HeaderSpan) (r : ResponseSpans) → length window ≤ HEAD_BYTES → r.headers ≤ HEAD_FIELDS
     → IsResponseWithin window room r → IsResponseOf window room r → HasResponseSpans window (take r.headers room) r
 spans_there window room r short few within found =
-    let count : length found.0.fields ≡ r.headers = count_of_fields window room r.headers found.0.fields within.section.count_fits found.1.fields in
+    let count : length found.0.fields ≡ r.headers = count_of_fields window room r.headers found.0.fields within.section.count_fits
+    found.1.fields in
     let len : r.len ≡ length (print_response found.0) = found.1.len in
     record {
       head = found.0;
-      begins = record { reads = found.1.reads; short = omega (arith, len, short, within.section.len_fits); few = omega (arith, count, few) };
+      begins = record {
+        reads = found.1.reads;
+        short = omega (arith, len, short, within.section.len_fits);
+        few =
+            omega (arith, count, few);
+      };
       within = within.section.len_fits;
       some = omega (arith, len, response_some found.0);
       status = found.1.code;
@@ -220,10 +250,12 @@ spans_there window room r short few within found =
       fields_are = found.1.fields;
     }
 
-pub many_there : (bytes window : List ℕ) (room : List HeaderSpan) (r : ResponseSpans) → window ≡ take HEAD_BYTES bytes → HEAD_FIELDS < r.headers
+pub many_there : (bytes window : List ℕ) (room : List HeaderSpan) (r : ResponseSpans) → window ≡ take HEAD_BYTES bytes
+    → HEAD_FIELDS < r.headers
     → IsResponseWithin window room r → IsResponseOf window room r → HasManyFields bytes
 many_there bytes window room r e many within found =
-    let count : length found.0.fields ≡ r.headers = count_of_fields window room r.headers found.0.fields within.section.count_fits found.1.fields in
+    let count : length found.0.fields ≡ r.headers = count_of_fields window room r.headers found.0.fields within.section.count_fits
+    found.1.fields in
     record {
       head = found.0;
       tail = drop r.len window;
@@ -246,7 +278,8 @@ no_room window room many short exceeds =
 -- bytes that the parser refuses never begin with a head
 pub refused_is_never : (window : List ℕ) (room : ℕ) (e : Error) → FIELD_ROOM ≤ room → length window ≤ HEAD_BYTES
     → (e ≢ error.TooManyHeaders → NeverHasResponse window)
-    → (◌≡◌ {A = Result (Status ResponseSpans) Error} (Err e) (Err error.TooManyHeaders) → ResponseExceeds room window) → NeverHasResponse window
+    → (◌≡◌ {A = Result (Status ResponseSpans) Error} (Err e) (Err error.TooManyHeaders) → ResponseExceeds room window)
+    → NeverHasResponse window
 refused_is_never window room e many short invalid too_many = elim (error_cases e) [
   | inl is ↦ absurd (no_room window room many short (too_many (ap (λ x. Err x) is)))
   | inr other ↦ invalid other
@@ -267,7 +300,8 @@ passed_interim bytes r len x i = (
 )
 
 -- a decoder that has passed nothing has passed nothing of any bytes
-pub nothing_passed : (left : List ℕ) (o : Option AnswerParts) (d : Decoder) → o ≡ None → HasReadLast left o d → (any : List ℕ) → HasDecoded any d
+pub nothing_passed : (left : List ℕ) (o : Option AnswerParts) (d : Decoder) → o ≡ None → HasReadLast left o d → (any : List ℕ)
+    → HasDecoded any d
 nothing_passed left o d none x = subst (λ (y : Option AnswerParts). HasReadLast left y d) none x
 
 pub head_there : (left : List ℕ) (o : Option AnswerParts) (p : AnswerParts) (d : Decoder) → o ≡ Some p → HasReadLast left o d
@@ -276,23 +310,35 @@ head_there left o p d some x = subst (λ (y : Option AnswerParts). HasReadLast l
 
 -- ---- what is heard
 
-pub is_of : (bytes : List ℕ) (p : AnswerParts) (h : ResponseHead) (a : Answer) → HasAnswerHead bytes p → BeginsHead bytes h (drop p.len bytes)
+pub is_of : (bytes : List ℕ) (p : AnswerParts) (h : ResponseHead) (a : Answer) → HasAnswerHead bytes p
+    → BeginsHead bytes h (drop p.len bytes)
     → a.status ≡ p.status → IsLocation (option_map (span_bytes bytes) p.location) a.location → IsOf h a
 is_of bytes p h a x b status location =
     let same = response_unique bytes x.head h (drop p.len bytes) (drop p.len bytes) x.begins.reads b.reads in
     record {
       status = status ∙ x.status ∙ ap status_code same.0;
-      location = subst (λ (y : Option (List ℕ)). IsLocation y a.location) (x.location ∙ ap (λ k. first_value (values_of (codes "location") (response_fields k))) same.0) location;
+      location = subst (λ (y : Option (List ℕ)). IsLocation y a.location)
+          (x.location ∙ ap (λ k. first_value (values_of (codes "location") (response_fields k))) same.0) location;
     }
 
 -- ---- bodies
 
-behind_head : (ended : Bool) (left : List ℕ) (p : AnswerParts) (v : AnswerState) (x : HasAnswerHead left p) → IsBehind ended x.head (drop p.len left) v
+behind_head : (ended : Bool) (left : List ℕ) (p : AnswerParts) (v : AnswerState) (x : HasAnswerHead left p)
+    → IsBehind ended x.head (drop p.len left) v
     → IsLast ended left v
-behind_head ended left p v x behind = inr (record { head = x.head; tail = drop p.len left; begins = x.begins; last = x.last; behind = behind })
+behind_head ended left p v x behind = inr (record {
+  head = x.head;
+  tail = drop p.len left;
+  begins = x.begins;
+  last = x.last;
+  behind =
+      behind;
+})
 
-heard_last : (ended : Bool) (left : List ℕ) (p : AnswerParts) (body : List ℕ) (heard : Answer) (result : Result Bool ResponseFault) → HasAnswerHead left p
-    → HoldsBody ended (frame_as p.body) (drop p.len left) body → IsHeard left p body heard result → IfSome (said_by heard result) (IsLast ended left)
+heard_last : (ended : Bool) (left : List ℕ) (p : AnswerParts) (body : List ℕ) (heard : Answer) (result : Result Bool ResponseFault)
+    → HasAnswerHead left p
+    → HoldsBody ended (frame_as p.body) (drop p.len left) body → IsHeard left p body heard result
+    → IfSome (said_by heard result) (IsLast ended left)
 heard_last ended left p body heard (Ok true) x holds is =
     let had = is x.head x.begins in
     behind_head ended left p (whole heard) x (
@@ -305,32 +351,40 @@ heard_last ended left p body heard (Err fault.Malformed) x holds is = absurd is
 heard_last ended left p body heard (Err fault.TooLarge) x holds is = absurd is
 heard_last ended left p body heard (Err fault.Memory) x holds is = tt
 
-are_said : (ended : Bool) (bytes : List ℕ) (r : ResponseReader) (said : Option AnswerState) → HasRead bytes r → IfSome said (IsLast ended (drop r.passed bytes))
+are_said : (ended : Bool) (bytes : List ℕ) (r : ResponseReader) (said : Option AnswerState) → HasRead bytes r
+    → IfSome said (IsLast ended (drop r.passed bytes))
     → IfSome said (AreAnswer ended bytes)
 are_said ended bytes r None x last = tt
 are_said ended bytes r (Some v) x last = are_last ended bytes r v x last
 
 -- a whole body is heard
-pub says_heard : (ended : Bool) (bytes : List ℕ) (r : ResponseReader) (p : AnswerParts) (body : List ℕ) (heard : Answer) (result : Result Bool ResponseFault)
+pub says_heard : (ended : Bool) (bytes : List ℕ) (r : ResponseReader) (p : AnswerParts) (body : List ℕ) (heard : Answer)
+    (result : Result Bool ResponseFault)
     → HasRead bytes r → HasAnswerHead (drop r.passed bytes) p → HoldsBody ended (frame_as p.body) (drop p.len (drop r.passed bytes)) body
     → IsHeard (drop r.passed bytes) p body heard result → IfSome (said_by heard result) (AreAnswer ended bytes)
 says_heard ended bytes r p body heard result x head holds is =
     are_said ended bytes r (said_by heard result) x (heard_last ended (drop r.passed bytes) p body heard result head holds is)
 
-pub says_cut : (ended : Bool) (bytes : List ℕ) (r : ResponseReader) (p : AnswerParts) → HasRead bytes r → HasAnswerHead (drop r.passed bytes) p
+pub says_cut : (ended : Bool) (bytes : List ℕ) (r : ResponseReader) (p : AnswerParts) → HasRead bytes r
+    → HasAnswerHead (drop r.passed bytes) p
     → CutsBody ended (frame_as p.body) (drop p.len (drop r.passed bytes)) → AreAnswer ended bytes cut
 says_cut ended bytes r p x head cuts =
-    are_last ended bytes r cut x (behind_head ended (drop r.passed bytes) p cut head (subst (λ (f : Frame). CutsBody ended f (drop p.len (drop r.passed bytes))) head.body cuts))
+    are_last ended bytes r cut x (behind_head ended (drop r.passed bytes) p cut head
+    (subst (λ (f : Frame). CutsBody ended f (drop p.len (drop r.passed bytes))) head.body cuts))
 
-pub says_bad : (ended : Bool) (bytes : List ℕ) (r : ResponseReader) (p : AnswerParts) → HasRead bytes r → HasAnswerHead (drop r.passed bytes) p
+pub says_bad : (ended : Bool) (bytes : List ℕ) (r : ResponseReader) (p : AnswerParts) → HasRead bytes r
+    → HasAnswerHead (drop r.passed bytes) p
     → BreaksBody (frame_as p.body) (drop p.len (drop r.passed bytes)) → AreAnswer ended bytes bad
 says_bad ended bytes r p x head breaks =
-    are_last ended bytes r bad x (behind_head ended (drop r.passed bytes) p bad head (subst (λ (f : Frame). BreaksBody f (drop p.len (drop r.passed bytes))) head.body breaks))
+    are_last ended bytes r bad x (behind_head ended (drop r.passed bytes) p bad head
+    (subst (λ (f : Frame). BreaksBody f (drop p.len (drop r.passed bytes))) head.body breaks))
 
-pub says_big : (ended : Bool) (bytes : List ℕ) (r : ResponseReader) (p : AnswerParts) → HasRead bytes r → HasAnswerHead (drop r.passed bytes) p
+pub says_big : (ended : Bool) (bytes : List ℕ) (r : ResponseReader) (p : AnswerParts) → HasRead bytes r
+    → HasAnswerHead (drop r.passed bytes) p
     → PassesLimit (frame_as p.body) (drop p.len (drop r.passed bytes)) → AreAnswer ended bytes big
 says_big ended bytes r p x head passes =
-    are_last ended bytes r big x (behind_head ended (drop r.passed bytes) p big head (subst (λ (f : Frame). PassesLimit f (drop p.len (drop r.passed bytes))) head.body passes))
+    are_last ended bytes r big x (behind_head ended (drop r.passed bytes) p big head
+    (subst (λ (f : Frame). PassesLimit f (drop p.len (drop r.passed bytes))) head.body passes))
 
 -- ---- chunks
 
@@ -346,13 +400,15 @@ chunks_held ended tail body n d at =
     let all = all_taken CHUNKED_BYTES tail (omega (arith, d.1, at)) in
     let none : drop n (take CHUNKED_BYTES tail) ≡ [] = drop_all n (take CHUNKED_BYTES tail) (omega (arith, at, ap length all.1)) in
     record {
-      reads = subst (λ (x : List ℕ). ReadsChunks x body []) all.1 (subst (λ (x : List ℕ). ReadsChunks (take CHUNKED_BYTES tail) body x) none d.0);
+      reads = subst (λ (x : List ℕ). ReadsChunks x body []) all.1 (subst
+          (λ (x : List ℕ). ReadsChunks (take CHUNKED_BYTES tail) body x) none d.0);
       fits = d.2;
       short = omega (arith, all.0);
     }
 
 -- and where they end before it, bytes stand behind it
-pub chunks_behind : (tail body : List ℕ) (n : ℕ) → DecodedIs (take CHUNKED_BYTES tail) body (decoded.Whole n) → (n ≡ length tail → ⊥) → HasMoreBehind tail
+pub chunks_behind : (tail body : List ℕ) (n : ℕ) → DecodedIs (take CHUNKED_BYTES tail) body (decoded.Whole n) → (n ≡ length tail → ⊥)
+    → HasMoreBehind tail
 chunks_behind tail body n d other =
     let u : List ℕ = take CHUNKED_BYTES tail in
     record {
@@ -370,7 +426,8 @@ chunks_behind tail body n d other =
 
 -- ---- the rest
 
-sized_behind : (bodiless : Bool) (fields : List (List ℕ × List ℕ)) (n : ℕ) → (if bodiless then Sized 0 else frame_of_fields fields) ≡ Sized n → n ≤ BODY_BYTES
+sized_behind : (bodiless : Bool) (fields : List (List ℕ × List ℕ)) (n : ℕ)
+    → (if bodiless then Sized 0 else frame_of_fields fields) ≡ Sized n → n ≤ BODY_BYTES
 sized_behind true fields n e = let z : 0 ≡ n = cc (e) in omega arith
 sized_behind false fields n e = sized_fits fields n e
 
@@ -378,7 +435,8 @@ sized_behind false fields n e = sized_fits fields n e
 pub length_fits : (left : List ℕ) (p : AnswerParts) (n : ℕ) → HasAnswerHead left p → frame_as p.body ≡ Sized n → n ≤ BODY_BYTES
 length_fits left p n x is = sized_behind (is_bodiless (status_code x.head)) (response_fields x.head) n (sym x.body ∙ is)
 
-pub keeps : (left : List ℕ) (o : Option AnswerParts) (p : AnswerParts) (d : Decoder) → o ≡ Some p → HasAnswerHead left p → HasDecoded (chunk_window left p) d
+pub keeps : (left : List ℕ) (o : Option AnswerParts) (p : AnswerParts) (d : Decoder) → o ≡ Some p → HasAnswerHead left p
+    → HasDecoded (chunk_window left p) d
     → HasReadLast left o d
 keeps left o p d some head decoded = subst (λ (y : Option AnswerParts). HasReadLast left y d) (sym some) (head, decoded)
 

@@ -1,5 +1,6 @@
 -- The bytes of a connection so far are one thing alone.
-use Rattle.std.proofs.Common.{◌≡◌, ℕ, ◌+◌, ◌≤◌, Bool, true, false, List, [], ◌∷◌, length, take, drop, Option, Some, None, refl, sym, ap, ◌∙◌, subst, inl, inr, arith, append-nil}
+use Rattle.std.proofs.Common.{◌≡◌, ℕ, ◌+◌, ◌≤◌, Bool, true, false, List, [], ◌∷◌, length, take, drop, Option, Some, None, refl, sym, ap}
+use Rattle.std.proofs.Common.{◌∙◌, subst, inl, inr, arith, append-nil}
 use Rattle.std.proofs.lemmas.Bool.{cases_lt}
 use Rattle.std.proofs.lemmas.List.{take_all, take-append-drop, length-take-le}
 use Rattle.httparse.specs.Grammar.{ResponseHead, print_response, ReadsResponse, NeverHasResponse, status_code}
@@ -14,12 +15,14 @@ use Rattle.http_frames.specs.Beginnings as begins
 use Rattle.http_frames.proofs.ListLaws.{front_of_front}
 use Rattle.http_frames.proofs.OneBodyLaws.{one_body}
 use Rattle.site_traits.specs.Answer.{Answer}
-use Rattle.http_client.specs.Responses.{AnswerState, whole, cut, bad, big, is_interim, response_frame, BeginsHead, Interims, IsHeadless, HoldsBody, CutsBody, BreaksBody, PassesLimit, IsLocation, IsBehind, IsLast, AnswersAreOneWay}
+use Rattle.http_client.specs.Responses.{AnswerState, whole, cut, bad, big, is_interim, response_frame, BeginsHead, Interims, IsHeadless}
+use Rattle.http_client.specs.Responses.{HoldsBody, CutsBody, BreaksBody, PassesLimit, IsLocation, IsBehind, IsLast, AnswersAreOneWay}
 
 -- ---- heads
 
 -- a head within the limit stands in the bytes that a head may have
-in_window : (bytes : List ℕ) (h : ResponseHead) (tail : List ℕ) → BeginsHead bytes h tail → (r : List ℕ) × ReadsResponse (take HEAD_BYTES bytes) h r
+in_window : (bytes : List ℕ) (h : ResponseHead) (tail : List ℕ) → BeginsHead bytes h tail
+    → (r : List ℕ) × ReadsResponse (take HEAD_BYTES bytes) h r
 in_window bytes h tail b = elim (cases_lt HEAD_BYTES (length bytes)) [
   | inl longer ↦ let taken : length (take HEAD_BYTES bytes) ≡ HEAD_BYTES = length-take-le HEAD_BYTES bytes (omega arith) in
       let front = front_of_front (print_response h) (take HEAD_BYTES bytes) tail (drop HEAD_BYTES bytes) (omega (arith, b.short, taken))
@@ -31,7 +34,8 @@ in_window bytes h tail b = elim (cases_lt HEAD_BYTES (length bytes)) [
 never_here : (bytes : List ℕ) (h : ResponseHead) (tail : List ℕ) → NeverHasResponse bytes → ReadsResponse bytes h tail → ⊥
 never_here bytes h tail never reads = never [] h tail (subst (λ (x : List ℕ). ReadsResponse x h tail) (sym (append-nil bytes)) reads)
 
-pub head_or_headless : (bytes : List ℕ) (h : ResponseHead) (tail : List ℕ) (v : AnswerState) → BeginsHead bytes h tail → IsHeadless bytes v → ⊥
+pub head_or_headless : (bytes : List ℕ) (h : ResponseHead) (tail : List ℕ) (v : AnswerState) → BeginsHead bytes h tail → IsHeadless bytes v
+    → ⊥
 head_or_headless bytes h tail (whole a) b none = none
 head_or_headless bytes h tail cut b none = none.1 h tail b.reads
 head_or_headless bytes h tail bad b never = let w = in_window bytes h tail b in never_here (take HEAD_BYTES bytes) h w.0 never w.1
@@ -108,7 +112,8 @@ holds_or_breaks ended Chunked bytes x a (inl broken) =
 holds_or_breaks ended Chunked bytes x a (inr more) =
     let short = within_chunks bytes x a in
     let reads = subst (λ (y : List ℕ). ReadsChunks y more.body more.rest) (in_chunks bytes short) more.reads in
-    let same = same_content x more.body [] more.rest (one_body bytes (begins.whole x []) (begins.whole more.body more.rest) (a.reads, a.fits) (reads, more.fits)) in
+    let same = same_content x more.body [] more.rest (one_body bytes (begins.whole x []) (begins.whole more.body more.rest)
+    (a.reads, a.fits) (reads, more.fits)) in
     absurd (omega (arith, short, more.more (sym same.1)))
 holds_or_breaks ended TooLong bytes x a b = a
 holds_or_breaks ended Broken bytes x a b = a
@@ -145,8 +150,10 @@ cuts_or_passes ended Broken bytes a b = a
 breaks_or_passes : (f : Frame) (bytes : List ℕ) → BreaksBody f bytes → PassesLimit f bytes → ⊥
 breaks_or_passes NoBody bytes a b = a
 breaks_or_passes (Sized n) bytes a b = b
-breaks_or_passes Chunked bytes (inl broken) (inl much) = let e = one_body (take CHUNKED_BYTES bytes) begins.broken begins.much broken much in cc
-breaks_or_passes Chunked bytes (inl broken) (inr long) = let e = one_body (take CHUNKED_BYTES bytes) begins.broken begins.part broken long.1 in cc
+breaks_or_passes Chunked bytes (inl broken) (inl much) = let e =
+    one_body (take CHUNKED_BYTES bytes) begins.broken begins.much broken much in cc
+breaks_or_passes Chunked bytes (inl broken) (inr long) = let e =
+    one_body (take CHUNKED_BYTES bytes) begins.broken begins.part broken long.1 in cc
 breaks_or_passes Chunked bytes (inr more) (inl much) =
     let e = one_body (take CHUNKED_BYTES bytes) (begins.whole more.body more.rest) begins.much (more.reads, more.fits) much in cc
 breaks_or_passes Chunked bytes (inr more) (inr long) = long.1.not_whole more.body more.rest more.reads
@@ -172,12 +179,14 @@ same_answer a b e f g =
     let z : made b.status b.location a.body ≡ made b.status b.location b.body = ap (λ t. made b.status b.location t) g in
     x ∙ y ∙ z
 
-one_whole : (ended : Bool) (h : ResponseHead) (bytes : List ℕ) (a b : Answer) → IsBehind ended h bytes (whole a) → IsBehind ended h bytes (whole b) → whole a ≡ whole b
+one_whole : (ended : Bool) (h : ResponseHead) (bytes : List ℕ) (a b : Answer) → IsBehind ended h bytes (whole a)
+    → IsBehind ended h bytes (whole b) → whole a ≡ whole b
 one_whole ended h bytes a b x y =
     ap whole (same_answer a b (x.0.status ∙ sym y.0.status) (location_one _ a.location b.location x.0.location y.0.location)
     (holds_one ended (response_frame h) bytes a.body b.body x.1 y.1))
 
-behind_one_way : (ended : Bool) (h : ResponseHead) (bytes : List ℕ) (v w : AnswerState) → IsBehind ended h bytes v → IsBehind ended h bytes w → v ≡ w
+behind_one_way : (ended : Bool) (h : ResponseHead) (bytes : List ℕ) (v w : AnswerState) → IsBehind ended h bytes v
+    → IsBehind ended h bytes w → v ≡ w
 behind_one_way ended h bytes (whole a) (whole b) x y = one_whole ended h bytes a b x y
 behind_one_way ended h bytes (whole a) cut x y = absurd (holds_or_cuts ended (response_frame h) bytes a.body x.1 y)
 behind_one_way ended h bytes (whole a) bad x y = absurd (holds_or_breaks ended (response_frame h) bytes a.body x.1 y)
@@ -206,14 +215,16 @@ last_one_way ended bytes v w (inr x) (inr y) =
 
 -- ---- interim answers
 
-interim_or_last : (ended : Bool) (bytes : List ℕ) (h : ResponseHead) (mid : List ℕ) (v : AnswerState) → is_interim (status_code h) ≡ true → BeginsHead bytes h mid
+interim_or_last : (ended : Bool) (bytes : List ℕ) (h : ResponseHead) (mid : List ℕ) (v : AnswerState) → is_interim (status_code h) ≡ true
+    → BeginsHead bytes h mid
     → IsLast ended bytes v → ⊥
 interim_or_last ended bytes h mid v interim b (inl none) = head_or_headless bytes h mid v b none
 interim_or_last ended bytes h mid v interim b (inr last) =
     let same = response_unique bytes h last.head mid last.tail b.reads last.begins.reads in
     let e : true ≡ false = sym interim ∙ ap (λ x. is_interim (status_code x)) same.0 ∙ last.last in cc
 
-one_last : (ended : Bool) (bytes : List ℕ) (hs ks : List ResponseHead) (left there : List ℕ) (v w : AnswerState) → Interims bytes hs left → Interims bytes ks there
+one_last : (ended : Bool) (bytes : List ℕ) (hs ks : List ResponseHead) (left there : List ℕ) (v w : AnswerState) → Interims bytes hs left
+    → Interims bytes ks there
     → IsLast ended left v → IsLast ended there w → v ≡ w
 one_last ended bytes [] [] left there v w a b x y =
     last_one_way ended bytes v w (subst (λ (z : List ℕ). IsLast ended z v) (sym a) x) (subst (λ (z : List ℕ). IsLast ended z w) (sym b) y)

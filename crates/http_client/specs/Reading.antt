@@ -1,5 +1,6 @@
 -- What a reader of answers has read, and what it answers.
-use Rattle.std.specs.Prelude.{◌≡◌, ◌⊎◌, ◌∷◌, ℕ, ◌≤◌, ◌++◌, Bool, true, false, List, [], length, take, drop, option_map, IfSome, Option, Some, None, Result, Ok, Err, All, map, codes}
+use Rattle.std.specs.Prelude.{◌≡◌, ◌⊎◌, ◌∷◌, ℕ, ◌≤◌, ◌++◌, Bool, true, false, List, [], length, take, drop, option_map}
+use Rattle.std.specs.Prelude.{IfSome, Option, Some, None, Result, Ok, Err, All, map, codes}
 use Rattle.httparse.specs.declared.spans.HeaderSpan.{HeaderSpan}
 use Rattle.httparse.specs.declared.spans.ResponseSpans.{ResponseSpans}
 use Rattle.httparse.specs.Ascii.{line_feed}
@@ -18,7 +19,8 @@ use Rattle.http_client.specs.declared.lines.LineReader.{LineReader}
 use Rattle.http_client.specs.declared.responses.ResponseReader.{ResponseReader}
 use Rattle.http_client.specs.declared.responses.ResponseFault.{ResponseFault}
 use Rattle.http_client.specs.declared.responses.ResponseFault.TheVariants as fault
-use Rattle.http_client.specs.Responses.{BeginsHead, Interims, is_interim, response_fields, response_frame, IsOf, IsLast, AreAnswer, AnswerState, whole, cut, bad, big}
+use Rattle.http_client.specs.Responses.{BeginsHead, Interims, is_interim, response_fields, response_frame, IsOf, IsLast}
+use Rattle.http_client.specs.Responses.{AreAnswer, AnswerState, whole, cut, bad, big}
 
 -- the bytes begin with the head of an answer within the limits, of a sound framing, that isn't interim, and these are
 -- its parts
@@ -30,7 +32,8 @@ pub record HasAnswerHead (bytes : List ℕ) (p : AnswerParts) : Type 0 where
   pub status : p.status ≡ status_code head
   pub body : frame_as p.body ≡ response_frame head
   pub location_within : IfSome p.location (IsWithin (length bytes))
-  pub location : option_map (span_bytes bytes) p.location ≡ first_value (values_of (codes "location") (response_fields head))
+  pub location : option_map (span_bytes bytes) p.location
+      ≡ first_value (values_of (codes "location") (response_fields head))
 
 -- the first bytes are the head of an interim answer within the limits
 pub record HasInterimHead (bytes : List ℕ) (len : ℕ) : Type 0 where
@@ -97,7 +100,8 @@ HeadCame bytes r (Err fault.Memory) = ⊥
 
 -- what was heard, by the answer: the status and the Location of the head that the bytes begin with, and this body
 abbrev pub IsHeard : List ℕ → AnswerParts → List ℕ → Answer → Result Bool ResponseFault → Type 0
-IsHeard bytes p body heard (Ok true) = (h : ResponseHead) → BeginsHead bytes h (drop p.len bytes) → IsOf h heard × (heard.body ≡ body)
+IsHeard bytes p body heard (Ok true) = (h : ResponseHead) → BeginsHead bytes h (drop p.len bytes)
+    → IsOf h heard × (heard.body ≡ body)
 IsHeard bytes p body heard (Ok false) = ⊥
 IsHeard bytes p body heard (Err fault.Malformed) = ⊥
 IsHeard bytes p body heard (Err fault.TooLarge) = ⊥

@@ -9,9 +9,11 @@ request_line method path = method ++ (codes " " ++ (path ++ codes " HTTP/1.1\r\n
 abbrev pub content_lines : List ℕ → List ℕ
 content_lines [] = []
 content_lines (byte ∷ rest) =
-    codes "Content-Type: application/json\r\n" ++ (codes "Content-Length: " ++ (decimal (length (byte ∷ rest)) ++ codes "\r\n"))
+    codes "Content-Type: application/json\r\n" ++ (codes "Content-Length: "
+    ++ (decimal (length (byte ∷ rest)) ++ codes "\r\n"))
 
 -- a request that is its connection's only one: the line, the host, what is told of the body, and the body
 abbrev pub request : List ℕ → List ℕ → List ℕ → List ℕ → List ℕ
 request method host path body =
-    request_line method path ++ (codes "Host: " ++ (host ++ (codes "\r\n" ++ (content_lines body ++ (codes "Connection: close\r\n\r\n" ++ body)))))
+    request_line method path ++ (codes "Host: " ++ (host ++ (codes "\r\n"
+    ++ (content_lines body ++ (codes "Connection: close\r\n\r\n" ++ body)))))

@@ -1,7 +1,9 @@
 -- What the bytes of a connection are that carries one answer and ends behind it (RFC 9112 4 to 7, RFC 9110 15; the
 -- limits, and that bytes behind the answer are a fault: own rule).
-use Rattle.std.specs.Prelude.{◌≡◌, ◌⊎◌, ℕ, ◌<◌, ◌≤◌, ◌==◌, ◌||◌, ◌&&◌, Bool, true, false, List, [], ◌∷◌, length, take, map, nat_le, nat_lt, if◌then◌else◌, codes, Option, Some, None}
-use Rattle.httparse.specs.Grammar.{ResponseHead, print_response, ReadsResponse, HasNoResponse, NeverHasResponse, MayBecomeResponse, status_code}
+use Rattle.std.specs.Prelude.{◌≡◌, ◌⊎◌, ℕ, ◌<◌, ◌≤◌, ◌==◌, ◌||◌, ◌&&◌, Bool, true, false, List, [], ◌∷◌, length, take}
+use Rattle.std.specs.Prelude.{map, nat_le, nat_lt, if◌then◌else◌, codes, Option, Some, None}
+use Rattle.httparse.specs.Grammar.{ResponseHead, print_response, ReadsResponse, HasNoResponse, NeverHasResponse}
+use Rattle.httparse.specs.Grammar.{MayBecomeResponse, status_code}
 use Rattle.httparse.specs.Spans.{name_and_value}
 use Rattle.http_frames.specs.declared.TheConstants.{HEAD_BYTES, HEAD_FIELDS, BODY_BYTES, CHUNKED_BYTES}
 use Rattle.http_frames.specs.declared.framing.Frame.{Frame}
@@ -52,7 +54,8 @@ pub record BeginsHead (bytes : List ℕ) (h : ResponseHead) (tail : List ℕ) : 
 -- the bytes are these heads of interim answers, one behind the other, and then what is left
 abbrev pub Interims : List ℕ → List ResponseHead → List ℕ → Type 0
 Interims bytes [] left = bytes ≡ left
-Interims bytes (h ∷ hs) left = (is_interim (status_code h) ≡ true) × ((mid : List ℕ) × BeginsHead bytes h mid × Interims mid hs left)
+Interims bytes (h ∷ hs) left = (is_interim (status_code h) ≡ true)
+    × ((mid : List ℕ) × BeginsHead bytes h mid × Interims mid hs left)
 
 -- more bytes than a head may have are there, and those that it may have are none, but can go on to one
 pub record IsLongHead (bytes : List ℕ) : Type 0 where
@@ -112,7 +115,8 @@ BreaksBody Broken bytes = Unit {0}
 abbrev pub PassesLimit : Frame → List ℕ → Type 0
 PassesLimit NoBody bytes = BODY_BYTES < length bytes
 PassesLimit (Sized n) bytes = ⊥
-PassesLimit Chunked bytes = ChunksMuch 0 (take CHUNKED_BYTES bytes) ⊎ ((CHUNKED_BYTES < length bytes) × ChunksCut 0 (take CHUNKED_BYTES bytes))
+PassesLimit Chunked bytes = ChunksMuch 0 (take CHUNKED_BYTES bytes)
+    ⊎ ((CHUNKED_BYTES < length bytes) × ChunksCut 0 (take CHUNKED_BYTES bytes))
 PassesLimit TooLong bytes = Unit {0}
 PassesLimit Broken bytes = ⊥
 
@@ -156,4 +160,5 @@ pub record AreAnswer (ended : Bool) (bytes : List ℕ) (v : AnswerState) : Type 
 
 -- bytes are one thing alone, and a whole answer has one status, one Location and one body
 abbrev pub AnswersAreOneWay : Type 0
-AnswersAreOneWay = (ended : Bool) (bytes : List ℕ) (v w : AnswerState) → AreAnswer ended bytes v → AreAnswer ended bytes w → v ≡ w
+AnswersAreOneWay = (ended : Bool) (bytes : List ℕ) (v w : AnswerState) → AreAnswer ended bytes v
+    → AreAnswer ended bytes w → v ≡ w

@@ -63,7 +63,8 @@ fn put_content(bytes: &mut Vec<u8>, body: &[u8]) -> Result<(), AllocError>
 
 /// The line that tells this length.
 fn put_length(bytes: &mut Vec<u8>, len: usize) -> Result<(), AllocError>
-    ensures { OnOk result (bytes.new.items ≡ bytes.old.items ++ (codes "Content-Length: " ++ (decimal len ++ codes "\r\n"))) }
+    ensures { OnOk result (bytes.new.items ≡ bytes.old.items
+        ++ (codes "Content-Length: " ++ (decimal len ++ codes "\r\n"))) }
 {
     let mut digits = Buffer::new();
     bytes.extend_from_slice(b"Content-Length: ")?;

@@ -3,7 +3,8 @@ ghost use Rattle.std.specs.Prelude.{◌≡◌, ◌≤◌, ℕ, List, IfOk, IfSom
 ghost use Rattle.httparse.specs.Spans.{span_bytes};
 ghost use Rattle.http_frames.specs.declared.head.Body.TheVariants as bodies;
 ghost use Rattle.http_client.specs.Responses.{AreAnswer, IsLocation};
-ghost use Rattle.http_client.specs.Reading.{HasRead, HasReadFront, HasAnswerHead, SaysWhatIs, said_by, said_of, HeadCame, IsHeard};
+ghost use Rattle.http_client.specs.Reading.{HasRead, HasReadFront, HasAnswerHead, SaysWhatIs, said_by, said_of};
+ghost use Rattle.http_client.specs.Reading.{HeadCame, IsHeard};
 
 use crate::heads::{AnswerHead, AnswerParts};
 use crate::lines::LineReader;

@@ -1,16 +1,20 @@
 -- Bytes begin with a whole request, with none, with a part of one, badly, or with too much, and with no two of these.
 use Rattle.std.specs.Prelude.{Bool, true, IsTrue}
-use Rattle.std.proofs.Common.{◌≡◌, ℕ, ◌+◌, ◌<◌, ◌≤◌, List, [], ◌∷◌, ◌++◌, length, take, drop, refl, sym, ap, ◌∙◌, subst, inl, inr, arith, append_assoc, append-nil, length-append}
+use Rattle.std.proofs.Common.{◌≡◌, ℕ, ◌+◌, ◌<◌, ◌≤◌, List, [], ◌∷◌, ◌++◌, length, take, drop, refl, sym, ap, ◌∙◌, subst, inl, inr, arith}
+use Rattle.std.proofs.Common.{append_assoc, append-nil, length-append}
 use Rattle.std.proofs.lemmas.Bool.{cases_lt}
 use Rattle.std.proofs.lemmas.List.{take-append-drop, length-take-le}
 use Rattle.std.proofs.lemmas.List.Elements.{All-cons}
 use Rattle.std.proofs.lemmas.Str.{IsUtf8-from_ascii}
 use Rattle.std.proofs.lemmas.Str.Ascii.{IsAscii-cons, IsAscii-nil}
-use Rattle.httparse.specs.Grammar.{lf, AllPass, is_token_byte, is_uri_byte, RequestHead, print_request, NeverHasRequest, ChunkLine, print_chunk_line, ReadsChunkLine, chunk_size}
+use Rattle.httparse.specs.Grammar.{lf, AllPass, is_token_byte, is_uri_byte, RequestHead, print_request, NeverHasRequest, ChunkLine}
+use Rattle.httparse.specs.Grammar.{print_chunk_line, ReadsChunkLine, chunk_size}
 use Rattle.http_frames.specs.declared.TheConstants.{BODY_BYTES, CHUNKED_BYTES}
 use Rattle.http_frames.specs.declared.framing.Frame.{Frame}
-use Rattle.http_frames.specs.Chunks.{Chunk, print_chunk, Chunks, content_of, Lines, ReadsTrailer, ReadsChunks, ReadsChunked, HasBadChunk, HasMuch, HasBigChunks, much, long}
-use Rattle.http_frames.specs.Messages.{Message, HasBody, ReadsMessage, IsBig, long_head, many_fields, long_body, big_chunks, IsBad, no_head, broken, bad_chunk, BeginsBad, BeginsBig}
+use Rattle.http_frames.specs.Chunks.{Chunk, print_chunk, Chunks, content_of, Lines, ReadsTrailer, ReadsChunks, ReadsChunked, HasBadChunk}
+use Rattle.http_frames.specs.Chunks.{HasMuch, HasBigChunks, much, long}
+use Rattle.http_frames.specs.Messages.{Message, HasBody, ReadsMessage, IsBig, long_head, many_fields, long_body, big_chunks, IsBad, no_head}
+use Rattle.http_frames.specs.Messages.{broken, bad_chunk, BeginsBad, BeginsBig}
 use Rattle.http_frames.specs.Beginnings.{Beginning, BeginsWith, BeginOneWay}
 use Rattle.http_frames.specs.Beginnings as begins
 use Rattle.http_frames.proofs.ListLaws.{front_of_front}
@@ -22,28 +26,34 @@ use Rattle.http_frames.proofs.MessageLaws.{front_bad, front_big, head_some}
 -- ---- a whole chunked body
 
 -- no front of it is bad
-pub whole_not_bad : (cs : List Chunk) (bytes left : List ℕ) (line : ChunkLine) (trailer q r : List ℕ) → Chunks bytes cs left → ReadsChunkLine left line trailer
+pub whole_not_bad : (cs : List Chunk) (bytes left : List ℕ) (line : ChunkLine) (trailer q r : List ℕ) → Chunks bytes cs left
+    → ReadsChunkLine left line trailer
     → chunk_size line ≡ 0 → bytes ≡ q ++ r → HasBadChunk q → ⊥
 whole_not_bad [] bytes left line trailer q r passed last zero e bad =
-    no_bad_at_last bytes q r line trailer bad.chunks bad.left (subst (λ (x : List ℕ). ReadsChunkLine x line trailer) (sym passed) last) zero e bad.passed bad.bad
+    no_bad_at_last bytes q r line trailer bad.chunks bad.left (subst (λ (x : List ℕ). ReadsChunkLine x line trailer) (sym passed) last) zero
+    e bad.passed bad.bad
 whole_not_bad (c ∷ cs) bytes left line trailer q r passed last zero e bad =
     let behind = bad_passes c passed.1.0 q r bad.chunks bad.left passed.0 (sym passed.1.1 ∙ e) bad.passed bad.bad in
     whole_not_bad cs passed.1.0 left line trailer behind.0 r passed.1.2 last zero behind.2 behind.3
 
 -- no front of it has too much content, where all of it has not
 pub whole_not_much : (taken : ℕ) (cs : List Chunk) (bytes left : List ℕ) (line : ChunkLine) (trailer q r : List ℕ) → Chunks bytes cs left
-    → ReadsChunkLine left line trailer → chunk_size line ≡ 0 → taken + length (content_of cs) ≤ BODY_BYTES → bytes ≡ q ++ r → HasMuch taken q → ⊥
+    → ReadsChunkLine left line trailer → chunk_size line ≡ 0 → taken + length (content_of cs) ≤ BODY_BYTES → bytes ≡ q ++ r
+    → HasMuch taken q → ⊥
 whole_not_much taken [] bytes left line trailer q r passed last zero fits e over =
-    no_much_at_last taken bytes q r line trailer over.chunks over.left over.line over.more (subst (λ (x : List ℕ). ReadsChunkLine x line trailer) (sym passed) last)
+    no_much_at_last taken bytes q r line trailer over.chunks over.left over.line over.more
+    (subst (λ (x : List ℕ). ReadsChunkLine x line trailer) (sym passed) last)
     zero (omega arith) e over.passed over.reads over.over
 whole_not_much taken (c ∷ cs) bytes left line trailer q r passed last zero fits e over =
     let sized = passed.0.sized in
     let both : length (c.content ++ content_of cs) ≡ length c.content + length (content_of cs) = length-append c.content (content_of cs) in
     let behind = much_passes taken c passed.1.0 q r over.chunks over.left over.line over.more passed.0 (omega arith) (sym passed.1.1 ∙ e)
     over.passed over.reads over.over in
-    whole_not_much (taken + chunk_size c.line) cs passed.1.0 left line trailer behind.0 r passed.1.2 last zero (omega arith) behind.2 behind.3
+    whole_not_much (taken + chunk_size c.line) cs passed.1.0 left line trailer behind.0 r passed.1.2 last zero
+    (omega arith) behind.2 behind.3
 
-lines_alone : (bytes : List ℕ) (ls : List (List ℕ)) (left x rest : List ℕ) → Lines bytes ls left → left ≡ x ++ rest → (u : List ℕ) × (bytes ≡ u ++ rest) × Lines u ls x
+lines_alone : (bytes : List ℕ) (ls : List (List ℕ)) (left x rest : List ℕ) → Lines bytes ls left → left ≡ x ++ rest
+    → (u : List ℕ) × (bytes ≡ u ++ rest) × Lines u ls x
 lines_alone bytes [] left x rest passed e = (x, passed ∙ e, refl)
 lines_alone bytes (k ∷ ls) left x rest passed e =
     let behind = lines_alone passed.2.0 ls left x rest passed.2.2 e in (
@@ -52,7 +62,8 @@ lines_alone bytes (k ∷ ls) left x rest passed e =
       (passed.0, passed.1, (behind.0, refl, behind.2)),
     )
 
-chunks_alone : (bytes : List ℕ) (cs : List Chunk) (left x rest : List ℕ) → Chunks bytes cs left → left ≡ x ++ rest → (u : List ℕ) × (bytes ≡ u ++ rest) × Chunks u cs x
+chunks_alone : (bytes : List ℕ) (cs : List Chunk) (left x rest : List ℕ) → Chunks bytes cs left → left ≡ x ++ rest
+    → (u : List ℕ) × (bytes ≡ u ++ rest) × Chunks u cs x
 chunks_alone bytes [] left x rest passed e = (x, passed ∙ e, refl)
 chunks_alone bytes (c ∷ cs) left x rest passed e =
     let behind = chunks_alone passed.1.0 cs left x rest passed.1.2 e in (
@@ -92,7 +103,8 @@ body_alone bytes body rest w =
     )
 
 -- no front of it goes on past the first n bytes unended, where it ends within them
-whole_not_long : (n : ℕ) (bytes body rest q r : List ℕ) → ReadsChunks bytes body rest → length bytes ≤ n + length rest → bytes ≡ q ++ r → n < length q
+whole_not_long : (n : ℕ) (bytes body rest q r : List ℕ) → ReadsChunks bytes body rest → length bytes ≤ n + length rest → bytes ≡ q ++ r
+    → n < length q
     → ((content behind : List ℕ) → ReadsChunks (take n q) content behind → ⊥) → ⊥
 whole_not_long n bytes body rest q r w short e over none =
     let alone = body_alone bytes body rest w in
@@ -188,7 +200,8 @@ none_not_big bytes none b = front_not_big b.front (no_front b.front b.more (sym 
 bad_not_big : (bytes : List ℕ) → BeginsBad bytes → BeginsBig bytes → ⊥
 bad_not_big bytes x y = elim (cases_lt (length x.front) (length y.front)) [
   | inl shorter ↦ let within = front_of_front x.front y.front x.more y.more (omega arith) (sym x.is ∙ y.is) in
-      y.first x.front within.0 within.1 (λ e. let same : length y.front ≡ length (x.front ++ []) = ap length within.1 ∙ ap (λ t. length (x.front ++ t)) e in
+      y.first x.front within.0 within.1 (λ e. let same : length y.front ≡ length (x.front ++ []) =
+      ap length within.1 ∙ ap (λ t. length (x.front ++ t)) e in
       absurd (omega (arith, length-append x.front []))) x.bad
   | inr longer ↦ let within = front_of_front y.front x.front y.more x.more longer (sym y.is ∙ x.is) in
       x.first y.front within.0 within.1 y.big

@@ -1,10 +1,12 @@
 -- Laws on chunks: what holds behind a chunk, with its size taken, holds of the bytes from the chunk on.
-use Rattle.std.proofs.Common.{◌≡◌, ℕ, ◌+◌, ◌<◌, ◌≤◌, List, [], ◌∷◌, ◌++◌, length, refl, sym, ap, ◌∙◌, subst, arith, append_assoc, append-nil, length-append}
+use Rattle.std.proofs.Common.{◌≡◌, ℕ, ◌+◌, ◌<◌, ◌≤◌, List, [], ◌∷◌, ◌++◌, length, refl, sym, ap, ◌∙◌, subst, arith, append_assoc}
+use Rattle.std.proofs.Common.{append-nil, length-append}
 use Rattle.httparse.specs.Ascii.{crlf_bytes}
 use Rattle.httparse.specs.Grammar.{ChunkLine, print_chunk_line, chunk_size, ReadsChunkLine}
 use Rattle.httparse.proofs.ChunkLemmas.{chunk_line_unique, ReadsChunkLine-append}
 use Rattle.http_frames.specs.declared.TheConstants.{BODY_BYTES}
-use Rattle.http_frames.specs.Chunks.{Chunk, print_chunk, IsChunk, Chunks, content_of, BeginsCrLf, IsBadChunk, no_line, no_end, HasBadChunk, HasMuch, ReadsTrailer, ReadsChunks}
+use Rattle.http_frames.specs.Chunks.{Chunk, print_chunk, IsChunk, Chunks, content_of, BeginsCrLf, IsBadChunk, no_line, no_end, HasBadChunk}
+use Rattle.http_frames.specs.Chunks.{HasMuch, ReadsTrailer, ReadsChunks}
 use Rattle.http_frames.specs.Answers.{ChunksCut, ChunksBad, ChunksMuch}
 use Rattle.http_frames.proofs.ListLaws.{same_front}
 

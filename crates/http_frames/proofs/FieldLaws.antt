@@ -1,5 +1,6 @@
 -- Laws on header fields.
-use Rattle.std.proofs.Common.{◌≡◌, ℕ, ◌+◌, ◌*◌, ◌<◌, ◌≤◌, Bool, true, false, List, [], ◌∷◌, ◌++◌, length, take, get_or, refl, sym, ap, ◌∙◌, map, filter, cond, min, arith}
+use Rattle.std.proofs.Common.{◌≡◌, ℕ, ◌+◌, ◌*◌, ◌<◌, ◌≤◌, Bool, true, false, List, [], ◌∷◌, ◌++◌, length, take, get_or, refl, sym, ap, ◌∙◌}
+use Rattle.std.proofs.Common.{map, filter, cond, min, arith}
 use Rattle.std.proofs.Math.Bool.{or-false}
 use Rattle.std.specs.Prelude.{codes, ◌||◌, ◌&&◌, IsTrue, ◌↔◌}
 use Rattle.std.specs.List.{list_any, list_all}
@@ -22,14 +23,16 @@ use Rattle.http_frames.specs.declared.framing.Frame.TheVariants.{NoBody, Sized, 
 use Rattle.http_frames.specs.declared.framing.Values.{Values}
 use Rattle.http_frames.specs.declared.framing.Values.TheVariants.{Absent, Once, Several}
 use Rattle.http_frames.specs.Answers.{HoldsValues}
-use Rattle.http_frames.specs.Framing.{is_same_word, values_of, is_length, sized, announced, coded, framed, frame_of_fields, asks_to_close, has_close, first_value}
+use Rattle.http_frames.specs.Framing.{is_same_word, values_of, is_length, sized, announced, coded, framed, frame_of_fields, asks_to_close}
+use Rattle.http_frames.specs.Framing.{has_close, first_value}
 
 map_filter-append : (p : List ℕ × List ℕ → Bool) (a b : List (List ℕ × List ℕ))
     → map (λ f. f.1) (filter p (a ++ b)) ≡ map (λ f. f.1) (filter p a) ++ map (λ f. f.1) (filter p b)
 map_filter-append p [] b = refl
 map_filter-append p (x ∷ a) b = at (map_filter-append p a b) (p x)
   where
-    at : map (λ (f : List ℕ × List ℕ). f.1) (filter p (a ++ b)) ≡ map (λ (f : List ℕ × List ℕ). f.1) (filter p a) ++ map (λ (f : List ℕ × List ℕ). f.1) (filter p b)
+    at : map (λ (f : List ℕ × List ℕ). f.1) (filter p (a ++ b)) ≡ map (λ (f : List ℕ × List ℕ). f.1) (filter p a)
+        ++ map (λ (f : List ℕ × List ℕ). f.1) (filter p b)
         → (t : Bool) → map (λ (f : List ℕ × List ℕ). f.1) (cond t (x ∷ filter p (a ++ b)) (filter p (a ++ b)))
         ≡ map (λ f. f.1) (cond t (x ∷ filter p a) (filter p a)) ++ map (λ f. f.1) (filter p b)
     at rest true = ap (λ v. x.1 ∷ v) rest
@@ -84,7 +87,8 @@ asks_to_close-none = ap (list_any has_close) (values_of-none _)
 
 -- one field more that doesn't ask
 pub none_asks : (f : HeaderSpan → List ℕ × List ℕ) (hs : List HeaderSpan) (i : ℕ) (d : HeaderSpan) → i < length hs
-    → asks_to_close (map f (take i hs)) ≡ false → asks_to_close (f (get_or hs i d) ∷ []) ≡ false → asks_to_close (map f (take (i + 1) hs)) ≡ false
+    → asks_to_close (map f (take i hs)) ≡ false → asks_to_close (f (get_or hs i d) ∷ []) ≡ false
+    → asks_to_close (map f (take (i + 1) hs)) ≡ false
 none_asks f hs i d lt before here =
     ap asks_to_close (map_more f hs i d lt) ∙ asks_to_close-append (map f (take i hs)) (f (get_or hs i d) ∷ [])
     ∙ ap (λ x. x || asks_to_close (f (get_or hs i d) ∷ [])) before ∙ here
@@ -119,7 +123,8 @@ announced_length value number is cut fits =
     ap (λ t. cond t (sized (digits_value 10 value)) Broken) is ∙ at (digits_value 10 value) cut
   where
     at : (v : ℕ) → number ≡ min v (BODY_BYTES + 1) → sized v ≡ Sized number
-    at v cut = let same : v ≡ number = omega arith in let within : nat_le v BODY_BYTES ≡ true = grind (arith, nat_tests) in rw (within, same) refl
+    at v cut = let same : v ≡ number = omega arith in let within : nat_le v BODY_BYTES ≡ true = grind (arith, nat_tests) in
+        rw (within, same) refl
 
 pub announced_long : (value : List ℕ) (number : ℕ) → is_length value ≡ true → number ≡ min (digits_value 10 value) (BODY_BYTES + 1)
     → BODY_BYTES < number → announced value ≡ TooLong
@@ -145,11 +150,13 @@ holds_one_more buf (Several s) v values vs within e h =
     (h.0, (h.1.0, h.1.1 ++ vs, ap (λ x. x ++ vs) h.1.2))
 
 -- the values of the fields so far and one field more
-pub holds_more : (buf name : List ℕ) (found : Values) (f : HeaderSpan → List ℕ × List ℕ) (hs : List HeaderSpan) (i : ℕ) (d : HeaderSpan) → i < length hs
+pub holds_more : (buf name : List ℕ) (found : Values) (f : HeaderSpan → List ℕ × List ℕ) (hs : List HeaderSpan) (i : ℕ) (d : HeaderSpan)
+    → i < length hs
     → HoldsValues buf found (values_of name (map f (take i hs)) ++ values_of name (f (get_or hs i d) ∷ []))
     → HoldsValues buf found (values_of name (map f (take (i + 1) hs)))
 holds_more buf name found f hs i d lt h =
-    subst (HoldsValues buf found) (sym (ap (values_of name) (map_more f hs i d lt) ∙ values_of-append name (map f (take i hs)) (f (get_or hs i d) ∷ []))) h
+    subst (HoldsValues buf found) (sym (ap (values_of name) (map_more f hs i d lt)
+    ∙ values_of-append name (map f (take i hs)) (f (get_or hs i d) ∷ []))) h
 
 -- the framing by the values that were found
 abbrev pub frame_by : List ℕ → Values → Values → Frame
@@ -161,7 +168,8 @@ frame_by buf lengths codings = Broken
 same_framed : (ls ms cs ds : List (List ℕ)) → ls ≡ ms → cs ≡ ds → framed ls cs ≡ framed ms ds
 same_framed ls ms cs ds e f = ap (λ x. framed x cs) e ∙ ap (framed ms) f
 
-pub framed_by_found : (buf : List ℕ) (lengths codings : Values) (ls cs : List (List ℕ)) → HoldsValues buf lengths ls → HoldsValues buf codings cs
+pub framed_by_found : (buf : List ℕ) (lengths codings : Values) (ls cs : List (List ℕ)) → HoldsValues buf lengths ls
+    → HoldsValues buf codings cs
     → framed ls cs ≡ frame_by buf lengths codings
 unfolding framed
 framed_by_found buf Absent Absent ls cs l c = same_framed ls _ cs _ l c
@@ -175,7 +183,8 @@ framed_by_found buf (Several v) (Once w) ls cs l c = same_framed ls _ cs _ l.1.2
 framed_by_found buf (Several v) (Several w) ls cs l c = same_framed ls _ cs _ l.1.2 c.1.2
 
 pub frame_found : (buf : List ℕ) (fields : List (List ℕ × List ℕ)) (lengths codings : Values)
-    → HoldsValues buf lengths (values_of (codes "content-length") fields) → HoldsValues buf codings (values_of (codes "transfer-encoding") fields)
+    → HoldsValues buf lengths (values_of (codes "content-length") fields)
+    → HoldsValues buf codings (values_of (codes "transfer-encoding") fields)
     → frame_of_fields fields ≡ frame_by buf lengths codings
 unfolding frame_of_fields
 frame_found buf fields lengths codings l c = framed_by_found buf lengths codings _ _ l c

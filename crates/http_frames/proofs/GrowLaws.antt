@@ -44,7 +44,8 @@ body_more Chunked bytes body rest more h = record {
 body_more TooLong bytes body rest more h = h
 body_more Broken bytes body rest more h = h
 
-pub message_more : (bytes : List ℕ) (m : Message) (rest more : List ℕ) → ReadsMessage bytes m rest → ReadsMessage (bytes ++ more) m (rest ++ more)
+pub message_more : (bytes : List ℕ) (m : Message) (rest more : List ℕ) → ReadsMessage bytes m rest
+    → ReadsMessage (bytes ++ more) m (rest ++ more)
 message_more bytes m rest more w = record {
   tail = w.tail ++ more;
   reads = ReadsRequest-append bytes m.head w.tail more w.reads;
@@ -54,7 +55,8 @@ message_more bytes m rest more w = record {
 }
 
 -- a chunked body that is whole within the limit of its framing
-pub chunked_within : (n at : ℕ) (tail body : List ℕ) → n ≤ CHUNKED_BYTES → ReadsChunks (take n tail) body (drop at (take n tail)) → at ≤ length (take n tail)
+pub chunked_within : (n at : ℕ) (tail body : List ℕ) → n ≤ CHUNKED_BYTES → ReadsChunks (take n tail) body (drop at (take n tail))
+    → at ≤ length (take n tail)
     → length body ≤ BODY_BYTES → ReadsChunked tail body (drop at tail)
 chunked_within n at tail body fits reads within short =
     let whole : take n tail ++ drop n tail ≡ tail = take-append-drop n tail in

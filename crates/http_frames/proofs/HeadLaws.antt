@@ -1,5 +1,6 @@
 -- Laws on heads and their places.
-use Rattle.std.proofs.Common.{◌≡◌, ◌≢◌, ℕ, ◌+◌, ◌*◌, ◌-◌, ◌<◌, ◌≤◌, List, [], ◌∷◌, ◌++◌, length, take, drop, refl, sym, ap, ◌∙◌, subst, inl, inr, ◌⊎◌, arith, length-append, Option, Some, None, Result, Err}
+use Rattle.std.proofs.Common.{◌≡◌, ◌≢◌, ℕ, ◌+◌, ◌*◌, ◌-◌, ◌<◌, ◌≤◌, List, [], ◌∷◌, ◌++◌, length, take, drop, refl, sym, ap, ◌∙◌, subst, inl}
+use Rattle.std.proofs.Common.{inr, ◌⊎◌, arith, length-append, Option, Some, None, Result, Err}
 use Rattle.std.specs.Prelude.{All, option_map, IfSome}
 use Rattle.std.specs.List.{flat_map}
 use Rattle.std.proofs.lemmas.List.{take-append-le, drop-append-le, take-append-drop, length-take-le, length-drop, length-map}
@@ -10,7 +11,8 @@ use Rattle.httparse.specs.declared.Error.TheVariants as error
 use Rattle.httparse.specs.declared.spans.Span.{Span}
 use Rattle.httparse.specs.declared.spans.HeaderSpan.{HeaderSpan}
 use Rattle.httparse.specs.declared.spans.RequestSpans.{RequestSpans}
-use Rattle.httparse.specs.Grammar.{Field, IsField, LineEnd, crlf, lf, print_end, print_field, RequestHead, print_request, ReadsRequest, NeverHasRequest}
+use Rattle.httparse.specs.Grammar.{Field, IsField, LineEnd, crlf, lf, print_end, print_field, RequestHead, print_request, ReadsRequest}
+use Rattle.httparse.specs.Grammar.{NeverHasRequest}
 use Rattle.httparse.specs.Spans.{span_bytes, IsWithin, AreFieldsAt, header_bytes, name_and_value, RequestExceeds}
 use Rattle.httparse.proofs.GrammarLemmas.{ReadsRequest-append}
 use Rattle.http_frames.specs.declared.TheConstants.{HEAD_BYTES, FIELD_ROOM}
@@ -32,7 +34,8 @@ within_grows : (bytes more : List ℕ) (s : Span) → IsWithin (length bytes) s 
 within_grows bytes more s within = (within.0, omega (arith, within.1, length-append bytes more))
 
 pub media_grows : (bytes more : List ℕ) (media : Option Span) → IfSome media (IsWithin (length bytes))
-    → IfSome media (IsWithin (length (bytes ++ more))) × (option_map (span_bytes (bytes ++ more)) media ≡ option_map (span_bytes bytes) media)
+    → IfSome media (IsWithin (length (bytes ++ more))) × (option_map (span_bytes (bytes ++ more)) media
+    ≡ option_map (span_bytes bytes) media)
 media_grows bytes more None within = (within, refl)
 media_grows bytes more (Some s) within = (within_grows bytes more s within, ap (λ x. Some x) (span_grows bytes more s within))
 
@@ -71,7 +74,8 @@ head_is_after_take n bytes a other h =
     subst (λ (x : List ℕ). HeadIs x a) (take-append-drop n bytes) (head_is_grows (take n bytes) (drop n bytes) a other h)
 
 -- there are as many fields as places
-pub count_of_fields : (bytes : List ℕ) (room : List HeaderSpan) (n : ℕ) (fields : List Field) → n ≤ length room → AreFieldsAt bytes room n fields
+pub count_of_fields : (bytes : List ℕ) (room : List HeaderSpan) (n : ℕ) (fields : List Field) → n ≤ length room
+    → AreFieldsAt bytes room n fields
     → length fields ≡ n
 count_of_fields bytes room n fields fits at =
     sym (length-map fields name_and_value) ∙ sym (ap length at) ∙ length-map (take n room) (header_bytes bytes) ∙ length-take-le n room fits
@@ -92,7 +96,8 @@ fields_bytes [] all = omega arith
 fields_bytes (f ∷ fs) all =
     let here : 3 ≤ length (print_field f) = field_bytes f (All-head IsField f fs all) in
     let rest : 3 * length fs ≤ length (flat_map print_field fs) = fields_bytes fs (All-tail IsField f fs all) in
-    let both : length (print_field f ++ flat_map print_field fs) ≡ length (print_field f) + length (flat_map print_field fs) = length-append (print_field f) (flat_map print_field fs) in
+    let both : length (print_field f ++ flat_map print_field fs) ≡ length (print_field f) + length (flat_map print_field fs) =
+    length-append (print_field f) (flat_map print_field fs) in
     omega arith
 
 section_in_head : (h : RequestHead) → length (flat_map print_field h.fields) ≤ length (print_request h)
@@ -122,7 +127,8 @@ error_cases error.Version = inr (λ x. cc)
 
 -- bytes that the parser refuses are bad
 pub refused_is_bad : (bytes : List ℕ) (room : ℕ) (e : Error) → FIELD_ROOM ≤ room → length bytes ≤ HEAD_BYTES
-    → (e ≢ error.TooManyHeaders → NeverHasRequest bytes) → (◌≡◌ {A = Result (Status RequestSpans) Error} (Err e) (Err error.TooManyHeaders) → RequestExceeds room bytes) → BeginsBad bytes
+    → (e ≢ error.TooManyHeaders → NeverHasRequest bytes) → (◌≡◌ {A = Result (Status RequestSpans) Error} (Err e) (Err error.TooManyHeaders)
+    → RequestExceeds room bytes) → BeginsBad bytes
 refused_is_bad bytes room e many short invalid too_many = elim (error_cases e) [
   | inl is ↦ absurd (no_room bytes room many short (too_many (ap (λ x. Err x) is)))
   | inr other ↦ head_never bytes (invalid other) short

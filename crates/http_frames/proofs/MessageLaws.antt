@@ -1,14 +1,17 @@
 -- Laws on requests and on bytes that begin with none.
-use Rattle.std.proofs.Common.{◌≡◌, ℕ, ◌+◌, ◌<◌, ◌≤◌, List, [], ◌∷◌, ◌++◌, length, take, drop, refl, sym, ap, ◌∙◌, subst, inl, inr, ◌⊎◌, arith, append_assoc, append-nil, length-append}
+use Rattle.std.proofs.Common.{◌≡◌, ℕ, ◌+◌, ◌<◌, ◌≤◌, List, [], ◌∷◌, ◌++◌, length, take, drop, refl, sym, ap, ◌∙◌, subst, inl, inr, ◌⊎◌}
+use Rattle.std.proofs.Common.{arith, append_assoc, append-nil, length-append}
 use Rattle.std.proofs.lemmas.List.{take-append-le, take-append-drop, length-take-le, take-take, length-take}
-use Rattle.httparse.specs.Grammar.{RequestHead, IsRequestHead, print_request, ReadsRequest, HasNoRequest, NeverHasRequest, MayBecomeRequest, EndsInTarget}
+use Rattle.httparse.specs.Grammar.{RequestHead, IsRequestHead, print_request, ReadsRequest, HasNoRequest, NeverHasRequest, MayBecomeRequest}
+use Rattle.httparse.specs.Grammar.{EndsInTarget}
 use Rattle.httparse.proofs.GrammarLemmas.{request_unique, ReadsRequest-append}
 use Rattle.http_frames.specs.declared.TheConstants.{HEAD_BYTES, HEAD_FIELDS, CHUNKED_BYTES}
 use Rattle.http_frames.specs.declared.framing.Frame.{Frame}
 use Rattle.http_frames.specs.declared.framing.Frame.TheVariants.{Sized, Chunked, TooLong, Broken}
 use Rattle.http_frames.specs.Framing.{frame}
 use Rattle.http_frames.specs.Chunks.{ReadsChunks, ReadsChunked, HasBadChunk, HasBigChunks, much, long}
-use Rattle.http_frames.specs.Messages.{Message, HasBody, ReadsMessage, HasNoMessage, IsBig, long_head, many_fields, long_body, big_chunks, IsBad, no_head, broken, bad_chunk, BeginsBad, BeginsBig, IsCut, StopsInTarget, IsLongTarget}
+use Rattle.http_frames.specs.Messages.{Message, HasBody, ReadsMessage, HasNoMessage, IsBig, long_head, many_fields, long_body, big_chunks}
+use Rattle.http_frames.specs.Messages.{IsBad, no_head, broken, bad_chunk, BeginsBad, BeginsBig, IsCut, StopsInTarget, IsLongTarget}
 use Rattle.http_frames.specs.Answers.{ChunksCut, ChunksBad, ChunksMuch}
 use Rattle.http_frames.proofs.ListLaws.{front_of_front}
 
@@ -90,7 +93,8 @@ front_big_without_head whole q r none e (long_body k t at is) = absurd (none k _
 front_big_without_head whole q r none e (big_chunks k t at is big) = absurd (none k _ (moved q r whole k t e at))
 
 -- no front of bytes that may become a head is bad
-front_not_bad_before_head : (whole q r more : List ℕ) (h : RequestHead) → HasNoRequest whole → ReadsRequest (whole ++ more) h [] → whole ≡ q ++ r → IsBad q → ⊥
+front_not_bad_before_head : (whole q r more : List ℕ) (h : RequestHead) → HasNoRequest whole → ReadsRequest (whole ++ more) h []
+    → whole ≡ q ++ r → IsBad q → ⊥
 front_not_bad_before_head whole q r more h none may e (no_head never) =
     never (r ++ more) h [] (subst (λ (b : List ℕ). ReadsRequest b h []) (ap (λ x. x ++ more) e ∙ append_assoc q r more) may)
 front_not_bad_before_head whole q r more h none may e (broken k t at is) = none k _ (moved q r whole k t e at)
@@ -127,11 +131,18 @@ head_cut whole some none (inl may) short = inl record {
 head_cut whole some none (inr target) short = inr (short, target)
 
 -- the head isn't whole within the limit, and more bytes are there
-head_long_at : (n : ℕ) (whole : List ℕ) → n < length whole → (rest : List ℕ) × (whole ≡ take (n + 1) whole ++ rest) × (take n (take (n + 1) whole) ≡ take n whole) × (length (take (n + 1) whole) ≡ n + 1)
-head_long_at n whole over = (drop (n + 1) whole, sym (take-append-drop (n + 1) whole), take-take n (n + 1) whole (omega arith), length-take-le (n + 1) whole (omega arith))
+head_long_at : (n : ℕ) (whole : List ℕ) → n < length whole → (rest : List ℕ) × (whole ≡ take (n + 1) whole ++ rest)
+    × (take n (take (n + 1) whole) ≡ take n whole) × (length (take (n + 1) whole) ≡ n + 1)
+head_long_at n whole over = (
+  drop (n + 1) whole,
+  sym (take-append-drop (n + 1) whole),
+  take-take n (n + 1) whole (omega arith),
+  length-take-le (n + 1) whole (omega arith),
+)
 
 -- a shorter front of the first n + 1 bytes is one of the first n
-pub shorter_front : (n : ℕ) (whole q r : List ℕ) → n < length whole → take (n + 1) whole ≡ q ++ r → (r ≡ [] → ⊥) → (s : List ℕ) × (take n whole ≡ q ++ s)
+pub shorter_front : (n : ℕ) (whole q r : List ℕ) → n < length whole → take (n + 1) whole ≡ q ++ r → (r ≡ [] → ⊥)
+    → (s : List ℕ) × (take n whole ≡ q ++ s)
 shorter_front n whole q r over e some =
     let long : length (take (n + 1) whole) ≡ n + 1 = length-take-le (n + 1) whole (omega arith) in
     let front_length : length (take n whole) ≡ n = length-take-le n whole (omega arith) in
@@ -147,7 +158,8 @@ shorter_front n whole q r over e some =
     positive [] some = absurd (some refl)
     positive (x ∷ r) some = omega arith
 
-pub head_long : (whole : List ℕ) → HEAD_BYTES < length whole → HasNoRequest (take HEAD_BYTES whole) → MayBecomeRequest (take HEAD_BYTES whole)
+pub head_long : (whole : List ℕ) → HEAD_BYTES < length whole → HasNoRequest (take HEAD_BYTES whole)
+    → MayBecomeRequest (take HEAD_BYTES whole)
     → BeginsBig whole ⊎ IsLongTarget whole
 head_long whole over none (inl may) =
     let parts = head_long_at HEAD_BYTES whole over in
@@ -176,14 +188,16 @@ no_rest [] r e = sym e
 no_rest (x ∷ t) r e = absurd (cc)
 
 -- a shorter front of a head is not bad
-shorter_not_bad : (h : RequestHead) (q r : List ℕ) → ReadsRequest (print_request h) h [] → print_request h ≡ q ++ r → (r ≡ [] → ⊥) → IsBad q → ⊥
+shorter_not_bad : (h : RequestHead) (q r : List ℕ) → ReadsRequest (print_request h) h [] → print_request h ≡ q ++ r → (r ≡ [] → ⊥) → IsBad q
+    → ⊥
 shorter_not_bad h q r reads e some (no_head never) = never r h [] (subst (λ (b : List ℕ). ReadsRequest b h []) e reads)
 shorter_not_bad h q r reads e some (broken k t at is) =
     let same = head_in_front q r _ k h t [] e at reads in some (no_rest t r (sym same.1))
 shorter_not_bad h q r reads e some (bad_chunk k t at is bad) =
     let same = head_in_front q r _ k h t [] e at reads in some (no_rest t r (sym same.1))
 
-pub many_fields_big : (whole : List ℕ) (h : RequestHead) (tail : List ℕ) → ReadsRequest whole h tail → HEAD_FIELDS < length h.fields → BeginsBig whole
+pub many_fields_big : (whole : List ℕ) (h : RequestHead) (tail : List ℕ) → ReadsRequest whole h tail → HEAD_FIELDS < length h.fields
+    → BeginsBig whole
 many_fields_big whole h tail reads over =
     let at = head_alone whole h tail reads in
     record {
@@ -214,7 +228,14 @@ broken_bad whole h tail reads short few is =
       more = tail;
       is = reads.1;
       bad = broken h [] at is;
-      first = λ q r e big. elim (front_big (print_request h) q r h [] at short e big) [ inl over ↦ absurd (omega arith) | inr other ↦ elim other [ inl too ↦ absurd (apart (sym is ∙ too)) | inr chunks ↦ absurd (apart_chunked (sym is ∙ chunks.0)) ] ];
+      first = λ q r e big. elim (front_big (print_request h) q r h [] at short e big) [
+        | inl over ↦ absurd (omega arith)
+        | inr other ↦ elim other [
+          | inl too ↦ absurd (apart (sym is ∙ too))
+          | inr chunks ↦ absurd
+              (apart_chunked (sym is ∙ chunks.0))
+        ]
+      ];
     }
   where
     apart : Broken ≡ TooLong → ⊥
@@ -238,7 +259,8 @@ some_head h is = simp length-append (omega (arith, is.method.0))
 
 -- bytes with a head are some
 pub head_some : (whole : List ℕ) (h : RequestHead) (tail : List ℕ) → ReadsRequest whole h tail → whole ≡ [] → ⊥
-head_some whole h tail reads e = none_of_nothing (length whole) (ap length e) (omega (arith, ap length reads.1, length-append (print_request h) tail, some_head h reads.0))
+head_some whole h tail reads e = none_of_nothing (length whole) (ap length e)
+    (omega (arith, ap length reads.1, length-append (print_request h) tail, some_head h reads.0))
   where
     none_of_nothing : (n : ℕ) → n ≡ 0 → 0 < n → ⊥
     none_of_nothing n e lt = absurd (omega arith)
@@ -271,8 +293,16 @@ sized_cut whole h tail n reads short few is missing = record {
   some = head_some whole h tail reads;
   not_whole = λ m rest w. let same = request_unique whole m.head h w.tail tail w.reads reads in
       no_sized n (frame m.head) w.tail m.body rest (ap frame same.0 ∙ is) (omega (arith, ap length same.1)) w.body;
-  not_bad = λ q r e bad. elim (front_bad whole q r h tail reads e bad) [ inl b ↦ sized_apart_broken n (sym is ∙ b) | inr c ↦ sized_apart_chunked n (sym is ∙ c.0) ];
-  not_big = λ q r e big. elim (front_big whole q r h tail reads short e big) [ inl over ↦ absurd (omega arith) | inr other ↦ elim other [ inl too ↦ sized_apart_long n (sym is ∙ too) | inr c ↦ sized_apart_chunked n (sym is ∙ c.0) ] ];
+  not_bad = λ q r e bad. elim (front_bad whole q r h tail reads e bad)
+      [ inl b ↦ sized_apart_broken n (sym is ∙ b) | inr c ↦ sized_apart_chunked n (sym is ∙ c.0) ];
+  not_big = λ q r e big. elim (front_big whole q r h tail reads short e big) [
+    | inl over ↦ absurd (omega arith)
+    | inr other ↦ elim other [
+      | inl too ↦ sized_apart_long n
+          (sym is ∙ too)
+      | inr c ↦ sized_apart_chunked n (sym is ∙ c.0)
+    ]
+  ];
 }
 
 -- ---- judging chunks
@@ -285,8 +315,16 @@ chunked_cut whole h tail reads short few is fits cut = record {
   some = head_some whole h tail reads;
   not_whole = λ m rest w. let same = request_unique whole m.head h w.tail tail w.reads reads in
       no_chunked (frame m.head) w.tail m.body rest (ap frame same.0 ∙ is) same.1 w.body;
-  not_bad = λ q r e bad. elim (front_bad whole q r h tail reads e bad) [ inl b ↦ chunked_apart_broken (sym is ∙ b) | inr c ↦ cut.not_bad c.1.0 r c.1.1 c.1.2 ];
-  not_big = λ q r e big. elim (front_big whole q r h tail reads short e big) [ inl over ↦ absurd (omega arith) | inr other ↦ elim other [ inl too ↦ chunked_apart_long (sym is ∙ too) | inr c ↦ not_big c.1.0 r c.1.1 c.1.2 ] ];
+  not_bad = λ q r e bad. elim (front_bad whole q r h tail reads e bad)
+      [ inl b ↦ chunked_apart_broken (sym is ∙ b) | inr c ↦ cut.not_bad c.1.0 r c.1.1 c.1.2 ];
+  not_big = λ q r e big. elim (front_big whole q r h tail reads short e big) [
+    | inl over ↦ absurd (omega arith)
+    | inr other ↦ elim other [
+      | inl too ↦ chunked_apart_long
+          (sym is ∙ too)
+      | inr c ↦ not_big c.1.0 r c.1.1 c.1.2
+    ]
+  ];
 }
   where
     no_chunked : (f : Frame) (t body rest : List ℕ) → f ≡ Chunked → t ≡ tail → HasBody f t body rest → ⊥
@@ -311,7 +349,14 @@ chunked_bad whole h tail reads short few is n fits bad =
       is = reads.1 ∙ ap (λ x. print_request h ++ x) (sym (take-append-drop n tail) ∙ ap (λ x. x ++ drop n tail) bad.is
           ∙ append_assoc bad.front bad.more (drop n tail)) ∙ sym (append_assoc (print_request h) bad.front (bad.more ++ drop n tail));
       bad = bad_chunk h bad.front at is bad.bad;
-      first = λ q r e big. elim (front_big _ q r h bad.front at short e big) [ inl over ↦ absurd (omega arith) | inr other ↦ elim other [ inl too ↦ chunked_apart_long (sym is ∙ too) | inr c ↦ not_big c.1.0 r c.1.1 c.1.2 ] ];
+      first = λ q r e big. elim (front_big _ q r h bad.front at short e big) [
+        | inl over ↦ absurd (omega arith)
+        | inr other ↦ elim other [
+          | inl too ↦ chunked_apart_long
+              (sym is ∙ too)
+          | inr c ↦ not_big c.1.0 r c.1.1 c.1.2
+        ]
+      ];
     }
   where
     not_big : (t r : List ℕ) → bad.front ≡ t ++ r → HasBigChunks t → ⊥
@@ -338,7 +383,8 @@ chunked_much whole h tail reads short few is n over =
       is = reads.1 ∙ ap (λ x. print_request h ++ x) (sym (take-append-drop n tail) ∙ ap (λ x. x ++ drop n tail) over.is
           ∙ append_assoc over.front over.more (drop n tail)) ∙ sym (append_assoc (print_request h) over.front (over.more ++ drop n tail));
       big = big_chunks h over.front at is (much over.much);
-      first = λ q r e some bad. elim (front_bad _ q r h over.front at e bad) [ inl b ↦ chunked_apart_broken (sym is ∙ b) | inr c ↦ over.first c.1.0 r c.1.1 some c.1.2 ];
+      first = λ q r e some bad. elim (front_bad _ q r h over.front at e bad)
+          [ inl b ↦ chunked_apart_broken (sym is ∙ b) | inr c ↦ over.first c.1.0 r c.1.1 some c.1.2 ];
     }
 
 -- the framing goes on past its limit

@@ -1,5 +1,6 @@
 -- Bytes are a whole chunked body with one content, or a part of one, or broken, or too much, and no two of these.
-use Rattle.std.proofs.Common.{◌≡◌, ℕ, ◌+◌, ◌<◌, ◌≤◌, List, [], ◌∷◌, ◌++◌, length, refl, sym, ap, ◌∙◌, subst, inl, inr, arith, append-nil, length-append}
+use Rattle.std.proofs.Common.{◌≡◌, ℕ, ◌+◌, ◌<◌, ◌≤◌, List, [], ◌∷◌, ◌++◌, length, refl, sym, ap, ◌∙◌, subst, inl, inr, arith, append-nil}
+use Rattle.std.proofs.Common.{length-append}
 use Rattle.std.proofs.lemmas.Bool.{cases_lt}
 use Rattle.httparse.specs.Grammar.{ChunkLine, chunk_size, ReadsChunkLine}
 use Rattle.httparse.specs.Ascii.{crlf_bytes}
@@ -32,7 +33,8 @@ one_trailer bytes rest q t u =
     ends_there t.left rest q t.last behind.lines behind.left behind.last t.is_empty t.ends behind.passed behind.is_empty behind.ends
 
 -- where a size line of 0 stands no chunk does
-no_chunk_at_zero : (bytes left : List ℕ) (c : Chunk) (mid : List ℕ) (line : ChunkLine) (trailer : List ℕ) → bytes ≡ left → ReadsChunkLine left line trailer
+no_chunk_at_zero : (bytes left : List ℕ) (c : Chunk) (mid : List ℕ) (line : ChunkLine) (trailer : List ℕ) → bytes ≡ left
+    → ReadsChunkLine left line trailer
     → chunk_size line ≡ 0 → IsChunk c → bytes ≡ print_chunk c ++ mid → ⊥
 no_chunk_at_zero bytes left c mid line trailer passed last zero is e =
     let at = subst (λ (x : List ℕ). ReadsChunkLine x c.line (c.content ++ (crlf_bytes ++ mid))) (sym e ∙ passed) (chunk_line_of c mid is) in
@@ -41,8 +43,10 @@ no_chunk_at_zero bytes left c mid line trailer passed last zero is e =
     let some : 0 < chunk_size c.line = is.some in
     absurd (omega arith)
 
-one_content : (bytes : List ℕ) (cs ds : List Chunk) (left there : List ℕ) (line other : ChunkLine) (trailer behind rest q : List ℕ) → Chunks bytes cs left
-    → Chunks bytes ds there → ReadsChunkLine left line trailer → ReadsChunkLine there other behind → chunk_size line ≡ 0 → chunk_size other ≡ 0
+one_content : (bytes : List ℕ) (cs ds : List Chunk) (left there : List ℕ) (line other : ChunkLine) (trailer behind rest q : List ℕ)
+    → Chunks bytes cs left
+    → Chunks bytes ds there → ReadsChunkLine left line trailer → ReadsChunkLine there other behind → chunk_size line ≡ 0
+    → chunk_size other ≡ 0
     → ReadsTrailer trailer rest → ReadsTrailer behind q → (content_of cs ≡ content_of ds) × (rest ≡ q)
 one_content bytes [] [] left there line other trailer behind rest q a b x y zero none t u =
     let same = chunk_line_unique there line other trailer behind (subst (λ (v : List ℕ). ReadsChunkLine v line trailer) (sym a ∙ b) x) y in
@@ -54,17 +58,20 @@ one_content bytes (c ∷ cs) [] left there line other trailer behind rest q a b 
 one_content bytes (c ∷ cs) (d ∷ ds) left there line other trailer behind rest q a b x y zero none t u =
     let same = chunk_in c d a.1.0 bytes [] b.1.0 a.0 b.0 (sym a.1.1 ∙ sym (append-nil bytes)) b.1.1 in
     let mid : b.1.0 ≡ a.1.0 = sym (append-nil b.1.0) ∙ sym same.1 in
-    let deeper = one_content a.1.0 cs ds left there line other trailer behind rest q a.1.2 (subst (λ (v : List ℕ). Chunks v ds there) mid b.1.2) x y zero none t u in
+    let deeper = one_content a.1.0 cs ds left there line other trailer behind rest q a.1.2
+    (subst (λ (v : List ℕ). Chunks v ds there) mid b.1.2) x y zero none t u in
     (ap (λ v. c.content ++ v) deeper.0 ∙ ap (λ v. v.content ++ content_of ds) (sym same.0), deeper.1)
 
 one_whole : (bytes body rest content q : List ℕ) → ReadsChunks bytes body rest → ReadsChunks bytes content q → (body ≡ content) × (rest ≡ q)
 one_whole bytes body rest content q x y =
-    let same = one_content bytes x.chunks y.chunks x.left y.left x.line y.line x.trailer y.trailer rest q x.passed y.passed x.last y.last x.zero y.zero x.ends y.ends in
+    let same = one_content bytes x.chunks y.chunks x.left y.left x.line y.line x.trailer y.trailer rest q x.passed y.passed x.last y.last
+    x.zero y.zero x.ends y.ends in
     (x.content ∙ same.0 ∙ sym y.content, same.1)
 
 -- ---- no two of these
 
-fits_in : (bytes body rest : List ℕ) (w : ReadsChunks bytes body rest) → length body ≤ BODY_BYTES → 0 + length (content_of w.chunks) ≤ BODY_BYTES
+fits_in : (bytes body rest : List ℕ) (w : ReadsChunks bytes body rest) → length body ≤ BODY_BYTES
+    → 0 + length (content_of w.chunks) ≤ BODY_BYTES
 fits_in bytes body rest w fits = let same : length body ≡ length (content_of w.chunks) = ap length w.content in omega arith
 
 whole_or_broken : (bytes body rest : List ℕ) → ReadsChunks bytes body rest → ChunksBad 0 bytes → ⊥
@@ -72,12 +79,14 @@ whole_or_broken bytes body rest w b = whole_not_bad w.chunks bytes w.left w.line
 
 whole_or_much : (bytes body rest : List ℕ) → ReadsChunks bytes body rest → length body ≤ BODY_BYTES → ChunksMuch 0 bytes → ⊥
 whole_or_much bytes body rest w fits m =
-    whole_not_much 0 w.chunks bytes w.left w.line w.trailer m.front m.more w.passed w.last w.zero (fits_in bytes body rest w fits) m.is m.much
+    whole_not_much 0 w.chunks bytes w.left w.line w.trailer m.front m.more w.passed w.last w.zero
+    (fits_in bytes body rest w fits) m.is m.much
 
 broken_or_much : (bytes : List ℕ) → ChunksBad 0 bytes → ChunksMuch 0 bytes → ⊥
 broken_or_much bytes x y = elim (cases_lt (length x.front) (length y.front)) [
   | inl shorter ↦ let within = front_of_front x.front y.front x.more y.more (omega arith) (sym x.is ∙ y.is) in
-      y.first x.front within.0 within.1 (λ e. let same : length y.front ≡ length (x.front ++ []) = ap length within.1 ∙ ap (λ t. length (x.front ++ t)) e in
+      y.first x.front within.0 within.1 (λ e. let same : length y.front ≡ length (x.front ++ []) =
+      ap length within.1 ∙ ap (λ t. length (x.front ++ t)) e in
       absurd (omega (arith, length-append x.front []))) x.bad
   | inr longer ↦ let within = front_of_front y.front x.front y.more x.more longer (sym y.is ∙ x.is) in
       x.first y.front within.0 within.1 y.much

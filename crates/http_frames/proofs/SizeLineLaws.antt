@@ -1,5 +1,6 @@
 -- Laws on the front of a chunk's size line: what can follow, and what can't.
-use Rattle.std.proofs.Common.{◌≡◌, ℕ, ◌+◌, ◌*◌, ◌^◌, ◌<◌, ◌≤◌, Bool, true, false, List, [], ◌∷◌, ◌++◌, length, get_or, take, drop, refl, sym, ap, ◌∙◌, subst, arith, pow-add, append_assoc, append-nil, length-append, Option, Some, None}
+use Rattle.std.proofs.Common.{◌≡◌, ℕ, ◌+◌, ◌*◌, ◌^◌, ◌<◌, ◌≤◌, Bool, true, false, List, [], ◌∷◌, ◌++◌, length, get_or, take, drop, refl}
+use Rattle.std.proofs.Common.{sym, ap, ◌∙◌, subst, arith, pow-add, append_assoc, append-nil, length-append, Option, Some, None}
 use Rattle.std.proofs.lemmas.Bool.Decides.{nat_tests}
 use Rattle.std.proofs.lemmas.List.{take_more, take-append-drop}
 use Rattle.std.proofs.lemmas.List.Elements.{All-nil, All-cons, All-head, All-push}
@@ -7,7 +8,8 @@ use Rattle.std.proofs.lemmas.Int.Digits.{digits_value_push}
 use Rattle.std.proofs.Math.Nat.{pow-le-pow_right}
 use Rattle.std.specs.Char.{is_ascii_hexdigit, digit_value}
 use Rattle.std.specs.Str.Parse.{digits_value}
-use Rattle.httparse.specs.Grammar.{is_ows, is_extension_byte, AllPass, ChunkLine, IsChunkLine, IsExtension, print_chunk_line, print_extension, crlf, print_end, ReadsChunkLine, HasNoChunkLine, NeverHasChunkLine, MayBecomeChunkLine}
+use Rattle.httparse.specs.Grammar.{is_ows, is_extension_byte, AllPass, ChunkLine, IsChunkLine, IsExtension, print_chunk_line}
+use Rattle.httparse.specs.Grammar.{print_extension, crlf, print_end, ReadsChunkLine, HasNoChunkLine, NeverHasChunkLine, MayBecomeChunkLine}
 use Rattle.httparse.specs.Pieces.{Stops}
 use Rattle.httparse.proofs.ChunkLemmas.{chunk_line_unique, chunk_pieces, HexDigits_long}
 use Rattle.httparse.proofs.ChunkLemmas.{ReadsChunkLine-append}
@@ -22,7 +24,8 @@ use Rattle.http_frames.specs.declared.lines.SizeLine.TheVariants as front
 -- what a size line is behind its digits and behind its blanks, where these are known
 behind_digits : (digits x : List ℕ) (l : ChunkLine) (rest : List ℕ) → AllPass is_ascii_hexdigit digits → StopsDigits x
     → ReadsChunkLine (digits ++ x) l rest
-    → (l.digits ≡ digits) × (0 < length l.digits) × ((y : List ℕ) × AllPass is_ows l.pad × (x ≡ l.pad ++ y) × Stops is_ows y × (y ≡ print_extension l.extension ++ (print_end crlf ++ rest)))
+    → (l.digits ≡ digits) × (0 < length l.digits) × ((y : List ℕ) × AllPass is_ows l.pad × (x ≡ l.pad ++ y) × Stops is_ows y
+    × (y ≡ print_extension l.extension ++ (print_end crlf ++ rest)))
 behind_digits digits x l rest each stops reads =
     let p = chunk_pieces (digits ++ x) l rest reads in
     let same = run_unique is_ascii_hexdigit l.digits digits p.0 x p.1.0.0 each p.1.0.2 stops (sym p.1.0.1) in
@@ -50,7 +53,8 @@ feed_behind b z (Some text) rest feed e = cc
 
 -- the extension ends at the first CR
 extension_ends : (text z : List ℕ) (b : ℕ) (e : Option (List ℕ)) (rest : List ℕ) → AllPass is_extension_byte text
-    → IsExtension e → is_extension_byte b ≡ false → 59 ∷ (text ++ b ∷ z) ≡ print_extension e ++ (print_end crlf ++ rest) → b ∷ z ≡ 13 ∷ 10 ∷ rest
+    → IsExtension e → is_extension_byte b ≡ false → 59 ∷ (text ++ b ∷ z) ≡ print_extension e ++ (print_end crlf ++ rest)
+    → b ∷ z ≡ 13 ∷ 10 ∷ rest
 extension_ends text z b None rest each is ends e = absurd (cc)
 extension_ends text z b (Some t) rest each is ends e =
     (run_unique is_extension_byte text t (b ∷ z) (13 ∷ 10 ∷ rest) each is ends refl (cc)).1
@@ -72,7 +76,8 @@ some_blanks_stop (b ∷ blanks) y each some = ows_is_no_digit b (All-head (λ v.
 
 -- ---- no size line goes on like this
 
-one_more : (w more : List ℕ) (b : ℕ) (l : ChunkLine) (rest : List ℕ) → ReadsChunkLine ((w ++ b ∷ []) ++ more) l rest → ReadsChunkLine (w ++ b ∷ more) l rest
+one_more : (w more : List ℕ) (b : ℕ) (l : ChunkLine) (rest : List ℕ) → ReadsChunkLine ((w ++ b ∷ []) ++ more) l rest
+    → ReadsChunkLine (w ++ b ∷ more) l rest
 one_more w more b l rest reads = subst (λ (x : List ℕ). ReadsChunkLine x l rest) (append_assoc w (b ∷ []) more) reads
 
 -- it has no digit
@@ -94,14 +99,17 @@ never_so_long digits count size b a all digit more l rest reads =
     Never_elim (HexDigits_long (digits ++ b ∷ []) (omega arith) (λ k lt. each k 0 (omega arith))) more (l.digits, p.0, p.1)
 
 -- neither a blank, a semicolon nor CR stands behind the digits and the blanks
-pub never_behind : (digits blanks : List ℕ) (size b : ℕ) → AreBlanks digits blanks size → StopsDigits (blanks ++ b ∷ []) → is_ows b ≡ false → (b ≡ 59 → ⊥) → (b ≡ 13 → ⊥)
+pub never_behind : (digits blanks : List ℕ) (size b : ℕ) → AreBlanks digits blanks size → StopsDigits (blanks ++ b ∷ []) → is_ows b ≡ false
+    → (b ≡ 59 → ⊥) → (b ≡ 13 → ⊥)
     → NeverHasChunkLine ((digits ++ blanks) ++ b ∷ [])
 never_behind digits blanks size b a stops ows semicolon return more l rest reads =
     let parted : ((digits ++ blanks) ++ b ∷ []) ++ more ≡ digits ++ (blanks ++ b ∷ more) =
     append_assoc (digits ++ blanks) (b ∷ []) more ∙ append_assoc digits blanks (b ∷ more) in
-    let stopped : StopsDigits (blanks ++ b ∷ more) = subst StopsDigits (append_assoc blanks (b ∷ []) more) (Stops-append is_ascii_hexdigit (blanks ++ b ∷ []) more stops) in
+    let stopped : StopsDigits (blanks ++ b ∷ more) = subst StopsDigits (append_assoc blanks (b ∷ []) more)
+    (Stops-append is_ascii_hexdigit (blanks ++ b ∷ []) more stops) in
     not_behind b more l.extension rest semicolon return
-    (behind_blanks digits blanks (b ∷ more) l rest a.each a.blank stopped ows (subst (λ (x : List ℕ). ReadsChunkLine x l rest) parted reads))
+    (behind_blanks digits blanks (b ∷ more) l rest a.each a.blank stopped ows
+    (subst (λ (x : List ℕ). ReadsChunkLine x l rest) parted reads))
 
 -- LF ends an extension
 pub never_in_extension : (w : List ℕ) (size b : ℕ) → AreExtended w size → b ≡ 10 → NeverHasChunkLine (w ++ b ∷ [])
@@ -127,7 +135,8 @@ never_behind_return w size b a other more l rest reads =
     let blanks = a.line.pad in
     let parted : (w ++ b ∷ []) ++ more ≡ digits ++ (blanks ++ (print_extension a.line.extension ++ 13 ∷ b ∷ more)) =
     append_assoc w (b ∷ []) more ∙ ap (λ x. x ++ b ∷ more) a.is ∙ regroup digits blanks (print_extension a.line.extension) (b ∷ more) in
-    ends a.line.extension a.good.extension digits blanks a.good.digits.2 a.good.pad (subst (λ (x : List ℕ). ReadsChunkLine x l rest) parted reads)
+    ends a.line.extension a.good.extension digits blanks a.good.digits.2 a.good.pad
+    (subst (λ (x : List ℕ). ReadsChunkLine x l rest) parted reads)
   where
     regroup : (digits blanks e z : List ℕ) → (digits ++ (blanks ++ (e ++ 13 ∷ []))) ++ z ≡ digits ++ (blanks ++ (e ++ 13 ∷ z))
     regroup digits blanks e z = append_assoc digits (blanks ++ (e ++ 13 ∷ [])) z
@@ -141,7 +150,8 @@ never_behind_return w size b a other more l rest reads =
     ends None is digits blanks each blank reads = feed_behind b more l.extension rest other
         (behind_blanks digits blanks (13 ∷ b ∷ more) l rest each blank (blanks_stop blanks _ blank refl) refl reads)
     ends (Some text) is digits blanks each blank reads =
-        let behind = behind_blanks digits blanks (59 ∷ (text ++ 13 ∷ b ∷ more)) l rest each blank (blanks_stop blanks _ blank refl) refl reads in
+        let behind = behind_blanks digits blanks (59 ∷ (text ++ 13 ∷ b ∷ more)) l rest each blank
+        (blanks_stop blanks _ blank refl) refl reads in
         feed_last more rest (extension_ends text (b ∷ more) 13 l.extension rest is reads.0.extension refl behind)
 
 -- ---- one byte more
@@ -154,7 +164,8 @@ below_top : (at : ℕ) → at < 16 → 16 ^ (at + 1) ≤ 2 ^ 64
 below_top at h = pow-le-pow_right {n = 16} (omega arith) {j = 16} (omega arith)
 
 -- the size stays a word of 64 bits
-pub digit_fits : (digits : List ℕ) (count size digit : ℕ) → AreDigits digits count size → (count ≡ 16 → ⊥) → digit < 16 → size * 16 + digit < 2 ^ 64
+pub digit_fits : (digits : List ℕ) (count size digit : ℕ) → AreDigits digits count size → (count ≡ 16 → ⊥) → digit < 16
+    → size * 16 + digit < 2 ^ 64
 digit_fits digits count size digit a less small =
     let few = a.few in omega (arith, digit_more size digit count a.fits small, below_top count (omega arith))
 
@@ -188,7 +199,8 @@ more_blanks digits blanks size b a is = (
   append_assoc digits blanks (b ∷ []),
 )
 
-pub begins_extension : (digits blanks : List ℕ) (size b : ℕ) → AreBlanks digits blanks size → b ≡ 59 → AreExtended ((digits ++ blanks) ++ b ∷ []) size
+pub begins_extension : (digits blanks : List ℕ) (size b : ℕ) → AreBlanks digits blanks size → b ≡ 59
+    → AreExtended ((digits ++ blanks) ++ b ∷ []) size
 begins_extension digits blanks size b a is = record {
   digits = digits;
   blanks = blanks;
@@ -209,7 +221,8 @@ more_extension w size b a is = record {
       ∙ ap (λ x. a.digits ++ x) (append_assoc a.blanks (59 ∷ a.text) (b ∷ []));
 }
 
-pub returns_behind_blanks : (digits blanks : List ℕ) (size b : ℕ) → AreBlanks digits blanks size → b ≡ 13 → LacksFeed ((digits ++ blanks) ++ b ∷ []) size
+pub returns_behind_blanks : (digits blanks : List ℕ) (size b : ℕ) → AreBlanks digits blanks size → b ≡ 13
+    → LacksFeed ((digits ++ blanks) ++ b ∷ []) size
 returns_behind_blanks digits blanks size b a is = record {
   line = record { digits = digits; pad = blanks; extension = None };
   good = record { digits = (a.some, a.few, a.each); pad = a.blank; extension = tt };
@@ -242,7 +255,8 @@ feed_ends w size b a is = record {
 -- ---- many bytes more
 
 pub never_grows : (w more : List ℕ) → NeverHasChunkLine w → NeverHasChunkLine (w ++ more)
-never_grows w more never behind l rest reads = never (more ++ behind) l rest (subst (λ (x : List ℕ). ReadsChunkLine x l rest) (append_assoc w more behind) reads)
+never_grows w more never behind l rest reads = never (more ++ behind) l rest
+    (subst (λ (x : List ℕ). ReadsChunkLine x l rest) (append_assoc w more behind) reads)
 
 -- the front, the bytes passed so far, and the next byte
 pub one_byte_more : (w bytes : List ℕ) (n : ℕ) → n < length bytes → (w ++ take n bytes) ++ get_or bytes n 0 ∷ [] ≡ w ++ take (n + 1) bytes
@@ -253,7 +267,8 @@ passed_whole w bytes n = ap (λ x. w ++ x) (sym (take-append-drop n bytes)) ∙ 
 
 -- ---- what a line that breaks off needs
 
-crlf_ends : (l : ChunkLine) → IsChunkLine l → (e : List ℕ) → e ≡ l.digits ++ (l.pad ++ print_extension l.extension) → ReadsChunkLine (e ++ 13 ∷ 10 ∷ []) l []
+crlf_ends : (l : ChunkLine) → IsChunkLine l → (e : List ℕ) → e ≡ l.digits ++ (l.pad ++ print_extension l.extension)
+    → ReadsChunkLine (e ++ 13 ∷ 10 ∷ []) l []
 unfolding print_chunk_line
 crlf_ends l is e whole = (is, ap (λ x. x ++ 13 ∷ 10 ∷ []) whole ∙ regroup l.digits l.pad (print_extension l.extension))
   where
@@ -261,16 +276,27 @@ crlf_ends l is e whole = (is, ap (λ x. x ++ 13 ∷ 10 ∷ []) whole ∙ regroup
     regroup digits blanks e = simp (append_assoc, append-nil)
 
 -- some bytes more make it a whole line
-pub missing : (w : List ℕ) (s : SizeLine) → IsSizeFront w s → (b : ℕ) × (more : List ℕ) × (l : ChunkLine) × ReadsChunkLine (w ++ b ∷ more) l []
+pub missing : (w : List ℕ) (s : SizeLine) → IsSizeFront w s → (b : ℕ) × (more : List ℕ) × (l : ChunkLine)
+    × ReadsChunkLine (w ++ b ∷ more) l []
 missing w (front.Digits count size) a = digits_end w a.counted a.few a.each
   where
-    digits_end : (w : List ℕ) → length w ≡ count → count ≤ 16 → AllPass is_ascii_hexdigit w → (b : ℕ) × (more : List ℕ) × (l : ChunkLine) × ReadsChunkLine (w ++ b ∷ more) l []
+    digits_end : (w : List ℕ) → length w ≡ count → count ≤ 16 → AllPass is_ascii_hexdigit w
+        → (b : ℕ) × (more : List ℕ) × (l : ChunkLine) × ReadsChunkLine (w ++ b ∷ more) l []
     digits_end [] counted few each = (
       48,
       13 ∷ 10 ∷ [],
       record { digits = 48 ∷ []; pad = []; extension = None },
       crlf_ends (record { digits = 48 ∷ []; pad = []; extension = None })
-          (record { digits = (omega arith, omega arith, All-cons (λ v. is_ascii_hexdigit v ≡ true) 48 [] refl (All-nil (λ v. is_ascii_hexdigit v ≡ true))); pad = All-nil (λ v. is_ows v ≡ true); extension = tt })
+          (record {
+            digits = (
+              omega arith,
+              omega arith,
+              All-cons (λ v. is_ascii_hexdigit v ≡ true) 48 [] refl
+                  (All-nil (λ v. is_ascii_hexdigit v ≡ true)),
+            );
+            pad = All-nil (λ v. is_ows v ≡ true);
+            extension = tt;
+          })
           (48 ∷ []) refl,
     )
     digits_end (d ∷ w) counted few each = (

@@ -1,10 +1,12 @@
 -- What the bytes are, by what stands at their front: no size line, a size line alone, a chunk, a last size line.
-use Rattle.std.proofs.Common.{◌≡◌, ℕ, ◌+◌, ◌<◌, ◌≤◌, List, [], ◌∷◌, ◌++◌, length, take, drop, refl, sym, ap, ◌∙◌, subst, arith, append_assoc, append-nil, length-append, length-drop}
+use Rattle.std.proofs.Common.{◌≡◌, ℕ, ◌+◌, ◌<◌, ◌≤◌, List, [], ◌∷◌, ◌++◌, length, take, drop, refl, sym, ap, ◌∙◌, subst, arith}
+use Rattle.std.proofs.Common.{append_assoc, append-nil, length-append, length-drop}
 use Rattle.std.proofs.lemmas.List.{drop_at, take-append-drop, drop-drop, length-take-le, drop_all}
 use Rattle.std.proofs.lemmas.Bool.{cases_lt}
 use Rattle.std.proofs.Common.{inl, inr}
 use Rattle.httparse.specs.Ascii.{crlf_bytes}
-use Rattle.httparse.specs.Grammar.{ChunkLine, print_chunk_line, chunk_size, ReadsChunkLine, HasNoChunkLine, NeverHasChunkLine, MayBecomeChunkLine}
+use Rattle.httparse.specs.Grammar.{ChunkLine, print_chunk_line, chunk_size, ReadsChunkLine, HasNoChunkLine, NeverHasChunkLine}
+use Rattle.httparse.specs.Grammar.{MayBecomeChunkLine}
 use Rattle.httparse.proofs.ChunkLemmas.{chunk_line_unique, ReadsChunkLine-append}
 use Rattle.http_frames.specs.declared.TheConstants.{BODY_BYTES}
 use Rattle.http_frames.specs.Chunks.{Chunk, print_chunk, IsChunk, Chunks, content_of, BeginsCrLf, IsBadChunk, no_line, no_end, ReadsTrailer}
@@ -42,7 +44,8 @@ no_bad_without_line whole q r (c ∷ cs) left none may e passed bad =
 
 pub cut_before_line : (taken : ℕ) (whole : List ℕ) → HasNoChunkLine whole → MayBecomeChunkLine whole → ChunksCut taken whole
 cut_before_line taken whole none may = record {
-  not_whole = λ body rest w. no_much_without_line taken whole whole [] w.chunks w.left w.line w.trailer none (sym (append-nil whole)) w.passed w.last;
+  not_whole = λ body rest w. no_much_without_line taken whole whole [] w.chunks w.left w.line w.trailer none
+      (sym (append-nil whole)) w.passed w.last;
   not_bad = λ q r e bad. no_bad_without_line whole q r bad.chunks bad.left none may e bad.passed bad.bad;
   not_much = λ q r e much. no_much_without_line taken whole q r much.chunks much.left much.line much.more none e much.passed much.reads;
 }
@@ -56,7 +59,8 @@ bad_line taken whole never = record {
   more = [];
   is = sym (append-nil whole);
   bad = record { chunks = []; left = whole; passed = refl; bad = no_line never };
-  first = λ q r e much. no_much_without_line taken whole q r much.chunks much.left much.line much.more (never_is_none whole never) e much.passed much.reads;
+  first = λ q r e much. no_much_without_line taken whole q r much.chunks much.left much.line much.more
+      (never_is_none whole never) e much.passed much.reads;
 }
 
 -- ---- a size line
@@ -92,12 +96,14 @@ no_bad_at_line whole q r l t [] left reads short begins e passed (no_end line co
     let lines = chunk_line_unique whole line l _ t (moved left r whole line _ e' at) reads in
     let same : length content ≡ chunk_size l = size ∙ ap chunk_size lines.0 in
     let behind : content ++ (after ++ r) ≡ t = sym (append_assoc content after r) ∙ lines.1 in
-    let dropped : drop (chunk_size l) t ≡ after ++ r = sym (ap (drop (chunk_size l)) behind) ∙ drop_at content (after ++ r) (chunk_size l) same in
+    let dropped : drop (chunk_size l) t ≡ after ++ r = sym (ap (drop (chunk_size l)) behind)
+    ∙ drop_at content (after ++ r) (chunk_size l) same in
     wrong (begins_front after r (subst BeginsCrLf dropped begins))
 no_bad_at_line whole q r l t (c ∷ cs) left reads short begins e passed bad =
     let fits = chunk_fits c passed.1.0 q r whole l t passed.0 passed.1.1 e reads in absurd (omega arith)
 
-no_much_at_line : (taken : ℕ) (whole q r : List ℕ) (l : ChunkLine) (t : List ℕ) (cs : List Chunk) (left : List ℕ) (line : ChunkLine) (more : List ℕ)
+no_much_at_line : (taken : ℕ) (whole q r : List ℕ) (l : ChunkLine) (t : List ℕ) (cs : List Chunk) (left : List ℕ) (line : ChunkLine)
+    (more : List ℕ)
     → ReadsChunkLine whole l t → length t < chunk_size l + 2 → taken + chunk_size l ≤ BODY_BYTES
     → whole ≡ q ++ r → Chunks q cs left → ReadsChunkLine left line more → BODY_BYTES < taken + length (content_of cs) + chunk_size line → ⊥
 no_much_at_line taken whole q r l t [] left line more reads short fits e passed at over =
@@ -125,11 +131,13 @@ pub cut_in_content : (taken : ℕ) (whole : List ℕ) (l : ChunkLine) (t : List 
 cut_in_content taken whole l t reads some fits short begins = record {
   not_whole = λ body rest w. no_whole_at_line whole l t w.chunks w.left w.line w.trailer reads short some w.passed w.last w.zero;
   not_bad = λ q r e bad. no_bad_at_line whole q r l t bad.chunks bad.left reads short begins e bad.passed bad.bad;
-  not_much = λ q r e much. no_much_at_line taken whole q r l t much.chunks much.left much.line much.more reads short fits e much.passed much.reads much.over;
+  not_much = λ q r e much. no_much_at_line taken whole q r l t much.chunks much.left much.line much.more reads short fits e much.passed
+      much.reads much.over;
 }
 
 -- the content isn't followed by CR LF
-no_much_at_wrong_end : (taken : ℕ) (whole q r : List ℕ) (l : ChunkLine) (t : List ℕ) (cs : List Chunk) (left : List ℕ) (line : ChunkLine) (more : List ℕ)
+no_much_at_wrong_end : (taken : ℕ) (whole q r : List ℕ) (l : ChunkLine) (t : List ℕ) (cs : List Chunk) (left : List ℕ) (line : ChunkLine)
+    (more : List ℕ)
     → ReadsChunkLine whole l t → (BeginsCrLf (drop (chunk_size l) t) → ⊥) → taken + chunk_size l ≤ BODY_BYTES
     → whole ≡ q ++ r → Chunks q cs left → ReadsChunkLine left line more → BODY_BYTES < taken + length (content_of cs) + chunk_size line → ⊥
 no_much_at_wrong_end taken whole q r l t [] left line more reads wrong fits e passed at over =
@@ -141,7 +149,8 @@ no_much_at_wrong_end taken whole q r l t (c ∷ cs) left line more reads wrong f
     let chunk = chunk_at c passed.1.0 q r whole l t passed.0 passed.1.1 e reads in
     let same : length c.content ≡ chunk_size l = passed.0.sized ∙ ap chunk_size chunk.0 in
     let behind : c.content ++ ((crlf_bytes ++ passed.1.0) ++ r) ≡ t = sym (append_assoc c.content (crlf_bytes ++ passed.1.0) r) ∙ chunk.1 in
-    let dropped : drop (chunk_size l) t ≡ (crlf_bytes ++ passed.1.0) ++ r = sym (ap (drop (chunk_size l)) behind) ∙ drop_at c.content _ (chunk_size l) same in
+    let dropped : drop (chunk_size l) t ≡ (crlf_bytes ++ passed.1.0) ++ r =
+    sym (ap (drop (chunk_size l)) behind) ∙ drop_at c.content _ (chunk_size l) same in
     wrong (subst BeginsCrLf (sym dropped) (refl, refl))
 
 pub bad_end : (taken : ℕ) (whole : List ℕ) (l : ChunkLine) (t : List ℕ) → ReadsChunkLine whole l t
@@ -160,7 +169,8 @@ bad_end taken whole l t reads some fits wrong = elim (cases_lt (length t) (chunk
           (subst (λ (b : List ℕ). ReadsChunkLine whole l b) (sym (take-append-drop (chunk_size l) t)) reads)
           some (length-take-le (chunk_size l) t there) wrong;
     };
-    first = λ q r e much. no_much_at_wrong_end taken whole q r l t much.chunks much.left much.line much.more reads wrong fits e much.passed much.reads much.over;
+    first = λ q r e much. no_much_at_wrong_end taken whole q r l t much.chunks much.left much.line much.more reads wrong fits e much.passed
+        much.reads much.over;
   }
 ]
 
@@ -242,7 +252,8 @@ no_bad_at_last whole q r l t (c ∷ cs) left reads zero e passed bad =
     let some = passed.0.some in
     absurd (omega arith)
 
-pub no_much_at_last : (taken : ℕ) (whole q r : List ℕ) (l : ChunkLine) (t : List ℕ) (cs : List Chunk) (left : List ℕ) (line : ChunkLine) (more : List ℕ)
+pub no_much_at_last : (taken : ℕ) (whole q r : List ℕ) (l : ChunkLine) (t : List ℕ) (cs : List Chunk) (left : List ℕ) (line : ChunkLine)
+    (more : List ℕ)
     → ReadsChunkLine whole l t → chunk_size l ≡ 0 → taken ≤ BODY_BYTES
     → whole ≡ q ++ r → Chunks q cs left → ReadsChunkLine left line more → BODY_BYTES < taken + length (content_of cs) + chunk_size line → ⊥
 no_much_at_last taken whole q r l t [] left line more reads zero fits e passed at over =
@@ -256,7 +267,8 @@ no_much_at_last taken whole q r l t (c ∷ cs) left line more reads zero fits e 
     let some = passed.0.some in
     absurd (omega arith)
 
-no_whole_at_last : (whole : List ℕ) (l : ChunkLine) (t : List ℕ) (cs : List Chunk) (left : List ℕ) (line : ChunkLine) (trailer rest : List ℕ)
+no_whole_at_last : (whole : List ℕ) (l : ChunkLine) (t : List ℕ) (cs : List Chunk) (left : List ℕ) (line : ChunkLine)
+    (trailer rest : List ℕ)
     → ReadsChunkLine whole l t → chunk_size l ≡ 0 → ((rest : List ℕ) → ReadsTrailer t rest → ⊥)
     → Chunks whole cs left → ReadsChunkLine left line trailer → ReadsTrailer trailer rest → ⊥
 no_whole_at_last whole l t [] left line trailer rest reads zero none passed last ends =
@@ -274,14 +286,16 @@ pub cut_in_trailer : (taken : ℕ) (whole : List ℕ) (l : ChunkLine) (t : List 
 cut_in_trailer taken whole l t reads zero fits none = record {
   not_whole = λ body rest w. no_whole_at_last whole l t w.chunks w.left w.line w.trailer rest reads zero none w.passed w.last w.ends;
   not_bad = λ q r e bad. no_bad_at_last whole q r l t bad.chunks bad.left reads zero e bad.passed bad.bad;
-  not_much = λ q r e much. no_much_at_last taken whole q r l t much.chunks much.left much.line much.more reads zero fits e much.passed much.reads much.over;
+  not_much = λ q r e much. no_much_at_last taken whole q r l t much.chunks much.left much.line much.more reads zero fits e much.passed
+      much.reads much.over;
 }
 
 -- ---- behind all chunks that were passed
 
 -- what is carried from behind each chunk to its front is carried from behind all of them to the first
 through : (P : ℕ → List ℕ → Type 0)
-    → ((taken : ℕ) (c : Chunk) (mid : List ℕ) → IsChunk c → taken + chunk_size c.line ≤ BODY_BYTES → P (taken + chunk_size c.line) mid → P taken (print_chunk c ++ mid))
+    → ((taken : ℕ) (c : Chunk) (mid : List ℕ) → IsChunk c → taken + chunk_size c.line ≤ BODY_BYTES → P (taken + chunk_size c.line) mid
+    → P taken (print_chunk c ++ mid))
     → (taken : ℕ) (cs : List Chunk) (bytes left : List ℕ) → Chunks bytes cs left → taken + length (content_of cs) ≤ BODY_BYTES
     → P (taken + length (content_of cs)) left → P taken bytes
 through P step taken [] bytes left passed fits p =
@@ -311,4 +325,5 @@ pub through_much : (cs : List Chunk) (bytes left : List ℕ) → Chunks bytes cs
     → ChunksMuch (length (content_of cs)) left → ChunksMuch 0 bytes
 through_much cs bytes left passed fits much =
     let sum : length (content_of cs) ≡ 0 + length (content_of cs) = omega arith in
-    through (λ n b. ChunksMuch n b) (λ taken c mid is fits m. passes_much taken c mid is m) 0 cs bytes left passed (omega arith) (subst (λ (n : ℕ). ChunksMuch n left) sum much)
+    through (λ n b. ChunksMuch n b) (λ taken c mid is fits m. passes_much taken c mid is m) 0 cs bytes left passed (omega arith)
+    (subst (λ (n : ℕ). ChunksMuch n left) sum much)

@@ -1,5 +1,6 @@
 -- What bytes are that stop in a request target.
-use Rattle.std.proofs.Common.{◌≡◌, ℕ, Bool, true, List, [], ◌∷◌, ◌++◌, length, take, refl, sym, ap, ◌∙◌, subst, inl, inr, ◌⊎◌, arith, append_assoc, append-nil, length-append}
+use Rattle.std.proofs.Common.{◌≡◌, ℕ, Bool, true, List, [], ◌∷◌, ◌++◌, length, take, refl, sym, ap, ◌∙◌, subst, inl, inr, ◌⊎◌, arith}
+use Rattle.std.proofs.Common.{append_assoc, append-nil, length-append}
 use Rattle.std.proofs.lemmas.List.Elements.{All-head, All-tail}
 use Rattle.httparse.specs.Grammar.{AllPass, is_uri_byte, print_blank, HasNoRequest, EndsInTarget}
 use Rattle.httparse.specs.Pieces.{Stops}
@@ -23,7 +24,8 @@ pub no_request_in_target : (bytes : List ℕ) → EndsInTarget bytes → HasNoRe
 no_request_in_target bytes (blank, method, target, token, each, is) h rest reads =
     let p = request_pieces bytes h rest reads in
     let parted : bytes ≡ print_blank blank ++ (method ++ 32 ∷ target) = is ∙ append_assoc (print_blank blank) method (32 ∷ target) in
-    let b = Blank_deterministic.unique h.blank blank bytes p.1.0 (method ++ 32 ∷ target) p.1.1 (parted, Stops_token method (32 ∷ target) token.0 token.1) in
+    let b = Blank_deterministic.unique h.blank blank bytes p.1.0 (method ++ 32 ∷ target) p.1.1
+    (parted, Stops_token method (32 ∷ target) token.0 token.1) in
     let m = Method_deterministic.unique h.method method p.1.0 p.1.2.0 target p.1.2.1 (token.0, token.1, b.1) in
     unstopped is_uri_byte h.target (32 ∷ p.1.2.2.0) (subst (AllPass is_uri_byte) (sym m.1 ∙ p.1.2.2.1.0.2) each) refl
 
@@ -43,8 +45,10 @@ stops_two_ways bytes begins.big t x =
 -- more than a head may have: they are big, or bad
 pub goes_on_two_ways : (bytes : List ℕ) (b : Beginning) → IsLongTarget bytes → BeginsWith bytes b → (b ≡ begins.big) ⊎ (b ≡ begins.bad)
 goes_on_two_ways bytes begins.whole t x =
-    absurd (message_front_not_big bytes x.0 x.1 bytes [] x.2 (sym (append-nil bytes)) (long_head t.0 (no_request_in_target (take HEAD_BYTES bytes) t.1)))
+    absurd (message_front_not_big bytes x.0 x.1 bytes [] x.2 (sym (append-nil bytes))
+    (long_head t.0 (no_request_in_target (take HEAD_BYTES bytes) t.1)))
 goes_on_two_ways bytes begins.none t x = absurd (omega (arith, t.0, ap length x))
-goes_on_two_ways bytes begins.cut t x = absurd (x.not_big bytes [] (sym (append-nil bytes)) (long_head t.0 (no_request_in_target (take HEAD_BYTES bytes) t.1)))
+goes_on_two_ways bytes begins.cut t x = absurd (x.not_big bytes [] (sym (append-nil bytes))
+    (long_head t.0 (no_request_in_target (take HEAD_BYTES bytes) t.1)))
 goes_on_two_ways bytes begins.bad t x = inr refl
 goes_on_two_ways bytes begins.big t x = inl refl

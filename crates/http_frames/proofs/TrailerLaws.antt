@@ -23,7 +23,8 @@ no_line_in [] r (x ∷ t) none e = none.0 (cc)
 no_line_in (c ∷ a) r [] none e = cc
 no_line_in (c ∷ a) r (x ∷ t) none e = no_line_in a r t none.1 (cc)
 
-no_trailer_at : (t rest : List ℕ) (lines : List (List ℕ)) (left last : List ℕ) → HasNoLineFeed t → Lines t lines left → left ≡ last ++ 10 ∷ rest → ⊥
+no_trailer_at : (t rest : List ℕ) (lines : List (List ℕ)) (left last : List ℕ) → HasNoLineFeed t → Lines t lines left
+    → left ≡ last ++ 10 ∷ rest → ⊥
 no_trailer_at t rest [] left last none passed ends = no_line_in last rest t none (passed ∙ ends)
 no_trailer_at t rest (line ∷ lines) left last none passed ends = no_line_in line passed.2.0 t none passed.2.1
 
@@ -39,17 +40,26 @@ trailer_passes line mid t rest [] left last none full e passed empty ends =
     absurd (full (subst IsEmptyLine (sym same.0) empty))
 trailer_passes line mid t rest (k ∷ lines) left last none full e passed empty ends =
     let same = line_unique line k mid passed.2.0 none passed.0 (sym e ∙ passed.2.1) in
-    record { lines = lines; left = left; passed = subst (λ (b : List ℕ). Lines b lines left) (sym same.1) passed.2.2; last = last; is_empty = empty; ends = ends }
+    record {
+      lines = lines;
+      left = left;
+      passed = subst (λ (b : List ℕ). Lines b lines left) (sym same.1) passed.2.2;
+      last = last;
+      is_empty = empty;
+      ends = ends;
+    }
 
 -- a trailer goes on behind the lines that were passed
-pub trailer_through : (t rest : List ℕ) (lines : List (List ℕ)) (left : List ℕ) → Lines t lines left → ReadsTrailer t rest → ReadsTrailer left rest
+pub trailer_through : (t rest : List ℕ) (lines : List (List ℕ)) (left : List ℕ) → Lines t lines left → ReadsTrailer t rest
+    → ReadsTrailer left rest
 trailer_through t rest [] left passed ends = subst (λ (b : List ℕ). ReadsTrailer b rest) passed ends
 trailer_through t rest (line ∷ lines) left passed ends =
     trailer_through passed.2.0 rest lines left passed.2.2
     (trailer_passes line passed.2.0 t rest ends.lines ends.left ends.last passed.0 passed.1 passed.2.1 ends.passed ends.is_empty ends.ends)
 
 -- one line more at the end
-pub lines_push : (t : List ℕ) (lines : List (List ℕ)) (left line mid : List ℕ) → Lines t lines left → HasNoLineFeed line → (IsEmptyLine line → ⊥)
+pub lines_push : (t : List ℕ) (lines : List (List ℕ)) (left line mid : List ℕ) → Lines t lines left → HasNoLineFeed line
+    → (IsEmptyLine line → ⊥)
     → left ≡ line ++ 10 ∷ mid → Lines t (lines ++ line ∷ []) mid
 lines_push t [] left line mid passed none full e = (none, full, (mid, passed ∙ e, refl))
 lines_push t (k ∷ lines) left line mid passed none full e =

@@ -11,7 +11,8 @@ use Rattle.http_frames.specs.declared.framing.Values.TheVariants.{Absent, Once, 
 abbrev pub HoldsValues : List ℕ → Values → List (List ℕ) → Type 0
 HoldsValues buf Absent values = values ≡ []
 HoldsValues buf (Once s) values = IsWithin (length buf) s × (values ≡ span_bytes buf s ∷ [])
-HoldsValues buf (Several s) values = IsWithin (length buf) s × ((second : List ℕ) × (more : List (List ℕ)) × (values ≡ span_bytes buf s ∷ second ∷ more))
+HoldsValues buf (Several s) values = IsWithin (length buf) s
+    × ((second : List ℕ) × (more : List (List ℕ)) × (values ≡ span_bytes buf s ∷ second ∷ more))
 
 -- the chunks break off: the bytes are no whole chunked body, and no front of them is bad or has too much content,
 -- where so much content was taken before
@@ -44,8 +45,8 @@ pub record HasPassed (bytes : List ℕ) (at : ℕ) (body part : List ℕ) : Type
   pub content : body ≡ content_of chunks
   pub fits : length body ≤ BODY_BYTES
 
--- The first `at` bytes are whole chunks with this content, within the limit, a size line that says 0, lines of a trailer that
--- aren't empty, and then this part of the next one.
+-- The first `at` bytes are whole chunks with this content, within the limit, a size line that says 0, lines of a
+-- trailer that aren't empty, and then this part of the next one.
 pub record HasPassedLines (bytes : List ℕ) (at : ℕ) (body part : List ℕ) : Type 0 where
   pub within : at ≤ length bytes
   pub chunks : List Chunk

@@ -25,7 +25,8 @@ BeginsWith bytes big = BeginsBig bytes
 abbrev pub BeginOneWay : Type 0
 BeginOneWay = (bytes : List ℕ) (a b : Beginning) → BeginsWith bytes a → BeginsWith bytes b → a ≡ b
 
--- a whole chunked body with this content and the bytes behind it, a part of one, chunks that break the framing, or too much content
+-- a whole chunked body with this content and the bytes behind it, a part of one, chunks that break the framing, or too
+-- much content
 pub data InChunks : Type 0 where
   whole : List ℕ → List ℕ → InChunks
   part : InChunks

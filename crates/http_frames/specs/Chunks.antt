@@ -1,7 +1,8 @@
 -- Chunked bodies: chunks, a last chunk line and a trailer (RFC 9112 7.1, Chunked Transfer Coding; limits: own rule).
 use Rattle.std.specs.Prelude.{◌≡◌, ℕ, ◌+◌, ◌<◌, ◌≤◌, ◌⊎◌, List, [], ◌∷◌, ◌++◌, length, take}
 use Rattle.httparse.specs.Ascii.{crlf_bytes}
-use Rattle.httparse.specs.Grammar.{ChunkLine, IsChunkLine, print_chunk_line, chunk_size, ReadsChunkLine, NeverHasChunkLine}
+use Rattle.httparse.specs.Grammar.{ChunkLine, IsChunkLine, print_chunk_line, chunk_size, ReadsChunkLine}
+use Rattle.httparse.specs.Grammar.{NeverHasChunkLine}
 use Rattle.http_frames.specs.declared.TheConstants.{BODY_BYTES, CHUNKED_BYTES}
 
 -- a chunk: its size line and its content

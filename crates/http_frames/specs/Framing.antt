@@ -1,5 +1,6 @@
 -- How the body of a request is framed, by the values of its header fields.
-use Rattle.std.specs.Prelude.{ℕ, ◌==◌, ◌&&◌, ◌||◌, Bool, List, [], ◌∷◌, map, filter, length, nat_le, nat_lt, if◌then◌else◌, codes, Option, Some, None}
+use Rattle.std.specs.Prelude.{ℕ, ◌==◌, ◌&&◌, ◌||◌, Bool, List, [], ◌∷◌, map, filter, length, nat_le, nat_lt}
+use Rattle.std.specs.Prelude.{if◌then◌else◌, codes, Option, Some, None}
 use Rattle.std.specs.List.{list_any, list_all, slice_split}
 use Rattle.std.specs.Str.{str_eq_ignore_ascii_case}
 use Rattle.std.specs.Str.Parse.{digits_value}
@@ -35,7 +36,8 @@ sized n = if nat_le n BODY_BYTES then Sized n else TooLong
 unfoldable pub announced : List ℕ → Frame
 announced value = if is_length value then sized (digits_value 10 value) else Broken
 
--- the framing by this value of Transfer-Encoding: "chunked" alone, in any case of letters (RFC 9112 6.1, Transfer-Encoding)
+-- the framing by this value of Transfer-Encoding: "chunked" alone, in any case of letters (RFC 9112 6.1,
+-- Transfer-Encoding)
 unfoldable pub coded : List ℕ → Frame
 coded value = if is_same_word value (codes "chunked") then Chunked else Broken
 

@@ -23,7 +23,8 @@ frame_as body.Empty = frames.NoBody
 frame_as (body.Sized n) = frames.Sized n
 frame_as body.Chunked = frames.Chunked
 
--- the parser found a head at the front of the bytes, not too long and with not too many fields, and these are its places
+-- the parser found a head at the front of the bytes, not too long and with not too many fields, and these are its
+-- places
 pub record HasSpans (bytes : List ℕ) (fields : List HeaderSpan) (r : RequestSpans) : Type 0 where
   pub head : RequestHead
   pub reads : ReadsRequest bytes head (drop r.len bytes)
@@ -63,7 +64,8 @@ HeadIs bytes answer.More = HasNoRequest bytes × MayBecomeRequest bytes × (leng
 HeadIs bytes answer.Malformed = BeginsBad bytes
 HeadIs bytes answer.TooLarge = BeginsBig bytes ⊎ IsLongTarget bytes
 
--- the bytes are a request line, with empty lines in front of it, and whole fields: with an empty line behind them they are a head
+-- the bytes are a request line, with empty lines in front of it, and whole fields: with an empty line behind them they
+-- are a head
 pub record AreWholeLines (bytes : List ℕ) : Type 0 where
   pub head : RequestHead
   pub reads : ReadsRequest (bytes ++ line_feed ∷ []) head []

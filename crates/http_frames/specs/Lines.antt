@@ -3,7 +3,8 @@ use Rattle.std.specs.Prelude.{◌≡◌, ℕ, ◌^◌, ◌<◌, ◌≤◌, List,
 use Rattle.std.specs.Char.{is_ascii_hexdigit}
 use Rattle.std.specs.Str.Parse.{digits_value}
 use Rattle.httparse.specs.Ascii.{carriage_return, semicolon}
-use Rattle.httparse.specs.Grammar.{is_ows, is_extension_byte, AllPass, ChunkLine, IsChunkLine, print_chunk_line, print_extension, chunk_size, NeverHasChunkLine}
+use Rattle.httparse.specs.Grammar.{is_ows, is_extension_byte, AllPass, ChunkLine, IsChunkLine, print_chunk_line}
+use Rattle.httparse.specs.Grammar.{print_extension, chunk_size, NeverHasChunkLine}
 use Rattle.httparse.specs.Pieces.{Stops}
 use Rattle.http_frames.specs.Chunks.{IsEmptyLine}
 use Rattle.http_frames.specs.declared.lines.SizeLine.{SizeLine}
@@ -54,7 +55,8 @@ pub record LacksFeed (bytes : List ℕ) (size : ℕ) : Type 0 where
 -- the bytes are the front of a size line, by how far that has come
 abbrev pub IsSizeFront : List ℕ → SizeLine → Type 0
 IsSizeFront bytes (front.Digits count size) = AreDigits bytes count size
-IsSizeFront bytes (front.Blanks size) = (digits blanks : List ℕ) × AreBlanks digits blanks size × (0 < length blanks) × (bytes ≡ digits ++ blanks)
+IsSizeFront bytes (front.Blanks size) = (digits blanks : List ℕ) × AreBlanks digits blanks size × (0 < length blanks)
+    × (bytes ≡ digits ++ blanks)
 IsSizeFront bytes (front.Extension size) = AreExtended bytes size
 IsSizeFront bytes (front.Return size) = LacksFeed bytes size
 
@@ -74,7 +76,8 @@ GrownIs bytes grown.Broken = NeverHasChunkLine bytes
 -- what this front and then the bytes begin with, by the answer
 abbrev pub SizeLineIs : List ℕ → List ℕ → SizeRead → Type 0
 SizeLineIs front bytes (read.More longer) = IsSizeFront (front ++ bytes) longer
-SizeLineIs front bytes (read.Whole len size) = (line : List ℕ) × IsSizeLine line size × (front ++ bytes ≡ line ++ drop len bytes) × (0 < len) × (len ≤ length bytes)
+SizeLineIs front bytes (read.Whole len size) = (line : List ℕ) × IsSizeLine line size
+    × (front ++ bytes ≡ line ++ drop len bytes) × (0 < len) × (len ≤ length bytes)
 SizeLineIs front bytes read.Malformed = NeverHasChunkLine (front ++ bytes)
 
 -- these bytes of a trailer's line are nothing, one CR, or neither

@@ -1,6 +1,7 @@
 -- Requests of a connection's bytes, and what the bytes are where they begin with none.
 use Rattle.std.specs.Prelude.{◌≡◌, ℕ, ◌<◌, ◌≤◌, List, [], ◌++◌, length, take}
-use Rattle.httparse.specs.Grammar.{RequestHead, print_request, ReadsRequest, HasNoRequest, NeverHasRequest, EndsInTarget}
+use Rattle.httparse.specs.Grammar.{RequestHead, print_request, ReadsRequest, HasNoRequest, NeverHasRequest}
+use Rattle.httparse.specs.Grammar.{EndsInTarget}
 use Rattle.http_frames.specs.declared.TheConstants.{HEAD_BYTES, HEAD_FIELDS}
 use Rattle.http_frames.specs.declared.framing.Frame.{Frame}
 use Rattle.http_frames.specs.declared.framing.Frame.TheVariants.{NoBody, Sized, Chunked, TooLong, Broken}
@@ -35,15 +36,18 @@ HasNoMessage bytes = (m : Message) (rest : List ℕ) → ReadsMessage bytes m re
 -- the bytes pass a limit: of the head, of its fields, of the announced body, or of a chunked body (own rule)
 pub data IsBig (bytes : List ℕ) : Type 0 where
   long_head : HEAD_BYTES < length bytes → HasNoRequest (take HEAD_BYTES bytes) → IsBig bytes
-  many_fields : (h : RequestHead) (tail : List ℕ) → ReadsRequest bytes h tail → HEAD_FIELDS < length h.fields → IsBig bytes
+  many_fields : (h : RequestHead) (tail : List ℕ) → ReadsRequest bytes h tail → HEAD_FIELDS < length h.fields
+      → IsBig bytes
   long_body : (h : RequestHead) (tail : List ℕ) → ReadsRequest bytes h tail → frame h ≡ TooLong → IsBig bytes
-  big_chunks : (h : RequestHead) (tail : List ℕ) → ReadsRequest bytes h tail → frame h ≡ Chunked → HasBigChunks tail → IsBig bytes
+  big_chunks : (h : RequestHead) (tail : List ℕ) → ReadsRequest bytes h tail → frame h ≡ Chunked → HasBigChunks tail
+      → IsBig bytes
 
 -- the bytes break the grammar of heads or the framing (RFC 9112 3, 5, 6 and 7.1)
 pub data IsBad (bytes : List ℕ) : Type 0 where
   no_head : NeverHasRequest bytes → IsBad bytes
   broken : (h : RequestHead) (tail : List ℕ) → ReadsRequest bytes h tail → frame h ≡ Broken → IsBad bytes
-  bad_chunk : (h : RequestHead) (tail : List ℕ) → ReadsRequest bytes h tail → frame h ≡ Chunked → HasBadChunk tail → IsBad bytes
+  bad_chunk : (h : RequestHead) (tail : List ℕ) → ReadsRequest bytes h tail → frame h ≡ Chunked → HasBadChunk tail
+      → IsBad bytes
 
 -- the shortest front of the bytes that is bad or big is bad alone: some front is bad, and none up to it is big
 pub record BeginsBad (bytes : List ℕ) : Type 0 where
@@ -68,7 +72,8 @@ pub record IsCut (bytes : List ℕ) : Type 0 where
   pub not_bad : (q r : List ℕ) → bytes ≡ q ++ r → IsBad q → ⊥
   pub not_big : (q r : List ℕ) → bytes ≡ q ++ r → IsBig q → ⊥
 
--- the bytes are no more than a head may have, and they stop in a request target, whose text is judged at its end (own rule)
+-- the bytes are no more than a head may have, and they stop in a request target, whose text is judged at its end (own
+-- rule)
 abbrev pub StopsInTarget : List ℕ → Type 0
 StopsInTarget bytes = (length bytes ≤ HEAD_BYTES) × EndsInTarget bytes
 

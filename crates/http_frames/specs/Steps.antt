@@ -34,7 +34,8 @@ HasMoreChunks bytes taken = (at : ℕ) × (body : List ℕ) × HasPassed bytes a
 
 -- what the bytes are, by the answer, with this content where they are whole
 abbrev pub DecodedIs : List ℕ → List ℕ → Decoded → Type 0
-DecodedIs bytes body (decoded.Whole n) = ReadsChunks bytes body (drop n bytes) × (n ≤ length bytes) × (length body ≤ BODY_BYTES)
+DecodedIs bytes body (decoded.Whole n) = ReadsChunks bytes body (drop n bytes) × (n ≤ length bytes)
+    × (length body ≤ BODY_BYTES)
 DecodedIs bytes body decoded.More = ChunksCut 0 bytes
 DecodedIs bytes body decoded.Malformed = ChunksBad 0 bytes
 DecodedIs bytes body decoded.TooLarge = ChunksMuch 0 bytes

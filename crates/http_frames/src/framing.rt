@@ -1,10 +1,12 @@
 //! Which framing a request's header fields announce, and what else they ask for.
-ghost use Rattle.std.specs.Prelude.{◌≡◌, ℕ, ◌+◌, ◌*◌, ◌<◌, ◌≤◌, ◌++◌, ◌∷◌, [], List, All, map, min, length, IfSome, IsTrue, option_map};
+ghost use Rattle.std.specs.Prelude.{◌≡◌, ℕ, ◌+◌, ◌*◌, ◌<◌, ◌≤◌, ◌++◌, ◌∷◌, [], List, All, map, min, length, IfSome};
+ghost use Rattle.std.specs.Prelude.{IsTrue, option_map};
 ghost use Rattle.std.specs.Str.Parse.{digits_value};
 ghost use Rattle.std.specs.Char.{digit_value, is_ascii_digit};
 ghost use Rattle.httparse.specs.Grammar.{AllPass};
 ghost use Rattle.httparse.specs.Spans.{IsHeaderWithin, header_bytes, IsWithin, span_bytes};
-ghost use Rattle.http_frames.specs.Framing.{is_same_word, values_of, is_length, announced, coded, frame_of_fields, has_close, asks_to_close, first_value, media};
+ghost use Rattle.http_frames.specs.Framing.{is_same_word, values_of, is_length, announced, coded, frame_of_fields};
+ghost use Rattle.http_frames.specs.Framing.{has_close, asks_to_close, first_value, media};
 ghost use Rattle.http_frames.specs.Answers.{HoldsValues};
 
 use crate::BODY_BYTES;
@@ -159,7 +161,8 @@ pub fn media_of(buf: &[u8], headers: &[HeaderSpan]) -> Option<Span>
 pub fn first_named(buf: &[u8], headers: &[HeaderSpan], name: &[u8]) -> Option<Span>
     requires { All (IsHeaderWithin (length buf.now)) headers.now }
     ensures within { IfSome result (IsWithin (length buf.now)) }
-    ensures value { option_map (span_bytes buf.now) result ≡ first_value (values_of name.now (map (header_bytes buf.now) headers.now)) }
+    ensures value { option_map (span_bytes buf.now) result
+        ≡ first_value (values_of name.now (map (header_bytes buf.now) headers.now)) }
 {
     match values_named(buf, headers, name) {
         Values::Absent => None,

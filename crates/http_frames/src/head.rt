@@ -51,8 +51,8 @@ pub enum Head {
     TooLarge,
 }
 
-/// Reads a head that comes in pieces. What its first lines are is kept, so that of a long head only the lines behind them are read
-/// again behind each piece.
+/// Reads a head that comes in pieces. What its first lines are is kept, so that of a long head only the lines behind
+/// them are read again behind each piece.
 #[derive(Drop)]
 pub struct HeadReader {
     // A copy of the lines that are looked at, with an empty line behind them.
@@ -127,7 +127,8 @@ impl HeadReader {
     }
 }
 
-/// Whether the bytes, whose last one is a line feed, are a request line and whole fields. `lines` is for a copy of them.
+/// Whether the bytes, whose last one is a line feed, are a request line and whole fields. `lines` is for a copy of
+/// them.
 fn are_whole_lines(lines: &mut Vec<u8>, bytes: &[u8], room: &mut [HeaderSpan]) -> bool
     requires { (front : List ℕ) × (bytes.now ≡ front ++ 10 ∷ []) }
     ensures { IsTrue result → AreWholeLines bytes.now }

@@ -5,15 +5,16 @@ ghost use Rattle.http_frames.specs.Targets.{StopTwoWays, GoOnTwoWays};
 
 use crate::{BODY_BYTES, CHUNKED_BYTES, HEAD_BYTES, HEAD_FIELDS};
 
-/// A connection's bytes begin with a whole request, or there is none, or they are cut, or bad, or big, and no two of these.
+/// A connection's bytes begin with a whole request, or there is none, or they are cut, or bad, or big, and no two of
+/// these.
 ///
 /// Source: own rule.
 pub fn bytes_begin_one_way()
     ensures { BeginOneWay }
 {}
 
-/// As a chunked body, bytes are whole, or a part of one, or broken, or too much, and no two of these; where they are whole, they have one
-/// content and one rest.
+/// As a chunked body, bytes are whole, or a part of one, or broken, or too much, and no two of these; where they are
+/// whole, they have one content and one rest.
 ///
 /// Source: own rule.
 pub fn chunks_are_one_way()

@@ -1,9 +1,10 @@
-//! The lines between the chunks of a body, read on from where they broke off: what was looked at is kept as a state, and no
-//! byte is looked at twice.
+//! The lines between the chunks of a body, read on from where they broke off: what was looked at is kept as a state,
+//! and no byte is looked at twice.
 ghost use Rattle.std.specs.Prelude.{◌≡◌, ◌≤◌, ◌<◌, ℕ, List, [], ◌∷◌, ◌++◌, IsTrue, ◌↔◌, false};
 ghost use Rattle.std.specs.Char.{is_ascii_hexdigit};
 ghost use Rattle.http_frames.specs.Chunks.{IsEmptyLine};
-ghost use Rattle.http_frames.specs.Lines.{AreDigits, AreBlanks, StopsDigits, IsSizeFront, GrownIs, SizeLineIs, IsLineFront};
+ghost use Rattle.http_frames.specs.Lines.{AreDigits, AreBlanks, StopsDigits, IsSizeFront, GrownIs, SizeLineIs};
+ghost use Rattle.http_frames.specs.Lines.{IsLineFront};
 
 use httparse::parse_hex_digit;
 
@@ -113,7 +114,8 @@ fn after_digits(count: u32, size: u64, byte: u8) -> Grown
 
 /// A line of digits, which say this size, and blanks, with this byte more, which is no digit where there are no blanks.
 fn after_blanks(size: u64, byte: u8) -> Grown
-    ensures { (digits blanks : List ℕ) → AreBlanks digits blanks size → StopsDigits (blanks ++ byte ∷ []) → GrownIs ((digits ++ blanks) ++ byte ∷ []) result }
+    ensures { (digits blanks : List ℕ) → AreBlanks digits blanks size → StopsDigits (blanks ++ byte ∷ [])
+        → GrownIs ((digits ++ blanks) ++ byte ∷ []) result }
 {
     match byte {
         b' ' | b'\t' => Grown::Open(SizeLine::Blanks { size }),

@@ -26,16 +26,20 @@ was_posted post.Failed = false
 -- offers there next
 abbrev pub HadGoneOut : {C : Type 0} → (C → List ℕ) → Option (Opened C) → (List ℕ → Option C) → List ℕ → List ℕ → Type 0
 HadGoneOut outgoing was offered address bytes =
-    IsSomeAnd was (λ o. (string_bytes o.address ≡ address) × (outgoing o.connection ≡ bytes)) ⊎ IsSomeAnd (offered address) (λ c. outgoing c ≡ bytes)
+    IsSomeAnd was (λ o. (string_bytes o.address ≡ address) × (outgoing o.connection ≡ bytes))
+    ⊎ IsSomeAnd (offered address) (λ c. outgoing c ≡ bytes)
 
 -- a request goes out on the connection that is open, once, all of it or a front of it; where none is open it doesn't
-abbrev pub SendsOn : {C : Type 0} → (C → List ℕ) → List ℕ → Bool → Option (Opened C) → List GoneOut → List GoneOut → Type 0
+abbrev pub SendsOn : {C : Type 0} → (C → List ℕ) → List ℕ → Bool → Option (Opened C) → List GoneOut → List GoneOut
+    → Type 0
 SendsOn outgoing request whole None old new = (whole ≡ false) × (new ≡ old)
 SendsOn outgoing request whole (Some o) old new =
-    (bytes : List ℕ) × (new ≡ record { address = string_bytes o.address; bytes = bytes } ∷ old) × SendsFront whole request (outgoing o.connection) bytes
+    (bytes : List ℕ) × (new ≡ record { address = string_bytes o.address; bytes = bytes } ∷ old)
+    × SendsFront whole request (outgoing o.connection) bytes
 
 -- One request went out, all of it or a front of it, behind these bytes, on one connection to the target of a URL.
-pub record SendsTo (had : List ℕ → List ℕ → Type 0) (is_asked : Parts → Target → Type 0) (request : List ℕ → List ℕ → List ℕ) (whole : Bool)
+pub record SendsTo (had : List ℕ → List ℕ → Type 0) (is_asked : Parts → Target → Type 0)
+    (request : List ℕ → List ℕ → List ℕ) (whole : Bool)
     (old new : List GoneOut) : Type 0 where
   pub url : Parts
   pub target : Target
@@ -48,5 +52,6 @@ pub record SendsTo (had : List ℕ → List ℕ → Type 0) (is_asked : Parts �
   pub sent : SendsFront whole (request target.host target.path) before bytes
 
 -- that request went out, or nothing did and the call failed
-abbrev pub Sends : (List ℕ → List ℕ → Type 0) → (Parts → Target → Type 0) → (List ℕ → List ℕ → List ℕ) → Bool → List GoneOut → List GoneOut → Type 0
+abbrev pub Sends : (List ℕ → List ℕ → Type 0) → (Parts → Target → Type 0) → (List ℕ → List ℕ → List ℕ) → Bool
+    → List GoneOut → List GoneOut → Type 0
 Sends had is_asked request whole old new = ((whole ≡ false) × (new ≡ old)) ⊎ SendsTo had is_asked request whole old new

@@ -1,5 +1,6 @@
 -- Where a request goes, by the URL of its resource (RFC 3986 3 and 5, RFC 9110 4.2.1 and 7.2, RFC 9112 3.2).
-use Rattle.std.specs.Prelude.{◌≡◌, ◌⊎◌, ℕ, List, [], ◌++◌, codes, decimal, Option, Some, None, Ok, IsSomeAnd, unwrap_or, option_map}
+use Rattle.std.specs.Prelude.{◌≡◌, ◌⊎◌, ℕ, List, [], ◌++◌, codes, decimal, Option, Some, None, Ok, IsSomeAnd, unwrap_or}
+use Rattle.std.specs.Prelude.{option_map}
 use Rattle.std.specs.String.{string_bytes}
 use Rattle.url.specs.Host.{host_text}
 use Rattle.url.specs.Parser.{parse_url}
@@ -35,7 +36,8 @@ TellsOf text url = (parse_url None text ≡ Ok url) ⊎ (parse_url None (codes "
 -- the grants by the URL of an address: what it names, and where it names a host alone, these there (SOL 003 9.4.1)
 abbrev pub AreGrantsOf : Parts → Parts → Type 0
 AreGrantsOf told grants =
-    ((told.path ≡ codes "/") × (told.query ≡ None) × (parse_url (Some told) (codes "/grant/v1/grants") ≡ Ok grants)) ⊎ ((((told.path ≡ codes "/") × (told.query ≡ None)) → ⊥) × (grants ≡ told))
+    ((told.path ≡ codes "/") × (told.query ≡ None) × (parse_url (Some told) (codes "/grant/v1/grants") ≡ Ok grants))
+    ⊎ ((((told.path ≡ codes "/") × (told.query ≡ None)) → ⊥) × (grants ≡ told))
 
 -- the grants at an address
 abbrev pub AreGrantsAt : List ℕ → Parts → Type 0
@@ -44,7 +46,8 @@ AreGrantsAt address grants = (told : Parts) × TellsOf address told × AreGrants
 -- what a location means beside the grants, whose target is at the same address
 abbrev pub IsLocatedAt : Parts → List ℕ → Parts → Target → Type 0
 IsLocatedAt grants location url target =
-    (parse_url (Some grants) location ≡ Ok url) × ((of : Target) × IsTargetOf grants of × (string_bytes target.address ≡ string_bytes of.address))
+    (parse_url (Some grants) location ≡ Ok url) × ((of : Target)
+    × IsTargetOf grants of × (string_bytes target.address ≡ string_bytes of.address))
 
 -- what is asked of the orchestrator: its grants, or what a location means beside them
 abbrev pub IsAskedAt : Option Parts → Option (List ℕ) → Parts → Target → Type 0

@@ -49,7 +49,9 @@ impl<N: HostNet + Drop, T: Stopwatch + Drop> HttpCaller<N, T> {
     pub fn connect(&mut self, alloc: Global, address: &str) -> bool
         ensures opens { IsTrue result → IsSomeAnd self.new.opened (λ o. string_bytes o.address ≡ address.now) }
         ensures none { result ≡ false → self.new.opened ≡ None }
-        ensures had { N.tells → N.Connection.tells → IfSome self.new.opened (λ o. HadGoneOut N.Connection.outgoing self.old.opened (λ a. offer_of (N.peers self.old.net a)) address.now (N.Connection.outgoing o.connection)) }
+        ensures had { N.tells → N.Connection.tells → IfSome self.new.opened
+            (λ o. HadGoneOut N.Connection.outgoing self.old.opened (λ a. offer_of (N.peers self.old.net a)) address.now
+            (N.Connection.outgoing o.connection)) }
         ensures sends_nothing { self.new.log.sent ≡ self.old.log.sent }
     {
         if let Some(opened) = &self.opened {
@@ -77,7 +79,8 @@ impl<N: HostNet + Drop, T: Stopwatch + Drop> HttpCaller<N, T> {
     pub fn call(&mut self, request: &[u8], limits: Exchange) -> Result<(), Lost>
         requires { limits.silence < 2 ^ 32 }
         ensures heard { OnOk result (IsWholeAnswer self.new.room.bytes.items self.new.reply.heard) }
-        ensures sends { N.Connection.tells → SendsOn N.Connection.outgoing request.now (is_ok result) self.old.opened self.old.log.sent self.new.log.sent }
+        ensures sends { N.Connection.tells → SendsOn N.Connection.outgoing request.now
+            (is_ok result) self.old.opened self.old.log.sent self.new.log.sent }
         ensures closed { self.new.opened ≡ None }
     {
         let Some(mut opened) = self.opened.take() else {

@@ -79,8 +79,12 @@ impl<'a, N: HostNet + Drop, T: Stopwatch + Drop> RealCourier<'a, N, T> {
     /// Posts this body, and gives the status of the answer.
     fn status_of(&mut self, uri: &Line, body: &[u8]) -> Option<u16>
         ensures counts { (self.new.calls ≡ self.old.calls) × (self.new.faults ≡ self.old.faults) }
-        ensures heard { IfSome result (λ status. (answer : Answer) × IsWholeAnswer self.new.caller.room.bytes.items answer × (answer.status ≡ status)) }
-        ensures sends { N.tells → N.Connection.tells → Sends (HadGoneOut N.Connection.outgoing self.old.caller.opened (λ a. offer_of (N.peers self.old.caller.net a))) (λ url _. TellsOf uri.now url) (λ host path. request (codes "POST") host path body.now) (is_some result) self.old.caller.log.sent self.new.caller.log.sent }
+        ensures heard { IfSome result (λ status. (answer : Answer)
+            × IsWholeAnswer self.new.caller.room.bytes.items answer × (answer.status ≡ status)) }
+        ensures sends { N.tells → N.Connection.tells → Sends
+            (HadGoneOut N.Connection.outgoing self.old.caller.opened (λ a. offer_of (N.peers self.old.caller.net a)))
+            (λ url _. TellsOf uri.now url) (λ host path. request (codes "POST") host path body.now)
+            (is_some result) self.old.caller.log.sent self.new.caller.log.sent }
     {
         let Some(target) = target_at(self.alloc, uri) else {
             return None;
@@ -119,9 +123,14 @@ impl<'a, N: HostNet + Drop, T: Stopwatch + Drop> Courier for RealCourier<'a, N, 
 
     fn post(&mut self, uri: &Line, body: &[u8]) -> PostAnswer
         ensures told { ⊥ → Posts uri.now body.now result [] [] }
-        ensures heard { (status : ℕ) → result ≡ PostAnswer.Status status → (answer : Answer) × IsWholeAnswer self.new.caller.room.bytes.items answer × (answer.status ≡ status) }
-        ensures sends { N.tells → N.Connection.tells → Sends (HadGoneOut N.Connection.outgoing self.old.caller.opened (λ a. offer_of (N.peers self.old.caller.net a))) (λ url _. TellsOf uri.now url) (λ host path. request (codes "POST") host path body.now) (was_posted result) self.old.caller.log.sent self.new.caller.log.sent }
-        ensures cause { PostCause result (counted self.old.calls self.old.faults) (counted self.new.calls self.new.faults) }
+        ensures heard { (status : ℕ) → result ≡ PostAnswer.Status status
+            → (answer : Answer) × IsWholeAnswer self.new.caller.room.bytes.items answer × (answer.status ≡ status) }
+        ensures sends { N.tells → N.Connection.tells → Sends
+            (HadGoneOut N.Connection.outgoing self.old.caller.opened (λ a. offer_of (N.peers self.old.caller.net a)))
+            (λ url _. TellsOf uri.now url) (λ host path. request (codes "POST") host path body.now)
+            (was_posted result) self.old.caller.log.sent self.new.caller.log.sent }
+        ensures cause { PostCause result (counted self.old.calls self.old.faults)
+            (counted self.new.calls self.new.faults) }
     {
         count_one(&mut self.calls);
         match self.status_of(uri, body) {

@@ -1,5 +1,6 @@
 //! An orchestrator that is asked over HTTP.
-ghost use Rattle.std.specs.Prelude.{◌≡◌, [], codes, IfOk, IfSome, IsSomeAnd, IsTrue, None, OnErr, OnOk, Some, option_copied, if◌then◌else◌};
+ghost use Rattle.std.specs.Prelude.{◌≡◌, [], codes, IfOk, IfSome, IsSomeAnd, IsTrue, None, OnErr, OnOk, Some};
+ghost use Rattle.std.specs.Prelude.{option_copied, if◌then◌else◌};
 ghost use Rattle.http_client.specs.Requests.{request};
 ghost use Rattle.net_calls.specs.Network.{offer_of};
 ghost use Rattle.url.specs.Parts.{Parts};
@@ -113,7 +114,11 @@ impl<'a, N: HostNet + Drop, T: Stopwatch + Drop> RealOrchestrator<'a, N, T> {
     ) -> bool
         ensures counts { (self.new.calls ≡ self.old.calls) × (self.new.faults ≡ self.old.faults) }
         ensures heard { IsTrue result → IsWholeAnswer self.new.caller.room.bytes.items heard.new }
-        ensures sends { N.tells → N.Connection.tells → Sends (HadGoneOut N.Connection.outgoing self.old.caller.opened (λ a. offer_of (N.peers self.old.caller.net a))) (IsAskedAt self.old.at (option_copied location.entry)) (λ host path. request method.now host path body.now) result self.old.caller.log.sent self.new.caller.log.sent }
+        ensures sends { N.tells → N.Connection.tells → Sends
+            (HadGoneOut N.Connection.outgoing self.old.caller.opened (λ a. offer_of (N.peers self.old.caller.net a)))
+            (IsAskedAt self.old.at (option_copied location.entry))
+            (λ host path. request method.now host path body.now) result self.old.caller.log.sent
+            self.new.caller.log.sent }
     {
         let Some(target) = target_at(self.alloc, &self.at, location) else {
             return false;
@@ -159,7 +164,8 @@ fn grants_of(told: Url) -> Result<Url, TargetFault>
 
 /// The target of a request to the orchestrator: that of the grants, or of this location.
 fn target_at(alloc: Global, at: &Option<Url>, location: Option<&Line>) -> Option<Target>
-    ensures { IfSome result (λ target. (url : Parts) × IsAskedAt at.now (option_copied location.entry) url target × IsTargetOf url target) }
+    ensures { IfSome result (λ target. (url : Parts) × IsAskedAt at.now (option_copied location.entry) url target
+        × IsTargetOf url target) }
 {
     let grants = at.as_ref()?;
     match location {
@@ -170,7 +176,8 @@ fn target_at(alloc: Global, at: &Option<Url>, location: Option<&Line>) -> Option
 
 /// The target of this location beside the grants, which has to be at the same address.
 fn target_beside(alloc: Global, grants: &Url, location: &Line) -> Option<Target>
-    ensures { IfSome result (λ target. (url : Parts) × IsLocatedAt grants.now location.now url target × IsTargetOf url target) }
+    ensures { IfSome result (λ target. (url : Parts) × IsLocatedAt grants.now location.now url target
+        × IsTargetOf url target) }
 {
     let Ok(of_grants) = target_of(alloc, grants) else {
         return None;
@@ -200,8 +207,12 @@ impl<'a, N: HostNet + Drop, T: Stopwatch + Drop> Orchestrator for RealOrchestrat
     fn ask(&mut self, body: &[u8], heard: &mut Heard) -> Call
         ensures told { ⊥ → Asks body.now heard.new result silent silent }
         ensures heard { result ≡ Call.Came → IsWholeAnswer self.new.caller.room.bytes.items heard.new }
-        ensures sends { N.tells → N.Connection.tells → Sends (HadGoneOut N.Connection.outgoing self.old.caller.opened (λ a. offer_of (N.peers self.old.caller.net a))) (IsAskedAt self.old.at None) (λ host path. request (codes "POST") host path body.now) (has_come result) self.old.caller.log.sent self.new.caller.log.sent }
-        ensures cause { CallCause result (counted self.old.calls self.old.faults) (counted self.new.calls self.new.faults) }
+        ensures sends { N.tells → N.Connection.tells → Sends
+            (HadGoneOut N.Connection.outgoing self.old.caller.opened (λ a. offer_of (N.peers self.old.caller.net a)))
+            (IsAskedAt self.old.at None) (λ host path. request (codes "POST") host path body.now)
+            (has_come result) self.old.caller.log.sent self.new.caller.log.sent }
+        ensures cause { CallCause result (counted self.old.calls self.old.faults)
+            (counted self.new.calls self.new.faults) }
     {
         count_one(&mut self.calls);
         if self.request(&Method::POST, None, body, heard) {
@@ -215,8 +226,12 @@ impl<'a, N: HostNet + Drop, T: Stopwatch + Drop> Orchestrator for RealOrchestrat
     fn poll(&mut self, location: &Line, heard: &mut Heard) -> Call
         ensures told { ⊥ → Polls location.now heard.new result silent silent }
         ensures heard { result ≡ Call.Came → IsWholeAnswer self.new.caller.room.bytes.items heard.new }
-        ensures sends { N.tells → N.Connection.tells → Sends (HadGoneOut N.Connection.outgoing self.old.caller.opened (λ a. offer_of (N.peers self.old.caller.net a))) (IsAskedAt self.old.at (Some location.now)) (λ host path. request (codes "GET") host path []) (has_come result) self.old.caller.log.sent self.new.caller.log.sent }
-        ensures cause { CallCause result (counted self.old.calls self.old.faults) (counted self.new.calls self.new.faults) }
+        ensures sends { N.tells → N.Connection.tells → Sends
+            (HadGoneOut N.Connection.outgoing self.old.caller.opened (λ a. offer_of (N.peers self.old.caller.net a)))
+            (IsAskedAt self.old.at (Some location.now)) (λ host path. request (codes "GET") host path [])
+            (has_come result) self.old.caller.log.sent self.new.caller.log.sent }
+        ensures cause { CallCause result (counted self.old.calls self.old.faults)
+            (counted self.new.calls self.new.faults) }
     {
         count_one(&mut self.calls);
         note_asked(self.pulse);

@@ -63,7 +63,8 @@ nothing_refused_waits bytes b (inr (inr target)) x = elim (stops_two_ways bytes 
 
 -- ---- the same of what came out of the intake, which the wire holds
 
-held_by : (a : IntakeState) (w : WireState) (answer : Result Taken WireFault) → a ≡ w.intake → IsExact (bytes_of a) answer → IsExact (bytes_of w.intake) answer
+held_by : (a : IntakeState) (w : WireState) (answer : Result Taken WireFault) → a ≡ w.intake → IsExact (bytes_of a) answer
+    → IsExact (bytes_of w.intake) answer
 held_by a w answer is exact = subst (λ (i : IntakeState). IsExact (bytes_of i) answer) is exact
 
 pub some_came : (tells : Type 0) (at_last : Bool) (a b : IntakeState) (w : WireState) (found : Option Request) (r : Request) → a ≡ w.intake

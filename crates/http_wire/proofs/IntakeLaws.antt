@@ -1,5 +1,6 @@
 -- Laws on reading.
-use Rattle.std.proofs.Common.{◌≡◌, ℕ, ◌≤◌, List, [], ◌++◌, length, take, drop, refl, sym, ap, ◌∙◌, subst, arith, append_assoc, append-nil, length-append}
+use Rattle.std.proofs.Common.{◌≡◌, ℕ, ◌≤◌, List, [], ◌++◌, length, take, drop, refl, sym, ap, ◌∙◌, subst, arith, append_assoc, append-nil}
+use Rattle.std.proofs.Common.{length-append}
 use Rattle.std.proofs.lemmas.List.{take_at, take-append-drop, length-take-le}
 use Rattle.site_traits.specs.Counts.{Rose, one_more}
 use Rattle.site_traits.specs.Door.{DoorState, DoorCounts, Gets}
@@ -16,7 +17,8 @@ got_reads n before after a b gets =
       answers = gets.conn.answers;
       past = gets.conn.past;
       bytes = ap (λ x. x.bytes) gets.conn.conn;
-      left = sym (take-append-drop n a.conn.left) ∙ ap (λ x. x ++ drop n a.conn.left) (sym front) ∙ ap (λ x. take n after ++ x) (sym (ap (λ x. x.left) gets.conn.conn));
+      left = sym (take-append-drop n a.conn.left) ∙ ap (λ x. x ++ drop n a.conn.left) (sym front)
+          ∙ ap (λ x. take n after ++ x) (sym (ap (λ x. x.left) gets.conn.conn));
       out = ap (λ x. x.out) gets.conn.conn;
       write_failed = ap (λ x. x.write_failed) gets.conn.conn;
       hung_up = ap (λ x. x.hung_up) gets.conn.conn;
@@ -38,7 +40,14 @@ reads_on x y a b c f s = record {
 
 -- nothing was read
 pub takes_none : (tells : Type 0) (a : IntakeState) → TakesIn tells a a
-takes_none tells a = record { more = []; held = sym (append-nil a.held); door = λ t. reads_none a.door; counts = record { faults = omega arith; next = refl; up = refl }; writes = refl }
+takes_none tells a = record {
+  more = [];
+  held = sym (append-nil a.held);
+  door = λ t. reads_none a.door;
+  counts =
+      record { faults = omega arith; next = refl; up = refl };
+  writes = refl;
+}
 
 -- one reading behind the other
 pub takes_on : (tells : Type 0) (a b c : IntakeState) → TakesIn tells a b → TakesIn tells b c → TakesIn tells a c
@@ -46,7 +55,12 @@ takes_on tells a b c f s = record {
   more = f.more ++ s.more;
   held = s.held ∙ ap (λ x. x ++ s.more) f.held ∙ append_assoc a.held f.more s.more;
   door = λ t. reads_on f.more s.more a.door b.door c.door (f.door t) (s.door t);
-  counts = record { faults = omega (arith, f.counts.faults, s.counts.faults); next = s.counts.next ∙ f.counts.next; up = s.counts.up ∙ f.counts.up };
+  counts = record {
+    faults = omega (arith, f.counts.faults, s.counts.faults);
+    next = s.counts.next ∙ f.counts.next;
+    up =
+        s.counts.up ∙ f.counts.up;
+  };
   writes = s.writes ∙ f.writes;
 }
 

@@ -1,6 +1,8 @@
 -- Laws on taking a request out of the bytes of a connection.
-use Rattle.std.proofs.Common.{◌≡◌, ℕ, ◌+◌, ◌-◌, ◌<◌, ◌≤◌, List, [], ◌∷◌, ◌++◌, length, take, drop, min, refl, sym, ap, ◌∙◌, subst, inl, ◌⊎◌, arith, append_assoc, append-nil, length-append}
-use Rattle.std.proofs.lemmas.List.{drop-drop, length-take, take-append-drop, take_all, length-take-le, length-drop, drop-append-le, nil_from_length, take_min, take-append-le}
+use Rattle.std.proofs.Common.{◌≡◌, ℕ, ◌+◌, ◌-◌, ◌<◌, ◌≤◌, List, [], ◌∷◌, ◌++◌, length, take, drop, min, refl, sym, ap, ◌∙◌, subst, inl, ◌⊎◌}
+use Rattle.std.proofs.Common.{arith, append_assoc, append-nil, length-append}
+use Rattle.std.proofs.lemmas.List.{drop-drop, length-take, take-append-drop, take_all, length-take-le, length-drop, drop-append-le}
+use Rattle.std.proofs.lemmas.List.{nil_from_length, take_min, take-append-le}
 use Rattle.httparse.specs.Grammar.{print_request}
 use Rattle.http_frames.specs.declared.TheConstants.{HEAD_BYTES, CHUNKED_BYTES, BODY_BYTES}
 use Rattle.http_frames.specs.declared.framing.Frame.{Frame}
@@ -55,7 +57,8 @@ lines_stay tells a b r t known = (
   omega (arith, known.0, ap length t.held, length-append a.held t.more),
   elim known.1 [
     | inl none ↦ inl none
-    | inr lines ↦ inr (subst (λ (x : List ℕ). AreWholeLines x) (sym (ap (take r.passed) t.held ∙ take-append-le r.passed a.held t.more known.0)) lines)
+    | inr lines ↦ inr (subst (λ (x : List ℕ). AreWholeLines x) (sym
+        (ap (take r.passed) t.held ∙ take-append-le r.passed a.held t.more known.0)) lines)
   ],
 )
 
@@ -93,14 +96,16 @@ sized_is_cut held p n h is missing =
     (omega (arith, h.within, length-drop p.len held))
 
 -- a body of which less is held than was announced needs more
-pub sized_needs_more : (held : List ℕ) (p : HeadParts) (n : ℕ) → HasHead held p → p.body ≡ body.Sized n → length held < p.len + n → NeedsMore held
+pub sized_needs_more : (held : List ℕ) (p : HeadParts) (n : ℕ) → HasHead held p → p.body ≡ body.Sized n → length held < p.len + n
+    → NeedsMore held
 sized_needs_more held p n h is missing = inr (inl (sized_is_cut held p n h is missing))
 
 pub sized_breaks_off : (b : IntakeState) (p : HeadParts) (n : ℕ) → HasHead b.held p → p.body ≡ body.Sized n → length b.held < p.len + n
     → b.door.conn.left ≡ [] → IsCut (bytes_of b) ⊎ StopsInTarget (bytes_of b)
 sized_breaks_off b p n h is missing e = inl (subst (λ (x : List ℕ). IsCut x) (sym (all_held b e)) (sized_is_cut b.held p n h is missing))
 
-pub sized_has_none : (held : List ℕ) (p : HeadParts) (n : ℕ) → HasHead held p → p.body ≡ body.Sized n → length held < p.len + n → HasNoMessage held
+pub sized_has_none : (held : List ℕ) (p : HeadParts) (n : ℕ) → HasHead held p → p.body ≡ body.Sized n → length held < p.len + n
+    → HasNoMessage held
 sized_has_none held p n h is missing = (sized_is_cut held p n h is missing).not_whole
 
 pub sized_body : (held : List ℕ) (len n : ℕ) → len + n ≤ length held
@@ -113,7 +118,8 @@ sized_body held len n within =
           ∙ ap (λ x. take (len + n - len) (drop len held) ++ x) (drop-drop n len held),
     )
 
-pub sized_held : (held : List ℕ) (p : HeadParts) (n end : ℕ) (content : List ℕ) → p.body ≡ body.Sized n → end ≡ p.len + n → end ≤ length held
+pub sized_held : (held : List ℕ) (p : HeadParts) (n end : ℕ) (content : List ℕ) → p.body ≡ body.Sized n → end ≡ p.len + n
+    → end ≤ length held
     → content ≡ take (end - p.len) (drop p.len held)
     → HasBody (frame_as p.body) (drop p.len held) content (drop end held) × (end ≤ length held)
 sized_held held p n end content is place within items = (
@@ -135,21 +141,25 @@ window_min n tail = ap (λ k. take k tail) (min_swap (length tail) n) ∙ take_m
 short_head : (held : List ℕ) (p : HeadParts) (h : HasHead held p) → length (print_request h.head) ≤ HEAD_BYTES
 short_head held p h = omega (arith, h.len, h.short)
 
-pub chunked_breaks : (b : IntakeState) (p : HeadParts) → HasHead b.held p → p.body ≡ body.Chunked → ChunksBad 0 (window b.held p) → BeginsBad (bytes_of b)
+pub chunked_breaks : (b : IntakeState) (p : HeadParts) → HasHead b.held p → p.body ≡ body.Chunked → ChunksBad 0 (window b.held p)
+    → BeginsBad (bytes_of b)
 chunked_breaks b p h is bad = bad_grows b.held b.door.conn.left
-    (chunked_bad b.held h.head (drop p.len b.held) h.reads (short_head b.held p h) h.few (sym h.body ∙ ap frame_as is) CHUNKED_BYTES (omega arith) bad)
+    (chunked_bad b.held h.head (drop p.len b.held) h.reads (short_head b.held p h) h.few (sym h.body ∙ ap frame_as is) CHUNKED_BYTES
+    (omega arith) bad)
 
 pub chunked_overflows : (b : IntakeState) (p : HeadParts) → HasHead b.held p → p.body ≡ body.Chunked → ChunksMuch 0 (window b.held p)
     → BeginsBig (bytes_of b) ⊎ IsLongTarget (bytes_of b)
 chunked_overflows b p h is much = inl (big_grows b.held b.door.conn.left
     (chunked_much b.held h.head (drop p.len b.held) h.reads (short_head b.held p h) h.few (sym h.body ∙ ap frame_as is) CHUNKED_BYTES much))
 
-pub chunked_goes_on : (b : IntakeState) (p : HeadParts) → HasHead b.held p → p.body ≡ body.Chunked → CHUNKED_BYTES < length (drop p.len b.held)
+pub chunked_goes_on : (b : IntakeState) (p : HeadParts) → HasHead b.held p → p.body ≡ body.Chunked
+    → CHUNKED_BYTES < length (drop p.len b.held)
     → ChunksCut 0 (window b.held p) → BeginsBig (bytes_of b) ⊎ IsLongTarget (bytes_of b)
 chunked_goes_on b p h is over cut = inl (big_grows b.held b.door.conn.left
     (chunked_long b.held h.head (drop p.len b.held) h.reads (short_head b.held p h) h.few (sym h.body ∙ ap frame_as is) over cut))
 
-chunked_is_cut : (n : ℕ) → n ≤ CHUNKED_BYTES → (held : List ℕ) (p : HeadParts) → HasHead held p → p.body ≡ body.Chunked → length (drop p.len held) ≤ n
+chunked_is_cut : (n : ℕ) → n ≤ CHUNKED_BYTES → (held : List ℕ) (p : HeadParts) → HasHead held p → p.body ≡ body.Chunked
+    → length (drop p.len held) ≤ n
     → ChunksCut 0 (take n (drop p.len held)) → IsCut held
 chunked_is_cut n limit held p h is fits cut =
     chunked_cut held h.head (drop p.len held) h.reads (short_head held p h) h.few (sym h.body ∙ ap frame_as is) (omega arith)
@@ -207,7 +217,8 @@ pub request_held : (b : IntakeState) (p : HeadParts) (content : List ℕ) (end :
     → HasBody (frame_as p.body) (drop p.len b.held) content (drop end b.held)
     → ReadsMessage (bytes_of b) (record { head = h.head; body = content }) (drop end b.held ++ b.door.conn.left)
 request_held b p content end h has =
-    message_more b.held (record { head = h.head; body = content }) (drop end b.held) b.door.conn.left (held_request b.held p content end h has)
+    message_more b.held (record { head = h.head; body = content }) (drop end b.held) b.door.conn.left
+    (held_request b.held p content end h has)
 
 -- what a fault says of the bytes and of the counts, where none was counted before it
 pub fault_since : (tells : Type 0) (a m b : IntakeState) (f : WireFault) → m.counts ≡ a.counts → FaultIs tells m b f → FaultIs tells a b f
@@ -226,10 +237,12 @@ wants_to_read a b same needs = subst (λ (i : IntakeState). WantsMemory i.held) 
 -- for a whole request
 pub wants_request : (held : List ℕ) (p : HeadParts) (content : List ℕ) (end : ℕ) → HasHead held p
     → HasBody (frame_as p.body) (drop p.len held) content (drop end held) → WantsMemory held
-wants_request held p content end h has = for_request (record { head = h.head; body = content }) (drop end held) (held_request held p content end h has)
+wants_request held p content end h has = for_request (record { head = h.head; body = content }) (drop end held)
+    (held_request held p content end h has)
 
 -- for whole chunks
-pub wants_chunks : (held : List ℕ) (p : HeadParts) (taken : ℕ) → HasHead held p → p.body ≡ body.Chunked → HasMoreChunks (window held p) taken → WantsMemory held
+pub wants_chunks : (held : List ℕ) (p : HeadParts) (taken : ℕ) → HasHead held p → p.body ≡ body.Chunked
+    → HasMoreChunks (window held p) taken → WantsMemory held
 wants_chunks held p taken h is more = for_chunks p h is (more.0, more.1, more.2, omega (arith, more.3))
 
 pub chunked_held : (held : List ℕ) (p : HeadParts) (n : ℕ) (content : List ℕ) → HasHead held p → p.body ≡ body.Chunked
@@ -239,7 +252,8 @@ chunked_held held p n content h is v =
     let whole = chunked_whole held p n content h v.0 v.1 v.2 in
     (subst (λ (f : Frame). HasBody f (drop p.len held) content (drop (p.len + n) held)) (sym (ap frame_as is)) whole.0, whole.1)
 
-pub chunked_end_fits : (held : List ℕ) (p : HeadParts) (n : ℕ) → HasHead held p → n ≤ length (window held p) → p.len + n ≤ HEAD_BYTES + CHUNKED_BYTES
+pub chunked_end_fits : (held : List ℕ) (p : HeadParts) (n : ℕ) → HasHead held p → n ≤ length (window held p)
+    → p.len + n ≤ HEAD_BYTES + CHUNKED_BYTES
 chunked_end_fits held p n h within = at CHUNKED_BYTES within
   where
     at : (k : ℕ) → n ≤ length (take k (drop p.len held)) → p.len + n ≤ HEAD_BYTES + k

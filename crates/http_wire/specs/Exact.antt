@@ -19,8 +19,8 @@ said_by (Err fault.Unfinished) = Some begins.cut
 said_by (Err fault.Read) = None
 said_by (Err fault.Memory) = None
 
--- What may be said of bytes that are bad but that: inside a request target alone, that they are cut where they stop in it and are no
--- more than a head may have, and that they are big where as many stop in it and more follow (own rule).
+-- What may be said of bytes that are bad but that: inside a request target alone, that they are cut where they stop in
+-- it and are no more than a head may have, and that they are big where as many stop in it and more follow (own rule).
 abbrev pub IsExcused : List ℕ → Beginning → Type 0
 IsExcused bytes begins.whole = ⊥
 IsExcused bytes begins.none = ⊥
@@ -32,12 +32,14 @@ IsExcused bytes begins.big = IsLongTarget bytes
 abbrev pub MaySay : List ℕ → Beginning → Beginning → Type 0
 MaySay bytes beginning said = (said ≡ beginning) ⊎ ((beginning ≡ begins.bad) × IsExcused bytes said)
 
--- Each answer comes exactly where the bytes begin with what it says: whatever they begin with, the answer says that, but where
--- a read failed, where there was no memory, and where bad bytes stop in a request target (own rule).
+-- Each answer comes exactly where the bytes begin with what it says: whatever they begin with, the answer says that,
+-- but where a read failed, where there was no memory, and where bad bytes stop in a request target (own rule).
 abbrev pub IsExact : List ℕ → Result Taken WireFault → Type 0
-IsExact bytes answer = (beginning : Beginning) → BeginsWith bytes beginning → IfSome (said_by answer) (MaySay bytes beginning)
+IsExact bytes answer = (beginning : Beginning) → BeginsWith bytes beginning
+    → IfSome (said_by answer) (MaySay bytes beginning)
 
--- what bytes begin with that need more: nothing, a part of a request, or, where they stop in a request target, bad bytes
+-- what bytes begin with that need more: nothing, a part of a request, or, where they stop in a request target, bad
+-- bytes
 abbrev pub MayWait : List ℕ → Beginning → Type 0
 MayWait bytes begins.whole = ⊥
 MayWait bytes begins.none = Unit {0}
@@ -47,4 +49,5 @@ MayWait bytes begins.big = ⊥
 
 -- nothing that is whole or refused waits for more bytes, but bad bytes that stop in a request target (own rule)
 abbrev pub NothingRefusedWaits : Type 0
-NothingRefusedWaits = (bytes : List ℕ) (beginning : Beginning) → NeedsMore bytes → BeginsWith bytes beginning → MayWait bytes beginning
+NothingRefusedWaits = (bytes : List ℕ) (beginning : Beginning) → NeedsMore bytes → BeginsWith bytes beginning
+    → MayWait bytes beginning

@@ -18,8 +18,15 @@ abbrev pub state_of : DoorState → DoorCounts → WriteCounts → List ℕ → 
 state_of door counts writes held = record { door = door; counts = counts; writes = writes; held = held }
 
 -- the state once the door is this one
-abbrev pub with_door : {D : Type 0} → (D → DoorState) → (D → DoorCounts) → (D → WriteCounts) → IntakeState → D → IntakeState
-with_door state counts writes i door = record { door = state door; counts = counts door; writes = writes door; held = i.held }
+abbrev pub with_door : {D : Type 0} → (D → DoorState) → (D → DoorCounts) → (D → WriteCounts) → IntakeState → D
+    → IntakeState
+with_door state counts writes i door = record {
+  door = state door;
+  counts = counts door;
+  writes = writes door;
+  held =
+      i.held;
+}
 
 -- the door read these bytes, and nothing else happened at it but that a read may have failed (own rule)
 pub record OnlyReads (read : List ℕ) (a b : DoorState) : Type 0 where
@@ -39,8 +46,9 @@ pub record TakesIn (tells : Type 0) (a b : IntakeState) : Type 0 where
   pub counts : NoNextFault a.counts b.counts
   pub writes : b.writes ≡ a.writes
 
--- More bytes are needed to say what these begin with: there are none, or they are a part of a request, or they are no more than
--- a head may have and stop in a request target, where the grammar tells only at its end whether it can go on (own rule).
+-- More bytes are needed to say what these begin with: there are none, or they are a part of a request, or they are no
+-- more than a head may have and stop in a request target, where the grammar tells only at its end whether it can go on
+-- (own rule).
 abbrev pub NeedsMore : List ℕ → Type 0
 NeedsMore bytes = (bytes ≡ []) ⊎ (IsCut bytes ⊎ StopsInTarget bytes)
 

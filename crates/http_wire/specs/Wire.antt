@@ -1,5 +1,6 @@
 -- The requests of a connection's bytes, taken one by one.
-use Rattle.std.specs.Prelude.{◌≡◌, ◌≤◌, ◌+◌, ◌==◌, ◌||◌, ◌⊎◌, ℕ, Bool, true, false, List, [], ◌++◌, length, take, drop, Option, Some, None, option_map, Result, Ok, Err}
+use Rattle.std.specs.Prelude.{◌≡◌, ◌≤◌, ◌+◌, ◌==◌, ◌||◌, ◌⊎◌, ℕ, Bool, true, false, List, [], ◌++◌, length, take, drop}
+use Rattle.std.specs.Prelude.{Option, Some, None, option_map, Result, Ok, Err}
 use Rattle.http_frames.specs.declared.TheConstants.{CHUNKED_BYTES}
 use Rattle.httparse.specs.Spans.{span_bytes}
 use Rattle.site_traits.specs.Counts.{Rose}
@@ -9,7 +10,8 @@ use Rattle.http_frames.specs.declared.head.HeadParts.{HeadParts}
 use Rattle.http_frames.specs.Framing.{fields_of, media, closes}
 use Rattle.http_frames.specs.Heads.{HasHead, frame_as}
 use Rattle.http_frames.specs.Steps.{HasMoreChunks}
-use Rattle.http_frames.specs.Messages.{Message, HasBody, ReadsMessage, HasNoMessage, BeginsBad, BeginsBig, IsCut, StopsInTarget, IsLongTarget}
+use Rattle.http_frames.specs.Messages.{Message, HasBody, ReadsMessage, HasNoMessage, BeginsBad, BeginsBig, IsCut}
+use Rattle.http_frames.specs.Messages.{StopsInTarget, IsLongTarget}
 use Rattle.http_wire.specs.declared.TheConstants.{CONNECTION_REQUESTS}
 use Rattle.http_wire.specs.declared.request.Request.{Request}
 use Rattle.http_wire.specs.declared.request.Taken.{Taken}
@@ -37,15 +39,17 @@ bytes_of i = i.held ++ i.door.conn.left
 abbrev pub window : List ℕ → HeadParts → List ℕ
 window held p = take CHUNKED_BYTES (drop p.len held)
 
--- What memory is wanted for, by the bytes that are held: to read on where more bytes are needed, to keep whole chunks, or for a whole
--- request. So bytes that break the grammar or pass a limit are told as that, but behind a whole chunk that can't be kept (own rule).
+-- What memory is wanted for, by the bytes that are held: to read on where more bytes are needed, to keep whole chunks,
+-- or for a whole request. So bytes that break the grammar or pass a limit are told as that, but behind a whole chunk
+-- that can't be kept (own rule).
 pub data WantsMemory (held : List ℕ) : Type 0 where
   to_read_on : NeedsMore held → WantsMemory held
-  for_chunks : (p : HeadParts) → HasHead held p → p.body ≡ framing.Chunked → HasMoreChunks (window held p) 0 → WantsMemory held
+  for_chunks : (p : HeadParts) → HasHead held p → p.body ≡ framing.Chunked → HasMoreChunks (window held p) 0
+      → WantsMemory held
   for_request : (m : Message) (rest : List ℕ) → ReadsMessage held m rest → WantsMemory held
 
--- What the bytes of the connection are, by the fault. The one place where the pieces may show is where they stop in a request target
--- and are no more than a head may have, or where as many stop in one and more follow (own rule).
+-- What the bytes of the connection are, by the fault. The one place where the pieces may show is where they stop in a
+-- request target and are no more than a head may have, or where as many stop in one and more follow (own rule).
 abbrev pub FaultIs : Type 0 → IntakeState → IntakeState → WireFault → Type 0
 FaultIs tells a b fault.Malformed = tells → BeginsBad (bytes_of b)
 FaultIs tells a b fault.TooLarge = tells → BeginsBig (bytes_of b) ⊎ IsLongTarget (bytes_of b)
@@ -79,10 +83,12 @@ SizedCame tells a b due (Err f) = FaultIs tells a b f
 
 -- the body behind a head and where it ends, by the answer
 abbrev pub BodyCame : Type 0 → IntakeState → IntakeState → HeadParts → Result Whole WireFault → Type 0
-BodyCame tells a b p (Ok w) = HasBody (frame_as p.body) (drop p.len b.held) w.body.items (drop w.end b.held) × (w.end ≤ length b.held)
+BodyCame tells a b p (Ok w) = HasBody (frame_as p.body) (drop p.len b.held) w.body.items (drop w.end b.held)
+    × (w.end ≤ length b.held)
 BodyCame tells a b p (Err f) = FaultIs tells a b f
 
--- The request has these parts of the bytes that begin with the head. It is the last one where it asks so or stands at the last place.
+-- The request has these parts of the bytes that begin with the head. It is the last one where it asks so or stands at
+-- the last place.
 pub record HasParts (held : List ℕ) (p : HeadParts) (content : List ℕ) (at_last : Bool) (r : Request) : Type 0 where
   pub method : r.method ≡ span_bytes held p.method
   pub target : r.target ≡ span_bytes held p.target
@@ -132,5 +138,6 @@ pub record TakesNone (tells : Type 0) (a b : WireState) : Type 0 where
 -- What was taken, by the answer. There is no request behind the connection's last one.
 abbrev pub TakenIs : Type 0 → WireState → WireState → Result Taken WireFault → Type 0
 TakenIs tells a b (Ok (taken.Request r)) = Counts tells a b r
-TakenIs tells a b (Ok taken.End) = TakesNone tells a b × ((a.ended ≡ true) ⊎ ((a.ended ≡ false) × (tells → bytes_of a.intake ≡ [])))
+TakenIs tells a b (Ok taken.End) = TakesNone tells a b
+    × ((a.ended ≡ true) ⊎ ((a.ended ≡ false) × (tells → bytes_of a.intake ≡ [])))
 TakenIs tells a b (Err f) = TakesNone tells a b × (a.ended ≡ false) × FaultIs tells a.intake b.intake f

@@ -41,7 +41,13 @@ impl<D: Door> Model for Intake<D> {
 
     ghost Value = { IntakeState };
 
-    ghost view = { λ i. record { door = D.state i.door; counts = D.counts i.door; writes = D.writes i.door; held = drop i.passed i.bytes.items } };
+    ghost view = { λ i. record {
+      door = D.state i.door;
+      counts = D.counts i.door;
+      writes = D.writes i.door;
+      held =
+          drop i.passed i.bytes.items;
+    } };
 
     ghost invariant = { λ i. (i.passed ≤ length i.bytes.items) × (1 ≤ length i.piece.items) };
 }
@@ -62,7 +68,8 @@ impl<D: Door> Intake<D> {
     pub fn new(alloc: Global, door: D) -> Result<Intake<D>, AllocError>
     where
         D: Drop,
-        ensures { IfOk result (λ i. (i.door ≡ D.state door) × (i.counts ≡ D.counts door) × (i.writes ≡ D.writes door) × (i.held ≡ [])) }
+        ensures { IfOk result (λ i. (i.door ≡ D.state door) × (i.counts ≡ D.counts door) × (i.writes ≡ D.writes door)
+            × (i.held ≡ [])) }
     {
         let mut piece = Vec::with_capacity(alloc, PIECE_BYTES)?;
         piece.resize(PIECE_BYTES, 0)?;
@@ -85,7 +92,8 @@ impl<D: Door> Intake<D> {
 
     /// The door, to do something else with it than read.
     pub fn door_mut(&mut self) -> &mut D
-        ensures* writes_back { sem 𝓛 (Lends (the_row D.row D.Door) D.row self.entry result (with_door D.state D.counts D.writes self.old)) }
+        ensures* writes_back { sem 𝓛 (Lends (the_row D.row D.Door) D.row self.entry result
+            (with_door D.state D.counts D.writes self.old)) }
         ensures state { D.state result.now ≡ self.old.door }
         ensures counts { D.counts result.now ≡ self.old.counts }
         ensures writes { D.writes result.now ≡ self.old.writes }
@@ -122,8 +130,8 @@ impl<D: Door> Intake<D> {
         self.passed = 0;
     }
 
-    /// Reads once, where more bytes are needed to say what those that are held begin with. Nothing else reads from the door.
-    /// After `AllocError` nothing was read.
+    /// Reads once, where more bytes are needed to say what those that are held begin with. Nothing else reads from the
+    /// door. After `AllocError` nothing was read.
     pub fn read_on(&mut self) -> Result<Came, AllocError>
         requires needs { NeedsMore self.old.held }
         requires up { self.old.counts.up ≡ true }
@@ -151,9 +159,11 @@ fn read_into<D: Door>(door: &mut D, piece: &mut [u8], bytes: &mut Vec<u8>) -> Ca
     requires piece { 1 ≤ length piece.old }
     requires room { vec_len bytes.old + length piece.old ≤ vec_capacity bytes.old }
     requires up { (D.counts door.old).up ≡ true }
-    ensures takes { TakesIn D.tells (state_of (D.state door.old) (D.counts door.old) (D.writes door.old) bytes.old.items)
+    ensures takes { TakesIn D.tells (state_of (D.state door.old) (D.counts door.old)
+        (D.writes door.old) bytes.old.items)
         (state_of (D.state door.new) (D.counts door.new) (D.writes door.new) bytes.new.items) }
-    ensures came { CameIs D.tells (Ok result) (state_of (D.state door.old) (D.counts door.old) (D.writes door.old) bytes.old.items)
+    ensures came { CameIs D.tells (Ok result) (state_of (D.state door.old) (D.counts door.old)
+        (D.writes door.old) bytes.old.items)
         (state_of (D.state door.new) (D.counts door.new) (D.writes door.new) bytes.new.items) }
 {
     match door.read(piece) {

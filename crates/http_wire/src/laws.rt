@@ -4,8 +4,8 @@ ghost use Rattle.http_wire.specs.Exact.{NothingRefusedWaits};
 
 use crate::CONNECTION_REQUESTS;
 
-/// Bytes that wait for more are no whole request and pass no limit, and they are malformed at most where they stop in a request
-/// target within the first 16,384 bytes.
+/// Bytes that wait for more are no whole request and pass no limit, and they are malformed at most where they stop in a
+/// request target within the first 16,384 bytes.
 ///
 /// Source: own rule.
 pub fn nothing_refused_waits()

@@ -5,7 +5,8 @@ ghost use Rattle.http_frames.specs.declared.head.Body.TheVariants as bodies;
 ghost use Rattle.http_frames.specs.Heads.{HasHead};
 ghost use Rattle.http_frames.specs.Steps.{HasDecoded, HasMoreChunks, DecodedIs};
 ghost use Rattle.http_wire.specs.Intake.{TakesIn};
-ghost use Rattle.http_wire.specs.Wire.{OnlyTakesIn, RequestCame, HeadCame, SizedCame, BodyCame, HasParts, ReadCounts, window};
+ghost use Rattle.http_wire.specs.Wire.{OnlyTakesIn, RequestCame, HeadCame, SizedCame, BodyCame, HasParts, ReadCounts};
+ghost use Rattle.http_wire.specs.Wire.{window};
 
 use crate::intake::{Came, Intake};
 use crate::request::{Request, WireFault};
@@ -26,8 +27,8 @@ pub struct Whole {
     pub end: usize,
 }
 
-/// Takes the first request out of the bytes of the connection, reading on as far as it needs. `at_last` is whether it is the
-/// connection's last one whatever it says.
+/// Takes the first request out of the bytes of the connection, reading on as far as it needs. `at_last` is whether it
+/// is the connection's last one whatever it says.
 pub fn take<D: Door>(
     alloc: Global,
     intake: &mut Intake<D>,
@@ -204,7 +205,8 @@ fn front(tail: &[u8]) -> &[u8]
     &tail[..tail.len().min(CHUNKED_BYTES)]
 }
 
-/// The request of these parts of the bytes that are held. It fails where there is no memory for a part, and nowhere else.
+/// The request of these parts of the bytes that are held. It fails where there is no memory for a part, and nowhere
+/// else.
 fn request_of(
     alloc: Global,
     held: &[u8],

@@ -17,8 +17,8 @@ use std::marker::Model;
 
 /// A door, and the requests of its connection.
 ///
-/// A contract sees what the door tells, its counts, the bytes that were read and belong to no request yet, the number of
-/// requests so far, and whether the last of them was the connection's last.
+/// A contract sees what the door tells, its counts, the bytes that were read and belong to no request yet, the number
+/// of requests so far, and whether the last of them was the connection's last.
 pub struct Wire<D: Door> {
     intake: Intake<D>,
     room: Vec<HeaderSpan>,
@@ -48,7 +48,8 @@ impl<D: Door> Model for Wire<D> {
 
     ghost view = { λ w. record { intake = w.intake; taken = w.taken; ended = w.ended } };
 
-    ghost invariant = { λ w. (FIELD_ROOM ≤ length w.room.items) × (w.taken ≤ CONNECTION_REQUESTS) × (w.ended ≡ false → w.taken < CONNECTION_REQUESTS) };
+    ghost invariant = { λ w. (FIELD_ROOM ≤ length w.room.items) × (w.taken ≤ CONNECTION_REQUESTS)
+        × (w.ended ≡ false → w.taken < CONNECTION_REQUESTS) };
 }
 
 impl<D: Door> Wire<D> {
@@ -87,7 +88,8 @@ impl<D: Door> Wire<D> {
 
     /// The door, to wait for a connection, to write, or to hang up. What is read from it here is lost to the wire.
     pub fn door_mut(&mut self) -> &mut D
-        ensures* writes_back { sem 𝓛 (Lends (the_row D.row D.Door) D.row self.entry result (over_door D.state D.counts D.writes self.old)) }
+        ensures* writes_back { sem 𝓛 (Lends (the_row D.row D.Door) D.row self.entry result
+            (over_door D.state D.counts D.writes self.old)) }
         ensures state { D.state result.now ≡ self.old.intake.door }
         ensures counts { D.counts result.now ≡ self.old.intake.counts }
         ensures writes { D.writes result.now ≡ self.old.intake.writes }
@@ -109,9 +111,9 @@ impl<D: Door> Wire<D> {
         self.ended = false;
     }
 
-    /// Takes the next request of the connection, reading as little as it needs: a read begins only where the bytes that are held
-    /// are none, or a part of a request, or stop inside a request target (the condition of `Intake::read_on`, the one call
-    /// that reads), and none begins behind the connection's last request.
+    /// Takes the next request of the connection, reading as little as it needs: a read begins only where the bytes that
+    /// are held are none, or a part of a request, or stop inside a request target (the condition of `Intake::read_on`,
+    /// the one call that reads), and none begins behind the connection's last request.
     ///
     /// Condition: the connection is up, unless its last request was taken.
     pub fn take_request(&mut self, alloc: Global) -> Result<Taken, WireFault>

@@ -1,5 +1,7 @@
 -- How far the notices of a subscription were delivered, event by event.
-use Rattle.std.proofs.Common.{◌≡◌, ◌≤◌, ◌<◌, ◌+◌, ◌==◌, ◌&&◌, ◌||◌, ◌∙◌, ℕ, List, [], ◌∷◌, suc, Bool, true, false, cond, not, Option, None, Some, is_some, refl, ap, sym, subst, length, map, filter, arith, eqb-true, eq-eqb, nat_le, nat_lt, leb-true, leb-false, le-leb, lt-ltb, ltb-true, ltb-false, le-ltb}
+use Rattle.std.proofs.Common.{◌≡◌, ◌≤◌, ◌<◌, ◌+◌, ◌==◌, ◌&&◌, ◌||◌, ◌∙◌, ℕ, List, [], ◌∷◌, suc, Bool, true, false, cond, not, Option, None}
+use Rattle.std.proofs.Common.{Some, is_some, refl, ap, sym, subst, length, map, filter, arith, eqb-true, eq-eqb, nat_le, nat_lt, leb-true}
+use Rattle.std.proofs.Common.{leb-false, le-leb, lt-ltb, ltb-true, ltb-false, le-ltb}
 use Rattle.std.specs.List.{cons_option, list_any}
 use Rattle.lcm_events.specs.declared.events.Event.{Event}
 use Rattle.lcm_events.specs.declared.events.EventKind.{EventKind}
@@ -108,11 +110,13 @@ five n = by_test (nat_le 4 n)
     let down = leb-false 4 n low in
     by_test (nat_le 5 (suc n)) (λ high. let up = leb-true 5 (suc n) high in absurd (omega (arith, up, down))) (λ no. no ∙ sym low))
 
-passed_own : (place : ℕ) (d : Bool) (ps : Posts) (n : ℕ) → passed ps place ≡ false → missed ps place ≡ n → passed ((place, d) ∷ ps) place ≡ (d || nat_le 4 n)
+passed_own : (place : ℕ) (d : Bool) (ps : Posts) (n : ℕ) → passed ps place ≡ false → missed ps place ≡ n
+    → passed ((place, d) ∷ ps) place ≡ (d || nat_le 4 n)
 passed_own place true ps n e is = let own : (place == place) ≡ true = eq-eqb place place refl in rw own refl
 passed_own place false ps n e is =
     let own : (place == place) ≡ true = eq-eqb place place refl in
-    let none : list_any (λ p. (p.0 == place) && p.1) ps ≡ false = or_left (list_any (λ p. (p.0 == place) && p.1) ps) (nat_le 5 (missed ps place)) e in
+    let none : list_any (λ p. (p.0 == place) && p.1) ps ≡ false = or_left (list_any (λ p. (p.0 == place) && p.1) ps)
+    (nat_le 5 (missed ps place)) e in
     rw (own, none) (five (missed ps place) ∙ ap (nat_le 4) is)
 
 same_filter : (f g : ℕ → Bool) (ns : List ℕ) → ((n : ℕ) → f n ≡ g n) → filter f ns ≡ filter g ns
@@ -140,7 +144,8 @@ none_past c place (p ∷ ps) a h =
     let no : nat_lt place p.0 ≡ false = le-ltb place p.0 here in
     rw no (none_past c place ps a.1 h)
 
-far_when : (at place : ℕ) (d : Bool) (ps : Posts) (b : Bool) → Agrees (far at ps) place ps → far at ps < place → passed ps place ≡ false → passed ((place, d) ∷ ps) place ≡ b
+far_when : (at place : ℕ) (d : Bool) (ps : Posts) (b : Bool) → Agrees (far at ps) place ps → far at ps < place → passed ps place ≡ false
+    → passed ((place, d) ∷ ps) place ≡ b
     → far at ((place, d) ∷ ps) ≡ cond b place (far at ps)
 far_when at place d ps true a h before is =
     let low = greatest_low (passed ((place, d) ∷ ps)) (far at ps) place ps a h in
@@ -175,7 +180,8 @@ far_more at place d ps a h =
 
 -- how often the notice past the cursor wasn't taken, after one more such post
 missed_more : (at place : ℕ) (d : Bool) (ps : Posts) → Agrees (far at ps) place ps → far at ps < place
-    → missed_past (far at ((place, d) ∷ ps)) ((place, d) ∷ ps) ≡ cond (d || nat_le 4 (missed_past (far at ps) ps)) 0 (missed_past (far at ps) ps + 1)
+    → missed_past (far at ((place, d) ∷ ps)) ((place, d) ∷ ps) ≡ cond (d || nat_le 4 (missed_past (far at ps) ps)) 0
+    (missed_past (far at ps) ps + 1)
 missed_more at place d ps a h =
     ap (λ (c : ℕ). missed_past c ((place, d) ∷ ps)) (far_more at place d ps a h)
     ∙ missed_when at place d ps (d || nat_le 4 (missed_past (far at ps) ps)) a h (or_idem d (nat_le 4 (missed_past (far at ps) ps)))
@@ -221,7 +227,8 @@ last_more : (f : ℕ → Bool) (x : Option ℕ) (ns : List ℕ) (y : ℕ) → la
 last_more f None ns y e = e
 last_more f (Some n) ns y e = by_test (f n) (λ passes. rw passes (rw e refl)) (λ fails. rw fails e)
 
-either_passes : (f : ℕ → Bool) (n y : ℕ) (z : Option ℕ) → Some (unwrap_or z n) ≡ Some y → f n ≡ true → (z ≡ Some y → f y ≡ true) → f y ≡ true
+either_passes : (f : ℕ → Bool) (n y : ℕ) (z : Option ℕ) → Some (unwrap_or z n) ≡ Some y → f n ≡ true → (z ≡ Some y → f y ≡ true)
+    → f y ≡ true
 either_passes f n y None e passes rest = subst (λ (k : ℕ). f k ≡ true) (some_same e) passes
 either_passes f n y (Some q) e passes rest = rest (ap Some (some_same e))
 
@@ -234,7 +241,8 @@ last_passes f (n ∷ ns) y e = by_test (f n)
     (λ fails. last_passes f ns y (subst (λ (b : Bool). last (cond b (n ∷ filter f ns) (filter f ns)) ≡ Some y) fails e))
 
 points_when : (at place : ℕ) (d : Bool) (ps : Posts) (ns : List ℕ) (b : Bool) → Points (far at ps) (Some place) ps → far at ps < place
-    → last (filter (nat_lt (far at ps)) ns) ≡ Some place → Points (cond b place (far at ps)) (last (filter (nat_lt (cond b place (far at ps))) ns)) ((place, d) ∷ ps)
+    → last (filter (nat_lt (far at ps)) ns) ≡ Some place → Points (cond b place (far at ps))
+    (last (filter (nat_lt (cond b place (far at ps))) ns)) ((place, d) ∷ ps)
 points_when at place d ps ns true points h next = (
   λ past.
       let up = ltb-true place place past in
@@ -247,14 +255,16 @@ points_more : (at place : ℕ) (d : Bool) (ps : Posts) (ns : List ℕ) → Point
     → last (filter (nat_lt (far at ps)) ns) ≡ Some place
     → Points (far at ((place, d) ∷ ps)) (last (filter (nat_lt (far at ((place, d) ∷ ps))) ns)) ((place, d) ∷ ps)
 points_more at place d ps ns points h next =
-    subst (λ (c : ℕ). Points c (last (filter (nat_lt c) ns)) ((place, d) ∷ ps)) (sym (far_more at place d ps (agrees_of (far at ps) place ps points h) h))
+    subst (λ (c : ℕ). Points c (last (filter (nat_lt c) ns)) ((place, d) ∷ ps))
+    (sym (far_more at place d ps (agrees_of (far at ps) place ps points h) h))
     (points_when at place d ps ns (d || nat_le 4 (missed_past (far at ps) ps)) points h next)
 
 -- a subscription that wasn't made has no post
 abbrev Unposted : List Event → Type 0
 Unposted H = (s : ℕ) → subscriptions_made H < s → posts H s ≡ []
 
-unposted_step : (width m : ℕ) (H : List Event) (time : ℕ) (k : EventKind) → IsLegalWithin width m H → IsAllowedWithin width m H k → Unposted H → Unposted (event time k ∷ H)
+unposted_step : (width m : ℕ) (H : List Event) (time : ℕ) (k : EventKind) → IsLegalWithin width m H → IsAllowedWithin width m H k
+    → Unposted H → Unposted (event time k ∷ H)
 unposted_step width m H time (Subscribed n role callback filter) legal allowed h s high = h s (omega (arith, high))
 unposted_step width m H time (Posted n place outcome) legal allowed h s high = by_test (n == s)
     (λ same.
@@ -266,85 +276,108 @@ unposted_step width m H time (Posted n place outcome) legal allowed h s high = b
 unposted_step width m H time k legal allowed h s high = h s high
 
 pub never_posted : (width m : ℕ) (H : List Event) → IsLegalWithin width m H → Unposted H
-never_posted width m H legal = legal_induction width m Unposted (λ s high. refl) (λ H time k legal allowed h. unposted_step width m H time k legal allowed h) H legal
+never_posted width m H legal = legal_induction width m Unposted (λ s high. refl)
+    (λ H time k legal allowed h. unposted_step width m H time k legal allowed h) H legal
 
 -- the posts past the cursor are of the notice that comes next
 abbrev IsFollowed : ℕ → List Event → Type 0
 IsFollowed m H = (s : ℕ) → Points (cursor H s) (next_notice m H s) (posts H s)
 
-posts_own : (H : List Event) (time n place s : ℕ) (outcome : PostOutcome) → (n == s) ≡ true → posts (event time (Posted n place outcome) ∷ H) s ≡ (place, is_delivered outcome) ∷ posts H s
+posts_own : (H : List Event) (time n place s : ℕ) (outcome : PostOutcome) → (n == s) ≡ true
+    → posts (event time (Posted n place outcome) ∷ H) s ≡ (place, is_delivered outcome) ∷ posts H s
 posts_own H time n place s outcome same = rw same refl
 
-posts_other : (H : List Event) (time n place s : ℕ) (outcome : PostOutcome) → (n == s) ≡ false → posts (event time (Posted n place outcome) ∷ H) s ≡ posts H s
+posts_other : (H : List Event) (time n place s : ℕ) (outcome : PostOutcome) → (n == s) ≡ false
+    → posts (event time (Posted n place outcome) ∷ H) s ≡ posts H s
 posts_other H time n place s outcome other = rw other refl
 
 subscribed_other : (H : List Event) (time n s : ℕ) (role : Role) (callback : List ℕ) (f : Filter) → (n == s) ≡ false
     → subscribed_at (event time (Subscribed n role callback f) ∷ H) s ≡ subscribed_at H s
 subscribed_other H time n s role callback f other = rw other refl
 
-followed_step : (width m : ℕ) (H : List Event) (time : ℕ) (k : EventKind) → IsLegalWithin width m H → IsAllowedWithin width m H k → IsFollowed m H → IsFollowed m (event time k ∷ H)
+followed_step : (width m : ℕ) (H : List Event) (time : ℕ) (k : EventKind) → IsLegalWithin width m H → IsAllowedWithin width m H k
+    → IsFollowed m H → IsFollowed m (event time k ∷ H)
 followed_step width m H time (Subscribed n role callback f) legal allowed h s = by_test (n == s)
     (λ same.
     let is : n ≡ s = eqb-true n s same in
     let none : posts H s ≡ [] = never_posted width m H legal s (omega (arith, is, allowed.number)) in
-    subst (λ (ps : Posts). Points (cursor (event time (Subscribed n role callback f) ∷ H) s) (next_notice m (event time (Subscribed n role callback f) ∷ H) s) ps) (sym none) tt)
+    subst (λ (ps : Posts). Points (cursor (event time (Subscribed n role callback f) ∷ H) s)
+    (next_notice m (event time (Subscribed n role callback f) ∷ H) s) ps) (sym none) tt)
     (λ other.
-    subst (λ (at : ℕ). Points (far at (posts H s)) (last (filter (nat_lt (far at (posts H s))) (notices m (event time (Subscribed n role callback f) ∷ H) s))) (posts H s))
+    subst (λ (at : ℕ). Points (far at (posts H s)) (last (filter (nat_lt (far at (posts H s)))
+    (notices m (event time (Subscribed n role callback f) ∷ H) s))) (posts H s))
     (sym (subscribed_other H time n s role callback f other))
-    (points_next (cursor H s) (next_notice m H s) _ (posts H s) (λ q e. last_more (nat_lt (cursor H s)) (notice_in m s H (Subscribed n role callback f)) (notices m H s) q e) (h s)))
+    (points_next (cursor H s) (next_notice m H s) _ (posts H s) (λ q e.
+    last_more (nat_lt (cursor H s)) (notice_in m s H (Subscribed n role callback f)) (notices m H s) q e) (h s)))
 followed_step width m H time (Posted n place outcome) legal allowed h s = by_test (n == s)
     (λ same.
     let is : n ≡ s = eqb-true n s same in
     let next : next_notice m H s ≡ Some place = subst (λ (i : ℕ). next_notice m H i ≡ Some place) is allowed.next in
     let up = ltb-true (cursor H s) place (last_passes (nat_lt (cursor H s)) (notices m H s) place next) in
     let points : Points (cursor H s) (Some place) (posts H s) = subst (λ (x : Option ℕ). Points (cursor H s) x (posts H s)) next (h s) in
-    subst (λ (ps : Posts). Points (far (subscribed_at H s) ps) (last (filter (nat_lt (far (subscribed_at H s) ps)) (notices m (event time (Posted n place outcome) ∷ H) s))) ps)
+    subst (λ (ps : Posts). Points (far (subscribed_at H s) ps) (last
+    (filter (nat_lt (far (subscribed_at H s) ps)) (notices m (event time (Posted n place outcome) ∷ H) s))) ps)
     (sym (posts_own H time n place s outcome same))
-    (points_more (subscribed_at H s) place (is_delivered outcome) (posts H s) (notices m (event time (Posted n place outcome) ∷ H) s) points up
+    (points_more (subscribed_at H s) place (is_delivered outcome) (posts H s)
+    (notices m (event time (Posted n place outcome) ∷ H) s) points up
     (last_more (nat_lt (cursor H s)) (notice_in m s H (Posted n place outcome)) (notices m H s) place next)))
     (λ other.
-    subst (λ (ps : Posts). Points (far (subscribed_at H s) ps) (last (filter (nat_lt (far (subscribed_at H s) ps)) (notices m (event time (Posted n place outcome) ∷ H) s))) ps)
+    subst (λ (ps : Posts). Points (far (subscribed_at H s) ps) (last
+    (filter (nat_lt (far (subscribed_at H s) ps)) (notices m (event time (Posted n place outcome) ∷ H) s))) ps)
     (sym (posts_other H time n place s outcome other))
-    (points_next (cursor H s) (next_notice m H s) _ (posts H s) (λ q e. last_more (nat_lt (cursor H s)) (notice_in m s H (Posted n place outcome)) (notices m H s) q e) (h s)))
+    (points_next (cursor H s) (next_notice m H s) _ (posts H s) (λ q e.
+    last_more (nat_lt (cursor H s)) (notice_in m s H (Posted n place outcome)) (notices m H s) q e) (h s)))
 followed_step width m H time k legal allowed h s =
-    points_next (cursor H s) (next_notice m H s) _ (posts H s) (λ q e. last_more (nat_lt (cursor H s)) (notice_in m s H k) (notices m H s) q e) (h s)
+    points_next (cursor H s) (next_notice m H s) _ (posts H s) (λ q e.
+    last_more (nat_lt (cursor H s)) (notice_in m s H k) (notices m H s) q e) (h s)
 
 followed : (width m : ℕ) (H : List Event) → IsLegalWithin width m H → IsFollowed m H
-followed width m H legal = legal_induction width m (IsFollowed m) (λ s. tt) (λ H time k legal allowed h. followed_step width m H time k legal allowed h) H legal
+followed width m H legal = legal_induction width m (IsFollowed m) (λ s. tt)
+    (λ H time k legal allowed h. followed_step width m H time k legal allowed h) H legal
 
 -- what a post makes of the cursor of its subscription
-pub cursor-posted : (width m : ℕ) (H : List Event) (time n place s : ℕ) (outcome : PostOutcome) → IsLegalWithin width m H → IsAllowedWithin width m H (Posted n place outcome) → (n == s) ≡ true
+pub cursor-posted : (width m : ℕ) (H : List Event) (time n place s : ℕ) (outcome : PostOutcome) → IsLegalWithin width m H
+    → IsAllowedWithin width m H (Posted n place outcome) → (n == s) ≡ true
     → cursor (event time (Posted n place outcome) ∷ H) s ≡ cond (is_delivered outcome || nat_le 4 (tries_past H s)) place (cursor H s)
 cursor-posted width m H time n place s outcome legal allowed same =
     let is : n ≡ s = eqb-true n s same in
     let next : next_notice m H s ≡ Some place = subst (λ (i : ℕ). next_notice m H i ≡ Some place) is allowed.next in
     let up = ltb-true (cursor H s) place (last_passes (nat_lt (cursor H s)) (notices m H s) place next) in
-    let points : Points (cursor H s) (Some place) (posts H s) = subst (λ (x : Option ℕ). Points (cursor H s) x (posts H s)) next (followed width m H legal s) in
+    let points : Points (cursor H s) (Some place) (posts H s) = subst (λ (x : Option ℕ). Points (cursor H s) x (posts H s)) next
+    (followed width m H legal s) in
     ap (λ (ps : Posts). far (subscribed_at H s) ps) (posts_own H time n place s outcome same)
     ∙ far_more (subscribed_at H s) place (is_delivered outcome) (posts H s) (agrees_of (cursor H s) place (posts H s) points up) up
 
 -- what a post makes of the count of its subscription
-pub tries-posted : (width m : ℕ) (H : List Event) (time n place s : ℕ) (outcome : PostOutcome) → IsLegalWithin width m H → IsAllowedWithin width m H (Posted n place outcome) → (n == s) ≡ true
-    → tries_past (event time (Posted n place outcome) ∷ H) s ≡ cond (is_delivered outcome || nat_le 4 (tries_past H s)) 0 (tries_past H s + 1)
+pub tries-posted : (width m : ℕ) (H : List Event) (time n place s : ℕ) (outcome : PostOutcome) → IsLegalWithin width m H
+    → IsAllowedWithin width m H (Posted n place outcome) → (n == s) ≡ true
+    → tries_past (event time (Posted n place outcome) ∷ H) s ≡ cond (is_delivered outcome || nat_le 4 (tries_past H s)) 0
+    (tries_past H s + 1)
 tries-posted width m H time n place s outcome legal allowed same =
     let is : n ≡ s = eqb-true n s same in
     let next : next_notice m H s ≡ Some place = subst (λ (i : ℕ). next_notice m H i ≡ Some place) is allowed.next in
     let up = ltb-true (cursor H s) place (last_passes (nat_lt (cursor H s)) (notices m H s) place next) in
-    let points : Points (cursor H s) (Some place) (posts H s) = subst (λ (x : Option ℕ). Points (cursor H s) x (posts H s)) next (followed width m H legal s) in
+    let points : Points (cursor H s) (Some place) (posts H s) = subst (λ (x : Option ℕ). Points (cursor H s) x (posts H s)) next
+    (followed width m H legal s) in
     ap (λ (ps : Posts). missed_past (far (subscribed_at H s) ps) ps) (posts_own H time n place s outcome same)
     ∙ missed_more (subscribed_at H s) place (is_delivered outcome) (posts H s) (agrees_of (cursor H s) place (posts H s) points up) up
 
 -- a post to another subscription leaves the cursor
-pub cursor-other : (H : List Event) (time n place s : ℕ) (outcome : PostOutcome) → (n == s) ≡ false → cursor (event time (Posted n place outcome) ∷ H) s ≡ cursor H s
+pub cursor-other : (H : List Event) (time n place s : ℕ) (outcome : PostOutcome) → (n == s) ≡ false
+    → cursor (event time (Posted n place outcome) ∷ H) s ≡ cursor H s
 cursor-other H time n place s outcome other = ap (λ (ps : Posts). far (subscribed_at H s) ps) (posts_other H time n place s outcome other)
 
 -- a post to another subscription leaves the count
-pub tries-other : (H : List Event) (time n place s : ℕ) (outcome : PostOutcome) → (n == s) ≡ false → tries_past (event time (Posted n place outcome) ∷ H) s ≡ tries_past H s
-tries-other H time n place s outcome other = ap (λ (ps : Posts). missed_past (far (subscribed_at H s) ps) ps) (posts_other H time n place s outcome other)
+pub tries-other : (H : List Event) (time n place s : ℕ) (outcome : PostOutcome) → (n == s) ≡ false
+    → tries_past (event time (Posted n place outcome) ∷ H) s ≡ tries_past H s
+tries-other H time n place s outcome other = ap (λ (ps : Posts). missed_past (far (subscribed_at H s) ps) ps)
+    (posts_other H time n place s outcome other)
 
 -- the tries past the cursor are those of the notice that comes next
-pub tries-next : (width m : ℕ) (H : List Event) → IsLegalWithin width m H → (s place : ℕ) → next_notice m H s ≡ Some place → tries_past H s ≡ tries H s place
+pub tries-next : (width m : ℕ) (H : List Event) → IsLegalWithin width m H → (s place : ℕ) → next_notice m H s ≡ Some place
+    → tries_past H s ≡ tries H s place
 tries-next width m H legal s place next =
     let up = ltb-true (cursor H s) place (last_passes (nat_lt (cursor H s)) (notices m H s) place next) in
-    let points : Points (cursor H s) (Some place) (posts H s) = subst (λ (x : Option ℕ). Points (cursor H s) x (posts H s)) next (followed width m H legal s) in
+    let points : Points (cursor H s) (Some place) (posts H s) = subst (λ (x : Option ℕ). Points (cursor H s) x (posts H s)) next
+    (followed width m H legal s) in
     sym (same_missed (cursor H s) place (posts H s) (agrees_of (cursor H s) place (posts H s) points up))

@@ -1,5 +1,6 @@
 -- The operations that go on, event by event.
-use Rattle.std.proofs.Common.{◌≡◌, ◌++◌, ◌==◌, ◌&&◌, ◌∙◌, ℕ, List, [], ◌∷◌, Bool, true, false, cond, not, Option, None, Some, is_some, refl, ap, sym, subst, inl, inr, map, filter, find, reverse, option_map, arith, eqb-true}
+use Rattle.std.proofs.Common.{◌≡◌, ◌++◌, ◌==◌, ◌&&◌, ◌∙◌, ℕ, List, [], ◌∷◌, Bool, true, false, cond, not, Option, None, Some, is_some, refl}
+use Rattle.std.proofs.Common.{ap, sym, subst, inl, inr, map, filter, find, reverse, option_map, arith, eqb-true}
 use Rattle.std.specs.Prelude.{option_and_then, slice_get, unwrap_or}
 use Rattle.lcm_events.specs.Same.{same_verb}
 use Rattle.lcm_events.proofs.SameLaws.{same_verb-true}
@@ -48,20 +49,23 @@ map_in f g [] e = refl
 map_in f g (x ∷ xs) e = ap (λ y. y ∷ map f xs) (e x (inl refl)) ∙ ap (λ ys. g x ∷ ys) (map_in f g xs (λ y h. e y (inr h)))
 
 -- what goes on after an event went on before it
-went_on : (width m : ℕ) (H : List Event) (time : ℕ) (k : EventKind) (a : Operation) → IsAllowedWithin width m H k → goes_on (event time k ∷ H) a ≡ true → is_final (state H a.occ) ≡ false
+went_on : (width m : ℕ) (H : List Event) (time : ℕ) (k : EventKind) (a : Operation) → IsAllowedWithin width m H k
+    → goes_on (event time k ∷ H) a ≡ true → is_final (state H a.occ) ≡ false
 unfolding goes_on
 went_on width m H time (Moved o to) a allowed goes = not-true (is_final (state H a.occ)) (goes_on-before H time o to a allowed.1 goes)
 went_on width m H time k a allowed goes = not-true (is_final (state H a.occ)) goes
 
 -- what an operation removes keeps its place while the operation goes on
-stood-kept : (width m : ℕ) (H : List Event) (time : ℕ) (k : EventKind) (a : Operation) → IsLegalWithin width m H → IsAllowedWithin width m H k → IsIn a (operations H)
+stood-kept : (width m : ℕ) (H : List Event) (time : ℕ) (k : EventKind) (a : Operation) → IsLegalWithin width m H
+    → IsAllowedWithin width m H k → IsIn a (operations H)
     → goes_on (event time k ∷ H) a ≡ true → map (stood_at (event time k ∷ H) a.instance) a.changes ≡ map (stood_at H a.instance) a.changes
 stood-kept width m H time k a legal allowed among goes =
     map_in (stood_at (event time k ∷ H) a.instance) (stood_at H a.instance) a.changes
     (λ c has. by_test (same_verb c.verb Remove)
     (λ removes.
     let found : operation H a.occ ≡ Some a = find-own (λ x. x.occ) (operations H) a (operations_counted width m H legal) among in
-    rw removes (removals_stay width m H time k a.occ a c legal allowed found (went_on width m H time k a allowed goes) has (same_verb-true c.verb Remove removes)))
+    rw removes (removals_stay width m H time k a.occ a c legal allowed found (went_on width m H time k a allowed goes) has
+    (same_verb-true c.verb Remove removes)))
     (λ other. rw other refl))
 
 -- what is kept of an operation after an event, which may have granted it
@@ -69,15 +73,19 @@ abbrev pub kept_after : List Event → List Event → Operation → Going
 kept_after later H a = record (going_of H a) { placing = placing later a.occ }
 
 -- what is kept of an operation stays while it goes on, but for its grant
-pub going-kept : (width m : ℕ) (H : List Event) (time : ℕ) (k : EventKind) (a : Operation) → IsLegalWithin width m H → IsAllowedWithin width m H k → IsIn a (operations H)
+pub going-kept : (width m : ℕ) (H : List Event) (time : ℕ) (k : EventKind) (a : Operation) → IsLegalWithin width m H
+    → IsAllowedWithin width m H k → IsIn a (operations H)
     → goes_on (event time k ∷ H) a ≡ true → going_of (event time k ∷ H) a ≡ kept_after (event time k ∷ H) H a
 going-kept width m H time k a legal allowed among goes =
-    ap (λ (ns : List ℕ). record (kept_after (event time k ∷ H) H a) { aim = ns; stood = map (stood_at (event time k ∷ H) a.instance) a.changes }) (aim-kept width m H time k a legal allowed among goes)
-    ∙ ap (λ (ps : List (Option Place)). record (kept_after (event time k ∷ H) H a) { stood = ps }) (stood-kept width m H time k a legal allowed among goes)
+    ap (λ (ns : List ℕ). record (kept_after (event time k ∷ H) H a)
+    { aim = ns; stood = map (stood_at (event time k ∷ H) a.instance) a.changes }) (aim-kept width m H time k a legal allowed among goes)
+    ∙ ap (λ (ps : List (Option Place)). record (kept_after (event time k ∷ H) H a) { stood = ps })
+    (stood-kept width m H time k a legal allowed among goes)
 
 -- what is kept of the operations that went on before an event
 pub all_kept : (width m : ℕ) (H : List Event) (time : ℕ) (k : EventKind) → IsLegalWithin width m H → IsAllowedWithin width m H k
-    → reverse (map (going_of (event time k ∷ H)) (filter (goes_on (event time k ∷ H)) (operations H))) ≡ reverse (map (kept_after (event time k ∷ H) H) (filter (goes_on (event time k ∷ H)) (operations H)))
+    → reverse (map (going_of (event time k ∷ H)) (filter (goes_on (event time k ∷ H)) (operations H)))
+    ≡ reverse (map (kept_after (event time k ∷ H) H) (filter (goes_on (event time k ∷ H)) (operations H)))
 all_kept width m H time k legal allowed =
     ap reverse (map_in (going_of (event time k ∷ H)) (kept_after (event time k ∷ H) H) (filter (goes_on (event time k ∷ H)) (operations H))
     (λ x among.
@@ -98,20 +106,26 @@ going-asked width m H time a legal allowed =
     let still = unasked_untouched width m H legal a.occ none in
     let begins : goes_on H a ≡ true = rw still.moves refl in
     one_more (going_of (event time (Asked a) ∷ H)) (goes_on H) a (operations H) begins
-    ∙ (ap (λ (p : Option Placing). reverse (map (going_of (event time (Asked a) ∷ H)) (filter (goes_on H) (operations H))) ++ record (begun a (aim H a) (map (stood_at H a.instance) a.changes)) { placing = p } ∷ [])
+    ∙ (ap (λ (p : Option Placing). reverse (map (going_of (event time (Asked a) ∷ H)) (filter (goes_on H) (operations H)))
+    ++ record (begun a (aim H a) (map (stood_at H a.instance) a.changes)) { placing = p } ∷ [])
     (ap (option_map (λ g. record { places = g.places; spots = g.spots })) still.grant)
-    ∙ ap (λ (gs : List Going). gs ++ begun a (aim H a) (map (stood_at H a.instance) a.changes) ∷ []) (all_kept width m H time (Asked a) legal allowed))
+    ∙ ap (λ (gs : List Going). gs ++ begun a (aim H a) (map (stood_at H a.instance) a.changes) ∷ [])
+    (all_kept width m H time (Asked a) legal allowed))
 
 -- an operation that goes on is found among those that do
-pub going-found : (width m : ℕ) (H : List Event) (o : ℕ) (a : Operation) → IsLegalWithin width m H → is_final (state H o) ≡ false → operation H o ≡ Some a
+pub going-found : (width m : ℕ) (H : List Event) (o : ℕ) (a : Operation) → IsLegalWithin width m H → is_final (state H o) ≡ false
+    → operation H o ≡ Some a
     → find (λ g. g.occ == o) (going H) ≡ Some (going_of H a)
 unfolding goes_on
 going-found width m H o a legal runs_on e =
     let f : Going → ℕ = λ g. g.occ in
-    let falls = falls-filter (λ x. x.occ) (goes_on H) (operations H) (falls-counted (λ x. x.occ) (operations H) (operations_counted width m H legal)) in
-    find-reverse f o (map (going_of H) (filter (goes_on H) (operations H))) (falls-map f (going_of H) (filter (goes_on H) (operations H)) falls)
+    let falls = falls-filter (λ x. x.occ) (goes_on H) (operations H)
+    (falls-counted (λ x. x.occ) (operations H) (operations_counted width m H legal)) in
+    find-reverse f o (map (going_of H) (filter (goes_on H) (operations H)))
+    (falls-map f (going_of H) (filter (goes_on H) (operations H)) falls)
     ∙ (find-map f (going_of H) o (filter (goes_on H) (operations H))
-    ∙ (ap (option_map (going_of H)) (find-filter (λ x. x.occ) (goes_on H) o (operations H) (not (is_final (state H o))) (λ x at. ap (λ (n : ℕ). not (is_final (state H n))) at))
+    ∙ (ap (option_map (going_of H)) (find-filter (λ x. x.occ) (goes_on H) o (operations H) (not (is_final (state H o)))
+    (λ x at. ap (λ (n : ℕ). not (is_final (state H n))) at))
     ∙ rw (runs_on, e) refl))
 
 same_filter : {A : Type 0} → (p q : A → Bool) (xs : List A) → ((x : A) → p x ≡ q x) → filter p xs ≡ filter q xs
@@ -122,14 +136,18 @@ same_filter p q (x ∷ xs) e = by_test (q x)
 
 goes_before : (H : List Event) (o : ℕ) (x : Operation) → is_final (state H o) ≡ false → (o == x.occ) ≡ true → goes_on H x ≡ true
 unfolding goes_on
-goes_before H o x runs_on same = let is : o ≡ x.occ = eqb-true o x.occ same in ap not (subst (λ (n : ℕ). is_final (state H n) ≡ false) is runs_on)
+goes_before H o x runs_on same = let is : o ≡ x.occ = eqb-true o x.occ same in
+    ap not (subst (λ (n : ℕ). is_final (state H n) ≡ false) is runs_on)
 
-granted_when : (H : List Event) (time o : ℕ) (name : List ℕ) (places : List Place) (spots : List ℕ) (x : Operation) (b : Bool) → (o == x.occ) ≡ b
-    → placing (event time (Granted o name places spots) ∷ H) x.occ ≡ cond b (Some (record { places = places; spots = spots })) (placing H x.occ)
+granted_when : (H : List Event) (time o : ℕ) (name : List ℕ) (places : List Place) (spots : List ℕ) (x : Operation) (b : Bool)
+    → (o == x.occ) ≡ b
+    → placing (event time (Granted o name places spots) ∷ H) x.occ
+    ≡ cond b (Some (record { places = places; spots = spots })) (placing H x.occ)
 granted_when H time o name places spots x true e = rw e refl
 granted_when H time o name places spots x false e = rw e refl
 
-placed_when : (b : Bool) (p : Placing) (g : Going) → record g { placing = cond b (Some p) g.placing } ≡ cond b (record g { placing = Some p }) g
+placed_when : (b : Bool) (p : Placing) (g : Going) → record g { placing = cond b (Some p) g.placing }
+    ≡ cond b (record g { placing = Some p }) g
 placed_when true p g = refl
 placed_when false p g = refl
 
@@ -139,10 +157,12 @@ pub granted_one : (H : List Event) (time o : ℕ) (name : List ℕ) (places : Li
 granted_one H time o name places spots x =
     let p : Placing = record { places = places; spots = spots } in
     ap (λ (y : Option Placing). record (going_of H x) { placing = y }) (granted_when H time o name places spots x (o == x.occ) refl)
-    ∙ (placed_when (o == x.occ) p (going_of H x) ∙ ap (λ (b : Bool). cond b (record (going_of H x) { placing = Some p }) (going_of H x)) (flip o x.occ))
+    ∙ (placed_when (o == x.occ) p (going_of H x) ∙ ap (λ (b : Bool). cond b (record (going_of H x) { placing = Some p }) (going_of H x))
+    (flip o x.occ))
 
 -- what goes on after an end
-pub going-ended : (width m : ℕ) (H : List Event) (time o : ℕ) (to : OpState) → IsLegalWithin width m H → IsAllowedWithin width m H (Moved o to) → is_final to ≡ true
+pub going-ended : (width m : ℕ) (H : List Event) (time o : ℕ) (to : OpState) → IsLegalWithin width m H
+    → IsAllowedWithin width m H (Moved o to) → is_final to ≡ true
     → going (event time (Moved o to) ∷ H) ≡ without_operation o (going H)
 going-ended width m H time o to legal allowed last =
     all_kept width m H time (Moved o to) legal allowed
@@ -152,12 +172,14 @@ going-ended width m H time o to legal allowed last =
     (λ other. goes_after H time o to x false other ∙ ap (λ (b : Bool). not b && goes_on H x) (sym (flip x.occ o ∙ other))))
 
 -- what goes on after a move that ends nothing
-pub going-moved : (width m : ℕ) (H : List Event) (time o : ℕ) (to : OpState) → IsLegalWithin width m H → IsAllowedWithin width m H (Moved o to) → is_final to ≡ false
+pub going-moved : (width m : ℕ) (H : List Event) (time o : ℕ) (to : OpState) → IsLegalWithin width m H
+    → IsAllowedWithin width m H (Moved o to) → is_final to ≡ false
     → going (event time (Moved o to) ∷ H) ≡ going H
 going-moved width m H time o to legal allowed more =
     let runs_on : is_final (state H o) ≡ false = moved_from H o to allowed.1 in
     all_kept width m H time (Moved o to) legal allowed
-    ∙ ap (λ (xs : List Operation). reverse (map (going_of H) xs)) (same_filter (goes_on (event time (Moved o to) ∷ H)) (goes_on H) (operations H)
+    ∙ ap (λ (xs : List Operation). reverse (map (going_of H) xs)) (same_filter (goes_on (event time (Moved o to) ∷ H)) (goes_on H)
+    (operations H)
     (λ x. by_test (o == x.occ)
     (λ same. goes_after H time o to x true same ∙ (ap not more ∙ sym (goes_before H o x runs_on same)))
     (λ other. goes_after H time o to x false other)))
@@ -177,7 +199,8 @@ undoes Start e = cc
 undoes Stop e = cc
 
 -- an operation that goes on keeps the place at which an attempt of it makes something
-pub place_kept : (H : List Event) (t : Tag) (w : Way) (a : Operation) (k : Change) → operation H t.occ ≡ Some a → a.occ ≡ t.occ → slice_get a.changes t.change ≡ Some k
+pub place_kept : (H : List Event) (t : Tag) (w : Way) (a : Operation) (k : Change) → operation H t.occ ≡ Some a → a.occ ≡ t.occ
+    → slice_get a.changes t.change ≡ Some k
     → verb_done w k.verb ≡ Create → place_made H t w a.instance k.def ≡ place_by_way w t.change (going_of H a)
 place_kept H t Forward a k found at change makes =
     place_grant H t.occ t.change

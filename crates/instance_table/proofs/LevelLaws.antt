@@ -1,5 +1,6 @@
 -- The levels of an instance, event by event, and those that an operation aims at.
-use Rattle.std.proofs.Common.{◌≡◌, ◌==◌, ◌∙◌, ℕ, List, [], ◌∷◌, Bool, true, false, cond, not, Option, None, Some, is_some, refl, ap, sym, subst, inl, inr, length, map, replicate, eqb-true, eq-eqb}
+use Rattle.std.proofs.Common.{◌≡◌, ◌==◌, ◌∙◌, ℕ, List, [], ◌∷◌, Bool, true, false, cond, not, Option, None, Some, is_some, refl, ap, sym}
+use Rattle.std.proofs.Common.{subst, inl, inr, length, map, replicate, eqb-true, eq-eqb}
 use Rattle.std.proofs.lemmas.List.{length-map}
 use Rattle.std.specs.List.{cons_option}
 use Rattle.std.specs.Option.{option_map_or}
@@ -36,7 +37,8 @@ use Rattle.lcm_laws.proofs.StandLaws.{descriptor-next}
 use Rattle.instance_table.specs.Rows.{aim}
 
 -- what a move of a found operation is asked about
-pub moving_at : {A : Type 0} → (ask : Ask → OpState → Option A) (i : ℕ) (H : List Event) (o : ℕ) (to : OpState) (a : Operation) → operation H o ≡ Some a
+pub moving_at : {A : Type 0} → (ask : Ask → OpState → Option A) (i : ℕ) (H : List Event) (o : ℕ) (to : OpState) (a : Operation)
+    → operation H o ≡ Some a
     → moving ask i H (Moved o to) ≡ cond (a.instance == i) (ask a.ask to) None
 unfolding moving
 moving_at ask i H o to a e = rw e refl
@@ -66,24 +68,29 @@ only_ends (Heal cause named) _ e = refl
 only_ends (Operate started stop) _ e = refl
 only_ends (Terminate mode timeout) _ e = refl
 
-from_when : (d : Vnfd) (asks : List Ask) (ask : Ask) (b : Bool) → levels_from d (cons_option (when b ask) asks) ≡ cond b (target d (levels_from d asks) ask) (levels_from d asks)
+from_when : (d : Vnfd) (asks : List Ask) (ask : Ask) (b : Bool)
+    → levels_from d (cons_option (when b ask) asks) ≡ cond b (target d (levels_from d asks) ask) (levels_from d asks)
 from_when d asks ask true = refl
 from_when d asks ask false = refl
 
 from_move : (d : Vnfd) (asks : List Ask) (ask : Ask) (to : OpState) (b : Bool)
-    → levels_from d (cons_option (cond b (sets_levels ask to) None) asks) ≡ cond b (cond (is_some (sets_levels ask to)) (target d (levels_from d asks) ask) (levels_from d asks)) (levels_from d asks)
-from_move d asks ask to true = ap (λ (y : Option Ask). levels_from d (cons_option y asks)) (set_ask ask to) ∙ from_when d asks ask (is_some (sets_levels ask to))
+    → levels_from d (cons_option (cond b (sets_levels ask to) None) asks)
+    ≡ cond b (cond (is_some (sets_levels ask to)) (target d (levels_from d asks) ask) (levels_from d asks)) (levels_from d asks)
+from_move d asks ask to true = ap (λ (y : Option Ask). levels_from d (cons_option y asks)) (set_ask ask to)
+    ∙ from_when d asks ask (is_some (sets_levels ask to))
 from_move d asks ask to false = refl
 
 -- what a move makes of the levels of an instance
 pub levels-moved : (d : Vnfd) (H : List Event) (time i o : ℕ) (to : OpState) (a : Operation) → operation H o ≡ Some a
-    → levels d (event time (Moved o to) ∷ H) i ≡ cond (a.instance == i) (cond (is_some (sets_levels a.ask to)) (target d (levels d H i) a.ask) (levels d H i)) (levels d H i)
+    → levels d (event time (Moved o to) ∷ H) i ≡ cond (a.instance == i)
+    (cond (is_some (sets_levels a.ask to)) (target d (levels d H i) a.ask) (levels d H i)) (levels d H i)
 levels-moved d H time i o to a e =
     ap (λ (y : Option Ask). levels_from d (cons_option y (told (moving sets_levels i) H))) (moving_at sets_levels i H o to a e)
     ∙ from_move d (told (moving sets_levels i) H) a.ask to (a.instance == i)
 
 -- what goes on after a move
-pub goes_after : (H : List Event) (time o : ℕ) (to : OpState) (x : Operation) (b : Bool) → (o == x.occ) ≡ b → goes_on (event time (Moved o to) ∷ H) x ≡ cond b (not (is_final to)) (goes_on H x)
+pub goes_after : (H : List Event) (time o : ℕ) (to : OpState) (x : Operation) (b : Bool) → (o == x.occ) ≡ b
+    → goes_on (event time (Moved o to) ∷ H) x ≡ cond b (not (is_final to)) (goes_on H x)
 unfolding goes_on
 goes_after H time o to x true e = ap (λ (s : OpState). not (is_final s)) (state-moved H time x.occ o to true e)
 goes_after H time o to x false e = ap (λ (s : OpState). not (is_final s)) (state-moved H time x.occ o to false e)
@@ -93,8 +100,10 @@ unfolding goes_on
 went_on H a e = not-true (is_final (state H a.occ)) e
 
 -- a move sets the levels of no instance whose operation goes on
-kept_moved : (width m : ℕ) (H : List Event) (time o : ℕ) (to : OpState) (a : Operation) → IsLegalWithin width m H → IsAllowedWithin width m H (Moved o to) → IsIn a (operations H)
-    → goes_on (event time (Moved o to) ∷ H) a ≡ true → (d : Vnfd) → levels d (event time (Moved o to) ∷ H) a.instance ≡ levels d H a.instance
+kept_moved : (width m : ℕ) (H : List Event) (time o : ℕ) (to : OpState) (a : Operation) → IsLegalWithin width m H
+    → IsAllowedWithin width m H (Moved o to) → IsIn a (operations H)
+    → goes_on (event time (Moved o to) ∷ H) a ≡ true → (d : Vnfd) → levels d (event time (Moved o to) ∷ H) a.instance
+    ≡ levels d H a.instance
 kept_moved width m H time o to a legal allowed among goes d =
     let mover = some_value (operation H o) allowed.0 in
     levels-moved d H time a.instance o to mover.0 mover.1
@@ -107,53 +116,64 @@ kept_moved width m H time o to a legal allowed among goes d =
     (λ other.
     let before : is_final (state H a.occ) ≡ false = went_on H a (sym (goes_after H time o to a false other) ∙ goes) in
     let found : operation H a.occ ≡ Some a = find-own (λ x. x.occ) (operations H) a (operations_counted width m H legal) among in
-    let one : o ≡ a.occ = one_going width m H a.instance a.occ o a mover.0 legal found refl before mover.1 (eqb-true mover.0.instance a.instance ours) (moved_from H o to allowed.1) in
+    let one : o ≡ a.occ = one_going width m H a.instance a.occ o a mover.0 legal found refl before mover.1
+    (eqb-true mover.0.instance a.instance ours) (moved_from H o to allowed.1) in
     let clash : (o == a.occ) ≡ true = eq-eqb o a.occ one in cc))
     (λ away. rw away refl)
 
 -- an instance keeps its levels while an operation of it goes on
-pub levels-kept : (width m : ℕ) (H : List Event) (time : ℕ) (k : EventKind) (a : Operation) → IsLegalWithin width m H → IsAllowedWithin width m H k → IsIn a (operations H)
+pub levels-kept : (width m : ℕ) (H : List Event) (time : ℕ) (k : EventKind) (a : Operation) → IsLegalWithin width m H
+    → IsAllowedWithin width m H k → IsIn a (operations H)
     → goes_on (event time k ∷ H) a ≡ true → (d : Vnfd) → levels d (event time k ∷ H) a.instance ≡ levels d H a.instance
 unfolding moving
 levels-kept width m H time (Moved o to) a legal allowed among goes d = kept_moved width m H time o to a legal allowed among goes d
 levels-kept width m H time k a legal allowed among goes d = refl
 
 -- the descriptor of an operation's instance is known
-pub planned_descriptor : (H : List Event) (a : Operation) (o : Option Vnfd) → descriptor H a.instance ≡ o → IsPlanOf H a o → (d : Vnfd) × (descriptor H a.instance ≡ Some d)
+pub planned_descriptor : (H : List Event) (a : Operation) (o : Option Vnfd) → descriptor H a.instance ≡ o → IsPlanOf H a o
+    → (d : Vnfd) × (descriptor H a.instance ≡ Some d)
 planned_descriptor H a None is h = absurd h
 planned_descriptor H a (Some d) is h = (d, is)
 
 abbrev OwnDescriptors : List Event → Type 0
 OwnDescriptors H = (a : Operation) → IsIn a (operations H) → (d : Vnfd) × (descriptor H a.instance ≡ Some d)
 
-later_descriptor : (width m : ℕ) (H : List Event) (time : ℕ) (k : EventKind) (i : ℕ) → IsLegalWithin width m H → IsAllowedWithin width m H k → (d : Vnfd) × (descriptor H i ≡ Some d)
+later_descriptor : (width m : ℕ) (H : List Event) (time : ℕ) (k : EventKind) (i : ℕ) → IsLegalWithin width m H → IsAllowedWithin width m H k
+    → (d : Vnfd) × (descriptor H i ≡ Some d)
     → (d : Vnfd) × (descriptor (event time k ∷ H) i ≡ Some d)
 later_descriptor width m H time k i legal allowed h = (h.0, descriptor-next width m H time k i h.0 legal allowed h.1)
 
-own_step : (width m : ℕ) (H : List Event) (time : ℕ) (k : EventKind) → IsLegalWithin width m H → IsAllowedWithin width m H k → OwnDescriptors H → OwnDescriptors (event time k ∷ H)
+own_step : (width m : ℕ) (H : List Event) (time : ℕ) (k : EventKind) → IsLegalWithin width m H → IsAllowedWithin width m H k
+    → OwnDescriptors H → OwnDescriptors (event time k ∷ H)
 own_step width m H time (Asked b) legal allowed h a (inl e) =
     subst (λ (z : Operation). (d : Vnfd) × (descriptor (event time (Asked b) ∷ H) z.instance ≡ Some d)) e
-    (later_descriptor width m H time (Asked b) b.instance legal allowed (planned_descriptor H b (descriptor H b.instance) refl allowed.planned))
+    (later_descriptor width m H time (Asked b) b.instance legal allowed
+    (planned_descriptor H b (descriptor H b.instance) refl allowed.planned))
 own_step width m H time (Asked b) legal allowed h a (inr g) = later_descriptor width m H time (Asked b) a.instance legal allowed (h a g)
 own_step width m H time (Onboarded x) legal allowed h a g = later_descriptor width m H time (Onboarded x) a.instance legal allowed (h a g)
-own_step width m H time (Created j vnfd name text) legal allowed h a g = later_descriptor width m H time (Created j vnfd name text) a.instance legal allowed (h a g)
+own_step width m H time (Created j vnfd name text) legal allowed h a g =
+    later_descriptor width m H time (Created j vnfd name text) a.instance legal allowed (h a g)
 own_step width m H time _ legal allowed h a g = h a g
 
 pub own_descriptors : (width m : ℕ) (H : List Event) → IsLegalWithin width m H → OwnDescriptors H
-own_descriptors width m H legal = legal_induction width m OwnDescriptors (λ a h. absurd h) (λ H time k legal allowed h. own_step width m H time k legal allowed h) H legal
+own_descriptors width m H legal = legal_induction width m OwnDescriptors (λ a h. absurd h)
+    (λ H time k legal allowed h. own_step width m H time k legal allowed h) H legal
 
 -- an operation aims at the same levels while it goes on
-pub aim-kept : (width m : ℕ) (H : List Event) (time : ℕ) (k : EventKind) (a : Operation) → IsLegalWithin width m H → IsAllowedWithin width m H k → IsIn a (operations H)
+pub aim-kept : (width m : ℕ) (H : List Event) (time : ℕ) (k : EventKind) (a : Operation) → IsLegalWithin width m H
+    → IsAllowedWithin width m H k → IsIn a (operations H)
     → goes_on (event time k ∷ H) a ≡ true → aim (event time k ∷ H) a ≡ aim H a
 aim-kept width m H time k a legal allowed among goes =
     let own = own_descriptors width m H legal a among in
-    let later : descriptor (event time k ∷ H) a.instance ≡ Some own.0 = descriptor-next width m H time k a.instance own.0 legal allowed own.1 in
+    let later : descriptor (event time k ∷ H) a.instance ≡ Some own.0 =
+    descriptor-next width m H time k a.instance own.0 legal allowed own.1 in
     ap (λ (y : Option Vnfd). option_map_or (λ d. target d (levels d (event time k ∷ H) a.instance) a.ask) y []) later
     ∙ (ap (λ (ns : List ℕ). target own.0 ns a.ask) (levels-kept width m H time k a legal allowed among goes own.0)
     ∙ sym (ap (λ (y : Option Vnfd). option_map_or (λ d. target d (levels d H a.instance) a.ask) y []) own.1))
 
 -- the levels of an instance are one an aspect
-unwrap_long : (d : Vnfd) (o : Option (List ℕ)) (ns : List ℕ) → IfSome o (λ ns. are_levels_of d ns ≡ true) → length ns ≡ length d.aspects → length (unwrap_or o ns) ≡ length d.aspects
+unwrap_long : (d : Vnfd) (o : Option (List ℕ)) (ns : List ℕ) → IfSome o (λ ns. are_levels_of d ns ≡ true) → length ns ≡ length d.aspects
+    → length (unwrap_or o ns) ≡ length d.aspects
 unwrap_long d None ns h g = g
 unwrap_long d (Some ms) ns h g = levels_length d ms h
 
@@ -164,9 +184,11 @@ asked_long : (d : Vnfd) (level : Option (List ℕ)) → IsValid d → length (as
 asked_long d None valid = default_long d valid
 asked_long d (Some name) valid = unwrap_long d (level_of d name) (default_level d) (named_levels d name valid) (default_long d valid)
 
-pub replaced_long : (d : Vnfd) (named : List AspectLevel) (ns : List ℕ) → length ns ≡ length d.aspects → length (replaced d ns named) ≡ length d.aspects
+pub replaced_long : (d : Vnfd) (named : List AspectLevel) (ns : List ℕ) → length ns ≡ length d.aspects
+    → length (replaced d ns named) ≡ length d.aspects
 replaced_long d [] ns h = h
-replaced_long d (x ∷ named) ns h = replaced_long d named (at_aspect d.aspects x.aspect (to_level x.level) ns) (at_length d.aspects x.aspect (to_level x.level) ns h)
+replaced_long d (x ∷ named) ns h = replaced_long d named (at_aspect d.aspects x.aspect (to_level x.level) ns)
+    (at_length d.aspects x.aspect (to_level x.level) ns h)
 
 aimed_long : (d : Vnfd) (aim : Aim) (ns : List ℕ) → IsValid d → length ns ≡ length d.aspects → length (aimed d ns aim) ≡ length d.aspects
 aimed_long d (aims.Level name) ns valid h = unwrap_long d (level_of d name) ns (named_levels d name valid) h

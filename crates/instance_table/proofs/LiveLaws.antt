@@ -1,5 +1,7 @@
 -- What was deleted or ended was made, and where what is live stands.
-use Rattle.std.proofs.Common.{◌≡◌, ◌≤◌, ◌++◌, ◌==◌, ◌&&◌, ◌||◌, ◌∙◌, ℕ, List, [], ◌∷◌, Bool, true, false, cond, not, Option, None, Some, is_some, refl, ap, sym, subst, length, map, filter, find, reverse, option_map, arith, eqb-true, eq-eqb, false-eqb}
+use Rattle.std.proofs.Common.{◌≡◌, ◌≤◌, ◌++◌, ◌==◌, ◌&&◌, ◌||◌, ◌∙◌, ℕ, List, [], ◌∷◌, Bool, true, false, cond, not, Option, None, Some}
+use Rattle.std.proofs.Common.{is_some, refl, ap, sym, subst, length, map, filter, find, reverse, option_map, arith, eqb-true, eq-eqb}
+use Rattle.std.proofs.Common.{false-eqb}
 use Rattle.std.proofs.lemmas.List.{length-reverse, length-map}
 use Rattle.std.proofs.lemmas.List.Elements.{filter-append}
 use mathlib.Core.List.{reverse-cons}
@@ -7,7 +9,8 @@ use Rattle.lcm_events.specs.declared.events.Event.{Event}
 use Rattle.lcm_events.specs.declared.events.EventKind.{EventKind}
 use Rattle.lcm_events.specs.declared.events.EventKind.TheVariants.{Created, Deleted, Subscribed, Unsubscribed}
 use Rattle.lcm_model.specs.Allowed.{IsAllowedWithin, IsLegalWithin}
-use Rattle.lcm_model.specs.Lives.{creation, creations, instances_made, is_deleted, is_unsubscribed, subscription, subscriptions, subscriptions_made}
+use Rattle.lcm_model.specs.Lives.{creation, creations, instances_made, is_deleted, is_unsubscribed, subscription, subscriptions}
+use Rattle.lcm_model.specs.Lives.{subscriptions_made}
 use Rattle.lcm_laws.proofs.Histories.{event, legal_induction}
 use Rattle.lcm_laws.proofs.Lists.{and_left, by_test, filter_both}
 use Rattle.lcm_laws.proofs.NumberLaws.{found_within, instances_counted, subscriptions_counted}
@@ -16,7 +19,8 @@ use Rattle.lcm_laws.proofs.NumberLaws.{found_within, instances_counted, subscrip
 abbrev DeletedMade : List Event → Type 0
 DeletedMade H = (i : ℕ) → is_deleted H i ≡ true → i ≤ instances_made H
 
-deleted_step : (width m : ℕ) (H : List Event) (time : ℕ) (k : EventKind) → IsLegalWithin width m H → IsAllowedWithin width m H k → DeletedMade H → DeletedMade (event time k ∷ H)
+deleted_step : (width m : ℕ) (H : List Event) (time : ℕ) (k : EventKind) → IsLegalWithin width m H → IsAllowedWithin width m H k
+    → DeletedMade H → DeletedMade (event time k ∷ H)
 deleted_step width m H time (Created n vnfd name text) legal allowed h i gone = let before = h i gone in omega (arith, before)
 deleted_step width m H time (Deleted n) legal allowed h i gone = by_test (n == i)
     (λ same.
@@ -28,13 +32,15 @@ deleted_step width m H time (Deleted n) legal allowed h i gone = by_test (n == i
 deleted_step width m H time k legal allowed h i gone = h i gone
 
 pub deleted_made : (width m : ℕ) (H : List Event) → IsLegalWithin width m H → DeletedMade H
-deleted_made width m H legal = legal_induction width m DeletedMade (λ i gone. cc) (λ H time k legal allowed h. deleted_step width m H time k legal allowed h) H legal
+deleted_made width m H legal = legal_induction width m DeletedMade (λ i gone. cc)
+    (λ H time k legal allowed h. deleted_step width m H time k legal allowed h) H legal
 
 -- a subscription that was ended has a number of one that was made
 abbrev EndedMade : List Event → Type 0
 EndedMade H = (s : ℕ) → is_unsubscribed H s ≡ true → s ≤ subscriptions_made H
 
-ended_step : (width m : ℕ) (H : List Event) (time : ℕ) (k : EventKind) → IsLegalWithin width m H → IsAllowedWithin width m H k → EndedMade H → EndedMade (event time k ∷ H)
+ended_step : (width m : ℕ) (H : List Event) (time : ℕ) (k : EventKind) → IsLegalWithin width m H → IsAllowedWithin width m H k → EndedMade H
+    → EndedMade (event time k ∷ H)
 ended_step width m H time (Subscribed n role callback filter) legal allowed h s gone = let before = h s gone in omega (arith, before)
 ended_step width m H time (Unsubscribed n) legal allowed h s gone = by_test (n == s)
     (λ same.
@@ -46,7 +52,8 @@ ended_step width m H time (Unsubscribed n) legal allowed h s gone = by_test (n =
 ended_step width m H time k legal allowed h s gone = h s gone
 
 pub ended_made : (width m : ℕ) (H : List Event) → IsLegalWithin width m H → EndedMade H
-ended_made width m H legal = legal_induction width m EndedMade (λ s gone. cc) (λ H time k legal allowed h. ended_step width m H time k legal allowed h) H legal
+ended_made width m H legal = legal_induction width m EndedMade (λ s gone. cc)
+    (λ H time k legal allowed h. ended_step width m H time k legal allowed h) H legal
 
 -- what isn't so is false
 pub false_by : (b : Bool) → (b ≡ true → ⊥) → b ≡ false
@@ -65,7 +72,8 @@ filter_reverse p (x ∷ xs) =
     ap (filter p) (reverse-cons x xs)
     ∙ (filter-append p (reverse xs) (x ∷ [])
     ∙ (ap (λ ys. ys ++ filter p (x ∷ [])) (filter_reverse p xs)
-    ∙ by_test (p x) (λ passes. rw passes (sym (reverse-cons x (filter p xs)))) (λ fails. rw fails (nil_right (reverse (filter p xs)))))) where
+    ∙ by_test (p x) (λ passes. rw passes (sym (reverse-cons x (filter p xs))))
+    (λ fails. rw fails (nil_right (reverse (filter p xs)))))) where
       nil_right : {A : Type 0} → (ys : List A) → ys ++ [] ≡ ys
       nil_right [] = refl
       nil_right (y ∷ ys) = ap (λ zs. y ∷ zs) (nil_right ys)
@@ -113,12 +121,14 @@ find-filter f p n (x ∷ xs) b e = by_test (f x == n)
       at_number true false same is rest = cc
       at_number false true same is rest = cc
 
-pub find-map : {A B : Type 0} → (f : B → ℕ) (g : A → B) (n : ℕ) (xs : List A) → find (λ y. f y == n) (map g xs) ≡ option_map g (find (λ x. f (g x) == n) xs)
+pub find-map : {A B : Type 0} → (f : B → ℕ) (g : A → B) (n : ℕ) (xs : List A)
+    → find (λ y. f y == n) (map g xs) ≡ option_map g (find (λ x. f (g x) == n) xs)
 find-map f g n [] = refl
 find-map f g n (x ∷ xs) = by_test (f (g x) == n) (λ same. rw same refl) (λ other. rw other (find-map f g n xs))
 
 -- what is there and passes, or is none
-pub if_there : {A B : Type 0} → (g : A → B) (y : Option A) (b : Bool) → option_map g (cond b y None) ≡ cond (is_some y && b) (option_map g y) None
+pub if_there : {A B : Type 0} → (g : A → B) (y : Option A) (b : Bool)
+    → option_map g (cond b y None) ≡ cond (is_some y && b) (option_map g y) None
 if_there g None true = refl
 if_there g None false = refl
 if_there g (Some x) true = refl

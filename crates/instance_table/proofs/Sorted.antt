@@ -1,5 +1,7 @@
 -- Lists in the order of a number that each entry has.
-use Rattle.std.proofs.Common.{◌≡◌, ◌≤◌, ◌<◌, ◌+◌, ◌++◌, ◌==◌, ◌∙◌, ℕ, List, [], ◌∷◌, zero, suc, Bool, true, false, cond, Option, None, Some, refl, ap, sym, subst, length, map, filter, find, reverse, slice_get, arith, eqb-true, eq-eqb, nat_lt, lt-ltb, ltb-true, ltb-false, set, get_or, is_some, not, remove}
+use Rattle.std.proofs.Common.{◌≡◌, ◌≤◌, ◌<◌, ◌+◌, ◌++◌, ◌==◌, ◌∙◌, ℕ, List, [], ◌∷◌, zero, suc, Bool, true, false, cond, Option, None, Some}
+use Rattle.std.proofs.Common.{refl, ap, sym, subst, length, map, filter, find, reverse, slice_get, arith, eqb-true, eq-eqb, nat_lt, lt-ltb}
+use Rattle.std.proofs.Common.{ltb-true, ltb-false, set, get_or, is_some, not, remove}
 use Rattle.std.specs.Prelude.{IfSome, slice_index_or}
 use Rattle.std.specs.List.Sorted.{IsPartitionPoint, IsPartitionedBy}
 use mathlib.Core.List.{reverse-cons}
@@ -24,7 +26,10 @@ under-more f n k (x ∷ xs) b h = let low = b.0 in (omega (arith, low, h), under
 
 under-counted : {A : Type 0} → (f : A → ℕ) (xs : List A) → IsCounted f xs → Under f (length xs + 1) xs
 under-counted f [] c = tt
-under-counted f (x ∷ xs) c = let number = c.0 in (omega (arith, number), under-more f (length xs + 1) (suc (length xs) + 1) xs (under-counted f xs c.1) (omega arith))
+under-counted f (x ∷ xs) c = let number = c.0 in (
+  omega (arith, number),
+  under-more f (length xs + 1) (suc (length xs) + 1) xs (under-counted f xs c.1) (omega arith),
+)
 
 -- numbers that are counted fall
 pub falls-counted : {A : Type 0} → (f : A → ℕ) (xs : List A) → IsCounted f xs → Falls f xs
@@ -33,12 +38,14 @@ falls-counted f (x ∷ xs) c = (subst (λ (n : ℕ). Under f n xs) (sym c.0) (un
 
 under-filter : {A : Type 0} → (f : A → ℕ) (p : A → Bool) (n : ℕ) (xs : List A) → Under f n xs → Under f n (filter p xs)
 under-filter f p n [] b = tt
-under-filter f p n (x ∷ xs) b = by_test (p x) (λ passes. rw passes (b.0, under-filter f p n xs b.1)) (λ fails. rw fails (under-filter f p n xs b.1))
+under-filter f p n (x ∷ xs) b = by_test (p x) (λ passes. rw passes (b.0, under-filter f p n xs b.1))
+    (λ fails. rw fails (under-filter f p n xs b.1))
 
 -- what is left out changes no order
 pub falls-filter : {A : Type 0} → (f : A → ℕ) (p : A → Bool) (xs : List A) → Falls f xs → Falls f (filter p xs)
 falls-filter f p [] b = tt
-falls-filter f p (x ∷ xs) b = by_test (p x) (λ passes. rw passes (under-filter f p (f x) xs b.0, falls-filter f p xs b.1)) (λ fails. rw fails (falls-filter f p xs b.1))
+falls-filter f p (x ∷ xs) b = by_test (p x) (λ passes. rw passes (under-filter f p (f x) xs b.0, falls-filter f p xs b.1))
+    (λ fails. rw fails (falls-filter f p xs b.1))
 
 under-map : {A B : Type 0} → (f : B → ℕ) (g : A → B) (n : ℕ) (xs : List A) → Under (λ x. f (g x)) n xs → Under f n (map g xs)
 under-map f g n [] b = tt
@@ -58,7 +65,8 @@ under-end f n (x ∷ xs) y b h = (b.0, under-end f n xs y b.1 h)
 
 under-reverse : {A : Type 0} → (f : A → ℕ) (n : ℕ) (xs : List A) → Under f n xs → Under f n (reverse xs)
 under-reverse f n [] b = tt
-under-reverse f n (x ∷ xs) b = subst (λ ys. Under f n ys) (sym (reverse-cons x xs)) (under-end f n (reverse xs) x (under-reverse f n xs b.1) b.0)
+under-reverse f n (x ∷ xs) b = subst (λ ys. Under f n ys) (sym (reverse-cons x xs))
+    (under-end f n (reverse xs) x (under-reverse f n xs b.1) b.0)
 
 rises-end : {A : Type 0} → (f : A → ℕ) (xs : List A) (y : A) → Rises f xs → Under f (f y) xs → Rises f (xs ++ y ∷ [])
 rises-end f [] y r b = (tt, tt)
@@ -78,18 +86,21 @@ pub under-none : {A : Type 0} → (f : A → ℕ) (n : ℕ) (xs : List A) → Un
 under-none f n [] b = refl
 under-none f n (x ∷ xs) b =
     let low = b.0 in
-    let other : (f x == n) ≡ false = by_test (f x == n) (λ same. let is : f x ≡ n = eqb-true (f x) n same in absurd (omega (arith, low, is))) (λ no. no) in
+    let other : (f x == n) ≡ false = by_test (f x == n) (λ same. let is : f x ≡ n = eqb-true (f x) n same in
+    absurd (omega (arith, low, is))) (λ no. no) in
     rw other (under-none f n xs b.1)
 
 over-none : {A : Type 0} → (f : A → ℕ) (n : ℕ) (xs : List A) → Over f n xs → find (λ x. f x == n) xs ≡ None
 over-none f n [] b = refl
 over-none f n (x ∷ xs) b =
     let low = b.0 in
-    let other : (f x == n) ≡ false = by_test (f x == n) (λ same. let is : f x ≡ n = eqb-true (f x) n same in absurd (omega (arith, low, is))) (λ no. no) in
+    let other : (f x == n) ≡ false = by_test (f x == n) (λ same. let is : f x ≡ n = eqb-true (f x) n same in
+    absurd (omega (arith, low, is))) (λ no. no) in
     rw other (over-none f n xs b.1)
 
 -- what has a number is found from either end
-pub find-reverse : {A : Type 0} → (f : A → ℕ) (n : ℕ) (xs : List A) → Falls f xs → find (λ x. f x == n) (reverse xs) ≡ find (λ x. f x == n) xs
+pub find-reverse : {A : Type 0} → (f : A → ℕ) (n : ℕ) (xs : List A) → Falls f xs
+    → find (λ x. f x == n) (reverse xs) ≡ find (λ x. f x == n) xs
 find-reverse f n [] b = refl
 find-reverse f n (x ∷ xs) b =
     ap (λ ys. find (λ x. f x == n) ys) (reverse-cons x xs)
@@ -136,17 +147,21 @@ leading-is f n [] k h point = omega (arith, h)
 leading-is f n (x ∷ xs) zero h point = let fails : nat_lt (f x) n ≡ false = point.1 0 x (omega arith) (omega arith) in rw fails refl
 leading-is f n (x ∷ xs) (suc k) h point =
     let passes : nat_lt (f x) n ≡ true = point.0 0 x (omega arith) (omega arith) in
-    let rest : k ≡ leading f n xs = leading-is f n xs k (omega (arith, h))
-    ((λ j d low high. point.0 (suc j) d (omega arith) (omega (arith, high))), (λ j d low high. point.1 (suc j) d (omega (arith, low)) (omega (arith, high)))) in
+    let rest : k ≡ leading f n xs = leading-is f n xs k (omega (arith, h)) (
+      (λ j d low high. point.0 (suc j) d (omega arith) (omega (arith, high))),
+      (λ j d low high. point.1 (suc j) d (omega (arith, low)) (omega (arith, high))),
+    ) in
     rw passes (ap suc rest)
 
 -- what has a number stands behind those below it
-pub found-behind : {A : Type 0} → (f : A → ℕ) (n : ℕ) (xs : List A) → Rises f xs → with_key f n (slice_get xs (leading f n xs)) ≡ find (λ x. f x == n) xs
+pub found-behind : {A : Type 0} → (f : A → ℕ) (n : ℕ) (xs : List A) → Rises f xs
+    → with_key f n (slice_get xs (leading f n xs)) ≡ find (λ x. f x == n) xs
 found-behind f n [] r = refl
 found-behind f n (x ∷ xs) r = by_test (nat_lt (f x) n)
     (λ low.
     let less = ltb-true (f x) n low in
-    let other : (f x == n) ≡ false = by_test (f x == n) (λ same. let is : f x ≡ n = eqb-true (f x) n same in absurd (omega (arith, less, is))) (λ no. no) in
+    let other : (f x == n) ≡ false = by_test (f x == n) (λ same. let is : f x ≡ n = eqb-true (f x) n same in
+    absurd (omega (arith, less, is))) (λ no. no) in
     rw (low, other) (found-behind f n xs r.1))
     (λ high. rw high (by_test (f x == n)
     (λ same. rw same refl)
@@ -156,7 +171,9 @@ found-behind f n (x ∷ xs) r = by_test (nat_lt (f x) n)
     let none : find (λ y. f y == n) xs ≡ None = over-none f n xs (over-less f (f x) n xs r.0 above) in
     rw (other, none) refl))) where
       differ : (a b : ℕ) → b ≤ a → (a == b) ≡ false → b < a
-      differ a b h e = by_test (nat_lt b a) (λ less. ltb-true b a less) (λ no. let le = ltb-false b a no in let is : a ≡ b = omega (arith, h, le) in let same : (a == b) ≡ true = eq-eqb a b is in let clash : true ≡ false = sym same ∙ e in cc)
+      differ a b h e = by_test (nat_lt b a) (λ less. ltb-true b a less)
+          (λ no. let le = ltb-false b a no in let is : a ≡ b = omega (arith, h, le) in let same : (a == b) ≡ true = eq-eqb a b is in
+          let clash : true ≡ false = sym same ∙ e in cc)
 
       over-less : {A : Type 0} → (f : A → ℕ) (n k : ℕ) (xs : List A) → Over f n xs → k < n → Over f k xs
       over-less f n k [] b h = tt
@@ -176,7 +193,8 @@ update-past f zero (x ∷ xs) h = absurd (omega (arith, h))
 update-past f (suc n) (x ∷ xs) h = ap (λ ys. x ∷ ys) (update-past f n xs (omega (arith, h)))
 
 -- what is written at a place is what the change makes of the entry there
-pub update-set : {A : Type 0} → (f : A → A) (n : ℕ) (xs : List A) (x : A) → n < length xs → x ≡ get_or xs n x → set xs n (f x) ≡ update f n xs
+pub update-set : {A : Type 0} → (f : A → A) (n : ℕ) (xs : List A) (x : A) → n < length xs → x ≡ get_or xs n x
+    → set xs n (f x) ≡ update f n xs
 update-set f n [] x h e = absurd (omega (arith, h))
 update-set f zero (y ∷ ys) x h e = ap (λ z. f z ∷ ys) e
 update-set f (suc n) (y ∷ ys) x h e = ap (λ zs. y ∷ zs) (update-set f n ys x (omega (arith, h)) e)
@@ -187,30 +205,38 @@ not_within n zero f = omega arith
 not_within zero (suc k) f = let e : false ≡ true = f (omega arith) in cc
 not_within (suc n) (suc k) f = let less : k ≤ n = not_within n k (λ h. f (omega (arith, h))) in omega (arith, less)
 
-over-same : {A : Type 0} → (f : A → ℕ) (n k : ℕ) (g : A → A) (xs : List A) → Over f k xs → n ≤ k → ((x : A) → (f x == n) ≡ false → g x ≡ x) → xs ≡ map g xs
+over-same : {A : Type 0} → (f : A → ℕ) (n k : ℕ) (g : A → A) (xs : List A) → Over f k xs → n ≤ k → ((x : A) → (f x == n) ≡ false → g x ≡ x)
+    → xs ≡ map g xs
 over-same f n k g [] b h e = refl
 over-same f n k g (x ∷ xs) b h e =
     let up = b.0 in
-    let other : (f x == n) ≡ false = by_test (f x == n) (λ same. let is : f x ≡ n = eqb-true (f x) n same in absurd (omega (arith, up, h, is))) (λ no. no) in
+    let other : (f x == n) ≡ false = by_test (f x == n) (λ same. let is : f x ≡ n = eqb-true (f x) n same in
+    absurd (omega (arith, up, h, is))) (λ no. no) in
     ap (λ ys. x ∷ ys) (over-same f n k g xs b.1 h e) ∙ ap (λ y. y ∷ map g xs) (sym (e x other))
 
-update-leading : {A : Type 0} → (f : A → ℕ) (n : ℕ) (g : A → A) (xs : List A) → Rises f xs → ((x : A) → (f x == n) ≡ false → g x ≡ x) → update g (leading f n xs) xs ≡ map g xs
+update-leading : {A : Type 0} → (f : A → ℕ) (n : ℕ) (g : A → A) (xs : List A) → Rises f xs → ((x : A) → (f x == n) ≡ false → g x ≡ x)
+    → update g (leading f n xs) xs ≡ map g xs
 update-leading f n g [] r e = refl
 update-leading f n g (x ∷ xs) r e = by_test (nat_lt (f x) n)
     (λ low.
     let less = ltb-true (f x) n low in
-    let other : (f x == n) ≡ false = by_test (f x == n) (λ same. let is : f x ≡ n = eqb-true (f x) n same in absurd (omega (arith, less, is))) (λ no. no) in
+    let other : (f x == n) ≡ false = by_test (f x == n) (λ same. let is : f x ≡ n = eqb-true (f x) n same in
+    absurd (omega (arith, less, is))) (λ no. no) in
     rw low (ap (λ ys. x ∷ ys) (update-leading f n g xs r.1 e) ∙ ap (λ y. y ∷ map g xs) (sym (e x other))))
     (λ high. let more = ltb-false (f x) n high in rw high (ap (λ ys. g x ∷ ys) (over-same f n (f x) g xs r.0 more e)))
 
-changed_here : {A : Type 0} → (f : A → ℕ) (n : ℕ) (g : A → A) (xs : List A) (k : ℕ) → Rises f xs → ((x : A) → (f x == n) ≡ false → g x ≡ x) → k ≤ length xs
-    → (IsPartitionedBy (λ x. nat_lt (f x) n) xs → IsPartitionPoint (λ x. nat_lt (f x) n ≡ true) (λ x. nat_lt (f x) n ≡ false) xs k) → update g k xs ≡ map g xs
+changed_here : {A : Type 0} → (f : A → ℕ) (n : ℕ) (g : A → A) (xs : List A) (k : ℕ) → Rises f xs → ((x : A) → (f x == n) ≡ false → g x ≡ x)
+    → k ≤ length xs
+    → (IsPartitionedBy (λ x. nat_lt (f x) n) xs → IsPartitionPoint (λ x. nat_lt (f x) n ≡ true) (λ x. nat_lt (f x) n ≡ false) xs k)
+    → update g k xs ≡ map g xs
 changed_here f n g xs k r e h point =
     ap (λ (j : ℕ). update g j xs) (leading-is f n xs k h (point (parted f n xs r))) ∙ update-leading f n g xs r e
 
 -- what changes one number alone is done where a search by number leads
-pub changed_one : {A : Type 0} → (f : A → ℕ) (n : ℕ) (g : A → A) (xs ys : List A) (k : ℕ) → ys ≡ xs → Rises f xs → ((x : A) → (f x == n) ≡ false → g x ≡ x) → k ≤ length ys
-    → (IsPartitionedBy (λ x. nat_lt (f x) n) ys → IsPartitionPoint (λ x. nat_lt (f x) n ≡ true) (λ x. nat_lt (f x) n ≡ false) ys k) → update g k xs ≡ map g xs
+pub changed_one : {A : Type 0} → (f : A → ℕ) (n : ℕ) (g : A → A) (xs ys : List A) (k : ℕ) → ys ≡ xs → Rises f xs
+    → ((x : A) → (f x == n) ≡ false → g x ≡ x) → k ≤ length ys
+    → (IsPartitionedBy (λ x. nat_lt (f x) n) ys → IsPartitionPoint (λ x. nat_lt (f x) n ≡ true) (λ x. nat_lt (f x) n ≡ false) ys k)
+    → update g k xs ≡ map g xs
 changed_one f n g xs ys k is r e h point =
     subst (λ zs. update g k zs ≡ map g zs) is (changed_here f n g ys k (subst (λ zs. Rises f zs) (sym is) r) e h point)
 
@@ -228,7 +254,8 @@ key_within f n (x ∷ xs) zero e = omega arith
 key_within f n (x ∷ xs) (suc k) e = let less = key_within f n xs k e in omega (arith, less)
 
 -- the entry at a place is the one with this number there
-pub key_taken : {A : Type 0} → (f : A → ℕ) (n : ℕ) (xs : List A) (k : ℕ) (r : A) → is_some (with_key f n (slice_get xs k)) ≡ true → r ≡ slice_index_or xs k r
+pub key_taken : {A : Type 0} → (f : A → ℕ) (n : ℕ) (xs : List A) (k : ℕ) (r : A) → is_some (with_key f n (slice_get xs k)) ≡ true
+    → r ≡ slice_index_or xs k r
     → Some r ≡ with_key f n (slice_get xs k)
 key_taken f n [] k r e g = cc
 key_taken f n (x ∷ xs) zero r e g = by_test (f x == n)
@@ -240,7 +267,8 @@ over-stay : {A : Type 0} → (f : A → ℕ) (n k : ℕ) (xs : List A) → Over 
 over-stay f n k [] b h = refl
 over-stay f n k (x ∷ xs) b h =
     let up = b.0 in
-    let other : (f x == n) ≡ false = by_test (f x == n) (λ same. let is : f x ≡ n = eqb-true (f x) n same in absurd (omega (arith, up, h, is))) (λ no. no) in
+    let other : (f x == n) ≡ false = by_test (f x == n) (λ same. let is : f x ≡ n = eqb-true (f x) n same in
+    absurd (omega (arith, up, h, is))) (λ no. no) in
     rw other (ap (λ ys. x ∷ ys) (over-stay f n k xs b.1 h))
 
 cons-cond : {A : Type 0} → (x : A) (b : Bool) (xs ys : List A) → cond b (x ∷ xs) (x ∷ ys) ≡ x ∷ cond b xs ys
@@ -254,8 +282,10 @@ removed-leading f n [] r = refl
 removed-leading f n (x ∷ xs) r = by_test (nat_lt (f x) n)
     (λ low.
     let less = ltb-true (f x) n low in
-    let other : (f x == n) ≡ false = by_test (f x == n) (λ same. let is : f x ≡ n = eqb-true (f x) n same in absurd (omega (arith, less, is))) (λ no. no) in
-    rw (low, other) (cons-cond x (is_some (with_key f n (slice_get xs (leading f n xs)))) (remove xs (leading f n xs)) xs ∙ ap (λ ys. x ∷ ys) (removed-leading f n xs r.1)))
+    let other : (f x == n) ≡ false = by_test (f x == n) (λ same. let is : f x ≡ n = eqb-true (f x) n same in
+    absurd (omega (arith, less, is))) (λ no. no) in
+    rw (low, other) (cons-cond x (is_some (with_key f n (slice_get xs (leading f n xs)))) (remove xs (leading f n xs)) xs
+    ∙ ap (λ ys. x ∷ ys) (removed-leading f n xs r.1)))
     (λ high.
     let more = ltb-false (f x) n high in
     let rest = over-stay f n (f x) xs r.0 more in
@@ -263,15 +293,18 @@ removed-leading f n (x ∷ xs) r = by_test (nat_lt (f x) n)
 
 -- what is taken out where a search by number leads
 pub removed_at : {A : Type 0} → (f : A → ℕ) (n : ℕ) (xs ys : List A) (k : ℕ) (r : Option A) → ys ≡ xs → Rises f xs → k ≤ length ys
-    → (IsPartitionedBy (λ x. nat_lt (f x) n) ys → IsPartitionPoint (λ x. nat_lt (f x) n ≡ true) (λ x. nat_lt (f x) n ≡ false) ys k) → r ≡ with_key f n (slice_get xs k)
+    → (IsPartitionedBy (λ x. nat_lt (f x) n) ys → IsPartitionPoint (λ x. nat_lt (f x) n ≡ true) (λ x. nat_lt (f x) n ≡ false) ys k)
+    → r ≡ with_key f n (slice_get xs k)
     → cond (is_some r) (remove xs k) xs ≡ filter (λ x. not (f x == n)) xs
 removed_at f n xs ys k r is rises h point e =
-    let at : k ≡ leading f n xs = subst (λ zs. k ≡ leading f n zs) is (leading-is f n ys k h (point (parted f n ys (subst (λ zs. Rises f zs) (sym is) rises)))) in
+    let at : k ≡ leading f n xs = subst (λ zs. k ≡ leading f n zs) is
+    (leading-is f n ys k h (point (parted f n ys (subst (λ zs. Rises f zs) (sym is) rises)))) in
     ap (λ y. cond (is_some y) (remove xs k) xs) e
     ∙ (ap (λ (j : ℕ). cond (is_some (with_key f n (slice_get xs j))) (remove xs j) xs) at ∙ removed-leading f n xs rises)
 
 -- what holds of the entry with a number at a place holds of the entry there, where it has the number
-pub key_holds : {A : Type 0} → (f : A → ℕ) (n : ℕ) (P : A → Type 0) (xs : List A) (k : ℕ) (x : A) → k < length xs → x ≡ get_or xs k x → IfSome (with_key f n (slice_get xs k)) P
+pub key_holds : {A : Type 0} → (f : A → ℕ) (n : ℕ) (P : A → Type 0) (xs : List A) (k : ℕ) (x : A) → k < length xs → x ≡ get_or xs k x
+    → IfSome (with_key f n (slice_get xs k)) P
     → (f x == n) ≡ true → P x
 key_holds f n P [] k x h e holds same = absurd (omega (arith, h))
 key_holds f n P (y ∷ ys) zero x h e holds same =

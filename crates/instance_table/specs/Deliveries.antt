@@ -7,4 +7,5 @@ use Rattle.instance_table.specs.Rows.{tries_past}
 
 -- in a legal history the tries past a subscription's cursor are those of the notice that comes next (own rule)
 abbrev pub TriesAreOfTheNextNotice : Type 0
-TriesAreOfTheNextNotice = (width m : ℕ) (H : List Event) → IsLegalWithin width m H → (s place : ℕ) → next_notice m H s ≡ Some place → tries_past H s ≡ tries H s place
+TriesAreOfTheNextNotice = (width m : ℕ) (H : List Event) → IsLegalWithin width m H → (s place : ℕ)
+    → next_notice m H s ≡ Some place → tries_past H s ≡ tries H s place

@@ -1,8 +1,11 @@
 -- What the rows of the table are: a function of the history (SOL 003 5.4.2, VNF instances; 5.4.18, Subscriptions).
-use Rattle.std.specs.Prelude.{Bool, List, [], None, Option, false, if◌then◌else◌, filter, is_some, length, map, nat_lt, not, option_map, reverse, ℕ, ◌&&◌, ◌≡◌}
+use Rattle.std.specs.Prelude.{Bool, List, [], None, Option, false, if◌then◌else◌, filter, is_some, length, map, nat_lt}
+use Rattle.std.specs.Prelude.{not, option_map, reverse, ℕ, ◌&&◌, ◌≡◌}
 use Rattle.lcm_events.specs.declared.descriptor.Vnfd.{Vnfd}
 use Rattle.lcm_events.specs.declared.events.Event.{Event}
-use Rattle.lcm_model.specs.Lives.{CreatedInstance, Subscription, creation, descriptor, descriptor_named, descriptors, instances_made, is_live, is_subscribed, is_unsubscribed, live_instances, subscription, subscriptions, subscriptions_made}
+use Rattle.lcm_model.specs.Lives.{CreatedInstance, Subscription, creation, descriptor, descriptor_named, descriptors}
+use Rattle.lcm_model.specs.Lives.{instances_made, is_live, is_subscribed, is_unsubscribed, live_instances, subscription}
+use Rattle.lcm_model.specs.Lives.{subscriptions, subscriptions_made}
 use Rattle.lcm_events.specs.declared.asks.Ask.{Ask}
 use Rattle.lcm_events.specs.declared.events.Operation.{Operation}
 use Rattle.lcm_events.specs.declared.states.OpState.{OpState}
@@ -70,13 +73,23 @@ is_continued H x = not (is_unsubscribed H x.number)
 abbrev pub continued : List Event → List Subscription
 continued H = filter (is_continued H) (subscriptions H)
 
--- how often the notice past the cursor was posted and not taken: the posts past the cursor that weren't taken (own rule)
+-- how often the notice past the cursor was posted and not taken: the posts past the cursor that weren't taken (own
+-- rule)
 abbrev pub tries_past : List Event → ℕ → ℕ
 tries_past H s = length (filter (λ p. nat_lt (cursor H s) p.0 && not p.1) (posts H s))
 
 -- the row of a subscription, and how far its notices were delivered (SOL 003 5.5.2.16)
 abbrev pub subscription_row : List Event → Subscription → SubscriptionRow
-subscription_row H x = record { number = x.number; role = x.role; callback = x.callback; filter = x.filter; from = subscribed_at H x.number; cursor = cursor H x.number; tries = tries_past H x.number }
+subscription_row H x = record {
+  number = x.number;
+  role = x.role;
+  callback = x.callback;
+  filter = x.filter;
+  from =
+      subscribed_at H x.number;
+  cursor = cursor H x.number;
+  tries = tries_past H x.number;
+}
 
 -- the rows of the live subscriptions, in the order of their numbers (SOL 003 5.4.18)
 abbrev pub subscription_rows : List Event → List SubscriptionRow
@@ -88,7 +101,12 @@ subscription_at H s = if is_subscribed H s then option_map (subscription_row H) 
 
 -- what a move of an operation to this state says of its instance (SOL 003 5.5.2.2)
 abbrev pub end_effect : Ask → OpState → EndEffect
-end_effect ask to = record { instantiated = instantiates ask to; started = starts_or_stops ask to; levels = is_some (sets_levels ask to) }
+end_effect ask to = record {
+  instantiated = instantiates ask to;
+  started = starts_or_stops ask to;
+  levels =
+      is_some (sets_levels ask to);
+}
 
 -- the levels that an operation aims at, from those that its instance has while it goes on (SOL 003 5.4.4 to 5.4.6)
 abbrev pub aim : List Event → Operation → List ℕ
@@ -104,7 +122,18 @@ stood_at H i k = if same_verb k.verb Remove then place H i k.def else None
 
 -- an operation that goes on, with its changes and their places and what its end says of its instance (own rule)
 abbrev pub going_of : List Event → Operation → Going
-going_of H a = record { occ = a.occ; instance = a.instance; completed = end_effect a.ask Completed; failed = end_effect a.ask Failed; aim = aim H a; changes = a.changes; placing = placing H a.occ; stood = map (stood_at H a.instance) a.changes }
+going_of H a = record {
+  occ = a.occ;
+  instance = a.instance;
+  completed = end_effect a.ask Completed;
+  failed =
+      end_effect a.ask Failed;
+  aim = aim H a;
+  changes = a.changes;
+  placing = placing H a.occ;
+  stood =
+      map (stood_at H a.instance) a.changes;
+}
 
 -- the operations that go on, in the order of their numbers (SOL 003 5.6.2)
 abbrev pub going : List Event → List Going

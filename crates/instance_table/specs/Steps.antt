@@ -1,5 +1,7 @@
 -- What each event makes of the rows.
-use Rattle.std.specs.Prelude.{List, None, Option, Some, false, filter, find, unwrap_or, if◌then◌else◌, length, map, option_and_then, option_map, slice_get, max, min, nat_le, replicate, not, suc, zero, ℕ, [], ◌+◌, ◌++◌, ◌<◌, ◌==◌, ◌||◌, ◌∷◌}
+use Rattle.std.specs.Prelude.{List, None, Option, Some, false, filter, find, unwrap_or, if◌then◌else◌, length, map}
+use Rattle.std.specs.Prelude.{option_and_then, option_map, slice_get, max, min, nat_le, replicate, not, suc, zero, ℕ}
+use Rattle.std.specs.Prelude.{[], ◌+◌, ◌++◌, ◌<◌, ◌==◌, ◌||◌, ◌∷◌}
 use Rattle.std.specs.Option.{option_map_or}
 use Rattle.lcm_events.specs.Same.{same_name, same_verb}
 use Rattle.lcm_events.specs.declared.attempts.Outcome.TheVariants.{Done}
@@ -18,7 +20,8 @@ use Rattle.instance_table.specs.declared.work.Work.{Work}
 use Rattle.lcm_events.specs.declared.changes.Change.{Change}
 use Rattle.lcm_events.specs.declared.descriptor.Vnfd.{Vnfd}
 use Rattle.lcm_events.specs.declared.events.EventKind.{EventKind}
-use Rattle.lcm_events.specs.declared.events.EventKind.TheVariants.{Asked, Created, Deleted, Granted, Moved, Onboarded, Posted, Settled, Subscribed, Unsubscribed}
+use Rattle.lcm_events.specs.declared.events.EventKind.TheVariants.{Asked, Created, Deleted, Granted, Moved, Onboarded}
+use Rattle.lcm_events.specs.declared.events.EventKind.TheVariants.{Posted, Settled, Subscribed, Unsubscribed}
 use Rattle.lcm_events.specs.declared.events.PostOutcome.{PostOutcome}
 use Rattle.lcm_events.specs.declared.filters.Filter.{Filter}
 use Rattle.lcm_events.specs.declared.states.Role.{Role}
@@ -53,23 +56,47 @@ fresh_levels d = option_map_or (λ d. replicate (length d.aspects) 0) d []
 
 -- what stands of an instance that is created of this descriptor: nothing
 abbrev pub first_holding : Option Vnfd → Holding
-first_holding d = record { instantiated = false; started = false; levels = fresh_levels d; items = []; top = fresh_tops d }
+first_holding d = record {
+  instantiated = false;
+  started = false;
+  levels = fresh_levels d;
+  items = [];
+  top =
+      fresh_tops d;
+}
 
 -- the row of an instance that is created of this descriptor
 abbrev pub first_instance : Option Vnfd → ℕ → List ℕ → Option (List ℕ) → Option (List ℕ) → InstanceRow
-first_instance d i vnfd name text = record { number = i; vnfd = vnfd; name = name; text = text; holding = first_holding d }
+first_instance d i vnfd name text = record {
+  number = i;
+  vnfd = vnfd;
+  name = name;
+  text = text;
+  holding =
+      first_holding d;
+}
 
 -- the row of a subscription that is made by the event at this place
 abbrev pub first_subscription : ℕ → ℕ → Role → List ℕ → Filter → SubscriptionRow
-first_subscription at s role callback filter = record { number = s; role = role; callback = callback; filter = filter; from = at; cursor = at; tries = 0 }
+first_subscription at s role callback filter = record {
+  number = s;
+  role = role;
+  callback = callback;
+  filter = filter;
+  from = at;
+  cursor = at;
+  tries = 0;
+}
 
 -- the row, where the event that made its subscription stands at this place
 abbrev pub begun_at : ℕ → SubscriptionRow → SubscriptionRow
 begun_at at r = record r { from = at; cursor = at }
 
--- the row after the notice at this place was posted: the cursor comes to it where it was taken, or not taken for the fifth time
+-- the row after the notice at this place was posted: the cursor comes to it where it was taken, or not taken for the
+-- fifth time
 abbrev pub after_post : ℕ → PostOutcome → SubscriptionRow → SubscriptionRow
-after_post place outcome r = if is_delivered outcome || nat_le 4 r.tries then record r { cursor = place; tries = 0 } else record r { tries = r.tries + 1 }
+after_post place outcome r = if is_delivered outcome || nat_le 4 r.tries then record r { cursor = place; tries = 0 }
+    else record r { tries = r.tries + 1 }
 
 -- a row after the notice at this place was posted to the subscription of this number
 abbrev pub posted : ℕ → ℕ → PostOutcome → SubscriptionRow → SubscriptionRow
@@ -77,7 +104,13 @@ posted s place outcome r = if r.number == s then after_post place outcome r else
 
 -- the row after the end of an operation said this, which aimed at these levels
 abbrev pub after_end : EndEffect → List ℕ → InstanceRow → InstanceRow
-after_end e aim r = record r { holding = record r.holding { instantiated = unwrap_or e.instantiated r.holding.instantiated; started = unwrap_or e.started r.holding.started; levels = if e.levels then aim else r.holding.levels } }
+after_end e aim r = record r {
+  holding = record r.holding {
+    instantiated = unwrap_or e.instantiated r.holding.instantiated;
+    started = unwrap_or e.started r.holding.started;
+    levels = if e.levels then aim else r.holding.levels;
+  };
+}
 
 -- a row after the end of an operation of the instance of this number said this
 abbrev pub ended : ℕ → EndEffect → List ℕ → InstanceRow → InstanceRow
@@ -98,7 +131,8 @@ aim_from d levels ask = if length levels == length d.aspects then target d level
 
 -- the levels that an ask of the instance of this row aims at, where its descriptor is among these
 abbrev pub aim_at : List Vnfd → Ask → InstanceRow → List ℕ
-aim_at ds ask r = option_map_or (λ d. aim_from d r.holding.levels ask) (find (λ d. same_name d.descriptor_id r.vnfd) ds) []
+aim_at ds ask r = option_map_or (λ d. aim_from d r.holding.levels ask) (find (λ d. same_name d.descriptor_id r.vnfd) ds)
+    []
 
 -- the levels that an operation aims at when it is asked for, from those of its instance
 abbrev pub first_aim : Rows → Operation → List ℕ
@@ -110,11 +144,22 @@ stood_in ys k = if same_verb k.verb Remove then option_map (λ y. y.place) (item
 
 -- for each change of an operation that removes something, where that stands when the operation is asked for
 abbrev pub first_stood : Rows → Operation → List (Option Place)
-first_stood rs a = option_map_or (λ r. map (stood_in r.holding.items) a.changes) (find (λ r. r.number == a.instance) rs.instances) []
+first_stood rs a = option_map_or (λ r. map (stood_in r.holding.items) a.changes)
+    (find (λ r. r.number == a.instance) rs.instances) []
 
 -- what is kept of an operation that is asked for, aims at these levels and removes what stands at these places
 abbrev pub begun : Operation → List ℕ → List (Option Place) → Going
-begun a aim stood = record { occ = a.occ; instance = a.instance; completed = end_effect a.ask Completed; failed = end_effect a.ask Failed; aim = aim; changes = a.changes; placing = None; stood = stood }
+begun a aim stood = record {
+  occ = a.occ;
+  instance = a.instance;
+  completed = end_effect a.ask Completed;
+  failed =
+      end_effect a.ask Failed;
+  aim = aim;
+  changes = a.changes;
+  placing = None;
+  stood = stood;
+}
 
 -- what is kept of an operation when it is asked for
 abbrev pub first_going : Rows → Operation → Going
@@ -135,7 +180,13 @@ place_by t g = place_by_way t.way t.change g
 
 -- what an attempt at this change of an operation did, whose resource has this name
 abbrev pub work_of : Tag → List ℕ → Going → Change → Work
-work_of t name g k = record { instance = g.instance; verb = verb_done t.way k.verb; def = k.def; resource = name; place = place_by t g }
+work_of t name g k = record {
+  instance = g.instance;
+  verb = verb_done t.way k.verb;
+  def = k.def;
+  resource = name;
+  place = place_by t g;
+}
 
 -- what an attempt of an operation did, where it has such a change
 abbrev pub work_in : Tag → List ℕ → Going → Option Work
@@ -151,7 +202,8 @@ HasItemRoom room r = (length r.holding.items < room) × AreInOrder r.holding.ite
 
 -- a row after this was done to what stands of an instance
 abbrev pub after_work : Work → InstanceRow → InstanceRow
-after_work w r = if r.number == w.instance then record r { holding = record r.holding { items = once_done w.verb w.def w.resource w.place r.holding.items } } else r
+after_work w r = if r.number == w.instance then record r
+    { holding = record r.holding { items = once_done w.verb w.def w.resource w.place r.holding.items } } else r
 
 -- the rows after this was done
 abbrev pub worked : Option Work → Rows → Rows
@@ -160,7 +212,8 @@ worked (Some w) rs = record rs { instances = map (after_work w) rs.instances }
 
 -- what stands of the instance of an occurrence that goes on
 abbrev pub items_about : Rows → ℕ → Option (List Held)
-items_about rs o = option_and_then (λ g. option_map (λ r. r.holding.items) (find (λ r. r.number == g.instance) rs.instances)) (find (λ g. g.occ == o) rs.going)
+items_about rs o = option_and_then (λ g. option_map (λ r. r.holding.items)
+    (find (λ r. r.number == g.instance) rs.instances)) (find (λ g. g.occ == o) rs.going)
 
 -- what a move to this state says of the operation's instance
 abbrev pub end_of : OpState → Going → EndEffect
@@ -175,7 +228,11 @@ without_operation o gs = filter (λ g. not (g.occ == o)) gs
 -- the rows after this operation ended in this state
 abbrev pub finished : ℕ → OpState → Option Going → Rows → Rows
 finished o to None rs = record rs { going = without_operation o rs.going }
-finished o to (Some g) rs = record rs { instances = map (ended g.instance (end_of to g) g.aim) rs.instances; going = without_operation o rs.going }
+finished o to (Some g) rs = record rs {
+  instances = map (ended g.instance (end_of to g) g.aim) rs.instances;
+  going =
+      without_operation o rs.going;
+}
 
 -- the rows after a move of an occurrence: only an end changes them
 abbrev pub moved : ℕ → OpState → Rows → Rows
@@ -208,7 +265,8 @@ without_instance i rs = filter (λ r. not (r.number == i)) rs
 abbrev pub without_subscription : ℕ → List SubscriptionRow → List SubscriptionRow
 without_subscription s rs = filter (λ r. not (r.number == s)) rs
 
--- instances, subscriptions and operations stand in the order of their numbers, and what stands of an instance in that of definitions
+-- instances, subscriptions and operations stand in the order of their numbers, and what stands of an instance in that
+-- of definitions
 pub record AreOrdered (rs : Rows) : Type 0 where
   pub instances : Rises (λ r. r.number) rs.instances
   pub items : (r : InstanceRow) → IsIn r rs.instances → AreInOrder r.holding.items
@@ -218,13 +276,27 @@ pub record AreOrdered (rs : Rows) : Type 0 where
 -- the rows after an event that isn't counted yet
 abbrev pub changed : EventKind → Rows → Rows
 changed (Onboarded d) rs = record rs { descriptors = rs.descriptors ++ d ∷ [] }
-changed (Created i vnfd name text) rs = record rs { instances = rs.instances ++ first_instance (find (λ d. same_name d.descriptor_id vnfd) rs.descriptors) i vnfd name text ∷ []; instances_made = i }
+changed (Created i vnfd name text) rs = record rs {
+  instances =
+      rs.instances ++ first_instance (find (λ d. same_name d.descriptor_id vnfd) rs.descriptors) i vnfd name text ∷ [];
+  instances_made = i;
+}
 changed (Deleted i) rs = record rs { instances = without_instance i rs.instances }
-changed (Subscribed s role callback filter) rs = record rs { subscriptions = rs.subscriptions ++ first_subscription (next_place rs.events) s role callback filter ∷ []; subscriptions_made = s }
+changed (Subscribed s role callback filter) rs = record rs {
+  subscriptions = rs.subscriptions ++ first_subscription (next_place rs.events) s role callback filter ∷ [];
+  subscriptions_made = s;
+}
 changed (Unsubscribed s) rs = record rs { subscriptions = without_subscription s rs.subscriptions }
 changed (Posted s place outcome) rs = record rs { subscriptions = map (posted s place outcome) rs.subscriptions }
-changed (Asked a) rs = record rs { instances = map (asked a.instance a.changes) rs.instances; going = rs.going ++ first_going rs a ∷ [] }
-changed (Granted o grant places spots) rs = record rs { going = map (placed o (record { places = places; spots = spots })) rs.going }
+changed (Asked a) rs = record rs {
+  instances = map (asked a.instance a.changes) rs.instances;
+  going =
+      rs.going ++ first_going rs a ∷ [];
+}
+changed (Granted o grant places spots) rs = record rs {
+  going =
+      map (placed o (record { places = places; spots = spots })) rs.going;
+}
 changed (Settled t (Done name)) rs = worked (work_done t name rs) rs
 changed (Moved o to) rs = moved o to rs
 changed _ rs = rs

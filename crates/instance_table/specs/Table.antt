@@ -4,22 +4,24 @@ use Rattle.lcm_events.specs.Same.{same_name, same_role}
 use Rattle.lcm_events.specs.declared.descriptor.Vnfd.{Vnfd}
 use Rattle.lcm_events.specs.declared.events.Event.{Event}
 use Rattle.lcm_events.specs.declared.events.EventKind.{EventKind}
-use Rattle.lcm_events.specs.declared.events.EventKind.TheVariants.{Asked, Created, Granted, Onboarded, Settled, Subscribed}
+use Rattle.lcm_events.specs.declared.events.EventKind.TheVariants.{Asked, Created, Granted, Onboarded, Settled}
+use Rattle.lcm_events.specs.declared.events.EventKind.TheVariants.{Subscribed}
 use Rattle.lcm_events.specs.declared.attempts.Outcome.TheVariants.{Done}
 use Rattle.lcm_model.specs.Allowed.{IsAllowedWithin, IsLegalWithin}
 use Rattle.lcm_events.specs.declared.states.Role.{Role}
 use Rattle.lcm_model.specs.Lives.{descriptor_named, descriptors, live_subscriptions}
 use Rattle.vnfm_base.specs.declared.identifier.Kind.{Kind}
 use Rattle.vnfm_base.specs.declared.identifier.Kind.TheVariants as kinds
-use Rattle.instance_table.specs.Rows.{Rows, StandsFor, instance, instance_rows, live, made, subscription_at, subscription_rows}
+use Rattle.instance_table.specs.Rows.{Rows, StandsFor, instance, instance_rows, live, made, subscription_at}
+use Rattle.instance_table.specs.Rows.{subscription_rows}
 use Rattle.instance_table.specs.Steps.{AreOrdered, first_going, first_instance, first_subscription, items_about}
 use Rattle.instance_table.specs.declared.going.Going.{Going}
 use Rattle.instance_table.specs.declared.going.Placing.{Placing}
 use Rattle.instance_table.specs.declared.rows.InstanceRow.{InstanceRow}
 use Rattle.instance_table.specs.declared.rows.SubscriptionRow.{SubscriptionRow}
 
--- what is reserved: a descriptor, an instance, a subscription, an operation and the places of a grant that are to come, room for
--- how many items of an instance, and for how many more descriptors, instances, subscriptions and operations
+-- what is reserved: a descriptor, an instance, a subscription, an operation and the places of a grant that are to come,
+-- room for how many items of an instance, and for how many more descriptors, instances, subscriptions and operations
 pub record Reserved : Type 0 where
   pub descriptor : Option Vnfd
   pub instance : Option InstanceRow
@@ -50,8 +52,10 @@ needs_room _ = false
 -- what the event needs is reserved beside these rows
 abbrev pub HasRoom : EventKind → Rows → Reserved → Type 0
 HasRoom (Onboarded d) rs r = (r.descriptor ≡ Some d) × (0 < r.descriptors)
-HasRoom (Created i vnfd name text) rs r = (r.instance ≡ Some (first_instance (find (λ d. same_name d.descriptor_id vnfd) rs.descriptors) i vnfd name text)) × (0 < r.instances)
-HasRoom (Subscribed s role callback filter) rs r = (r.subscription ≡ Some (first_subscription 0 s role callback filter)) × (0 < r.subscriptions)
+HasRoom (Created i vnfd name text) rs r = (r.instance ≡ Some
+    (first_instance (find (λ d. same_name d.descriptor_id vnfd) rs.descriptors) i vnfd name text)) × (0 < r.instances)
+HasRoom (Subscribed s role callback filter) rs r = (r.subscription ≡ Some (first_subscription 0 s role callback filter))
+    × (0 < r.subscriptions)
 HasRoom (Asked a) rs r = (AreOrdered rs → r.operation ≡ Some (first_going rs a)) × (0 < r.going)
 HasRoom (Granted o grant places spots) rs r = r.placing ≡ Some (record { places = places; spots = spots })
 HasRoom (Settled t (Done name)) rs r = AreOrdered rs → IfSome (items_about rs t.occ) (λ ys. length ys < r.room)
@@ -70,13 +74,16 @@ pub record IsKept (old new : Reserved) : Type 0 where
   pub subscriptions : old.subscriptions ≤ new.subscriptions
   pub going : old.going ≤ new.going
 
--- rows that stood for a legal history stand for it with the event that was allowed after it, where 64 bits can name its place
+-- rows that stood for a legal history stand for it with the event that was allowed after it, where 64 bits can name its
+-- place
 abbrev pub Applies : Event → Rows → Rows → Type 0
-Applies e old new = (width m : ℕ) (H : List Event) → length H < 18446744073709551615 → IsLegalWithin width m H → IsAllowedWithin width m H e.kind → StandsFor old H → StandsFor new (e ∷ H)
+Applies e old new = (width m : ℕ) (H : List Event) → length H < 18446744073709551615 → IsLegalWithin width m H
+    → IsAllowedWithin width m H e.kind → StandsFor old H → StandsFor new (e ∷ H)
 
 -- what is found is the descriptor of this identifier in each legal history that the rows stand for
 abbrev pub FindsVnfd : List ℕ → Option Vnfd → Rows → Type 0
-FindsVnfd id x rs = (width m : ℕ) (H : List Event) → IsLegalWithin width m H → StandsFor rs H → x ≡ descriptor_named H id
+FindsVnfd id x rs = (width m : ℕ) (H : List Event) → IsLegalWithin width m H → StandsFor rs H
+    → x ≡ descriptor_named H id
 
 -- the first descriptor of this identifier among those that the table keeps
 abbrev pub vnfd_named : Rows → List ℕ → Option Vnfd
@@ -90,13 +97,16 @@ ListsInstances xs rs = (H : List Event) → StandsFor rs H → xs ≡ instance_r
 abbrev pub FindsInstance : ℕ → Option InstanceRow → Rows → Type 0
 FindsInstance i x rs = (width m : ℕ) (H : List Event) → IsLegalWithin width m H → StandsFor rs H → x ≡ instance H i
 
--- what is found is the row of this number among those of the live instances, in each legal history that the rows stand for
+-- what is found is the row of this number among those of the live instances, in each legal history that the rows stand
+-- for
 abbrev pub FindsAmong : ℕ → Option InstanceRow → Rows → Type 0
-FindsAmong i x rs = (width m : ℕ) (H : List Event) → IsLegalWithin width m H → StandsFor rs H → x ≡ find (λ r. r.number == i) (instance_rows H)
+FindsAmong i x rs = (width m : ℕ) (H : List Event) → IsLegalWithin width m H → StandsFor rs H
+    → x ≡ find (λ r. r.number == i) (instance_rows H)
 
 -- what is found is the row of the live subscription of this number in each legal history that the rows stand for
 abbrev pub FindsSubscription : ℕ → Option SubscriptionRow → Rows → Type 0
-FindsSubscription s x rs = (width m : ℕ) (H : List Event) → IsLegalWithin width m H → StandsFor rs H → x ≡ subscription_at H s
+FindsSubscription s x rs = (width m : ℕ) (H : List Event) → IsLegalWithin width m H → StandsFor rs H
+    → x ≡ subscription_at H s
 
 -- these are the rows of the live subscriptions, in the order of their numbers, of each history that the rows stand for
 abbrev pub ListsSubscriptions : List SubscriptionRow → Rows → Type 0

@@ -41,7 +41,8 @@ fn with_level(
     named: &AspectLevel,
 ) -> Result<Vec<u32>, AllocError>
     requires { length levels.now ≡ length vnfd.now.aspects }
-    ensures value { IfOk result (λ v. v.items ≡ at_aspect vnfd.now.aspects named.now.aspect (to_level named.now.level) levels.now) }
+    ensures value { IfOk result (λ v. v.items ≡ at_aspect vnfd.now.aspects named.now.aspect
+        (to_level named.now.level) levels.now) }
     ensures length { IfOk result (λ v. length v.items ≡ length vnfd.now.aspects) }
 {
     replaced_levels(

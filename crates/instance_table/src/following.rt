@@ -7,7 +7,10 @@ ghost use Rattle.instance_table.specs.declared.going.Going.{Going};
 ghost use Rattle.instance_table.specs.declared.going.Placing.{Placing};
 ghost use Rattle.instance_table.specs.declared.rows.InstanceRow.{InstanceRow};
 ghost use Rattle.instance_table.specs.declared.rows.SubscriptionRow.{SubscriptionRow};
-ghost use Rattle.instance_table.specs.Steps.{AreOrdered, HasItemRoom, Rises, after_work, asked, begun_at, changed, end_of, ended, finished, items_about, work_done, worked, moved, next_place, placed, posted, without_instance, without_operation, without_subscription};
+ghost use Rattle.instance_table.specs.Steps.{AreOrdered, HasItemRoom, Rises, after_work, asked, begun_at, changed};
+ghost use Rattle.instance_table.specs.Steps.{end_of, ended, finished, items_about, work_done, worked, moved};
+ghost use Rattle.instance_table.specs.Steps.{next_place, placed, posted, without_instance, without_operation};
+ghost use Rattle.instance_table.specs.Steps.{without_subscription};
 ghost use Rattle.instance_table.specs.Table.{Applies, HasRoom, IsKept, needs_room};
 
 use crate::going::{Going, going_in, place_in, take_going};
@@ -30,7 +33,8 @@ impl InstanceTable {
     /// Puts the reserved descriptor last.
     fn put_descriptor(&mut self)
         requires spare { 0 < self.old.reserved.descriptors }
-        ensures rows { (d : Vnfd) → self.old.reserved.descriptor ≡ Some d → self.new.rows ≡ record self.old.rows { descriptors = self.old.rows.descriptors ++ d ∷ [] } }
+        ensures rows { (d : Vnfd) → self.old.reserved.descriptor ≡ Some d
+            → self.new.rows ≡ record self.old.rows { descriptors = self.old.rows.descriptors ++ d ∷ [] } }
     {
         if let Some(vnfd) = self.descriptor.take() {
             self.descriptors.push_reserved(vnfd);
@@ -40,7 +44,12 @@ impl InstanceTable {
     /// Puts the reserved instance last, which is the one of this number.
     fn put_instance(&mut self, number: u64)
         requires spare { 0 < self.old.reserved.instances }
-        ensures rows { (r : InstanceRow) → self.old.reserved.instance ≡ Some r → self.new.rows ≡ record self.old.rows { instances = self.old.rows.instances ++ r ∷ []; instances_made = number } }
+        ensures rows { (r : InstanceRow) → self.old.reserved.instance ≡ Some r
+            → self.new.rows ≡ record self.old.rows {
+              instances = self.old.rows.instances ++ r ∷ [];
+              instances_made =
+                  number;
+            } }
     {
         if let Some(row) = self.instance.take() {
             self.instances.push_reserved(row);
@@ -51,7 +60,13 @@ impl InstanceTable {
     /// Puts the reserved subscription last, which is the one of this number.
     fn put_subscription(&mut self, number: u64)
         requires spare { 0 < self.old.reserved.subscriptions }
-        ensures rows { (r : SubscriptionRow) → self.old.reserved.subscription ≡ Some r → self.new.rows ≡ record self.old.rows { subscriptions = self.old.rows.subscriptions ++ begun_at (next_place self.old.rows.events) r ∷ []; subscriptions_made = number } }
+        ensures rows { (r : SubscriptionRow) → self.old.reserved.subscription ≡ Some r
+            → self.new.rows ≡ record self.old.rows {
+              subscriptions =
+                  self.old.rows.subscriptions ++ begun_at (next_place self.old.rows.events) r ∷ [];
+              subscriptions_made =
+                  number;
+            } }
     {
         if let Some(mut row) = self.subscription.take() {
             row.begin_at(next_place(self.events));
@@ -62,7 +77,10 @@ impl InstanceTable {
 
     /// Takes the instance of this number out.
     fn leave_instance(&mut self, number: u64)
-        ensures rows { self.new.rows ≡ record self.old.rows { instances = without_instance number self.old.rows.instances } }
+        ensures rows { self.new.rows ≡ record self.old.rows {
+          instances =
+              without_instance number self.old.rows.instances;
+        } }
         ensures reserved { IsKept self.old.reserved self.new.reserved }
     {
         remove_instance(&mut self.instances, number);
@@ -70,7 +88,10 @@ impl InstanceTable {
 
     /// Takes the subscription of this number out.
     fn leave_subscription(&mut self, number: u64)
-        ensures rows { self.new.rows ≡ record self.old.rows { subscriptions = without_subscription number self.old.rows.subscriptions } }
+        ensures rows { self.new.rows ≡ record self.old.rows {
+          subscriptions =
+              without_subscription number self.old.rows.subscriptions;
+        } }
         ensures reserved { IsKept self.old.reserved self.new.reserved }
     {
         remove_subscription(&mut self.subscriptions, number);
@@ -78,7 +99,11 @@ impl InstanceTable {
 
     /// Lets the subscription of this number follow a post.
     fn post(&mut self, number: u64, place: u64, outcome: PostOutcome)
-        ensures rows { Rises (λ r. r.number) self.old.rows.subscriptions → self.new.rows ≡ record self.old.rows { subscriptions = map (posted number place outcome) self.old.rows.subscriptions } }
+        ensures rows { Rises (λ r. r.number) self.old.rows.subscriptions
+            → self.new.rows ≡ record self.old.rows {
+              subscriptions =
+                  map (posted number place outcome) self.old.rows.subscriptions;
+            } }
         ensures reserved { self.new.reserved ≡ self.old.reserved }
     {
         post_in(&mut self.subscriptions, number, place, outcome);
@@ -87,7 +112,8 @@ impl InstanceTable {
     /// Puts the reserved operation last among those that go on.
     fn put_operation(&mut self)
         requires spare { 0 < self.old.reserved.going }
-        ensures rows { (g : Going) → self.old.reserved.operation ≡ Some g → self.new.rows ≡ record self.old.rows { going = self.old.rows.going ++ g ∷ [] } }
+        ensures rows { (g : Going) → self.old.reserved.operation ≡ Some g
+            → self.new.rows ≡ record self.old.rows { going = self.old.rows.going ++ g ∷ [] } }
     {
         if let Some(going) = self.operation.take() {
             self.going.push_reserved(going);
@@ -96,7 +122,11 @@ impl InstanceTable {
 
     /// Lets the instance of an operation follow its ask.
     fn ask_instance(&mut self, operation: &Operation)
-        ensures rows { Rises (λ r. r.number) self.old.rows.instances → self.new.rows ≡ record self.old.rows { instances = map (asked operation.now.instance operation.now.changes) self.old.rows.instances } }
+        ensures rows { Rises (λ r. r.number) self.old.rows.instances
+            → self.new.rows ≡ record self.old.rows {
+              instances =
+                  map (asked operation.now.instance operation.now.changes) self.old.rows.instances;
+            } }
         ensures reserved { self.new.reserved ≡ self.old.reserved }
     {
         ask_in(
@@ -109,7 +139,13 @@ impl InstanceTable {
     /// Lets the rows follow an ask.
     fn follow_ask(&mut self, operation: &Operation)
         requires spare { 0 < self.old.reserved.going }
-        ensures rows { (g : Going) → self.old.reserved.operation ≡ Some g → Rises (λ r. r.number) self.old.rows.instances → self.new.rows ≡ record self.old.rows { instances = map (asked operation.now.instance operation.now.changes) self.old.rows.instances; going = self.old.rows.going ++ g ∷ [] } }
+        ensures rows { (g : Going) → self.old.reserved.operation ≡ Some g
+            → Rises (λ r. r.number) self.old.rows.instances → self.new.rows
+            ≡ record self.old.rows {
+              instances = map (asked operation.now.instance operation.now.changes)
+                  self.old.rows.instances;
+              going = self.old.rows.going ++ g ∷ [];
+            } }
     {
         self.ask_instance(operation);
         self.put_operation();
@@ -117,7 +153,8 @@ impl InstanceTable {
 
     /// Lets the operation that goes on of this occurrence follow its grant, where the numbers rise.
     fn follow_grant(&mut self, occ: u64)
-        ensures rows { (p : Placing) → self.old.reserved.placing ≡ Some p → Rises (λ g. g.occ) self.old.rows.going → self.new.rows ≡ record self.old.rows { going = map (placed occ p) self.old.rows.going } }
+        ensures rows { (p : Placing) → self.old.reserved.placing ≡ Some p → Rises (λ g. g.occ) self.old.rows.going
+            → self.new.rows ≡ record self.old.rows { going = map (placed occ p) self.old.rows.going } }
     {
         if let Some(placing) = self.placing.take() {
             place_in(&mut self.going, occ, placing);
@@ -136,15 +173,20 @@ impl InstanceTable {
 
     /// Lets the instance follow what was done to what stands of it.
     fn follow_work(&mut self, work: &Work)
-        ensures rows { Rises (λ r. r.number) self.old.rows.instances → IfSome (find (λ r. r.number == work.now.instance) self.old.rows.instances) (HasItemRoom self.old.reserved.room) → self.new.rows ≡ record self.old.rows { instances = map (after_work work.now) self.old.rows.instances } }
+        ensures rows { Rises (λ r. r.number) self.old.rows.instances
+            → IfSome (find (λ r. r.number == work.now.instance) self.old.rows.instances)
+            (HasItemRoom self.old.reserved.room) → self.new.rows
+            ≡ record self.old.rows { instances = map (after_work work.now) self.old.rows.instances } }
     {
         work_among(&mut self.instances, &mut self.editor, work);
     }
 
     /// Lets the rows follow an attempt that is done.
     fn follow_done(&mut self, tag: &Tag, name: Name)
-        requires room { AreOrdered self.old.rows → IfSome (items_about self.old.rows tag.now.occ) (λ ys. length ys < self.old.reserved.room) }
-        ensures rows { AreOrdered self.old.rows → self.new.rows ≡ worked (work_done tag.now name self.old.rows) self.old.rows }
+        requires room { AreOrdered self.old.rows → IfSome (items_about self.old.rows tag.now.occ)
+            (λ ys. length ys < self.old.reserved.room) }
+        ensures rows { AreOrdered self.old.rows → self.new.rows
+            ≡ worked (work_done tag.now name self.old.rows) self.old.rows }
     {
         match self.work_done(tag, name) {
             Some(work) => self.follow_work(&work),
@@ -166,7 +208,11 @@ impl InstanceTable {
 
     /// Lets the instance of an operation follow its end.
     fn end_instance(&mut self, going: Going, to: OpState)
-        ensures rows { Rises (λ r. r.number) self.old.rows.instances → self.new.rows ≡ record self.old.rows { instances = map (ended going.instance (end_of to going) going.aim) self.old.rows.instances } }
+        ensures rows { Rises (λ r. r.number) self.old.rows.instances
+            → self.new.rows ≡ record self.old.rows {
+              instances =
+                  map (ended going.instance (end_of to going) going.aim) self.old.rows.instances;
+            } }
         ensures reserved { self.new.reserved ≡ self.old.reserved }
     {
         let end_effect = going.end(to);
@@ -176,7 +222,8 @@ impl InstanceTable {
     /// Takes the operation of this occurrence out of those that go on, where the numbers rise.
     fn leave_operation(&mut self, occ: u64) -> Option<Going>
         ensures found { Rises (λ g. g.occ) self.old.rows.going → result ≡ find (λ g. g.occ == occ) self.old.rows.going }
-        ensures rows { Rises (λ g. g.occ) self.old.rows.going → self.new.rows ≡ record self.old.rows { going = without_operation occ self.old.rows.going } }
+        ensures rows { Rises (λ g. g.occ) self.old.rows.going
+            → self.new.rows ≡ record self.old.rows { going = without_operation occ self.old.rows.going } }
         ensures reserved { IsKept self.old.reserved self.new.reserved }
     {
         take_going(&mut self.going, occ)
@@ -184,7 +231,8 @@ impl InstanceTable {
 
     /// Lets the rows follow the end of an operation.
     fn follow_end(&mut self, occ: u64, to: OpState)
-        ensures rows { AreOrdered self.old.rows → self.new.rows ≡ finished occ to (find (λ g. g.occ == occ) self.old.rows.going) self.old.rows }
+        ensures rows { AreOrdered self.old.rows → self.new.rows
+            ≡ finished occ to (find (λ g. g.occ == occ) self.old.rows.going) self.old.rows }
         ensures reserved { IsKept self.old.reserved self.new.reserved }
     {
         if let Some(going) = self.leave_operation(occ) {

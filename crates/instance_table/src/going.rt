@@ -1,6 +1,7 @@
 //! The operations that go on, and what their ends say of their instances.
 
-ghost use Rattle.std.specs.Prelude.{◌≡◌, ◌≤◌, IfOk, false, find, if◌then◌else◌, is_some, length, map, nat_lt, option_copied, remove, true, ◌==◌, slice_get, vec_capacity, vec_len};
+ghost use Rattle.std.specs.Prelude.{◌≡◌, ◌≤◌, IfOk, false, find, if◌then◌else◌, is_some, length, map, nat_lt};
+ghost use Rattle.std.specs.Prelude.{option_copied, remove, true, ◌==◌, slice_get, vec_capacity, vec_len};
 ghost use Rattle.std.specs.List.Sorted.{IsPartitionPoint, IsPartitionedBy};
 ghost use Rattle.lcm_model.specs.Instances.{instantiates, sets_levels, starts_or_stops};
 ghost use Rattle.instance_table.specs.Rows.{end_effect};
@@ -116,7 +117,8 @@ fn end_effect_by(ask: &Ask, to: OpState) -> EndEffect
 }
 
 impl Going {
-    /// What is kept of an operation that is asked for, which aims at these levels and removes what stands at these places.
+    /// What is kept of an operation that is asked for, which aims at these levels and removes what stands at these
+    /// places.
     pub fn of(
         alloc: Global,
         operation: &Operation,
@@ -166,7 +168,8 @@ impl Going {
 /// How many operations come before this occurrence, where the numbers rise.
 fn place_of(going: &[Going], occ: u64) -> usize
     ensures bound { result ≤ length going.now }
-    ensures place { IsPartitionedBy (λ g. nat_lt g.occ occ) going.now → IsPartitionPoint (λ g. nat_lt g.occ occ ≡ true) (λ g. nat_lt g.occ occ ≡ false) going.now result }
+    ensures place { IsPartitionedBy (λ g. nat_lt g.occ occ) going.now
+        → IsPartitionPoint (λ g. nat_lt g.occ occ ≡ true) (λ g. nat_lt g.occ occ ≡ false) going.now result }
 {
     going.partition_point(
         |other: &Going| -> bool

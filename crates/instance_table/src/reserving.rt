@@ -3,7 +3,8 @@
 ghost use Rattle.std.specs.Prelude.{◌≡◌, ◌<◌, Some, false, find, ◌==◌, length, IfOk, IfSome, OnOk, option_map};
 ghost use Rattle.lcm_events.specs.Same.{same_name};
 ghost use Rattle.lcm_events.specs.declared.events.EventKind.TheVariants.{Settled};
-ghost use Rattle.instance_table.specs.Steps.{AreOrdered, Rises, aim_at, first_aim, first_going, first_instance, first_stood, items_about, first_subscription};
+ghost use Rattle.instance_table.specs.Steps.{AreOrdered, Rises, aim_at, first_aim, first_going, first_instance};
+ghost use Rattle.instance_table.specs.Steps.{first_stood, items_about, first_subscription};
 ghost use Rattle.instance_table.specs.Table.{HasRoom, needs_room};
 
 use crate::aims::aim_from;
@@ -42,7 +43,9 @@ impl InstanceTable {
         text: &Option<Line>,
     ) -> Result<(), AllocError>
         ensures kept { self.new.rows ≡ self.old.rows }
-        ensures laid { OnOk result (self.new.reserved.instance ≡ Some (first_instance (find (λ d. same_name d.descriptor_id vnfd) self.new.rows.descriptors) number vnfd name text.now)) }
+        ensures laid { OnOk result (self.new.reserved.instance
+            ≡ Some (first_instance (find (λ d. same_name d.descriptor_id vnfd) self.new.rows.descriptors) number vnfd
+            name text.now)) }
         ensures spare { OnOk result (0 < self.new.reserved.instances) }
     {
         self.instances.reserve(1)?;
@@ -68,7 +71,8 @@ impl InstanceTable {
         filter: &Filter,
     ) -> Result<(), AllocError>
         ensures kept { self.new.rows ≡ self.old.rows }
-        ensures laid { OnOk result (self.new.reserved.subscription ≡ Some (first_subscription 0 number role callback.now filter.now)) }
+        ensures laid { OnOk result (self.new.reserved.subscription
+            ≡ Some (first_subscription 0 number role callback.now filter.now)) }
         ensures spare { OnOk result (0 < self.new.reserved.subscriptions) }
     {
         self.subscriptions.reserve(1)?;
@@ -127,7 +131,8 @@ impl InstanceTable {
     /// Reserves what is kept of an operation while it goes on.
     fn reserve_operation(&mut self, alloc: Global, operation: &Operation) -> Result<(), AllocError>
         ensures kept { self.new.rows ≡ self.old.rows }
-        ensures laid { OnOk result (AreOrdered self.new.rows → self.new.reserved.operation ≡ Some (first_going self.new.rows operation.now)) }
+        ensures laid { OnOk result (AreOrdered self.new.rows
+            → self.new.reserved.operation ≡ Some (first_going self.new.rows operation.now)) }
         ensures spare { OnOk result (0 < self.new.reserved.going) }
     {
         self.going.reserve(1)?;
@@ -145,7 +150,8 @@ impl InstanceTable {
         spots: &[u8],
     ) -> Result<(), AllocError>
         ensures kept { self.new.rows ≡ self.old.rows }
-        ensures laid { OnOk result (self.new.reserved.placing ≡ Some (record { places = places.now; spots = spots.now })) }
+        ensures laid { OnOk result (self.new.reserved.placing
+            ≡ Some (record { places = places.now; spots = spots.now })) }
     {
         self.placing = Some(Placing::copied(alloc, places, spots)?);
         Ok(())
@@ -153,7 +159,8 @@ impl InstanceTable {
 
     /// The instance of the operation that goes on of this occurrence.
     fn instance_of(&self, occ: u64) -> Option<u64>
-        ensures { Rises (λ g. g.occ) self.now.rows.going → result ≡ option_map (λ g. g.instance) (find (λ g. g.occ == occ) self.now.rows.going) }
+        ensures { Rises (λ g. g.occ) self.now.rows.going → result
+            ≡ option_map (λ g. g.instance) (find (λ g. g.occ == occ) self.now.rows.going) }
     {
         match going_in(self.going.as_slice(), occ) {
             Some(going) => Some(going.instance),
@@ -164,7 +171,9 @@ impl InstanceTable {
     /// Reserves room for one more item of an instance.
     fn reserve_item(&mut self, number: u64) -> Result<(), AllocError>
         ensures kept { self.new.rows ≡ self.old.rows }
-        ensures room { OnOk result (Rises (λ r. r.number) self.new.rows.instances → IfSome (find (λ r. r.number == number) self.new.rows.instances) (λ r. length r.holding.items < self.new.reserved.room)) }
+        ensures room { OnOk result (Rises (λ r. r.number) self.new.rows.instances
+            → IfSome (find (λ r. r.number == number) self.new.rows.instances)
+            (λ r. length r.holding.items < self.new.reserved.room)) }
     {
         reserve_in(&mut self.instances, &mut self.editor, number)
     }
@@ -172,7 +181,8 @@ impl InstanceTable {
     /// Reserves room for one more item of the instance of an occurrence.
     fn reserve_done(&mut self, occ: u64) -> Result<(), AllocError>
         ensures kept { self.new.rows ≡ self.old.rows }
-        ensures room { OnOk result (AreOrdered self.new.rows → IfSome (items_about self.new.rows occ) (λ ys. length ys < self.new.reserved.room)) }
+        ensures room { OnOk result (AreOrdered self.new.rows
+            → IfSome (items_about self.new.rows occ) (λ ys. length ys < self.new.reserved.room)) }
     {
         match self.instance_of(occ) {
             Some(number) => self.reserve_item(number),

@@ -2,7 +2,8 @@
 
 ghost use Rattle.std.specs.Prelude.{◌≡◌, ◌<◌, ◌==◌, IfOk, OnOk, length, option_copied, replicate, true};
 ghost use Rattle.lcm_model.specs.Notices.{is_delivered};
-ghost use Rattle.instance_table.specs.Steps.{HasItemRoom, after_end, after_post, after_work, asked, begun_at, ended, first_holding, fresh_levels, fresh_tops, posted};
+ghost use Rattle.instance_table.specs.Steps.{HasItemRoom, after_end, after_post, after_work, asked, begun_at, ended};
+ghost use Rattle.instance_table.specs.Steps.{first_holding, fresh_levels, fresh_tops, posted};
 
 use crate::going::EndEffect;
 use crate::tops::raise_tops;
@@ -120,7 +121,8 @@ impl InstanceRow {
 
     /// Something was done to what stands of an instance, which may be another.
     pub fn follow_work(&mut self, editor: &mut Editor, work: &Work)
-        ensures { ((self.old.number == work.now.instance) ≡ true → HasItemRoom editor.old self.old) → self.new ≡ after_work work.now self.old }
+        ensures { ((self.old.number == work.now.instance) ≡ true → HasItemRoom editor.old self.old)
+            → self.new ≡ after_work work.now self.old }
     {
         if self.number == work.instance {
             do_in(&mut self.holding.items, editor, work);

@@ -1,6 +1,7 @@
 //! The rows of subscriptions: which has a number, whose they are, and what is done to the row of a number.
 
-ghost use Rattle.std.specs.Prelude.{◌≡◌, ◌≤◌, true, false, find, nat_lt, ◌==◌, length, map, option_copied, slice_get, vec_len, vec_capacity, filter};
+ghost use Rattle.std.specs.Prelude.{◌≡◌, ◌≤◌, true, false, find, nat_lt, ◌==◌, length, map, option_copied, slice_get};
+ghost use Rattle.std.specs.Prelude.{vec_len, vec_capacity, filter};
 ghost use Rattle.std.specs.List.Sorted.{IsPartitionPoint, IsPartitionedBy};
 ghost use Rattle.instance_table.specs.Steps.{Rises, posted, update, with_key, without_subscription};
 ghost use Rattle.instance_table.specs.Table.{is_role_of};
@@ -11,7 +12,8 @@ use lcm_events::{PostOutcome, Role};
 /// How many subscriptions come before this number, where their numbers rise.
 fn subscription_place(rows: &[SubscriptionRow], number: u64) -> usize
     ensures bound { result ≤ length rows.now }
-    ensures place { IsPartitionedBy (λ r. nat_lt r.number number) rows.now → IsPartitionPoint (λ r. nat_lt r.number number ≡ true) (λ r. nat_lt r.number number ≡ false) rows.now result }
+    ensures place { IsPartitionedBy (λ r. nat_lt r.number number) rows.now
+        → IsPartitionPoint (λ r. nat_lt r.number number ≡ true) (λ r. nat_lt r.number number ≡ false) rows.now result }
 {
     rows.partition_point(
         |row: &SubscriptionRow| -> bool
@@ -86,7 +88,8 @@ fn post_at(
 
 /// Lets the row of this number follow a post, where the numbers rise.
 pub fn post_in(rows: &mut Vec<SubscriptionRow>, number: u64, place: u64, outcome: PostOutcome)
-    ensures items { Rises (λ r. r.number) rows.old.items → rows.new.items ≡ map (posted number place outcome) rows.old.items }
+    ensures items { Rises (λ r. r.number) rows.old.items → rows.new.items
+        ≡ map (posted number place outcome) rows.old.items }
     ensures length { vec_len rows.new ≡ vec_len rows.old }
     ensures capacity { vec_capacity rows.new ≡ vec_capacity rows.old }
 {

@@ -1,10 +1,15 @@
-//! The table: a row for each descriptor, each live instance and each live subscription, in the order in which they came.
+//! The table: a row for each descriptor, each live instance and each live subscription, in the order in which they
+//! came.
 
-ghost use Rattle.std.specs.Prelude.{◌≡◌, ◌-◌, [], None, true, find, ◌==◌, length, option_copied, vec_len, vec_capacity, filter};
+ghost use Rattle.std.specs.Prelude.{◌≡◌, ◌-◌, [], None, true, find, ◌==◌, length, option_copied, vec_len, vec_capacity};
+ghost use Rattle.std.specs.Prelude.{filter};
 ghost use Rattle.lcm_events.specs.Same.{same_name};
 ghost use Rattle.instance_table.specs.Rows.{Rows, StandsFor};
 ghost use Rattle.instance_table.specs.Steps.{Rises};
-ghost use Rattle.instance_table.specs.Table.{CountsDescriptors, CountsLive, CountsMade, FindsAmong, FindsInstance, FindsSubscription, FindsVnfd, ListsInstances, ListsSubscriptions, Reserved, Shown, is_counted, CountsEvents, CountsLiveOf, is_role_of, vnfd_named};
+ghost use Rattle.instance_table.specs.Table.{CountsDescriptors, CountsLive, CountsMade, FindsAmong, FindsInstance};
+ghost use Rattle.instance_table.specs.Table.{FindsSubscription, FindsVnfd, ListsInstances, ListsSubscriptions};
+ghost use Rattle.instance_table.specs.Table.{Reserved, Shown, is_counted, CountsEvents, CountsLiveOf, is_role_of};
+ghost use Rattle.instance_table.specs.Table.{vnfd_named};
 
 use crate::going::{Going, Placing};
 use crate::instances::instance_in;
@@ -64,7 +69,33 @@ impl Model for InstanceTable {
 
     ghost Value = { Shown };
 
-    ghost view = { λ t. record { rows = record { descriptors = t.descriptors.items; instances = t.instances.items; subscriptions = t.subscriptions.items; going = t.going.items; instances_made = t.instances_made; subscriptions_made = t.subscriptions_made; events = t.events }; reserved = record { descriptor = t.descriptor; instance = t.instance; subscription = t.subscription; operation = t.operation; placing = t.placing; room = t.editor; descriptors = vec_capacity t.descriptors - vec_len t.descriptors; instances = vec_capacity t.instances - vec_len t.instances; subscriptions = vec_capacity t.subscriptions - vec_len t.subscriptions; going = vec_capacity t.going - vec_len t.going } } };
+    ghost view = { λ t. record {
+      rows = record {
+        descriptors = t.descriptors.items;
+        instances = t.instances.items;
+        subscriptions = t.subscriptions.items;
+        going = t.going.items;
+        instances_made = t.instances_made;
+        subscriptions_made = t.subscriptions_made;
+        events = t.events;
+      };
+      reserved =
+          record {
+            descriptor = t.descriptor;
+            instance = t.instance;
+            subscription = t.subscription;
+            operation =
+                t.operation;
+            placing = t.placing;
+            room = t.editor;
+            descriptors =
+                vec_capacity t.descriptors - vec_len t.descriptors;
+            instances = vec_capacity t.instances - vec_len t.instances;
+            subscriptions = vec_capacity t.subscriptions - vec_len t.subscriptions;
+            going =
+                vec_capacity t.going - vec_len t.going;
+          };
+    } };
 }
 
 /// The first descriptor of this identifier.
@@ -135,7 +166,8 @@ impl InstanceTable {
 
     /// The row of the instance of this number, where their numbers rise.
     pub(crate) fn instance_numbered(&self, n: u64) -> Option<&InstanceRow>
-        ensures { Rises (λ r. r.number) self.now.rows.instances → option_copied result ≡ find (λ r. r.number == n) self.now.rows.instances }
+        ensures { Rises (λ r. r.number) self.now.rows.instances
+            → option_copied result ≡ find (λ r. r.number == n) self.now.rows.instances }
     {
         instance_in(self.instances.as_slice(), n)
     }
@@ -161,7 +193,8 @@ impl InstanceTable {
 
     /// The row of the subscription of this number, where their numbers rise.
     fn subscription_numbered(&self, n: u64) -> Option<&SubscriptionRow>
-        ensures { Rises (λ r. r.number) self.now.rows.subscriptions → option_copied result ≡ find (λ r. r.number == n) self.now.rows.subscriptions }
+        ensures { Rises (λ r. r.number) self.now.rows.subscriptions
+            → option_copied result ≡ find (λ r. r.number == n) self.now.rows.subscriptions }
     {
         subscription_in(self.subscriptions.as_slice(), n)
     }

@@ -104,7 +104,8 @@ pub fn work_in(going: &Going, tag: &Tag, name: Name) -> Option<Work>
 
 /// Lets the items of an instance follow what was done to one of them.
 pub fn do_in(items: &mut Listed<Held>, editor: &mut Editor, work: &Work)
-    ensures { length items.old < editor.old → AreInOrder items.old → items.new ≡ once_done work.now.verb work.now.def work.now.resource work.now.place items.old }
+    ensures { length items.old < editor.old → AreInOrder items.old
+        → items.new ≡ once_done work.now.verb work.now.def work.now.resource work.now.place items.old }
 {
     let fits = work.verb != Verb::Create || items.len() < editor.room();
     if fits {

@@ -37,7 +37,8 @@ stops_after xs ys a m b is s = record {
 }
 
 -- one part of the calls, and then the other
-pub asks_then : {T E : Type 0} (xs ys : List Ask) (r : Result T E) (a m b : SiteCounts) → m ≡ all_asked xs a → Asks ys r m b → Asks (xs ++ ys) r a b
+pub asks_then : {T E : Type 0} (xs ys : List Ask) (r : Result T E) (a m b : SiteCounts) → m ≡ all_asked xs a → Asks ys r m b
+    → Asks (xs ++ ys) r a b
 asks_then xs ys (Ok done) a m b is asks = record { done = asks.done ∙ ap (all_asked ys) is ∙ sym (all_asked-append xs ys a); failed = tt }
 asks_then xs ys (Err fault) a m b is asks = record { done = tt; failed = stops_after xs ys a m b is asks.failed }
 
@@ -46,10 +47,21 @@ pub write_stops : (a b : SiteCounts) → b ≡ disk_failed (asked write a) → S
 write_stops a b is = record { made = write ∷ []; rest = sync ∷ []; front = refl; some = omega arith; counts = is }
 
 -- a write, and then a sync
-pub write_and_sync : {T E : Type 0} (r : Result T E) (a m b : SiteCounts) → m ≡ asked write a → DiskCause (asked sync m) b r → Asks (through 1) r a b
+pub write_and_sync : {T E : Type 0} (r : Result T E) (a m b : SiteCounts) → m ≡ asked write a → DiskCause (asked sync m) b r
+    → Asks (through 1) r a b
 write_and_sync (Ok done) a m b is cause = record { done = cause.done ∙ ap (asked sync) is; failed = tt }
 write_and_sync (Err fault) a m b is cause =
-    record { done = tt; failed = record { made = write ∷ sync ∷ []; rest = []; front = refl; some = omega arith; counts = cause.failed ∙ ap (λ (v : SiteCounts). disk_failed (asked sync v)) is } }
+    record {
+      done = tt;
+      failed = record {
+        made = write ∷ sync ∷ [];
+        rest = [];
+        front = refl;
+        some = omega arith;
+        counts =
+            cause.failed ∙ ap (λ (v : SiteCounts). disk_failed (asked sync v)) is;
+      };
+    }
 
 -- the first sync failed, or a read behind it
 pub sync_stops : (asks : List Ask) (a b : SiteCounts) → b ≡ disk_failed (asked sync a) → StopsIn (sync ∷ asks) a b
@@ -57,7 +69,11 @@ sync_stops asks a b is = record { made = sync ∷ []; rest = asks; front = refl;
 
 -- one of these failed
 pub asks_failed : {T E : Type 0} (asks : List Ask) (r : Result T E) (a b : SiteCounts) → IsErr r → StopsIn asks a b → Asks asks r a b
-asks_failed {T = T} {E = E} asks (Ok done) a b err s = record { done = IfOk-from_err {T = T} {E = E} (Ok done) (λ _. b ≡ all_asked asks a) err; failed = tt }
+asks_failed {T = T} {E = E} asks (Ok done) a b err s = record {
+  done =
+      IfOk-from_err {T = T} {E = E} (Ok done) (λ _. b ≡ all_asked asks a) err;
+  failed = tt;
+}
 asks_failed {T = T} {E = E} asks (Err fault) a b err s = record { done = tt; failed = s }
 
 -- the faults that are counted
@@ -105,7 +121,8 @@ asked_fails asks failed a b is never =
     }
 
 -- the faults of an append
-pub append_fails : {T : Type 0} (r : Result T AppendFault) (a b : SiteCounts) → AppendAsks r a b → OnlyDiskFails (r ≡ Err appending.Disk) a b
+pub append_fails : {T : Type 0} (r : Result T AppendFault) (a b : SiteCounts) → AppendAsks r a b
+    → OnlyDiskFails (r ≡ Err appending.Disk) a b
 append_fails (Ok done) a b asks = asked_fails (through 2) _ a b asks (λ wrong. cc wrong)
 append_fails (Err (appending.Full end more)) a b asks = asked_fails [] _ a b asks (λ wrong. cc wrong)
 append_fails (Err appending.Disk) a b asks = stops_fails (through 2) _ a b asks refl

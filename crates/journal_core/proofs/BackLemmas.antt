@@ -1,5 +1,6 @@
 -- Where the records of a file stand.
-use Rattle.std.proofs.Common.{◌≡◌, ◌∙◌, sym, ap, subst, ℕ, zero, suc, ◌+◌, ◌-◌, ◌≤◌, ◌<◌, List, [], ◌∷◌, ◌++◌, length, take, drop, get_or, All, Option, Some, append_assoc, length-append, length-drop, refl, arith}
+use Rattle.std.proofs.Common.{◌≡◌, ◌∙◌, sym, ap, subst, ℕ, zero, suc, ◌+◌, ◌-◌, ◌≤◌, ◌<◌, List, [], ◌∷◌, ◌++◌, length, take, drop, get_or}
+use Rattle.std.proofs.Common.{All, Option, Some, append_assoc, length-append, length-drop, refl, arith}
 use Rattle.std.proofs.lemmas.List.{drop_at, take_at, take_more, drop-drop}
 use Rattle.std.proofs.lemmas.Nat.{from_be_bytes-to_be_bytes_4}
 use Rattle.std.specs.Int.{w32, to_be_bytes, from_be_bytes}
@@ -11,7 +12,8 @@ use Rattle.journal_core.specs.Back.{HasAt, HasRecord}
 use Rattle.journal_core.proofs.Records.{front_length, framed_length, size_push}
 
 -- the blocks in front of record k, it, and those behind it
-split_at : (rs : List (List ℕ)) (k : ℕ) → k < length rs → (behind : List (List ℕ)) × (blocks rs ≡ blocks (take k rs) ++ (framed (get_or rs k []) ++ blocks behind))
+split_at : (rs : List (List ℕ)) (k : ℕ) → k < length rs → (behind : List (List ℕ))
+    × (blocks rs ≡ blocks (take k rs) ++ (framed (get_or rs k []) ++ blocks behind))
 split_at [] k lt = absurd (omega arith)
 split_at (r ∷ rs) zero lt = (rs, refl)
 split_at (r ∷ rs) (suc k) lt =
@@ -23,7 +25,8 @@ pub size_next : (rs : List (List ℕ)) (k : ℕ) → k < length rs → size (tak
 size_next rs k lt = ap size (take_more rs k [] lt) ∙ size_push (take k rs) (get_or rs k [])
 
 -- record k stands behind those before it
-pub has_at : (m k end : ℕ) (rs : List (List ℕ)) (image : List ℕ) → HasRecords m rs image → k < length rs → end ≡ size rs → HasAt (size (take k rs)) end (get_or rs k []) image
+pub has_at : (m k end : ℕ) (rs : List (List ℕ)) (image : List ℕ) → HasRecords m rs image → k < length rs → end ≡ size rs
+    → HasAt (size (take k rs)) end (get_or rs k []) image
 has_at m k end rs image has lt is =
     let r = get_or rs k [] in
     let split = split_at rs k lt in
@@ -35,11 +38,13 @@ has_at m k end rs image has lt is =
     ∙ ap (λ v. v ++ tail) (sym (append_assoc (header m) (blocks (take k rs)) (framed r ++ behind)))
     ∙ append_assoc front (framed r ++ behind) tail ∙ ap (λ v. front ++ v) (append_assoc (framed r) behind tail) in
     let len : length (blocks rs) ≡ length (blocks (take k rs)) + (5 + length r + length behind) =
-    ap length split.1 ∙ length-append (blocks (take k rs)) (framed r ++ behind) ∙ ap (λ v. length (blocks (take k rs)) + v) (length-append (framed r) behind ∙ ap (λ v. v + length behind) (framed_length r)) in
+    ap length split.1 ∙ length-append (blocks (take k rs)) (framed r ++ behind)
+    ∙ ap (λ v. length (blocks (take k rs)) + v) (length-append (framed r) behind ∙ ap (λ v. v + length behind) (framed_length r)) in
     record {
       one = has.each k [] lt;
       rest = behind ++ tail;
-      is = ap (drop (size (take k rs))) whole ∙ drop_at front (framed r ++ (behind ++ tail)) (size (take k rs)) (front_length m (take k rs));
+      is = ap (drop (size (take k rs))) whole ∙ drop_at front (framed r ++ (behind ++ tail)) (size (take k rs))
+          (front_length m (take k rs));
       whole = omega arith;
     }
 
@@ -65,7 +70,8 @@ head_size head bytes rest one is =
     ∙ from_be_bytes-to_be_bytes_4 (length bytes) (omega arith)
 
 -- record k still stands there after reads
-pub stands_at : (n end k place : ℕ) (a b : SiteState) → HasRecord n end a.image → Reads a b → k < length (records a.image) → place ≡ size (take k (records a.image))
+pub stands_at : (n end k place : ℕ) (a b : SiteState) → HasRecord n end a.image → Reads a b → k < length (records a.image)
+    → place ≡ size (take k (records a.image))
     → HasAt place end (get_or (records a.image) k []) b.image
 stands_at n end k place a b has reads lt is =
     let bytes = get_or (records a.image) k [] in
@@ -86,7 +92,8 @@ record_at n end place found a b has reads is found_is =
     stands_at n end (n - 1) place a b has reads (omega arith) (one_number found place _ is found_is)
 
 -- its bytes stand behind its head
-pub bytes_behind : (place end n : ℕ) (bytes image : List ℕ) → HasAt place end bytes image → n ≡ length bytes → take n (drop (place + 5) image) ≡ bytes
+pub bytes_behind : (place end n : ℕ) (bytes image : List ℕ) → HasAt place end bytes image → n ≡ length bytes
+    → take n (drop (place + 5) image) ≡ bytes
 unfolding framed
 bytes_behind place end n bytes image has many =
     let four = to_be_bytes w32 (length bytes) in
@@ -101,21 +108,29 @@ bytes_within place end n bytes image has many =
     omega (arith, ap length has.is, length-drop place image, length-append (framed bytes) has.rest, framed_length bytes)
 
 -- the place behind it is that of the next
-pub mark_next : (rs : List (List ℕ)) (k place n : ℕ) → k < length rs → IsMark rs (record { before = k; place = place }) → n ≡ length (get_or rs k [])
+pub mark_next : (rs : List (List ℕ)) (k place n : ℕ) → k < length rs → IsMark rs (record { before = k; place = place })
+    → n ≡ length (get_or rs k [])
     → IsMark rs (record { before = k + 1; place = place + (5 + n) })
-mark_next rs k place n lt mark many = record { within = omega arith; place = (let p = mark.place in let s = size_next rs k lt in omega arith) }
+mark_next rs k place n lt mark many = record {
+  within = omega arith;
+  place =
+      (let p = mark.place in let s = size_next rs k lt in omega arith);
+}
 
 -- and so is the place behind the record that was read back
-pub mark_read : (rs : List (List ℕ)) (n place many : ℕ) → 1 ≤ n → n ≤ length rs → place ≡ size (take (n - 1) rs) → many ≡ length (get_or rs (n - 1) [])
+pub mark_read : (rs : List (List ℕ)) (n place many : ℕ) → 1 ≤ n → n ≤ length rs → place ≡ size (take (n - 1) rs)
+    → many ≡ length (get_or rs (n - 1) [])
     → IsMark rs (record { before = n; place = place + 5 + many })
 mark_read rs n place many some within is many_is =
     let e : n - 1 + 1 ≡ n = omega arith in
     let P : ℕ → Type 0 = λ v. size (take v rs) ≡ size (take (n - 1) rs) + 5 + length (get_or rs (n - 1) []) in
-    let next : size (take n rs) ≡ size (take (n - 1) rs) + 5 + length (get_or rs (n - 1) []) = subst P e (size_next rs (n - 1) (omega arith)) in
+    let next : size (take n rs) ≡ size (take (n - 1) rs) + 5 + length (get_or rs (n - 1) []) =
+    subst P e (size_next rs (n - 1) (omega arith)) in
     record { within = within; place = omega arith }
 
 -- a journal of the same records stands for them after reads
-pub reads_stands : (j k : Ledger) (a b : SiteState) → Stands a j → Reads a b → k.manager ≡ j.manager → k.count ≡ j.count → k.end ≡ j.end → All (IsMark (records a.image)) k.marks
+pub reads_stands : (j k : Ledger) (a b : SiteState) → Stands a j → Reads a b → k.manager ≡ j.manager → k.count ≡ j.count → k.end ≡ j.end
+    → All (IsMark (records a.image)) k.marks
     → Stands b k
 reads_stands j k a b stands reads manager count end marks =
     let P : ℕ → Type 0 = λ v. HasRecords v (records b.image) b.image in

@@ -1,5 +1,6 @@
 -- The steps of the making of a journal file: each write with its sync.
-use Rattle.std.proofs.Common.{◌≡◌, ◌≢◌, lit<, ◌⊎◌, ◌∙◌, sym, ap, subst, inl, inr, ⊎_elim, ℕ, ◌+◌, ◌≤◌, true, false, List, [], ◌∷◌, ◌++◌, length, take, drop, get_or, Result, Ok, Err, OnOk, append_assoc, length-take, length-drop, refl, arith}
+use Rattle.std.proofs.Common.{◌≡◌, ◌≢◌, lit<, ◌⊎◌, ◌∙◌, sym, ap, subst, inl, inr, ⊎_elim, ℕ, ◌+◌, ◌≤◌, true, false, List, [], ◌∷◌, ◌++◌}
+use Rattle.std.proofs.Common.{length, take, drop, get_or, Result, Ok, Err, OnOk, append_assoc, length-take, length-drop, refl, arith}
 use Rattle.std.specs.Prelude.{eqb}
 use Rattle.std.proofs.lemmas.Result.{on_ok_weaker}
 use Rattle.std.proofs.lemmas.Bool.Decides.{eqb_tells}
@@ -22,17 +23,20 @@ on_ok_both (Ok x) f a b = f a b
 on_ok_both (Err e) f a b = tt
 
 -- one write through, where a stop within it leaves only such files and where it succeeded the file is so
-step_by : {T E : Type 0} (m at : ℕ) (bytes : List ℕ) (so next : List ℕ → Type 0) (r : Result T E) (a b : SiteState) → StandsSo so a → WritesThrough at bytes r a b
+step_by : {T E : Type 0} (m at : ℕ) (bytes : List ℕ) (so next : List ℕ → Type 0) (r : Result T E) (a b : SiteState) → StandsSo so a
+    → WritesThrough at bytes r a b
     → ((i : List ℕ) → so i → IsUnfinished m i) → ((i j : List ℕ) → so i → Torn at (length bytes) i j → IsUnfinished m j ⊎ HasRecords m [] j)
     → ((i j : List ℕ) → so i → Holds i at bytes j → next j) → Steps m next r a b
 step_by m at bytes so next r a b stands call unfinished torn written =
     let before : LeavesOnly (IsMaking m) a a =
-    started (IsMaking m) a (λ p left. record { file = inl (unfinished p.image (subst so (sym (stands.settled.image p left)) stands.file)) }) in
+    started (IsMaking m) a (λ p left. record { file = inl (unfinished p.image (subst so (sym (stands.settled.image p left)) stands.file)) })
+    in
     record {
       any_moment = goes_on (IsMaking m) (FileStep (Torn at (length bytes))) a a b before call.on_file.passes
           (λ q p left step. record { file = torn q.image p.image (subst so (sym (stands.settled.image q left)) stands.file) step.image });
       stands = on_ok_both r
-          (λ (settled : IsSettled b) (holds : Holds a.image at bytes b.image). record { settled = settled; file = written a.image b.image stands.file holds })
+          (λ (settled : IsSettled b) (holds : Holds a.image at bytes b.image).
+          record { settled = settled; file = written a.image b.image stands.file holds })
           call.settled call.holds;
       jobs = keeps_one (Torn at (length bytes)) a b call.on_file;
     }
@@ -60,19 +64,22 @@ made_of m j begins rest =
 begun_unfinished : (m : ℕ) (i : List ℕ) → IsBegun i → IsUnfinished m i
 begun_unfinished m i begun = inr (inl begun.v)
 
-pub begins : {T E : Type 0} (m : ℕ) (r : Result T E) (a b : SiteState) → StandsSo IsEmpty a → WritesThrough 0 (118 ∷ []) r a b → Steps m IsBegun r a b
+pub begins : {T E : Type 0} (m : ℕ) (r : Result T E) (a b : SiteState) → StandsSo IsEmpty a → WritesThrough 0 (118 ∷ []) r a b
+    → Steps m IsBegun r a b
 begins m r a b stands call =
     step_by m 0 (118 ∷ []) IsEmpty IsBegun r a b stands call
     (λ i empty. inl empty.short)
     (λ i j empty torn. inl (inl (let s = empty.short in let l = torn.no_longer in omega arith)))
     (λ i j empty holds. record { some = (let l = ap length holds in omega arith); v = ap first holds })
 
-pub fills : {T E : Type 0} (m : ℕ) (bytes : List ℕ) (r : Result T E) (a b : SiteState) → bytes ≡ drop 1 (made m) → StandsSo IsBegun a → WritesThrough 1 bytes r a b → Steps m (IsFilled m) r a b
+pub fills : {T E : Type 0} (m : ℕ) (bytes : List ℕ) (r : Result T E) (a b : SiteState) → bytes ≡ drop 1 (made m) → StandsSo IsBegun a
+    → WritesThrough 1 bytes r a b → Steps m (IsFilled m) r a b
 unfolding header
 fills m bytes r a b is stands call =
     step_by m 1 bytes IsBegun (IsFilled m) r a b stands call
     (begun_unfinished m)
-    (λ i j begun torn. inl (inr (inl (sym (get_or-take 1 j 0 0 (omega arith)) ∙ ap (λ v. get_or v 0 0) torn.before ∙ get_or-take 1 i 0 0 (omega arith) ∙ begun.v))))
+    (λ i j begun torn. inl (inr (inl (sym (get_or-take 1 j 0 0 (omega arith)) ∙ ap (λ v. get_or v 0 0) torn.before
+    ∙ get_or-take 1 i 0 0 (omega arith) ∙ begun.v))))
     (λ i j begun holds.
     let some = begun.some in
     let n : length bytes ≡ 32 = ap length is in
@@ -84,7 +91,8 @@ fills m bytes r a b is stands call =
       rest = ap (λ v. take 32 (drop 1 v)) whole ∙ take_at bytes rest 32 n ∙ is;
     })
 
-pub finishes : {T E : Type 0} (m : ℕ) (r : Result T E) (a b : SiteState) → StandsSo (IsFilled m) a → WritesThrough 0 (86 ∷ []) r a b → Steps m (HasRecords m []) r a b
+pub finishes : {T E : Type 0} (m : ℕ) (r : Result T E) (a b : SiteState) → StandsSo (IsFilled m) a → WritesThrough 0 (86 ∷ []) r a b
+    → Steps m (HasRecords m []) r a b
 finishes m r a b stands call =
     step_by m 0 (86 ∷ []) (IsFilled m) (HasRecords m []) r a b stands call
     (λ i filled. inr (inr (filled.not_made, filled.rest)))
@@ -97,7 +105,8 @@ finishes m r a b stands call =
     (λ i j filled holds. made_of m j (ap first holds) (ap (λ v. take 32 (drop 1 v)) holds ∙ filled.rest))
 
 -- two steps, one after the other
-pub steps_then : {T E U F : Type 0} (m : ℕ) (so next : List ℕ → Type 0) (r : Result T E) (s : Result U F) (a b c : SiteState) → Steps m so r a b → Steps m next s b c → Steps m next s a c
+pub steps_then : {T E U F : Type 0} (m : ℕ) (so next : List ℕ → Type 0) (r : Result T E) (s : Result U F) (a b c : SiteState)
+    → Steps m so r a b → Steps m next s b c → Steps m next s a c
 steps_then m so next r s a b c first second = record {
   any_moment = followed (IsMaking m) (IsMaking m) a b c first.any_moment second.any_moment (λ p h. h);
   stands = second.stands;
@@ -113,7 +122,8 @@ stage_unfinished m stage.Filled i at = inr (inr (at.not_made, at.rest))
 -- reading leaves a file that may be made unfinished
 read_moments : (m : ℕ) (a b : SiteState) → SyncsAndReads a b → MayBeMade m a → LeavesOnly (IsMaking m) a b
 read_moments m a b read may =
-    goes_on (IsMaking m) (FileStep Same) a a b (started (IsMaking m) a (λ p left. record { file = inl (may.each p left) })) read.on_file.passes
+    goes_on (IsMaking m) (FileStep Same) a a b (started (IsMaking m) a (λ p left. record { file = inl (may.each p left) }))
+    read.on_file.passes
     (λ q p left step. let P : List ℕ → Type 0 = λ v. IsUnfinished m v in record { file = inl (subst P (sym step.image) (may.each q left)) })
 
 same_unfinished : (m : ℕ) (a b : SiteState) → SyncsAndReads a b → IsUnfinished m b.image → IsUnfinished m a.image
@@ -151,8 +161,10 @@ creates_taken m a b read not = record {
 }
 
 -- the file was made, or a step of its making failed
-pub creates_steps : (m : ℕ) (found : Stage) (r : Result (Unit {0}) CreateFault) (s : Result (Unit {0}) DiskFailed) (a b c : SiteState) → SyncsAndReads a b → StandsSo (StageIs m found) b
-    → Steps m (HasRecords m []) s b c → (r ≡ Err fault.Taken → ⊥) → (OnOk s (StandsSo (HasRecords m []) c) → OnOk r (StandsSo (HasRecords m []) c)) → Creates m r a c
+pub creates_steps : (m : ℕ) (found : Stage) (r : Result (Unit {0}) CreateFault) (s : Result (Unit {0}) DiskFailed) (a b c : SiteState)
+    → SyncsAndReads a b → StandsSo (StageIs m found) b
+    → Steps m (HasRecords m []) s b c → (r ≡ Err fault.Taken → ⊥) → (OnOk s (StandsSo (HasRecords m []) c)
+    → OnOk r (StandsSo (HasRecords m []) c)) → Creates m r a c
 creates_steps m found r s a b c read stands steps not_refused ok =
     let unfinished = same_unfinished m a b read (stage_unfinished m found b.image stands.file) in
     record {

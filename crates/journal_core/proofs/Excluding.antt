@@ -1,5 +1,6 @@
 -- What a file is, it is once: its records, its header, and the place where it breaks.
-use Rattle.std.proofs.Common.{◌≡◌, ◌≢◌, ◌⊎◌, ◌∙◌, sym, ap, subst, inl, inr, ⊎_elim, ℕ, ◌+◌, ◌-◌, ◌≤◌, ◌<◌, List, [], ◌∷◌, ◌++◌, length, take, drop, get_or, All, append_assoc, length-append, length-take, refl, arith}
+use Rattle.std.proofs.Common.{◌≡◌, ◌≢◌, ◌⊎◌, ◌∙◌, sym, ap, subst, inl, inr, ⊎_elim, ℕ, ◌+◌, ◌-◌, ◌≤◌, ◌<◌, List, [], ◌∷◌, ◌++◌, length}
+use Rattle.std.proofs.Common.{take, drop, get_or, All, append_assoc, length-append, length-take, refl, arith}
 use Rattle.std.specs.Int.{w32, to_be_bytes, from_be_bytes}
 use Rattle.std.proofs.lemmas.Nat.{from_be_bytes-to_be_bytes_4}
 use Rattle.std.proofs.lemmas.Bool.{cases_lt, cases_order}
@@ -7,7 +8,8 @@ use Rattle.std.proofs.lemmas.List.{take_at, drop_at, get_or-take, get_or-drop}
 use Rattle.journal_records.specs.File.{header, cut_records, framed, blocks, size, IsRecord, HasRecords}
 use Rattle.journal_core.specs.Header.{MayStand}
 use Rattle.journal_records.specs.Head.{number, IsBody, IsBroken, BeginsWith}
-use Rattle.journal_core.specs.Exclusion.{IsWholeOrUnmade, IsWholeOrForeign, IsWholeOrBroken, IsWholeOnce, IsHeadedOrNot, IsForeignOnce, BreaksOnce}
+use Rattle.journal_core.specs.Exclusion.{IsWholeOrUnmade, IsWholeOrForeign, IsWholeOrBroken, IsWholeOnce, IsHeadedOrNot, IsForeignOnce}
+use Rattle.journal_core.specs.Exclusion.{BreaksOnce}
 use Rattle.journal_core.proofs.Records.{header_length, framed_length, each_first, each_rest, open_cut, records_of}
 use Rattle.journal_core.proofs.HeaderLemmas.{made_not_unmade}
 
@@ -27,8 +29,10 @@ body_of end body r rest one small is =
     let four = to_be_bytes w32 (length r) in
     let fits = one.fits in
     let behind : body ≡ four ++ (r ++ rest) = ap (drop 1) is ∙ append_assoc four r rest in
-    let n : number body ≡ length r = ap (λ v. from_be_bytes w32 (take 4 v)) behind ∙ ap (from_be_bytes w32) (take_at four (r ++ rest) 4 refl) ∙ from_be_bytes-to_be_bytes_4 (length r) (omega arith) in
-    let long : length body ≡ 4 + (length r + length rest) = ap length behind ∙ length-append four (r ++ rest) ∙ ap (λ v. 4 + v) (length-append r rest) in
+    let n : number body ≡ length r = ap (λ v. from_be_bytes w32 (take 4 v)) behind
+    ∙ ap (from_be_bytes w32) (take_at four (r ++ rest) 4 refl) ∙ from_be_bytes-to_be_bytes_4 (length r) (omega arith) in
+    let long : length body ≡ 4 + (length r + length rest) = ap length behind ∙ length-append four (r ++ rest)
+    ∙ ap (λ v. 4 + v) (length-append r rest) in
     record { whole = omega (arith, n); some = omega (arith, n, one.some); fits = omega (arith, n); small = omega (arith, n) }
 
 broken_none : (end : ℕ) (bytes : List ℕ) → IsBroken end bytes → HasNone end bytes
@@ -48,26 +52,32 @@ first_once r q x y one other is =
     let same : r ≡ q = ap (λ v. elim v as (λ _. List ℕ) [ [] ↦ [] | h ∷ t ↦ h ]) cut in
     let len : length (framed r) ≡ length (framed q) = ap (λ v. length (framed v)) same in (
       same,
-      sym (drop_at (framed r) x (length (framed r)) refl) ∙ ap (λ v. drop (length (framed r)) v) is ∙ drop_at (framed q) y (length (framed r)) (sym len),
+      sym (drop_at (framed r) x (length (framed r)) refl) ∙ ap (λ v. drop (length (framed r)) v) is
+          ∙ drop_at (framed q) y (length (framed r)) (sym len),
     )
 
 -- Two ways to cut bytes into records, up to where there is none, are one.
-pub same_records : (end : ℕ) (rs qs : List (List ℕ)) (a b : List ℕ) → All IsRecord rs → All IsRecord qs → end + length (blocks rs) < 268435456 → end + length (blocks qs) < 268435456
+pub same_records : (end : ℕ) (rs qs : List (List ℕ)) (a b : List ℕ) → All IsRecord rs → All IsRecord qs
+    → end + length (blocks rs) < 268435456 → end + length (blocks qs) < 268435456
     → HasNone (end + length (blocks rs)) a → HasNone (end + length (blocks qs)) b → blocks rs ++ a ≡ blocks qs ++ b → (rs ≡ qs) × (a ≡ b)
 same_records end [] [] a b each others small low none none_too is = (refl, is)
 same_records end [] (q ∷ qs) a b each others small low none none_too is =
-    absurd (none.none q (blocks qs ++ b) (each_first q qs others) (omega (arith, length-append (framed q) (blocks qs), framed_length q)) (is ∙ append_assoc (framed q) (blocks qs) b))
+    absurd (none.none q (blocks qs ++ b) (each_first q qs others) (omega (arith, length-append (framed q) (blocks qs), framed_length q))
+    (is ∙ append_assoc (framed q) (blocks qs) b))
 same_records end (r ∷ rs) [] a b each others small low none none_too is =
-    absurd (none_too.none r (blocks rs ++ a) (each_first r rs each) (omega (arith, length-append (framed r) (blocks rs), framed_length r)) (sym is ∙ append_assoc (framed r) (blocks rs) a))
+    absurd (none_too.none r (blocks rs ++ a) (each_first r rs each) (omega (arith, length-append (framed r) (blocks rs), framed_length r))
+    (sym is ∙ append_assoc (framed r) (blocks rs) a))
 same_records end (r ∷ rs) (q ∷ qs) a b each others small low none none_too is =
     let first = first_once r q (blocks rs ++ a) (blocks qs ++ b) (each_first r rs each) (each_first q qs others)
     (sym (append_assoc (framed r) (blocks rs) a) ∙ is ∙ append_assoc (framed q) (blocks qs) b) in
-    let more : (xs : List ℕ) (ys : List (List ℕ)) → end + length (blocks (xs ∷ ys)) ≡ end + length (framed xs) + length (blocks ys) = λ xs ys. omega (arith, length-append (framed xs) (blocks ys)) in
+    let more : (xs : List ℕ) (ys : List (List ℕ)) → end + length (blocks (xs ∷ ys)) ≡ end + length (framed xs) + length (blocks ys) =
+    λ xs ys. omega (arith, length-append (framed xs) (blocks ys)) in
     let same : length (framed r) ≡ length (framed q) = ap (λ v. length (framed v)) first.0 in
     let P : ℕ → Type 0 = λ v. HasNone v a in
     let Q : ℕ → Type 0 = λ v. HasNone v b in
     let place : end + length (blocks (q ∷ qs)) ≡ end + length (framed r) + length (blocks qs) = omega (arith, more q qs) in
-    let rest = same_records (end + length (framed r)) rs qs a b (each_rest r rs each) (each_rest q qs others) (omega (arith, more r rs)) (omega arith)
+    let rest = same_records (end + length (framed r)) rs qs a b (each_rest r rs each) (each_rest q qs others) (omega (arith, more r rs))
+    (omega arith)
     (subst P (more r rs) none) (subst Q place none_too) first.1 in
     (ap (λ v. v ∷ rs) first.0 ∙ ap (λ v. q ∷ v) rest.0, rest.1)
 
@@ -80,17 +90,20 @@ front_header : (m : ℕ) (x image : List ℕ) → image ≡ header m ++ x → ta
 front_header m x image is = ap (take 32) is ∙ take_at (header m) x 32 (header_length m)
 
 -- a whole file and one that breaks: the records, and what stands behind them
-pub same_behind : (m k : ℕ) (rs qs : List (List ℕ)) (a b image : List ℕ) → BeginsWith m rs a image → BeginsWith k qs b image → HasNone (size rs) a → HasNone (size qs) b → (rs ≡ qs) × (a ≡ b)
+pub same_behind : (m k : ℕ) (rs qs : List (List ℕ)) (a b image : List ℕ) → BeginsWith m rs a image → BeginsWith k qs b image
+    → HasNone (size rs) a → HasNone (size qs) b → (rs ≡ qs) × (a ≡ b)
 same_behind m k rs qs a b image one other none none_too =
     same_records 32 rs qs a b one.each other.each one.small other.small none none_too
-    (sym (behind_header m (blocks rs ++ a) image (one.is ∙ append_assoc (header m) (blocks rs) a)) ∙ behind_header k (blocks qs ++ b) image (other.is ∙ append_assoc (header k) (blocks qs) b))
+    (sym (behind_header m (blocks rs ++ a) image (one.is ∙ append_assoc (header m) (blocks rs) a))
+    ∙ behind_header k (blocks qs ++ b) image (other.is ∙ append_assoc (header k) (blocks qs) b))
 
 -- a whole file begins with its records
 pub begins_of : (m : ℕ) (rs : List (List ℕ)) (image : List ℕ) → (has : HasRecords m rs image) → BeginsWith m rs (has.gate ∷ has.tail) image
 begins_of m rs image has = record { is = has.is; each = has.each; small = has.small }
 
 -- two headers of one file are of one manager
-pub same_manager : (m n : ℕ) (image : List ℕ) → m < 4294967296 → n < 4294967296 → take 32 image ≡ header m → take 32 image ≡ header n → m ≡ n
+pub same_manager : (m n : ℕ) (image : List ℕ) → m < 4294967296 → n < 4294967296 → take 32 image ≡ header m → take 32 image ≡ header n
+    → m ≡ n
 unfolding header
 same_manager m n image fits small one other =
     let four : to_be_bytes w32 m ≡ to_be_bytes w32 n = ap (λ v. take 4 (drop 9 v)) (sym one ∙ other) in
@@ -116,12 +129,14 @@ headed_stands m k image is lt =
     record {
       there = omega (arith, length-take 32 image);
       right = ⊎_elim (λ (low : k < 9). inr (at ∙ same_low m k low))
-          (λ (from : 9 ≤ k). ⊎_elim (λ (number : k < 13). inl (from, omega arith)) (λ (high : 13 ≤ k). inr (at ∙ same_high m k high)) (cases_lt k 13))
+          (λ (from : 9 ≤ k). ⊎_elim (λ (number : k < 13). inl (from, omega arith)) (λ (high : 13 ≤ k). inr (at ∙ same_high m k high))
+          (cases_lt k 13))
           (cases_lt k 9);
     }
 
 pub whole_front : (m : ℕ) (rs : List (List ℕ)) (image : List ℕ) → HasRecords m rs image → take 32 image ≡ header m
-whole_front m rs image has = front_header m (blocks rs ++ has.gate ∷ has.tail) image (has.is ∙ append_assoc (header m) (blocks rs) (has.gate ∷ has.tail))
+whole_front m rs image has = front_header m (blocks rs ++ has.gate ∷ has.tail) image
+    (has.is ∙ append_assoc (header m) (blocks rs) (has.gate ∷ has.tail))
 
 pub headed_or_not : IsHeadedOrNot
 headed_or_not m image has = (
@@ -138,9 +153,11 @@ whole_or_foreign m place rs image has foreign =
 
 pub whole_or_broken : IsWholeOrBroken
 whole_or_broken m k n rs image has broken =
-    let same = same_behind m k rs broken.rs (has.gate ∷ has.tail) broken.rest image (begins_of m rs image has) broken.begins (closed_none (size rs) has.gate has.tail has.closed) (broken_none (size broken.rs) broken.rest broken.broken) in
+    let same = same_behind m k rs broken.rs (has.gate ∷ has.tail) broken.rest image (begins_of m rs image has) broken.begins
+    (closed_none (size rs) has.gate has.tail has.closed) (broken_none (size broken.rs) broken.rest broken.broken) in
     ⊎_elim (λ (nothing : broken.rest ≡ []). (let e = ap length (same.1 ∙ nothing) in omega arith))
-    (λ (open_gate : (body : List ℕ) × (broken.rest ≡ 1 ∷ body) × (IsBody (size broken.rs) body → ⊥)). has.closed (ap (λ v. get_or v 0 0) (same.1 ∙ open_gate.1)))
+    (λ (open_gate : (body : List ℕ) × (broken.rest ≡ 1 ∷ body) × (IsBody (size broken.rs) body → ⊥)). has.closed
+    (ap (λ v. get_or v 0 0) (same.1 ∙ open_gate.1)))
     broken.broken
 
 pub whole_once : IsWholeOnce
@@ -153,10 +170,12 @@ pub foreign_once : IsForeignOnce
 foreign_once p q image one other =
     ⊎_elim (λ (same : p ≡ q). same)
     (λ (apart : (p < q) ⊎ (q < p)).
-    ⊎_elim (λ (lt : p < q). absurd (one.differs.differs (other.differs.before p lt))) (λ (lt : q < p). absurd (other.differs.differs (one.differs.before q lt))) apart)
+    ⊎_elim (λ (lt : p < q). absurd (one.differs.differs (other.differs.before p lt)))
+    (λ (lt : q < p). absurd (other.differs.differs (one.differs.before q lt))) apart)
     (cases_order p q)
 
 pub breaks_once : BreaksOnce
 breaks_once m k n i image one other =
-    let same = same_behind m k one.rs other.rs one.rest other.rest image one.begins other.begins (broken_none (size one.rs) one.rest one.broken) (broken_none (size other.rs) other.rest other.broken) in
+    let same = same_behind m k one.rs other.rs one.rest other.rest image one.begins other.begins
+    (broken_none (size one.rs) one.rest one.broken) (broken_none (size other.rs) other.rest other.broken) in
     one.place ∙ ap (λ v. length v + 1) same.0 ∙ sym other.place

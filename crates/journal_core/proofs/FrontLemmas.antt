@@ -15,7 +15,8 @@ rest_is : (image : List ℕ) → take 32 (drop 1 (take 33 image)) ≡ take 32 (d
 rest_is image = ap (take 32) (drop-take 1 32 image) ∙ take-take 32 32 (drop 1 image) (omega arith)
 
 -- of two files with one first byte and one rest, both are unfinished or none
-unfinished_same : (m : ℕ) (i j : List ℕ) → (length i ≤ 1 → length j ≤ 1) → first i ≡ first j → take 32 (drop 1 i) ≡ take 32 (drop 1 j) → IsUnfinished m i → IsUnfinished m j
+unfinished_same : (m : ℕ) (i j : List ℕ) → (length i ≤ 1 → length j ≤ 1) → first i ≡ first j → take 32 (drop 1 i) ≡ take 32 (drop 1 j)
+    → IsUnfinished m i → IsUnfinished m j
 unfinished_same m i j short begins rest unfinished =
     ⊎_elim (λ (s : length i ≤ 1). inl (short s))
     (λ (r : (first i ≡ 118) ⊎ ((first i ≡ 86 → ⊥) × (take 32 (drop 1 i) ≡ drop 1 (made m)))).
@@ -24,10 +25,12 @@ unfinished_same m i j short begins rest unfinished =
     unfinished
 
 pub unfinished_front : (m : ℕ) (image : List ℕ) → IsUnfinished m (take 33 image) → IsUnfinished m image
-unfinished_front m image = unfinished_same m (take 33 image) image (λ s. omega (arith, length-take 33 image)) (first_is image) (rest_is image)
+unfinished_front m image = unfinished_same m (take 33 image) image (λ s. omega (arith, length-take 33 image)) (first_is image)
+    (rest_is image)
 
 pub unfinished_whole : (m : ℕ) (image : List ℕ) → IsUnfinished m image → IsUnfinished m (take 33 image)
-unfinished_whole m image = unfinished_same m image (take 33 image) (λ s. omega (arith, length-take 33 image)) (sym (first_is image)) (sym (rest_is image))
+unfinished_whole m image = unfinished_same m image (take 33 image) (λ s. omega (arith, length-take 33 image)) (sym (first_is image))
+    (sym (rest_is image))
 
 may_front : (k : ℕ) (image : List ℕ) → k < 33 → MayStand k (take 33 image) → MayStand k image
 may_front k image lt may = record {
@@ -38,7 +41,8 @@ may_front k image lt may = record {
 may_whole : (k : ℕ) (image : List ℕ) → k < 33 → MayStand k image → MayStand k (take 33 image)
 may_whole k image lt may = record {
   there = (let t = length-take 33 image in let h = may.there in omega arith);
-  right = (let P : ℕ → Type 0 = λ v. ((9 ≤ k) × (k ≤ 12)) ⊎ (v ≡ get_or (header 0) k 0) in subst P (sym (get_or-take 33 image k 0 lt)) may.right);
+  right = (let P : ℕ → Type 0 = λ v. ((9 ≤ k) × (k ≤ 12)) ⊎ (v ≡ get_or (header 0) k 0) in
+      subst P (sym (get_or-take 33 image k 0 lt)) may.right);
 }
 
 pub judged_front : (image : List ℕ) (v : HeaderState) → Judged (take 33 image) v → Judged image v

@@ -1,5 +1,6 @@
 -- Headers by their parts and by their places.
-use Rattle.std.proofs.Common.{◌≡◌, ◌⊎◌, ◌∙◌, sym, ap, ⊎_elim, ℕ, ◌+◌, ◌≤◌, ◌<◌, Bool, true, false, not, List, [], ◌∷◌, ◌++◌, length, take, drop, get_or, replicate, length-take, length-drop, refl, arith}
+use Rattle.std.proofs.Common.{◌≡◌, ◌⊎◌, ◌∙◌, sym, ap, ⊎_elim, ℕ, ◌+◌, ◌≤◌, ◌<◌, Bool, true, false, not, List, [], ◌∷◌, ◌++◌, length, take}
+use Rattle.std.proofs.Common.{drop, get_or, replicate, length-take, length-drop, refl, arith}
 use Rattle.std.specs.Int.{w32, to_be_bytes, from_be_bytes}
 use Rattle.std.proofs.lemmas.Bool.{false≢true}
 use Rattle.std.proofs.lemmas.Nat.{be_bytes_4}
@@ -32,14 +33,16 @@ number_back bytes k small room =
     sym (be_bytes_4 four (from_be_bytes w32 four) many (below_take 4 (drop k bytes) (below_drop k bytes small)) refl)
 
 -- a rest with these parts is that of a made file
-pub rest_from_parts : (front : List ℕ) → ((i : ℕ) → get_or front i 0 < 256) → length front ≡ 33 → take 8 (drop 1 front) ≡ name → take 20 (drop 13 front) ≡ replicate 20 0
+pub rest_from_parts : (front : List ℕ) → ((i : ℕ) → get_or front i 0 < 256) → length front ≡ 33 → take 8 (drop 1 front) ≡ name
+    → take 20 (drop 13 front) ≡ replicate 20 0
     → (m : ℕ) × (take 32 (drop 1 front) ≡ drop 1 (made m))
 unfolding header
 rest_from_parts front small len is zeros =
     let m = from_be_bytes w32 (take 4 (drop 9 front)) in
     let rest = drop 1 front in
     let split : take 32 rest ≡ take 8 rest ++ (take 4 (drop 8 rest) ++ take 20 (drop 12 rest)) =
-    take-add 8 24 rest ∙ ap (λ v. take 8 rest ++ v) (take-add 4 20 (drop 8 rest) ∙ ap (λ v. take 4 (drop 8 rest) ++ take 20 v) (drop-drop 4 8 rest)) in
+    take-add 8 24 rest ∙ ap (λ v. take 8 rest ++ v) (take-add 4 20 (drop 8 rest)
+    ∙ ap (λ v. take 4 (drop 8 rest) ++ take 20 v) (drop-drop 4 8 rest)) in
     let nine : drop 8 rest ≡ drop 9 front = drop-drop 8 1 front in
     let thirteen : drop 12 rest ≡ drop 13 front = drop-drop 12 1 front in (
       m,
@@ -70,18 +73,21 @@ header_from_places front small all =
     let len : 32 ≤ length front = (let last = (all 31 (omega arith)).there in omega arith) in
     let m = from_be_bytes w32 (take 4 (drop 9 front)) in
     let outside : (k : ℕ) → k < 32 → ((9 ≤ k) × (k ≤ 12) → ⊥) → get_or front k 0 ≡ get_or (header 0) k 0 =
-    λ k lt not. ⊎_elim (λ (number : (9 ≤ k) × (k ≤ 12)). absurd (not number)) (λ (is : get_or front k 0 ≡ get_or (header 0) k 0). is) (all k lt).right in
+    λ k lt not. ⊎_elim (λ (number : (9 ≤ k) × (k ≤ 12)). absurd (not number)) (λ (is : get_or front k 0 ≡ get_or (header 0) k 0). is)
+    (all k lt).right in
     let nine : take 9 front ≡ take 9 (header 0) =
     ext_get_or 0 (take 9 front) (take 9 (header 0)) (length-take-le 9 front (omega arith))
     (λ i lt. let l : i < 9 = (let t = length-take-le 9 front (omega arith) in omega arith) in
     get_or-take 9 front i 0 l ∙ outside i (omega arith) (λ n. omega (arith, n.0)) ∙ sym (get_or-take 9 (header 0) i 0 l)) in
     let zeros : take 19 (drop 13 front) ≡ take 19 (drop 13 (header 0)) =
-    ext_get_or 0 (take 19 (drop 13 front)) (take 19 (drop 13 (header 0))) (let t = length-take 19 (drop 13 front) in let d = length-drop 13 front in omega arith)
+    ext_get_or 0 (take 19 (drop 13 front)) (take 19 (drop 13 (header 0)))
+    (let t = length-take 19 (drop 13 front) in let d = length-drop 13 front in omega arith)
     (λ i lt. let l : i < 19 = (let t = length-take 19 (drop 13 front) in omega arith) in
     get_or-take 19 (drop 13 front) i 0 l ∙ get_or-drop 13 front i 0 ∙ outside (13 + i) (omega arith) (λ n. omega (arith, n.1))
     ∙ sym (get_or-drop 13 (header 0) i 0) ∙ sym (get_or-take 19 (drop 13 (header 0)) i 0 l)) in (
       len,
-      take-add 9 23 front ∙ ap (λ v. take 9 front ++ v) (take-add 4 19 (drop 9 front) ∙ ap (λ v. take 4 (drop 9 front) ++ take 19 v) (drop-drop 4 9 front))
+      take-add 9 23 front ∙ ap (λ v. take 9 front ++ v) (take-add 4 19 (drop 9 front)
+          ∙ ap (λ v. take 4 (drop 9 front) ++ take 19 v) (drop-drop 4 9 front))
           ∙ ap (λ v. v ++ (take 4 (drop 9 front) ++ take 19 (drop 13 front))) nine
           ∙ ap (λ v. take 9 (header 0) ++ (v ++ take 19 (drop 13 front))) (number_back front 9 small (omega arith))
           ∙ ap (λ v. take 9 (header 0) ++ (to_be_bytes w32 m ++ v)) zeros,
@@ -95,17 +101,20 @@ made_not_unmade m n image is unfinished =
     let begins : first image ≡ 86 = sym (get_or-take 32 image 0 0 (omega arith)) ∙ ap (λ v. get_or v 0 0) is in
     ⊎_elim (λ (short : length image ≤ 1). omega (arith, length-take 32 image))
     (λ (rest : (first image ≡ 118) ⊎ ((first image ≡ 86 → ⊥) × (take 32 (drop 1 image) ≡ drop 1 (made n)))).
-    ⊎_elim (λ (v : first image ≡ 118). omega (arith, v)) (λ (other : (first image ≡ 86 → ⊥) × (take 32 (drop 1 image) ≡ drop 1 (made n))). other.0 begins) rest)
+    ⊎_elim (λ (v : first image ≡ 118). omega (arith, v)) (λ (other : (first image ≡ 86 → ⊥) × (take 32 (drop 1 image) ≡ drop 1 (made n))).
+    other.0 begins) rest)
     unfinished
 
 -- A file that begins neither with `v` nor with `V`, and not with the rest of a made file, is foreign at its first byte.
-pub foreign_at_first : (front : List ℕ) → 2 ≤ length front → (first front ≡ 118 → ⊥) → (first front ≡ 86 → ⊥) → (((m : ℕ) × (take 32 (drop 1 front) ≡ drop 1 (made m))) → ⊥)
+pub foreign_at_first : (front : List ℕ) → 2 ≤ length front → (first front ≡ 118 → ⊥) → (first front ≡ 86 → ⊥)
+    → (((m : ℕ) × (take 32 (drop 1 front) ≡ drop 1 (made m))) → ⊥)
     → IsForeign 0 front
 unfolding header
 foreign_at_first front long not_v not_V not_rest = record {
   not_unmade = λ unmade. ⊎_elim (λ (short : length front ≤ 1). omega (arith, short))
       (λ (rest : (first front ≡ 118) ⊎ ((first front ≡ 86 → ⊥) × (take 32 (drop 1 front) ≡ drop 1 (made unmade.0)))).
-      ⊎_elim not_v (λ (other : (first front ≡ 86 → ⊥) × (take 32 (drop 1 front) ≡ drop 1 (made unmade.0))). not_rest (unmade.0, other.1)) rest)
+      ⊎_elim not_v (λ (other : (first front ≡ 86 → ⊥) × (take 32 (drop 1 front) ≡ drop 1 (made unmade.0))). not_rest (unmade.0, other.1))
+      rest)
       unmade.1;
   differs = record {
     within = omega arith;

@@ -1,5 +1,6 @@
 -- The steps of a loading: one record more, the end, and what a read keeps.
-use Rattle.std.proofs.Common.{Result, Err, ◌≡◌, ◌≤◌, ◌<◌, ◌∙◌, sym, ap, subst, false, ℕ, ◌+◌, ◌*◌, List, [], ◌∷◌, ◌++◌, length, take, drop, append_assoc, All, length-take, length-drop, refl, arith}
+use Rattle.std.proofs.Common.{Result, Err, ◌≡◌, ◌≤◌, ◌<◌, ◌∙◌, sym, ap, subst, false, ℕ, ◌+◌, ◌*◌, List, [], ◌∷◌, ◌++◌, length, take, drop}
+use Rattle.std.proofs.Common.{append_assoc, All, length-take, length-drop, refl, arith}
 use Rattle.std.specs.Int.{w32, to_be_bytes}
 use Rattle.std.proofs.lemmas.Nat.{be_bytes_4}
 use Rattle.std.proofs.lemmas.List.{take-append-drop, drop-drop, length_push, append-nil}
@@ -20,13 +21,15 @@ use Rattle.journal_core.proofs.MarkLemmas.{mark_first, mark_end, marks_more}
 use Rattle.journal_core.proofs.Records.{blocks_push, size_push, records_of, has_its_records}
 
 -- a read keeps what was read so far, and so does a change of the last record and of whether the end was found
-pub loads_kept : (rs : List (List ℕ)) (l k : Progress) (a b : SiteState) → Loads rs l a → Reads a b → k.manager ≡ l.manager → k.count ≡ l.count → k.end ≡ l.end → k.len ≡ l.len
+pub loads_kept : (rs : List (List ℕ)) (l k : Progress) (a b : SiteState) → Loads rs l a → Reads a b → k.manager ≡ l.manager
+    → k.count ≡ l.count → k.end ≡ l.end → k.len ≡ l.len
     → k.marks ≡ l.marks → Loads rs k b
 loads_kept rs l k a b loads reads manager count end len marks =
     let same = reads.same in
     record {
       settled = reads.settled loads.settled;
-      header = (let P : List ℕ → Type 0 = λ v. HasHeader k.manager v in let Q : ℕ → Type 0 = λ v. HasHeader v a.image in subst P (sym same) (subst Q (sym manager) loads.header));
+      header = (let P : List ℕ → Type 0 = λ v. HasHeader k.manager v in let Q : ℕ → Type 0 = λ v. HasHeader v a.image in
+          subst P (sym same) (subst Q (sym manager) loads.header));
       begins = (let P : List ℕ → Type 0 = λ v. BeginsWith k.manager rs (drop k.end v) v in
           let Q : ℕ → Type 0 = λ v. BeginsWith v rs (drop k.end a.image) a.image in
           let R : ℕ → Type 0 = λ v. BeginsWith l.manager rs (drop v a.image) a.image in
@@ -38,7 +41,8 @@ loads_kept rs l k a b loads reads manager count end len marks =
     }
 
 -- the bytes of a record behind an open gate, and what stands behind them
-pub open_splits : (end n : ℕ) (bytes rest : List ℕ) → IsOpen end n rest → bytes ≡ take n (drop 5 rest) → (IsRecord bytes) × (length bytes ≡ n) × (rest ≡ framed bytes ++ drop (5 + n) rest)
+pub open_splits : (end n : ℕ) (bytes rest : List ℕ) → IsOpen end n rest → bytes ≡ take n (drop 5 rest)
+    → (IsRecord bytes) × (length bytes ≡ n) × (rest ≡ framed bytes ++ drop (5 + n) rest)
 unfolding framed number
 open_splits end n bytes rest open_gate is =
     let body = open_gate.body in
@@ -48,13 +52,15 @@ open_splits end n bytes rest open_gate is =
     let whole = open_gate.good.whole in
     let n_is : number body ≡ n = open_gate.size in
     let bytes_are : bytes ≡ take n (drop 4 body) = is ∙ ap (take n) behind in
-    let many : length bytes ≡ n = ap length bytes_are ∙ (let t = length-take n (drop 4 body) in let d = length-drop 4 body in omega arith) in
+    let many : length bytes ≡ n = ap length bytes_are ∙ (let t = length-take n (drop 4 body) in let d = length-drop 4 body in omega arith)
+    in
     let four : length (take 4 body) ≡ 4 = (let t = length-take 4 body in omega arith) in
     let number_bytes : to_be_bytes w32 n ≡ take 4 body = be_bytes_4 (take 4 body) n four open_gate.bytes_are (sym n_is) in
     let body_is : body ≡ to_be_bytes w32 (length bytes) ++ (bytes ++ drop (4 + n) body) =
     sym (take-append-drop 4 body)
     ∙ ap (λ v. v ++ drop 4 body) (sym number_bytes ∙ ap (to_be_bytes w32) (sym many))
-    ∙ ap (λ v. to_be_bytes w32 (length bytes) ++ v) (sym (take-append-drop n (drop 4 body)) ∙ ap (λ v. v ++ drop n (drop 4 body)) (sym bytes_are) ∙ ap (λ v. bytes ++ v) (drop-drop n 4 body)) in
+    ∙ ap (λ v. to_be_bytes w32 (length bytes) ++ v) (sym (take-append-drop n (drop 4 body))
+    ∙ ap (λ v. v ++ drop n (drop 4 body)) (sym bytes_are) ∙ ap (λ v. bytes ++ v) (drop-drop n 4 body)) in
     let after : drop (5 + n) rest ≡ drop (4 + n) body = sym (drop-drop n 5 rest) ∙ ap (drop n) behind ∙ drop-drop n 4 body in (
       record { some = omega arith; fits = omega arith },
       many,
@@ -67,9 +73,12 @@ abbrev pub mark_behind : Progress → Mark
 mark_behind l = record { before = l.count; place = l.end }
 
 -- one record more
-pub loads_more : (rs : List (List ℕ)) (l k : Progress) (n : ℕ) (a b : SiteState) → Loads rs l a → Reads a b → IsOpen l.end n (drop l.end a.image)
-    → k.record_bytes ≡ take n (drop (l.end + 5) a.image) → k.manager ≡ l.manager → k.count ≡ l.count + 1 → k.end ≡ l.end + (5 + n) → k.len ≡ l.len
-    → (All (IsMark (rs ++ k.record_bytes ∷ [])) l.marks → IsMark (rs ++ k.record_bytes ∷ []) (mark_behind l) → All (IsMark (rs ++ k.record_bytes ∷ [])) k.marks)
+pub loads_more : (rs : List (List ℕ)) (l k : Progress) (n : ℕ) (a b : SiteState) → Loads rs l a → Reads a b
+    → IsOpen l.end n (drop l.end a.image)
+    → k.record_bytes ≡ take n (drop (l.end + 5) a.image) → k.manager ≡ l.manager → k.count ≡ l.count + 1 → k.end ≡ l.end + (5 + n)
+    → k.len ≡ l.len
+    → (All (IsMark (rs ++ k.record_bytes ∷ [])) l.marks → IsMark (rs ++ k.record_bytes ∷ []) (mark_behind l)
+    → All (IsMark (rs ++ k.record_bytes ∷ [])) k.marks)
     → Loads (rs ++ k.record_bytes ∷ []) k b
 loads_more rs l k n a b loads reads open_gate is manager count end len keeps =
     let bytes = k.record_bytes in
@@ -81,14 +90,21 @@ loads_more rs l k n a b loads reads open_gate is manager count end len keeps =
     let n_is = open_gate.size in
     let grown = size_push rs bytes in
     let whole : a.image ≡ header m ++ blocks (rs ++ bytes ∷ []) ++ drop k.end a.image =
-    begins.is ∙ ap (λ v. header m ++ blocks rs ++ v) (parts.2 ∙ ap (λ v. framed bytes ++ v) (drop-drop (5 + n) l.end a.image ∙ ap (λ v. drop v a.image) (sym end)))
+    begins.is ∙ ap (λ v. header m ++ blocks rs ++ v) (parts.2 ∙ ap (λ v. framed bytes ++ v)
+    (drop-drop (5 + n) l.end a.image ∙ ap (λ v. drop v a.image) (sym end)))
     ∙ sym (append_assoc (header m ++ blocks rs) (framed bytes) (drop k.end a.image))
-    ∙ ap (λ v. v ++ drop k.end a.image) (append_assoc (header m) (blocks rs) (framed bytes) ∙ ap (λ v. header m ++ v) (sym (blocks_push rs bytes))) in
+    ∙ ap (λ v. v ++ drop k.end a.image) (append_assoc (header m) (blocks rs) (framed bytes)
+    ∙ ap (λ v. header m ++ v) (sym (blocks_push rs bytes))) in
     let mid : Progress = record k { manager = l.manager } in
     let more : Loads (rs ++ bytes ∷ []) mid a = record {
       settled = loads.settled;
       header = loads.header;
-      begins = record { is = whole; each = All-push IsRecord rs bytes begins.each parts.0; small = (let e = loads.end in omega (arith, parts.1)) };
+      begins = record {
+        is = whole;
+        each = All-push IsRecord rs bytes begins.each parts.0;
+        small =
+            (let e = loads.end in omega (arith, parts.1));
+      };
       count = count ∙ (let c = loads.count in omega (arith, length_push rs bytes));
       end = (let e = loads.end in omega (arith, parts.1));
       len = len ∙ loads.len;
@@ -97,7 +113,8 @@ loads_more rs l k n a b loads reads open_gate is manager count end len keeps =
     loads_kept (rs ++ bytes ∷ []) mid k a b more reads manager refl refl refl refl
 
 -- what one record more leaves, by what its head said of it
-pub grows_more : (l k : Progress) (n : ℕ) → EndsWithin l.end l.len n → length k.record_bytes ≡ n → k.manager ≡ l.manager → k.count ≡ l.count + 1 → k.end ≡ l.end + (5 + n)
+pub grows_more : (l k : Progress) (n : ℕ) → EndsWithin l.end l.len n → length k.record_bytes ≡ n → k.manager ≡ l.manager
+    → k.count ≡ l.count + 1 → k.end ≡ l.end + (5 + n)
     → k.ended ≡ false → ReadsOn l k
 grows_more l k n ends many manager count end ended = record {
   manager = manager;
@@ -136,7 +153,8 @@ loads_end rs l k a b loads reads closed manager count end len marks =
         file = has_its_records k.manager rs b.image has;
         count = kept.count ∙ ap length (sym is);
         end = kept.end ∙ ap size (sym is);
-        marks = (let P : List (List ℕ) → Type 0 = λ v. All (IsMark v) (first_mark ∷ k.marks) in subst P (sym is) (All-cons (IsMark rs) first_mark k.marks (mark_first rs) kept.marks));
+        marks = (let P : List (List ℕ) → Type 0 = λ v. All (IsMark v) (first_mark ∷ k.marks) in
+            subst P (sym is) (All-cons (IsMark rs) first_mark k.marks (mark_first rs) kept.marks));
       };
     }
 
@@ -148,12 +166,14 @@ syncs_and_reads r a b c d sync first second = record {
 }
 
 -- a file with a header, before its first record is read
-pub loads_none : (l : Progress) (s : SiteState) → IsSettled s → HasHeader l.manager s.image → l.count ≡ 0 → l.end ≡ 32 → l.len ≡ length s.image → l.marks ≡ [] → Loads [] l s
+pub loads_none : (l : Progress) (s : SiteState) → IsSettled s → HasHeader l.manager s.image → l.count ≡ 0 → l.end ≡ 32
+    → l.len ≡ length s.image → l.marks ≡ [] → Loads [] l s
 loads_none l s settled has count end len marks = record {
   settled = settled;
   header = has;
   begins = record {
-    is = sym (take-append-drop 32 s.image) ∙ ap (λ v. v ++ drop 32 s.image) (has.front ∙ sym (append-nil (header l.manager))) ∙ ap (λ v. header l.manager ++ [] ++ drop v s.image) (sym end);
+    is = sym (take-append-drop 32 s.image) ∙ ap (λ v. v ++ drop 32 s.image) (has.front ∙ sym (append-nil (header l.manager)))
+        ∙ ap (λ v. header l.manager ++ [] ++ drop v s.image) (sym end);
     each = λ k d lt. absurd (omega arith);
     small = omega arith;
   };
@@ -171,7 +191,8 @@ syncs_then_reads a b c first second = record {
 }
 
 -- the answer is another fault than the disk's, and none was counted
-pub no_fault : {T : Type 0} (r : Result T LoadFault) (other : LoadFault) (asked now : SiteCounts) → r ≡ Err other → ¬ (other ≡ fault.Disk) → now ≡ asked
+pub no_fault : {T : Type 0} (r : Result T LoadFault) (other : LoadFault) (asked now : SiteCounts) → r ≡ Err other → ¬ (other ≡ fault.Disk)
+    → now ≡ asked
     → FailsWhere (r ≡ Err fault.Disk) asked now
 no_fault {T = T} r other asked now is ne stays = record {
   rose = λ disk. absurd (ne (let both : ◌≡◌ {A = Result T LoadFault} (Err other) (Err fault.Disk) = sym is ∙ disk in cc both));
@@ -179,7 +200,8 @@ no_fault {T = T} r other asked now is ne stays = record {
 }
 
 -- why a step found none is why there is no journal
-pub failed_load : (rs : List (List ℕ)) (e : LoadFault) (l k : Progress) (a b : SiteState) → Loads rs l a → Reads a b → k.manager ≡ l.manager → Finds rs (Err e) k b → Loaded (Err e) b
+pub failed_load : (rs : List (List ℕ)) (e : LoadFault) (l k : Progress) (a b : SiteState) → Loads rs l a → Reads a b → k.manager ≡ l.manager
+    → Finds rs (Err e) k b → Loaded (Err e) b
 failed_load rs fault.Unmade l k a b loads reads same finds = absurd finds
 failed_load rs (fault.Foreign place) l k a b loads reads same finds = absurd finds
 failed_load rs (fault.Broken n) l k a b loads reads same finds =

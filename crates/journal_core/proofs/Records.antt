@@ -1,6 +1,7 @@
 -- Lists of records and the bytes that they make: the records of a file are those that it begins with, and what a write
 -- that a stop cuts short leaves of them.
-use Rattle.std.proofs.Common.{◌≡◌, ◌≢◌, ◌⊎◌, ◌∙◌, sym, ap, subst, inl, inr, ⊎_elim, ℕ, zero, suc, ◌+◌, ◌≤◌, ◌<◌, true, false, if◌then◌else◌, List, [], ◌∷◌, ◌++◌, length, take, drop, All, append_assoc, length-append, refl, arith}
+use Rattle.std.proofs.Common.{◌≡◌, ◌≢◌, ◌⊎◌, ◌∙◌, sym, ap, subst, inl, inr, ⊎_elim, ℕ, zero, suc, ◌+◌, ◌≤◌, ◌<◌, true, false, if◌then◌else◌}
+use Rattle.std.proofs.Common.{List, [], ◌∷◌, ◌++◌, length, take, drop, All, append_assoc, length-append, refl, arith}
 use Rattle.std.specs.Int.{w32, to_be_bytes, from_be_bytes}
 use Rattle.std.proofs.lemmas.Nat.{from_be_bytes-to_be_bytes_4}
 use Rattle.std.proofs.lemmas.Bool.{ne_eqb}
@@ -54,7 +55,8 @@ closed_cut : (most gate : ℕ) (tail : List ℕ) → gate ≢ 1 → cut_records 
 unfolding cut_records
 closed_cut zero gate tail closed = refl
 closed_cut (suc most) gate tail closed =
-    ap (λ b. if b then take (from_be_bytes w32 (take 4 tail)) (drop 4 tail) ∷ cut_records most (drop (from_be_bytes w32 (take 4 tail)) (drop 4 tail)) else [])
+    ap (λ b. if b then take (from_be_bytes w32 (take 4 tail)) (drop 4 tail)
+    ∷ cut_records most (drop (from_be_bytes w32 (take 4 tail)) (drop 4 tail)) else [])
     (ne_eqb gate 1 closed)
 
 -- an open record is cut first
@@ -82,7 +84,8 @@ pub records_of : (m : ℕ) (rs : List (List ℕ)) (image : List ℕ) → HasReco
 unfolding records
 records_of m rs image has =
     let behind : drop 32 image ≡ blocks rs ++ has.gate ∷ has.tail =
-    ap (drop 32) (has.is ∙ append_assoc (header m) (blocks rs) (has.gate ∷ has.tail)) ∙ drop_at (header m) (blocks rs ++ has.gate ∷ has.tail) 32 (header_length m) in
+    ap (drop 32) (has.is ∙ append_assoc (header m) (blocks rs) (has.gate ∷ has.tail))
+    ∙ drop_at (header m) (blocks rs ++ has.gate ∷ has.tail) 32 (header_length m) in
     let len : length image ≡ size rs + (1 + length has.tail) =
     ap length has.is ∙ length-append (header m ++ blocks rs) (has.gate ∷ has.tail) ∙ (let f = front_length m rs in omega arith) in
     let most : length rs ≤ length image = (let c = count_le rs in omega arith) in
@@ -93,7 +96,8 @@ pub has_its_records : (m : ℕ) (rs : List (List ℕ)) (image : List ℕ) → Ha
 has_its_records m rs image has = let P : List (List ℕ) → Type 0 = λ v. HasRecords m v image in subst P (sym (records_of m rs image has)) has
 
 -- the file in front of the gate, at the place where the gate stands
-front_is : (m : ℕ) (rs : List (List ℕ)) (end n : ℕ) (i j : List ℕ) → end ≡ size rs → Torn (end + 1) n i j → Torn (length (header m ++ blocks rs) + 1) n i j
+front_is : (m : ℕ) (rs : List (List ℕ)) (end n : ℕ) (i j : List ℕ) → end ≡ size rs → Torn (end + 1) n i j
+    → Torn (length (header m ++ blocks rs) + 1) n i j
 front_is m rs end n i j is torn = let P : ℕ → Type 0 = λ v. Torn (v + 1) n i j in subst P (is ∙ sym (front_length m rs)) torn
 
 -- the gate stands within the file
@@ -120,10 +124,19 @@ pub record IsReady (m : ℕ) (rs : List (List ℕ)) (bytes : List ℕ) (image : 
   pub small : size rs < 268435456
 
 pub ready_has : (m : ℕ) (rs : List (List ℕ)) (bytes i : List ℕ) → IsReady m rs bytes i → HasRecords m rs i
-ready_has m rs bytes i ready = record { gate = ready.gate; tail = piece bytes ++ ready.tail; is = ready.is; closed = ready.closed; each = ready.each; small = ready.small }
+ready_has m rs bytes i ready = record {
+  gate = ready.gate;
+  tail = piece bytes ++ ready.tail;
+  is = ready.is;
+  closed = ready.closed;
+  each =
+      ready.each;
+  small = ready.small;
+}
 
 -- so does a write there that succeeded
-pub first_written : (m : ℕ) (rs : List (List ℕ)) (bytes i j : List ℕ) → HasRecords m rs i → Holds i (size rs + 1) (piece bytes) j → IsReady m rs bytes j
+pub first_written : (m : ℕ) (rs : List (List ℕ)) (bytes i j : List ℕ) → HasRecords m rs i → Holds i (size rs + 1) (piece bytes) j
+    → IsReady m rs bytes j
 first_written m rs bytes i j has holds =
     let front = header m ++ blocks rs in
     let P : List ℕ → Type 0 = λ v. Holds v (size rs + 1) (piece bytes) j in
@@ -146,7 +159,8 @@ opened m rs bytes tail =
     ∙ ap (λ v. v ++ 0 ∷ tail) (append_assoc (header m) (blocks rs) (framed bytes) ∙ ap (λ v. header m ++ v) (sym (blocks_push rs bytes)))
 
 -- one record more, where there is room for it
-pub has_more : (m : ℕ) (rs : List (List ℕ)) (bytes tail j : List ℕ) → All IsRecord rs → IsRecord bytes → size rs + 6 + length bytes ≤ 268435456
+pub has_more : (m : ℕ) (rs : List (List ℕ)) (bytes tail j : List ℕ) → All IsRecord rs → IsRecord bytes
+    → size rs + 6 + length bytes ≤ 268435456
     → j ≡ header m ++ blocks rs ++ 1 ∷ (piece bytes ++ tail) → HasRecords m (rs ++ bytes ∷ []) j
 has_more m rs bytes tail j each one room is = record {
   gate = 0;
@@ -158,7 +172,8 @@ has_more m rs bytes tail j each one room is = record {
 }
 
 -- a write of the gate that a stop cuts short leaves the records, or one more
-pub second_torn : (m : ℕ) (rs : List (List ℕ)) (bytes i j : List ℕ) → IsReady m rs bytes i → IsRecord bytes → size rs + 6 + length bytes ≤ 268435456
+pub second_torn : (m : ℕ) (rs : List (List ℕ)) (bytes i j : List ℕ) → IsReady m rs bytes i → IsRecord bytes
+    → size rs + 6 + length bytes ≤ 268435456
     → Torn (size rs) 1 i j → HasRecords m rs j ⊎ HasRecords m (rs ++ bytes ∷ []) j
 second_torn m rs bytes i j ready one room torn =
     let front = header m ++ blocks rs in
@@ -173,7 +188,8 @@ second_torn m rs bytes i j ready one room torn =
     (eqb_tells left.0 1)
 
 -- a write of the open gate that succeeded leaves one record more
-pub second_written : (m : ℕ) (rs : List (List ℕ)) (bytes i j : List ℕ) → IsReady m rs bytes i → IsRecord bytes → size rs + 6 + length bytes ≤ 268435456
+pub second_written : (m : ℕ) (rs : List (List ℕ)) (bytes i j : List ℕ) → IsReady m rs bytes i → IsRecord bytes
+    → size rs + 6 + length bytes ≤ 268435456
     → Holds i (size rs) (1 ∷ []) j → HasRecords m (rs ++ bytes ∷ []) j
 second_written m rs bytes i j ready one room holds =
     let front = header m ++ blocks rs in

@@ -19,8 +19,8 @@ pub record FailsWhere (failed : Type 0) (asked now : SiteCounts) : Type 0 where
   pub rose : failed → now ≡ disk_failed asked
   pub stays : ¬ failed → now ≡ asked
 
--- What an append asks of the site: two writes and two syncs, or the front of these up to one that failed; nothing where there is no
--- room. It reads nothing.
+-- What an append asks of the site: two writes and two syncs, or the front of these up to one that failed; nothing where
+-- there is no room. It reads nothing.
 abbrev pub AppendAsks : {T : Type 0} → Result T AppendFault → SiteCounts → SiteCounts → Type 0
 AppendAsks (Ok done) a b = b ≡ all_asked (through 2) a
 AppendAsks (Err (appending.Full end more)) a b = b ≡ a
@@ -32,8 +32,8 @@ left_to_ask stage.Empty = through 3
 left_to_ask stage.Begun = through 2
 left_to_ask stage.Filled = through 1
 
--- What the making of a file asks of the site: a sync, and from one to three times a write and then a sync, or the front of these up to
--- a call that failed; the sync alone where the file is taken.
+-- What the making of a file asks of the site: a sync, and from one to three times a write and then a sync, or the front
+-- of these up to a call that failed; the sync alone where the file is taken.
 abbrev pub CreateAsks : {T : Type 0} → Result T CreateFault → SiteCounts → SiteCounts → Type 0
 CreateAsks (Ok done) a b = (stage : Stage) × (b ≡ all_asked (sync ∷ left_to_ask stage) a)
 CreateAsks (Err creating.Taken) a b = b ≡ asked sync a
@@ -41,8 +41,10 @@ CreateAsks (Err creating.Disk) a b = (stage : Stage) × StopsIn (sync ∷ left_t
 
 -- an append counts one disk fault where it answers one, and none else
 abbrev pub AppendsCount : Type 0
-AppendsCount = (r : Result (Unit {0}) AppendFault) (a b : SiteCounts) → AppendAsks r a b → OnlyDiskFails (r ≡ Err appending.Disk) a b
+AppendsCount = (r : Result (Unit {0}) AppendFault) (a b : SiteCounts) → AppendAsks r a b
+    → OnlyDiskFails (r ≡ Err appending.Disk) a b
 
 -- and so does the making of a file
 abbrev pub CreatesCount : Type 0
-CreatesCount = (r : Result (Unit {0}) CreateFault) (a b : SiteCounts) → CreateAsks r a b → OnlyDiskFails (r ≡ Err creating.Disk) a b
+CreatesCount = (r : Result (Unit {0}) CreateFault) (a b : SiteCounts) → CreateAsks r a b
+    → OnlyDiskFails (r ≡ Err creating.Disk) a b

@@ -1,5 +1,6 @@
 -- The reading back of one record (own rule, docs/JOURNAL.md).
-use Rattle.std.specs.Prelude.{◌≡◌, ◌≤◌, ℕ, ◌+◌, ◌-◌, List, [], ◌++◌, length, take, drop, get_or, Option, Some, None, Result, Err, OnOk}
+use Rattle.std.specs.Prelude.{◌≡◌, ◌≤◌, ℕ, ◌+◌, ◌-◌, List, [], ◌++◌, length, take, drop, get_or, Option, Some, None}
+use Rattle.std.specs.Prelude.{Result, Err, OnOk}
 use Rattle.site_traits.specs.Site.{SiteState, Reads}
 use Rattle.journal_core.specs.declared.back.BackFault.{BackFault}
 use Rattle.journal_core.specs.declared.back.BackFault.TheVariants as fault
@@ -43,4 +44,5 @@ pub record KeepsRecords (old new : Ledger) : Type 0 where
 -- record n of these, its place and its size, at the front of a buffer
 abbrev pub IsFound : ℕ → List (List ℕ) → Option (ℕ × ℕ) → List ℕ → Type 0
 IsFound n rs None buffer = ⊥
-IsFound n rs (Some found) buffer = (found.0 ≡ size (take (n - 1) rs)) × (found.1 ≡ length (get_or rs (n - 1) [])) × (take found.1 buffer ≡ get_or rs (n - 1) [])
+IsFound n rs (Some found) buffer = (found.0 ≡ size (take (n - 1) rs)) × (found.1 ≡ length (get_or rs (n - 1) []))
+    × (take found.1 buffer ≡ get_or rs (n - 1) [])

@@ -61,8 +61,10 @@ pub record StandsSo (so : List ℕ → Type 0) (s : SiteState) : Type 0 where
   pub settled : IsSettled s
   pub file : so s.image
 
--- a step of the making: a stop within leaves the file unfinished or made, and where it succeeded the file is so; it leaves the jobs alone
-pub record Steps {T E : Type 0} (manager : ℕ) (so : List ℕ → Type 0) (result : Result T E) (a b : SiteState) : Type 0 where
+-- a step of the making: a stop within leaves the file unfinished or made, and where it succeeded the file is so; it
+-- leaves the jobs alone
+pub record Steps {T E : Type 0} (manager : ℕ) (so : List ℕ → Type 0) (result : Result T E)
+    (a b : SiteState) : Type 0 where
   pub any_moment : LeavesOnly (IsMaking manager) a b
   pub stands : OnOk result (StandsSo so b)
   pub jobs : KeepsJobs a b

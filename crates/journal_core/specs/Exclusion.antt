@@ -1,4 +1,5 @@
--- A file is one at most of the things that a load may find: whole, unmade, foreign or broken (own rule, docs/JOURNAL.md).
+-- A file is one at most of the things that a load may find: whole, unmade, foreign or broken (own rule,
+-- docs/JOURNAL.md).
 use Rattle.std.specs.Prelude.{◌≡◌, ◌<◌, ℕ, List}
 use Rattle.journal_records.specs.File.{records, HasRecords}
 use Rattle.journal_core.specs.Header.{IsUnmade, IsForeign, HasHeader}
@@ -10,7 +11,8 @@ IsWholeOrUnmade = (m : ℕ) (rs : List (List ℕ)) (image : List ℕ) → HasRec
 
 -- a whole file isn't foreign at any place
 abbrev pub IsWholeOrForeign : Type 0
-IsWholeOrForeign = (m place : ℕ) (rs : List (List ℕ)) (image : List ℕ) → HasRecords m rs image → ¬ (IsForeign place image)
+IsWholeOrForeign = (m place : ℕ) (rs : List (List ℕ)) (image : List ℕ) → HasRecords m rs image
+    → ¬ (IsForeign place image)
 
 -- a whole file isn't broken at any record, for any manager
 abbrev pub IsWholeOrBroken : Type 0
@@ -18,7 +20,8 @@ IsWholeOrBroken = (m k n : ℕ) (rs : List (List ℕ)) (image : List ℕ) → Ha
 
 -- the manager of a whole file is one, and so are its records
 abbrev pub IsWholeOnce : Type 0
-IsWholeOnce = (m n : ℕ) (rs qs : List (List ℕ)) (image : List ℕ) → m < 4294967296 → n < 4294967296 → HasRecords m rs image → HasRecords n qs image
+IsWholeOnce = (m n : ℕ) (rs qs : List (List ℕ)) (image : List ℕ) → m < 4294967296 → n < 4294967296
+    → HasRecords m rs image → HasRecords n qs image
     → (m ≡ n) × (rs ≡ qs)
 
 -- its records are those that are read of it
@@ -31,7 +34,8 @@ IsHeadedOnce = (m n : ℕ) (image : List ℕ) → HasHeader m image → HasHeade
 
 -- a file with a header isn't unfinished, nor foreign at any place
 abbrev pub IsHeadedOrNot : Type 0
-IsHeadedOrNot = (m : ℕ) (image : List ℕ) → HasHeader m image → ¬ (IsUnmade image) × ((place : ℕ) → ¬ (IsForeign place image))
+IsHeadedOrNot = (m : ℕ) (image : List ℕ) → HasHeader m image
+    → ¬ (IsUnmade image) × ((place : ℕ) → ¬ (IsForeign place image))
 
 -- a file is foreign at one place at most, and breaks at one record at most
 abbrev pub IsForeignOnce : Type 0

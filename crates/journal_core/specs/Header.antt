@@ -10,16 +10,18 @@ made manager = header manager ++ 0 ∷ []
 abbrev pub first : List ℕ → ℕ
 first image = get_or image 0 0
 
--- The file is unfinished for this manager: it has at most one byte, or begins with `v`, or begins with another byte than `V`
--- in front of what a made file of this manager with no record has.
+-- The file is unfinished for this manager: it has at most one byte, or begins with `v`, or begins with another byte
+-- than `V` in front of what a made file of this manager with no record has.
 abbrev pub IsUnfinished : ℕ → List ℕ → Type 0
-IsUnfinished manager image = (length image ≤ 1) ⊎ (first image ≡ 118) ⊎ ((¬ (first image ≡ 86)) × (take 32 (drop 1 image) ≡ drop 1 (made manager)))
+IsUnfinished manager image = (length image ≤ 1) ⊎ (first image ≡ 118)
+    ⊎ ((¬ (first image ≡ 86)) × (take 32 (drop 1 image) ≡ drop 1 (made manager)))
 
 -- the file is unfinished for some manager
 abbrev pub IsUnmade : List ℕ → Type 0
 IsUnmade image = (manager : ℕ) × IsUnfinished manager image
 
--- The file has a byte at this place that a header may have there. Bytes 9 to 12 are the manager's number and may be any.
+-- The file has a byte at this place that a header may have there. Bytes 9 to 12 are the manager's number and may be
+-- any.
 pub record MayStand (place : ℕ) (image : List ℕ) : Type 0 where
   pub there : place < length image
   pub right : ((9 ≤ place) × (place ≤ 12)) ⊎ (get_or image place 0 ≡ get_or (header 0) place 0)

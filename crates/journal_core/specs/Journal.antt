@@ -25,11 +25,13 @@ pub record Stands (s : SiteState) (j : Ledger) : Type 0 where
 
 -- the pair's file has the records that the site had, or these and one more
 pub record HasOrAdds (manager : ℕ) (bytes : List ℕ) (from : SiteState) (p : Pair) : Type 0 where
-  pub file : HasRecords manager (records from.image) p.image ⊎ HasRecords manager (records from.image ++ bytes ∷ []) p.image
+  pub file : HasRecords manager (records from.image) p.image
+      ⊎ HasRecords manager (records from.image ++ bytes ∷ []) p.image
 
--- What an append does. At each moment since its start a stop leaves all earlier records, and this one or not; from Ok on
--- the journal stands for them and this one (own rule).
-pub record Appends {T E : Type 0} (bytes : List ℕ) (result : Result T E) (old new : Ledger) (a b : SiteState) : Type 0 where
+-- What an append does. At each moment since its start a stop leaves all earlier records, and this one or not; from Ok
+-- on the journal stands for them and this one (own rule).
+pub record Appends {T E : Type 0} (bytes : List ℕ) (result : Result T E) (old new : Ledger)
+    (a b : SiteState) : Type 0 where
   pub any_moment : LeavesOnly (HasOrAdds old.manager bytes a) a b
   pub stands : OnOk result (Stands b new)
   pub added : OnOk result (records b.image ≡ records a.image ++ bytes ∷ [])

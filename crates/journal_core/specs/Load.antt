@@ -1,5 +1,6 @@
 -- What a load finds.
-use Rattle.std.specs.Prelude.{◌≡◌, ◌<◌, ℕ, ◌+◌, Bool, true, false, List, [], ◌∷◌, ◌++◌, length, drop, All, Result, Ok, Err}
+use Rattle.std.specs.Prelude.{◌≡◌, ◌<◌, ℕ, ◌+◌, Bool, true, false, List, [], ◌∷◌, ◌++◌, length, drop, All, Result, Ok}
+use Rattle.std.specs.Prelude.{Err}
 use Rattle.site_traits.specs.Site.{SiteState, IsSettled, Same, OnFile}
 use Rattle.journal_core.specs.declared.loading.LoadFault.{LoadFault}
 use Rattle.journal_core.specs.declared.loading.LoadFault.TheVariants as fault
@@ -13,8 +14,8 @@ use Rattle.journal_core.specs.Marks.{IsMark, first_mark}
 use Rattle.journal_core.specs.Journal.{Ledger, Stands}
 use Rattle.journal_core.specs.Room.{Adds}
 
--- A journal that is being loaded: whose it is, how many records were read, where the gate behind them stands, how long the
--- file is, the bytes of the last record read, whether the closed gate was found, and the places that it keeps.
+-- A journal that is being loaded: whose it is, how many records were read, where the gate behind them stands, how long
+-- the file is, the bytes of the last record read, whether the closed gate was found, and the places that it keeps.
 pub record Progress : Type 0 where
   pub manager : ℕ
   pub count : ℕ
@@ -26,7 +27,14 @@ pub record Progress : Type 0 where
 
 -- the journal of the records that were read
 abbrev pub ledger_of : Progress → Ledger
-ledger_of l = record { manager = l.manager; count = l.count; end = l.end; closed = false; marks = first_mark ∷ l.marks; back = [] }
+ledger_of l = record {
+  manager = l.manager;
+  count = l.count;
+  end = l.end;
+  closed = false;
+  marks = first_mark ∷ l.marks;
+  back = [];
+}
 
 -- the records read so far are these, the oldest first, and nothing is pending on the site
 pub record Loads (rs : List (List ℕ)) (l : Progress) (s : SiteState) : Type 0 where

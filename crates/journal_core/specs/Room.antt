@@ -6,17 +6,20 @@ use Rattle.journal_records.specs.File.{size}
 abbrev pub Adds : List ℕ → ℕ → ℕ → Type 0
 Adds bytes old new = new ≡ old + 5 + length bytes
 
--- behind a closed gate at this place a record of so many bytes, and the closed gate behind it, end at the limit or before it
+-- behind a closed gate at this place a record of so many bytes, and the closed gate behind it, end at the limit or
+-- before it
 abbrev pub HasRoom : ℕ → ℕ → ℕ → Type 0
 HasRoom end more limit = end + 6 + more ≤ limit
 
 -- the gate of these records is moved by one record more to where the gate of them all stands
 abbrev pub AddsUp : Type 0
-AddsUp = (rs : List (List ℕ)) (bytes : List ℕ) (old new : ℕ) → old ≡ size rs → Adds bytes old new → new ≡ size (rs ++ bytes ∷ [])
+AddsUp = (rs : List (List ℕ)) (bytes : List ℕ) (old new : ℕ) → old ≡ size rs → Adds bytes old new
+    → new ≡ size (rs ++ bytes ∷ [])
 
 -- there is room for one record more exactly where the gate behind it stands before the limit
 abbrev pub HasRoomBefore : Type 0
-HasRoomBefore = (rs : List (List ℕ)) (bytes : List ℕ) (limit : ℕ) → HasRoom (size rs) (length bytes) limit ↔ (size (rs ++ bytes ∷ []) < limit)
+HasRoomBefore = (rs : List (List ℕ)) (bytes : List ℕ) (limit : ℕ)
+    → HasRoom (size rs) (length bytes) limit ↔ (size (rs ++ bytes ∷ []) < limit)
 
 -- a record takes more of the file than its bytes
 abbrev pub TakesMore : Type 0

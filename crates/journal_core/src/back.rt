@@ -1,5 +1,6 @@
 // The reading back of one record, from the nearest place that the journal knows.
-ghost use Rattle.std.specs.Prelude.{◌≡◌, ◌≤◌, ◌<◌, ◌+◌, ◌-◌, ◌*◌, ◌++◌, List, ℕ, IfOk, IfSome, Some, Result, IsTrue, ◌↔◌, length, take, drop, get_or, []};
+ghost use Rattle.std.specs.Prelude.{◌≡◌, ◌≤◌, ◌<◌, ◌+◌, ◌-◌, ◌*◌, ◌++◌, List, ℕ, IfOk, IfSome, Some, Result, IsTrue};
+ghost use Rattle.std.specs.Prelude.{◌↔◌, length, take, drop, get_or, []};
 ghost use Rattle.site_traits.specs.Counts.{DiskCause};
 ghost use Rattle.site_traits.specs.Site.{Reads};
 ghost use Rattle.journal_records.specs.File.{framed, records, size, IsRecord};
@@ -42,7 +43,8 @@ pub fn record_from<S: Site>(
     requires near { (n - 1 - from.before) * 196608 ≤ end }
     requires small { end < 268435456 }
     requires room { 65536 ≤ length buffer.old }
-    requires told { S.tells → HasRecord n end (S.state site.old).image × IsMark (records (S.state site.old).image) from }
+    requires told { S.tells → HasRecord n end (S.state site.old).image
+        × IsMark (records (S.state site.old).image) from }
 
     ensures record_is { S.tells → IfOk result (λ found. IsFound n (records (S.state site.old).image) found buffer.new) }
     ensures fits { IfOk result (λ found. IfSome found (λ f. FitsAt f.0 end f.1)) }
@@ -60,13 +62,14 @@ pub fn record_from<S: Site>(
     Ok(Some((place, size as usize)))
 }
 
-// The place of record n, or None where no record stands on the way there. It reads a head for each record between the kept place and
-// record n: by `near` at most 1,365 of them, one for each 196,608 bytes of the file.
+// The place of record n, or None where no record stands on the way there. It reads a head for each record between the
+// kept place and record n: by `near` at most 1,365 of them, one for each 196,608 bytes of the file.
 fn place_of<S: Site>(site: &mut S, from: Mark, n: u64, end: u64) -> Result<Option<u64>, DiskFailed>
     requires before { from.before < n }
     requires near { (n - 1 - from.before) * 196608 ≤ end }
     requires small { end < 268435456 }
-    requires told { S.tells → HasRecord n end (S.state site.old).image × IsMark (records (S.state site.old).image) from }
+    requires told { S.tells → HasRecord n end (S.state site.old).image
+        × IsMark (records (S.state site.old).image) from }
 
     ensures place { S.tells → IfOk result (λ p. p ≡ Some (size (take (n - 1) (records (S.state site.old).image)))) }
     ensures told { S.tells → Reads (S.state site.old) (S.state site.new) }
@@ -87,7 +90,8 @@ fn size_at<S: Site>(site: &mut S, place: u64, end: u64) -> Result<Option<u32>, D
     requires small { end < 268435456 }
     requires told { S.tells → (bytes : List ℕ) × HasAt place end bytes (S.state site.old).image }
 
-    ensures size { S.tells → (bytes : List ℕ) → HasAt place end bytes (S.state site.old).image → IfOk result (λ n. n ≡ Some (length bytes)) }
+    ensures size { S.tells → (bytes : List ℕ) → HasAt place end bytes (S.state site.old).image
+        → IfOk result (λ n. n ≡ Some (length bytes)) }
     ensures fits { IfOk result (λ found. IfSome found (FitsAt place end)) }
     ensures told { S.tells → Reads (S.state site.old) (S.state site.new) }
     ensures cause { DiskCause (S.counts site.old) (S.counts site.new) result }
@@ -104,7 +108,8 @@ fn size_at<S: Site>(site: &mut S, place: u64, end: u64) -> Result<Option<u32>, D
 fn size_of(head: [u8; 5], place: u64, end: u64) -> Option<u32>
     requires small { end < 268435456 }
     requires before { place < end }
-    ensures size { (bytes rest : List ℕ) → IsRecord bytes → head ≡ take 5 (framed bytes ++ rest) → place + 5 + length bytes ≤ end → result ≡ Some (length bytes) }
+    ensures size { (bytes rest : List ℕ) → IsRecord bytes → head ≡ take 5 (framed bytes ++ rest)
+        → place + 5 + length bytes ≤ end → result ≡ Some (length bytes) }
     ensures fits { IfSome result (FitsAt place end) }
 {
     if head[0] != 1 {

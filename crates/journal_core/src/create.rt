@@ -45,8 +45,8 @@ pub enum Stage {
 impl<S: Site> Journal<S> {
     /// Makes the file of this manager's journal, with no record, out of an unfinished one.
     ///
-    /// Refusals, in this order: `Taken` exactly where the file isn't unfinished for this manager, after which it is as it
-    /// was; `Disk`.
+    /// Refusals, in this order: `Taken` exactly where the file isn't unfinished for this manager, after which it is as
+    /// it was; `Disk`.
     /// Source: own format, docs/JOURNAL.md.
     pub fn create(site: &mut S, manager: u32) -> Result<(), CreateFault>
         ensures told { S.tells → Creates manager result (S.state site.old) (S.state site.new) }

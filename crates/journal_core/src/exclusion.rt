@@ -1,8 +1,9 @@
 // The law that a file is one at most of the things that a load may find.
-ghost use Rattle.journal_core.specs.Exclusion.{IsWholeOrUnmade, IsWholeOrForeign, IsWholeOrBroken, IsWholeOnce, ReadsItsRecords, IsHeadedOnce, IsHeadedOrNot, IsForeignOnce, BreaksOnce};
+ghost use Rattle.journal_core.specs.Exclusion.{IsWholeOrUnmade, IsWholeOrForeign, IsWholeOrBroken, IsWholeOnce};
+ghost use Rattle.journal_core.specs.Exclusion.{ReadsItsRecords, IsHeadedOnce, IsHeadedOrNot, IsForeignOnce, BreaksOnce};
 
-/// That what a load finds of a file is one thing at most: so none of its answers can stand for another. It does nothing, and
-/// its contract is the law.
+/// That what a load finds of a file is one thing at most: so none of its answers can stand for another. It does
+/// nothing, and its contract is the law.
 ///
 /// Source: own format, docs/JOURNAL.md.
 pub fn files_are_one_thing()

@@ -1,5 +1,7 @@
-// The journal of one manager. A closed gate stands behind the last record, on the disk before anything is written behind it.
-ghost use Rattle.std.specs.Prelude.{◌≡◌, ◌≤◌, ◌<◌, ◌↔◌, ◌+◌, ◌-◌, ◌*◌, ℕ, List, [], ◌∷◌, All, IsTrue, true, false, take, length, OnOk};
+// The journal of one manager. A closed gate stands behind the last record, on the disk before anything is written
+// behind it.
+ghost use Rattle.std.specs.Prelude.{◌≡◌, ◌≤◌, ◌<◌, ◌↔◌, ◌+◌, ◌-◌, ◌*◌, ℕ, List, [], ◌∷◌, All, IsTrue, true, false};
+ghost use Rattle.std.specs.Prelude.{take, length, OnOk};
 ghost use Rattle.site_traits.specs.Site.{KeepsJobs};
 ghost use Rattle.journal_core.specs.Asking.{AppendAsks, FailsWhere};
 ghost use Rattle.journal_records.specs.File.{piece};
@@ -56,9 +58,18 @@ impl<S: Site> Model for Journal<S> {
 
     ghost Value = { Ledger };
 
-    ghost view = { λ j. record { manager = j.manager; count = j.count; end = j.end; closed = j.closed; marks = j.last ∷ j.marks.places; back = take j.size j.buffer.items } };
+    ghost view = { λ j. record {
+      manager = j.manager;
+      count = j.count;
+      end = j.end;
+      closed = j.closed;
+      marks =
+          j.last ∷ j.marks.places;
+      back = take j.size j.buffer.items;
+    } };
 
-    ghost invariant = { λ j. (length j.buffer.items ≡ 65541) × (j.end < 268435456) × (j.count * 6 ≤ j.end) × (j.size ≤ 65536) × (j.marks.seen ≡ j.count) };
+    ghost invariant = { λ j. (length j.buffer.items ≡ 65541) × (j.end < 268435456) × (j.count * 6 ≤ j.end)
+        × (j.size ≤ 65536) × (j.marks.seen ≡ j.count) };
 }
 
 /// Why a record could not be appended.
@@ -92,7 +103,15 @@ impl<S: Site> Journal<S> {
         requires small { end < 268435456 }
         requires few { count * 6 ≤ end }
         requires seen { marks.seen ≡ count }
-        ensures { result ≡ record { manager = manager; count = count; end = end; closed = false; marks = first_mark ∷ marks.places; back = [] } }
+        ensures { result ≡ record {
+          manager = manager;
+          count = count;
+          end = end;
+          closed = false;
+          marks =
+              first_mark ∷ marks.places;
+          back = [];
+        } }
     {
         Journal {
             manager,
@@ -136,7 +155,8 @@ impl<S: Site> Journal<S> {
         limit >= self.end + 6 && more as u64 <= limit - (self.end + 6)
     }
 
-    /// Adds a record of these bytes. It makes two writes and two syncs, reads nothing and takes no memory. It leaves the jobs alone.
+    /// Adds a record of these bytes. It makes two writes and two syncs, reads nothing and takes no memory. It leaves
+    /// the jobs alone.
     ///
     /// Refusals, in this order: `Full {end, more}` (bytes), after which nothing has changed; `Disk`.
     /// After `Disk`: the journal is closed; load it again.
@@ -148,11 +168,14 @@ impl<S: Site> Journal<S> {
         requires stands { S.tells → Stands (S.state site.old) self.old }
 
         ensures manager { self.new.manager ≡ self.old.manager }
-        ensures grown { OnOk result ((self.new.count ≡ self.old.count + 1) × (Adds bytes.now self.old.end self.new.end) × (self.new.closed ≡ false)) }
+        ensures grown { OnOk result ((self.new.count ≡ self.old.count + 1) × (Adds bytes.now self.old.end self.new.end)
+            × (self.new.closed ≡ false)) }
         ensures told { S.tells → Appends bytes.now result self.old self.new (S.state site.old) (S.state site.new) }
         ensures jobs { S.tells → KeepsJobs (S.state site.old) (S.state site.new) }
-        ensures full { 268435456 < self.old.end + 6 + length bytes.now → result ≡ Err (AppendFault.Full self.old.end (length bytes.now)) }
-        ensures only_full { (end more : ℕ) → result ≡ Err (AppendFault.Full end more) → (268435456 < self.old.end + 6 + length bytes.now) × (self.new ≡ self.old) × (site.new ≡ site.old) }
+        ensures full { 268435456 < self.old.end + 6 + length bytes.now
+            → result ≡ Err (AppendFault.Full self.old.end (length bytes.now)) }
+        ensures only_full { (end more : ℕ) → result ≡ Err (AppendFault.Full end more)
+            → (268435456 < self.old.end + 6 + length bytes.now) × (self.new ≡ self.old) × (site.new ≡ site.old) }
         ensures closed { result ≡ Err AppendFault.Disk → self.new.closed ≡ true }
         ensures asks { AppendAsks result (S.counts site.old) (S.counts site.new) }
     {
@@ -179,8 +202,9 @@ impl<S: Site> Journal<S> {
 }
 
 impl<S: Site> Journal<S> {
-    /// Reads record n, from 1, back: `record_back` then gives its bytes. It makes one read of the record's head and one of its
-    /// bytes, and one of a head for each record between it and the nearest place that the journal keeps. It takes no memory.
+    /// Reads record n, from 1, back: `record_back` then gives its bytes. It makes one read of the record's head and one
+    /// of its bytes, and one of a head for each record between it and the nearest place that the journal keeps. It
+    /// takes no memory.
     ///
     /// Refusals: `Disk`; `Broken(n)`, which never comes where the site tells its content.
     /// After `Disk`: the journal is closed; load it again.

@@ -59,8 +59,8 @@ pub enum Found {
     End,
 }
 
-/// A journal that is being loaded. A caller judges each record as it is read, and goes on to the end, since a file that is
-/// broken anywhere is no journal.
+/// A journal that is being loaded. A caller judges each record as it is read, and goes on to the end, since a file that
+/// is broken anywhere is no journal.
 #[derive(Drop)]
 pub struct Loading<S: Site> {
     manager: u32,
@@ -81,9 +81,19 @@ impl<S: Site> Model for Loading<S> {
 
     ghost Value = { Progress };
 
-    ghost view = { λ l. record { manager = l.manager; count = l.count; end = l.end; len = l.len; record_bytes = take l.size l.buffer.items; ended = l.ended; marks = l.marks.places } };
+    ghost view = { λ l. record {
+      manager = l.manager;
+      count = l.count;
+      end = l.end;
+      len = l.len;
+      record_bytes =
+          take l.size l.buffer.items;
+      ended = l.ended;
+      marks = l.marks.places;
+    } };
 
-    ghost invariant = { λ l. (length l.buffer.items ≡ 65541) × (l.end < 268435456) × (l.count * 6 ≤ l.end) × (l.end ≤ l.len) × (l.size ≤ 65536) × (l.marks.seen ≡ l.count) };
+    ghost invariant = { λ l. (length l.buffer.items ≡ 65541) × (l.end < 268435456) × (l.count * 6 ≤ l.end)
+        × (l.end ≤ l.len) × (l.size ≤ 65536) × (l.marks.seen ≡ l.count) };
 }
 
 impl<S: Site> Journal<S> {
@@ -95,7 +105,8 @@ impl<S: Site> Journal<S> {
         ensures opened { S.tells → Opened result (S.state site.new) }
         ensures begun { IfOk result IsBegun }
         ensures told { S.tells → SyncsAndReads (S.state site.old) (S.state site.new) }
-        ensures counts { FailsWhere (result ≡ Err LoadFault.Disk) (asked Ask.sync (S.counts site.old)) (S.counts site.new) }
+        ensures counts { FailsWhere (result ≡ Err LoadFault.Disk) (asked Ask.sync (S.counts site.old))
+            (S.counts site.new) }
     {
         let (len, verdict) = front_of(site)?;
         match verdict {
@@ -121,7 +132,8 @@ impl<S: Site> Journal<S> {
 }
 
 impl<S: Site> Journal<S> {
-    /// The journal of a site's file. What was pending is on the disk first. It reads each record once, and holds one at a time.
+    /// The journal of a site's file. What was pending is on the disk first. It reads each record once, and holds one at
+    /// a time.
     ///
     /// Refusals, in this order: `Unmade`, `Foreign(place)`, `Broken(n)`; `Disk`; `Memory`.
     /// Source: own format, docs/JOURNAL.md.
@@ -130,7 +142,8 @@ impl<S: Site> Journal<S> {
         ensures usable { IfOk result (λ j. j.closed ≡ false) }
         ensures told { S.tells → SyncsAndReads (S.state site.old) (S.state site.new) }
         ensures jobs { S.tells → KeepsJobs (S.state site.old) (S.state site.new) }
-        ensures counts { FailsWhere (result ≡ Err LoadFault.Disk) (asked Ask.sync (S.counts site.old)) (S.counts site.new) }
+        ensures counts { FailsWhere (result ≡ Err LoadFault.Disk) (asked Ask.sync (S.counts site.old))
+            (S.counts site.new) }
     {
         let mut loading = Journal::open(alloc, site)?;
         loop {
@@ -157,15 +170,16 @@ impl<S: Site> Loading<S> {
         self.count
     }
 
-    /// Reads the next record, or finds the closed gate behind the last one. It makes one read of at most five bytes, and one
-    /// of the record's.
+    /// Reads the next record, or finds the closed gate behind the last one. It makes one read of at most five bytes,
+    /// and one of the record's.
     ///
     /// Refusals, in this order: `Broken(n)`, with n one more than the records read; `Disk`. No other comes here.
     /// Source: own format, docs/JOURNAL.md.
     pub fn next(&mut self, site: &mut S) -> Result<Found, LoadFault>
         requires loads { S.tells → (rs : List (List ℕ)) × Loads rs self.old (S.state site.old) }
 
-        ensures found { S.tells → (rs : List (List ℕ)) → Loads rs self.old (S.state site.old) → Finds rs result self.new (S.state site.new) }
+        ensures found { S.tells → (rs : List (List ℕ)) → Loads rs self.old (S.state site.old)
+            → Finds rs result self.new (S.state site.new) }
         ensures grown { Grows result self.old self.new }
         ensures within { self.new.end < 268435456 }
         ensures told { S.tells → Reads (S.state site.old) (S.state site.new) }

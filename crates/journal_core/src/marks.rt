@@ -1,5 +1,6 @@
 // The places that a journal keeps, so that a record is read back without a walk from the start of the file.
-ghost use Rattle.std.specs.Prelude.{◌≡◌, ◌≤◌, ◌<◌, ◌+◌, ◌-◌, ◌*◌, ◌/◌, ◌^◌, [], List, ℕ, IfOk, All, length, get_or, vec_capacity};
+ghost use Rattle.std.specs.Prelude.{◌≡◌, ◌≤◌, ◌<◌, ◌+◌, ◌-◌, ◌*◌, ◌/◌, ◌^◌, [], List, ℕ, IfOk, All, length, get_or};
+ghost use Rattle.std.specs.Prelude.{vec_capacity};
 ghost use Rattle.journal_core.specs.Marks.{IsMark, AreEvery, IsFitStep};
 
 use std::alloc::{AllocError, Global};
@@ -23,7 +24,8 @@ pub const FIRST: Mark = Mark {
     place: 32,
 };
 
-/// The places of every k-th record, k being the step. Where the room for them is full, k doubles and every second place goes.
+/// The places of every k-th record, k being the step. Where the room for them is full, k doubles and every second place
+/// goes.
 ///
 /// A contract sees the places, and of how many records they are.
 #[derive(Drop)]
@@ -41,7 +43,8 @@ impl Model for Marks {
 
     ghost view = { λ m. record { places = m.kept.items; seen = m.seen } };
 
-    ghost invariant = { λ m. AreEvery m.step m.seen m.kept.items × IsFitStep m.step m.seen × (vec_capacity m.kept ≡ 65536) };
+    ghost invariant = { λ m. AreEvery m.step m.seen m.kept.items × IsFitStep m.step m.seen
+        × (vec_capacity m.kept ≡ 65536) };
 }
 
 impl Marks {
@@ -57,12 +60,14 @@ impl Marks {
         })
     }
 
-    /// One record more is seen, whose gate stands here; its place is kept where it is one of every k-th. It takes no memory.
+    /// One record more is seen, whose gate stands here; its place is kept where it is one of every k-th. It takes no
+    /// memory.
     pub fn keep(&mut self, mark: Mark)
         requires next { mark.before ≡ self.old.seen }
         requires small { self.old.seen < 268435456 }
         ensures seen { self.new.seen ≡ self.old.seen + 1 }
-        ensures marks { (rs : List (List ℕ)) → All (IsMark rs) self.old.places → IsMark rs mark → All (IsMark rs) self.new.places }
+        ensures marks { (rs : List (List ℕ)) → All (IsMark rs) self.old.places → IsMark rs mark
+            → All (IsMark rs) self.new.places }
     {
         if mark.before % self.step != 0 {
             self.seen += 1;
@@ -73,8 +78,8 @@ impl Marks {
         self.seen += 1;
     }
 
-    /// The nearest kept place before record n, from 1: fewer than k records stand between, and k is at most one more than a
-    /// 32,768th of the records that were seen.
+    /// The nearest kept place before record n, from 1: fewer than k records stand between, and k is at most one more
+    /// than a 32,768th of the records that were seen.
     pub fn near(&self, n: u64) -> Mark
         requires some { 1 ≤ n }
         requires seen { n ≤ self.now.seen }
@@ -86,7 +91,8 @@ impl Marks {
     }
 }
 
-// Makes room for the place behind so many records, a multiple of the step, and gives the step between the places that are kept.
+// Makes room for the place behind so many records, a multiple of the step, and gives the step between the places that
+// are kept.
 fn make_room(kept: &mut Vec<Mark>, step: u64, seen: u64) -> u64
     requires every { AreEvery step seen kept.old.items }
     requires next { length kept.old.items * step ≡ seen }
@@ -109,7 +115,8 @@ fn make_room(kept: &mut Vec<Mark>, step: u64, seen: u64) -> u64
 // Keeps every second place.
 fn halve(kept: &mut Vec<Mark>)
     ensures len { length kept.new.items ≡ length kept.old.items / 2 }
-    ensures each { (k : ℕ) (d : Mark) → k < length kept.new.items → get_or kept.new.items k d ≡ get_or kept.old.items (k * 2) d }
+    ensures each { (k : ℕ) (d : Mark) → k < length kept.new.items
+        → get_or kept.new.items k d ≡ get_or kept.old.items (k * 2) d }
     ensures marks { (rs : List (List ℕ)) → All (IsMark rs) kept.old.items → All (IsMark rs) kept.new.items }
     ensures capacity { vec_capacity kept.new ≡ vec_capacity kept.old }
 {

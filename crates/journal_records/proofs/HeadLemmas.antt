@@ -13,8 +13,10 @@ number_of bytes body gate n is long size =
     size ∙ ap (from_be_bytes w32) (sym (four_at 1 bytes (omega arith)) ∙ ap (λ v. take 4 (drop 1 v)) is ∙ take-take 4 4 body (omega arith))
 
 -- an open gate in front of a record
-pub head_open : (end len n : ℕ) (bytes rest : List ℕ) → bytes ≡ take 5 rest → end + length rest ≡ len → get_or bytes 0 0 ≡ 1 → 5 ≤ length bytes → ((i : ℕ) → get_or bytes i 0 < 256)
-    → n ≡ from_be_bytes w32 (get_or bytes 1 0 ∷ get_or bytes 2 0 ∷ get_or bytes 3 0 ∷ get_or bytes 4 0 ∷ []) → EndsWithin end len n → IsOpen end n rest
+pub head_open : (end len n : ℕ) (bytes rest : List ℕ) → bytes ≡ take 5 rest → end + length rest ≡ len → get_or bytes 0 0 ≡ 1
+    → 5 ≤ length bytes → ((i : ℕ) → get_or bytes i 0 < 256)
+    → n ≡ from_be_bytes w32 (get_or bytes 1 0 ∷ get_or bytes 2 0 ∷ get_or bytes 3 0 ∷ get_or bytes 4 0 ∷ []) → EndsWithin end len n
+    → IsOpen end n rest
 head_open end len n bytes [] is whole gate long small size ends = absurd (omega (arith, ap length is))
 head_open end len n bytes (g ∷ body) is whole gate long small size ends =
     let n_is = number_of bytes body g n is long size in
@@ -22,14 +24,21 @@ head_open end len n bytes (g ∷ body) is whole gate long small size ends =
     record {
       body = body;
       is = ap (λ v. v ∷ body) is_open;
-      good = record { whole = omega (arith, n_is, ends.whole); some = omega (arith, n_is, ends.some); fits = omega (arith, n_is, ends.fits); small = omega (arith, n_is, ends.small) };
+      good = record {
+        whole = omega (arith, n_is, ends.whole);
+        some = omega (arith, n_is, ends.some);
+        fits = omega (arith, n_is, ends.fits);
+        small = omega (arith, n_is, ends.small);
+      };
       size = sym n_is;
       bytes_are = λ i. let P : List ℕ → Type 0 = λ v. get_or v i 0 < 256 in subst P (ap (drop 1) is) (below_drop 1 bytes small i);
     }
 
 -- an open gate with no record behind it
-pub head_broken : (end len n : ℕ) (bytes rest : List ℕ) → bytes ≡ take 5 rest → end + length rest ≡ len → get_or bytes 0 0 ≡ 1 → 5 ≤ length bytes
-    → n ≡ from_be_bytes w32 (get_or bytes 1 0 ∷ get_or bytes 2 0 ∷ get_or bytes 3 0 ∷ get_or bytes 4 0 ∷ []) → (EndsWithin end len n → ⊥) → IsBroken end rest
+pub head_broken : (end len n : ℕ) (bytes rest : List ℕ) → bytes ≡ take 5 rest → end + length rest ≡ len → get_or bytes 0 0 ≡ 1
+    → 5 ≤ length bytes
+    → n ≡ from_be_bytes w32 (get_or bytes 1 0 ∷ get_or bytes 2 0 ∷ get_or bytes 3 0 ∷ get_or bytes 4 0 ∷ []) → (EndsWithin end len n → ⊥)
+    → IsBroken end rest
 head_broken end len n bytes [] is whole gate long size not = inl refl
 head_broken end len n bytes (g ∷ body) is whole gate long size not =
     let n_is = number_of bytes body g n is long size in
@@ -37,5 +46,11 @@ head_broken end len n bytes (g ∷ body) is whole gate long size not =
     inr (
       body,
       ap (λ v. v ∷ body) is_open,
-      λ good. not (record { some = omega (arith, n_is, good.some); fits = omega (arith, n_is, good.fits); whole = omega (arith, n_is, good.whole); small = omega (arith, n_is, good.small) }),
+      λ good. not (record {
+        some = omega (arith, n_is, good.some);
+        fits = omega (arith, n_is, good.fits);
+        whole =
+            omega (arith, n_is, good.whole);
+        small = omega (arith, n_is, good.small);
+      }),
     )

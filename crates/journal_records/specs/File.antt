@@ -1,5 +1,6 @@
 -- What the bytes of a journal file mean: a header, records behind gates, and a closed gate (own rule, docs/JOURNAL.md).
-use Rattle.std.specs.Prelude.{◌≡◌, ◌≢◌, ◌≤◌, ◌<◌, ℕ, zero, suc, ◌+◌, ◌==◌, if◌then◌else◌, List, [], ◌∷◌, ◌++◌, length, take, drop, replicate, All}
+use Rattle.std.specs.Prelude.{◌≡◌, ◌≢◌, ◌≤◌, ◌<◌, ℕ, zero, suc, ◌+◌, ◌==◌, if◌then◌else◌, List, [], ◌∷◌, ◌++◌, length}
+use Rattle.std.specs.Prelude.{take, drop, replicate, All}
 use Rattle.std.specs.Int.{w32, to_be_bytes, from_be_bytes}
 
 -- the 32 bytes in front of the records of this manager: `VNFM-LCM`, the format 1, the manager's number and zeros
@@ -12,7 +13,8 @@ cut_records zero bytes = []
 cut_records (suc most) [] = []
 cut_records (suc most) (gate ∷ rest) =
     if gate == 1
-    then take (from_be_bytes w32 (take 4 rest)) (drop 4 rest) ∷ cut_records most (drop (from_be_bytes w32 (take 4 rest)) (drop 4 rest))
+    then take (from_be_bytes w32 (take 4 rest)) (drop 4 rest)
+    ∷ cut_records most (drop (from_be_bytes w32 (take 4 rest)) (drop 4 rest))
     else []
 
 -- the contents of the open records of a file, the oldest first

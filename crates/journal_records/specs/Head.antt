@@ -1,4 +1,5 @@
--- What stands at the place of a gate: a closed gate, a record behind an open one, or neither (own rule, docs/JOURNAL.md).
+-- What stands at the place of a gate: a closed gate, a record behind an open one, or neither (own rule,
+-- docs/JOURNAL.md).
 use Rattle.std.specs.Prelude.{◌≡◌, ◌≢◌, ◌⊎◌, ◌≤◌, ◌<◌, ℕ, ◌+◌, List, [], ◌∷◌, ◌++◌, length, take, get_or, All}
 use Rattle.std.specs.Int.{w32, from_be_bytes}
 use Rattle.journal_records.specs.declared.head.Head.{Head}

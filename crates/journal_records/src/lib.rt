@@ -1,4 +1,5 @@
-//! What the bytes of a journal's file say: what stands at the place of a gate, and which length and end a record may have.
+//! What the bytes of a journal's file say: what stands at the place of a gate, and which length and end a record may
+//! have.
 #![tactic(auto)]
 
 mod head;

@@ -2,7 +2,9 @@
 use Rattle.std.proofs.Common.{List, ℕ, Option, Some, None, Result, Ok, Err}
 use Rattle.std.specs.Prelude.{codes}
 use Rattle.serde_json.specs.Data.{Data}
-use Rattle.json_bodies.specs.Body.{and_then, cancel_in, cancel_mode_in, cancel_of, create_in, create_of, document, instantiate_in, instantiate_of, line_in, member_of, name_in, needed, needed_member, needed_value, object_read, optional, optional_member, optional_value, some_name_in}
+use Rattle.json_bodies.specs.Body.{and_then, cancel_in, cancel_mode_in, cancel_of, create_in, create_of, document, instantiate_in}
+use Rattle.json_bodies.specs.Body.{instantiate_of, line_in, member_of, name_in, needed, needed_member, needed_value, object_read, optional}
+use Rattle.json_bodies.specs.Body.{optional_member, optional_value, some_name_in}
 use Rattle.json_bodies.specs.declared.body.BodyFault.{BodyFault}
 use Rattle.json_bodies.specs.declared.body.BodyFault.TheVariants.{Lacks, Malformed, Memory, Wrong}
 
@@ -15,7 +17,8 @@ IsOfBytes (Err (Wrong name)) = Unit {0}
 IsOfBytes (Err Memory) = ⊥
 
 -- of two readings in a row
-pub both_of_bytes : {A B : Type 0} (first : Result A BodyFault) (next : A → Result B BodyFault) → IsOfBytes first → ((a : A) → IsOfBytes (next a)) → IsOfBytes (and_then first next)
+pub both_of_bytes : {A B : Type 0} (first : Result A BodyFault) (next : A → Result B BodyFault) → IsOfBytes first
+    → ((a : A) → IsOfBytes (next a)) → IsOfBytes (and_then first next)
 both_of_bytes (Ok a) next is behind = behind a
 both_of_bytes (Err Malformed) next is behind = tt
 both_of_bytes (Err (Lacks name)) next is behind = tt
@@ -44,7 +47,8 @@ optional_of_bytes {A = A} form name d = by (member_of name d) where
   by (Some value) = of (form value)
 
 -- of a JSON object
-object_of_bytes : {A : Type 0} (body : Data → Result A BodyFault) (o : Option Data) → ((d : Data) → IsOfBytes (body d)) → IsOfBytes (object_read body o)
+object_of_bytes : {A : Type 0} (body : Data → Result A BodyFault) (o : Option Data) → ((d : Data) → IsOfBytes (body d))
+    → IsOfBytes (object_read body o)
 object_of_bytes body None each = tt
 object_of_bytes body (Some d) each = each d
 

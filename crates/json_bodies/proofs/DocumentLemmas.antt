@@ -8,10 +8,12 @@ use Rattle.serde_json.specs.Find.{as_object}
 use Rattle.serde_json.specs.Read.{read}
 use Rattle.json_bodies.specs.Body.{document}
 
-pub document-object : (bytes : List ℕ) (d : Data) → IsUtf8 bytes → read bytes ≡ Some d → is_some (as_object d) ≡ true → document bytes ≡ Some d
+pub document-object : (bytes : List ℕ) (d : Data) → IsUtf8 bytes → read bytes ≡ Some d → is_some (as_object d) ≡ true
+    → document bytes ≡ Some d
 document-object bytes d utf8 reads object = rw (is_utf8-from_IsUtf8 bytes utf8, reads, object) refl
 
-pub document-other : (bytes : List ℕ) (d : Data) → IsUtf8 bytes → read bytes ≡ Some d → is_some (as_object d) ≡ false → document bytes ≡ None
+pub document-other : (bytes : List ℕ) (d : Data) → IsUtf8 bytes → read bytes ≡ Some d → is_some (as_object d) ≡ false
+    → document bytes ≡ None
 document-other bytes d utf8 reads object = rw (is_utf8-from_IsUtf8 bytes utf8, reads, object) refl
 
 pub document-none : (bytes : List ℕ) → (IsUtf8 bytes → read bytes ≡ None) → document bytes ≡ None

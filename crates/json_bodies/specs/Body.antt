@@ -1,6 +1,7 @@
--- What a request body says. A body is a JSON object; a member that is null is as if absent, and members that aren't asked
--- for are passed over (SOL 003 5.5.2; RFC 8259).
-use Rattle.std.specs.Prelude.{◌≡◌, ℕ, List, [], ◌∷◌, find, length, nat_le, codes, if◌then◌else◌, Option, Some, None, option_and_then, Result, Ok, Err, is_some}
+-- What a request body says. A body is a JSON object; a member that is null is as if absent, and members that aren't
+-- asked for are passed over (SOL 003 5.5.2; RFC 8259).
+use Rattle.std.specs.Prelude.{◌≡◌, ℕ, List, [], ◌∷◌, find, length, nat_le, codes, if◌then◌else◌, Option, Some, None}
+use Rattle.std.specs.Prelude.{option_and_then, Result, Ok, Err, is_some}
 use Rattle.std.specs.Str.{bytes_eq, is_utf8}
 use Rattle.lcm_events.specs.declared.states.CancelMode.{CancelMode}
 use Rattle.lcm_events.specs.declared.states.CancelMode.TheVariants.{Forceful, Graceful}
@@ -108,8 +109,8 @@ create_read d = object_read create_in d
 abbrev pub create_of : List ℕ → Result CreateBody BodyFault
 create_of bytes = create_read (document bytes)
 
--- an instantiate request's body: the first member that is missing or wrong, in this order, or what it says (SOL 003 5.5.2.4
--- InstantiateVnfRequest)
+-- an instantiate request's body: the first member that is missing or wrong, in this order, or what it says (SOL 003
+-- 5.5.2.4 InstantiateVnfRequest)
 abbrev pub instantiate_in : Data → Result InstantiateBody BodyFault
 instantiate_in d =
     and_then (needed some_name_in (codes "flavourId") d) (λ flavour.

@@ -1,5 +1,7 @@
--- The table of a body's members, in the order in which they are checked, and what is wrong first (own rule over SOL 003 5.5.2).
-use Rattle.std.specs.Prelude.{◌≡◌, List, [], ◌∷◌, ℕ, codes, filter_map, if◌then◌else◌, is_some, option_and_then, slice_get, Option, Some, None, Result, Ok, Err}
+-- The table of a body's members, in the order in which they are checked, and what is wrong first (own rule over SOL 003
+-- 5.5.2).
+use Rattle.std.specs.Prelude.{◌≡◌, List, [], ◌∷◌, ℕ, codes, filter_map, if◌then◌else◌, is_some, option_and_then}
+use Rattle.std.specs.Prelude.{slice_get, Option, Some, None, Result, Ok, Err}
 use Rattle.std.specs.Option.{option_map_or}
 use Rattle.serde_json.specs.Data.{Data}
 use Rattle.json_bodies.specs.Body.{cancel_mode_in, line_in, member_of, name_in, some_name_in}

@@ -44,9 +44,9 @@ pub struct CreateBody {
 
 /// Reads the body of a create request.
 ///
-/// Refusals: `Malformed` exactly where the bytes are no JSON object; `Lacks` and `Wrong` with the first member that fails,
-/// in the order `vnfdId`, `vnfInstanceName`, `vnfInstanceDescription`; `Memory`, where there was none to read the bytes as
-/// JSON, or for a body that would be taken.
+/// Refusals: `Malformed` exactly where the bytes are no JSON object; `Lacks` and `Wrong` with the first member that
+/// fails, in the order `vnfdId`, `vnfInstanceName`, `vnfInstanceDescription`; `Memory`, where there was none to read
+/// the bytes as JSON, or for a body that would be taken.
 pub fn read_create(alloc: Global, bytes: &[u8]) -> Result<CreateBody, BodyFault>
     ensures { Gives result (create_of bytes.now) }
 {

@@ -2,7 +2,9 @@
 ghost use Rattle.std.specs.Prelude.{◌≡◌, IfErr, IfOk, IsOk, IsSome, false, option_map, true};
 ghost use Rattle.serde_json.specs.View.{view};
 ghost use Rattle.vnfm_base.specs.Text.{is_label};
-ghost use Rattle.json_bodies.specs.Body.{Gives, cancel_mode_in, cancel_mode_text, line_in, line_text, member_of, name_in, name_text, needed, needed_value, optional, some_name_in, some_name_text};
+ghost use Rattle.json_bodies.specs.Body.{Gives, cancel_mode_in, cancel_mode_text, line_in, line_text, member_of};
+ghost use Rattle.json_bodies.specs.Body.{name_in, name_text, needed, needed_value, optional, some_name_in};
+ghost use Rattle.json_bodies.specs.Body.{some_name_text};
 
 use crate::body::BodyFault;
 use lcm_events::CancelMode;
@@ -19,7 +21,8 @@ pub trait Form<T> {
 
     ghost asks_memory: { Self → Bool };
 
-    /// What a value of this form says; `None` where it has another. An error is want of memory, for a value of this form.
+    /// What a value of this form says; `None` where it has another. An error is want of memory, for a value of this
+    /// form.
     fn read(&self, alloc: Global, value: &Value) -> Result<Option<T>, AllocError>
         ensures says { IfOk result (λ said. said ≡ says self.now (view value.now)) }
         ensures form { IfErr result (λ e. IsSome (says self.now (view value.now))) }

@@ -2,8 +2,8 @@
 ghost use Rattle.json_bodies.specs.Body.{cancel_in, create_in, instantiate_in};
 ghost use Rattle.json_bodies.specs.Tables.{RefusesFirstFault, cancel_table, create_table, instantiate_table};
 
-/// A JSON object is refused as the body of a request exactly for what is wrong first, in the order of the body's table: a member that is
-/// missing, or a value that has another form.
+/// A JSON object is refused as the body of a request exactly for what is wrong first, in the order of the body's table:
+/// a member that is missing, or a value that has another form.
 ///
 /// Source: own rule over SOL 003 5.5.2.3 (CreateVnfRequest), 5.5.2.4 (InstantiateVnfRequest), 5.5.2.14 (CancelMode).
 pub fn the_first_failing_member_is_told()

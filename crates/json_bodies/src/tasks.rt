@@ -23,8 +23,8 @@ pub struct InstantiateBody {
 
 /// Reads the body of an instantiate request.
 ///
-/// Refusals: `Malformed` exactly where the bytes are no JSON object; `Lacks` and `Wrong` with the first member that fails,
-/// in the order `flavourId`, `instantiationLevelId`; `Memory`, where there was none to read the bytes as JSON.
+/// Refusals: `Malformed` exactly where the bytes are no JSON object; `Lacks` and `Wrong` with the first member that
+/// fails, in the order `flavourId`, `instantiationLevelId`; `Memory`, where there was none to read the bytes as JSON.
 /// Source: SOL 003 5.5.2.4 (InstantiateVnfRequest).
 pub fn read_instantiate(alloc: Global, bytes: &[u8]) -> Result<InstantiateBody, BodyFault>
     ensures { Gives result (instantiate_of bytes.now) }
@@ -44,7 +44,8 @@ fn instantiate_body(alloc: Global, value: &Value) -> Result<InstantiateBody, Bod
 
 /// Reads the body of a cancel request.
 ///
-/// Refusals: `Malformed` exactly where the bytes are no JSON object; `Lacks` and `Wrong` for `cancelMode`, which is GRACEFUL or FORCEFUL;
+/// Refusals: `Malformed` exactly where the bytes are no JSON object; `Lacks` and `Wrong` for `cancelMode`, which is
+/// GRACEFUL or FORCEFUL;
 /// `Memory`, where there was none to read the bytes as JSON.
 /// Source: SOL 003 5.5.2.14 (CancelMode), 5.4.17 (Cancel operation task).
 pub fn read_cancel(alloc: Global, bytes: &[u8]) -> Result<CancelMode, BodyFault>

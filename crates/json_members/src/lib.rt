@@ -17,8 +17,8 @@ pub fn text_value(alloc: Global, text: &str) -> Result<Value, AllocError>
     Ok(Value::String(String::from_str(alloc, text)?))
 }
 
-/// Puts a member whose value is a text, in the place of one of that name where there is one. Where there is no memory for it, the object
-/// is of no further use.
+/// Puts a member whose value is a text, in the place of one of that name where there is one. Where there is no memory
+/// for it, the object is of no further use.
 ///
 /// Source: RFC 8259 4.
 pub fn put_text(
@@ -27,7 +27,8 @@ pub fn put_text(
     name: &str,
     text: &str,
 ) -> Result<(), AllocError>
-    ensures { OnOk result (members_view members.new.entries ≡ with_member name.now (string text.now) (members_view members.old.entries)) }
+    ensures { OnOk result (members_view members.new.entries
+        ≡ with_member name.now (string text.now) (members_view members.old.entries)) }
 {
     let value = text_value(alloc, text)?;
     put(members, alloc, name, value)

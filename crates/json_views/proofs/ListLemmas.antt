@@ -21,7 +21,8 @@ none_left : {C : Type 0} (all taken left : List C) → all ≡ taken ++ left →
 none_left all taken left are none = sym (are ∙ ap (λ l. taken ++ l) none ∙ append-nil taken)
 
 -- what was made of the pairs, where one of the two lists has come to its end, was made of all
-pub all_paired : {A B C X Y : Type 0} {P : X → Type 0} {Q : Y → Type 0} (f : A × B → C) (xs : List A) (ys : List B) (all taken : List C) → all ≡ taken ++ map f (zip xs ys)
+pub all_paired : {A B C X Y : Type 0} {P : X → Type 0} {Q : Y → Type 0} (f : A × B → C) (xs : List A) (ys : List B) (all taken : List C)
+    → all ≡ taken ++ map f (zip xs ys)
     → (((x : X) × ((length xs ≡ 0) × P x)) ⊎ ((y : Y) × ((length ys ≡ 0) × Q y))) → taken ≡ all
 all_paired f xs ys all taken are (inl end) = none_left all taken (map f (zip xs ys)) are (ap (map f) (zip-first_none xs ys end.1.0))
 all_paired f xs ys all taken are (inr end) = none_left all taken (map f (zip xs ys)) are (ap (map f) (zip-second_none xs ys end.1.0))

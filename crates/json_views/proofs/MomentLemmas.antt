@@ -1,5 +1,6 @@
 -- The days counted on from 1 January 1970 are those of the calendar, so that a moment has one text.
-use Rattle.std.proofs.Common.{◌≡◌, ◌<◌, ◌≤◌, ◌+◌, ◌/◌, ◌%◌, ◌++◌, ◌∙◌, ℕ, zero, suc, true, false, List, pos, ltb-true, ltb-false, arith, refl, ap, sym, subst}
+use Rattle.std.proofs.Common.{◌≡◌, ◌<◌, ◌≤◌, ◌+◌, ◌/◌, ◌%◌, ◌++◌, ◌∙◌, ℕ, zero, suc, true, false, List, pos, ltb-true, ltb-false, arith}
+use Rattle.std.proofs.Common.{refl, ap, sym, subst}
 use Rattle.std.specs.Prelude.{nat_lt}
 use Rattle.lcm_laws.proofs.Lists.{by_test}
 use Rattle.jiff_core.specs.declared.civil.date.Date.{Date}
@@ -7,7 +8,8 @@ use Rattle.jiff_core.specs.Calendar.{IsYear, days_from_civil, days_in_month}
 use Rattle.jiff_core.specs.Date.{epoch_day}
 use Rattle.jiff_core.proofs.SignedLemmas.{signed_arith}
 use Rattle.jiff_core.proofs.CalendarLemmas.{days_in_month_bounds}
-use Rattle.jiff_core.proofs.DateLemmas.{days_from_civil-day, days_from_civil-max, days_from_civil-next_month, days_from_civil-next_year, epoch_day_injective, epoch_day_range}
+use Rattle.jiff_core.proofs.DateLemmas.{days_from_civil-day, days_from_civil-max, days_from_civil-next_month, days_from_civil-next_year}
+use Rattle.jiff_core.proofs.DateLemmas.{epoch_day_injective, epoch_day_range}
 use Rattle.jiff_core.proofs.StandardFacts.{known_days}
 use Rattle.vnfm_base.specs.Moment.{IsMoment, IsMomentText, date_text, time_text}
 use Rattle.json_views.specs.Moments.{Day, day_after, day_number, day_text, moment_text}
@@ -37,8 +39,10 @@ within_month n d is less =
       number = omega (arith, signed_arith, next, number);
     }
 
-last_of_month : (n : ℕ) (d : Day) → IsDay n d → nat_lt d.day (days_in_month (pos d.year) d.month) ≡ false → d.day ≡ days_in_month (pos d.year) d.month
-last_of_month n d is last = let high = is.day_high in let above = ltb-false d.day (days_in_month (pos d.year) d.month) last in omega (arith, high, above)
+last_of_month : (n : ℕ) (d : Day) → IsDay n d → nat_lt d.day (days_in_month (pos d.year) d.month) ≡ false
+    → d.day ≡ days_in_month (pos d.year) d.month
+last_of_month n d is last = let high = is.day_high in let above = ltb-false d.day (days_in_month (pos d.year) d.month) last in
+    omega (arith, high, above)
 
 next_month : (n : ℕ) (d : Day) → IsDay n d → d.day ≡ days_in_month (pos d.year) d.month → nat_lt d.month 12 ≡ true
     → IsDay (suc n) (record { year = d.year; month = d.month + 1; day = 1 })
@@ -65,11 +69,13 @@ next_year n d few is last more =
     let twelve : d.month ≡ 12 = omega (arith, high, above) in
     let long : d.day ≡ 31 = last ∙ ap (λ (m : ℕ). days_in_month (pos d.year) m) twelve in
     let number : days_from_civil (pos d.year) 12 31 ≡ pos n =
-    ap (λ (k : ℕ). days_from_civil (pos d.year) 12 k) (sym long) ∙ (ap (λ (m : ℕ). days_from_civil (pos d.year) m d.day) (sym twelve) ∙ is.number) in
+    ap (λ (k : ℕ). days_from_civil (pos d.year) 12 k) (sym long) ∙ (ap (λ (m : ℕ). days_from_civil (pos d.year) m d.day) (sym twelve)
+    ∙ is.number) in
     let next = days_from_civil-next_year (pos d.year) (pos (d.year + 1)) (omega (arith, signed_arith)) (omega (arith, signed_arith)) in
     let bound = is.year in
     let first = days_in_month_bounds (pos (d.year + 1)) 1 in
-    let not_last : (d.year ≡ 9999) → ⊥ = λ e. let at : days_from_civil (pos 9999) 12 31 ≡ pos n = subst (λ (y : ℕ). days_from_civil (pos y) 12 31 ≡ pos n) e number in
+    let not_last : (d.year ≡ 9999) → ⊥ = λ e. let at : days_from_civil (pos 9999) 12 31 ≡ pos n =
+    subst (λ (y : ℕ). days_from_civil (pos y) 12 31 ≡ pos n) e number in
     absurd (omega (arith, signed_arith, at, days_from_civil-max, few)) in
     record {
       year = omega (arith, bound, not_last);

@@ -12,7 +12,8 @@ use Rattle.lcm_events.specs.declared.changes.DefKind.TheVariants.{Compute, Link,
 use Rattle.lcm_events.specs.declared.descriptor.Vnfd.{Vnfd}
 use Rattle.lcm_events.specs.declared.states.CancelMode.{CancelMode}
 use Rattle.lcm_events.specs.declared.states.OpState.{OpState}
-use Rattle.lcm_events.specs.declared.states.OpState.TheVariants.{Completed, Failed, FailedTemp, Processing, RolledBack, RollingBack, Starting}
+use Rattle.lcm_events.specs.declared.states.OpState.TheVariants.{Completed, Failed, FailedTemp, Processing, RolledBack, RollingBack}
+use Rattle.lcm_events.specs.declared.states.OpState.TheVariants.{Starting}
 use Rattle.lcm_model.specs.Refusals.{is_terminate}
 use Rattle.occ_table.specs.declared.causes.Cause.{Cause}
 use Rattle.occ_table.specs.declared.rows.Grant.{Grant}
@@ -20,7 +21,8 @@ use Rattle.occ_table.specs.declared.rows.OccRow.{OccRow}
 use Rattle.json_views.specs.Affected.{affected, affected_link, affected_machine, affected_storage, changes_value, of_kind}
 use Rattle.json_views.specs.Instance.{instance_id, instance_path}
 use Rattle.json_views.specs.MadeOccurrence.{occurrence_members}
-use Rattle.json_views.specs.Occurrence.{cause_detail, cause_status, error_where, occurrence_id, occurrence_links, occurrence_path, occurrence_value, rollback_where, shows_error}
+use Rattle.json_views.specs.Occurrence.{cause_detail, cause_status, error_where, occurrence_id, occurrence_links, occurrence_path}
+use Rattle.json_views.specs.Occurrence.{occurrence_value, rollback_where, shows_error}
 use Rattle.json_views.specs.Params.{machine_value, named_where, params, stop_where}
 use Rattle.json_views.specs.Problem.{problem}
 use Rattle.json_views.specs.Resources.{scale_info}
@@ -31,9 +33,11 @@ use Rattle.json_views.proofs.ViewLemmas.{IsPlain, array_plain, or_false, text_pl
 
 -- the members that may be absent, put to those that every occurrence has, are the members of the view
 pub occurrence_made : (manager n : ℕ) (row : OccRow) (d : Vnfd) (start entered : List ℕ) (cancel error grant : Option Data)
-    → cancel ≡ option_map (λ mode. string (cancel_word mode)) row.cancel → error ≡ error_where row → grant ≡ option_map (λ g. string g.name) row.grant
+    → cancel ≡ option_map (λ mode. string (cancel_word mode)) row.cancel → error ≡ error_where row
+    → grant ≡ option_map (λ g. string g.name) row.grant
     → object (put_where (codes "cancelMode") cancel (put_where (codes "error") error (put_where (codes "grantId") grant
-    (occurrence_members (occurrence_id manager n) (object (occurrence_links row.state row.ask (occurrence_path manager n) (instance_path manager row.instance))) (instance_id manager row.instance) row d start entered))))
+    (occurrence_members (occurrence_id manager n) (object (occurrence_links row.state row.ask (occurrence_path manager n)
+    (instance_path manager row.instance))) (instance_id manager row.instance) row d start entered))))
     ≡ occurrence_value manager n row d start entered
 unfolding occurrence_members
 occurrence_made manager n row d start entered None None None c e g = rw (sym c, sym e, sym g) refl
@@ -53,7 +57,8 @@ links_plain : (state : OpState) (ask : Ask) (path instance : List ℕ) → membe
 links_plain Starting ask path instance = refl
 links_plain Processing ask path instance = refl
 links_plain RollingBack ask path instance = refl
-links_plain FailedTemp ask path instance = where_plain (codes "rollback") (rollback_where ask path) _ (rollback_plain (is_terminate ask) _ refl) refl
+links_plain FailedTemp ask path instance = where_plain (codes "rollback") (rollback_where ask path) _
+    (rollback_plain (is_terminate ask) _ refl) refl
 links_plain Completed ask path instance = refl
 links_plain Failed ask path instance = refl
 links_plain RolledBack ask path instance = refl
@@ -92,7 +97,8 @@ params_plain d (Heal cause named) =
     where_plain (codes "cause") (option_map string cause) _ (text_plain cause)
     (where_plain (codes "vnfcInstanceId") (named_where d named) _ (named_plain (length named == 0) d named) refl)
 params_plain d (Operate started stop) = where_plain (codes "stopType") (stop_where stop) _ (stop_plain stop) refl
-params_plain d (Terminate mode timeout) = where_plain (codes "gracefulTerminationTimeout") (option_map (λ n. number (unsigned n)) timeout) _ (timeout_plain timeout) refl
+params_plain d (Terminate mode timeout) = where_plain (codes "gracefulTerminationTimeout") (option_map (λ n. number (unsigned n)) timeout) _
+    (timeout_plain timeout) refl
 
 changes_plain : (d : Vnfd) (xs : List Affected) → has_float (changes_value d xs) ≡ false
 changes_plain d xs =
@@ -102,7 +108,8 @@ changes_plain d xs =
     refl))
 
 -- the view of an occurrence has no float
-pub occurrence_plain : (manager n : ℕ) (row : OccRow) (d : Vnfd) (start entered : List ℕ) → has_float (occurrence_value manager n row d start entered) ≡ false
+pub occurrence_plain : (manager n : ℕ) (row : OccRow) (d : Vnfd) (start entered : List ℕ)
+    → has_float (occurrence_value manager n row d start entered) ≡ false
 occurrence_plain manager n row d start entered =
     or_false _ _ (links_plain row.state row.ask (occurrence_path manager n) (instance_path manager row.instance))
     (where_plain (codes "cancelMode") (option_map (λ mode. string (cancel_word mode)) row.cancel) _ (cancel_plain row.cancel)

@@ -1,5 +1,6 @@
 -- The occurrences of a legal history can be shown, and the list of them has no float.
-use Rattle.std.proofs.Common.{◌≡◌, ◌+◌, ◌-◌, ◌<◌, ◌≤◌, ◌==◌, ◌∙◌, ℕ, List, [], ◌∷◌, true, false, Option, None, Some, is_some, refl, ap, sym, subst, arith, length, map, find, option_map, slice_get}
+use Rattle.std.proofs.Common.{◌≡◌, ◌+◌, ◌-◌, ◌<◌, ◌≤◌, ◌==◌, ◌∙◌, ℕ, List, [], ◌∷◌, true, false, Option, None, Some, is_some, refl, ap, sym}
+use Rattle.std.proofs.Common.{subst, arith, length, map, find, option_map, slice_get}
 use Rattle.std.proofs.lemmas.List.{length-map, length-reverse}
 use Rattle.std.specs.Option.{option_map_or}
 use Rattle.std.specs.Prelude.{filter_map, option_and_then, unwrap_or}
@@ -50,7 +51,8 @@ pub rows_counted : (os : List OccRow) (H : List Event) → StandsFor os H → le
 rows_counted os H stands = ap length stands ∙ (length-reverse (map (row H) (operations H)) ∙ length-map (operations H) (row H))
 
 -- the row at a place is that of the number behind it
-pub row_there : (os : List OccRow) (place : ℕ) (x : Option OccRow) (l : AreOfLegal os) → x ≡ occurrence l.history (place + 1) → x ≡ slice_get os place
+pub row_there : (os : List OccRow) (place : ℕ) (x : Option OccRow) (l : AreOfLegal os) → x ≡ occurrence l.history (place + 1)
+    → x ≡ slice_get os place
 row_there os place x l is =
     let same : (place + 1) - 1 ≡ place = omega arith in
     is ∙ (sym (looked l.width l.manager l.history os (place + 1) l.legal l.stands (omega arith)) ∙ ap (slice_get os) same)
@@ -65,7 +67,8 @@ record IsCreated (H : List Event) (i : ℕ) (d : Vnfd) : Type 0 where
   created : creation H i ≡ Some made
   named : descriptor_named H made.vnfd ≡ Some d
 
-created_of : (H : List Event) (i : ℕ) (d : Vnfd) (o : Option CreatedInstance) → creation H i ≡ o → option_and_then (λ x. descriptor_named H x.vnfd) o ≡ Some d → IsCreated H i d
+created_of : (H : List Event) (i : ℕ) (d : Vnfd) (o : Option CreatedInstance) → creation H i ≡ o
+    → option_and_then (λ x. descriptor_named H x.vnfd) o ≡ Some d → IsCreated H i d
 created_of H i d None is e = cc
 created_of H i d (Some x) is e = record { made = x; created = is; named = e }
 
@@ -73,21 +76,24 @@ created : (H : List Event) (i : ℕ) (d : Vnfd) → descriptor H i ≡ Some d �
 created H i d e = created_of H i d (creation H i) refl e
 
 -- an identifier can carry the number of an instance that was created
-instance_number : (width m : ℕ) (H : List Event) (i : ℕ) → IsLegalWithin width m H → length H < 4611686018427387903 → is_some (creation H i) ≡ true → IsIdentNumber i
+instance_number : (width m : ℕ) (H : List Event) (i : ℕ) → IsLegalWithin width m H → length H < 4611686018427387903
+    → is_some (creation H i) ≡ true → IsIdentNumber i
 instance_number width m H i legal few there =
     let within = found_within (λ x. x.instance) (creations H) i (instances_counted width m H legal) there in
     let made = made_within H in
     (within.0, omega (arith, within.1, made, few))
 
 -- and that of an operation that was asked for
-operation_number : (width m : ℕ) (H : List Event) (n : ℕ) → IsLegalWithin width m H → length H < 4611686018427387903 → is_some (operation H n) ≡ true → IsIdentNumber n
+operation_number : (width m : ℕ) (H : List Event) (n : ℕ) → IsLegalWithin width m H → length H < 4611686018427387903
+    → is_some (operation H n) ≡ true → IsIdentNumber n
 operation_number width m H n legal few there =
     let within = (found_exactly width m H legal n).0 there in
     let made = asked_within H in
     (within.0, omega (arith, within.1, made, few))
 
 -- the row of an operation that is found can be shown
-found_shown : (width m : ℕ) (H : List Event) (rs : Rows) (n : ℕ) (r : OccRow) → length H < 4611686018427387903 → IsLegalWithin width m H → instances.StandsFor rs H
+found_shown : (width m : ℕ) (H : List Event) (rs : Rows) (n : ℕ) (r : OccRow) → length H < 4611686018427387903 → IsLegalWithin width m H
+    → instances.StandsFor rs H
     → occurrence H n ≡ Some r → IsOccurrenceShowable rs n r
 found_shown width m H rs n r few legal stands e =
     let from = mapped (row H) (operation H n) r e in
@@ -95,18 +101,21 @@ found_shown width m H rs n r few legal stands e =
     let among = found_in (λ x. x.occ == n) (operations H) a from.1 in
     let own = own_descriptors width m H legal a among in
     let made = created H a.instance own.0 own.1 in
-    let vnfd_is : vnfd H a.instance ≡ made.made.vnfd = ap (λ (o : Option CreatedInstance). unwrap_or (option_map (λ x. x.vnfd) o) []) made.created in
+    let vnfd_is : vnfd H a.instance ≡ made.made.vnfd = ap (λ (o : Option CreatedInstance). unwrap_or (option_map (λ x. x.vnfd) o) [])
+    made.created in
     let known : vnfd_named rs (vnfd H a.instance) ≡ Some own.0 =
     ap (λ (z : Rows). find (λ (d : Vnfd). same_name d.descriptor_id (vnfd H a.instance)) z.descriptors) stands
     ∙ (vnfd_found width m H (vnfd H a.instance) legal ∙ (ap (descriptor_named H) vnfd_is ∙ made.named)) in
     record {
       number = operation_number width m H n legal few (ap is_some from.1);
-      instance = subst (λ (z : OccRow). IsIdentNumber z.instance) from.2 (instance_number width m H a.instance legal few (ap is_some made.created));
+      instance = subst (λ (z : OccRow). IsIdentNumber z.instance) from.2
+          (instance_number width m H a.instance legal few (ap is_some made.created));
       onboarded = subst (λ (z : OccRow). is_some (vnfd_named rs z.vnfd) ≡ true) from.2 (ap is_some known);
     }
 
 -- the occurrences of a legal history can be shown
-pub occurrences_shown : (width m : ℕ) (H : List Event) (rs : Rows) (os : List OccRow) → length H < 4611686018427387903 → IsLegalWithin width m H → instances.StandsFor rs H
+pub occurrences_shown : (width m : ℕ) (H : List Event) (rs : Rows) (os : List OccRow) → length H < 4611686018427387903
+    → IsLegalWithin width m H → instances.StandsFor rs H
     → StandsFor os H → CanEachBeShown rs os H
 occurrences_shown width m H rs os few legal stands_instances stands =
     let l : AreOfLegal os = record { width = width; manager = m; history = H; legal = legal; stands = stands } in
@@ -115,7 +124,8 @@ occurrences_shown width m H rs os few legal stands_instances stands =
       all = record {
         of_legal = l;
         few = omega (arith, rows_counted os H stands, made, few);
-        each = λ place r is. found_shown width m H rs (place + 1) r few legal stands_instances (row_there os place (occurrence H (place + 1)) l refl ∙ is);
+        each = λ place r is. found_shown width m H rs (place + 1) r few legal stands_instances
+            (row_there os place (occurrence H (place + 1)) l refl ∙ is);
       };
       each = λ n r e. found_shown width m H rs n r few legal stands_instances e;
     }
@@ -124,7 +134,8 @@ row_plain : (manager n : ℕ) (r : OccRow) (o : Option Vnfd) → has_float (opti
 row_plain manager n r None = refl
 row_plain manager n r (Some d) = occurrence_plain manager n r d (moment_text r.asked) (moment_text r.entered)
 
-found_plain : (manager : ℕ) (rs : Rows) (os : List OccRow) (places : List ℕ) → items_have_float (items_of (filter_map (occurrence_at manager rs os) places)) ≡ false
+found_plain : (manager : ℕ) (rs : Rows) (os : List OccRow) (places : List ℕ)
+    → items_have_float (items_of (filter_map (occurrence_at manager rs os) places)) ≡ false
 found_plain manager rs os [] = refl
 found_plain manager rs os (place ∷ places) = of (slice_get os place) refl (found_plain manager rs os places) where
   of : (o : Option OccRow) → slice_get os place ≡ o → items_have_float (items_of (filter_map (occurrence_at manager rs os) places)) ≡ false

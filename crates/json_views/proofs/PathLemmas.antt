@@ -1,5 +1,6 @@
 -- The paths at which instances and occurrences are found are lines.
-use Rattle.std.proofs.Common.{◌≡◌, ◌<◌, ◌≤◌, ◌&&◌, ℕ, zero, suc, Bool, true, false, List, [], ◌∷◌, ◌++◌, length, codes, All, refl, inl, if◌then◌else◌, nat_le, nat_lt, arith}
+use Rattle.std.proofs.Common.{◌≡◌, ◌<◌, ◌≤◌, ◌&&◌, ℕ, zero, suc, Bool, true, false, List, [], ◌∷◌, ◌++◌, length, codes, All, refl, inl}
+use Rattle.std.proofs.Common.{if◌then◌else◌, nat_le, nat_lt, arith}
 use Rattle.std.proofs.lemmas.Bool.Decides.{nat_tests}
 use Rattle.std.proofs.lemmas.List.{length-append}
 use Rattle.std.proofs.lemmas.List.Elements.{All-append, All-from_recursion}
@@ -20,7 +21,8 @@ use Rattle.vnfm_base.specs.declared.identifier.Kind.TheVariants.{Instance, Occur
 all_by_index : (P : ℕ → Type 0) (f : ℕ → ℕ) → ((k : ℕ) → P (f k)) → (n : ℕ) → All P (by_index n f)
 unfolding by_index
 all_by_index P f each zero = All-from_recursion P [] tt
-all_by_index P f each (suc n) = All-append P (by_index n f) (f n ∷ []) (all_by_index P f each n) (All-from_recursion P (f n ∷ []) (each n, tt))
+all_by_index P f each (suc n) = All-append P (by_index n f) (f n ∷ []) (all_by_index P f each n)
+    (All-from_recursion P (f n ∷ []) (each n, tt))
 
 -- a digit is plain, and so is what stands at a place of an identifier's text
 plain_digit : (d : ℕ) → d < 16 → IsPlain (hex_digit lower d)
@@ -72,10 +74,14 @@ line_with false path id before behind = record {
 }
 
 -- so is the path of an instance, and that of an occurrence
-pub instance_line : (there : Bool) (m n : ℕ) → IsLine (if there then codes "/vnflcm/v1/vnf_instances/" ++ instance_id m n else codes "/vnflcm/v1/vnf_instances/")
+pub instance_line : (there : Bool) (m n : ℕ) → IsLine (if there then codes "/vnflcm/v1/vnf_instances/" ++ instance_id m n
+    else codes "/vnflcm/v1/vnf_instances/")
 unfolding instance_id ident_text
-instance_line there m n = line_with there _ _ (short_root (codes "/vnflcm/v1/vnf_instances/") (omega arith) refl) (short_id (ident m Instance n))
+instance_line there m n = line_with there _ _ (short_root (codes "/vnflcm/v1/vnf_instances/") (omega arith) refl)
+    (short_id (ident m Instance n))
 
-pub occurrence_line : (there : Bool) (m n : ℕ) → IsLine (if there then codes "/vnflcm/v1/vnf_lcm_op_occs/" ++ occurrence_id m n else codes "/vnflcm/v1/vnf_lcm_op_occs/")
+pub occurrence_line : (there : Bool) (m n : ℕ) → IsLine (if there then codes "/vnflcm/v1/vnf_lcm_op_occs/" ++ occurrence_id m n
+    else codes "/vnflcm/v1/vnf_lcm_op_occs/")
 unfolding occurrence_id ident_text
-occurrence_line there m n = line_with there _ _ (short_root (codes "/vnflcm/v1/vnf_lcm_op_occs/") (omega arith) refl) (short_id (ident m Occurrence n))
+occurrence_line there m n = line_with there _ _ (short_root (codes "/vnflcm/v1/vnf_lcm_op_occs/") (omega arith) refl)
+    (short_id (ident m Occurrence n))

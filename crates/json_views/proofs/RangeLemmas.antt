@@ -15,7 +15,8 @@ none_here f made whole i n h none e =
 
 -- where there is something, it comes next
 pub one_here : {A : Type 0} → (f : ℕ → Option A) (made whole : List A) (x : A) (i n : ℕ) → i < n → f i ≡ Some x
-    → made ++ filter_map f (range_with_len i (n - i)) ≡ whole → (made ++ x ∷ []) ++ filter_map f (range_with_len (i + 1) (n - (i + 1))) ≡ whole
+    → made ++ filter_map f (range_with_len i (n - i)) ≡ whole → (made ++ x ∷ []) ++ filter_map f (range_with_len (i + 1) (n - (i + 1)))
+    ≡ whole
 one_here f made whole x i n h some e =
     let rest = filter_map f (range_with_len (i + 1) (n - (i + 1))) in
     append_assoc made (x ∷ []) rest

@@ -1,5 +1,6 @@
 -- The rows of a legal history can be shown.
-use Rattle.std.proofs.Common.{◌≡◌, ◌≤◌, ◌<◌, ◌==◌, ◌∙◌, ℕ, List, [], ◌∷◌, Bool, true, not, cond, Option, None, Some, is_some, refl, ap, sym, subst, arith, length, map, find, option_map, inl, inr}
+use Rattle.std.proofs.Common.{◌≡◌, ◌≤◌, ◌<◌, ◌==◌, ◌∙◌, ℕ, List, [], ◌∷◌, Bool, true, not, cond, Option, None, Some, is_some, refl, ap, sym}
+use Rattle.std.proofs.Common.{subst, arith, length, map, find, option_map, inl, inr}
 use Rattle.std.specs.Prelude.{All, filter_map}
 use Rattle.std.proofs.lemmas.List.Elements.{All-cons, All-nil}
 use Rattle.lcm_events.specs.Same.{same_name}
@@ -7,7 +8,8 @@ use Rattle.lcm_events.specs.declared.descriptor.Vnfd.{Vnfd}
 use Rattle.lcm_events.specs.declared.events.Event.{Event}
 use Rattle.lcm_events.specs.declared.held.Holding.{Holding}
 use Rattle.lcm_model.specs.Allowed.{IsLegalWithin}
-use Rattle.lcm_model.specs.Lives.{CreatedInstance, created_in, creation, creations, descriptor_named, instances_made, is_deleted, is_kept, is_live, live_instances}
+use Rattle.lcm_model.specs.Lives.{CreatedInstance, created_in, creation, creations, descriptor_named, instances_made, is_deleted, is_kept}
+use Rattle.lcm_model.specs.Lives.{is_live, live_instances}
 use Rattle.lcm_model.specs.Words.{IsIn}
 use Rattle.lcm_laws.proofs.HoldLaws.{some_value}
 use Rattle.lcm_laws.proofs.Lists.{and_left, by_test}
@@ -43,14 +45,16 @@ made_within : (H : List Event) → instances_made H ≤ length H
 made_within H = filter_map-short (λ (e : Event). created_in e.kind) H
 
 -- an identifier can carry the number of an instance that was created
-created_number : (width m : ℕ) (H : List Event) (i : ℕ) → IsLegalWithin width m H → length H < 4611686018427387903 → is_some (creation H i) ≡ true → IsIdentNumber i
+created_number : (width m : ℕ) (H : List Event) (i : ℕ) → IsLegalWithin width m H → length H < 4611686018427387903
+    → is_some (creation H i) ≡ true → IsIdentNumber i
 created_number width m H i legal few there =
     let within = found_within (λ x. x.instance) (creations H) i (instances_counted width m H legal) there in
     let made = made_within H in
     (within.0, omega (arith, within.1, made, few))
 
 -- the row of an instance that was created can be shown
-row_shown : (width m : ℕ) (H : List Event) (rs : Rows) (r : InstanceRow) → length H < 4611686018427387903 → IsLegalWithin width m H → StandsFor rs H → IsIn r rs.instances → IsShowable rs r
+row_shown : (width m : ℕ) (H : List Event) (rs : Rows) (r : InstanceRow) → length H < 4611686018427387903 → IsLegalWithin width m H
+    → StandsFor rs H → IsIn r rs.instances → IsShowable rs r
 row_shown width m H rs r few legal stands among =
     let here : IsIn r (instance_rows H) = subst (λ (ys : List InstanceRow). IsIn r ys) (ap (λ (z : Rows). z.instances) stands) among in
     let from = of_map (instance_row H) r (live_instances H) (of_reverse r (map (instance_row H) (live_instances H)) here) in
@@ -60,7 +64,8 @@ row_shown width m H rs r few legal stands among =
     let named = named_of width m H x legal created in
     let is : instance_row H x ≡ r = from.2 in
     let found : vnfd_named rs x.vnfd ≡ Some named.0 =
-    ap (λ (z : Rows). find (λ (d : Vnfd). same_name d.descriptor_id x.vnfd) z.descriptors) stands ∙ (vnfd_found width m H x.vnfd legal ∙ named.1) in
+    ap (λ (z : Rows). find (λ (d : Vnfd). same_name d.descriptor_id x.vnfd) z.descriptors) stands
+    ∙ (vnfd_found width m H x.vnfd legal ∙ named.1) in
     record {
       number = subst (λ (z : InstanceRow). IsIdentNumber z.number) is (created_number width m H x.instance legal few (ap is_some made));
       onboarded = subst (λ (z : InstanceRow). is_some (vnfd_named rs z.vnfd) ≡ true) is (ap is_some found);
@@ -81,10 +86,12 @@ row_made H i r e = by_test (is_live H i)
     sym (ap (option_map (instance_row H)) found.1)
     ∙ subst (λ (b : Bool). cond b (option_map (instance_row H) (creation H i)) None ≡ Some r) live e in
     record { x = found.0; created = found.1; row = cc })
-    (λ gone. let none : None ≡ Some r = subst (λ (b : Bool). cond b (option_map (instance_row H) (creation H i)) None ≡ Some r) gone e in cc)
+    (λ gone. let none : None ≡ Some r = subst (λ (b : Bool). cond b (option_map (instance_row H) (creation H i)) None ≡ Some r) gone e in
+    cc)
 
 -- the row that is found by its number can be shown
-found_shown : (width m : ℕ) (H : List Event) (i : ℕ) (r : InstanceRow) → length H < 4611686018427387903 → IsLegalWithin width m H → instance H i ≡ Some r → IsFoundShowable H i r
+found_shown : (width m : ℕ) (H : List Event) (i : ℕ) (r : InstanceRow) → length H < 4611686018427387903 → IsLegalWithin width m H
+    → instance H i ≡ Some r → IsFoundShowable H i r
 found_shown width m H i r few legal e =
     let from = row_made H i r e in
     let created = found_in (λ x. x.instance == i) (creations H) from.x from.created in
@@ -98,7 +105,8 @@ found_shown width m H i r few legal e =
     }
 
 -- the rows of a legal history can be shown
-pub rows_shown : (width m : ℕ) (H : List Event) (rs : Rows) → length H < 4611686018427387903 → IsLegalWithin width m H → StandsFor rs H → CanAllBeShown rs H
+pub rows_shown : (width m : ℕ) (H : List Event) (rs : Rows) → length H < 4611686018427387903 → IsLegalWithin width m H → StandsFor rs H
+    → CanAllBeShown rs H
 rows_shown width m H rs few legal stands = record {
   all = all_in (IsShowable rs) rs.instances (λ r among. row_shown width m H rs r few legal stands among);
   each = λ i r e. found_shown width m H i r few legal e;

@@ -16,14 +16,17 @@ use Rattle.json_views.specs.Instance.{instance_id, instance_path, instance_value
 use Rattle.json_views.specs.Instances.{instances_value, row_value}
 use Rattle.json_views.specs.Links.{links}
 use Rattle.json_views.specs.Made.{needed_members}
-use Rattle.json_views.specs.Resources.{aspect_levels, compute_info, info_where, instantiated_info, link_info, scale_info, standing, standing_storages, storage_id, storage_ids, storage_info}
+use Rattle.json_views.specs.Resources.{aspect_levels, compute_info, info_where, instantiated_info, link_info, scale_info, standing}
+use Rattle.json_views.specs.Resources.{standing_storages, storage_id, storage_ids, storage_info}
 use Rattle.json_views.specs.Views.{member_where, put_where}
 
 -- the members that may be absent, put to those that every instance has, are the members of the view
 pub members_made : (manager n : ℕ) (row : InstanceRow) (d : Vnfd) (info text name : Option Data)
     → info ≡ info_where d row.holding → text ≡ option_map string row.text → name ≡ option_map string row.name
-    → object (put_where (codes "vnfInstanceName") name (put_where (codes "vnfInstanceDescription") text (put_where (codes "instantiatedVnfInfo") info
-    (needed_members (instance_id manager n) (links row.holding.instantiated (instance_path manager n)) row.holding.instantiated row.vnfd d))))
+    → object (put_where (codes "vnfInstanceName") name (put_where (codes "vnfInstanceDescription") text
+    (put_where (codes "instantiatedVnfInfo") info
+    (needed_members (instance_id manager n) (links row.holding.instantiated (instance_path manager n)) row.holding.instantiated row.vnfd
+    d))))
     ≡ instance_value manager n row d
 unfolding needed_members
 members_made manager n row d None None None i t m = rw (sym i, sym t, sym m) refl
@@ -40,7 +43,8 @@ pub or_false : (a b : Bool) → a ≡ false → b ≡ false → (a || b) ≡ fal
 or_false a b ha hb = rw (ha, hb) refl
 
 -- an array of values without a float has none
-pub array_plain : {A : Type 0} (shown : A → Data) → ((x : A) → has_float (shown x) ≡ false) → (xs : List A) → items_have_float (items_of (map shown xs)) ≡ false
+pub array_plain : {A : Type 0} (shown : A → Data) → ((x : A) → has_float (shown x) ≡ false) → (xs : List A)
+    → items_have_float (items_of (map shown xs)) ≡ false
 array_plain shown plain [] = refl
 array_plain shown plain (x ∷ xs) = or_false _ _ (plain x) (array_plain shown plain xs)
 
@@ -64,7 +68,8 @@ abbrev pub IsPlain : Option Data → Type 0
 IsPlain None = Unit {0}
 IsPlain (Some d) = has_float d ≡ false
 
-pub where_plain : (name : List ℕ) (o : Option Data) (rest : Members) → IsPlain o → members_have_float rest ≡ false → members_have_float (member_where name o rest) ≡ false
+pub where_plain : (name : List ℕ) (o : Option Data) (rest : Members) → IsPlain o → members_have_float rest ≡ false
+    → members_have_float (member_where name o rest) ≡ false
 where_plain name None rest plain others = others
 where_plain name (Some d) rest plain others = or_false (has_float d) (members_have_float rest) plain others
 
@@ -90,7 +95,8 @@ instance_plain manager n row d =
     refl)))
 
 -- nor has that of all instances
-row_plain : (manager : ℕ) (row : InstanceRow) (o : Option Vnfd) → has_float (option_map_or (instance_value manager row.number row) o null) ≡ false
+row_plain : (manager : ℕ) (row : InstanceRow) (o : Option Vnfd)
+    → has_float (option_map_or (instance_value manager row.number row) o null) ≡ false
 row_plain manager row None = refl
 row_plain manager row (Some d) = instance_plain manager row.number row d
 

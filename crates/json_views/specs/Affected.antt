@@ -1,8 +1,9 @@
--- What the changes of an occurrence did to resources (SOL 003 5.5.2.13, VnfLcmOpOcc, resourceChanges; 5.5.3, the affected resources).
--- Members stand in byte order of their names.
+-- What the changes of an occurrence did to resources (SOL 003 5.5.2.13, VnfLcmOpOcc, resourceChanges; 5.5.3, the
+-- affected resources). Members stand in byte order of their names.
 use Rattle.std.specs.List.{range_with_len}
 use Rattle.std.specs.Option.{option_map_or}
-use Rattle.std.specs.Prelude.{Bool, List, None, Option, codes, false, filter, filter_map, if◌then◌else◌, length, option_and_then, option_map, slice_get, ℕ, ◌==◌}
+use Rattle.std.specs.Prelude.{Bool, List, None, Option, codes, false, filter, filter_map, if◌then◌else◌, length}
+use Rattle.std.specs.Prelude.{option_and_then, option_map, slice_get, ℕ, ◌==◌}
 use Rattle.serde_json.specs.Data.{Data, member, no_members, object, string}
 use Rattle.lcm_events.specs.Same.{same_kind}
 use Rattle.lcm_events.specs.declared.changes.Change.{Change}
@@ -40,7 +41,8 @@ affected row = filter_map (made_at row) (range_with_len 0 (length row.changes))
 abbrev pub of_kind : DefKind → List Affected → List Affected
 of_kind kind xs = filter (λ x. same_kind x.change.def.kind kind) xs
 
--- the infrastructure's name of what a change used, and the connection to where it stands (SOL 003 5.5.3, ResourceHandle)
+-- the infrastructure's name of what a change used, and the connection to where it stands (SOL 003 5.5.3,
+-- ResourceHandle)
 abbrev pub used_handle : Affected → Data
 used_handle x = handle_of x.used.resource x.used.place.vim
 

@@ -23,7 +23,8 @@ instances_value manager rs = array_of (row_value manager rs) rs.instances
 unfoldable pub instances_text : ℕ → Rows → List ℕ
 instances_text manager rs = compact_text (instances_value manager rs)
 
--- a row can be shown: its number is one of an identifier, its descriptor is there, and what stands of it is in order (own rule)
+-- a row can be shown: its number is one of an identifier, its descriptor is there, and what stands of it is in order
+-- (own rule)
 pub record IsShowable (rs : Rows) (row : InstanceRow) : Type 0 where
   pub number : IsIdentNumber row.number
   pub onboarded : is_some (vnfd_named rs row.vnfd) ≡ true

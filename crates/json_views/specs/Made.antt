@@ -10,7 +10,8 @@ with_product vnfd members =
     put (codes "vnfSoftwareVersion") (string vnfd.software_version)
     (put (codes "vnfProvider") (string vnfd.provider) (put (codes "vnfProductName") (string vnfd.product_name) members))
 
--- the members that every view of an instance has, for its identifier, its links, its state, its `vnfdId` and its descriptor
+-- the members that every view of an instance has, for its identifier, its links, its state, its `vnfdId` and its
+-- descriptor
 unfoldable pub needed_members : List ℕ → Data → Bool → List ℕ → Vnfd → Members
 needed_members id links instantiated vnfd_id vnfd =
     (member (codes "_links") links

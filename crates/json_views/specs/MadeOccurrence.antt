@@ -11,13 +11,16 @@ use Rattle.json_views.specs.Words.{operation_word, state_word}
 unfoldable pub with_operation : Vnfd → OccRow → Members → Members
 with_operation d row members =
     put (codes "operationState") (string (state_word row.state))
-    (put (codes "operationParams") (object (params d row.ask)) (put (codes "operation") (string (operation_word row.ask)) members))
+    (put (codes "operationParams") (object (params d row.ask))
+    (put (codes "operation") (string (operation_word row.ask)) members))
 
 -- the members on the moments put to these
 unfoldable pub with_moments : List ℕ → List ℕ → Members → Members
-with_moments start entered members = put (codes "stateEnteredTime") (string entered) (put (codes "startTime") (string start) members)
+with_moments start entered members = put (codes "stateEnteredTime") (string entered)
+    (put (codes "startTime") (string start) members)
 
--- the members that every view of an occurrence has, for its identifier, its links, its instance and the texts of its moments
+-- the members that every view of an occurrence has, for its identifier, its links, its instance and the texts of its
+-- moments
 unfoldable pub occurrence_members : List ℕ → Data → List ℕ → OccRow → Vnfd → List ℕ → List ℕ → Members
 occurrence_members id links instance row d start entered =
     member (codes "_links") links

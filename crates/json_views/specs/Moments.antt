@@ -1,4 +1,5 @@
--- The text of a moment in a view (RFC 3339): the date of its day, counted on from 1 January 1970, and the time of that day.
+-- The text of a moment in a view (RFC 3339): the date of its day, counted on from 1 January 1970, and the time of that
+-- day.
 use Rattle.std.specs.Prelude.{ℕ, zero, suc, ◌+◌, ◌/◌, ◌%◌, ◌≡◌, List, ◌∷◌, ◌++◌, if◌then◌else◌, nat_lt, pos}
 use Rattle.jiff_core.specs.Calendar.{days_in_month}
 use Rattle.jiff_fmt.specs.Text.{pad2, pad4}

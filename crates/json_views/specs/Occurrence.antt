@@ -1,14 +1,17 @@
 -- The view of an operation occurrence (SOL 003 5.5.2.13, VnfLcmOpOcc). Members stand in byte order of their names.
-use Rattle.std.specs.Prelude.{Bool, List, None, Option, Some, codes, decimal, false, if◌then◌else◌, is_some, option_map, true, ℕ, ◌++◌}
+use Rattle.std.specs.Prelude.{Bool, List, None, Option, Some, codes, decimal, false, if◌then◌else◌, is_some, option_map}
+use Rattle.std.specs.Prelude.{true, ℕ, ◌++◌}
 use Rattle.serde_json.specs.Data.{Data, Members, boolean, member, no_members, object, string}
 use Rattle.serde_json.specs.Written.{compact_text}
 use Rattle.lcm_events.specs.declared.asks.Ask.{Ask}
 use Rattle.lcm_events.specs.declared.descriptor.Vnfd.{Vnfd}
 use Rattle.lcm_events.specs.declared.states.OpState.{OpState}
-use Rattle.lcm_events.specs.declared.states.OpState.TheVariants.{Completed, Failed, FailedTemp, Processing, RolledBack, RollingBack, Starting}
+use Rattle.lcm_events.specs.declared.states.OpState.TheVariants.{Completed, Failed, FailedTemp, Processing, RolledBack}
+use Rattle.lcm_events.specs.declared.states.OpState.TheVariants.{RollingBack, Starting}
 use Rattle.lcm_model.specs.Refusals.{is_terminate}
 use Rattle.occ_table.specs.declared.causes.Cause.{Cause}
-use Rattle.occ_table.specs.declared.causes.Cause.TheVariants.{Aborted, Broken, CallFailed, Cancelled, Denied, NoGrant, NotCovering}
+use Rattle.occ_table.specs.declared.causes.Cause.TheVariants.{Aborted, Broken, CallFailed, Cancelled, Denied, NoGrant}
+use Rattle.occ_table.specs.declared.causes.Cause.TheVariants.{NotCovering}
 use Rattle.occ_table.specs.declared.rows.OccRow.{OccRow}
 use Rattle.vnfm_base.specs.Ident.{ident, ident_text}
 use Rattle.vnfm_base.specs.declared.identifier.Kind.TheVariants.{Occurrence}
@@ -79,7 +82,8 @@ abbrev pub cause_status : Cause → ℕ
 cause_status Denied = 403
 cause_status _ = 500
 
--- the state shows why work stopped, where it did: each but STARTING and COMPLETED (own rule over SOL 003 5.5.2.13, error)
+-- the state shows why work stopped, where it did: each but STARTING and COMPLETED (own rule over SOL 003 5.5.2.13,
+-- error)
 abbrev pub shows_error : OpState → Bool
 shows_error Starting = false
 shows_error Completed = false
@@ -87,14 +91,16 @@ shows_error _ = true
 
 -- why work stopped, where it did and the state shows it (SOL 003 5.5.2.13, error)
 abbrev pub error_where : OccRow → Option Data
-error_where row = if shows_error row.state then option_map (λ c. problem (cause_status c) (cause_detail c)) row.cause else None
+error_where row = if shows_error row.state then option_map (λ c. problem (cause_status c) (cause_detail c)) row.cause
+    else None
 
--- occurrence n, of this row, as the descriptor of its instance has it, asked for and brought into its state at the moments of
--- these texts (SOL 003 5.5.2.13)
+-- occurrence n, of this row, as the descriptor of its instance has it, asked for and brought into its state at the
+-- moments of these texts (SOL 003 5.5.2.13)
 abbrev pub occurrence_value : ℕ → ℕ → OccRow → Vnfd → List ℕ → List ℕ → Data
 occurrence_value manager n row d start entered =
     object
-    (member (codes "_links") (object (occurrence_links row.state row.ask (occurrence_path manager n) (instance_path manager row.instance)))
+    (member (codes "_links") (object (occurrence_links row.state row.ask (occurrence_path manager n)
+    (instance_path manager row.instance)))
     (member_where (codes "cancelMode") (option_map (λ mode. string (cancel_word mode)) row.cancel)
     (member_where (codes "error") (error_where row)
     (member_where (codes "grantId") (option_map (λ g. string g.name) row.grant)

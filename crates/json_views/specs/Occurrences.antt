@@ -1,7 +1,9 @@
--- The view of the occurrences (SOL 003 5.4.12.3.2, GET on VNF LCM operation occurrences), and when their rows can be shown.
+-- The view of the occurrences (SOL 003 5.4.12.3.2, GET on VNF LCM operation occurrences), and when their rows can be
+-- shown.
 use Rattle.std.specs.List.{range_with_len}
 use Rattle.std.specs.Option.{option_map_or}
-use Rattle.std.specs.Prelude.{List, Option, Some, filter_map, is_some, length, option_map, slice_get, true, ℕ, ◌+◌, ◌-◌, ◌<◌, ◌≡◌}
+use Rattle.std.specs.Prelude.{List, Option, Some, filter_map, is_some, length, option_map, slice_get, true, ℕ, ◌+◌, ◌-◌}
+use Rattle.std.specs.Prelude.{◌<◌, ◌≡◌}
 use Rattle.serde_json.specs.Data.{Data, array, null}
 use Rattle.serde_json.specs.View.{items_of}
 use Rattle.serde_json.specs.Written.{compact_text}
@@ -16,11 +18,13 @@ use Rattle.occ_table.specs.declared.rows.OccRow.{OccRow}
 use Rattle.json_views.specs.Occurrence.{occurrence_shown}
 use Rattle.json_views.specs.declared.occurrences.TheConstants.{MAX_LISTED}
 
--- the places of the rows that a list shows, from 0: the last ones of so many (SOL 003 5.4.12.3.2; the limit is an own one)
+-- the places of the rows that a list shows, from 0: the last ones of so many (SOL 003 5.4.12.3.2; the limit is an own
+-- one)
 abbrev pub listed : ℕ → List ℕ
 listed made = range_with_len (made - MAX_LISTED) (made - (made - MAX_LISTED))
 
--- occurrence n, of this row, as the descriptor that the row names has it; null where that isn't there (SOL 003 5.5.2.13)
+-- occurrence n, of this row, as the descriptor that the row names has it; null where that isn't there (SOL 003
+-- 5.5.2.13)
 abbrev pub occurrence_row : ℕ → Rows → ℕ → OccRow → Data
 occurrence_row manager rs n row = option_map_or (occurrence_shown manager n row) (vnfd_named rs row.vnfd) null
 
@@ -39,7 +43,8 @@ occurrences_value manager rs os = array (items_of (occurrences_listed manager rs
 unfoldable pub occurrences_text : ℕ → Rows → List OccRow → List ℕ
 occurrences_text manager rs os = compact_text (occurrences_value manager rs os)
 
--- the row of occurrence n can be shown: its number and that of its instance are those of identifiers, and its descriptor is there (own rule)
+-- the row of occurrence n can be shown: its number and that of its instance are those of identifiers, and its
+-- descriptor is there (own rule)
 pub record IsOccurrenceShowable (rs : Rows) (n : ℕ) (row : OccRow) : Type 0 where
   pub number : IsIdentNumber n
   pub instance : IsIdentNumber row.instance
@@ -67,5 +72,6 @@ pub record CanEachBeShown (rs : Rows) (os : List OccRow) (H : List Event) : Type
 -- the occurrences of a legal history can be shown, while identifiers can carry the numbers of its events (own rule)
 abbrev pub LegalOccurrencesCanBeShown : Type 0
 LegalOccurrencesCanBeShown =
-    (width m : ℕ) (H : List Event) (rs : Rows) (os : List OccRow) → length H < 4611686018427387903 → IsLegalWithin width m H → instances.StandsFor rs H → StandsFor os H
+    (width m : ℕ) (H : List Event) (rs : Rows) (os : List OccRow) → length H < 4611686018427387903
+    → IsLegalWithin width m H → instances.StandsFor rs H → StandsFor os H
     → CanEachBeShown rs os H

@@ -1,5 +1,5 @@
--- What an operation was asked for with (SOL 003 5.5.2.13, VnfLcmOpOcc, operationParams): the members of its request's body that the
--- ask has. Members stand in byte order of their names.
+-- What an operation was asked for with (SOL 003 5.5.2.13, VnfLcmOpOcc, operationParams): the members of its request's
+-- body that the ask has. Members stand in byte order of their names.
 use Rattle.std.specs.Prelude.{Bool, List, None, Option, Some, codes, if◌then◌else◌, length, option_map, ℕ, ◌==◌}
 use Rattle.serde_json.specs.Data.{Data, Members, member, no_members, number, string, unsigned}
 use Rattle.lcm_events.specs.declared.asks.Aim.{Aim}

@@ -5,7 +5,8 @@ use Rattle.serde_json.specs.Written.{compact_text}
 
 -- what happened, and the status
 abbrev pub problem : ℕ → List ℕ → Data
-problem status detail = object (member (codes "detail") (string detail) (member (codes "status") (number (unsigned status)) no_members))
+problem status detail = object (member (codes "detail") (string detail)
+    (member (codes "status") (number (unsigned status)) no_members))
 
 -- its text
 abbrev pub problem_text : ℕ → List ℕ → List ℕ

@@ -1,7 +1,8 @@
--- What stands of an instance, as its view shows it (SOL 003 5.5.2.2, instantiatedVnfInfo; 5.5.3, the resource infos of an
--- instance). Members stand in byte order of their names.
+-- What stands of an instance, as its view shows it (SOL 003 5.5.2.2, instantiatedVnfInfo; 5.5.3, the resource infos of
+-- an instance). Members stand in byte order of their names.
 use Rattle.std.specs.Option.{option_map_or}
-use Rattle.std.specs.Prelude.{Bool, List, [], Option, Some, None, ℕ, ◌++◌, codes, decimal, filter, if◌then◌else◌, is_some, map, slice_get, unwrap_or, zip}
+use Rattle.std.specs.Prelude.{Bool, List, [], Option, Some, None, ℕ, ◌++◌, codes, decimal, filter, if◌then◌else◌}
+use Rattle.std.specs.Prelude.{is_some, map, slice_get, unwrap_or, zip}
 use Rattle.serde_json.specs.Data.{Data, array, member, no_items, no_members, number, object, string, unsigned}
 use Rattle.held_items.specs.Items.{item_of}
 use Rattle.lcm_events.specs.Same.{same_kind}
@@ -37,7 +38,8 @@ storage_id d v s k = machine_id d v s ++ codes "/" ++ storage_name d k
 
 -- the infrastructure's name of a resource, and the connection to where it stands (SOL 003 5.5.3, ResourceHandle)
 abbrev pub handle_of : List ℕ → List ℕ → Data
-handle_of resource vim = object (member (codes "resourceId") (string resource) (member (codes "vimConnectionId") (string vim) no_members))
+handle_of resource vim = object (member (codes "resourceId") (string resource)
+    (member (codes "vimConnectionId") (string vim) no_members))
 
 -- that of an item
 abbrev pub handle : Held → Data
@@ -93,7 +95,8 @@ aspect_levels d h = map level_of (zip d.aspects h.levels)
 
 -- the level of an aspect (SOL 003 5.5.2.2, scaleStatus)
 abbrev pub scale_info : AspectLevel → Data
-scale_info x = object (member (codes "aspectId") (string x.aspect) (member (codes "scaleLevel") (number (unsigned x.level)) no_members))
+scale_info x = object (member (codes "aspectId") (string x.aspect)
+    (member (codes "scaleLevel") (number (unsigned x.level)) no_members))
 
 -- whether the instance is started (SOL 003 5.5.2.2, vnfState)
 abbrev pub vnf_state : Bool → List ℕ

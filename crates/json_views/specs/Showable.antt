@@ -1,4 +1,5 @@
--- The rows of a legal history can be shown (own rule over SOL 003 5.4.2.3.2 and 5.4.3.3.2, GET on VNF instances and on one).
+-- The rows of a legal history can be shown (own rule over SOL 003 5.4.2.3.2 and 5.4.3.3.2, GET on VNF instances and on
+-- one).
 use Rattle.std.specs.Prelude.{List, Some, ℕ, is_some, length, true, ◌<◌, ◌≡◌}
 use Rattle.lcm_events.specs.declared.events.Event.{Event}
 use Rattle.lcm_model.specs.Allowed.{IsLegalWithin}
@@ -24,4 +25,5 @@ pub record CanAllBeShown (rs : Rows) (H : List Event) : Type 0 where
 -- the rows of a legal history can be shown, while identifiers can carry the numbers of its events (own rule)
 abbrev pub LegalRowsCanBeShown : Type 0
 LegalRowsCanBeShown =
-    (width m : ℕ) (H : List Event) (rs : Rows) → length H < 4611686018427387903 → IsLegalWithin width m H → StandsFor rs H → CanAllBeShown rs H
+    (width m : ℕ) (H : List Event) (rs : Rows) → length H < 4611686018427387903 → IsLegalWithin width m H
+    → StandsFor rs H → CanAllBeShown rs H

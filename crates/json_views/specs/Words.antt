@@ -9,7 +9,8 @@ use Rattle.lcm_events.specs.declared.asks.StopType.TheVariants as stops
 use Rattle.lcm_events.specs.declared.changes.Verb.{Verb}
 use Rattle.lcm_events.specs.declared.changes.Verb.TheVariants.{Create, Remove, Start, Stop}
 use Rattle.lcm_events.specs.declared.states.OpState.{OpState}
-use Rattle.lcm_events.specs.declared.states.OpState.TheVariants.{Completed, Failed, FailedTemp, Processing, RolledBack, RollingBack, Starting}
+use Rattle.lcm_events.specs.declared.states.OpState.TheVariants.{Completed, Failed, FailedTemp, Processing, RolledBack}
+use Rattle.lcm_events.specs.declared.states.OpState.TheVariants.{RollingBack, Starting}
 
 -- the kind of an operation (SOL 003 5.5.4, LcmOperationType)
 abbrev pub operation_word : Ask → List ℕ

@@ -4,7 +4,8 @@ ghost use Rattle.serde_json.specs.Data.{put as with_member, string};
 ghost use Rattle.serde_json.specs.View.{members_view, view};
 ghost use Rattle.lcm_events.specs.Same.{same_kind};
 ghost use Rattle.lcm_events.specs.declared.changes.DefKind.TheVariants.{Compute, Link, Storage};
-ghost use Rattle.json_views.specs.Affected.{affected, affected_link, affected_machine, affected_storage, changes_value, is_made, made_at, resource_changes, used_handle, used_once_made};
+ghost use Rattle.json_views.specs.Affected.{affected, affected_link, affected_machine, affected_storage, changes_value};
+ghost use Rattle.json_views.specs.Affected.{is_made, made_at, resource_changes, used_handle, used_once_made};
 ghost use Rattle.json_views.specs.Words.{change_word};
 
 use crate::members::{Shows, put_array, put_text};
@@ -114,7 +115,8 @@ fn put_used(
     name: &str,
     affected: &Affected,
 ) -> Result<(), AllocError>
-    ensures { OnOk result (members_view members.new.entries ≡ with_member name.now (used_handle affected.now) (members_view members.old.entries)) }
+    ensures { OnOk result (members_view members.new.entries
+        ≡ with_member name.now (used_handle affected.now) (members_view members.old.entries)) }
 {
     let used = &affected.used;
     let resource = handle_of(alloc, &used.resource, &used.place)?;
@@ -127,7 +129,9 @@ fn put_change(
     alloc: Global,
     affected: &Affected,
 ) -> Result<(), AllocError>
-    ensures { OnOk result (members_view members.new.entries ≡ with_member (codes "changeType") (string (change_word affected.now.change.verb)) (members_view members.old.entries)) }
+    ensures { OnOk result (members_view members.new.entries
+        ≡ with_member (codes "changeType") (string (change_word affected.now.change.verb))
+        (members_view members.old.entries)) }
 {
     put_text(
         members,

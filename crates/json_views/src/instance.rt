@@ -6,7 +6,8 @@ ghost use Rattle.vnfm_base.specs.Ident.{IsIdentNumber, ident, ident_text};
 ghost use Rattle.vnfm_base.specs.Text.{IsLine};
 ghost use Rattle.held_items.specs.Items.{AreInOrder};
 ghost use Rattle.instance_table.specs.Rows.{row_with, unheld};
-ghost use Rattle.json_views.specs.Instance.{created_text, instance_id, instance_path, instance_text, instance_value, instantiation_state};
+ghost use Rattle.json_views.specs.Instance.{created_text, instance_id, instance_path, instance_text, instance_value};
+ghost use Rattle.json_views.specs.Instance.{instantiation_state};
 ghost use Rattle.json_views.specs.Links.{links};
 ghost use Rattle.json_views.specs.Made.{needed_members, with_product};
 
@@ -60,8 +61,8 @@ pub fn instance_path(alloc: Global, manager: u32, n: u64) -> Result<String, Allo
     Ok(path)
 }
 
-/// The whole view of instance `n`, whose row is this, as its descriptor has it. The time is linear in what stands, times the
-/// logarithm of that for each storage.
+/// The whole view of instance `n`, whose row is this, as its descriptor has it. The time is linear in what stands,
+/// times the logarithm of that for each storage.
 ///
 /// Condition: `n` is from 1 to 2^62 - 1; what stands is in order of definition.
 /// Source: SOL 003 5.5.2.2 (VnfInstance).
@@ -82,7 +83,8 @@ pub fn instance_view(
     Ok(Bytes::of_vec(text))
 }
 
-/// The view of instance `n`, which was just created with this body: that of its row. What product it is its descriptor says.
+/// The view of instance `n`, which was just created with this body: that of its row. What product it is its descriptor
+/// says.
 ///
 /// Condition: `n` is from 1 to 2^62 - 1.
 /// Source: SOL 003 5.5.2.2 (VnfInstance).
@@ -103,7 +105,12 @@ pub fn created_view(
 
 /// The row of instance `n`, which was created with this body, and of which nothing stands.
 fn idle_row(alloc: Global, n: u64, instance: &CreateBody) -> Result<InstanceRow, AllocError>
-    ensures { IfOk result (λ row. row ≡ row_with (record { instance = n; vnfd = instance.now.vnfd; name = instance.now.name; text = instance.now.text }) unheld) }
+    ensures { IfOk result (λ row. row ≡ row_with (record {
+      instance = n;
+      vnfd = instance.now.vnfd;
+      name = instance.now.name;
+      text = instance.now.text;
+    }) unheld) }
 {
     let text = match &instance.text {
         Some(text) => Some(text.clone()?),
@@ -149,7 +156,8 @@ fn instance_members(
 ) -> Result<Map<String, Value>, AllocError>
     requires number { IsIdentNumber n }
     requires order { AreInOrder row.now.holding.items }
-    ensures { IfOk result (λ members. object (members_view members.entries) ≡ instance_value manager n row.now vnfd.now) }
+    ensures { IfOk result (λ members. object (members_view members.entries)
+        ≡ instance_value manager n row.now vnfd.now) }
 {
     let mut members = needed_members(alloc, manager, n, row, vnfd)?;
     let info = info_where(alloc, vnfd, &row.holding)?;
@@ -168,7 +176,9 @@ fn needed_members(
     vnfd: &Vnfd,
 ) -> Result<Map<String, Value>, AllocError>
     requires { IsIdentNumber n }
-    ensures { IfOk result (λ members. members_view members.entries ≡ needed_members (instance_id manager n) (links row.now.holding.instantiated (instance_path manager n)) row.now.holding.instantiated row.now.vnfd vnfd.now) }
+    ensures { IfOk result (λ members. members_view members.entries
+        ≡ needed_members (instance_id manager n) (links row.now.holding.instantiated (instance_path manager n))
+        row.now.holding.instantiated row.now.vnfd vnfd.now) }
 {
     let instantiated = row.holding.instantiated;
     let id = instance_id(alloc, manager, n)?;
@@ -210,7 +220,8 @@ fn put_product(
     alloc: Global,
     vnfd: &Vnfd,
 ) -> Result<(), AllocError>
-    ensures { OnOk result (members_view members.new.entries ≡ with_product vnfd.now (members_view members.old.entries)) }
+    ensures { OnOk result (members_view members.new.entries
+        ≡ with_product vnfd.now (members_view members.old.entries)) }
 {
     put_text(members, alloc, "vnfProductName", vnfd.product_name.as_str())?;
     put_text(members, alloc, "vnfProvider", vnfd.provider.as_str())?;

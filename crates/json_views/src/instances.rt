@@ -10,11 +10,11 @@ use serde_json::Value;
 use std::alloc::{AllocError, Global};
 use vnfm_base::Bytes;
 
-/// The views of all live instances, in the order of their numbers, each with the descriptor that its row names. The time is linear in
-/// what is told, but for the search of each row's descriptor among at most 256.
+/// The views of all live instances, in the order of their numbers, each with the descriptor that its row names. The
+/// time is linear in what is told, but for the search of each row's descriptor among at most 256.
 ///
-/// Condition: each row has a number of an identifier and a descriptor that was onboarded, and what stands of it is in order of
-/// definition, as `legal_rows_can_be_shown` says of the rows of each legal history.
+/// Condition: each row has a number of an identifier and a descriptor that was onboarded, and what stands of it is in
+/// order of definition, as `legal_rows_can_be_shown` says of the rows of each legal history.
 /// Source: SOL 003 5.4.2.3.2 (GET on VNF instances).
 #[tactic(auto, unfolding(crate::specs::Instances::instances_text))]
 pub fn instances_view(

@@ -3,15 +3,16 @@ ghost use Rattle.json_views.specs.Moments.{AreMomentTexts, AreTextsOfMoments};
 ghost use Rattle.json_views.specs.Occurrences.{LegalOccurrencesCanBeShown};
 ghost use Rattle.json_views.specs.Showable.{LegalRowsCanBeShown};
 
-/// The rows of a legal history can be shown: all of them by `instances_view`, and each that is found by its number by `instance_view`,
-/// with the descriptor that it names.
+/// The rows of a legal history can be shown: all of them by `instances_view`, and each that is found by its number by
+/// `instance_view`, with the descriptor that it names.
 ///
 /// Source: own rule.
 pub fn legal_rows_can_be_shown()
     ensures { LegalRowsCanBeShown }
 {}
 
-/// The occurrences of a legal history can be shown: all of them by `occurrences_view`, and each that is found by its number by
+/// The occurrences of a legal history can be shown: all of them by `occurrences_view`, and each that is found by its
+/// number by
 /// `occurrence_view`, with the descriptor that its row names.
 ///
 /// Source: own rule.

@@ -67,7 +67,8 @@ pub fn put_link(
     name: &str,
     path: &str,
 ) -> Result<(), AllocError>
-    ensures { OnOk result (members_view members.new.entries ≡ with_member name.now (link path.now) (members_view members.old.entries)) }
+    ensures { OnOk result (members_view members.new.entries
+        ≡ with_member name.now (link path.now) (members_view members.old.entries)) }
 {
     let link = link_value(alloc, path)?;
     put(members, alloc, name, link)
@@ -81,7 +82,8 @@ pub fn put_task(
     path: &str,
     task: &str,
 ) -> Result<(), AllocError>
-    ensures { OnOk result (members_view members.new.entries ≡ with_member name.now (task_link path.now task.now) (members_view members.old.entries)) }
+    ensures { OnOk result (members_view members.new.entries
+        ≡ with_member name.now (task_link path.now task.now) (members_view members.old.entries)) }
 {
     let link = task_link(alloc, path, task)?;
     put(members, alloc, name, link)

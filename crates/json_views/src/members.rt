@@ -16,7 +16,8 @@ pub fn put_name_where(
     name: &str,
     value: &Option<Name>,
 ) -> Result<(), AllocError>
-    ensures { OnOk result (members_view members.new.entries ≡ put_where name.now (option_map string value.now) (members_view members.old.entries)) }
+    ensures { OnOk result (members_view members.new.entries
+        ≡ put_where name.now (option_map string value.now) (members_view members.old.entries)) }
 {
     match value {
         Some(value) => put_text(members, alloc, name, value.as_str()),
@@ -31,7 +32,8 @@ pub fn put_line_where(
     name: &str,
     value: &Option<Line>,
 ) -> Result<(), AllocError>
-    ensures { OnOk result (members_view members.new.entries ≡ put_where name.now (option_map string value.now) (members_view members.old.entries)) }
+    ensures { OnOk result (members_view members.new.entries
+        ≡ put_where name.now (option_map string value.now) (members_view members.old.entries)) }
 {
     match value {
         Some(value) => put_text(members, alloc, name, value.as_str()),
@@ -46,7 +48,8 @@ pub fn put_where(
     name: &str,
     value: Option<Value>,
 ) -> Result<(), AllocError>
-    ensures { OnOk result (members_view members.new.entries ≡ put_where name.now (option_map view value) (members_view members.old.entries)) }
+    ensures { OnOk result (members_view members.new.entries
+        ≡ put_where name.now (option_map view value) (members_view members.old.entries)) }
 {
     match value {
         Some(value) => put(members, alloc, name, value),
@@ -103,7 +106,9 @@ pub fn put_array<T, S: Shows<T>>(
 ) -> Result<(), AllocError>
     requires ready { S.IsReady shows.now }
     requires each { All (S.MayShow shows.now) entries.now }
-    ensures { OnOk result (members_view members.new.entries ≡ with_member name.now (array_of (S.shown shows.now) (filter (S.has shows.now) entries.now)) (members_view members.old.entries)) }
+    ensures { OnOk result (members_view members.new.entries
+        ≡ with_member name.now (array_of (S.shown shows.now) (filter (S.has shows.now) entries.now))
+        (members_view members.old.entries)) }
 {
     let value = array_of(alloc, entries, shows)?;
     put(members, alloc, name, value)
@@ -116,7 +121,8 @@ fn values_of<T, S: Shows<T>>(
 ) -> Result<Vec<Value>, AllocError>
     requires ready { S.IsReady shows.now }
     requires each { All (S.MayShow shows.now) entries.now }
-    ensures { IfOk result (λ values. map view values.items ≡ map (S.shown shows.now) (filter (S.has shows.now) entries.now)) }
+    ensures { IfOk result (λ values. map view values.items
+        ≡ map (S.shown shows.now) (filter (S.has shows.now) entries.now)) }
 {
     let mut values = Vec::new(alloc);
     for entry in entries {

@@ -8,7 +8,8 @@ ghost use Rattle.json_bodies.specs.Words.{cancel_word};
 ghost use Rattle.json_views.specs.Instance.{instance_id, instance_path};
 ghost use Rattle.json_views.specs.MadeOccurrence.{occurrence_members, with_moments, with_operation};
 ghost use Rattle.json_views.specs.Moments.{moment_text};
-ghost use Rattle.json_views.specs.Occurrence.{error_where, occurrence_id, occurrence_links, occurrence_path, occurrence_shown, occurrence_text, occurrence_value};
+ghost use Rattle.json_views.specs.Occurrence.{error_where, occurrence_id, occurrence_links, occurrence_path};
+ghost use Rattle.json_views.specs.Occurrence.{occurrence_shown, occurrence_text, occurrence_value};
 ghost use Rattle.json_views.specs.Affected.{resource_changes};
 ghost use Rattle.json_views.specs.Params.{params};
 ghost use Rattle.json_views.specs.Words.{operation_word};
@@ -54,7 +55,8 @@ pub fn occurrence_path(alloc: Global, manager: u32, n: u64) -> Result<String, Al
     Ok(path)
 }
 
-/// The whole view of occurrence `n`, whose row is this, as the descriptor of its instance has it. The time is linear in its changes.
+/// The whole view of occurrence `n`, whose row is this, as the descriptor of its instance has it. The time is linear in
+/// its changes.
 ///
 /// Condition: `n` and the number of the instance are from 1 to 2^62 - 1.
 /// Source: SOL 003 5.5.2.13 (VnfLcmOpOcc).
@@ -150,7 +152,8 @@ fn all_members(
 ) -> Result<Map<String, Value>, AllocError>
     requires number { IsIdentNumber n }
     requires instance { IsIdentNumber row.now.instance }
-    ensures { IfOk result (λ members. object (members_view members.entries) ≡ occurrence_value manager n row.now vnfd.now start.now entered.now) }
+    ensures { IfOk result (λ members. object (members_view members.entries)
+        ≡ occurrence_value manager n row.now vnfd.now start.now entered.now) }
 {
     let mut members = occurrence_members(alloc, manager, n, row, vnfd, start, entered)?;
     let grant = grant_where(alloc, &row.grant)?;
@@ -195,7 +198,11 @@ fn occurrence_members(
 ) -> Result<Map<String, Value>, AllocError>
     requires number { IsIdentNumber n }
     requires instance { IsIdentNumber row.now.instance }
-    ensures { IfOk result (λ members. members_view members.entries ≡ occurrence_members (occurrence_id manager n) (object (occurrence_links row.now.state row.now.ask (occurrence_path manager n) (instance_path manager row.now.instance))) (instance_id manager row.now.instance) row.now vnfd.now start.now entered.now) }
+    ensures { IfOk result (λ members. members_view members.entries
+        ≡ occurrence_members (occurrence_id manager n) (object
+        (occurrence_links row.now.state row.now.ask (occurrence_path manager n)
+        (instance_path manager row.now.instance))) (instance_id manager row.now.instance) row.now vnfd.now start.now
+        entered.now) }
 {
     let mut members = Map::new(alloc);
     put_identity(&mut members, alloc, manager, n, row)?;
@@ -216,8 +223,12 @@ fn put_identity(
 ) -> Result<(), AllocError>
     requires number { IsIdentNumber n }
     requires instance { IsIdentNumber row.now.instance }
-    ensures { OnOk result (members_view members.new.entries ≡ with_member (codes "isCancelPending") (boolean (is_some row.now.cancel)) (with_member (codes "isAutomaticInvocation") (boolean false)
-        (with_member (codes "id") (string (occurrence_id manager n)) (with_member (codes "_links") (object (occurrence_links row.now.state row.now.ask (occurrence_path manager n) (instance_path manager row.now.instance))) (members_view members.old.entries))))) }
+    ensures { OnOk result (members_view members.new.entries
+        ≡ with_member (codes "isCancelPending") (boolean (is_some row.now.cancel))
+        (with_member (codes "isAutomaticInvocation") (boolean false)
+        (with_member (codes "id") (string (occurrence_id manager n))
+        (with_member (codes "_links") (object (occurrence_links row.now.state row.now.ask (occurrence_path manager n)
+        (instance_path manager row.now.instance))) (members_view members.old.entries))))) }
 {
     put_links(members, alloc, manager, n, row)?;
     put_id(members, alloc, manager, n)?;
@@ -235,7 +246,8 @@ fn put_id(
     n: u64,
 ) -> Result<(), AllocError>
     requires { IsIdentNumber n }
-    ensures { OnOk result (members_view members.new.entries ≡ with_member (codes "id") (string (occurrence_id manager n)) (members_view members.old.entries)) }
+    ensures { OnOk result (members_view members.new.entries
+        ≡ with_member (codes "id") (string (occurrence_id manager n)) (members_view members.old.entries)) }
 {
     let id = occurrence_id(alloc, manager, n)?;
     put_text(members, alloc, "id", id.as_str())
@@ -249,7 +261,9 @@ fn put_instance(
     instance: u64,
 ) -> Result<(), AllocError>
     requires { IsIdentNumber instance }
-    ensures { OnOk result (members_view members.new.entries ≡ with_member (codes "vnfInstanceId") (string (instance_id manager instance)) (members_view members.old.entries)) }
+    ensures { OnOk result (members_view members.new.entries
+        ≡ with_member (codes "vnfInstanceId") (string (instance_id manager instance))
+        (members_view members.old.entries)) }
 {
     let id = instance_id(alloc, manager, instance)?;
     put_text(members, alloc, "vnfInstanceId", id.as_str())
@@ -262,7 +276,9 @@ fn put_changes(
     vnfd: &Vnfd,
     row: &OccRow,
 ) -> Result<(), AllocError>
-    ensures { OnOk result (members_view members.new.entries ≡ with_member (codes "resourceChanges") (resource_changes vnfd.now row.now) (members_view members.old.entries)) }
+    ensures { OnOk result (members_view members.new.entries
+        ≡ with_member (codes "resourceChanges") (resource_changes vnfd.now row.now)
+        (members_view members.old.entries)) }
 {
     let changes = resource_changes(alloc, vnfd, row)?;
     put(members, alloc, "resourceChanges", changes)
@@ -278,7 +294,9 @@ fn put_links(
 ) -> Result<(), AllocError>
     requires number { IsIdentNumber n }
     requires instance { IsIdentNumber row.now.instance }
-    ensures { OnOk result (members_view members.new.entries ≡ with_member (codes "_links") (object (occurrence_links row.now.state row.now.ask (occurrence_path manager n) (instance_path manager row.now.instance))) (members_view members.old.entries)) }
+    ensures { OnOk result (members_view members.new.entries
+        ≡ with_member (codes "_links") (object (occurrence_links row.now.state row.now.ask (occurrence_path manager n)
+        (instance_path manager row.now.instance))) (members_view members.old.entries)) }
 {
     let links = links_value(alloc, manager, n, row)?;
     put(members, alloc, "_links", links)
@@ -288,7 +306,8 @@ fn put_links(
 fn links_value(alloc: Global, manager: u32, n: u64, row: &OccRow) -> Result<Value, AllocError>
     requires number { IsIdentNumber n }
     requires instance { IsIdentNumber row.now.instance }
-    ensures { IfOk result (λ value. view value ≡ object (occurrence_links row.now.state row.now.ask (occurrence_path manager n) (instance_path manager row.now.instance))) }
+    ensures { IfOk result (λ value. view value ≡ object (occurrence_links row.now.state row.now.ask
+        (occurrence_path manager n) (instance_path manager row.now.instance))) }
 {
     let path = occurrence_path(alloc, manager, n)?;
     let instance = instance_path(alloc, manager, row.instance)?;
@@ -297,7 +316,8 @@ fn links_value(alloc: Global, manager: u32, n: u64, row: &OccRow) -> Result<Valu
 
 /// The links of an occurrence at this path, whose instance is at that one.
 fn links_of(alloc: Global, row: &OccRow, path: &str, instance: &str) -> Result<Value, AllocError>
-    ensures { IfOk result (λ value. view value ≡ object (occurrence_links row.now.state row.now.ask path.now instance.now)) }
+    ensures { IfOk result (λ value. view value ≡ object (occurrence_links row.now.state row.now.ask
+        path.now instance.now)) }
 {
     let ask = row.ask.unpack(alloc)?;
     let links = links_by_state(alloc, row.state, &ask, path, instance)?;
@@ -311,7 +331,8 @@ fn put_operation(
     vnfd: &Vnfd,
     row: &OccRow,
 ) -> Result<(), AllocError>
-    ensures { OnOk result (members_view members.new.entries ≡ with_operation vnfd.now row.now (members_view members.old.entries)) }
+    ensures { OnOk result (members_view members.new.entries
+        ≡ with_operation vnfd.now row.now (members_view members.old.entries)) }
 {
     let ask = row.ask.unpack(alloc)?;
     put_ask(members, alloc, vnfd, &ask)?;
@@ -325,7 +346,9 @@ fn put_ask(
     vnfd: &Vnfd,
     ask: &Ask,
 ) -> Result<(), AllocError>
-    ensures { OnOk result (members_view members.new.entries ≡ with_member (codes "operationParams") (object (params vnfd.now ask.now)) (with_member (codes "operation") (string (operation_word ask.now)) (members_view members.old.entries))) }
+    ensures { OnOk result (members_view members.new.entries
+        ≡ with_member (codes "operationParams") (object (params vnfd.now ask.now))
+        (with_member (codes "operation") (string (operation_word ask.now)) (members_view members.old.entries))) }
 {
     put_text(members, alloc, "operation", operation_word(ask))?;
     let params = params_value(alloc, vnfd, ask)?;
@@ -339,7 +362,8 @@ fn put_moments(
     start: &str,
     entered: &str,
 ) -> Result<(), AllocError>
-    ensures { OnOk result (members_view members.new.entries ≡ with_moments start.now entered.now (members_view members.old.entries)) }
+    ensures { OnOk result (members_view members.new.entries
+        ≡ with_moments start.now entered.now (members_view members.old.entries)) }
 {
     put_text(members, alloc, "startTime", start)?;
     put_text(members, alloc, "stateEnteredTime", entered)

@@ -2,7 +2,8 @@
 ghost use Rattle.std.specs.Prelude.{◌≡◌, IfOk, OnOk, option_map};
 ghost use Rattle.serde_json.specs.View.{members_view, view};
 ghost use Rattle.lcm_model.specs.Refusals.{is_terminate};
-ghost use Rattle.json_views.specs.Occurrence.{active_links, ended_links, occurrence_links, rollback_where, stopped_links};
+ghost use Rattle.json_views.specs.Occurrence.{active_links, ended_links, occurrence_links, rollback_where};
+ghost use Rattle.json_views.specs.Occurrence.{stopped_links};
 
 use crate::links::{put_link, put_task, task_link};
 use crate::members::put_where;
@@ -20,7 +21,8 @@ pub fn links_by_state(
     path: &str,
     instance: &str,
 ) -> Result<Map<String, Value>, AllocError>
-    ensures { IfOk result (λ members. members_view members.entries ≡ occurrence_links state ask.now path.now instance.now) }
+    ensures { IfOk result (λ members. members_view members.entries
+        ≡ occurrence_links state ask.now path.now instance.now) }
 {
     match state {
         OpState::Starting | OpState::Processing | OpState::RollingBack => {

@@ -1,7 +1,8 @@
 //! The view of the occurrences, of the greatest numbers.
 ghost use Rattle.std.specs.Prelude.{◌≡◌, ◌<◌, IfOk, length, map, option_copied, slice_get};
 ghost use Rattle.serde_json.specs.View.{view};
-ghost use Rattle.json_views.specs.Occurrences.{AreOfLegal, CanOccurrencesBeShown, IsOccurrenceShowable, occurrence_row, occurrences_listed, occurrences_text, occurrences_value};
+ghost use Rattle.json_views.specs.Occurrences.{AreOfLegal, CanOccurrencesBeShown, IsOccurrenceShowable, occurrence_row};
+ghost use Rattle.json_views.specs.Occurrences.{occurrences_listed, occurrences_text, occurrences_value};
 
 use crate::occurrence::occurrence_shown;
 use instance_table::InstanceTable;
@@ -13,10 +14,12 @@ use vnfm_base::Bytes;
 /// Occurrences that a list shows at most, of those with the greatest numbers.
 pub const MAX_LISTED: u64 = 10_000;
 
-/// The views of the occurrences of the 10,000 greatest numbers, in the order of their numbers, each with the descriptor that its row
-/// names. The time is linear in what is told, but for the search of each row's descriptor among at most 256.
+/// The views of the occurrences of the 10,000 greatest numbers, in the order of their numbers, each with the descriptor
+/// that its row names. The time is linear in what is told, but for the search of each row's descriptor among at most
+/// 256.
 ///
-/// Condition: the tables are those of a legal history, each number is one of an identifier, and each descriptor was onboarded, as
+/// Condition: the tables are those of a legal history, each number is one of an identifier, and each descriptor was
+/// onboarded, as
 /// `legal_occurrences_can_be_shown` says of the tables of each legal history.
 /// Source: SOL 003 5.4.12.3.2 (GET on VNF LCM operation occurrences); the limit is an own one, docs/FORMATS.md.
 #[tactic(auto, unfolding(crate::specs::Occurrences::occurrences_text))]
@@ -54,7 +57,8 @@ fn occurrences_listed(
     occurrences: &OccTable,
 ) -> Result<Vec<Value>, AllocError>
     requires { CanOccurrencesBeShown instances.now.rows occurrences.now.rows }
-    ensures { IfOk result (λ values. map view values.items ≡ occurrences_listed manager instances.now.rows occurrences.now.rows) }
+    ensures { IfOk result (λ values. map view values.items
+        ≡ occurrences_listed manager instances.now.rows occurrences.now.rows) }
 {
     let made = made_in(occurrences);
     let mut values = Vec::new(alloc);

@@ -4,7 +4,8 @@ ghost use Rattle.serde_json.specs.View.{members_view, view};
 ghost use Rattle.serde_json.specs.Data.{object};
 ghost use Rattle.lcm_events.specs.declared.asks.Aim.TheVariants.{Aspects, Level};
 ghost use Rattle.json_views.specs.Views.{put_where};
-ghost use Rattle.json_views.specs.Params.{aim_params, heal_params, instantiate_params, machine_value, named_where, operate_params, params, scale_params, stop_where, terminate_params};
+ghost use Rattle.json_views.specs.Params.{aim_params, heal_params, instantiate_params, machine_value, named_where};
+ghost use Rattle.json_views.specs.Params.{operate_params, params, scale_params, stop_where, terminate_params};
 
 use crate::members::{
     Shows, put_array, put_line_where, put_name_where, put_text, put_where, text_value,
@@ -118,7 +119,8 @@ fn put_named(
     vnfd: &Vnfd,
     named: &[Vnfc],
 ) -> Result<(), AllocError>
-    ensures { OnOk result (members_view members.new.entries ≡ put_where (codes "vnfcInstanceId") (named_where vnfd.now named.now) (members_view members.old.entries)) }
+    ensures { OnOk result (members_view members.new.entries
+        ≡ put_where (codes "vnfcInstanceId") (named_where vnfd.now named.now) (members_view members.old.entries)) }
 {
     if named.is_empty() {
         Ok(())
@@ -146,7 +148,8 @@ fn put_stop(
     alloc: Global,
     stop: Option<StopType>,
 ) -> Result<(), AllocError>
-    ensures { OnOk result (members_view members.new.entries ≡ put_where (codes "stopType") (stop_where stop) (members_view members.old.entries)) }
+    ensures { OnOk result (members_view members.new.entries
+        ≡ put_where (codes "stopType") (stop_where stop) (members_view members.old.entries)) }
 {
     match stop {
         Some(stop) => put_text(members, alloc, "stopType", stop_word(stop)),

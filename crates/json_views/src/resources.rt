@@ -6,7 +6,9 @@ ghost use Rattle.held_items.specs.Items.{AreInOrder};
 ghost use Rattle.lcm_model.specs.Vnfcs.{storages_of};
 ghost use Rattle.lcm_events.specs.declared.changes.DefKind.TheVariants.{Compute, Link, Storage};
 ghost use Rattle.json_views.specs.Views.{array_of};
-ghost use Rattle.json_views.specs.Resources.{aspect_levels, compute_info, handle, info_where, instantiated_info, link_info, link_name, machine_id, scale_info, standing, standing_storages, storage_id, storage_info, storage_name, vdu_name, vnf_state};
+ghost use Rattle.json_views.specs.Resources.{aspect_levels, compute_info, handle, info_where, instantiated_info};
+ghost use Rattle.json_views.specs.Resources.{link_info, link_name, machine_id, scale_info, standing, standing_storages};
+ghost use Rattle.json_views.specs.Resources.{storage_id, storage_info, storage_name, vdu_name, vnf_state};
 
 use crate::members::{put_array, put_text};
 use crate::rows::{Computes, Levels, Links, Storages};
@@ -82,7 +84,9 @@ fn put_levels(
     vnfd: &Vnfd,
     holding: &Holding,
 ) -> Result<(), AllocError>
-    ensures { OnOk result (members_view members.new.entries ≡ with_member (codes "scaleStatus") (array_of scale_info (aspect_levels vnfd.now holding.now)) (members_view members.old.entries)) }
+    ensures { OnOk result (members_view members.new.entries
+        ≡ with_member (codes "scaleStatus") (array_of scale_info (aspect_levels vnfd.now holding.now))
+        (members_view members.old.entries)) }
 {
     let levels = aspect_levels(alloc, vnfd, holding)?;
     put_array(members, alloc, "scaleStatus", levels.as_slice(), &Levels {})

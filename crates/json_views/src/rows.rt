@@ -7,7 +7,8 @@ ghost use Rattle.lcm_events.specs.Same.{same_kind};
 ghost use Rattle.lcm_events.specs.declared.changes.DefKind.TheVariants.{Compute, Link, Storage};
 ghost use Rattle.lcm_model.specs.Vnfcs.{def_of, storages_of};
 ghost use Rattle.json_views.specs.Views.{array_of};
-ghost use Rattle.json_views.specs.Resources.{compute_info, handle, handle_of, link_info, link_name, machine_id, scale_info, storage_id, storage_ids, storage_info, storage_name, vdu_name};
+ghost use Rattle.json_views.specs.Resources.{compute_info, handle, handle_of, link_info, link_name, machine_id};
+ghost use Rattle.json_views.specs.Resources.{scale_info, storage_id, storage_ids, storage_info, storage_name, vdu_name};
 
 use crate::members::{Shows, put_array, put_text, text_value};
 use held_items::find;
@@ -90,7 +91,8 @@ fn put_handle(
     name: &str,
     item: &Held,
 ) -> Result<(), AllocError>
-    ensures { OnOk result (members_view members.new.entries ≡ with_member name.now (handle item.now) (members_view members.old.entries)) }
+    ensures { OnOk result (members_view members.new.entries
+        ≡ with_member name.now (handle item.now) (members_view members.old.entries)) }
 {
     let handle = handle_of(alloc, &item.resource, &item.place)?;
     put(members, alloc, name, handle)
@@ -103,7 +105,9 @@ pub fn put_machine_id(
     vnfd: &Vnfd,
     def: &Def,
 ) -> Result<(), AllocError>
-    ensures { OnOk result (members_view members.new.entries ≡ with_member (codes "id") (string (machine_id vnfd.now def.now.vdu def.now.serial)) (members_view members.old.entries)) }
+    ensures { OnOk result (members_view members.new.entries
+        ≡ with_member (codes "id") (string (machine_id vnfd.now def.now.vdu def.now.serial))
+        (members_view members.old.entries)) }
 {
     let id = machine_id(alloc, vnfd, def.vdu, def.serial)?;
     put_text(members, alloc, "id", id.as_str())
@@ -116,7 +120,9 @@ pub fn put_storage_id(
     vnfd: &Vnfd,
     def: &Def,
 ) -> Result<(), AllocError>
-    ensures { OnOk result (members_view members.new.entries ≡ with_member (codes "id") (string (storage_id vnfd.now def.now.vdu def.now.serial def.now.item)) (members_view members.old.entries)) }
+    ensures { OnOk result (members_view members.new.entries
+        ≡ with_member (codes "id") (string (storage_id vnfd.now def.now.vdu def.now.serial def.now.item))
+        (members_view members.old.entries)) }
 {
     let id = storage_id(alloc, vnfd, def.vdu, def.serial, def.item)?;
     put_text(members, alloc, "id", id.as_str())
@@ -248,7 +254,9 @@ fn put_storage_ids(
     machine: &Def,
 ) -> Result<(), AllocError>
     requires { AreInOrder holding.now.items }
-    ensures { OnOk result (members_view members.new.entries ≡ with_member (codes "storageResourceIds") (storage_ids vnfd.now holding.now machine.now.vdu machine.now.serial) (members_view members.old.entries)) }
+    ensures { OnOk result (members_view members.new.entries
+        ≡ with_member (codes "storageResourceIds") (storage_ids vnfd.now holding.now machine.now.vdu machine.now.serial)
+        (members_view members.old.entries)) }
 {
     let (vdu, serial) = (machine.vdu, machine.serial);
     let ids = StorageIds {

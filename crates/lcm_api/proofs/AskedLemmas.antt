@@ -48,7 +48,8 @@ low_phase Start kind = omega arith
 low_phase Stop kind = omega arith
 
 -- the changes of a plan keep the format's rules, where their numbers are within their types
-changes_keep : PlansAreExact → (p : Case) (xs : List Change) → ((x : Change) → IsIn x xs → IsIn x (plan p)) → AllByRecursion TypedChange xs → AllByRecursion IsChange xs
+changes_keep : PlansAreExact → (p : Case) (xs : List Change) → ((x : Change) → IsIn x xs → IsIn x (plan p)) → AllByRecursion TypedChange xs
+    → AllByRecursion IsChange xs
 changes_keep exact p [] among typed = tt
 changes_keep exact p (x ∷ xs) among typed =
     let is = ((exact p x).0 (among x (inl refl))).0 in
@@ -66,7 +67,8 @@ typed_ask (Operate started stop) is = is
 typed_ask (Terminate mode timeout) is = is
 
 -- the operation that is asked for may be
-may_ask : (H : List Event) (i : ℕ) (role : Role) (ask : Ask) (d : Vnfd) → IsJudged H i ask d None → MayAsk H (operation_asked H i role ask d)
+may_ask : (H : List Event) (i : ℕ) (role : Role) (ask : Ask) (d : Vnfd) → IsJudged H i ask d None
+    → MayAsk H (operation_asked H i role ask d)
 may_ask H i role ask d judged = record {
   number = refl;
   live = judged.live;
@@ -74,19 +76,31 @@ may_ask H i role ask d judged = record {
 }
 
 -- an ask that nothing refuses may be recorded, and its event fits a record
-pub asks : AskedEventsFitRecords → PlansAreExact → PlansAreSmall → (m : Managed) (H : List Event) (now i : ℕ) (role : Role) (ask : Ask) (d : Vnfd) (last : Bool) (reply : Reply) (event : Event)
-    → IsLegal m.ledger.manager H → IsJudged H i ask d None → (TypedAsk ask → IsAsk ask) → NamesFew ask → event ≡ asking now (operation_asked H i role ask d)
-    → reply ≡ accepted m.ledger.manager (occurrences_made H + 1) last → IsPlanned (ask_described m.ledger.manager H now role i ask last (descriptor H i)) m H (Records event reply)
+pub asks : AskedEventsFitRecords → PlansAreExact → PlansAreSmall
+    → (m : Managed) (H : List Event) (now i : ℕ) (role : Role) (ask : Ask) (d : Vnfd) (last : Bool) (reply : Reply) (event : Event)
+    → IsLegal m.ledger.manager H → IsJudged H i ask d None → (TypedAsk ask → IsAsk ask) → NamesFew ask
+    → event ≡ asking now (operation_asked H i role ask d)
+    → reply ≡ accepted m.ledger.manager (occurrences_made H + 1) last
+    → IsPlanned (ask_described m.ledger.manager H now role i ask last (descriptor H i)) m H (Records event reply)
 asks fit exact small m H now i role ask d last reply event legal judged rules few event_is reply_is =
     let a : Operation = operation_asked H i role ask d in
     let may : MayAsk H a = may_ask H i role ask d judged in
     let allowed : IsAllowed m.ledger.manager H (Asked a) = may in
     let short : length a.changes ≤ 5000 = small window m.ledger.manager (asking now a ∷ H) (allowed, legal) a (inl refl) in
     rw (event_is, reply_is) (
-      ap (ask_described m.ledger.manager H now role i ask last) judged.described ∙ ap (ask_judged m.ledger.manager H now a last) judged.judged,
+      ap (ask_described m.ledger.manager H now role i ask last) judged.described
+          ∙ ap (ask_judged m.ledger.manager H now a last) judged.judged,
       record {
         may = record {
-          rules = λ typed. (typed.0, (typed.1.0, typed.1.1, rules typed.1.2, (omega (arith, short), changes_keep exact (case_in d (situation d H i) ask) a.changes (λ x g. g) typed.1.3)));
+          rules = λ typed. (
+            typed.0,
+            (
+              typed.1.0,
+              typed.1.1,
+              rules typed.1.2,
+              (omega (arith, short), changes_keep exact (case_in d (situation d H i) ask) a.changes (λ x g. g) typed.1.3),
+            ),
+          );
           allowed = allowed;
           unsettled = refl;
         };
@@ -96,6 +110,8 @@ asks fit exact small m H now i role ask d last reply event legal judged rules fe
 
 -- an ask that is refused adds nothing
 pub refuses : (m : Managed) (H : List Event) (now i : ℕ) (role : Role) (ask : Ask) (d : Vnfd) (last : Bool) (why : Refusal) (reply : Reply)
-    → IsJudged H i ask d (Some why) → refused_for why last ≡ told reply → IsPlanned (ask_described m.ledger.manager H now role i ask last (descriptor H i)) m H (Told reply)
+    → IsJudged H i ask d (Some why) → refused_for why last ≡ told reply
+    → IsPlanned (ask_described m.ledger.manager H now role i ask last (descriptor H i)) m H (Told reply)
 refuses m H now i role ask d last why reply judged is =
-    ap (ask_described m.ledger.manager H now role i ask last) judged.described ∙ (ap (ask_judged m.ledger.manager H now (operation_asked H i role ask d) last) judged.judged ∙ is)
+    ap (ask_described m.ledger.manager H now role i ask last) judged.described
+    ∙ (ap (ask_judged m.ledger.manager H now (operation_asked H i role ask d) last) judged.judged ∙ is)

@@ -1,5 +1,6 @@
 -- What an identifier that was read names.
-use Rattle.std.proofs.Common.{◌≡◌, ◌≢◌, ◌==◌, ◌∙◌, ℕ, Bool, true, false, List, [], ◌∷◌, Option, Some, None, ap, refl, sym, inl, inr, ◌⊎◌, IfSome}
+use Rattle.std.proofs.Common.{◌≡◌, ◌≢◌, ◌==◌, ◌∙◌, ℕ, Bool, true, false, List, [], ◌∷◌, Option, Some, None, ap, refl, sym, inl, inr, ◌⊎◌}
+use Rattle.std.proofs.Common.{IfSome}
 use Rattle.std.specs.Prelude.{Decides, find, unwrap_or}
 use Rattle.std.specs.List.{AllByRecursion}
 use Rattle.std.specs.Str.{bytes_eq}
@@ -29,13 +30,17 @@ pub record IsReading (kind : Kind) (m : ℕ) (id : List ℕ) (found : Option ℕ
   pub only : (n : ℕ) → IsIdentNumber n → id ≡ ident_text (ident m kind n) → found ≡ Some n
 
 -- what has a number of the kind has the identifier that was read exactly where that is its number
-pub agrees : (kind : Kind) (m n k : ℕ) (id : List ℕ) → IsReading kind m id (Some n) → IsIdentNumber k → bytes_eq (ident_text (ident m kind k)) id ≡ (k == n)
+pub agrees : (kind : Kind) (m n k : ℕ) (id : List ℕ) → IsReading kind m id (Some n) → IsIdentNumber k
+    → bytes_eq (ident_text (ident m kind k)) id ≡ (k == n)
 agrees kind m n k id reading small = of (eqb_tells k n) (bytes_eq-Decides (ident_text (ident m kind k)) id) where
-  of : (((k == n) ≡ true) × (k ≡ n)) ⊎ (((k == n) ≡ false) × (k ≢ n)) → Decides (bytes_eq (ident_text (ident m kind k)) id) (ident_text (ident m kind k) ≡ id)
+  of : (((k == n) ≡ true) × (k ≡ n)) ⊎ (((k == n) ≡ false) × (k ≢ n))
+      → Decides (bytes_eq (ident_text (ident m kind k)) id) (ident_text (ident m kind k) ≡ id)
       → bytes_eq (ident_text (ident m kind k)) id ≡ (k == n)
   of (inl (same, is)) d = d.1 (ap (λ j. ident_text (ident m kind j)) is ∙ sym reading.has.1) ∙ sym same
   of (inr (other, isnt)) d = of_not _ (λ e. isnt (sym (ap (λ found. unwrap_or found 0) (reading.only k small (sym (d.0 e)))))) ∙ sym other
 
 -- nothing has an identifier that names none
-pub differs : (kind : Kind) (m k : ℕ) (id : List ℕ) → IsReading kind m id None → IsIdentNumber k → bytes_eq (ident_text (ident m kind k)) id ≡ false
-differs kind m k id reading small = of_not _ (λ e. none-some k (reading.only k small (sym ((bytes_eq-Decides (ident_text (ident m kind k)) id).0 e))))
+pub differs : (kind : Kind) (m k : ℕ) (id : List ℕ) → IsReading kind m id None → IsIdentNumber k
+    → bytes_eq (ident_text (ident m kind k)) id ≡ false
+differs kind m k id reading small = of_not _ (λ e. none-some k (reading.only k small
+    (sym ((bytes_eq-Decides (ident_text (ident m kind k)) id).0 e))))

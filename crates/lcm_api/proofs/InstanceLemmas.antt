@@ -1,5 +1,6 @@
 -- The live instance that an identifier names.
-use Rattle.std.proofs.Common.{◌≡◌, ◌≤◌, ◌==◌, ◌∙◌, arith, length, ℕ, Bool, true, false, List, [], ◌∷◌, Option, Some, None, ap, refl, sym, subst}
+use Rattle.std.proofs.Common.{◌≡◌, ◌≤◌, ◌==◌, ◌∙◌, arith, length, ℕ, Bool, true, false, List, [], ◌∷◌, Option, Some, None, ap, refl, sym}
+use Rattle.std.proofs.Common.{subst}
 use Rattle.std.specs.Prelude.{find, option_copied, unwrap_or, if◌then◌else◌}
 use Rattle.std.specs.List.{AllByRecursion}
 use Rattle.std.specs.Str.{bytes_eq}
@@ -19,7 +20,8 @@ use Rattle.executor.specs.Operating.{IsRowOf}
 use Rattle.event_codec.specs.Spell.{spelling, u64}
 use Rattle.http_wire.specs.declared.request.Request.{Request}
 use Rattle.journal_records.specs.declared.limits.TheConstants.{MAX_RECORD}
-use Rattle.lcm_api.specs.Instances.{asked_id, delete_found, delete_instance, delete_judged, deleted, deletion, named_instance, row_text, show_found}
+use Rattle.lcm_api.specs.Instances.{asked_id, delete_found, delete_instance, delete_judged, deleted, deletion, named_instance, row_text}
+use Rattle.lcm_api.specs.Instances.{show_found}
 use Rattle.lcm_api.proofs.IdentLemmas.{IsReading, agrees, differs, find_none, find_same}
 use Rattle.lcm_api.specs.Recording.{IsPlanned}
 use Rattle.lcm_api.specs.Replies.{shown, told}
@@ -31,7 +33,8 @@ use Rattle.lcm_events.specs.declared.events.Event.{Event}
 use Rattle.lcm_model.specs.Lives.{is_live}
 
 -- what stands behind a test is the entry, or what was found behind it
-found_at : {A : Type 0} (P : A → Type 0) (b : Bool) (y : A) (o : Option A) (x : A) → (if b then Some y else o) ≡ Some x → P y → (o ≡ Some x → P x) → P x
+found_at : {A : Type 0} (P : A → Type 0) (b : Bool) (y : A) (o : Option A) (x : A) → (if b then Some y else o) ≡ Some x → P y
+    → (o ≡ Some x → P x) → P x
 found_at P true y o x e here behind = subst P (ap (λ found. unwrap_or found y) e) here
 found_at P false y o x e here behind = behind e
 
@@ -54,7 +57,8 @@ named_is m n id rs reading numbered = find_same _ _ rs (all rs numbered) where
   all (r ∷ rs) h = (agrees Instance m n r.number id reading h.0, all rs h.1)
 
 -- no row has an identifier that names none
-pub named_none : (m : ℕ) (id : List ℕ) (rs : List InstanceRow) → IsReading Instance m id None → AreNumbered rs → find (λ row. bytes_eq (instance_id m row.number) id) rs ≡ None
+pub named_none : (m : ℕ) (id : List ℕ) (rs : List InstanceRow) → IsReading Instance m id None → AreNumbered rs
+    → find (λ row. bytes_eq (instance_id m row.number) id) rs ≡ None
 unfolding instance_id
 named_none m id rs reading numbered = find_none _ rs (all rs numbered) where
   all : (rs : List InstanceRow) → AreNumbered rs → AllByRecursion (λ row. bytes_eq (instance_id m row.number) id ≡ false) rs
@@ -78,13 +82,16 @@ pub named_lost : (m : ℕ) (id : List ℕ) (H : List Event) → IsReading Instan
 named_lost m id H reading shown = sym (named_none m id (instance_rows H) reading (numbered (rows H) shown))
 
 -- what was found among the rows can be shown
-pub shown_of : (p : InstanceRow → Bool) (rs : Rows) (o : Option (Bor InstanceRow)) → option_copied o ≡ find p rs.instances → CanBeShown rs → IfSome o (λ row. IsShowable rs row.now)
+pub shown_of : (p : InstanceRow → Bool) (rs : Rows) (o : Option (Bor InstanceRow)) → option_copied o ≡ find p rs.instances → CanBeShown rs
+    → IfSome o (λ row. IsShowable rs row.now)
 shown_of p rs None is shown = tt
-shown_of p rs (Some row) is shown = find_is (IsShowable rs) p rs.instances row.now (recursion_from_All (IsShowable rs) rs.instances shown) (sym is)
+shown_of p rs (Some row) is shown = find_is (IsShowable rs) p rs.instances row.now (recursion_from_All (IsShowable rs) rs.instances shown)
+    (sym is)
 
 -- what was found by its number is the row of a live instance
 pub own_of : (m : Managed) (n : ℕ) (o : Option (Bor InstanceRow))
-    → ((H : List Event) → Keeps m H → (option_copied o ≡ instance H n) × ((row : InstanceRow) → instance H n ≡ Some row → row.number ≡ n)) → IfSome o (λ row. IsRowOf m row.now)
+    → ((H : List Event) → Keeps m H → (option_copied o ≡ instance H n) × ((row : InstanceRow) → instance H n ≡ Some row → row.number ≡ n))
+    → IfSome o (λ row. IsRowOf m row.now)
 own_of m n None told = tt
 own_of m n (Some row) told = λ H keeps.
     let it = told H keeps in
@@ -98,12 +105,14 @@ live_of H row found = there _ (is_live H row.number) found where
   there y false e = absurd (none-some row e)
 
 -- the text of a row's view, by its descriptor
-pub row_text_is : (m : ℕ) (rs : Rows) (row : InstanceRow) (d : Vnfd) → vnfd_named rs row.vnfd ≡ Some d → row_text m rs row ≡ instance_text m row.number row d
+pub row_text_is : (m : ℕ) (rs : Rows) (row : InstanceRow) (d : Vnfd) → vnfd_named rs row.vnfd ≡ Some d
+    → row_text m rs row ≡ instance_text m row.number row d
 unfolding row_text instance_text
 row_text_is m rs row d named = rw named refl
 
 -- the instance of a row is shown, by its descriptor
-pub shows_row : (m : ℕ) (H : List Event) (last : Bool) (row : InstanceRow) (d : Vnfd) (body : List ℕ) (reply : Reply) → vnfd_named (rows H) row.vnfd ≡ Some d
+pub shows_row : (m : ℕ) (H : List Event) (last : Bool) (row : InstanceRow) (d : Vnfd) (body : List ℕ) (reply : Reply)
+    → vnfd_named (rows H) row.vnfd ≡ Some d
     → body ≡ instance_text m row.number row d → reply ≡ shown body last → show_found m H last (Some row) ≡ told reply
 shows_row m H last row d body reply named body_is reply_is =
     ap told (ap (λ b. shown b last) (row_text_is m (rows H) row d named ∙ sym body_is) ∙ sym reply_is)
@@ -113,7 +122,8 @@ unfolding spelling u64
 deletion_fits now n = omega arith
 
 -- a live instance is deleted, where nothing refuses it
-pub deletes : (m : Managed) (H : List Event) (now : ℕ) (r : Request) (row : InstanceRow) (reply : Reply) (event : Event) → Some row ≡ named_instance m.ledger.manager H (asked_id r)
+pub deletes : (m : Managed) (H : List Event) (now : ℕ) (r : Request) (row : InstanceRow) (reply : Reply) (event : Event)
+    → Some row ≡ named_instance m.ledger.manager H (asked_id r)
     → instance H row.number ≡ Some row → None ≡ delete_refusal H row.number → event ≡ deletion now row.number → reply ≡ deleted r.last
     → IsPlanned (delete_instance m.ledger.manager H now r) m H (Records event reply)
 deletes m H now r row reply event named found accepted event_is reply_is =

@@ -16,27 +16,32 @@ read_on : (n k : ℕ) (c : Conn) → has_read k (has_read n c) ≡ has_read (n +
 read_on n k c = ap (λ left. record c { left = left }) (drop-drop k n c.left)
 
 -- one piece more was read, behind the first n bytes of the room
-pub heard_more : (n k : ℕ) (room before into room2 : List ℕ) (a b c : DoorState) → n ≤ length room → take (n + length into) room2 ≡ take n room ++ into
+pub heard_more : (n k : ℕ) (room before into room2 : List ℕ) (a b c : DoorState) → n ≤ length room
+    → take (n + length into) room2 ≡ take n room ++ into
     → HeardSoFar n room a b → Gets k before into b c → HeardSoFar (n + k) room2 a c
 heard_more n k room before into room2 a b c within put so_far got =
     let left : b.conn.left ≡ drop n a.conn.left = ap (λ (x : Conn). x.left) so_far.conn.conn in
     let fits : k ≤ length (drop n a.conn.left) = rw left at got.within in
     let rest : length (drop n a.conn.left) ≡ length a.conn.left - n = length-drop n a.conn.left in
     let piece : length (take k b.conn.left) ≡ k = length-take-le k b.conn.left got.within in
-    let long : length into ≡ length (take k b.conn.left) + length (drop k before) = ap length got.piece ∙ length-append (take k b.conn.left) (drop k before) in
+    let long : length into ≡ length (take k b.conn.left) + length (drop k before) =
+    ap length got.piece ∙ length-append (take k b.conn.left) (drop k before) in
     let front : take k into ≡ take k (drop n a.conn.left) =
-    ap (take k) got.piece ∙ take-append-le k (take k b.conn.left) (drop k before) (omega (arith, piece)) ∙ take_all k (take k b.conn.left) (omega (arith, piece)) ∙ ap (take k) left in
+    ap (take k) got.piece ∙ take-append-le k (take k b.conn.left) (drop k before) (omega (arith, piece))
+    ∙ take_all k (take k b.conn.left) (omega (arith, piece)) ∙ ap (take k) left in
     let size : length (take n room) ≡ n = length-take-le n room within in
     let joined : take (n + k) (take n room ++ into) ≡ take n room ++ take k into =
     ap (λ m. take (m + k) (take n room ++ into)) (sym size) ∙ take-append-add (take n room) into k in
-    let shorter : take (n + k) (take (n + length into) room2) ≡ take (n + k) room2 = take-take (n + k) (n + length into) room2 (omega (arith, long, piece)) in
+    let shorter : take (n + k) (take (n + length into) room2) ≡ take (n + k) room2 =
+    take-take (n + k) (n + length into) room2 (omega (arith, long, piece)) in
     record {
       conn = record {
         answers = got.conn.answers ∙ so_far.conn.answers;
         conn = got.conn.conn ∙ ap (has_read k) so_far.conn.conn ∙ read_on n k a.conn;
         past = got.conn.past ∙ so_far.conn.past;
       };
-      front = sym shorter ∙ ap (take (n + k)) put ∙ joined ∙ ap (λ x. x ++ take k into) so_far.front ∙ ap (λ x. take n a.conn.left ++ x) front ∙ sym (take-add n k a.conn.left);
+      front = sym shorter ∙ ap (take (n + k)) put ∙ joined ∙ ap (λ x. x ++ take k into) so_far.front
+          ∙ ap (λ x. take n a.conn.left ++ x) front ∙ sym (take-add n k a.conn.left);
       within = omega (arith, fits, rest, so_far.within);
     }
 
@@ -51,7 +56,8 @@ hears_front most n room a b within long so_far all =
     }
 
 -- nothing is left
-pub heard_all : (most n : ℕ) (room : List ℕ) (a b c : DoorState) → n ≤ most → length room ≡ most → HeardSoFar n room a b → b.conn.left ≡ [] → c ≡ b
+pub heard_all : (most n : ℕ) (room : List ℕ) (a b c : DoorState) → n ≤ most → length room ≡ most → HeardSoFar n room a b → b.conn.left ≡ []
+    → c ≡ b
     → Hears most (take n room) false a c
 heard_all most n room a b c within long so_far none same =
     let left : drop n a.conn.left ≡ [] = ap (λ (k : Conn). k.left) (sym so_far.conn.conn) ∙ none in
@@ -61,7 +67,8 @@ heard_all most n room a b c within long so_far none same =
     rw same (hears_front most n room a b within long so_far all)
 
 -- the room is full
-pub heard_full : (most n : ℕ) (room : List ℕ) (a b : DoorState) → n ≤ most → length room ≡ most → length room ≤ n → HeardSoFar n room a b → Hears most (take n room) false a b
+pub heard_full : (most n : ℕ) (room : List ℕ) (a b : DoorState) → n ≤ most → length room ≡ most → length room ≤ n → HeardSoFar n room a b
+    → Hears most (take n room) false a b
 heard_full most n room a b within long full so_far =
     let n_is : n ≡ most = omega arith in
     hears_front most n room a b within long so_far (ap (λ k. take k a.conn.left) n_is)

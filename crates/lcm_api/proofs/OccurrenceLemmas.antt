@@ -1,5 +1,6 @@
 -- The occurrence that an identifier names.
-use Rattle.std.proofs.Common.{◌≡◌, ◌==◌, ◌∙◌, ℕ, Bool, false, List, [], ◌∷◌, Option, Some, None, Result, Ok, Err, ap, refl, sym, inl, inr, option_map}
+use Rattle.std.proofs.Common.{◌≡◌, ◌==◌, ◌∙◌, ℕ, Bool, false, List, [], ◌∷◌, Option, Some, None, Result, Ok, Err, ap, refl, sym, inl, inr}
+use Rattle.std.proofs.Common.{option_map}
 use Rattle.std.specs.Result.{IfOk}
 use Rattle.std.specs.Prelude.{find, option_and_then}
 use Rattle.std.specs.List.{AllByRecursion}
@@ -35,9 +36,11 @@ numbered_in : (H : List Event) (xs : List Operation) → ((a : Operation) → Is
 numbered_in H [] each = tt
 numbered_in H (x ∷ xs) each = (each x (inl refl), numbered_in H xs (λ a among. each a (inr among)))
 
-numbered : (width m : ℕ) (H : List Event) (rs : Rows) → IsLegalWithin width m H → ((n : ℕ) (r : OccRow) → occurrence H n ≡ Some r → IsOccurrenceShowable rs n r) → AreNumbered (operations H)
+numbered : (width m : ℕ) (H : List Event) (rs : Rows) → IsLegalWithin width m H
+    → ((n : ℕ) (r : OccRow) → occurrence H n ≡ Some r → IsOccurrenceShowable rs n r) → AreNumbered (operations H)
 numbered width m H rs legal each = numbered_in H (operations H)
-    (λ a among. (each a.occ (row H a) (ap (option_map (row H)) (find-own (λ x. x.occ) (operations H) a (operations_counted width m H legal) among))).number)
+    (λ a among. (each a.occ (row H a) (ap (option_map (row H)) (find-own (λ x. x.occ) (operations H) a
+    (operations_counted width m H legal) among))).number)
 
 -- the operation that has the identifier is that of the number that was read
 named_by : (m : ℕ) (id : List ℕ) (xs : List Operation) (found : Option ℕ) → IsReading Occurrence m id found → AreNumbered xs
@@ -53,7 +56,8 @@ named_by m id xs (Some n) reading numbered = find_same _ _ xs (all xs numbered) 
   all (x ∷ xs) h = (agrees Occurrence m n x.occ id reading h.0, all xs h.1)
 
 pub named_found : (width m : ℕ) (H : List Event) (k : ℕ) (id : List ℕ) (rs : Rows) (found : Option ℕ) → IsLegalWithin width m H
-    → ((n : ℕ) (r : OccRow) → occurrence H n ≡ Some r → IsOccurrenceShowable rs n r) → IsReading Occurrence k id found → named_operation k H id ≡ option_and_then (operation H) found
+    → ((n : ℕ) (r : OccRow) → occurrence H n ≡ Some r → IsOccurrenceShowable rs n r) → IsReading Occurrence k id found
+    → named_operation k H id ≡ option_and_then (operation H) found
 named_found width m H k id rs found legal each reading = named_by k id (operations H) found reading (numbered width m H rs legal each)
 
 mapped : {A B : Type 0} → (f : A → B) (x : Option A) (y : B) → option_map f x ≡ Some y → (a : A) × (x ≡ Some a) × (f a ≡ y)
@@ -64,7 +68,8 @@ none_of : {A B : Type 0} → (f : A → B) (x : Option A) → option_map f x ≡
 none_of f None e = refl
 none_of f (Some a) e = cc
 
-found_is : (m : ℕ) (H : List Event) (last : Bool) (n : ℕ) (r : OccRow) (o : Planned) → occurrence H n ≡ Some r → show_row m H last n r ≡ o → show_asked m H last (operation H n) ≡ o
+found_is : (m : ℕ) (H : List Event) (last : Bool) (n : ℕ) (r : OccRow) (o : Planned) → occurrence H n ≡ Some r → show_row m H last n r ≡ o
+    → show_asked m H last (operation H n) ≡ o
 found_is m H last n r o e shows =
     let from = mapped (row H) (operation H n) r e in
     let number : from.0.occ ≡ n = found_number (λ x. x.occ) (operations H) n from.0 from.1 in
@@ -78,12 +83,14 @@ shows_found m H last n r (Ok reply) e shows = found_is m H last n r (told reply)
 shows_found m H last n r (Err why) e shows = tt
 
 -- the text of the view of a row, by its descriptor
-text_is : (m : ℕ) (rs : Rows) (n : ℕ) (r : OccRow) (d : Vnfd) → vnfd_named rs r.vnfd ≡ Some d → occurrence_row_text m rs n r ≡ occurrence_text m n r d
+text_is : (m : ℕ) (rs : Rows) (n : ℕ) (r : OccRow) (d : Vnfd) → vnfd_named rs r.vnfd ≡ Some d
+    → occurrence_row_text m rs n r ≡ occurrence_text m n r d
 unfolding occurrence_row_text occurrence_text
 text_is m rs n r d named = rw named refl
 
 -- the occurrence of a row is shown, by its descriptor
-pub shows_row : (m : ℕ) (H : List Event) (last : Bool) (n : ℕ) (r : OccRow) (d : Vnfd) (body : List ℕ) (reply : Reply) → vnfd_named (instances.rows H) r.vnfd ≡ Some d
+pub shows_row : (m : ℕ) (H : List Event) (last : Bool) (n : ℕ) (r : OccRow) (d : Vnfd) (body : List ℕ) (reply : Reply)
+    → vnfd_named (instances.rows H) r.vnfd ≡ Some d
     → body ≡ occurrence_text m n r d → reply ≡ shown body last → show_row m H last n r ≡ told reply
 shows_row m H last n r d body reply named body_is reply_is =
     ap told (ap (λ b. shown b last) (text_is m (instances.rows H) n r d named ∙ sym body_is) ∙ sym reply_is)

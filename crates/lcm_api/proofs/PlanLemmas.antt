@@ -10,6 +10,7 @@ pub planned_is : (wanted : Planned) (m : Managed) (H : List Event) (planned : Pl
 planned_is wanted m H (Told reply) is = sym is
 planned_is wanted m H (Records event reply) is = sym is.0
 
-pub may_carry_out : (wanted : Planned) (m : Managed) (H : List Event) (planned : Planned) → IsPlanned wanted m H planned → MayCarryOut m H planned
+pub may_carry_out : (wanted : Planned) (m : Managed) (H : List Event) (planned : Planned) → IsPlanned wanted m H planned
+    → MayCarryOut m H planned
 may_carry_out wanted m H (Told reply) is = tt
 may_carry_out wanted m H (Records event reply) is = is.1

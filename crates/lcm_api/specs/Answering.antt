@@ -13,7 +13,8 @@ use Rattle.lcm_api.specs.declared.reply.Reply.{Reply}
 use Rattle.lcm_api.specs.declared.answering.ApiFault.{ApiFault}
 use Rattle.lcm_api.specs.declared.answering.ApiFault.TheVariants as fault
 
--- the work of a request, by its answer: what it adds is in the history, or the disk failed on the way there, or nothing was done
+-- the work of a request, by its answer: what it adds is in the history, or the disk failed on the way there, or nothing
+-- was done
 abbrev pub answered : Outcome → List Event → Result Reply ApiFault → Work
 answered o H (Ok reply) = went (o.after ++ H)
 answered o H (Err fault.Disk) = broke H (o.after ++ H)
@@ -26,9 +27,10 @@ pub record IsOutcomeOf (m : ℕ) (H : List Event) (role : Role) (r : Request) (r
   pub reply_is : reply ≡ (outcome m before now role r).reply
   pub history_is : H ≡ (outcome m before now role r).after ++ before
 
--- A reply may be told: the manager is open, the reply is the outcome of the request in hand for its role, the history that the manager keeps ends with
--- what it acknowledges, and whatever a stop leaves now has that history.
-pub record IsAcknowledged (tells : Type 0) (m : Managed) (s : SiteState) (hand : Option Request) (role : Role) (reply : Reply) : Type 0 where
+-- A reply may be told: the manager is open, the reply is the outcome of the request in hand for its role, the history
+-- that the manager keeps ends with what it acknowledges, and whatever a stop leaves now has that history.
+pub record IsAcknowledged (tells : Type 0) (m : Managed) (s : SiteState) (hand : Option Request) (role : Role)
+    (reply : Reply) : Type 0 where
   pub history : List Event
   pub request : Request
   pub usable : m.ledger.closed ≡ false

@@ -1,6 +1,7 @@
--- What a request for a task of an instance comes to: it asks for an operation by its body (SOL 003 5.4.4 to 5.4.10). The order of the
--- refusals and their texts are an own rule.
-use Rattle.std.specs.Prelude.{ℕ, ◌+◌, ◌≡◌, List, [], ◌∷◌, codes, if◌then◌else◌, Bool, false, Option, Some, None, Result, Ok, Err}
+-- What a request for a task of an instance comes to: it asks for an operation by its body (SOL 003 5.4.4 to 5.4.10).
+-- The order of the refusals and their texts are an own rule.
+use Rattle.std.specs.Prelude.{ℕ, ◌+◌, ◌≡◌, List, [], ◌∷◌, codes, if◌then◌else◌, Bool, false, Option, Some, None, Result}
+use Rattle.std.specs.Prelude.{Ok, Err}
 use Rattle.http_wire.specs.declared.request.Request.{Request}
 use Rattle.instance_table.specs.declared.rows.InstanceRow.{InstanceRow}
 use Rattle.json_bodies.specs.Body.{Gives, and_then, instantiate_of}
@@ -33,9 +34,17 @@ use Rattle.lcm_api.specs.declared.record.Planned.{Planned}
 use Rattle.lcm_api.specs.declared.record.Planned.TheVariants.{Records}
 use Rattle.lcm_api.specs.declared.reply.Reply.{Reply}
 
--- the operation that an instance with this descriptor is asked for: the next occurrence, with its plan (SOL 003 5.4.4 to 5.4.10)
+-- the operation that an instance with this descriptor is asked for: the next occurrence, with its plan (SOL 003 5.4.4
+-- to 5.4.10)
 abbrev pub operation_asked : List Event → ℕ → Role → Ask → Vnfd → Operation
-operation_asked H i role ask d = record { occ = occurrences_made H + 1; instance = i; role = role; ask = ask; changes = plan (case_in d (situation d H i) ask) }
+operation_asked H i role ask d = record {
+  occ = occurrences_made H + 1;
+  instance = i;
+  role = role;
+  ask = ask;
+  changes =
+      plan (case_in d (situation d H i) ask);
+}
 
 -- its event
 abbrev pub asking : ℕ → Operation → Event
@@ -43,7 +52,14 @@ asking now a = record { moment = now; kind = Asked a }
 
 -- the answer to it: where its occurrence is found (SOL 003 5.4.4.3.1; RFC 9110 15.3.3)
 unfoldable pub accepted : ℕ → ℕ → Bool → Reply
-accepted m occ last = record { status = 202; location = Some (occurrence_path m occ); allow = None; problem = false; body = []; last = last }
+accepted m occ last = record {
+  status = 202;
+  location = Some (occurrence_path m occ);
+  allow = None;
+  problem = false;
+  body = [];
+  last = last;
+}
 
 -- this operation is asked for, by why it is refused
 abbrev pub ask_judged : ℕ → List Event → ℕ → Operation → Bool → Option Refusal → Planned
@@ -53,7 +69,8 @@ ask_judged m H now a last None = Records (asking now a) (accepted m a.occ last)
 -- an instance with this descriptor is asked; each that is live has one
 abbrev pub ask_described : ℕ → List Event → ℕ → Role → ℕ → Ask → Bool → Option Vnfd → Planned
 ask_described m H now role i ask last None = no_instance last
-ask_described m H now role i ask last (Some d) = ask_judged m H now (operation_asked H i role ask d) last (ask_refusal d (situation d H i) ask)
+ask_described m H now role i ask last (Some d) = ask_judged m H now (operation_asked H i role ask d) last
+    (ask_refusal d (situation d H i) ask)
 
 -- what a body asks for (SOL 003 5.5.2.4)
 abbrev pub ask_of : AskedBody → Ask
@@ -62,7 +79,8 @@ ask_of (bodies.Instantiate body) = Instantiate body.flavour body.level
 -- the live instance of this row is asked for what a body says: the ask is made once the instance is found
 abbrev pub ask_found : ℕ → List Event → ℕ → Role → AskedBody → Bool → Option InstanceRow → Planned
 ask_found m H now role body last None = no_instance last
-ask_found m H now role body last (Some row) = ask_described m H now role row.number (ask_of body) last (descriptor H row.number)
+ask_found m H now role body last (Some row) = ask_described m H now role row.number (ask_of body) last
+    (descriptor H row.number)
 
 -- the instance that a request names is asked for this (SOL 003 5.4.4 to 5.4.10)
 abbrev pub ask_named : ℕ → List Event → ℕ → Role → AskedBody → Request → Planned
@@ -81,7 +99,8 @@ unserved_found last (Some row) = refused 404 (codes "task is not supported") las
 abbrev pub unserved : ℕ → List Event → Request → Planned
 unserved m H r = unserved_found r.last (named_instance m H (asked_id r))
 
--- a request for a task of an instance, by what its body says: it is to be JSON. Of an operation that isn't served yet it isn't read.
+-- a request for a task of an instance, by what its body says: it is to be JSON. Of an operation that isn't served yet
+-- it isn't read.
 abbrev pub task_with : ℕ → List Event → ℕ → Role → Request → Option (Result AskedBody BodyFault) → Planned
 task_with m H now role r None = unserved m H r
 task_with m H now role r (Some read) =
@@ -102,9 +121,12 @@ abbrev pub GivesAsked : Option (Result AskedBody BodyFault) → Option (Result A
 GivesAsked None expected = expected ≡ None
 GivesAsked (Some read) expected = (whole : Result AskedBody BodyFault) × (expected ≡ Some whole) × Gives read whole
 
--- whatever the history, a request for this task is refused with this reply, asks for what a body says, or asks for what isn't served yet
+-- whatever the history, a request for this task is refused with this reply, asks for what a body says, or asks for what
+-- isn't served yet
 abbrev pub IsAskVerdict : OpKind → Request → AskVerdict → Type 0
-IsAskVerdict kind r (verdict.Refused reply) = (m : ℕ) (H : List Event) (now : ℕ) (role : Role) → instance_task m H now role kind r ≡ told reply
+IsAskVerdict kind r (verdict.Refused reply) = (m : ℕ) (H : List Event) (now : ℕ) (role : Role)
+    → instance_task m H now role kind r ≡ told reply
 IsAskVerdict kind r (verdict.Asks body) =
     (m : ℕ) (H : List Event) (now : ℕ) (role : Role) → instance_task m H now role kind r ≡ ask_named m H now role body r
-IsAskVerdict kind r verdict.Unserved = (m : ℕ) (H : List Event) (now : ℕ) (role : Role) → instance_task m H now role kind r ≡ unserved m H r
+IsAskVerdict kind r verdict.Unserved = (m : ℕ) (H : List Event) (now : ℕ) (role : Role)
+    → instance_task m H now role kind r ≡ unserved m H r

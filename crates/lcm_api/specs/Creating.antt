@@ -1,5 +1,6 @@
 -- What a request to create an instance comes to (SOL 003 5.4.2.3.1). The order of the refusals is an own rule.
-use Rattle.std.specs.Prelude.{ℕ, ◌+◌, List, ◌∷◌, length, codes, nat_le, if◌then◌else◌, Bool, false, Option, Some, None, Result, Ok, Err}
+use Rattle.std.specs.Prelude.{ℕ, ◌+◌, List, ◌∷◌, length, codes, nat_le, if◌then◌else◌, Bool, false, Option, Some, None}
+use Rattle.std.specs.Prelude.{Result, Ok, Err}
 use Rattle.lcm_events.specs.declared.events.Event.{Event}
 use Rattle.lcm_events.specs.declared.events.EventKind.TheVariants.{Created}
 use Rattle.lcm_events.specs.declared.descriptor.Vnfd.{Vnfd}
@@ -23,7 +24,14 @@ creation H now body = record { moment = now; kind = Created (instances_made H + 
 
 -- the answer to it: the instance and where it is found (SOL 003 5.4.2, 5.5.2.2)
 unfoldable pub created : ℕ → ℕ → CreateBody → Vnfd → Bool → Reply
-created m n body vnfd last = record { status = 201; location = Some (instance_path m n); allow = None; problem = false; body = created_text m n body vnfd; last = last }
+created m n body vnfd last = record {
+  status = 201;
+  location = Some (instance_path m n);
+  allow = None;
+  problem = false;
+  body = created_text m n body vnfd;
+  last = last;
+}
 
 -- a create request whose body says this, where its descriptor was onboarded: whether one more may be live
 abbrev pub described_outcome : ℕ → List Event → ℕ → CreateBody → Bool → Option Vnfd → Planned

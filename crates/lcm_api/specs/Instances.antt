@@ -1,5 +1,5 @@
--- What a request to list, show or delete instances comes to (SOL 003 5.4.2.3.2, 5.4.3.3). The order of the refusals and their texts are an
--- own rule.
+-- What a request to list, show or delete instances comes to (SOL 003 5.4.2.3.2, 5.4.3.3). The order of the refusals and
+-- their texts are an own rule.
 use Rattle.std.specs.Prelude.{ℕ, List, [], ◌∷◌, codes, if◌then◌else◌, Bool, false, Option, Some, None, find}
 use Rattle.std.specs.Str.{bytes_eq}
 use Rattle.http_wire.specs.declared.request.Request.{Request}

@@ -10,4 +10,5 @@ use Rattle.lcm_events.specs.declared.events.Event.{Event}
 -- whatever the history, a request to create is refused with this reply, or is one of this body
 abbrev pub IsCreateVerdict : Request → CreateVerdict → Type 0
 IsCreateVerdict r (verdict.Refused reply) = (m : ℕ) (H : List Event) (now : ℕ) → create_instance m H now r ≡ told reply
-IsCreateVerdict r (verdict.Create body) = (m : ℕ) (H : List Event) (now : ℕ) → create_instance m H now r ≡ create_outcome m H now body r.last
+IsCreateVerdict r (verdict.Create body) = (m : ℕ) (H : List Event) (now : ℕ)
+    → create_instance m H now r ≡ create_outcome m H now body r.last

@@ -7,4 +7,5 @@ use Rattle.lcm_api.specs.Outcome.{outcome}
 
 -- the connection ends with the reply to a request exactly where it ends with the request (RFC 9112 9.6)
 abbrev pub AreLastAsAsked : Type 0
-AreLastAsAsked = (m : ℕ) (H : List Event) (now : ℕ) (role : Role) (r : Request) → (outcome m H now role r).reply.last ≡ r.last
+AreLastAsAsked = (m : ℕ) (H : List Event) (now : ℕ) (role : Role) (r : Request)
+    → (outcome m H now role r).reply.last ≡ r.last

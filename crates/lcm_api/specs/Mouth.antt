@@ -1,4 +1,5 @@
--- What a mouth stands for, and what its calls do: a wire, the request in hand with its role, and when replies were told.
+-- What a mouth stands for, and what its calls do: a wire, the request in hand with its role, and when replies were
+-- told.
 use Rattle.std.specs.Prelude.{◌≡◌, ℕ, List, [], Bool, true, false, Option, Some, None, Result, Ok, Err}
 use Rattle.lcm_events.specs.declared.states.Role.{Role}
 use Rattle.http_wire.specs.declared.request.Request.{Request}
@@ -8,16 +9,16 @@ use Rattle.http_wire.specs.declared.request.WireFault.{WireFault}
 use Rattle.http_wire.specs.Exact.{IsExact}
 use Rattle.http_wire.specs.Wire.{WireState, TakenIs, bytes_of}
 
--- What the wire stands for, the request in hand with the role that it was heard for, and the moments of the site at which something was told,
--- the latest first.
+-- What the wire stands for, the request in hand with the role that it was heard for, and the moments of the site at
+-- which something was told, the latest first.
 pub record MouthState : Type 0 where
   pub wire : WireState
   pub hand : Option Request
   pub role : Role
   pub told : List ℕ
 
--- Nothing changes but at the door and in what was told: the bytes that were read and belong to no request yet stay, and so does what was taken, and
--- what is in hand.
+-- Nothing changes but at the door and in what was told: the bytes that were read and belong to no request yet stay, and
+-- so does what was taken, and what is in hand.
 pub record OnlyAtDoor (old new : MouthState) : Type 0 where
   pub held : new.wire.intake.held ≡ old.wire.intake.held
   pub taken : new.wire.taken ≡ old.wire.taken
@@ -37,8 +38,10 @@ pub record Takes (tells : Type 0) (answer : Result Taken WireFault) (old new : W
   pub is : TakenIs tells old new answer
   pub exact : tells → old.ended ≡ false → IsExact (bytes_of old.intake) answer
 
--- what was heard, by the answer: a request was taken and is in hand, or the end or a fault was found and none is in hand
+-- what was heard, by the answer: a request was taken and is in hand, or the end or a fault was found and none is in
+-- hand
 abbrev pub Heard : Type 0 → Result Bool WireFault → MouthState → MouthState → Type 0
-Heard tells (Ok true) old new = (r : Request) × (new.hand ≡ Some r) × Takes tells (Ok (taken.Request r)) old.wire new.wire
+Heard tells (Ok true) old new = (r : Request) × (new.hand ≡ Some r)
+    × Takes tells (Ok (taken.Request r)) old.wire new.wire
 Heard tells (Ok false) old new = (new.hand ≡ None) × Takes tells (Ok taken.End) old.wire new.wire
 Heard tells (Err fault) old new = (new.hand ≡ None) × Takes tells (Err fault) old.wire new.wire

@@ -1,4 +1,5 @@
--- What a request comes to: the reply, and the event that it adds to the history (SOL 003 5.4). The order of the refusals is an own rule.
+-- What a request comes to: the reply, and the event that it adds to the history (SOL 003 5.4). The order of the
+-- refusals is an own rule.
 use Rattle.std.specs.Prelude.{ℕ, List, codes}
 use Rattle.http_wire.specs.declared.request.Request.{Request}
 use Rattle.lcm_events.specs.declared.events.Event.{Event}
@@ -12,7 +13,9 @@ use Rattle.lcm_api.specs.declared.record.Planned.{Planned}
 use Rattle.lcm_api.specs.Routes.{not_allowed, routing}
 use Rattle.lcm_api.specs.Tasks.{occurrence_task}
 use Rattle.lcm_api.specs.declared.route.Route.{Route}
-use Rattle.lcm_api.specs.declared.route.Route.TheVariants.{ListInstances, CreateInstance, ShowInstance, DeleteInstance, InstanceTask, ListOccurrences, ShowOccurrence, OccurrenceTask}
+use Rattle.lcm_api.specs.declared.route.Route.TheVariants.{ListInstances, CreateInstance, ShowInstance, DeleteInstance}
+use Rattle.lcm_api.specs.declared.route.Route.TheVariants.{InstanceTask, ListOccurrences, ShowOccurrence}
+use Rattle.lcm_api.specs.declared.route.Route.TheVariants.{OccurrenceTask}
 use Rattle.lcm_api.specs.declared.route.Routing.{Routing}
 use Rattle.lcm_api.specs.declared.route.Routing.TheVariants.{Nowhere, NotAllowed, Served}
 
@@ -33,7 +36,7 @@ routed Nowhere m H now role r = refused 404 (codes "no such resource") r.last
 routed (NotAllowed x) m H now role r = told (not_allowed x r.last)
 routed (Served route) m H now role r = served route m H now role r
 
--- What a request of this role comes to, after history H of manager m, taken at this moment. The connection ends with the reply where it ends
--- with the request (RFC 9112 9.6).
+-- What a request of this role comes to, after history H of manager m, taken at this moment. The connection ends with
+-- the reply where it ends with the request (RFC 9112 9.6).
 abbrev pub outcome : ℕ → List Event → ℕ → Role → Request → Outcome
 outcome m H now role r = in_room H r.last (routed (routing r) m H now role r)

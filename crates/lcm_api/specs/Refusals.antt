@@ -1,8 +1,12 @@
--- The statuses and texts of what the model refuses (SOL 003 5.4.3 to 5.4.10; RFC 9110 15.5.10, 15.5.21; RFC 4918 11.5; the texts are
--- an own rule).
+-- The statuses and texts of what the model refuses (SOL 003 5.4.3 to 5.4.10; RFC 9110 15.5.10, 15.5.21; RFC 4918 11.5;
+-- the texts are an own rule).
 use Rattle.std.specs.Prelude.{ℕ, List, Bool, codes}
 use Rattle.lcm_model.specs.declared.refusals.Refusal.{Refusal}
-use Rattle.lcm_model.specs.declared.refusals.Refusal.TheVariants.{UnknownFlavour, UnknownLevel, UnknownAspect, NoSteps, AspectTwice, LevelAboveMaximum, Instantiated, NotInstantiated, Ongoing, OutOfStep, Stopped, BelowZero, AboveMaximum, UnknownVnfc, NothingToDo, AboveProfile, TooManyResources}
+use Rattle.lcm_model.specs.declared.refusals.Refusal.TheVariants.{UnknownFlavour, UnknownLevel, UnknownAspect, NoSteps}
+use Rattle.lcm_model.specs.declared.refusals.Refusal.TheVariants.{AspectTwice, LevelAboveMaximum, Instantiated}
+use Rattle.lcm_model.specs.declared.refusals.Refusal.TheVariants.{NotInstantiated, Ongoing, OutOfStep, Stopped}
+use Rattle.lcm_model.specs.declared.refusals.Refusal.TheVariants.{BelowZero, AboveMaximum, UnknownVnfc, NothingToDo}
+use Rattle.lcm_model.specs.declared.refusals.Refusal.TheVariants.{AboveProfile, TooManyResources}
 use Rattle.lcm_api.specs.Replies.{refused}
 use Rattle.lcm_api.specs.declared.record.Planned.{Planned}
 

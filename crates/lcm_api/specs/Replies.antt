@@ -1,4 +1,5 @@
--- A reply, what a request comes to, and the replies that no route has for its own (RFC 9110 15, Status Codes; RFC 9457 3).
+-- A reply, what a request comes to, and the replies that no route has for its own (RFC 9110 15, Status Codes; RFC 9457
+-- 3).
 use Rattle.std.specs.Prelude.{ℕ, List, [], ◌∷◌, codes, Bool, true, false, None}
 use Rattle.executor.specs.Room.{is_full}
 use Rattle.lcm_api.specs.declared.record.Planned.{Planned}
@@ -15,7 +16,15 @@ pub record Outcome : Type 0 where
 
 -- a refusal with this status and this detail, and whether the connection ends with it (RFC 9457 3)
 unfoldable pub refusal : ℕ → List ℕ → Bool → Reply
-refusal status detail last = record { status = status; location = None; allow = None; problem = true; body = problem_text status detail; last = last }
+refusal status detail last = record {
+  status = status;
+  location = None;
+  allow = None;
+  problem = true;
+  body =
+      problem_text status detail;
+  last = last;
+}
 
 -- a request that adds nothing comes to this reply
 abbrev pub told : Reply → Planned

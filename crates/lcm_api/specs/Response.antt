@@ -1,5 +1,7 @@
--- The bytes of an answer (RFC 9112 4 Status Line, 5 Field Syntax; RFC 9110 8.3 Content-Type, 10.2.1 Allow, 10.2.2 Location).
-use Rattle.std.specs.Prelude.{ℕ, ◌==◌, List, [], ◌∷◌, ◌++◌, length, codes, decimal, if◌then◌else◌, Option, Some, None, Bool}
+-- The bytes of an answer (RFC 9112 4 Status Line, 5 Field Syntax; RFC 9110 8.3 Content-Type, 10.2.1 Allow, 10.2.2
+-- Location).
+use Rattle.std.specs.Prelude.{ℕ, ◌==◌, List, [], ◌∷◌, ◌++◌, length, codes, decimal, if◌then◌else◌, Option, Some, None}
+use Rattle.std.specs.Prelude.{Bool}
 use Rattle.lcm_api.specs.declared.reply.Reply.{Reply}
 
 -- the reason of a status (RFC 9110 15 Status Codes)
@@ -41,7 +43,8 @@ status_line status = codes "HTTP/1.1 " ++ decimal status ++ 32 ∷ reason status
 abbrev pub media_type : Bool → List ℕ
 media_type problem = if problem then codes "application/problem+json" else codes "application/json"
 
--- the lines that describe a body of this length; an empty body has its length alone, and 204 has neither line (RFC 9110 15.3.5)
+-- the lines that describe a body of this length; an empty body has its length alone, and 204 has neither line (RFC 9110
+-- 15.3.5)
 abbrev pub content_fields : ℕ → Bool → ℕ → List ℕ
 content_fields status problem size =
     if status == 204 then []
@@ -58,7 +61,8 @@ body_told r =
     if r.status == 500 then codes "{\"detail\":\"journal fault\",\"status\":500}"
     else (if r.status == 503 then codes "{\"detail\":\"no memory\",\"status\":503}" else r.body)
 
--- the head of a reply with a body of this length: status line, Location, Allow, the lines on the body, Connection, an empty line
+-- the head of a reply with a body of this length: status line, Location, Allow, the lines on the body, Connection, an
+-- empty line
 unfoldable pub head_text : Reply → ℕ → List ℕ
 head_text r size =
     status_line r.status ++ optional_field (codes "Location") r.location ++ optional_field (codes "Allow") r.allow

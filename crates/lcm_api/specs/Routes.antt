@@ -1,4 +1,5 @@
--- Where a request goes: what it asks of which resource, by its target and its method (SOL 003 5.3; RFC 9110 9.1, 10.2.1).
+-- Where a request goes: what it asks of which resource, by its target and its method (SOL 003 5.3; RFC 9110 9.1,
+-- 10.2.1).
 use Rattle.std.specs.Prelude.{ℕ, List, [], ◌∷◌, ◌++◌, codes, map, find, Bool, true, Option, Some, None}
 use Rattle.std.specs.Option.{option_map_or}
 use Rattle.std.specs.Str.{bytes_eq}
@@ -7,7 +8,8 @@ use Rattle.json_views.specs.Problem.{problem_text}
 use Rattle.lcm_routes.specs.Paths.{resource_of}
 use Rattle.lcm_routes.specs.Targets.{path_of}
 use Rattle.lcm_routes.specs.declared.resources.Resource.{Resource}
-use Rattle.lcm_routes.specs.declared.resources.Resource.TheVariants.{Instances, Instance, InstanceTask, Occurrences, Occurrence, OccurrenceTask}
+use Rattle.lcm_routes.specs.declared.resources.Resource.TheVariants.{Instances, Instance, InstanceTask, Occurrences}
+use Rattle.lcm_routes.specs.declared.resources.Resource.TheVariants.{Occurrence, OccurrenceTask}
 use Rattle.lcm_api.specs.declared.reply.Reply.{Reply}
 use Rattle.lcm_api.specs.declared.route.Route.{Route}
 use Rattle.lcm_api.specs.declared.route.Route.TheVariants as routes
@@ -35,7 +37,8 @@ methods _ = []
 -- where a request with this method to a resource with these methods goes: a resource without a method isn't served yet
 abbrev pub routing_in : Resource → List ℕ → List Method → Routing
 routing_in x name [] = Nowhere
-routing_in x name (first ∷ rest) = option_map_or (λ method. Served method.route) (find (λ method. bytes_eq name method.name) (first ∷ rest)) (NotAllowed x)
+routing_in x name (first ∷ rest) = option_map_or (λ method. Served method.route)
+    (find (λ method. bytes_eq name method.name) (first ∷ rest)) (NotAllowed x)
 
 abbrev pub routing_to : List ℕ → Option Resource → Routing
 routing_to name None = Nowhere
@@ -57,4 +60,12 @@ allow x = joined (map (λ method. method.name) (methods x))
 
 -- the resource has no such method (RFC 9110 15.5.6)
 unfoldable pub not_allowed : Resource → Bool → Reply
-not_allowed x last = record { status = 405; location = None; allow = Some (allow x); problem = true; body = problem_text 405 (codes "method not allowed"); last = last }
+not_allowed x last = record {
+  status = 405;
+  location = None;
+  allow = Some (allow x);
+  problem = true;
+  body =
+      problem_text 405 (codes "method not allowed");
+  last = last;
+}

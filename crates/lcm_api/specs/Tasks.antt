@@ -1,6 +1,7 @@
--- What a task of an occurrence comes to: retry, rollback, fail and cancel (SOL 003 5.4.14 to 5.4.17). The order of the refusals and their
--- texts are an own rule.
-use Rattle.std.specs.Prelude.{◌≡◌, ◌++◌, ℕ, List, [], ◌∷◌, codes, if◌then◌else◌, Bool, false, Option, Some, None, Result, Ok, Err}
+-- What a task of an occurrence comes to: retry, rollback, fail and cancel (SOL 003 5.4.14 to 5.4.17). The order of the
+-- refusals and their texts are an own rule.
+use Rattle.std.specs.Prelude.{◌≡◌, ◌++◌, ℕ, List, [], ◌∷◌, codes, if◌then◌else◌, Bool, false, Option, Some, None}
+use Rattle.std.specs.Prelude.{Result, Ok, Err}
 use Rattle.http_wire.specs.declared.request.Request.{Request}
 use Rattle.json_bodies.specs.Body.{cancel_of}
 use Rattle.json_views.specs.Words.{state_word}
@@ -39,7 +40,8 @@ task_of Rollback = tasks.Rollback
 task_of Fail = tasks.Fail
 task_of (Cancel mode) = tasks.Cancel
 
--- what happens to occurrence n: its work is taken up again, undone or given up, or it is to be cancelled (SOL 003 5.4.14 to 5.4.17, 5.6.2)
+-- what happens to occurrence n: its work is taken up again, undone or given up, or it is to be cancelled (SOL 003
+-- 5.4.14 to 5.4.17, 5.6.2)
 abbrev pub task_kind : ℕ → AskedTask → EventKind
 task_kind n Retry = Moved n Processing
 task_kind n Rollback = Moved n RollingBack
@@ -54,8 +56,8 @@ task_event now n asked = record { moment = now; kind = task_kind n asked }
 unfoldable pub taken : Bool → Reply
 taken last = record { status = 202; location = None; allow = None; problem = false; body = []; last = last }
 
--- the answer to a task of the occurrence of an operation, where this is the history with its event: fail shows the occurrence
--- (SOL 003 5.4.14.3.1, 5.4.15.3.1, 5.4.16.3.1, 5.4.17.3.1)
+-- the answer to a task of the occurrence of an operation, where this is the history with its event: fail shows the
+-- occurrence (SOL 003 5.4.14.3.1, 5.4.15.3.1, 5.4.16.3.1, 5.4.17.3.1)
 abbrev pub task_reply : ℕ → List Event → AskedTask → Operation → Bool → Reply
 task_reply m H Fail a last = shown_row m H last a.occ (row H a)
 task_reply m H _ a last = taken last
@@ -77,7 +79,8 @@ task_judged m H now asked a last None = task_taken m H (task_event now a.occ ask
 -- this is asked of the occurrence of an operation
 abbrev pub task_asked : ℕ → List Event → ℕ → AskedTask → Bool → Option Operation → Planned
 task_asked m H now asked last None = no_occurrence last
-task_asked m H now asked last (Some a) = task_judged m H now asked a last (task_refusal (kind_of a.ask) (state H a.occ) (task_of asked))
+task_asked m H now asked last (Some a) = task_judged m H now asked a last
+    (task_refusal (kind_of a.ask) (state H a.occ) (task_of asked))
 
 -- this is asked of the occurrence that a request names (SOL 003 5.4.14 to 5.4.17)
 abbrev pub task_named : ℕ → List Event → ℕ → AskedTask → Request → Planned
@@ -103,5 +106,7 @@ occurrence_task m H now tasks.Cancel r = cancel m H now r
 
 -- whatever the history, a request for this task is refused with this reply, or asks for this
 abbrev pub IsTaskVerdict : Task → Request → TaskVerdict → Type 0
-IsTaskVerdict task r (verdict.Refused reply) = (m : ℕ) (H : List Event) (now : ℕ) → occurrence_task m H now task r ≡ told reply
-IsTaskVerdict task r (verdict.Asks asked) = (m : ℕ) (H : List Event) (now : ℕ) → occurrence_task m H now task r ≡ task_named m H now asked r
+IsTaskVerdict task r (verdict.Refused reply) = (m : ℕ) (H : List Event) (now : ℕ)
+    → occurrence_task m H now task r ≡ told reply
+IsTaskVerdict task r (verdict.Asks asked) = (m : ℕ) (H : List Event) (now : ℕ)
+    → occurrence_task m H now task r ≡ task_named m H now asked r

@@ -20,8 +20,8 @@ pub record Writes (whole short : ℕ) (a b : WriteCounts) : Type 0 where
   pub made : b.made ≡ many_more (whole + short) a.made
   pub shorts : b.short ≡ many_more short a.short
 
--- Bytes in so many pieces are told by one write a piece, and one more for each that takes less than it is offered. Where a write fails there
--- are no more than that (own rule).
+-- Bytes in so many pieces are told by one write a piece, and one more for each that takes less than it is offered.
+-- Where a write fails there are no more than that (own rule).
 pub record AsksWrites {T E : Type 0} (pieces : ℕ) (result : Result T E) (a b : WriteCounts) : Type 0 where
   pub whole : ℕ
   pub short : ℕ
@@ -33,6 +33,7 @@ pub record AsksWrites {T E : Type 0} (pieces : ℕ) (result : Result T E) (a b :
 abbrev pub one_piece : ℕ → ℕ
 one_piece size = min 1 size
 
--- A reply of so many bytes is in one piece where it is no longer than the room for it, and else the rest is in one more (own rule).
+-- A reply of so many bytes is in one piece where it is no longer than the room for it, and else the rest is in one more
+-- (own rule).
 abbrev pub pieces : ℕ → ℕ
 pieces size = one_piece size + one_piece (size - ROOM)

@@ -36,8 +36,8 @@ pub enum ApiFault {
 
 /// Answers a request of this role, taken at this moment.
 ///
-/// Refusals of the request are replies. Refusals of the call: `Memory`, after which nothing has changed; `Disk`, after which
-/// the manager is closed.
+/// Refusals of the request are replies. Refusals of the call: `Memory`, after which nothing has changed; `Disk`, after
+/// which the manager is closed.
 /// Source: SOL 003 5.4 (Resources of the VNF Lifecycle Management interface).
 pub fn answer<S: Site>(
     alloc: Global,
@@ -49,9 +49,12 @@ pub fn answer<S: Site>(
     now: Moment,
 ) -> Result<Reply, ApiFault>
     requires ready { (H : List Event) × IsReady S.tells manager.old H (S.state site.old) }
-    ensures reply { (H : List Event) → Keeps manager.old H → IfOk result (λ given. given ≡ (outcome manager.old.ledger.manager H now role request.now).reply) }
-    ensures works { (H : List Event) → IsReady S.tells manager.old H (S.state site.old) → Works S.tells manager.old.ledger.manager H
-        (answered (outcome manager.old.ledger.manager H now role request.now) H result) manager.new (S.state site.old) (S.state site.new) }
+    ensures reply { (H : List Event) → Keeps manager.old H
+        → IfOk result (λ given. given ≡ (outcome manager.old.ledger.manager H now role request.now).reply) }
+    ensures works { (H : List Event) → IsReady S.tells manager.old H (S.state site.old)
+        → Works S.tells manager.old.ledger.manager H
+        (answered (outcome manager.old.ledger.manager H now role request.now) H result) manager.new (S.state site.old)
+        (S.state site.new) }
     ensures counts { OnlyDiskFails (result ≡ Err ApiFault.Disk) (S.counts site.old) (S.counts site.new) }
 {
     works_add_up::<S>();
@@ -70,7 +73,8 @@ fn plan<S: Site>(
 ) -> Result<Planned, AllocError>
     requires usable { manager.now.ledger.closed ≡ false }
     requires kept { (H : List Event) × Keeps manager.now H }
-    ensures { (H : List Event) → Keeps manager.now H → IfOk result (IsPlanned (routed (routing request.now) manager.now.ledger.manager H now role request.now) manager.now H) }
+    ensures { (H : List Event) → Keeps manager.now H → IfOk result
+        (IsPlanned (routed (routing request.now) manager.now.ledger.manager H now role request.now) manager.now H) }
 {
     match route_of(routes, request) {
         Routing::Nowhere => {
@@ -94,7 +98,8 @@ fn plan_on<S: Site>(
 ) -> Result<Planned, AllocError>
     requires usable { manager.now.ledger.closed ≡ false }
     requires kept { (H : List Event) × Keeps manager.now H }
-    ensures { (H : List Event) → Keeps manager.now H → IfOk result (IsPlanned (served route manager.now.ledger.manager H now role request.now) manager.now H) }
+    ensures { (H : List Event) → Keeps manager.now H → IfOk result
+        (IsPlanned (served route manager.now.ledger.manager H now role request.now) manager.now H) }
 {
     match route {
         Route::ListInstances => instances::list(alloc, manager, request),

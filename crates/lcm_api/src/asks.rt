@@ -7,7 +7,8 @@ ghost use Rattle.event_codec.specs.Valid.{IsAsk};
 ghost use Rattle.executor.specs.Managed.{Keeps};
 ghost use Rattle.executor.specs.Operating.{IsRowOf};
 ghost use Rattle.json_bodies.specs.Body.{and_then};
-ghost use Rattle.lcm_api.specs.Asks.{GivesAsked, IsAskVerdict, accepted, ask_described, ask_named, ask_of, asked_in, asking, instance_task, unserved};
+ghost use Rattle.lcm_api.specs.Asks.{GivesAsked, IsAskVerdict, accepted, ask_described, ask_named, ask_of, asked_in};
+ghost use Rattle.lcm_api.specs.Asks.{asking, instance_task, unserved};
 ghost use Rattle.lcm_api.specs.Recording.{IsPlanned};
 ghost use Rattle.change_planner.specs.Records.{NamesFew};
 ghost use Rattle.lcm_model.specs.Lives.{descriptor};
@@ -30,13 +31,13 @@ use site_traits::Site;
 use std::alloc::{AllocError, Global};
 use vnfm_base::{Bytes, Moment};
 
-/// What a request of this role for this task of an instance comes to, where there is room for its event: the operation is recorded with its
-/// plan, and its occurrence is STARTING.
+/// What a request of this role for this task of an instance comes to, where there is room for its event: the operation
+/// is recorded with its plan, and its occurrence is STARTING.
 ///
-/// Refusals of the request are replies, in this order: 415 for its media type, 400 for its body, 404 for the instance, 422 for what the
-/// descriptor hasn't, 409 for the state of the instance, 422 for more machines than a VDU may have, 507 for too many resources. An
-/// operation that isn't served yet is refused with 404, for the instance first, and its body isn't read. The call's one refusal is want of
-/// memory.
+/// Refusals of the request are replies, in this order: 415 for its media type, 400 for its body, 404 for the instance,
+/// 422 for what the descriptor hasn't, 409 for the state of the instance, 422 for more machines than a VDU may have,
+/// 507 for too many resources. An operation that isn't served yet is refused with 404, for the instance first, and its
+/// body isn't read. The call's one refusal is want of memory.
 /// Source: SOL 003 5.4.4 to 5.4.10 (the tasks of an individual VNF instance).
 pub fn task<S: Site>(
     alloc: Global,
@@ -47,7 +48,8 @@ pub fn task<S: Site>(
     now: Moment,
 ) -> Result<Planned, AllocError>
     requires usable { manager.now.ledger.closed ≡ false }
-    ensures { (H : List Event) → Keeps manager.now H → IfOk result (IsPlanned (instance_task manager.now.ledger.manager H now role kind request.now) manager.now H) }
+    ensures { (H : List Event) → Keeps manager.now H → IfOk result
+        (IsPlanned (instance_task manager.now.ledger.manager H now role kind request.now) manager.now H) }
 {
     match judge(alloc, kind, request)? {
         AskVerdict::Refused(reply) => Ok(Planned::Told(reply)),
@@ -142,7 +144,8 @@ fn refuse_unserved<S: Site>(
     request: &Request,
 ) -> Result<Planned, AllocError>
     requires usable { manager.now.ledger.closed ≡ false }
-    ensures { (H : List Event) → Keeps manager.now H → IfOk result (IsPlanned (unserved manager.now.ledger.manager H request.now) manager.now H) }
+    ensures { (H : List Event) → Keeps manager.now H → IfOk result
+        (IsPlanned (unserved manager.now.ledger.manager H request.now) manager.now H) }
 {
     match named_instance(manager, asked_id(request)) {
         Some(_) => Ok(Planned::Told(refusal(alloc, 404, "task is not supported", request.last)?)),
@@ -160,7 +163,8 @@ fn ask<S: Site>(
     now: Moment,
 ) -> Result<Planned, AllocError>
     requires usable { manager.now.ledger.closed ≡ false }
-    ensures { (H : List Event) → Keeps manager.now H → IfOk result (IsPlanned (ask_named manager.now.ledger.manager H now role body request.now) manager.now H) }
+    ensures { (H : List Event) → Keeps manager.now H → IfOk result
+        (IsPlanned (ask_named manager.now.ledger.manager H now role body request.now) manager.now H) }
 {
     let Some(row) = named_instance(manager, asked_id(request)) else {
         return Ok(Planned::Told(no_instance(alloc, request.last)?));
@@ -183,7 +187,8 @@ fn ask_row<S: Site>(
     requires few { NamesFew ask }
     requires own { IsRowOf manager.now row.now }
     ensures { (H : List Event) → Keeps manager.now H
-        → IfOk result (IsPlanned (ask_described manager.now.ledger.manager H now role row.now.number ask last (descriptor H row.now.number)) manager.now H) }
+        → IfOk result (IsPlanned (ask_described manager.now.ledger.manager H now role row.now.number ask last
+        (descriptor H row.now.number)) manager.now H) }
 {
     asked_events_fit_records();
     plans_are_exact();

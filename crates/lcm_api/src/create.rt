@@ -24,8 +24,8 @@ use vnfm_base::{Kind, Moment};
 
 /// What a request that creates an instance comes to, where there is room for its event.
 ///
-/// Refusals of the request are replies, in this order: 415 for its media type, 400 for its body, 422 for a descriptor that wasn't onboarded,
-/// 507 for too many instances. The call's one refusal is want of memory.
+/// Refusals of the request are replies, in this order: 415 for its media type, 400 for its body, 422 for a descriptor
+/// that wasn't onboarded, 507 for too many instances. The call's one refusal is want of memory.
 /// Source: SOL 003 5.4.2.3.1.
 pub fn create<S: Site>(
     alloc: Global,
@@ -34,7 +34,8 @@ pub fn create<S: Site>(
     now: Moment,
 ) -> Result<Planned, AllocError>
     requires usable { manager.now.ledger.closed ≡ false }
-    ensures { (H : List Event) → Keeps manager.now H → IfOk result (IsPlanned (create_instance manager.now.ledger.manager H now request.now) manager.now H) }
+    ensures { (H : List Event) → Keeps manager.now H → IfOk result
+        (IsPlanned (create_instance manager.now.ledger.manager H now request.now) manager.now H) }
 {
     match judge(alloc, request)? {
         CreateVerdict::Refused(reply) => Ok(Planned::Told(reply)),
@@ -74,7 +75,8 @@ fn create_as<S: Site>(
     last: bool,
 ) -> Result<Planned, AllocError>
     requires usable { manager.now.ledger.closed ≡ false }
-    ensures { (H : List Event) → Keeps manager.now H → IfOk result (IsPlanned (create_outcome manager.now.ledger.manager H now body last) manager.now H) }
+    ensures { (H : List Event) → Keeps manager.now H → IfOk result
+        (IsPlanned (create_outcome manager.now.ledger.manager H now body last) manager.now H) }
 {
     let Some(vnfd) = manager.vnfd(&body.vnfd) else {
         return Ok(Planned::Told(refusal(alloc, 422, "vnfdId is not onboarded", last)?));

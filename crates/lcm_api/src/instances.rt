@@ -5,7 +5,8 @@ ghost use Rattle.executor.specs.Managed.{Keeps};
 ghost use Rattle.executor.specs.Operating.{IsRowOf};
 ghost use Rattle.instance_table.specs.Rows.{rows};
 ghost use Rattle.json_views.specs.Instances.{IsShowable};
-ghost use Rattle.lcm_api.specs.Instances.{asked_id, delete_found, delete_instance, deleted, deletion, list_instances, named_instance, no_instance, row_text, show_found, show_instance};
+ghost use Rattle.lcm_api.specs.Instances.{asked_id, delete_found, delete_instance, deleted, deletion, list_instances};
+ghost use Rattle.lcm_api.specs.Instances.{named_instance, no_instance, row_text, show_found, show_instance};
 ghost use Rattle.lcm_api.specs.Recording.{IsPlanned};
 ghost use Rattle.lcm_api.specs.Replies.{told};
 
@@ -31,7 +32,8 @@ pub fn list<S: Site>(
 ) -> Result<Planned, AllocError>
     requires usable { manager.now.ledger.closed ≡ false }
     requires kept { (H : List Event) × Keeps manager.now H }
-    ensures { (H : List Event) → Keeps manager.now H → IfOk result (IsPlanned (list_instances manager.now.ledger.manager H request.now) manager.now H) }
+    ensures { (H : List Event) → Keeps manager.now H → IfOk result
+        (IsPlanned (list_instances manager.now.ledger.manager H request.now) manager.now H) }
 {
     legal_rows_can_be_shown();
     if asks_filter(request.target.as_str()) {
@@ -51,7 +53,8 @@ pub fn show<S: Site>(
 ) -> Result<Planned, AllocError>
     requires usable { manager.now.ledger.closed ≡ false }
     requires kept { (H : List Event) × Keeps manager.now H }
-    ensures { (H : List Event) → Keeps manager.now H → IfOk result (IsPlanned (show_instance manager.now.ledger.manager H request.now) manager.now H) }
+    ensures { (H : List Event) → Keeps manager.now H → IfOk result
+        (IsPlanned (show_instance manager.now.ledger.manager H request.now) manager.now H) }
 {
     let reply = match named_instance(manager, asked_id(request)) {
         Some(row) => show_row(alloc, manager, row, request.last)?,
@@ -62,8 +65,8 @@ pub fn show<S: Site>(
 
 /// What a request to delete an instance comes to, where there is room for its event.
 ///
-/// Refusals of the request are replies, in this order: 404 for the instance, 409 where it is INSTANTIATED or an operation goes on. The
-/// call's one refusal is want of memory.
+/// Refusals of the request are replies, in this order: 404 for the instance, 409 where it is INSTANTIATED or an
+/// operation goes on. The call's one refusal is want of memory.
 /// Source: SOL 003 5.4.3.3.5.
 pub fn delete<S: Site>(
     alloc: Global,
@@ -72,7 +75,8 @@ pub fn delete<S: Site>(
     now: Moment,
 ) -> Result<Planned, AllocError>
     requires usable { manager.now.ledger.closed ≡ false }
-    ensures { (H : List Event) → Keeps manager.now H → IfOk result (IsPlanned (delete_instance manager.now.ledger.manager H now request.now) manager.now H) }
+    ensures { (H : List Event) → Keeps manager.now H → IfOk result
+        (IsPlanned (delete_instance manager.now.ledger.manager H now request.now) manager.now H) }
 {
     let Some(row) = named_instance(manager, asked_id(request)) else {
         return Ok(Planned::Told(no_instance(alloc, request.last)?));
@@ -93,7 +97,8 @@ pub fn asked_id(request: &Request) -> &str
 /// The row of the live instance that has this identifier; none exactly where no live instance has it.
 pub fn named_instance<'a, S: Site>(manager: &'a Manager<S>, id: &str) -> Option<&'a InstanceRow>
     requires usable { manager.now.ledger.closed ≡ false }
-    ensures named { (H : List Event) → Keeps manager.now H → option_copied result ≡ named_instance manager.now.ledger.manager H id.now }
+    ensures named { (H : List Event) → Keeps manager.now H
+        → option_copied result ≡ named_instance manager.now.ledger.manager H id.now }
     ensures own { IfSome result (λ row. IsRowOf manager.now row.now) }
     ensures shown { (H : List Event) → Keeps manager.now H → IfSome result (λ row. IsShowable (rows H) row.now) }
 {
@@ -112,7 +117,8 @@ fn show_row<S: Site>(
 ) -> Result<Reply, AllocError>
     requires usable { manager.now.ledger.closed ≡ false }
     requires showable { (H : List Event) × Keeps manager.now H × IsShowable (rows H) row.now }
-    ensures { (H : List Event) → Keeps manager.now H → IsShowable (rows H) row.now → IfOk result (λ reply. show_found manager.now.ledger.manager H last (Some row.now) ≡ told reply) }
+    ensures { (H : List Event) → Keeps manager.now H → IsShowable (rows H) row.now
+        → IfOk result (λ reply. show_found manager.now.ledger.manager H last (Some row.now) ≡ told reply) }
 {
     let Some(vnfd) = manager.instances().vnfd(&row.vnfd) else {
         unreachable!()

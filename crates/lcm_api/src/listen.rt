@@ -19,7 +19,8 @@ pub fn read_to_end<D: Door>(door: &mut D, room: &mut [u8]) -> Reading
     requires up { (D.counts door.old).up ≡ true }
     ensures within { result.count ≤ length room.old }
     ensures room { length room.new ≡ length room.old }
-    ensures told { D.tells → Hears (length room.old) (take result.count room.new) result.failed (D.state door.old) (D.state door.new) }
+    ensures told { D.tells → Hears (length room.old) (take result.count room.new) result.failed (D.state door.old)
+        (D.state door.new) }
     ensures cause { FailsOnce result.failed (D.counts door.old) (D.counts door.new) }
     ensures no_write { D.writes door.new ≡ D.writes door.old }
 {

@@ -24,10 +24,11 @@ use std::alloc::{AllocError, Global};
 use std::marker::Model;
 use told_moments::ToldMoments;
 
-/// The requests of connections, with room for one answer and the paths that requests may name, and the request in hand with the role that it was heard for.
+/// The requests of connections, with room for one answer and the paths that requests may name, and the request in hand
+/// with the role that it was heard for.
 ///
-/// It owns the wire and with it the door, and `tell` is the one call that writes to the door. Each telling is noted by the moment of the site
-/// at which it came, which only proofs read.
+/// It owns the wire and with it the door, and `tell` is the one call that writes to the door. Each telling is noted by
+/// the moment of the site at which it came, which only proofs read.
 pub struct Mouth<D: Door> {
     wire: Wire<D>,
     outgoing: Outgoing,
@@ -118,14 +119,17 @@ impl<D: Door> Mouth<D> {
         self.wire.door_mut().hang_up();
     }
 
-    /// Reads what is left of the connection at hand to its end, or until the room is full. The wire doesn't see these bytes.
+    /// Reads what is left of the connection at hand to its end, or until the room is full. The wire doesn't see these
+    /// bytes.
     ///
     /// Condition: the connection is up.
-    /// Where a read failed, the answer says so, and the door's count of faults rose by one; the bytes before it were read. Else the counts stay.
+    /// Where a read failed, the answer says so, and the door's count of faults rose by one; the bytes before it were
+    /// read. Else the counts stay.
     pub fn read_to_end(&mut self, room: &mut [u8]) -> Reading
         requires up { self.old.wire.intake.counts.up ≡ true }
         ensures within { result.count ≤ length room.old }
-        ensures told { D.tells → Hears (length room.old) (take result.count room.new) result.failed self.old.wire.intake.door self.new.wire.intake.door }
+        ensures told { D.tells → Hears (length room.old) (take result.count room.new) result.failed
+            self.old.wire.intake.door self.new.wire.intake.door }
         ensures cause { FailsOnce result.failed self.old.wire.intake.counts self.new.wire.intake.counts }
         ensures no_write { self.new.wire.intake.writes ≡ self.old.wire.intake.writes }
         ensures kept { OnlyAtDoor self.old self.new }
@@ -134,12 +138,12 @@ impl<D: Door> Mouth<D> {
         read_to_end(self.wire.door_mut(), room)
     }
 
-    /// Takes the next request of the connection in hand, for this role, reading no more than it needs. The answer says whether
-    /// there was one: there is none where no byte is left or the request before was the connection's last.
+    /// Takes the next request of the connection in hand, for this role, reading no more than it needs. The answer says
+    /// whether there was one: there is none where no byte is left or the request before was the connection's last.
     ///
     /// Condition: the connection is up, unless its last request was taken.
-    /// Refusals: those of the wire, `Malformed`, `TooLarge`, `Unfinished`, `Read` and `Memory`. After a refusal, and where there
-    /// was none, no request is in hand, and no byte is lost.
+    /// Refusals: those of the wire, `Malformed`, `TooLarge`, `Unfinished`, `Read` and `Memory`. After a refusal, and
+    /// where there was none, no request is in hand, and no byte is lost.
     /// Source: RFC 9112 2.1, 6, 9.6; the limits are an own rule.
     pub fn hear(&mut self, alloc: Global, role: Role) -> Result<bool, WireFault>
         requires up { self.old.wire.ended ≡ false → self.old.wire.intake.counts.up ≡ true }
@@ -162,14 +166,14 @@ impl<D: Door> Mouth<D> {
         }
     }
 
-    /// Tells a reply to the connection, by one write for a reply of at most 65,536 bytes and two for a longer one, and one more for each that
-    /// takes less than it is offered. No other call of the mouth writes.
+    /// Tells a reply to the connection, by one write for a reply of at most 65,536 bytes and two for a longer one, and
+    /// one more for each that takes less than it is offered. No other call of the mouth writes.
     ///
-    /// Condition: the connection is up. Condition of a reply below 400: the manager is open, the reply is the outcome of the request
-    /// in hand for its role, and its events end the manager's history, which every stop leaves.
-    /// Refusal: `DoorFailed` where a write failed: the door's count of faults rose by one, and a front of the bytes went out. Where the
-    /// reply was told whole the counts stay. Whether it was told whole or not, the site's moment is noted.
-    /// Source: RFC 9112 4, 5, 6.2, 9.6.
+    /// Condition: the connection is up. Condition of a reply below 400: the manager is open, the reply is the outcome
+    /// of the request in hand for its role, and its events end the manager's history, which every stop leaves.
+    /// Refusal: `DoorFailed` where a write failed: the door's count of faults rose by one, and a front of the bytes
+    /// went out. Where the reply was told whole the counts stay. Whether it was told whole or not, the site's moment is
+    /// noted. Source: RFC 9112 4, 5, 6.2, 9.6.
     pub fn tell<S: Site>(
         &mut self,
         manager: &Manager<S>,
@@ -177,10 +181,13 @@ impl<D: Door> Mouth<D> {
         reply: &Reply,
     ) -> Result<(), DoorFailed>
         requires up { self.old.wire.intake.counts.up ≡ true }
-        requires acknowledged { reply.now.status < 400 → IsAcknowledged S.tells manager.now (S.state site.now) self.old.hand self.old.role reply.now }
-        ensures told { D.tells → WorldTells (text reply.now) result self.old.wire.intake.door self.new.wire.intake.door }
+        requires acknowledged { reply.now.status < 400 → IsAcknowledged S.tells manager.now
+            (S.state site.now) self.old.hand self.old.role reply.now }
+        ensures told { D.tells → WorldTells (text reply.now) result self.old.wire.intake.door
+            self.new.wire.intake.door }
         ensures cause { FailsOnce (is_err result) self.old.wire.intake.counts self.new.wire.intake.counts }
-        ensures asks { AsksWrites (pieces (length (text reply.now))) result self.old.wire.intake.writes self.new.wire.intake.writes }
+        ensures asks { AsksWrites (pieces (length (text reply.now))) result self.old.wire.intake.writes
+            self.new.wire.intake.writes }
         ensures kept { OnlyAtDoor self.old self.new }
         ensures noted { self.new.told ≡ (S.state site.now).moment ∷ self.old.told }
     {

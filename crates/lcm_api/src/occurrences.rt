@@ -4,7 +4,8 @@ ghost use Rattle.lcm_events.specs.declared.events.Event.{Event};
 ghost use Rattle.executor.specs.Managed.{Keeps};
 ghost use Rattle.instance_table.specs.Rows.{rows};
 ghost use Rattle.json_views.specs.Occurrences.{IsOccurrenceShowable};
-ghost use Rattle.lcm_api.specs.Occurrences.{list_occurrences, named_operation, no_occurrence, show_asked, show_occurrence, show_row};
+ghost use Rattle.lcm_api.specs.Occurrences.{list_occurrences, named_operation, no_occurrence, show_asked};
+ghost use Rattle.lcm_api.specs.Occurrences.{show_occurrence, show_row};
 ghost use Rattle.lcm_api.specs.Recording.{IsPlanned};
 ghost use Rattle.lcm_api.specs.Replies.{told};
 ghost use Rattle.lcm_model.specs.Operations.{operation};
@@ -31,7 +32,8 @@ pub fn list<S: Site>(
 ) -> Result<Planned, AllocError>
     requires usable { manager.now.ledger.closed ≡ false }
     requires kept { (H : List Event) × Keeps manager.now H }
-    ensures { (H : List Event) → Keeps manager.now H → IfOk result (IsPlanned (list_occurrences manager.now.ledger.manager H request.now) manager.now H) }
+    ensures { (H : List Event) → Keeps manager.now H → IfOk result
+        (IsPlanned (list_occurrences manager.now.ledger.manager H request.now) manager.now H) }
 {
     legal_occurrences_can_be_shown();
     if asks_filter(request.target.as_str()) {
@@ -56,7 +58,8 @@ pub fn show<S: Site>(
 ) -> Result<Planned, AllocError>
     requires usable { manager.now.ledger.closed ≡ false }
     requires kept { (H : List Event) × Keeps manager.now H }
-    ensures { (H : List Event) → Keeps manager.now H → IfOk result (IsPlanned (show_occurrence manager.now.ledger.manager H request.now) manager.now H) }
+    ensures { (H : List Event) → Keeps manager.now H → IfOk result
+        (IsPlanned (show_occurrence manager.now.ledger.manager H request.now) manager.now H) }
 {
     let reply = match named_number(manager, asked_id(request)) {
         Some(n) => show_number(alloc, manager, n, request.last)?,
@@ -65,10 +68,12 @@ pub fn show<S: Site>(
     Ok(Planned::Told(reply))
 }
 
-/// The number of the occurrence that has this identifier, where there is one of that number; none where the identifier is no occurrence's.
+/// The number of the occurrence that has this identifier, where there is one of that number; none where the identifier
+/// is no occurrence's.
 pub fn named_number<S: Site>(manager: &Manager<S>, id: &str) -> Option<u64>
     requires usable { manager.now.ledger.closed ≡ false }
-    ensures { (H : List Event) → Keeps manager.now H → named_operation manager.now.ledger.manager H id.now ≡ option_and_then (operation H) result }
+    ensures { (H : List Event) → Keeps manager.now H → named_operation manager.now.ledger.manager H id.now
+        ≡ option_and_then (operation H) result }
 {
     legal_occurrences_can_be_shown();
     let _table = manager.occurrences();
@@ -84,7 +89,8 @@ fn show_number<S: Site>(
 ) -> Result<Reply, AllocError>
     requires usable { manager.now.ledger.closed ≡ false }
     requires kept { (H : List Event) × Keeps manager.now H }
-    ensures { (H : List Event) → Keeps manager.now H → IfOk result (λ reply. show_asked manager.now.ledger.manager H last (operation H n) ≡ told reply) }
+    ensures { (H : List Event) → Keeps manager.now H → IfOk result
+        (λ reply. show_asked manager.now.ledger.manager H last (operation H n) ≡ told reply) }
 {
     legal_occurrences_can_be_shown();
     match manager.occurrences().occurrence(n) {
@@ -103,7 +109,8 @@ pub fn show_row<S: Site>(
 ) -> Result<Reply, AllocError>
     requires usable { manager.now.ledger.closed ≡ false }
     requires showable { (H : List Event) × Keeps manager.now H × IsOccurrenceShowable (rows H) n row.now }
-    ensures { (H : List Event) → Keeps manager.now H → IsOccurrenceShowable (rows H) n row.now → IfOk result (λ reply. show_row manager.now.ledger.manager H last n row.now ≡ told reply) }
+    ensures { (H : List Event) → Keeps manager.now H → IsOccurrenceShowable (rows H) n row.now
+        → IfOk result (λ reply. show_row manager.now.ledger.manager H last n row.now ≡ told reply) }
 {
     let Some(vnfd) = manager.instances().vnfd(&row.vnfd.name()) else {
         unreachable!()

@@ -1,7 +1,8 @@
 //! The head of an answer, put together in room that was taken beforehand, so that telling takes no memory.
 ghost use Rattle.std.specs.Prelude.{◌≡◌, ◌⊎◌, ◌≤◌, ◌+◌, ◌++◌, [], length, codes, decimal, IfOk};
 ghost use Rattle.lcm_api.specs.declared.outgoing.TheConstants.{ROOM};
-ghost use Rattle.lcm_api.specs.Response.{reason, field, optional_field, status_line, media_type, content_fields, last_field, head_text};
+ghost use Rattle.lcm_api.specs.Response.{reason, field, optional_field, status_line, media_type, content_fields};
+ghost use Rattle.lcm_api.specs.Response.{last_field, head_text};
 
 use crate::reply::Reply;
 use itoa::Buffer;
@@ -166,7 +167,8 @@ impl Outgoing {
 
     fn put_described(&mut self, problem: bool, size: usize)
         requires { length self.old ≤ 63000 }
-        ensures bytes { self.new ≡ self.old ++ (field (codes "Content-Type") (media_type problem) ++ field (codes "Content-Length") (decimal size)) }
+        ensures bytes { self.new ≡ self.old ++ (field (codes "Content-Type") (media_type problem)
+            ++ field (codes "Content-Length") (decimal size)) }
         ensures short { length self.new ≤ length self.old + 160 }
     {
         self.put_field(b"Content-Type", media_type(problem).as_bytes());

@@ -38,10 +38,14 @@ pub fn carry_out<S: Site>(
     planned: Planned,
     last: bool,
 ) -> Result<Reply, ApiFault>
-    requires ready { (H : List Event) × IsReady S.tells manager.old H (S.state site.old) × MayCarryOut manager.old H planned }
-    ensures reply { (H : List Event) → Keeps manager.old H → IfOk result (λ given. given ≡ (in_room H last planned).reply) }
-    ensures works { (H : List Event) → IsReady S.tells manager.old H (S.state site.old) → MayCarryOut manager.old H planned
-        → Works S.tells manager.old.ledger.manager H (answered (in_room H last planned) H result) manager.new (S.state site.old) (S.state site.new) }
+    requires ready { (H : List Event) × IsReady S.tells manager.old H (S.state site.old)
+        × MayCarryOut manager.old H planned }
+    ensures reply { (H : List Event) → Keeps manager.old H
+        → IfOk result (λ given. given ≡ (in_room H last planned).reply) }
+    ensures works { (H : List Event) → IsReady S.tells manager.old H (S.state site.old)
+        → MayCarryOut manager.old H planned
+        → Works S.tells manager.old.ledger.manager H (answered (in_room H last planned) H result) manager.new
+        (S.state site.old) (S.state site.new) }
     ensures counts { OnlyDiskFails (result ≡ Err ApiFault.Disk) (S.counts site.old) (S.counts site.new) }
 {
     works_add_up::<S>();
@@ -64,10 +68,14 @@ fn record<S: Site>(
     reply: Reply,
     last: bool,
 ) -> Result<Reply, ApiFault>
-    requires fits { (H : List Event) × IsReady S.tells manager.old H (S.state site.old) × FitsBehind manager.old H event.now }
-    ensures reply { (H : List Event) → Keeps manager.old H → IfOk result (λ given. given ≡ (recorded (is_full MAX_REQUESTED (event.now ∷ H)) event.now reply last).reply) }
-    ensures works { (H : List Event) → IsReady S.tells manager.old H (S.state site.old) → FitsBehind manager.old H event.now → Works S.tells manager.old.ledger.manager H
-        (answered (recorded (is_full MAX_REQUESTED (event.now ∷ H)) event.now reply last) H result) manager.new (S.state site.old) (S.state site.new) }
+    requires fits { (H : List Event) × IsReady S.tells manager.old H (S.state site.old)
+        × FitsBehind manager.old H event.now }
+    ensures reply { (H : List Event) → Keeps manager.old H
+        → IfOk result (λ given. given ≡ (recorded (is_full MAX_REQUESTED (event.now ∷ H)) event.now reply last).reply) }
+    ensures works { (H : List Event) → IsReady S.tells manager.old H (S.state site.old)
+        → FitsBehind manager.old H event.now → Works S.tells manager.old.ledger.manager H
+        (answered (recorded (is_full MAX_REQUESTED (event.now ∷ H)) event.now reply last) H result) manager.new
+        (S.state site.old) (S.state site.new) }
     ensures counts { OnlyDiskFails (result ≡ Err ApiFault.Disk) (S.counts site.old) (S.counts site.new) }
 {
     match manager.commit(alloc, site, event, MAX_REQUESTED) {

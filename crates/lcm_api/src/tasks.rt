@@ -6,7 +6,8 @@ ghost use Rattle.lcm_events.specs.declared.events.Operation.{Operation};
 ghost use Rattle.executor.specs.Managed.{Keeps};
 ghost use Rattle.lcm_api.specs.Recording.{IsPlanned};
 ghost use Rattle.lcm_api.specs.Replies.{told};
-ghost use Rattle.lcm_api.specs.Tasks.{IsTaskVerdict, occurrence_task, task_asked, task_event, task_kind, task_named, task_of, task_refused, task_reply, taken};
+ghost use Rattle.lcm_api.specs.Tasks.{IsTaskVerdict, occurrence_task, task_asked, task_event, task_kind, task_named};
+ghost use Rattle.lcm_api.specs.Tasks.{task_of, task_refused, task_reply, taken};
 ghost use Rattle.lcm_model.specs.Allowed.{IsAllowed};
 ghost use Rattle.lcm_model.specs.Operations.{operation};
 ghost use Rattle.occ_table.specs.Rows.{occurrence};
@@ -44,11 +45,12 @@ pub enum AskedTask {
     Cancel(CancelMode),
 }
 
-/// What a request for this task of an occurrence comes to, where there is room for its event. Only the body of a cancel is read.
+/// What a request for this task of an occurrence comes to, where there is room for its event. Only the body of a cancel
+/// is read.
 ///
-/// Refusals of the request are replies, in this order: 415 for the media type of a cancel, 400 for its body, 404 for the occurrence, 404 for
-/// rollback of TERMINATE, 409 for the state of the occurrence. The call's one refusal is want of memory.
-/// Source: SOL 003 5.4.14 to 5.4.17 (Retry, Rollback, Fail, Cancel operation task).
+/// Refusals of the request are replies, in this order: 415 for the media type of a cancel, 400 for its body, 404 for
+/// the occurrence, 404 for rollback of TERMINATE, 409 for the state of the occurrence. The call's one refusal is want
+/// of memory. Source: SOL 003 5.4.14 to 5.4.17 (Retry, Rollback, Fail, Cancel operation task).
 pub fn task<S: Site>(
     alloc: Global,
     manager: &Manager<S>,
@@ -58,7 +60,8 @@ pub fn task<S: Site>(
 ) -> Result<Planned, AllocError>
     requires usable { manager.now.ledger.closed ≡ false }
     requires kept { (H : List Event) × Keeps manager.now H }
-    ensures { (H : List Event) → Keeps manager.now H → IfOk result (IsPlanned (occurrence_task manager.now.ledger.manager H now task request.now) manager.now H) }
+    ensures { (H : List Event) → Keeps manager.now H → IfOk result
+        (IsPlanned (occurrence_task manager.now.ledger.manager H now task request.now) manager.now H) }
 {
     match judge(alloc, task, request)? {
         TaskVerdict::Refused(reply) => Ok(Planned::Told(reply)),
@@ -111,7 +114,8 @@ fn task_as<S: Site>(
 ) -> Result<Planned, AllocError>
     requires usable { manager.now.ledger.closed ≡ false }
     requires kept { (H : List Event) × Keeps manager.now H }
-    ensures { (H : List Event) → Keeps manager.now H → IfOk result (IsPlanned (task_named manager.now.ledger.manager H now asked request.now) manager.now H) }
+    ensures { (H : List Event) → Keeps manager.now H → IfOk result
+        (IsPlanned (task_named manager.now.ledger.manager H now asked request.now) manager.now H) }
 {
     match named_number(manager, asked_id(request)) {
         Some(n) => task_of_number(alloc, manager, asked, n, now, request.last),
@@ -130,7 +134,8 @@ fn task_of_number<S: Site>(
 ) -> Result<Planned, AllocError>
     requires usable { manager.now.ledger.closed ≡ false }
     requires kept { (H : List Event) × Keeps manager.now H }
-    ensures { (H : List Event) → Keeps manager.now H → IfOk result (IsPlanned (task_asked manager.now.ledger.manager H now asked last (operation H n)) manager.now H) }
+    ensures { (H : List Event) → Keeps manager.now H → IfOk result
+        (IsPlanned (task_asked manager.now.ledger.manager H now asked last (operation H n)) manager.now H) }
 {
     match manager.occurrences().occurrence(n) {
         Some(row) => task_of_row(alloc, manager, asked, n, row, now, last),
@@ -151,7 +156,8 @@ fn task_of_row<S: Site>(
     requires usable { manager.now.ledger.closed ≡ false }
     requires found { (H : List Event) × Keeps manager.now H × (occurrence H n ≡ Some row.now) }
     ensures { (H : List Event) → Keeps manager.now H → occurrence H n ≡ Some row.now
-        → IfOk result (IsPlanned (task_asked manager.now.ledger.manager H now asked last (operation H n)) manager.now H) }
+        → IfOk result (IsPlanned (task_asked manager.now.ledger.manager H now asked last (operation H n)) manager.now
+        H) }
 {
     match task_allowed(row.ask.kind(), row.state, task_of(asked)) {
         Ok(()) => {
@@ -162,7 +168,8 @@ fn task_of_row<S: Site>(
     }
 }
 
-/// The reply to what is asked of the occurrence of this number, of this row, where it is allowed: fail shows the occurrence, as it is then.
+/// The reply to what is asked of the occurrence of this number, of this row, where it is allowed: fail shows the
+/// occurrence, as it is then.
 fn reply_to<S: Site>(
     alloc: Global,
     manager: &Manager<S>,
@@ -174,9 +181,11 @@ fn reply_to<S: Site>(
 ) -> Result<Reply, AllocError>
     requires usable { manager.now.ledger.closed ≡ false }
     requires found { (H : List Event) × Keeps manager.now H × (occurrence H n ≡ Some row.now) }
-    ensures { (H : List Event) (a : Operation) → Keeps manager.now H → operation H n ≡ Some a → occurrence H n ≡ Some row.now
+    ensures { (H : List Event) (a : Operation) → Keeps manager.now H → operation H n ≡ Some a
+        → occurrence H n ≡ Some row.now
         → IsAllowed manager.now.ledger.manager H (task_kind n asked)
-        → IfOk result (λ reply. reply ≡ task_reply manager.now.ledger.manager (task_event now n asked ∷ H) asked a last) }
+        → IfOk result (λ reply. reply ≡ task_reply manager.now.ledger.manager
+        (task_event now n asked ∷ H) asked a last) }
 {
     match asked {
         AskedTask::Fail => show_failed(alloc, manager, n, row, now, last),
@@ -195,9 +204,11 @@ fn show_failed<S: Site>(
 ) -> Result<Reply, AllocError>
     requires usable { manager.now.ledger.closed ≡ false }
     requires found { (H : List Event) × Keeps manager.now H × (occurrence H n ≡ Some row.now) }
-    ensures { (H : List Event) (a : Operation) → Keeps manager.now H → operation H n ≡ Some a → occurrence H n ≡ Some row.now
+    ensures { (H : List Event) (a : Operation) → Keeps manager.now H → operation H n ≡ Some a
+        → occurrence H n ≡ Some row.now
         → IsAllowed manager.now.ledger.manager H (task_kind n AskedTask.Fail)
-        → IfOk result (λ reply. reply ≡ task_reply manager.now.ledger.manager (task_event now n AskedTask.Fail ∷ H) AskedTask.Fail a last) }
+        → IfOk result (λ reply. reply ≡ task_reply manager.now.ledger.manager
+        (task_event now n AskedTask.Fail ∷ H) AskedTask.Fail a last) }
 {
     legal_occurrences_can_be_shown();
     let _table = manager.occurrences();

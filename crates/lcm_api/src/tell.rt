@@ -32,7 +32,8 @@ fn write_both<D: Door>(door: &mut D, first: &[u8], rest: &[u8]) -> Result<(), Do
     requires up { (D.counts door.old).up ≡ true }
     ensures told { D.tells → WorldTells (first.now ++ rest.now) result (D.state door.old) (D.state door.new) }
     ensures cause { FailsOnce (is_err result) (D.counts door.old) (D.counts door.new) }
-    ensures asks { AsksWrites (one_piece (length first.now) + one_piece (length rest.now)) result (D.writes door.old) (D.writes door.new) }
+    ensures asks { AsksWrites (one_piece (length first.now) + one_piece (length rest.now)) result (D.writes door.old)
+        (D.writes door.new) }
 {
     write_all(door, first)?;
     write_all(door, rest)

@@ -117,7 +117,8 @@ fn numbers_text(alloc: Global, numbers: &[u64]) -> Result<String, AllocError> {
     Ok(text)
 }
 
-/// Whether these are the numbers behind the first place of an act; they aren't where it is misspelled, so that it doesn't come out right.
+/// Whether these are the numbers behind the first place of an act; they aren't where it is misspelled, so that it
+/// doesn't come out right.
 pub fn has_numbers(act: &[Value], numbers: &[u64]) -> bool {
     for place in 0..numbers.len() {
         match act.get(place.saturating_add(1)) {
@@ -212,7 +213,8 @@ impl Stage {
         self.has_hung_up(alloc)
     }
 
-    /// `["only answered", TEXT]`: the file is as it was before the last command, which ended with 0, and its connection was told this and hung up.
+    /// `["only answered", TEXT]`: the file is as it was before the last command, which ended with 0, and its connection
+    /// was told this and hung up.
     pub fn is_only_answered(&self, alloc: Global, text: &Value) -> Result<(), ActFault> {
         self.is_answered(alloc, text)?;
         self.stays(alloc)
@@ -290,7 +292,8 @@ impl Stage {
         same_word(alloc, &wanted, &tag_text(alloc, tag)?)
     }
 
-    /// `["stands", PLACE, TEXT]`: the job at this place, from 0, stands so: its tag, and `running`, `done NAME`, `broken CODE` or `aborted`.
+    /// `["stands", PLACE, TEXT]`: the job at this place, from 0, stands so: its tag, and `running`, `done NAME`,
+    /// `broken CODE` or `aborted`.
     pub fn job_stands(&self, alloc: Global, act: &[Value]) -> Result<(), ActFault> {
         let text = job_text(alloc, &self.site, count(act, 1)?)?;
         is_text(alloc, &text, act, 2)
@@ -328,7 +331,8 @@ impl Stage {
         self.has_left(alloc, &self.steps)
     }
 
-    /// `["left"]`: the file has the records that are left of the whole life, the jobs agree with them, and are as many as were begun.
+    /// `["left"]`: the file has the records that are left of the whole life, the jobs agree with them, and are as many
+    /// as were begun.
     pub fn is_left(&self, alloc: Global) -> Result<(), ActFault> {
         let steps = self.whole.steps_to(alloc, self.stop.records)?;
         self.has_front(alloc, &steps)
@@ -343,8 +347,8 @@ impl Stage {
         agrees(alloc, &self.site, steps)
     }
 
-    /// `["again"]`: the file has all steps of the whole life, behind the records that were there before the last command, where an attempt that
-    /// had no job yet is made again; and the jobs agree with them.
+    /// `["again"]`: the file has all steps of the whole life, behind the records that were there before the last
+    /// command, where an attempt that had no job yet is made again; and the jobs agree with them.
     pub fn is_again(&mut self, alloc: Global) -> Result<(), ActFault> {
         self.steps = self.whole.steps_again(alloc, self.stop.lost)?;
         self.keeps_records(alloc)?;

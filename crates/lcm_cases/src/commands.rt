@@ -46,8 +46,8 @@ fn one_turn(alloc: Global, site: &mut MemSite, orchestrator: &mut GrantAll) -> O
     turn(alloc, &mut manager, site, orchestrator, now).ok()
 }
 
-/// Answers the session of the connection that this mouth's door plans, at this moment, without a turn: how many replies were told; none where the
-/// journal wasn't opened or nobody came.
+/// Answers the session of the connection that this mouth's door plans, at this moment, without a turn: how many replies
+/// were told; none where the journal wasn't opened or nobody came.
 fn serve(
     alloc: Global,
     site: &mut MemSite,
@@ -79,7 +79,8 @@ fn is_amiss(turn: Turn, stays: bool) -> bool {
     stays != (turn.acted == 0)
 }
 
-/// A turn was made that came to the counts behind the first place of an act, and the file stays exactly where it acted nothing.
+/// A turn was made that came to the counts behind the first place of an act, and the file stays exactly where it acted
+/// nothing.
 fn has_made(alloc: Global, act: &[Value], made: Option<Turn>, stays: bool) -> Result<(), ActFault> {
     let Some(turn) = made else {
         return holds(
@@ -189,8 +190,8 @@ impl Stage {
         Ok(self.run_words(alloc, &words)?)
     }
 
-    /// `["once", TEXT, TOLD]`: runs `once` with a connection of this text, which is told that and hung up, with status 0. Both may be left out,
-    /// or the second.
+    /// `["once", TEXT, TOLD]`: runs `once` with a connection of this text, which is told that and hung up, with status
+    /// 0. Both may be left out, or the second.
     pub fn once(&mut self, alloc: Global, act: &[Value]) -> Result<(), ActFault> {
         self.plan_asked(alloc, act, 1)?;
         let words = words_of(alloc, &["once", "--journal", "j"])?;
@@ -198,8 +199,9 @@ impl Stage {
         self.went_well(alloc, act, 2)
     }
 
-    /// `["rounds", N, TEXT, TOLD]`: runs so many rounds of `once` with the orchestrator that grants all, the first with a connection of this
-    /// text, which is told that and hung up, with status 0. The texts may be left out, or the second.
+    /// `["rounds", N, TEXT, TOLD]`: runs so many rounds of `once` with the orchestrator that grants all, the first with
+    /// a connection of this text, which is told that and hung up, with status 0. The texts may be left out, or the
+    /// second.
     pub fn rounds(&mut self, alloc: Global, act: &[Value]) -> Result<(), ActFault> {
         self.plan_asked(alloc, act, 2)?;
         let words = rounds_words(alloc, number(act, 1)?)?;
@@ -217,8 +219,8 @@ impl Stage {
         Ok(replies)
     }
 
-    /// `["answers", NOW, TEXT, TOLD]`: the session of a connection with this text, whose second write fails, is answered at this moment with this
-    /// one reply. No turn is made behind it.
+    /// `["answers", NOW, TEXT, TOLD]`: the session of a connection with this text, whose second write fails, is
+    /// answered at this moment with this one reply. No turn is made behind it.
     pub fn answers(&mut self, alloc: Global, act: &[Value]) -> Result<(), ActFault> {
         let (now, asked, told) = (number(act, 1)?, part(act, 2)?, part(act, 3)?);
         self.keep_file(alloc)?;
@@ -229,8 +231,8 @@ impl Stage {
         has_replied(alloc, replies)
     }
 
-    /// `["turn", ACTED, WAITING, UNREACHED]`: opens the journal and makes a turn, which comes to these counts, and leaves the file where it records
-    /// nothing.
+    /// `["turn", ACTED, WAITING, UNREACHED]`: opens the journal and makes a turn, which comes to these counts, and
+    /// leaves the file where it records nothing.
     pub fn turn(&mut self, alloc: Global, act: &[Value]) -> Result<(), ActFault> {
         self.keep_file(alloc)?;
         let made = one_turn(alloc, &mut self.site, &mut self.granting);
@@ -245,7 +247,8 @@ impl Stage {
         Ok(())
     }
 
-    /// `["stop behind", CALLS]`: what a stop behind so many calls from the opening on leaves, where what isn't synced is lost.
+    /// `["stop behind", CALLS]`: what a stop behind so many calls from the opening on leaves, where what isn't synced
+    /// is lost.
     pub fn stop_behind(&mut self, alloc: Global, act: &[Value]) -> Result<(), CaseFault> {
         let moment = opening(&self.site).saturating_add(count(act, 1)?);
         self.site = self

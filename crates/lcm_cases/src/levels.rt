@@ -1,4 +1,5 @@
-//! Acts about the levels of a descriptor, which the program doesn't ask for: those of a name, and those that an ask aims at.
+//! Acts about the levels of a descriptor, which the program doesn't ask for: those of a name, and those that an ask
+//! aims at.
 //!
 //! A descriptor is the text of an Onboarded, and an ask that of an Asked (docs/EVENTS.md).
 
@@ -66,7 +67,8 @@ impl Stage {
         event_of(alloc, &text)
     }
 
-    /// `["named", ONBOARDED, NAME, TEXT]`: the descriptor's instantiation level of this name has these levels, or there are none, for this cause.
+    /// `["named", ONBOARDED, NAME, TEXT]`: the descriptor's instantiation level of this name has these levels, or there
+    /// are none, for this cause.
     pub fn has_level(&self, alloc: Global, act: &[Value]) -> Result<(), ActFault> {
         let level = name(act, 2)?;
         let onboarded = self.event(alloc, act, 1)?;
@@ -80,7 +82,8 @@ impl Stage {
         is_text(alloc, &self.aim(alloc, &onboarded, &from, act)?, act, 4)
     }
 
-    /// What the ask whose text stands at the fourth place of an act aims at, of an instance of this descriptor at these levels.
+    /// What the ask whose text stands at the fourth place of an act aims at, of an instance of this descriptor at these
+    /// levels.
     fn aim(
         &self,
         alloc: Global,

@@ -1,4 +1,5 @@
-//! Whole lives, which are stopped or of which a call fails, and short ones, of which each is stopped at another of its calls.
+//! Whole lives, which are stopped or of which a call fails, and short ones, of which each is stopped at another of its
+//! calls.
 
 use crate::stage::Stage;
 use case_lives::{
@@ -17,17 +18,17 @@ const SHORT_LIFE: u64 = 7;
 /// The most short lives.
 const LIVES: usize = 60;
 
-/// How many calls behind its opening a short life of this number is stopped: from 5, which is the attempt's intent with its begin or the look with
-/// its end, to 27, and another number in each of 23 lives. Where all were stopped at one place, each might end the attempt of the one before
-/// and leave another without a job.
+/// How many calls behind its opening a short life of this number is stopped: from 5, which is the attempt's intent with
+/// its begin or the look with its end, to 27, and another number in each of 23 lives. Where all were stopped at one
+/// place, each might end the attempt of the one before and leave another without a job.
 fn length_of(life: usize) -> usize {
     let turned = life.saturating_mul(7) % 23;
     turned.saturating_add(5)
 }
 
 impl Stage {
-    /// `["life", [STEP..], [STEP..]]`: what was done on the site, since it was made or renewed, is a whole life of the second steps, behind the
-    /// first ones.
+    /// `["life", [STEP..], [STEP..]]`: what was done on the site, since it was made or renewed, is a whole life of the
+    /// second steps, behind the first ones.
     pub fn take_life(&mut self, alloc: Global, act: &[Value]) -> Result<(), CaseFault> {
         let (before, steps) = (list(act, 1)?, list(act, 2)?);
         self.whole.before = steps_of(alloc, before)?;
@@ -72,8 +73,8 @@ impl Stage {
         Ok(())
     }
 
-    /// `["fallen"]`: the last command ended with 3 and `site fault`. What is there of the whole life is counted, and the next command has another
-    /// orchestrator.
+    /// `["fallen"]`: the last command ended with 3 and `site fault`. What is there of the whole life is counted, and
+    /// the next command has another orchestrator.
     pub fn fallen(&mut self, alloc: Global) -> Result<(), ActFault> {
         let made = calls_of(&self.site).begins;
         let begins = made.saturating_sub(self.whole.earlier.begins);
@@ -99,16 +100,16 @@ impl Stage {
         self.keeps_records(alloc)
     }
 
-    /// `["lives", FIRST, CHOICE, TEXT]`: short lives, from the one of that number on, each stopped in its turn with that choice, keep each record
-    /// that was there, and come to records that end with this text.
+    /// `["lives", FIRST, CHOICE, TEXT]`: short lives, from the one of that number on, each stopped in its turn with
+    /// that choice, keep each record that was there, and come to records that end with this text.
     pub fn lives(&mut self, alloc: Global, act: &[Value], choice: Choice) -> Result<(), ActFault> {
         let first = count(act, 1)?;
         let end = self.names.text(alloc, part(act, 3)?)?;
         self.lives_to(alloc, first, choice, &end)
     }
 
-    /// Short lives, from the one of that number on, each stopped in its turn with that choice, keep each record that was there, and come to
-    /// records that end with this.
+    /// Short lives, from the one of that number on, each stopped in its turn with that choice, keep each record that
+    /// was there, and come to records that end with this.
     fn lives_to(
         &mut self,
         alloc: Global,

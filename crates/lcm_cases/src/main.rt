@@ -1,13 +1,15 @@
 //! Plays runs over the objects in memory, and tells which of them don't come out as they are to, and why.
 //!
-//! Each line of standard input is JSON: the heading of a module, `{"module": NAME, "runs": N, "wrong": N, "bytes": N}`, or behind it a text that has a
-//! name, `{"text": NAME, "is": TEXT}`, or a run, which is an array of its title and its acts. The heading says how many runs the module has, how many of
-//! them are to go wrong, and how many bytes its lines have, with their line feeds.
+//! Each line of standard input is JSON: the heading of a module, `{"module": NAME, "runs": N, "wrong": N, "bytes": N}`,
+//! or behind it a text that has a name, `{"text": NAME, "is": TEXT}`, or a run, which is an array of its title and its
+//! acts. The heading says how many runs the module has, how many of them are to go wrong, and how many bytes its lines
+//! have, with their line feeds.
 //!
-//! Of a run that goes wrong the title is told and the number of the first act that does, from 1, with its word; where that has acts in it, the stop, the
-//! fault or the front, from 0, and the act there; what was wanted and what came, where they differ first; and at how many other stops, faults or fronts
-//! it goes wrong. Each module ends with a line of its runs, which says more where it hasn't what its heading says, and all with one of all runs. The
-//! status is 1 where a module hasn't what its heading says.
+//! Of a run that goes wrong the title is told and the number of the first act that does, from 1, with its word; where
+//! that has acts in it, the stop, the fault or the front, from 0, and the act there; what was wanted and what came,
+//! where they differ first; and at how many other stops, faults or fronts it goes wrong. Each module ends with a line
+//! of its runs, which says more where it hasn't what its heading says, and all with one of all runs. The status is 1
+//! where a module hasn't what its heading says.
 #![tactic(auto)]
 
 mod checks;

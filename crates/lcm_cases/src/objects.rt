@@ -149,7 +149,8 @@ fn has_heard(conn: &MemConn, told: &[u8]) -> bool {
 /// The moment that the clock gives where no act says so.
 pub const NOW: u64 = 1_700_000_000_000;
 
-/// Runs these words over this site, this door, this orchestrator, a sink of which this put fails, and a clock that gives this.
+/// Runs these words over this site, this door, this orchestrator, a sink of which this put fails, and a clock that
+/// gives this.
 pub fn run_over<O: Orchestrator>(
     alloc: Global,
     words: &[Text],

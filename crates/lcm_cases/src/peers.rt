@@ -1,4 +1,5 @@
-//! Acts that make turns with an orchestrator whose answers are planned or that gives none, and that open a journal and ask its manager.
+//! Acts that make turns with an orchestrator whose answers are planned or that gives none, and that open a journal and
+//! ask its manager.
 
 use crate::checks::{holds, is_text};
 use crate::stage::Stage;
@@ -204,7 +205,8 @@ impl Stage {
         Ok(texts)
     }
 
-    /// Makes a turn of two grants and the turn behind it: the acts before one that is out of memory stand, and the next turn goes on from them.
+    /// Makes a turn of two grants and the turn behind it: the acts before one that is out of memory stand, and the next
+    /// turn goes on from them.
     fn stands(
         &mut self,
         alloc: Global,
@@ -225,9 +227,10 @@ impl Stage {
         Err(otherwise(alloc, "second", second, stand)?)
     }
 
-    /// `["starved", [TEXT, TEXT, TEXT], [TEXT, TEXT, TEXT]]`: opens the journal and makes a turn that grants two occurrences, and again, where at most one
-    /// allocation of both fails. Behind the first the file is one of the first texts: none, one or both are granted, as the turn ended and asked; where it
-    /// didn't come through, the second does, and the file is then that of the same place of the other texts. tests/out_of_memory.sh lets each
+    /// `["starved", [TEXT, TEXT, TEXT], [TEXT, TEXT, TEXT]]`: opens the journal and makes a turn that grants two
+    /// occurrences, and again, where at most one allocation of both fails. Behind the first the file is one of the
+    /// first texts: none, one or both are granted, as the turn ended and asked; where it didn't come through, the
+    /// second does, and the file is then that of the same place of the other texts. tests/out_of_memory.sh lets each
     /// allocation fail in turn.
     pub fn is_starved(&mut self, alloc: Global, act: &[Value]) -> Result<(), ActFault> {
         let granted = self.texts(alloc, list(act, 1)?)?;
@@ -242,25 +245,29 @@ impl Stage {
         Ok(())
     }
 
-    /// `["peer turn", TEXT]`: opens the journal and makes a turn with that orchestrator, which ends so: `ACTED WAITING UNREACHED`, or what ended it.
+    /// `["peer turn", TEXT]`: opens the journal and makes a turn with that orchestrator, which ends so: `ACTED WAITING
+    /// UNREACHED`, or what ended it.
     pub fn makes_turn(&mut self, alloc: Global, act: &[Value]) -> Result<(), ActFault> {
         let text = turn_text(alloc, &mut self.site, &mut self.peer)?;
         is_text(alloc, &text, act, 1)
     }
 
-    /// `["asks", TEXT]`: opens the journal and makes a turn with an orchestrator that gives no answer, which is asked last with this body.
+    /// `["asks", TEXT]`: opens the journal and makes a turn with an orchestrator that gives no answer, which is asked
+    /// last with this body.
     pub fn asks(&mut self, alloc: Global, act: &[Value]) -> Result<(), ActFault> {
         let body = self.names.text(alloc, part(act, 1)?)?;
         same_text(alloc, &body, &asked_last(alloc, &mut self.site)?)
     }
 
-    /// `["opened", TEXT]`: the journal is opened, and its manager has so many records, descriptors and instances, or it isn't, for this cause.
+    /// `["opened", TEXT]`: the journal is opened, and its manager has so many records, descriptors and instances, or it
+    /// isn't, for this cause.
     pub fn is_opened(&mut self, alloc: Global, act: &[Value]) -> Result<(), ActFault> {
         let text = opened_text(alloc, &mut self.site)?;
         is_text(alloc, &text, act, 1)
     }
 
-    /// `["descriptor", NAME, TRUTH]`: the journal is opened, and its manager has the descriptor of this name, or hasn't.
+    /// `["descriptor", NAME, TRUTH]`: the journal is opened, and its manager has the descriptor of this name, or
+    /// hasn't.
     pub fn has_descriptor(&mut self, alloc: Global, act: &[Value]) -> Result<(), ActFault> {
         let has = has_descriptor(alloc, &mut self.site, &name(act, 1)?);
         let is_so = has == Some(truth(act, 2)?);

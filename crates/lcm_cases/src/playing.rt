@@ -1,17 +1,18 @@
 //! Runs, act by act.
 //!
-//! An act is an array of a word and of what it takes, told by the method or the function that does it. A run goes well where all its acts do, and ends at the
-//! first that doesn't. Of those that have acts in them,
+//! An act is an array of a word and of what it takes, told by the method or the function that does it. A run goes well
+//! where all its acts do, and ends at the first that doesn't. Of those that have acts in them,
 //!
-//! - `["each stop", CHOICE, ACT..]` lets the site be what a stop of the whole life leaves at each moment in turn, where what isn't synced is `old`,
-//!   `new` or `torn`;
+//! - `["each stop", CHOICE, ACT..]` lets the site be what a stop of the whole life leaves at each moment in turn, where
+//!   what isn't synced is `old`, `new` or `torn`;
 //! - `["each fault", ACT..]` plans for the next site that each disk call of the whole life fails in turn;
 //! - `["each front", NAME, TEXT, ACT..]` gives that name to each front of the text in turn, but to the whole.
 //!
 //! They go on behind a stop, a fault or a front that goes wrong, and count the others that do.
 //!
-//! Within those, `["at records", FROM, TO, ACT]` and `["at calls", FROM, TO, ACT]` play the act where so many records of the whole life are there,
-//! or so many of its disk calls were made behind its opening; `["unopened", ACT]` where a call of the opening failed; `["at first", ACT]` and
+//! Within those, `["at records", FROM, TO, ACT]` and `["at calls", FROM, TO, ACT]` play the act where so many records
+//! of the whole life are there, or so many of its disk calls were made behind its opening; `["unopened", ACT]` where a
+//! call of the opening failed; `["at first", ACT]` and
 //! `["at last", ACT]` at the first moment and at the last. Everywhere, `["times", N, ACT]` plays the act so many times.
 
 use crate::checks::{Standing, are};
@@ -40,13 +41,15 @@ fn spells(stage: &Stage, alloc: Global, act: &[Value]) -> Result<(), ActFault> {
 
 /// Plays an act that compares numbers: how many, since a site was made, there are of
 ///
-/// - `["moment", N]` calls on its record; `["calls", BEGINS, LOOKS, ABORTS]` those on jobs among them; `["faults", DISK, JOBS, LOOKS, REFUSALS]` failed
-///   disk calls, failed calls on jobs, failed looks among these, and refused begins; `["clock", N]` readings of the clock by the last command;
+/// - `["moment", N]` calls on its record; `["calls", BEGINS, LOOKS, ABORTS]` those on jobs among them; `["faults",
+///   DISK, JOBS, LOOKS, REFUSALS]` failed disk calls, failed calls on jobs, failed looks among these, and refused
+///   begins; `["clock", N]` readings of the clock by the last command;
 /// - `["file length", N]` bytes of the file; `["grown", N]` bytes of it that the last command put;
-/// - `["job count", N]` jobs; `["jobs", N, STANDING]` jobs and changes that stand by them; `["lost", N]` stops that found an attempt without a job;
+/// - `["job count", N]` jobs; `["jobs", N, STANDING]` jobs and changes that stand by them; `["lost", N]` stops that
+///   found an attempt without a job;
 /// - `["alike", N]` connections of the last command, each of which was told the same and hung up;
-/// - `["grants", N]` asks of the orchestrator that grants all, in this run; `["peer calls", ASKED, POLLED, FAULTS]` answered asks and polls and failed
-///   calls of that with planned answers.
+/// - `["grants", N]` asks of the orchestrator that grants all, in this run; `["peer calls", ASKED, POLLED, FAULTS]`
+///   answered asks and polls and failed calls of that with planned answers.
 fn counts(stage: &Stage, alloc: Global, act: &[Value]) -> Result<(), ActFault> {
     let site = &stage.site;
     match word(act, 0)? {
@@ -76,7 +79,8 @@ fn are_peer_calls(alloc: Global, act: &[Value], peer: &MemOrchestrator) -> Resul
     are(alloc, act, &[asked, polled, peer.faults()])
 }
 
-/// The numbers of an act are those of this site's failed calls on the disk and on jobs, failed looks and refused begins.
+/// The numbers of an act are those of this site's failed calls on the disk and on jobs, failed looks and refused
+/// begins.
 fn are_faults(alloc: Global, act: &[Value], site: &MemSite) -> Result<(), ActFault> {
     let (disk, jobs) = (site.faults(), site.vim_faults());
     are(
@@ -92,9 +96,10 @@ fn are_calls(alloc: Global, act: &[Value], calls: Calls) -> Result<(), ActFault>
     are(alloc, act, &[begins, looks, calls.aborts as u64])
 }
 
-/// Plays an act that compares bytes with a text: of what the last connection was told, all with `["told", TEXT]`, the front with `["told front", TEXT]`
-/// and a part with `["told part", TEXT]`; what the last command printed with `["printed", TEXT]`; the bodies that the orchestrator with planned answers
-/// was asked with by it, with `["bodies", TEXT]`, and the locations that it was polled at, with `["polled", TEXT]`, each with a line feed behind it; of the
+/// Plays an act that compares bytes with a text: of what the last connection was told, all with `["told", TEXT]`, the
+/// front with `["told front", TEXT]` and a part with `["told part", TEXT]`; what the last command printed with
+/// `["printed", TEXT]`; the bodies that the orchestrator with planned answers was asked with by it, with `["bodies",
+/// TEXT]`, and the locations that it was polled at, with `["polled", TEXT]`, each with a line feed behind it; of the
 /// file all with `["file", TEXT]`, the front with `["file front", TEXT]` and the end with `["file end", TEXT]`.
 fn reads(stage: &Stage, alloc: Global, act: &[Value]) -> Result<(), ActFault> {
     let told = stage.ran.told.as_slice();
@@ -124,9 +129,10 @@ fn jobs(stage: &Stage, alloc: Global, act: &[Value]) -> Result<(), ActFault> {
     }
 }
 
-/// Plays an act that compares what stands. `["stays"]`: the file is as it was before the last command; `["ended"]`: the last connection was hung up;
-/// `["answered", TEXT]`: the last command ended with 0, and its connection was told this and hung up; `["only answered", TEXT]`: the same, and the file
-/// is as it was before.
+/// Plays an act that compares what stands. `["stays"]`: the file is as it was before the last command; `["ended"]`: the
+/// last connection was hung up;
+/// `["answered", TEXT]`: the last command ended with 0, and its connection was told this and hung up; `["only
+/// answered", TEXT]`: the same, and the file is as it was before.
 fn finds(stage: &mut Stage, alloc: Global, act: &[Value]) -> Result<(), ActFault> {
     match word(act, 0)? {
         "stays" => stage.stays(alloc),
@@ -414,7 +420,8 @@ fn play_stops(
     Ok(first)
 }
 
-/// Plays these acts for each disk call of the whole life, which is to fail: what goes wrong first, where something does.
+/// Plays these acts for each disk call of the whole life, which is to fail: what goes wrong first, where something
+/// does.
 fn play_faults(
     stage: &mut Stage,
     alloc: Global,
@@ -449,7 +456,8 @@ fn play_fronts(
     Ok(first)
 }
 
-/// Plays the acts that stand from the fourth place of an act on for each front of its text: what goes wrong first, where something does.
+/// Plays the acts that stand from the fourth place of an act on for each front of its text: what goes wrong first,
+/// where something does.
 fn play_each_front(
     stage: &mut Stage,
     alloc: Global,

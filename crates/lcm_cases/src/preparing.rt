@@ -64,8 +64,9 @@ fn change_plan(
     Ok(())
 }
 
-/// What comes of a begin: the words `taken`, `lost`, `arrived` and `refused` with a code say how it comes out; `looks` with a number how many
-/// looks find its job running, `broken` with a code how that ends, and `firm` that it can't be aborted.
+/// What comes of a begin: the words `taken`, `lost`, `arrived` and `refused` with a code say how it comes out; `looks`
+/// with a number how many looks find its job running, `broken` with a code how that ends, and `firm` that it can't be
+/// aborted.
 fn job_plan(words: &[Value]) -> Result<JobPlan, CaseFault> {
     let mut plan = TAKEN;
     for place in 0..words.len() {
@@ -104,7 +105,8 @@ impl Stage {
         Ok(self.names.put(alloc, name, records)?)
     }
 
-    /// `["work", N, PLAN..]`: what comes of the begins on the next site: N are taken, and those behind them come out by these plans.
+    /// `["work", N, PLAN..]`: what comes of the begins on the next site: N are taken, and those behind them come out by
+    /// these plans.
     pub fn plan_work(&mut self, alloc: Global, act: &[Value]) -> Result<(), CaseFault> {
         let taken = number(act, 1)?;
         self.plan.work = Vec::new(alloc);
@@ -169,7 +171,8 @@ impl Stage {
         self.plan_connection(alloc, text, 0, 2)
     }
 
-    /// `["bad door", READ, WRITE, TEXT]`: a connection comes of which this read or this write fails, from 1; 0 where none does.
+    /// `["bad door", READ, WRITE, TEXT]`: a connection comes of which this read or this write fails, from 1; 0 where
+    /// none does.
     pub fn plan_bad_door(&mut self, alloc: Global, act: &[Value]) -> Result<(), CaseFault> {
         self.plan_connection(alloc, part(act, 3)?, count(act, 1)?, count(act, 2)?)
     }
@@ -190,7 +193,8 @@ impl Stage {
         Ok(())
     }
 
-    /// `["says", STATUS, LOCATION, TEXT]`: the orchestrator of the next command answers this next; an empty location is none.
+    /// `["says", STATUS, LOCATION, TEXT]`: the orchestrator of the next command answers this next; an empty location is
+    /// none.
     pub fn plan_answer(&mut self, alloc: Global, act: &[Value]) -> Result<(), CaseFault> {
         let (status, location, text) = (small(act, 1)?, word(act, 2)?, part(act, 3)?);
         let body = self.names.text(alloc, text)?;

@@ -1,5 +1,5 @@
-//! Acts that start the program over a file and streams in memory, of whose calls some go wrong: its status, what it prints and tells, and the file
-//! that it leaves.
+//! Acts that start the program over a file and streams in memory, of whose calls some go wrong: its status, what it
+//! prints and tells, and the file that it leaves.
 ghost use Rattle.std.specs.Prelude.{◌≡◌, ◌≤◌, ◌+◌, length, true};
 
 use crate::checks::{holds, same_number};
@@ -18,7 +18,8 @@ use std::io::ErrorKind;
 use std::time::Duration;
 use vnfm_program::{Machine, start};
 
-/// Which calls go wrong, and how many bytes a stream handles at once. Each object has its own, and counts its own calls.
+/// Which calls go wrong, and how many bytes a stream handles at once. Each object has its own, and counts its own
+/// calls.
 #[derive(Clone, Copy)]
 struct Wrong<'a> {
     /// The most bytes that a call on a stream takes or gives. A read gives one at least, where there is one.
@@ -517,7 +518,8 @@ fn is_printed(alloc: Global, printed: &[u8], act: &[Value], place: usize) -> Res
     same_text(alloc, word(act, place)?.as_bytes(), printed)
 }
 
-/// An act has this behind its words: the status, what was printed, what was told on standard error, and how many files were made.
+/// An act has this behind its words: the status, what was printed, what was told on standard error, and how many files
+/// were made.
 fn is_said(alloc: Global, seen: &Seen, act: &[Value]) -> Result<(), ActFault> {
     same_number(alloc, "status", number(act, 2)?, u64::from(seen.status))?;
     is_printed(alloc, &seen.lines, act, 3)?;
@@ -559,14 +561,16 @@ impl Stage {
         self.is_planned(alloc, &seen, plan)
     }
 
-    /// `["start", WORDS, STATUS, PRINTED, ERRORS, MADE, PLAN]`: the program with these words ends with this status, prints this to standard output and
-    /// that to standard error, and makes so many files. Where the plan, an object, has a `file`, that stands at the path, and what it has as `input`
-    /// comes in. What it has as `told` is told on the connection, and `left` are the bytes of the file, which it has exactly where that was had.
+    /// `["start", WORDS, STATUS, PRINTED, ERRORS, MADE, PLAN]`: the program with these words ends with this status,
+    /// prints this to standard output and that to standard error, and makes so many files. Where the plan, an object,
+    /// has a `file`, that stands at the path, and what it has as `input` comes in. What it has as `told` is told on the
+    /// connection, and `left` are the bytes of the file, which it has exactly where that was had.
     ///
-    /// `"wrong": [PIECE, CALL, FIRST, LAST, KIND]` in it: streams take and give PIECE bytes at once at most, and of the calls of this name on an object
-    /// the FIRST to the LAST fail with this `ErrorKind`: of the folder `open`, `create` and `folder`, a sync of it; of the file `kind`, `lock`, `pages`,
-    /// `length`, `read`, `write` and `sync`, and `regular`, where it isn't; of the streams `receive` and `send` on the connection, `print` and `tell` on
-    /// standard output and standard error, which write a piece before they fail.
+    /// `"wrong": [PIECE, CALL, FIRST, LAST, KIND]` in it: streams take and give PIECE bytes at once at most, and of the
+    /// calls of this name on an object the FIRST to the LAST fail with this `ErrorKind`: of the folder `open`, `create`
+    /// and `folder`, a sync of it; of the file `kind`, `lock`, `pages`,
+    /// `length`, `read`, `write` and `sync`, and `regular`, where it isn't; of the streams `receive` and `send` on the
+    /// connection, `print` and `tell` on standard output and standard error, which write a piece before they fail.
     ///
     /// `["start without a mouth", ..]` is the same where there was no memory for the mouth.
     pub fn starts(&self, alloc: Global, act: &[Value], has_mouth: bool) -> Result<(), ActFault> {

@@ -4,7 +4,8 @@ use site_traits::{Call, GrantPlan, Heard, MemOrchestrator, Orchestrator};
 use std::alloc::{AllocError, Global};
 use vnfm_base::Line;
 
-/// An orchestrator in memory that keeps the body of each ask and the location of each poll, answered or not, each behind a line feed.
+/// An orchestrator in memory that keeps the body of each ask and the location of each poll, answered or not, each
+/// behind a line feed.
 pub struct Recorder {
     planned: MemOrchestrator,
     /// The bodies that it was asked with.

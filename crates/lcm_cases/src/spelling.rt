@@ -1,4 +1,5 @@
-//! Acts on the words of a command line: what they set, which page they ask for, and the line that explains how a run ended.
+//! Acts on the words of a command line: what they set, which page they ask for, and the line that explains how a run
+//! ended.
 
 use crate::checks::is_text;
 use crate::commands::command_of;
@@ -20,8 +21,8 @@ fn role_word(role: Role) -> &'static str {
     }
 }
 
-/// What is set, as an act spells it: the command, the journal, the manager, the role, the rounds, both addresses, the orchestrator, the
-/// infrastructure, and the start and the steps of a trial.
+/// What is set, as an act spells it: the command, the journal, the manager, the role, the rounds, both addresses, the
+/// orchestrator, the infrastructure, and the start and the steps of a trial.
 fn spelled(alloc: Global, set: &Settings) -> Result<String, AllocError> {
     let (command, journal, manager, role) = (
         set.command,
@@ -97,8 +98,8 @@ impl Stage {
         is_text(alloc, &set_by(alloc, &words)?, act, 2)
     }
 
-    /// `["line", WORDS, STATUS, LOST, UNDELIVERED, LINE]`: a run with these words that ended with this status, lost its journal so and couldn't deliver an
-    /// answer, where it says so, is explained by this line.
+    /// `["line", WORDS, STATUS, LOST, UNDELIVERED, LINE]`: a run with these words that ended with this status, lost its
+    /// journal so and couldn't deliver an answer, where it says so, is explained by this line.
     pub fn is_explained(&self, alloc: Global, act: &[Value]) -> Result<(), ActFault> {
         let (status, lost, undelivered) = (
             status(act, 2)?,

@@ -12,10 +12,12 @@ use Rattle.lcm_events.specs.declared.changes.Verb.{Verb}
 use Rattle.lcm_events.specs.declared.changes.Verb.TheVariants.{Create, Remove, Start, Stop}
 use Rattle.lcm_events.specs.declared.changes.Change.{Change}
 use Rattle.lcm_events.specs.declared.states.OpState.{OpState}
-use Rattle.lcm_events.specs.declared.states.OpState.TheVariants.{Starting, Processing, Completed, FailedTemp, Failed, RollingBack, RolledBack}
+use Rattle.lcm_events.specs.declared.states.OpState.TheVariants.{Starting, Processing, Completed, FailedTemp, Failed, RollingBack}
+use Rattle.lcm_events.specs.declared.states.OpState.TheVariants.{RolledBack}
 use Rattle.lcm_events.specs.declared.states.Role.{Role}
 use Rattle.lcm_events.specs.declared.states.Role.TheVariants.{Orchestrator, Element}
-use Rattle.lcm_events.specs.Same.{same_way, same_tag, same_kind, same_def, same_verb, same_change, same_state, same_role, way_number, kind_number, verb_number, state_number, role_number}
+use Rattle.lcm_events.specs.Same.{same_way, same_tag, same_kind, same_def, same_verb, same_change, same_state, same_role, way_number}
+use Rattle.lcm_events.specs.Same.{kind_number, verb_number, state_number, role_number}
 
 pub and-true_front : (a b : Bool) → (a && b) ≡ true → a ≡ true
 and-true_front true b h = refl

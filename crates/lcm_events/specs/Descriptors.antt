@@ -13,6 +13,7 @@ is_rising before [] = true
 is_rising before (x ∷ []) = true
 is_rising before (x ∷ y ∷ xs) = before x y && is_rising before (y ∷ xs)
 
--- an aspect with this maximum may have so many deltas a row: none for 0, else one or one a step (SOL 001, ScalingAspects, step_deltas)
+-- an aspect with this maximum may have so many deltas a row: none for 0, else one or one a step (SOL 001,
+-- ScalingAspects, step_deltas)
 abbrev pub is_valid_steps : ℕ → ℕ → Bool
 is_valid_steps maximum steps = if maximum == 0 then steps == 0 else (steps == 1) || (steps == maximum)

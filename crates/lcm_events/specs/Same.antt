@@ -13,7 +13,8 @@ use Rattle.lcm_events.specs.declared.changes.Verb.{Verb}
 use Rattle.lcm_events.specs.declared.changes.Verb.TheVariants.{Create, Remove, Start, Stop}
 use Rattle.lcm_events.specs.declared.changes.Change.{Change}
 use Rattle.lcm_events.specs.declared.states.OpState.{OpState}
-use Rattle.lcm_events.specs.declared.states.OpState.TheVariants.{Starting, Processing, Completed, FailedTemp, Failed, RollingBack, RolledBack}
+use Rattle.lcm_events.specs.declared.states.OpState.TheVariants.{Starting, Processing, Completed, FailedTemp, Failed}
+use Rattle.lcm_events.specs.declared.states.OpState.TheVariants.{RollingBack, RolledBack}
 use Rattle.lcm_events.specs.declared.states.Role.{Role}
 use Rattle.lcm_events.specs.declared.states.Role.TheVariants.{Orchestrator, Element}
 

@@ -1,5 +1,6 @@
 -- How ended attempts agree with jobs, and what a history knows of its attempts.
-use Rattle.std.proofs.Common.{◌≡◌, ◌≤◌, ◌+◌, ◌∙◌, ℕ, List, [], ◌∷◌, true, false, Option, None, Some, refl, ap, sym, subst, map, length, inl, inr, arith}
+use Rattle.std.proofs.Common.{◌≡◌, ◌≤◌, ◌+◌, ◌∙◌, ℕ, List, [], ◌∷◌, true, false, Option, None, Some, refl, ap, sym, subst, map, length, inl}
+use Rattle.std.proofs.Common.{inr, arith}
 use Rattle.lcm_events.specs.Same.{same_tag}
 use Rattle.lcm_events.proofs.SameLaws.{same_tag-refl, same_tag-true}
 use Rattle.lcm_events.specs.declared.acts.Act.{Act}
@@ -73,21 +74,23 @@ pub attempts_on : (js ks : List Job) → Advances js ks → map attempt_of ks �
 attempts_on [] [] h = refl
 attempts_on [] (k ∷ ks) h = absurd h
 attempts_on (j ∷ js) [] h = absurd h
-attempts_on (j ∷ js) (k ∷ ks) h = heads (attempt_of k) (attempt_of j) (map attempt_of ks) (map attempt_of js) (same_attempt k.tag j.tag (Some k.act) (Some j.act) h.0.tag (ap Some h.0.act)) (attempts_on js ks h.1) where
-  heads : (x y : Attempt) (xs ys : List Attempt) → x ≡ y → xs ≡ ys → x ∷ xs ≡ y ∷ ys
-  heads x y xs ys e f = cc
+attempts_on (j ∷ js) (k ∷ ks) h = heads (attempt_of k) (attempt_of j) (map attempt_of ks) (map attempt_of js)
+    (same_attempt k.tag j.tag (Some k.act) (Some j.act) h.0.tag (ap Some h.0.act)) (attempts_on js ks h.1) where
+      heads : (x y : Attempt) (xs ys : List Attempt) → x ≡ y → xs ≡ ys → x ∷ xs ≡ y ∷ ys
+      heads x y xs ys e f = cc
 
-  with_work : Tag → Option Act → Attempt
-  with_work t a = record { tag = t; act = a }
+      with_work : Tag → Option Act → Attempt
+      with_work t a = record { tag = t; act = a }
 
-  same_attempt : (t u : Tag) (a b : Option Act) → t ≡ u → a ≡ b → with_work t a ≡ with_work u b
-  same_attempt t u a b e f = cc
+      same_attempt : (t u : Tag) (a b : Option Act) → t ≡ u → a ≡ b → with_work t a ≡ with_work u b
+      same_attempt t u a b e f = cc
 
 -- what was begun, as attempts and as tags
 pub begun_known : (H : List Event) (t : Tag) → IsIn t (map (λ x. x.tag) (begun H)) → IsIn t (intents H)
 begun_known [] t h = h
 begun_known (e ∷ H) t h = by_kind e.kind (begun_known H t) h where
-  by_kind : (k : EventKind) → (IsIn t (map (λ x. x.tag) (begun H)) → IsIn t (intents H)) → IsIn t (map (λ x. x.tag) (begun (event e.moment k ∷ H))) → IsIn t (intents (event e.moment k ∷ H))
+  by_kind : (k : EventKind) → (IsIn t (map (λ x. x.tag) (begun H)) → IsIn t (intents H))
+      → IsIn t (map (λ x. x.tag) (begun (event e.moment k ∷ H))) → IsIn t (intents (event e.moment k ∷ H))
   by_kind (Intent u) earlier (inl is) = inl is
   by_kind (Intent u) earlier (inr h) = inr (earlier h)
   by_kind _ earlier h = earlier h
@@ -96,7 +99,8 @@ begun_known (e ∷ H) t h = by_kind e.kind (begun_known H t) h where
 pub ended_settled : (H : List Event) (x : EndedAttempt) → IsIn x (ended_attempts H) → is_settled H x.tag ≡ true
 ended_settled [] x h = absurd h
 ended_settled (e ∷ H) x h = by_kind e.kind (ended_settled H x) h where
-  by_kind : (k : EventKind) → (IsIn x (ended_attempts H) → is_settled H x.tag ≡ true) → IsIn x (ended_attempts (event e.moment k ∷ H)) → is_settled (event e.moment k ∷ H) x.tag ≡ true
+  by_kind : (k : EventKind) → (IsIn x (ended_attempts H) → is_settled H x.tag ≡ true) → IsIn x (ended_attempts (event e.moment k ∷ H))
+      → is_settled (event e.moment k ∷ H) x.tag ≡ true
   by_kind (Settled u out) earlier (inl is) =
       let same : same_tag x.tag u ≡ true = subst (λ (y : EndedAttempt). same_tag y.tag u ≡ true) is (same_tag-refl u) in rw same refl
   by_kind (Settled u out) earlier (inr h) = by_test (same_tag x.tag u) (λ same. rw same refl) (λ other. rw other (earlier h))
@@ -122,9 +126,11 @@ never_ended width m H t legal allowed x h = by_test (same_tag x.tag t)
     (λ other. other)
 
 -- the tags of jobs that are some of the attempts that were begun are those of attempts that were begun
-pub jobs_known : (H : List Event) (js : List Job) (t : Tag) → IsPartOf (map attempt_of js) (begun H) → IsIn t (map (λ j. j.tag) js) → Known H t
+pub jobs_known : (H : List Event) (js : List Job) (t : Tag) → IsPartOf (map attempt_of js) (begun H) → IsIn t (map (λ j. j.tag) js)
+    → Known H t
 jobs_known H js t part h = in_any t (intents H) (begun_known H t (tags_in (begun H) js part h)) where
-  tags_in : (xs : List Attempt) (js : List Job) → IsPartOf (map attempt_of js) xs → IsIn t (map (λ j. j.tag) js) → IsIn t (map (λ x. x.tag) xs)
+  tags_in : (xs : List Attempt) (js : List Job) → IsPartOf (map attempt_of js) xs → IsIn t (map (λ j. j.tag) js)
+      → IsIn t (map (λ x. x.tag) xs)
   tags_in xs [] h g = absurd g
   tags_in [] (j ∷ js) h g = absurd h
   tags_in (x ∷ xs) (j ∷ js) (inl both) (inl e) = inl (sym (ap (λ (y : Attempt). y.tag) both.0) ∙ e)

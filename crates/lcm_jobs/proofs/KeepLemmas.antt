@@ -24,18 +24,21 @@ sound_on width m H js ks sound on = record {
   ended = λ x h. agree_on x.tag x.outcome js ks on (sound.ended x h);
 }
 
-begun_more : (H : List Event) (time : ℕ) (k : EventKind) (js : List Job) → IsPartOf (map attempt_of js) (begun H) → IsPartOf (map attempt_of js) (begun (event time k ∷ H))
+begun_more : (H : List Event) (time : ℕ) (k : EventKind) (js : List Job) → IsPartOf (map attempt_of js) (begun H)
+    → IsPartOf (map attempt_of js) (begun (event time k ∷ H))
 begun_more H time (Intent t) js part = part_later (map attempt_of js) (record { tag = t; act = act_of H t }) (begun H) part
 begun_more H time _ js part = part
 
-ended_more : (H : List Event) (time : ℕ) (k : EventKind) (js : List Job) → FitsJobs k js → ((x : EndedAttempt) → IsIn x (ended_attempts H) → Agrees x.outcome (phase_of x.tag js))
+ended_more : (H : List Event) (time : ℕ) (k : EventKind) (js : List Job) → FitsJobs k js
+    → ((x : EndedAttempt) → IsIn x (ended_attempts H) → Agrees x.outcome (phase_of x.tag js))
     → (x : EndedAttempt) → IsIn x (ended_attempts (event time k ∷ H)) → Agrees x.outcome (phase_of x.tag js)
 ended_more H time (Settled t out) js fits ended x (inl is) = subst (λ (y : EndedAttempt). Agrees y.outcome (phase_of y.tag js)) is fits
 ended_more H time (Settled t out) js fits ended x (inr h) = ended x h
 ended_more H time _ js fits ended x h = ended x h
 
 -- an allowed event that fits the jobs may come
-pub sound_more : (width m : ℕ) (H : List Event) (time : ℕ) (k : EventKind) (js : List Job) → IsSoundWithin width m H js → IsAllowedWithin width m H k → FitsJobs k js
+pub sound_more : (width m : ℕ) (H : List Event) (time : ℕ) (k : EventKind) (js : List Job) → IsSoundWithin width m H js
+    → IsAllowedWithin width m H k → FitsJobs k js
     → IsSoundWithin width m (event time k ∷ H) js
 sound_more width m H time k js sound allowed fits = record {
   legal = (allowed, sound.legal);
@@ -44,18 +47,23 @@ sound_more width m H time k js sound allowed fits = record {
 }
 
 -- a new attempt has no job
-pub fresh_job : (width m : ℕ) (H : List Event) (t : Tag) (js : List Job) → IsSoundWithin width m H js → IsAllowedWithin width m H (Intent t) → phase_of t js ≡ None
-fresh_job width m H t js sound allowed = phase_none t js (λ h. never_begun width m H t sound.legal allowed (jobs_known H js t sound.begun h))
+pub fresh_job : (width m : ℕ) (H : List Event) (t : Tag) (js : List Job) → IsSoundWithin width m H js → IsAllowedWithin width m H (Intent t)
+    → phase_of t js ≡ None
+fresh_job width m H t js sound allowed = phase_none t js (λ h. never_begun width m H t sound.legal allowed
+    (jobs_known H js t sound.begun h))
 
 -- a job more leaves the ended attempts as they agreed, where none is of its tag
 agreed_still : (H : List Event) (j : Job) (js : List Job) → ((x : EndedAttempt) → IsIn x (ended_attempts H) → same_tag x.tag j.tag ≡ false)
-    → ((x : EndedAttempt) → IsIn x (ended_attempts H) → Agrees x.outcome (phase_of x.tag js)) → (x : EndedAttempt) → IsIn x (ended_attempts H) → Agrees x.outcome (phase_of x.tag (j ∷ js))
+    → ((x : EndedAttempt) → IsIn x (ended_attempts H) → Agrees x.outcome (phase_of x.tag js)) → (x : EndedAttempt)
+    → IsIn x (ended_attempts H) → Agrees x.outcome (phase_of x.tag (j ∷ js))
 agreed_still H j js apart ended x h =
     subst (λ (p : Option Phase). Agrees x.outcome p) (sym (phase_back x.tag j js (apart x h))) (ended x h)
 
 -- a job that arrives behind its intent
-pub sound_begun : (width m : ℕ) (H : List Event) (time : ℕ) (t : Tag) (act : Act) (p : Phase) (js ks : List Job) → IsSoundWithin width m H js
-    → IsAllowedWithin width m H (Intent t) → act_of H t ≡ Some act → Arrives t act p js ks → IsSoundWithin width m (event time (Intent t) ∷ H) ks
+pub sound_begun : (width m : ℕ) (H : List Event) (time : ℕ) (t : Tag) (act : Act) (p : Phase) (js ks : List Job)
+    → IsSoundWithin width m H js
+    → IsAllowedWithin width m H (Intent t) → act_of H t ≡ Some act → Arrives t act p js ks
+    → IsSoundWithin width m (event time (Intent t) ∷ H) ks
 sound_begun width m H time t act p js ks sound allowed work arrives =
     let earlier : IsSoundWithin width m H arrives.earlier = sound_on width m H js arrives.earlier sound arrives.advances in
     let j : Job = record { tag = t; act = act; phase = p } in

@@ -14,7 +14,8 @@ use Rattle.lcm_jobs.proofs.Parts.{in_any}
 use Rattle.std.proofs.Common.{inl, subst, sym, ap}
 use Rattle.lcm_events.specs.declared.events.EventKind.TheVariants.{Intent}
 use Rattle.std.proofs.Common.{is_some, filter, ◌<◌, lt-ltb}
-use Rattle.std.proofs.Common.{◌≡◌, ◌<◌, ◌≤◌, ◌==◌, ◌∙◌, ℕ, List, [], ◌∷◌, Bool, true, false, Option, None, Some, refl, ap, sym, subst, arith, slice_get, eqb-true, ltb, ltb-true, ltb-false, if◌then◌else◌}
+use Rattle.std.proofs.Common.{◌≡◌, ◌<◌, ◌≤◌, ◌==◌, ◌∙◌, ℕ, List, [], ◌∷◌, Bool, true, false, Option, None, Some, refl, ap, sym, subst}
+use Rattle.std.proofs.Common.{arith, slice_get, eqb-true, ltb, ltb-true, ltb-false, if◌then◌else◌}
 use Rattle.std.specs.List.{list_any}
 use Rattle.std.specs.Prelude.{option_and_then}
 use Rattle.lcm_events.specs.Same.{kind_number, same_def, same_tag}
@@ -48,7 +49,8 @@ use Rattle.lcm_laws.proofs.NumberLaws.{operation-next}
 use Rattle.lcm_jobs.specs.Idle.{verb_for, verb_in, verb_on}
 
 -- an attempt that was begun is of an operation
-pub known_operation : (width m : ℕ) (H : List Event) (t : Tag) → IsLegalWithin width m H → Known H t → (a : Operation) × (operation H t.occ ≡ Some a)
+pub known_operation : (width m : ℕ) (H : List Event) (t : Tag) → IsLegalWithin width m H → Known H t
+    → (a : Operation) × (operation H t.occ ≡ Some a)
 known_operation width m H t legal known = found (operation H t.occ) refl where
   found : (o : Option Operation) → operation H t.occ ≡ o → (a : Operation) × (operation H t.occ ≡ Some a)
   found (Some a) is = (a, is)
@@ -61,7 +63,8 @@ known_operation width m H t legal known = found (operation H t.occ) refl where
       cc
 
 -- what it does stays the same, whatever comes
-pub verb_next : (width m : ℕ) (H : List Event) (time : ℕ) (k : EventKind) (i : ℕ) (x : Def) (t : Tag) (a : Operation) → IsLegalWithin width m H → IsAllowedWithin width m H k
+pub verb_next : (width m : ℕ) (H : List Event) (time : ℕ) (k : EventKind) (i : ℕ) (x : Def) (t : Tag) (a : Operation)
+    → IsLegalWithin width m H → IsAllowedWithin width m H k
     → operation H t.occ ≡ Some a → verb_on (event time k ∷ H) i x t ≡ verb_on H i x t
 unfolding verb_on
 verb_next width m H time k i x t a legal allowed found =
@@ -84,11 +87,21 @@ when_some false x y e = cc
 pub verb_at : (H : List Event) (i : ℕ) (x : Def) (t : Tag) (v : Verb) → verb_on H i x t ≡ Some v → IsAt H i x t v
 unfolding verb_on
 verb_at H i x t v e = by_operation (operation H t.occ) refl e where
-  by_change : (a : Operation) (k : Option Change) → operation H t.occ ≡ Some a → a.instance ≡ i → slice_get a.changes t.change ≡ k → option_and_then (verb_for t x) k ≡ Some v → IsAt H i x t v
+  by_change : (a : Operation) (k : Option Change) → operation H t.occ ≡ Some a → a.instance ≡ i → slice_get a.changes t.change ≡ k
+      → option_and_then (verb_for t x) k ≡ Some v → IsAt H i x t v
   by_change a None found own is e = cc
   by_change a (Some k) found own is e =
       let both = when_some (same_def k.def x) (verb_done t.way k.verb) v e in
-      record { operation_of = a; change_at = k; found = found; instance = own; is = is; def = same_def-true k.def x both.0; verb = sym both.1 }
+      record {
+        operation_of = a;
+        change_at = k;
+        found = found;
+        instance = own;
+        is = is;
+        def = same_def-true k.def x both.0;
+        verb =
+            sym both.1;
+      }
 
   by_operation : (o : Option Operation) → operation H t.occ ≡ o → option_and_then (verb_in i x t) o ≡ Some v → IsAt H i x t v
   by_operation None found e = cc
@@ -96,7 +109,8 @@ verb_at H i x t v e = by_operation (operation H t.occ) refl e where
       (λ same. by_change a (slice_get a.changes t.change) found (eqb-true a.instance i same) refl
       (subst (λ (b : Bool). option_and_then (verb_for t x) (if b then slice_get a.changes t.change else None) ≡ Some v) same e))
       (λ other.
-      let none : option_and_then (verb_for t x) None ≡ Some v = subst (λ (b : Bool). option_and_then (verb_for t x) (if b then slice_get a.changes t.change else None) ≡ Some v) other e in
+      let none : option_and_then (verb_for t x) None ≡ Some v = subst
+      (λ (b : Bool). option_and_then (verb_for t x) (if b then slice_get a.changes t.change else None) ≡ Some v) other e in
       cc)
 
 -- one phase has one verb at a definition of a plan
@@ -125,13 +139,15 @@ one_verb p Stop Remove x h g e = let low = kind_low x.kind in absurd (omega (ari
 one_verb p Stop Start x h g e = let clash : true ≡ false = sym h.3 ∙ g.4 in cc
 
 -- two changes of a plan at one definition in one phase are one
-same_number : (p : Case) (a : Operation) (b c : ℕ) (j k : Change) → IsPlannedOver p a → slice_get a.changes b ≡ Some j → slice_get a.changes c ≡ Some k
+same_number : (p : Case) (a : Operation) (b c : ℕ) (j k : Change) → IsPlannedOver p a → slice_get a.changes b ≡ Some j
+    → slice_get a.changes c ≡ Some k
     → j.def ≡ k.def → j.phase ≡ k.phase → b ≡ c
 same_number p a b c j k over eb ec def one =
     let jp = by_verb p a b j j.verb over eb refl in
     let kp = by_verb p a c k k.verb over ec refl in
     let at : IsPlannedBy p k.verb j.def = subst (λ (x : Def). IsPlannedBy p k.verb x) (sym def) kp.1 in
-    let phases : phase j.verb j.def.kind ≡ phase k.verb j.def.kind = sym jp.0 ∙ (one ∙ (kp.0 ∙ ap (λ (x : Def). phase k.verb x.kind) (sym def))) in
+    let phases : phase j.verb j.def.kind ≡ phase k.verb j.def.kind =
+    sym jp.0 ∙ (one ∙ (kp.0 ∙ ap (λ (x : Def). phase k.verb x.kind) (sym def))) in
     one_number p a b c j k over eb ec def (one_verb p j.verb k.verb j.def jp.1 at phases)
 
 not_both : (n : ℕ) (w : Way) → n ≡ net_before w → n ≡ net_after w → ⊥
@@ -153,8 +169,10 @@ by_order a b f g h = by_test (ltb a b)
 
 -- Two attempts at one definition of an instance aren't open at once: their changes are of one operation; where their phases differ, the one
 -- waits for the other, and where they don't, it is one change.
-clash_forward : (width m : ℕ) (H : List Event) (t u : Tag) (a : Operation) (j k : Change) (w : Way) → IsLegalWithin width m H → IsAllowedWithin width m H (Intent t) → is_open H u ≡ true
-    → operation H t.occ ≡ Some a → u.occ ≡ t.occ → t.way ≡ w → u.way ≡ w → slice_get a.changes t.change ≡ Some j → slice_get a.changes u.change ≡ Some k → j.phase < k.phase → ⊥
+clash_forward : (width m : ℕ) (H : List Event) (t u : Tag) (a : Operation) (j k : Change) (w : Way) → IsLegalWithin width m H
+    → IsAllowedWithin width m H (Intent t) → is_open H u ≡ true
+    → operation H t.occ ≡ Some a → u.occ ≡ t.occ → t.way ≡ w → u.way ≡ w → slice_get a.changes t.change ≡ Some j
+    → slice_get a.changes u.change ≡ Some k → j.phase < k.phase → ⊥
 clash_forward width m H t u a j k Forward legal allowed opened found at wt wu ej ek less =
     let before = (turn_at width m H t a j allowed found ej).0 in
     let made : net H t.occ t.change ≡ 1 = (ordered width m H legal t.occ a found).making u t.change j k opened at wu ej ek less in
@@ -163,45 +181,57 @@ clash_forward width m H t u a j k Undo legal allowed opened found at wt wu ej ek
     let through = (turn_at width m H t a j allowed found ej).1 in
     let all = subst (λ (v : Way). all_through H t.occ v j.phase ≡ true) wt through in
     let none : net H t.occ u.change ≡ 0 = through_net H t.occ Undo a j.phase u.change k found all ek (lt-ltb j.phase k.phase less) in
-    let one : net H t.occ u.change ≡ 1 = subst (λ (n : ℕ). net H n u.change ≡ 1) at (open_fits width m H legal u opened ∙ ap net_before wu) in
+    let one : net H t.occ u.change ≡ 1 = subst (λ (n : ℕ). net H n u.change ≡ 1) at
+    (open_fits width m H legal u opened ∙ ap net_before wu) in
     not_both (net H t.occ u.change) Undo one none
 
-clash_backward : (width m : ℕ) (H : List Event) (t u : Tag) (a : Operation) (j k : Change) (w : Way) → IsLegalWithin width m H → IsAllowedWithin width m H (Intent t) → is_open H u ≡ true
-    → operation H t.occ ≡ Some a → u.occ ≡ t.occ → t.way ≡ w → u.way ≡ w → slice_get a.changes t.change ≡ Some j → slice_get a.changes u.change ≡ Some k → k.phase < j.phase → ⊥
+clash_backward : (width m : ℕ) (H : List Event) (t u : Tag) (a : Operation) (j k : Change) (w : Way) → IsLegalWithin width m H
+    → IsAllowedWithin width m H (Intent t) → is_open H u ≡ true
+    → operation H t.occ ≡ Some a → u.occ ≡ t.occ → t.way ≡ w → u.way ≡ w → slice_get a.changes t.change ≡ Some j
+    → slice_get a.changes u.change ≡ Some k → k.phase < j.phase → ⊥
 clash_backward width m H t u a j k Forward legal allowed opened found at wt wu ej ek less =
     let through = (turn_at width m H t a j allowed found ej).1 in
     let all = subst (λ (v : Way). all_through H t.occ v j.phase ≡ true) wt through in
     let one : net H t.occ u.change ≡ 1 = through_net H t.occ Forward a j.phase u.change k found all ek (lt-ltb k.phase j.phase less) in
-    let none : net H t.occ u.change ≡ 0 = subst (λ (n : ℕ). net H n u.change ≡ 0) at (open_fits width m H legal u opened ∙ ap net_before wu) in
+    let none : net H t.occ u.change ≡ 0 = subst (λ (n : ℕ). net H n u.change ≡ 0) at
+    (open_fits width m H legal u opened ∙ ap net_before wu) in
     not_both (net H t.occ u.change) Forward none one
 clash_backward width m H t u a j k Undo legal allowed opened found at wt wu ej ek less =
     let before = (turn_at width m H t a j allowed found ej).0 in
     let undone : net H t.occ t.change ≡ 0 = (ordered width m H legal t.occ a found).undoing u t.change k j opened at wu ek ej less in
     not_both (net H t.occ t.change) Undo (before ∙ ap net_before wt) undone
 
-alone : (width m : ℕ) (H : List Event) (i : ℕ) (x : Def) (t u : Tag) (v w : Verb) → IsLegalWithin width m H → IsAllowedWithin width m H (Intent t) → verb_on H i x t ≡ Some v
+alone : (width m : ℕ) (H : List Event) (i : ℕ) (x : Def) (t u : Tag) (v w : Verb) → IsLegalWithin width m H
+    → IsAllowedWithin width m H (Intent t) → verb_on H i x t ≡ Some v
     → is_open H u ≡ true → verb_on H i x u ≡ Some w → ⊥
 alone width m H i x t u v w legal allowed et opened eu =
     let here = verb_at H i x t v et in
     let there = verb_at H i x u w eu in
     let goes_t : is_final (state H t.occ) ≡ false = subst (λ (s : OpState). is_final s ≡ false) (sym allowed.works) (works_on t.way) in
-    let goes_u : is_final (state H u.occ) ≡ false = subst (λ (s : OpState). is_final s ≡ false) (sym (open_state width m H legal u opened)) (works_on u.way) in
-    let at : u.occ ≡ t.occ = one_going width m H i t.occ u.occ here.operation_of there.operation_of legal here.found here.instance goes_t there.found there.instance goes_u in
+    let goes_u : is_final (state H u.occ) ≡ false = subst (λ (s : OpState). is_final s ≡ false) (sym (open_state width m H legal u opened))
+    (works_on u.way) in
+    let at : u.occ ≡ t.occ = one_going width m H i t.occ u.occ here.operation_of there.operation_of legal here.found here.instance goes_t
+    there.found there.instance goes_u in
     let a = here.operation_of in
     let same : there.operation_of ≡ a = some_one (sym there.found ∙ (ap (λ (n : ℕ). operation H n) at ∙ here.found)) in
-    let ek : slice_get a.changes u.change ≡ Some there.change_at = subst (λ (b : Operation). slice_get b.changes u.change ≡ Some there.change_at) same there.is in
-    let ways : u.way ≡ t.way = works_one u.way t.way (sym (open_state width m H legal u opened) ∙ (ap (λ (n : ℕ). state H n) at ∙ allowed.works)) in
+    let ek : slice_get a.changes u.change ≡ Some there.change_at =
+    subst (λ (b : Operation). slice_get b.changes u.change ≡ Some there.change_at) same there.is in
+    let ways : u.way ≡ t.way = works_one u.way t.way (sym (open_state width m H legal u opened)
+    ∙ (ap (λ (n : ℕ). state H n) at ∙ allowed.works)) in
     let f = follows_at width m H t legal allowed a here.found in
     by_order here.change_at.phase there.change_at.phase
-    (λ less. clash_forward width m H t u a here.change_at there.change_at t.way legal allowed opened here.found at refl ways here.is ek less)
+    (λ less. clash_forward width m H t u a here.change_at there.change_at t.way legal allowed opened here.found at refl ways here.is ek
+    less)
     (λ one.
-    let number : t.change ≡ u.change = same_number f.p a t.change u.change here.change_at there.change_at f.over here.is ek (here.def ∙ sym there.def) one in
+    let number : t.change ≡ u.change = same_number f.p a t.change u.change here.change_at there.change_at f.over here.is ek
+    (here.def ∙ sym there.def) one in
     let own : list_any (same_tag u) (open_attempts H t.occ u.change) ≡ true =
     subst (λ (n : ℕ). list_any (same_tag u) (open_attempts H n u.change) ≡ true) at (open_own H u opened) in
     let none : open_attempts H t.occ u.change ≡ [] = subst (λ (n : ℕ). open_attempts H t.occ n ≡ []) number allowed.none_open in
     let nowhere : list_any (same_tag u) [] ≡ true = subst (λ (ts : List Tag). list_any (same_tag u) ts ≡ true) none own in
     cc)
-    (λ more. clash_backward width m H t u a here.change_at there.change_at t.way legal allowed opened here.found at refl ways here.is ek more) where
+    (λ more. clash_backward width m H t u a here.change_at there.change_at t.way legal allowed opened here.found at refl ways here.is ek
+    more) where
       some_one : {A : Type 0} {y z : A} → Some y ≡ Some z → y ≡ z
       some_one e = cc
 
@@ -225,7 +255,8 @@ on_verb H i x t e = by_verb_on (verb_on H i x t) refl e where
   by_verb_on (Some v) is h = (v, is)
 
 -- where an attempt at it begins, none was open
-pub none_on : (width m : ℕ) (H : List Event) (i : ℕ) (x : Def) (t : Tag) → IsLegalWithin width m H → IsAllowedWithin width m H (Intent t) → is_on H i x t ≡ true → open_on H i x ≡ []
+pub none_on : (width m : ℕ) (H : List Event) (i : ℕ) (x : Def) (t : Tag) → IsLegalWithin width m H → IsAllowedWithin width m H (Intent t)
+    → is_on H i x t ≡ true → open_on H i x ≡ []
 none_on width m H i x t legal allowed here = by_open (open_on H i x) refl where
   by_open : (ts : List Tag) → open_on H i x ≡ ts → ts ≡ []
   by_open [] is = refl

@@ -38,7 +38,8 @@ any_in t (u ∷ ts) h = by_test (same_tag t u)
 -- and the other way round
 pub in_any : (t : Tag) (ts : List Tag) → IsIn t ts → list_any (same_tag t) ts ≡ true
 in_any t [] h = absurd h
-in_any t (u ∷ ts) (inl e) = let same : same_tag t u ≡ true = subst (λ (x : Tag). same_tag t x ≡ true) (sym e) (same_tag-refl t) in rw same refl
+in_any t (u ∷ ts) (inl e) = let same : same_tag t u ≡ true = subst (λ (x : Tag). same_tag t x ≡ true) (sym e) (same_tag-refl t) in
+    rw same refl
 in_any t (u ∷ ts) (inr h) = by_test (same_tag t u) (λ same. rw same refl) (λ other. rw other (in_any t ts h))
 
 -- the phase of the job of this tag, where the front job is its

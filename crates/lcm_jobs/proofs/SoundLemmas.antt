@@ -1,5 +1,7 @@
--- Sound jobs, event by event: what holds of no history and no job, and is kept by each event and by each job behind its intent, holds of all.
-use Rattle.std.proofs.Common.{◌≡◌, ◌⊎◌, ◌∙◌, ℕ, List, [], ◌∷◌, Bool, true, false, cond, Option, None, Some, refl, ap, sym, subst, map, inl, inr}
+-- Sound jobs, event by event: what holds of no history and no job, and is kept by each event and by each job behind its intent, holds of
+-- all.
+use Rattle.std.proofs.Common.{◌≡◌, ◌⊎◌, ◌∙◌, ℕ, List, [], ◌∷◌, Bool, true, false, cond, Option, None, Some, refl, ap, sym, subst, map, inl}
+use Rattle.std.proofs.Common.{inr}
 use Rattle.std.specs.List.{list_any}
 use Rattle.lcm_events.specs.Same.{same_tag}
 use Rattle.lcm_events.proofs.SameLaws.{same_tag-true}
@@ -28,16 +30,19 @@ use Rattle.lcm_jobs.proofs.Parts.{none_phase, own_phase, part_none, phase_back}
 -- jobs that are sound with a history and one event more come of sound ones by that event, or by the intent and its job
 abbrev pub Came : ℕ → ℕ → List Event → EventKind → List Job → Type 0
 Came width m H (Intent t) js =
-    IsSoundWithin width m H js ⊎ ((act : Act) × (p : Phase) × (ks : List Job) × (js ≡ (record { tag = t; act = act; phase = p }) ∷ ks) × (act_of H t ≡ Some act) × IsSoundWithin width m H ks)
+    IsSoundWithin width m H js ⊎ ((act : Act) × (p : Phase) × (ks : List Job) × (js ≡ (record { tag = t; act = act; phase = p }) ∷ ks)
+    × (act_of H t ≡ Some act) × IsSoundWithin width m H ks)
 Came width m H k js = IsSoundWithin width m H js × FitsJobs k js
 
 abbrev job : Tag → Act → Phase → Job
 job t act p = record { tag = t; act = act; phase = p }
 
-came_intent : (width m : ℕ) (H : List Event) (time : ℕ) (t : Tag) (js : List Job) → IsSoundWithin width m (event time (Intent t) ∷ H) js → Came width m H (Intent t) js
+came_intent : (width m : ℕ) (H : List Event) (time : ℕ) (t : Tag) (js : List Job) → IsSoundWithin width m (event time (Intent t) ∷ H) js
+    → Came width m H (Intent t) js
 came_intent width m H time t [] sound = inl (record { legal = sound.legal.1; begun = tt; ended = sound.ended })
 came_intent width m H time t (j ∷ js) sound = by_part sound.begun where
-  by_part : ((attempt_of j ≡ (record { tag = t; act = act_of H t })) × IsPartOf (map attempt_of js) (begun H)) ⊎ IsPartOf (attempt_of j ∷ map attempt_of js) (begun H)
+  by_part : ((attempt_of j ≡ (record { tag = t; act = act_of H t })) × IsPartOf (map attempt_of js) (begun H))
+      ⊎ IsPartOf (attempt_of j ∷ map attempt_of js) (begun H)
       → Came width m H (Intent t) (j ∷ js)
   by_part (inl both) =
       let tag : j.tag ≡ t = ap (λ (x : Attempt). x.tag) both.0 in
@@ -52,36 +57,44 @@ came_intent width m H time t (j ∷ js) sound = by_part sound.begun where
           legal = sound.legal.1;
           begun = both.1;
           ended = λ x h.
-              let other : same_tag x.tag j.tag ≡ false = subst (λ (u : Tag). same_tag x.tag u ≡ false) (sym tag) (never_ended width m H t sound.legal.1 sound.legal.0 x h) in
+              let other : same_tag x.tag j.tag ≡ false = subst (λ (u : Tag). same_tag x.tag u ≡ false) (sym tag)
+              (never_ended width m H t sound.legal.1 sound.legal.0 x h) in
               subst (λ (p : Option Phase). Agrees x.outcome p) (phase_back x.tag j js other) (sound.ended x h);
         },
       )
   by_part (inr part) = inl (record { legal = sound.legal.1; begun = part; ended = sound.ended })
 
-came : (width m : ℕ) (H : List Event) (time : ℕ) (k : EventKind) (js : List Job) → IsSoundWithin width m (event time k ∷ H) js → Came width m H k js
+came : (width m : ℕ) (H : List Event) (time : ℕ) (k : EventKind) (js : List Job) → IsSoundWithin width m (event time k ∷ H) js
+    → Came width m H k js
 came width m H time (Intent t) js sound = came_intent width m H time t js sound
-came width m H time (Settled t out) js sound =
-    (record { legal = sound.legal.1; begun = sound.begun; ended = λ x h. sound.ended x (inr h) }, sound.ended (record { tag = t; outcome = out }) (inl refl))
+came width m H time (Settled t out) js sound = (
+  record { legal = sound.legal.1; begun = sound.begun; ended = λ x h. sound.ended x (inr h) },
+  sound.ended (record { tag = t; outcome = out }) (inl refl),
+)
 came width m H time _ js sound = (record { legal = sound.legal.1; begun = sound.begun; ended = sound.ended }, tt)
 
 -- what an event does
 abbrev pub ByEvents : ℕ → ℕ → (List Event → List Job → Type 0) → Type 0
 ByEvents width m P =
-    (H : List Event) (time : ℕ) (k : EventKind) (js : List Job) → IsSoundWithin width m H js → IsAllowedWithin width m H k → FitsJobs k js → P H js
+    (H : List Event) (time : ℕ) (k : EventKind) (js : List Job) → IsSoundWithin width m H js → IsAllowedWithin width m H k → FitsJobs k js
+    → P H js
     → P (event time k ∷ H) js
 
 -- what a job behind its intent does
 abbrev pub ByJobs : ℕ → ℕ → (List Event → List Job → Type 0) → Type 0
 ByJobs width m P =
-    (H : List Event) (time : ℕ) (j : Job) (js : List Job) → IsSoundWithin width m H js → IsAllowedWithin width m H (Intent j.tag) → act_of H j.tag ≡ Some j.act
+    (H : List Event) (time : ℕ) (j : Job) (js : List Job) → IsSoundWithin width m H js → IsAllowedWithin width m H (Intent j.tag)
+    → act_of H j.tag ≡ Some j.act
     → phase_of j.tag js ≡ None → P H js → P (event time (Intent j.tag) ∷ H) (j ∷ js)
 
 pub sound_induction : (width m : ℕ) (P : List Event → List Job → Type 0) → P [] [] → ByEvents width m P → ByJobs width m P
     → (H : List Event) (js : List Job) → IsSoundWithin width m H js → P H js
 sound_induction width m P none events jobs [] js sound = subst (λ (v : List Job). P [] v) (sym (part_none js sound.begun)) none
 sound_induction width m P none events jobs (e ∷ H) js sound =
-    by_kind e.kind (λ ks before. sound_induction width m P none events jobs H ks before) sound.legal.0 (came width m H e.moment e.kind js sound) where
-      by_kind : (k : EventKind) → ((ks : List Job) → IsSoundWithin width m H ks → P H ks) → IsAllowedWithin width m H k → Came width m H k js → P (event e.moment k ∷ H) js
+    by_kind e.kind (λ ks before. sound_induction width m P none events jobs H ks before) sound.legal.0
+    (came width m H e.moment e.kind js sound) where
+      by_kind : (k : EventKind) → ((ks : List Job) → IsSoundWithin width m H ks → P H ks) → IsAllowedWithin width m H k
+          → Came width m H k js → P (event e.moment k ∷ H) js
       by_kind (Intent t) earlier allowed (inl before) = events H e.moment (Intent t) js before allowed tt (earlier js before)
       by_kind (Intent t) earlier allowed (inr from) =
           let ks : List Job = from.2 in
@@ -106,7 +119,8 @@ opened_later : (t u : Tag) (b : Bool) (ts : List Tag) → list_any (same_tag t) 
 opened_later t u true ts h = by_test (same_tag t u) (λ same. rw same refl) (λ other. rw other h)
 opened_later t u false ts h = h
 
-run_event : (width m : ℕ) (H : List Event) (time : ℕ) (k : EventKind) (js : List Job) → IsSoundWithin width m H js → FitsJobs k js → RunOpen H js → RunOpen (event time k ∷ H) js
+run_event : (width m : ℕ) (H : List Event) (time : ℕ) (k : EventKind) (js : List Job) → IsSoundWithin width m H js → FitsJobs k js
+    → RunOpen H js → RunOpen (event time k ∷ H) js
 unfolding is_unsettled
 run_event width m H time (Intent u) js sound fits h j among runs = opened_later j.tag u (is_unsettled H u) (open_tags H) (h j among runs)
 run_event width m H time (Settled t out) js sound fits h j among runs =
@@ -114,20 +128,24 @@ run_event width m H time (Settled t out) js sound fits h j among runs =
     let apart : same_tag j.tag t ≡ false = by_test (same_tag j.tag t)
     (λ same.
     let is : j.tag ≡ t = same_tag-true j.tag t same in
-    let own : phase_of t js ≡ Some Running = subst (λ (x : Tag). phase_of x js ≡ Some Running) is (own_phase j js (one_job width m H js sound) among ∙ ap Some runs) in
+    let own : phase_of t js ≡ Some Running = subst (λ (x : Tag). phase_of x js ≡ Some Running) is
+    (own_phase j js (one_job width m H js sound) among ∙ ap Some runs) in
     absurd (none_runs out (phase_of t js) fits own))
     (λ other. other) in
     let still : list_any (same_tag j.tag) (open_tags (event time (Settled t out) ∷ H)) ≡ true =
     subst (λ (ts : List Tag). list_any (same_tag j.tag) ts ≡ true) (sym (open_tags-settled H time t out))
     (any_filter (same_tag j.tag) (another t) (open_tags H)
-    (λ x same. let is : j.tag ≡ x = same_tag-true j.tag x same in not-false (same_tag x t) (subst (λ (y : Tag). same_tag y t ≡ false) is apart)) opened) in
+    (λ x same. let is : j.tag ≡ x = same_tag-true j.tag x same in not-false (same_tag x t)
+    (subst (λ (y : Tag). same_tag y t ≡ false) is apart)) opened) in
     still
 run_event width m H time _ js sound fits h j among runs = h j among runs
 
-run_job : (width m : ℕ) (H : List Event) (time : ℕ) (j : Job) (js : List Job) → IsSoundWithin width m H js → IsAllowedWithin width m H (Intent j.tag)
+run_job : (width m : ℕ) (H : List Event) (time : ℕ) (j : Job) (js : List Job) → IsSoundWithin width m H js
+    → IsAllowedWithin width m H (Intent j.tag)
     → RunOpen H js → RunOpen (event time (Intent j.tag) ∷ H) (j ∷ js)
 run_job width m H time j js sound allowed h k (inl is) runs =
-    subst (λ (x : Job). is_open (event time (Intent j.tag) ∷ H) x.tag ≡ true) is (fresh_open width m H time sound.legal j.tag allowed.number)
+    subst (λ (x : Job). is_open (event time (Intent j.tag) ∷ H) x.tag ≡ true) is
+    (fresh_open width m H time sound.legal j.tag allowed.number)
 run_job width m H time j js sound allowed h k (inr among) runs = run_event width m H time (Intent j.tag) js sound tt h k among runs
 
 pub running_open : (width m : ℕ) (H : List Event) (js : List Job) → IsSoundWithin width m H js → RunOpen H js

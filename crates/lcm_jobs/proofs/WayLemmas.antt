@@ -1,5 +1,6 @@
 -- How often ways that are in turn come, and how often a change was made and undone by its jobs.
-use Rattle.std.proofs.Common.{◌≡◌, ◌+◌, ◌-◌, ◌&&◌, ◌∙◌, ℕ, List, [], ◌∷◌, Bool, true, false, cond, Option, None, Some, refl, ap, sym, subst, map, filter, length, arith, suc}
+use Rattle.std.proofs.Common.{◌≡◌, ◌+◌, ◌-◌, ◌&&◌, ◌∙◌, ℕ, List, [], ◌∷◌, Bool, true, false, cond, Option, None, Some, refl, ap, sym, subst}
+use Rattle.std.proofs.Common.{map, filter, length, arith, suc}
 use Rattle.std.specs.List.{list_any}
 use Rattle.std.specs.Option.{option_map_or}
 use Rattle.lcm_events.specs.Same.{same_tag, same_way}
@@ -18,7 +19,8 @@ use Rattle.lcm_model.specs.Work.{net_before}
 use Rattle.lcm_laws.proofs.FreshLaws.{fresh_unsettled}
 use Rattle.lcm_laws.proofs.Histories.{event}
 use Rattle.lcm_laws.proofs.Lists.{by_test}
-use Rattle.lcm_laws.proofs.NetLaws.{Fits, another, at_own, done_count-done, done_count-other, fits, filter_cond_other, open_attempts-other, open_attempts-settled, open_own}
+use Rattle.lcm_laws.proofs.NetLaws.{Fits, another, at_own, done_count-done, done_count-other, fits, filter_cond_other, open_attempts-other}
+use Rattle.lcm_laws.proofs.NetLaws.{open_attempts-settled, open_own}
 use Rattle.site_traits.specs.declared.jobs.Phase.{Phase}
 use Rattle.site_traits.specs.declared.jobs.Phase.TheVariants.{Aborted, Broken, Done, Running}
 use Rattle.site_traits.specs.Jobs.{Job, phase_of}
@@ -41,10 +43,12 @@ Balanced Undo made undone = made ≡ undone + 1
 pub balanced : (ways : List Way) → AreInTurn ways → Balanced (next_way ways) (times Forward ways) (times Undo ways)
 balanced [] h = refl
 balanced (Forward ∷ ways) h =
-    let before : Balanced Forward (times Forward ways) (times Undo ways) = subst (λ (w : Way). Balanced w (times Forward ways) (times Undo ways)) (sym h.0) (balanced ways h.1) in
+    let before : Balanced Forward (times Forward ways) (times Undo ways) =
+    subst (λ (w : Way). Balanced w (times Forward ways) (times Undo ways)) (sym h.0) (balanced ways h.1) in
     omega (arith, before)
 balanced (Undo ∷ ways) h =
-    let before : Balanced Undo (times Forward ways) (times Undo ways) = subst (λ (w : Way). Balanced w (times Forward ways) (times Undo ways)) (sym h.0) (balanced ways h.1) in
+    let before : Balanced Undo (times Forward ways) (times Undo ways) =
+    subst (λ (w : Way). Balanced w (times Forward ways) (times Undo ways)) (sym h.0) (balanced ways h.1) in
     omega (arith, before)
 
 -- the job that may be done next is in the way whose net is before it
@@ -64,7 +68,8 @@ up way js ts = length (filter (λ t. same_way way t.way && is_job_done js t) ts)
 pub ways_front : (o c : ℕ) (j : Job) (js : List Job) → is_of o c j.tag ≡ true
     → ways_done o c (j ∷ js) ≡ cond (did_it j.phase) (j.tag.way ∷ ways_done o c js) (ways_done o c js)
 ways_front o c j js own = rw own (by_phase (did_it j.phase)) where
-  by_phase : (b : Bool) → map (λ (x : Job). x.tag.way) (cond b (j ∷ filter (λ x. did_it x.phase) (jobs_of o c js)) (filter (λ x. did_it x.phase) (jobs_of o c js)))
+  by_phase : (b : Bool) → map (λ (x : Job). x.tag.way) (cond b (j ∷ filter (λ x. did_it x.phase) (jobs_of o c js))
+      (filter (λ x. did_it x.phase) (jobs_of o c js)))
       ≡ cond b (j.tag.way ∷ ways_done o c js) (ways_done o c js)
   by_phase true = refl
   by_phase false = refl
@@ -74,7 +79,8 @@ ways_other o c j js other = rw other refl
 
 one_more : (w v : Way) (ways : List Way) → times w (v ∷ ways) ≡ cond (same_way w v) (suc (times w ways)) (times w ways)
 one_more w v ways = by_way (same_way w v) where
-  by_way : (b : Bool) → length (cond b (v ∷ filter (same_way w) ways) (filter (same_way w) ways)) ≡ cond b (suc (times w ways)) (times w ways)
+  by_way : (b : Bool) → length (cond b (v ∷ filter (same_way w) ways) (filter (same_way w) ways))
+      ≡ cond b (suc (times w ways)) (times w ways)
   by_way true = refl
   by_way false = refl
 
@@ -96,12 +102,14 @@ not_done : (js : List Job) (t : Tag) → phase_of t js ≡ None → is_job_done 
 not_done js t none = ap (λ (p : Option Phase). option_map_or did_it p false) none
 
 -- a job of another change leaves the attempts of this one
-up_other : (w : Way) (o c : ℕ) (j : Job) (js : List Job) (ts : List Tag) → is_of o c j.tag ≡ false → up w (j ∷ js) (filter (is_of o c) ts) ≡ up w js (filter (is_of o c) ts)
+up_other : (w : Way) (o c : ℕ) (j : Job) (js : List Job) (ts : List Tag) → is_of o c j.tag ≡ false
+    → up w (j ∷ js) (filter (is_of o c) ts) ≡ up w js (filter (is_of o c) ts)
 up_other w o c j js [] other = refl
 up_other w o c j js (t ∷ ts) other = by_test (is_of o c t)
     (λ own.
     let apart : same_tag t j.tag ≡ false = by_test (same_tag t j.tag)
-    (λ same. let is : t ≡ j.tag = same_tag-true t j.tag same in let both : is_of o c j.tag ≡ true = subst (λ (x : Tag). is_of o c x ≡ true) is own in cc)
+    (λ same. let is : t ≡ j.tag = same_tag-true t j.tag same in let both : is_of o c j.tag ≡ true =
+    subst (λ (x : Tag). is_of o c x ≡ true) is own in cc)
     (λ no. no) in
     let rest = up_other w o c j js ts other in
     rw own (rw apart (ahead t _ _ (same_way w t.way && is_job_done js t) rest)))
@@ -130,8 +138,10 @@ leave : (made d u d' u' : ℕ) → made ≡ d + u → u ≡ 0 → d' ≡ d → u
 leave made d u d' u' h e f g = omega (arith, h, e, f, g)
 
 -- the open attempt of a change ends as its job has ended
-count_ended : (o c : ℕ) (way : Way) (H : List Event) (time : ℕ) (t : Tag) (out : Outcome) (js : List Job) → is_of o c t ≡ true → Agrees out (phase_of t js)
-    → open_attempts H o c ≡ t ∷ [] → up way js (open_attempts (event time (Settled t out) ∷ H) o c) ≡ 0 → Counts o c way H js → Counts o c way (event time (Settled t out) ∷ H) js
+count_ended : (o c : ℕ) (way : Way) (H : List Event) (time : ℕ) (t : Tag) (out : Outcome) (js : List Job) → is_of o c t ≡ true
+    → Agrees out (phase_of t js)
+    → open_attempts H o c ≡ t ∷ [] → up way js (open_attempts (event time (Settled t out) ∷ H) o c) ≡ 0 → Counts o c way H js
+    → Counts o c way (event time (Settled t out) ∷ H) js
 count_ended o c way H time t (outcome.Done name) js own fits alone none h =
     let done : is_job_done js t ≡ true = ap (λ (p : Option Phase). option_map_or did_it p false) fits in
     settle (same_way way t.way) (made way js o c) (done_count way H o c) (up way js (open_attempts H o c)) _ _ h
@@ -153,7 +163,8 @@ count_ended o c way H time t outcome.NotBegun js own fits alone none h =
     (ap (λ (ts : List Tag). up way js ts) alone ∙ up_none way js t (not_done js t fits)) refl none
 
 -- an attempt that begins is the only open one of its change
-begun_alone : (o c : ℕ) (u : Tag) (b : Bool) (ts : List Tag) → b ≡ true → is_of o c u ≡ true → filter (is_of o c) ts ≡ [] → filter (is_of o c) (cond b (u ∷ ts) ts) ≡ u ∷ []
+begun_alone : (o c : ℕ) (u : Tag) (b : Bool) (ts : List Tag) → b ≡ true → is_of o c u ≡ true → filter (is_of o c) ts ≡ []
+    → filter (is_of o c) (cond b (u ∷ ts) ts) ≡ u ∷ []
 begun_alone o c u true ts e own none = rw own (ap (λ (v : List Tag). u ∷ v) none)
 begun_alone o c u false ts e own none = cc
 
@@ -162,30 +173,38 @@ pub open_begun : (H : List Event) (time : ℕ) (u : Tag) (o c : ℕ) → is_unse
 unfolding is_unsettled
 open_begun H time u o c fresh own none = begun_alone o c u (is_unsettled H u) (open_tags H) fresh own none
 
-pub open_elsewhere : (H : List Event) (time : ℕ) (u : Tag) (o c : ℕ) → is_of o c u ≡ false → open_attempts (event time (Intent u) ∷ H) o c ≡ open_attempts H o c
+pub open_elsewhere : (H : List Event) (time : ℕ) (u : Tag) (o c : ℕ) → is_of o c u ≡ false
+    → open_attempts (event time (Intent u) ∷ H) o c ≡ open_attempts H o c
 unfolding is_unsettled
 open_elsewhere H time u o c other = filter_cond_other (is_of o c) u (is_unsettled H u) (open_tags H) other
 
 -- no attempt of the change was open where one begins
-pub none_before : (width m : ℕ) (H : List Event) (u : Tag) (o c : ℕ) → IsAllowedWithin width m H (Intent u) → is_of o c u ≡ true → open_attempts H o c ≡ []
+pub none_before : (width m : ℕ) (H : List Event) (u : Tag) (o c : ℕ) → IsAllowedWithin width m H (Intent u) → is_of o c u ≡ true
+    → open_attempts H o c ≡ []
 none_before width m H u o c allowed own = at_own (λ o c. open_attempts H o c ≡ []) o c u own allowed.none_open
 
 same_counts : (a d u d' u' : ℕ) → a ≡ d + u → d' ≡ d → u' ≡ u → a ≡ d' + u'
 same_counts a d u d' u' h e f = omega (arith, h, e, f)
 
-count_settled : (width m : ℕ) (o c : ℕ) (way : Way) (H : List Event) (time : ℕ) (t : Tag) (out : Outcome) (js : List Job) → IsSoundWithin width m H js
-    → IsAllowedWithin width m H (Settled t out) → Agrees out (phase_of t js) → Counts o c way H js → Counts o c way (event time (Settled t out) ∷ H) js
+count_settled : (width m : ℕ) (o c : ℕ) (way : Way) (H : List Event) (time : ℕ) (t : Tag) (out : Outcome) (js : List Job)
+    → IsSoundWithin width m H js
+    → IsAllowedWithin width m H (Settled t out) → Agrees out (phase_of t js) → Counts o c way H js
+    → Counts o c way (event time (Settled t out) ∷ H) js
 count_settled width m o c way H time t out js sound allowed agreed h = by_test (is_of o c t)
     (λ own.
-    let among : list_any (same_tag t) (open_attempts H o c) ≡ true = at_own (λ o c. list_any (same_tag t) (open_attempts H o c) ≡ true) o c t own (open_own H t allowed) in
-    let alone : open_attempts H o c ≡ t ∷ [] = sole_is (open_attempts H o c) t (done_count Forward H o c) (done_count Undo H o c) (fits_of width m H sound o c) among in
+    let among : list_any (same_tag t) (open_attempts H o c) ≡ true =
+    at_own (λ o c. list_any (same_tag t) (open_attempts H o c) ≡ true) o c t own (open_own H t allowed) in
+    let alone : open_attempts H o c ≡ t ∷ [] = sole_is (open_attempts H o c) t (done_count Forward H o c) (done_count Undo H o c)
+    (fits_of width m H sound o c) among in
     let gone : open_attempts (event time (Settled t out) ∷ H) o c ≡ [] =
     open_attempts-settled H time t out o c ∙ (ap (λ (ts : List Tag). filter (another t) ts) alone ∙ itself t) in
     count_ended o c way H time t out js own agreed alone (ap (λ (ts : List Tag). up way js ts) gone) h)
     (λ other.
-    same_counts (made way js o c) (done_count way H o c) (up way js (open_attempts H o c)) _ _ h (done_count-other way H time t out o c other)
+    same_counts (made way js o c) (done_count way H o c) (up way js (open_attempts H o c)) _ _ h
+    (done_count-other way H time t out o c other)
     (ap (λ (ts : List Tag). up way js ts) (open_attempts-other H time t out o c other))) where
-      fits_of : (width m : ℕ) (H : List Event) → IsSoundWithin width m H js → (o c : ℕ) → Fits (open_attempts H o c) (done_count Forward H o c) (done_count Undo H o c)
+      fits_of : (width m : ℕ) (H : List Event) → IsSoundWithin width m H js → (o c : ℕ)
+          → Fits (open_attempts H o c) (done_count Forward H o c) (done_count Undo H o c)
       fits_of width m H sound o c = fits width m H sound.legal o c
 
       itself : (t : Tag) → filter (another t) (t ∷ []) ≡ []
@@ -204,10 +223,12 @@ count_intent width m o c way H time u js sound allowed h = by_test (is_of o c u)
     same_counts (made way js o c) (done_count way H o c) (up way js (open_attempts H o c)) _ _ h refl
     (ap (λ (ts : List Tag). up way js ts) (open_elsewhere H time u o c other)))
 
-count_event : (width m : ℕ) (o c : ℕ) (way : Way) (H : List Event) (time : ℕ) (k : EventKind) (js : List Job) → IsSoundWithin width m H js → IsAllowedWithin width m H k
+count_event : (width m : ℕ) (o c : ℕ) (way : Way) (H : List Event) (time : ℕ) (k : EventKind) (js : List Job) → IsSoundWithin width m H js
+    → IsAllowedWithin width m H k
     → FitsJobs k js → Counts o c way H js → Counts o c way (event time k ∷ H) js
 unfolding is_unsettled
-count_event width m o c way H time (Settled t out) js sound allowed agreed h = count_settled width m o c way H time t out js sound allowed agreed h
+count_event width m o c way H time (Settled t out) js sound allowed agreed h =
+    count_settled width m o c way H time t out js sound allowed agreed h
 count_event width m o c way H time (Intent u) js sound allowed agreed h = count_intent width m o c way H time u js sound allowed h
 count_event width m o c way H time _ js sound allowed agreed h = h
 
@@ -225,8 +246,10 @@ count_job width m o c way H time j js sound allowed h = by_test (is_of o c j.tag
     (λ own.
     let none : open_attempts H o c ≡ [] = none_before width m H j.tag o c allowed own in
     let alone = open_begun H time j.tag o c (fresh_unsettled width m H sound.legal j.tag allowed.number) own none in
-    let before : made way js o c ≡ done_count way H o c + 0 = subst (λ (ts : List Tag). made way js o c ≡ done_count way H o c + up way js ts) none h in
-    let its : is_job_done (j ∷ js) j.tag ≡ did_it j.phase = ap (λ (p : Option Phase). option_map_or did_it p false) (phase_front j.tag j js (same_tag-refl j.tag)) in
+    let before : made way js o c ≡ done_count way H o c + 0 = subst
+    (λ (ts : List Tag). made way js o c ≡ done_count way H o c + up way js ts) none h in
+    let its : is_job_done (j ∷ js) j.tag ≡ did_it j.phase = ap (λ (p : Option Phase). option_map_or did_it p false)
+    (phase_front j.tag j js (same_tag-refl j.tag)) in
     let front = ap (λ (ws : List Way). times way ws) (ways_front o c j js own) in
     by_test (did_it j.phase)
     (λ done.

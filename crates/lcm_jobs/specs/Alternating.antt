@@ -18,12 +18,14 @@ AreApart (t ∷ ts) = (IsIn t ts → ⊥) × AreApart ts
 
 -- no two jobs are for one attempt (own rule)
 abbrev pub EachAttemptHasOneJob : Type 0
-EachAttemptHasOneJob = (width m : ℕ) (H : List Event) (jobs : List Job) → IsSoundWithin width m H jobs → AreApart (map (λ j. j.tag) jobs)
+EachAttemptHasOneJob = (width m : ℕ) (H : List Event) (jobs : List Job) → IsSoundWithin width m H jobs
+    → AreApart (map (λ j. j.tag) jobs)
 
 -- a job that runs is for an attempt that is open (own rule)
 abbrev pub RunningJobsAreOpen : Type 0
 RunningJobsAreOpen =
-    (width m : ℕ) (H : List Event) (jobs : List Job) → IsSoundWithin width m H jobs → (j : Job) → IsIn j jobs → j.phase ≡ Running → is_open H j.tag ≡ true
+    (width m : ℕ) (H : List Event) (jobs : List Job) → IsSoundWithin width m H jobs → (j : Job) → IsIn j jobs
+    → j.phase ≡ Running → is_open H j.tag ≡ true
 
 -- the job is of change c of occurrence o (own rule)
 abbrev pub is_job_of : ℕ → ℕ → Job → Bool
@@ -61,11 +63,13 @@ abbrev pub rest : {A : Type 0} → List A → List A
 rest [] = []
 rest (x ∷ xs) = xs
 
--- the jobs of a change alternate: all but the latest have ended, and those that were done made and undid it in turn (own rule)
+-- the jobs of a change alternate: all but the latest have ended, and those that were done made and undid it in turn
+-- (own rule)
 pub record Alternate (jobs : List Job) (o c : ℕ) : Type 0 where
   pub ended : HaveEnded (rest (jobs_of o c jobs))
   pub turns : AreInTurn (ways_done o c jobs)
 
 -- the jobs of each change alternate (own rule)
 abbrev pub JobsAlternate : Type 0
-JobsAlternate = (width m : ℕ) (H : List Event) (jobs : List Job) → IsSoundWithin width m H jobs → (o c : ℕ) → Alternate jobs o c
+JobsAlternate = (width m : ℕ) (H : List Event) (jobs : List Job) → IsSoundWithin width m H jobs → (o c : ℕ)
+    → Alternate jobs o c

@@ -8,7 +8,8 @@ use Rattle.site_traits.specs.Jobs.{Job}
 use Rattle.change_planner.specs.Tags.{act_of}
 use Rattle.lcm_jobs.specs.Sound.{IsSoundWithin}
 
--- The history has the job's attempt, whose occurrence was granted before it began, and the job is its work over the history before (SOL 003 9.4.2).
+-- The history has the job's attempt, whose occurrence was granted before it began, and the job is its work over the
+-- history before (SOL 003 9.4.2).
 pub record IsGrantedWork (H : List Event) (j : Job) : Type 0 where
   pub later : List Event
   pub moment : ℕ
@@ -20,4 +21,5 @@ pub record IsGrantedWork (H : List Event) (j : Job) : Type 0 where
 -- no resource stands ungranted: each job is the work of an attempt behind a grant (SOL 003 9.4.2)
 abbrev pub JobsAreGrantedWork : Type 0
 JobsAreGrantedWork =
-    (width m : ℕ) (H : List Event) (jobs : List Job) → IsSoundWithin width m H jobs → (j : Job) → IsIn j jobs → IsGrantedWork H j
+    (width m : ℕ) (H : List Event) (jobs : List Job) → IsSoundWithin width m H jobs → (j : Job) → IsIn j jobs
+    → IsGrantedWork H j

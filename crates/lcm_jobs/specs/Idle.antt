@@ -1,6 +1,7 @@
 -- What stands of an instance among the jobs (SOL 003 5.5.2.2, instantiationState).
 use Rattle.std.specs.Option.{option_map_or}
-use Rattle.std.specs.Prelude.{Bool, List, None, Option, [], false, filter_map, if◌then◌else◌, option_and_then, slice_get, ℕ, ◌==◌, ◌≡◌}
+use Rattle.std.specs.Prelude.{Bool, List, None, Option, [], false, filter_map, if◌then◌else◌, option_and_then}
+use Rattle.std.specs.Prelude.{slice_get, ℕ, ◌==◌, ◌≡◌}
 use Rattle.lcm_events.specs.Same.{same_def}
 use Rattle.lcm_events.specs.declared.attempts.Tag.{Tag}
 use Rattle.lcm_events.specs.declared.changes.Change.{Change}
@@ -32,12 +33,15 @@ verb_on H i x t = option_and_then (verb_in i x t) (operation H t.occ)
 unfoldable pub verb_of_job : List Event → ℕ → Def → Job → Option Verb
 verb_of_job H i x j = if did_it j.phase then verb_on H i x j.tag else None
 
--- a definition of an instance stands among the jobs, the latest first: something was done to it, last not a removal (own rule)
+-- a definition of an instance stands among the jobs, the latest first: something was done to it, last not a removal
+-- (own rule)
 abbrev pub stands_among : List Event → ℕ → Def → List Job → Bool
 stands_among H i x jobs = option_map_or leaves_it (first (filter_map (verb_of_job H i x) jobs)) false
 
--- an instance that is NOT_INSTANTIATED without an operation that goes on has nothing standing among the jobs (SOL 003 5.5.2.2, instantiationState)
+-- an instance that is NOT_INSTANTIATED without an operation that goes on has nothing standing among the jobs (SOL 003
+-- 5.5.2.2, instantiationState)
 abbrev pub IdleInstancesHaveNoJobStanding : Type 0
 IdleInstancesHaveNoJobStanding =
-    (width m : ℕ) (H : List Event) (jobs : List Job) → IsSoundWithin width m H jobs → (i : ℕ) → is_instantiated H i ≡ false → ongoing H i ≡ []
+    (width m : ℕ) (H : List Event) (jobs : List Job) → IsSoundWithin width m H jobs → (i : ℕ)
+    → is_instantiated H i ≡ false → ongoing H i ≡ []
     → (x : Def) → stands_among H i x jobs ≡ false

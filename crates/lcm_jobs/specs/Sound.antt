@@ -1,5 +1,5 @@
--- When jobs agree with a history: the infrastructure was asked for nothing but what the history says, and what the history says of it is so
--- (own rules).
+-- When jobs agree with a history: the infrastructure was asked for nothing but what the history says, and what the
+-- history says of it is so (own rules).
 use Rattle.std.specs.Prelude.{List, None, Option, Some, [], filter_map, map, ℕ, ◌∷◌, ◌⊎◌, ◌≡◌}
 use Rattle.lcm_events.specs.declared.acts.Act.{Act}
 use Rattle.lcm_events.specs.declared.attempts.Outcome.{Outcome}
@@ -60,17 +60,17 @@ IsNoneOrBroken None = Unit {0}
 IsNoneOrBroken (Some (Broken code)) = Unit {0}
 IsNoneOrBroken (Some other) = ⊥
 
--- How an attempt ended agrees with its job: done, a job that is done on that resource; broken, a broken job or none, since the infrastructure
--- may have refused it; aborted, an aborted job; not begun, no job (own rule).
+-- How an attempt ended agrees with its job: done, a job that is done on that resource; broken, a broken job or none,
+-- since the infrastructure may have refused it; aborted, an aborted job; not begun, no job (own rule).
 abbrev pub Agrees : Outcome → Option Phase → Type 0
 Agrees (outcome.Done name) p = p ≡ Some (Done name)
 Agrees (outcome.Broken code) p = IsNoneOrBroken p
 Agrees outcome.Aborted p = p ≡ Some Aborted
 Agrees outcome.NotBegun p = p ≡ None
 
--- Jobs, the latest first, are sound with the history of manager m: the history is legal, where at most so many attempts of an occurrence may be
--- open; the jobs are some of the attempts that were begun, each with its work, in the order in which they were begun; and each ended attempt agrees
--- with the job (own rule).
+-- Jobs, the latest first, are sound with the history of manager m: the history is legal, where at most so many attempts
+-- of an occurrence may be open; the jobs are some of the attempts that were begun, each with its work, in the order in
+-- which they were begun; and each ended attempt agrees with the job (own rule).
 pub record IsSoundWithin (width m : ℕ) (H : List Event) (jobs : List Job) : Type 0 where
   pub legal : IsLegalWithin width m H
   pub begun : IsPartOf (map attempt_of jobs) (begun H)

@@ -30,13 +30,15 @@ pub record StandsAtMostOnce (jobs : List Job) (o c : ℕ) : Type 0 where
 
 -- each change stands at most once (own rule)
 abbrev pub ChangesStandAtMostOnce : Type 0
-ChangesStandAtMostOnce = (width m : ℕ) (H : List Event) (jobs : List Job) → IsSoundWithin width m H jobs → (o c : ℕ) → StandsAtMostOnce jobs o c
+ChangesStandAtMostOnce = (width m : ℕ) (H : List Event) (jobs : List Job) → IsSoundWithin width m H jobs → (o c : ℕ)
+    → StandsAtMostOnce jobs o c
 
 -- the job of an attempt was done (own rule)
 abbrev pub is_job_done : List Job → Tag → Bool
 is_job_done jobs t = option_map_or did_it (phase_of t jobs) false
 
--- the net of a change by the history and, where an attempt is open whose job was done, what it is after that attempt (own rule)
+-- the net of a change by the history and, where an attempt is open whose job was done, what it is after that attempt
+-- (own rule)
 abbrev pub net_at : List Job → ℕ → List Tag → ℕ
 net_at jobs settled [] = settled
 net_at jobs settled (t ∷ ts) = if is_job_done jobs t then net_after t.way else settled
@@ -54,9 +56,11 @@ EachStands H jobs o n = (c : ℕ) → c < length (changes H o) → stands jobs o
 -- every change of an occurrence that is COMPLETED stands exactly once (own rule)
 abbrev pub CompletedStandsOnce : Type 0
 CompletedStandsOnce =
-    (width m : ℕ) (H : List Event) (jobs : List Job) → IsSoundWithin width m H jobs → (o : ℕ) → state H o ≡ Completed → EachStands H jobs o 1
+    (width m : ℕ) (H : List Event) (jobs : List Job) → IsSoundWithin width m H jobs → (o : ℕ) → state H o ≡ Completed
+    → EachStands H jobs o 1
 
 -- no change of an occurrence that is ROLLED_BACK stands (own rule)
 abbrev pub RolledBackStandsNot : Type 0
 RolledBackStandsNot =
-    (width m : ℕ) (H : List Event) (jobs : List Job) → IsSoundWithin width m H jobs → (o : ℕ) → state H o ≡ RolledBack → EachStands H jobs o 0
+    (width m : ℕ) (H : List Event) (jobs : List Job) → IsSoundWithin width m H jobs → (o : ℕ) → state H o ≡ RolledBack
+    → EachStands H jobs o 0

@@ -1,6 +1,7 @@
 //! What keeps jobs sound with a history.
 
-ghost use Rattle.lcm_jobs.specs.Keeping.{EndingsStayAgreed, FittingEventsMayCome, JobsMayArriveBehindIntents, JobsMayEnd, NewAttemptsHaveNoJob};
+ghost use Rattle.lcm_jobs.specs.Keeping.{EndingsStayAgreed, FittingEventsMayCome, JobsMayArriveBehindIntents};
+ghost use Rattle.lcm_jobs.specs.Keeping.{JobsMayEnd, NewAttemptsHaveNoJob};
 
 /// Running jobs may end by themselves.
 ///
@@ -16,7 +17,8 @@ pub fn fitting_events_may_come()
     ensures { FittingEventsMayCome }
 {}
 
-/// A job may arrive for an attempt once its intent is recorded, with the work that the history before the intent gives it.
+/// A job may arrive for an attempt once its intent is recorded, with the work that the history before the intent gives
+/// it.
 ///
 /// Source: own rule.
 pub fn jobs_may_arrive_behind_intents()

@@ -1,4 +1,5 @@
-//! When the jobs of an infrastructure agree with a history, what keeps them so, and what follows: each law is the contract of a call that does nothing.
+//! When the jobs of an infrastructure agree with a history, what keeps them so, and what follows: each law is the
+//! contract of a call that does nothing.
 #![tactic(auto)]
 
 mod alternating;

@@ -1,6 +1,7 @@
 //! What stands among the jobs.
 
-ghost use Rattle.lcm_jobs.specs.Standing.{ChangesStandAtMostOnce, CompletedStandsOnce, RolledBackStandsNot, WhatStandsIsTheNet};
+ghost use Rattle.lcm_jobs.specs.Standing.{ChangesStandAtMostOnce, CompletedStandsOnce, RolledBackStandsNot};
+ghost use Rattle.lcm_jobs.specs.Standing.{WhatStandsIsTheNet};
 
 /// Each change stands at most once.
 ///

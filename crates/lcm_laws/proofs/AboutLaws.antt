@@ -1,12 +1,14 @@
 -- Events are about occurrences that were asked for.
-use Rattle.std.proofs.Common.{◌≡◌, ◌||◌, ◌==◌, ◌∙◌, ◌++◌, ℕ, List, [], ◌∷◌, Bool, true, false, cond, Option, None, Some, is_some, refl, ap, subst, filter, filter_map, eqb-true}
+use Rattle.std.proofs.Common.{◌≡◌, ◌||◌, ◌==◌, ◌∙◌, ◌++◌, ℕ, List, [], ◌∷◌, Bool, true, false, cond, Option, None, Some, is_some, refl, ap}
+use Rattle.std.proofs.Common.{subst, filter, filter_map, eqb-true}
 use Rattle.std.specs.List.{cons_option}
 use Rattle.lcm_events.specs.declared.attempts.Outcome.{Outcome}
 use Rattle.lcm_events.specs.declared.attempts.Tag.{Tag}
 use Rattle.lcm_events.specs.declared.attempts.Way.{Way}
 use Rattle.lcm_events.specs.declared.events.Event.{Event}
 use Rattle.lcm_events.specs.declared.events.EventKind.{EventKind}
-use Rattle.lcm_events.specs.declared.events.EventKind.TheVariants.{Asked, CallFailed, CancelAsked, Denied, GrantTried, Granted, Intent, Moved, Settled}
+use Rattle.lcm_events.specs.declared.events.EventKind.TheVariants.{Asked, CallFailed, CancelAsked, Denied, GrantTried, Granted, Intent}
+use Rattle.lcm_events.specs.declared.events.EventKind.TheVariants.{Moved, Settled}
 use Rattle.lcm_events.specs.declared.events.Operation.{Operation}
 use Rattle.lcm_events.specs.declared.states.OpState.TheVariants.{Starting}
 use Rattle.lcm_model.specs.Moves.{moved_to, moves, state}
@@ -31,7 +33,8 @@ asked_at H o a e = rw e refl
 asked_open : (width m : ℕ) (H : List Event) (t : Tag) → IsLegalWithin width m H → is_open H t ≡ true → is_some (operation H t.occ) ≡ true
 asked_open width m H t legal opened = let mine = open_operation width m H t legal opened in asked_at H t.occ mine.0 mine.1
 
-asked_begun : (width m : ℕ) (H : List Event) (t : Tag) → IsLegalWithin width m H → state H t.occ ≡ works_in t.way → is_some (operation H t.occ) ≡ true
+asked_begun : (width m : ℕ) (H : List Event) (t : Tag) → IsLegalWithin width m H → state H t.occ ≡ works_in t.way
+    → is_some (operation H t.occ) ≡ true
 asked_begun width m H t legal works =
     let mine = asked_for width m H legal t.occ (works_in t.way) works (works_later t.way) in asked_at H t.occ mine.0 mine.1
 
@@ -67,7 +70,8 @@ elsewhere n o f g = by_test (n == o) (λ same. absurd (f (ap Some (eqb-true n o 
 begun_away : (H : List Event) (t : Tag) (o c : ℕ) → (t.occ == o) ≡ false → attempts H o c ≡ [] → filter (is_of o c) (t ∷ intents H) ≡ []
 begun_away H t o c other h = rw other h
 
-untouched_begun : (H : List Event) (time : ℕ) (t : Tag) (o : ℕ) → (t.occ == o) ≡ false → Untouched H o → Untouched (event time (Intent t) ∷ H) o
+untouched_begun : (H : List Event) (time : ℕ) (t : Tag) (o : ℕ) → (t.occ == o) ≡ false → Untouched H o
+    → Untouched (event time (Intent t) ∷ H) o
 unfolding is_unsettled
 untouched_begun H time t o other h = (
   h.0,
@@ -93,7 +97,8 @@ untouched_ended H time t outcome o other h = (
   rw other h.7,
 )
 
-untouched_by : (H : List Event) (time : ℕ) (k : EventKind) (o : ℕ) → (occurrence_of k ≡ Some o → ⊥) → Untouched H o → Untouched (event time k ∷ H) o
+untouched_by : (H : List Event) (time : ℕ) (k : EventKind) (o : ℕ) → (occurrence_of k ≡ Some o → ⊥) → Untouched H o
+    → Untouched (event time k ∷ H) o
 unfolding is_unsettled
 untouched_by H time (GrantTried n answer) o f h = elsewhere n o f (λ other. rw other h)
 untouched_by H time (Granted n name places spots) o f h = elsewhere n o f (λ other. rw other h)
@@ -128,7 +133,8 @@ untouched_step width m H time k o legal allowed h e =
 pub unasked_untouched : (width m : ℕ) (H : List Event) → IsLegalWithin width m H → (o : ℕ) → operation H o ≡ None → IsUntouched H o
 unasked_untouched width m H legal o none =
     let h : Untouched H o =
-    legal_induction width m (λ H. operation H o ≡ None → Untouched H o) (λ e. (refl, λ c. refl, refl, λ way c. refl, refl, refl, refl, refl))
+    legal_induction width m (λ H. operation H o ≡ None → Untouched H o)
+    (λ e. (refl, λ c. refl, refl, λ way c. refl, refl, refl, refl, refl))
     (λ H time k legal allowed h. untouched_step width m H time k o legal allowed h) H legal none in
     record {
       moves = h.0;

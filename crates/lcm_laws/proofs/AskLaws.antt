@@ -1,5 +1,6 @@
 -- How an operation that goes on stands to what its instance holds.
-use Rattle.std.proofs.Common.{◌≡◌, ◌≤◌, ◌<◌, ◌+◌, ◌&&◌, ◌==◌, ◌∙◌, ℕ, List, [], ◌∷◌, Bool, true, false, not, Option, None, Some, is_some, refl, ap, sym, subst, length, arith, zero, suc, inl, inr, ◌⊎◌, ltb-true, eqb-true, slice_get, take, ltb}
+use Rattle.std.proofs.Common.{◌≡◌, ◌≤◌, ◌<◌, ◌+◌, ◌&&◌, ◌==◌, ◌∙◌, ℕ, List, [], ◌∷◌, Bool, true, false, not, Option, None, Some, is_some}
+use Rattle.std.proofs.Common.{refl, ap, sym, subst, length, arith, zero, suc, inl, inr, ◌⊎◌, ltb-true, eqb-true, slice_get, take, ltb}
 use Rattle.lcm_events.specs.Same.{same_kind, same_tag}
 use Rattle.lcm_events.proofs.SameLaws.{def_ext, same_kind-true, same_tag-refl}
 use Rattle.lcm_model.specs.declared.holding.Effect.{Effect}
@@ -29,9 +30,11 @@ use Rattle.lcm_model.specs.Operations.{ongoing, operation, operations}
 use Rattle.lcm_model.specs.Holding.{effects, leaves_it, leaves_it_running, runs, stands}
 use Rattle.lcm_model.specs.Instances.{is_instantiated}
 use Rattle.lcm_model.specs.Vnfcs.{all_defs, def_of, defs, is_def_in, is_def_of, is_there, items, link_def, there}
-use Rattle.lcm_model.specs.Plans.{Case, change, leaving, makes_links, removes_links, new_by, phase, plan, stay, stay_by, starts, stops, want}
+use Rattle.lcm_model.specs.Plans.{Case, change, leaving, makes_links, removes_links, new_by, phase, plan, stay, stay_by, starts, stops}
+use Rattle.lcm_model.specs.Plans.{want}
 use Rattle.lcm_model.specs.Planned.{IsPlannedBy}
-use Rattle.lcm_model.specs.Refusals.{Situation, ask_refusal, case_in, content_refusal, instantiation_refusal, is_terminate, situation, state_refusal}
+use Rattle.lcm_model.specs.Refusals.{Situation, ask_refusal, case_in, content_refusal, instantiation_refusal, is_terminate, situation}
+use Rattle.lcm_model.specs.Refusals.{state_refusal}
 use Rattle.lcm_model.specs.Work.{works_in}
 use Rattle.lcm_model.specs.Allowed.{IsAllowedWithin, IsLegalWithin, IsPlanOf}
 use Rattle.lcm_model.specs.Lives.{descriptor}
@@ -81,12 +84,14 @@ ByAsk H i o a _ = is_instantiated H i ≡ true
 abbrev pub NetsStay : List Event → List Event → ℕ → Operation → Type 0
 NetsStay H H' o a = (c : ℕ) (k : Change) → slice_get a.changes c ≡ Some k → net H' o c ≡ net H o c
 
-has_kept : (H H' : List Event) (o : ℕ) (a : Operation) (v : Verb) (n : ℕ) (x : Def) → NetsStay H H' o a → HasChange H o a v n x → HasChange H' o a v n x
+has_kept : (H H' : List Event) (o : ℕ) (a : Operation) (v : Verb) (n : ℕ) (x : Def) → NetsStay H H' o a → HasChange H o a v n x
+    → HasChange H' o a v n x
 has_kept H H' o a v n x nets h = (h.0, h.1, h.2, h.3, h.4, nets h.0 h.1 h.2 ∙ h.5)
 
 -- where an event leaves all this, it still holds
 pub by_ask_kept : (H H' : List Event) (i o : ℕ) (a : Operation) (ask : Ask) → ((x : Def) → stands H' i x ≡ stands H i x) → NetsStay H H' o a
-    → (is_terminate ask ≡ true → Waits H o a → Waits H' o a) → is_instantiated H' i ≡ is_instantiated H i → ByAsk H i o a ask → ByAsk H' i o a ask
+    → (is_terminate ask ≡ true → Waits H o a → Waits H' o a) → is_instantiated H' i ≡ is_instantiated H i → ByAsk H i o a ask
+    → ByAsk H' i o a ask
 by_ask_kept H H' i o a (Instantiate flavour level) stand nets waits inst h = record {
   stand = λ x s. has_kept H H' o a Create 1 x nets (h.stand x (sym (stand x) ∙ s));
   makes = h.makes;
@@ -156,7 +161,8 @@ takes_links (Operate started stop) e = cc
 
 pub item_in : (d : Vnfd) (kind : DefKind) (x : Def) → x.kind ≡ kind → IsIn x.item (items d kind x.vdu) → IsIn x (defs d kind x.vdu x.serial)
 item_in d kind x is h =
-    let made : IsIn (def_of kind x.vdu x.serial x.item) (defs d kind x.vdu x.serial) = in_map (def_of kind x.vdu x.serial) x.item (items d kind x.vdu) h in
+    let made : IsIn (def_of kind x.vdu x.serial x.item) (defs d kind x.vdu x.serial) =
+    in_map (def_of kind x.vdu x.serial) x.item (items d kind x.vdu) h in
     let same : def_of kind x.vdu x.serial x.item ≡ x = def_ext (sym is) refl refl refl in
     subst (λ (y : Def). IsIn y (defs d kind x.vdu x.serial)) same made
 
@@ -164,7 +170,8 @@ pub serial_in : (s n : ℕ) → 0 < s → s ≤ n → IsIn s (range_with_len 1 n
 serial_in s n above low = in_range s 1 n (omega (arith, above)) (omega (arith, low))
 
 -- what stands of a machine is removed
-machine_removed : (p : Case) (kind : DefKind) (x : Def) → x.kind ≡ kind → is_terminate p.ask ≡ true → p.held.stands x ≡ true → x.serial ≤ p.held.top x.vdu
+machine_removed : (p : Case) (kind : DefKind) (x : Def) → x.kind ≡ kind → is_terminate p.ask ≡ true → p.held.stands x ≡ true
+    → x.serial ≤ p.held.top x.vdu
     → (ltb x.vdu (length p.vnfd.vdus) && is_among (items p.vnfd kind x.vdu) x.item && ltb 0 x.serial) ≡ true → IsPlannedBy p Remove x
 machine_removed p kind x is e stand low h =
     let vdu : x.vdu < length p.vnfd.vdus = ltb-true x.vdu (length p.vnfd.vdus) (and_left _ _ (and_left _ _ h)) in
@@ -186,7 +193,8 @@ link_removed p x is e stand h =
     let same : x ≡ link_def x.item = def_ext is refl vdu serial in
     (stand, inr (takes_links p.ask e, (x.item, item, same)))
 
-pub what_stands_removed : (p : Case) (kind : DefKind) (x : Def) → x.kind ≡ kind → is_terminate p.ask ≡ true → p.held.stands x ≡ true → x.serial ≤ p.held.top x.vdu
+pub what_stands_removed : (p : Case) (kind : DefKind) (x : Def) → x.kind ≡ kind → is_terminate p.ask ≡ true → p.held.stands x ≡ true
+    → x.serial ≤ p.held.top x.vdu
     → is_def_in p.vnfd kind x ≡ true → IsPlannedBy p Remove x
 what_stands_removed p Link x is e stand low h = link_removed p x is e stand h
 what_stands_removed p Storage x is e stand low h = machine_removed p Storage x is e stand low h
@@ -194,7 +202,8 @@ what_stands_removed p Compute x is e stand low h = machine_removed p Compute x i
 what_stands_removed p Port x is e stand low h = machine_removed p Port x is e stand low h
 
 -- a planned change is found under a number
-pub planned_get : (p : Case) (v : Verb) (y : Def) (xs : List Change) → xs ≡ plan p → IsPlannedBy p v y → (n : ℕ) × (slice_get xs n ≡ Some (change v y))
+pub planned_get : (p : Case) (v : Verb) (y : Def) (xs : List Change) → xs ≡ plan p → IsPlannedBy p v y
+    → (n : ℕ) × (slice_get xs n ≡ Some (change v y))
 planned_get p v y xs is h =
     in_get (change v y) xs (subst (λ (ks : List Change). IsIn (change v y) ks) (sym is) (planned-in_plan p (change v y) (refl, h)))
 
@@ -241,8 +250,10 @@ no_starts (Heal cause named) e = cc
 no_starts (Operate started stop) e = cc
 
 -- each change of a TERMINATE removes, or stops what is removed later
-takes_by : (p : Case) (v : Verb) (k : Change) (a : Operation) → is_terminate p.ask ≡ true → ((x : Def) → p.held.runs x ≡ true → p.held.stands x ≡ true)
-    → a.changes ≡ plan p → k.verb ≡ v → k.phase ≡ phase v k.def.kind → IsPlannedBy p v k.def → (k.verb ≡ Remove) ⊎ ((k.verb ≡ Stop) × Paired a k)
+takes_by : (p : Case) (v : Verb) (k : Change) (a : Operation) → is_terminate p.ask ≡ true
+    → ((x : Def) → p.held.runs x ≡ true → p.held.stands x ≡ true)
+    → a.changes ≡ plan p → k.verb ≡ v → k.phase ≡ phase v k.def.kind → IsPlannedBy p v k.def
+    → (k.verb ≡ Remove) ⊎ ((k.verb ≡ Stop) × Paired a k)
 takes_by p Create k a e f planned is at (inl h) = absurd (nothing_new p k.def.vdu k.def.serial p.ask e h.1)
 takes_by p Create k a e f planned is at (inr h) = let no_way : false ≡ true = sym (no_links_made p.ask e) ∙ h.0 in cc
 takes_by p Remove k a e f planned is at h = inl is
@@ -268,8 +279,10 @@ starting_none width m H o c legal is = empty (open_attempts H o c) (λ t h.
 same_descriptor : (x : Option Vnfd) (d e : Vnfd) → x ≡ Some d → x ≡ Some e → d ≡ e
 same_descriptor x d e h g = let both : Some d ≡ Some e = sym h ∙ g in cc
 
-tearing_asked : (width m : ℕ) (H : List Event) (d : Vnfd) (i o : ℕ) (a : Operation) (mode : StopType) (timeout : _) → IsLegalWithin width m H → descriptor H i ≡ Some d
-    → state H o ≡ Starting → is_instantiated H i ≡ true → a.changes ≡ plan (case_in d (situation d H i) (Terminate mode timeout)) → IsTearing H i o a
+tearing_asked : (width m : ℕ) (H : List Event) (d : Vnfd) (i o : ℕ) (a : Operation) (mode : StopType) (timeout : _)
+    → IsLegalWithin width m H → descriptor H i ≡ Some d
+    → state H o ≡ Starting → is_instantiated H i ≡ true → a.changes ≡ plan (case_in d (situation d H i) (Terminate mode timeout))
+    → IsTearing H i o a
 tearing_asked width m H d i o a mode timeout legal described starting inst planned =
     let p = case_in d (situation d H i) (Terminate mode timeout) in
     record {
@@ -286,7 +299,8 @@ tearing_asked width m H d i o a mode timeout legal described starting inst plann
       waits = λ b c j k eb ec less zero_b. (starting_untouched width m H legal o starting c, starting_none width m H o c legal starting);
     }
 
-ask_holds : (width m : ℕ) (H : List Event) (d : Vnfd) (i o : ℕ) (a : Operation) (ask : Ask) → IsLegalWithin width m H → descriptor H i ≡ Some d → state H o ≡ Starting
+ask_holds : (width m : ℕ) (H : List Event) (d : Vnfd) (i o : ℕ) (a : Operation) (ask : Ask) → IsLegalWithin width m H
+    → descriptor H i ≡ Some d → state H o ≡ Starting
     → (is_instantiated H i ≡ false → (x : Def) → stands H i x ≡ false) → instantiation_refusal ask (is_instantiated H i) ≡ None
     → a.changes ≡ plan (case_in d (situation d H i) ask) → ByAsk H i o a ask
 ask_holds width m H d i o a (Instantiate flavour level) legal described starting idle fits planned =
@@ -297,13 +311,16 @@ ask_holds width m H d i o a (Terminate mode timeout) legal described starting id
 ask_holds width m H d i o a _ legal described starting idle fits planned =
     unless_none (is_instantiated H i) (when-none (not (is_instantiated H i)) refusals.NotInstantiated fits)
 
-pub new_none : (width m : ℕ) (H : List Event) (o : ℕ) (x : Option Operation) → IsLegalWithin width m H → o ≡ length (operations H) + 1 → operation H o ≡ x → operation H o ≡ None
+pub new_none : (width m : ℕ) (H : List Event) (o : ℕ) (x : Option Operation) → IsLegalWithin width m H → o ≡ length (operations H) + 1
+    → operation H o ≡ x → operation H o ≡ None
 new_none width m H o None legal number is = is
 new_none width m H o (Some a) legal number is =
     let found : is_some (operation H o) ≡ true = rw is refl in
-    let within = found_within (λ a. a.occ) (operations H) o (operations_counted width m H legal) found in absurd (omega (arith, number, within.1))
+    let within = found_within (λ a. a.occ) (operations H) o (operations_counted width m H legal) found in
+    absurd (omega (arith, number, within.1))
 
-asked_of : (width m : ℕ) (H : List Event) (a : Operation) (d : Option Vnfd) → IsLegalWithin width m H → a.occ ≡ length (operations H) + 1 → descriptor H a.instance ≡ d
+asked_of : (width m : ℕ) (H : List Event) (a : Operation) (d : Option Vnfd) → IsLegalWithin width m H → a.occ ≡ length (operations H) + 1
+    → descriptor H a.instance ≡ d
     → IsPlanOf H a d → (is_instantiated H a.instance ≡ false → (x : Def) → stands H a.instance x ≡ false) → ByAsk H a.instance a.occ a a.ask
 asked_of width m H a None legal number described h idle = absurd h
 asked_of width m H a (Some d) legal number described h idle =

@@ -1,5 +1,6 @@
 -- What an attempt finds when it begins, and what an operation finds when it is asked for.
-use Rattle.std.proofs.Common.{◌≡◌, ◌++◌, ◌∙◌, ℕ, List, [], ◌∷◌, true, false, Option, None, Some, refl, ap, sym, subst, inl, inr, ◌↔◌, slice_get, option_and_then}
+use Rattle.std.proofs.Common.{◌≡◌, ◌++◌, ◌∙◌, ℕ, List, [], ◌∷◌, true, false, Option, None, Some, refl, ap, sym, subst, inl, inr, ◌↔◌}
+use Rattle.std.proofs.Common.{slice_get, option_and_then}
 use Rattle.std.specs.Option.{option_map_or}
 use Rattle.lcm_events.specs.declared.asks.Ask.{Ask}
 use Rattle.lcm_events.specs.declared.asks.Ask.TheVariants.{Heal, Instantiate, Operate, Scale, ScaleToLevel, Terminate}
@@ -54,17 +55,33 @@ in_link : (l : Option ℕ) (n : ℕ) → l ≡ Some n → IsIn (link_def n) (opt
 in_link None n e = cc
 in_link (Some k) n e = inl (ap link_def (let one : k ≡ n = cc in one))
 
-in_port : (o : Option port.Port) (n : ℕ) → option_and_then (λ p. p.link) o ≡ Some n → IsIn (link_def n) (option_map_or (λ p. option_map_or (λ l. link_def l ∷ []) p.link []) o [])
+in_port : (o : Option port.Port) (n : ℕ) → option_and_then (λ p. p.link) o ≡ Some n
+    → IsIn (link_def n) (option_map_or (λ p. option_map_or (λ l. link_def l ∷ []) p.link []) o [])
 in_port None n e = cc
 in_port (Some p) n e = in_link p.link n e
 
 of_made_on : (d : Vnfd) (kind : DefKind) (x y : Def) → x.kind ≡ kind → IsIn y (made_on d kind x) → IsMadeOn d x y
 of_made_on d Link x y is h = absurd h
 of_made_on d Storage x y is h = absurd h
-of_made_on d Compute x y is h = inl (is, record { kind = (of_defs d Storage x.vdu x.serial y h).0; among = in_all d Storage x.vdu x.serial y h })
+of_made_on d Compute x y is h = inl (
+  is,
+  record {
+    kind = (of_defs d Storage x.vdu x.serial y h).0;
+    among =
+        in_all d Storage x.vdu x.serial y h;
+  },
+)
 of_made_on d Port x y is (inl e) =
-    let here : IsIn (compute_def x.vdu x.serial) (all_defs d x.vdu x.serial) = in_all d Compute x.vdu x.serial (compute_def x.vdu x.serial) (inl refl) in
-    inr (is, inl (record { kind = ap (λ (z : Def). z.kind) (sym e); among = subst (λ (z : Def). IsIn z (all_defs d x.vdu x.serial)) e here }))
+    let here : IsIn (compute_def x.vdu x.serial) (all_defs d x.vdu x.serial) =
+    in_all d Compute x.vdu x.serial (compute_def x.vdu x.serial) (inl refl) in
+    inr (
+      is,
+      inl (record {
+        kind = ap (λ (z : Def). z.kind) (sym e);
+        among =
+            subst (λ (z : Def). IsIn z (all_defs d x.vdu x.serial)) e here;
+      }),
+    )
 of_made_on d Port x y is (inr g) = inr (is, inr (of_port (slice_get d.ports x.item) y g))
 
 part : (d : Vnfd) (kind : DefKind) (x y : Def) → IsPartBeside d kind x y → IsIn y (defs d kind x.vdu x.serial)
@@ -102,15 +119,18 @@ on_itself d Start x f = inl refl
 on_itself d Stop x f = inl refl
 
 -- what work makes doesn't stand
-absent_at : (H : List Event) (i : ℕ) (t : Tag) (a : Operation) (k : Change) (p : Case) (w : Way) (v : Verb) → IsPlannedOver p a → Tracks H i t.occ a p.held.stands
-    → slice_get a.changes t.change ≡ Some k → net H t.occ t.change ≡ net_before w → k.verb ≡ v → verb_done w v ≡ Create → stands H i k.def ≡ true → ⊥
+absent_at : (H : List Event) (i : ℕ) (t : Tag) (a : Operation) (k : Change) (p : Case) (w : Way) (v : Verb) → IsPlannedOver p a
+    → Tracks H i t.occ a p.held.stands
+    → slice_get a.changes t.change ≡ Some k → net H t.occ t.change ≡ net_before w → k.verb ≡ v → verb_done w v ≡ Create
+    → stands H i k.def ≡ true → ⊥
 absent_at H i t a k p Forward Create h tracks is before verb makes s = elim (tracks.came k.def s) [
   | inl stood ↦ (let none = h.makes k (get_in k a.changes t.change is) verb in let clash : true ≡ false = sym stood ∙ none in cc)
   | inr has ↦
       (let one : t.change ≡ has.0 = one_number p a t.change has.0 k has.1 h is has.2 (sym has.3) (verb ∙ sym has.4) in
       one_zero (net H t.occ t.change) (ap (λ (n : ℕ). net H t.occ n) one ∙ has.5) before)
 ]
-absent_at H i t a k p Undo Remove h tracks is before verb makes s = one_zero (net H t.occ t.change) before (tracks.kept k.def s t.change k is refl verb)
+absent_at H i t a k p Undo Remove h tracks is before verb makes s =
+    one_zero (net H t.occ t.change) before (tracks.kept k.def s t.change k is refl verb)
 absent_at H i t a k p Forward Remove h tracks is before verb makes s = cc
 absent_at H i t a k p Forward Start h tracks is before verb makes s = cc
 absent_at H i t a k p Forward Stop h tracks is before verb makes s = cc
@@ -129,7 +149,8 @@ work_fits width m H t legal allowed a k found is =
       makes = λ makes. by_test (stands H a.instance k.def)
           (λ s. absurd (absent_at H a.instance t a k f.p t.way k.verb f.over f.tracks is turn.0 refl makes s))
           (λ none. none);
-      others = λ other. work_needs width m H t legal allowed a k f.p.vnfd found is f.described k.def (on_itself f.p.vnfd (verb_done t.way k.verb) k.def other);
+      others = λ other. work_needs width m H t legal allowed a k f.p.vnfd found is f.described k.def
+          (on_itself f.p.vnfd (verb_done t.way k.verb) k.def other);
     }
 
 -- an instance is in step when it is asked to be scaled, started or stopped
@@ -150,7 +171,8 @@ in_step_of H a d (Some c) h e whole =
     in_step d (situation d H a.instance) a.ask mine.0 (step_asked a.ask whole)
 
 pub begun_in_step : (width m : ℕ) (H later : List Event) (time : ℕ) (a : Operation) (d : Vnfd)
-    → IsLegalWithin width m (later ++ record { moment = time; kind = Asked a } ∷ H) → descriptor H a.instance ≡ Some d → IsOfWholeMachines a.ask
+    → IsLegalWithin width m (later ++ record { moment = time; kind = Asked a } ∷ H) → descriptor H a.instance ≡ Some d
+    → IsOfWholeMachines a.ask
     → is_in_step d (inventory H a.instance) (levels d H a.instance) (is_started H a.instance) ≡ true
 begun_in_step width m H later time a d legal described whole =
     let allowed : IsAllowedWithin width m H (Asked a) = allowed_at width m H (event time (Asked a)) later legal in

@@ -1,5 +1,7 @@
 -- No operation has more than 5,000 changes.
-use Rattle.std.proofs.Common.{◌≡◌, ◌≤◌, ◌<◌, ◌+◌, ◌++◌, ◌&&◌, ◌==◌, ◌∙◌, ℕ, List, [], ◌∷◌, Bool, true, false, cond, not, Option, None, Some, refl, ap, sym, subst, length, map, filter, flat_map, arith, suc, inl, inr, ◌⊎◌, ltb, ltb-true, ltb-false, eqb-true, eq-eqb, length-append}
+use Rattle.std.proofs.Common.{◌≡◌, ◌≤◌, ◌<◌, ◌+◌, ◌++◌, ◌&&◌, ◌==◌, ◌∙◌, ℕ, List, [], ◌∷◌, Bool, true, false, cond, not, Option, None, Some}
+use Rattle.std.proofs.Common.{refl, ap, sym, subst, length, map, filter, flat_map, arith, suc, inl, inr, ◌⊎◌, ltb, ltb-true, ltb-false}
+use Rattle.std.proofs.Common.{eqb-true, eq-eqb, length-append}
 use Rattle.std.proofs.lemmas.List.{length-map}
 use Rattle.std.specs.List.{range_with_len}
 use Rattle.lcm_events.specs.Same.{same_def, same_verb}
@@ -34,12 +36,15 @@ use Rattle.lcm_model.specs.Vnfcs.{all_defs, def_of, defs, is_def_in, is_def_of, 
 use Rattle.lcm_model.specs.Plans.{Case, phase, plan, starts, stops}
 use Rattle.lcm_model.specs.Planned.{IsLink, IsPlannedBy, key}
 use Rattle.lcm_model.specs.Descriptors.{IsValid}
-use Rattle.lcm_model.specs.Refusals.{Situation, case_in, content_refusal, created, has_nothing_to_do, is_above_profile, is_terminate, is_too_large, naming_refusal, plan_refusal, situation, state_refusal}
+use Rattle.lcm_model.specs.Refusals.{Situation, case_in, content_refusal, created, has_nothing_to_do, is_above_profile, is_terminate}
+use Rattle.lcm_model.specs.Refusals.{is_too_large, naming_refusal, plan_refusal, situation, state_refusal}
 use Rattle.lcm_model.specs.Allowed.{IsAllowedWithin, IsLegalWithin, IsPlanOf}
 use Rattle.lcm_laws.specs.Standing.{IsOfInstance}
 use Rattle.lcm_laws.proofs.Histories.{event, legal_induction}
 use Rattle.lcm_laws.proofs.Lists.{and_left, and_right, by_test, none_of-front, none_of-rest, when-none}
-use Rattle.lcm_laws.proofs.Members.{get_in, Less, Rises, among_in, in_back, in_filter, in_either, in_flat_map, in_front, in_map, in_range, of_filter, of_flat_map, of_map, of_range, rises_append, rises_filter, rises_flat_map, rises_map, rises_range}
+use Rattle.lcm_laws.proofs.Members.{get_in, Less, Rises, among_in, in_back, in_filter, in_either, in_flat_map, in_front, in_map, in_range}
+use Rattle.lcm_laws.proofs.Members.{of_filter, of_flat_map, of_map, of_range, rises_append, rises_filter, rises_flat_map, rises_map}
+use Rattle.lcm_laws.proofs.Members.{rises_range}
 use Rattle.lcm_laws.proofs.AskLaws.{item_in, runs-stands, serial_in}
 use Rattle.lcm_laws.proofs.HoldLaws.{after_other, moved_from, stands_elsewhere, stands_moved}
 use Rattle.lcm_laws.proofs.OngoingLaws.{asked_idle, state-moved}
@@ -86,7 +91,8 @@ items_differ d kind v s valid =
     rises_map Less Differ (def_of kind v s) (items d kind v) (λ a b ha hb less e.
     let same : a ≡ b = ap (λ (x : Def). x.item) e in absurd (omega (arith, less, same))) (items_rise d kind v valid)
 
-pub kinds_differ : (d : Vnfd) (j k : DefKind) (v s : ℕ) (x y : Def) → (j ≡ k → ⊥) → IsIn x (defs d j v s) → IsIn y (defs d k v s) → Differ x y
+pub kinds_differ : (d : Vnfd) (j k : DefKind) (v s : ℕ) (x y : Def) → (j ≡ k → ⊥) → IsIn x (defs d j v s) → IsIn y (defs d k v s)
+    → Differ x y
 kinds_differ d j k v s x y no_way hx hy e =
     no_way (sym (of_defs d j v s x hx).0 ∙ (ap (λ (z : Def). z.kind) e ∙ (of_defs d k v s y hy).0))
 
@@ -151,16 +157,20 @@ machine_up_to d top kind x is low h =
     (in_flat_map (λ v. flat_map (all_defs d v) (range_with_len 1 (top v))) x.vdu x (vdu_numbers d) (vdu_in x.vdu (length d.vdus) vdu)
     (in_flat_map (all_defs d x.vdu) x.serial x (range_with_len 1 (top x.vdu)) (serial_in x.serial (top x.vdu) above low) all))
 
-link_up_to : (d : Vnfd) (top : ℕ → ℕ) (x : Def) → x.kind ≡ Link → (ltb x.item (length d.links) && (x.vdu == 65535) && (x.serial == 0)) ≡ true
+link_up_to : (d : Vnfd) (top : ℕ → ℕ) (x : Def) → x.kind ≡ Link
+    → (ltb x.item (length d.links) && (x.vdu == 65535) && (x.serial == 0)) ≡ true
     → IsIn x (defs_up_to d top)
 link_up_to d top x is h =
     let item : x.item < length d.links = ltb-true x.item (length d.links) (and_left _ _ (and_left _ _ h)) in
-    let same : x ≡ link_def x.item = def_ext is refl (eqb-true x.vdu 65535 (and_right _ _ (and_left _ _ h))) (eqb-true x.serial 0 (and_right _ _ h)) in
-    let link : IsIn (link_def x.item) (links d) = in_map link_def x.item (range_with_len 0 (length d.links)) (vdu_in x.item (length d.links) item) in
+    let same : x ≡ link_def x.item = def_ext is refl (eqb-true x.vdu 65535 (and_right _ _ (and_left _ _ h)))
+    (eqb-true x.serial 0 (and_right _ _ h)) in
+    let link : IsIn (link_def x.item) (links d) = in_map link_def x.item (range_with_len 0 (length d.links))
+    (vdu_in x.item (length d.links) item) in
     in_back x (flat_map (λ v. flat_map (all_defs d v) (range_with_len 1 (top v))) (vdu_numbers d)) (links d)
     (subst (λ (y : Def). IsIn y (links d)) (sym same) link)
 
-kind_up_to : (d : Vnfd) (top : ℕ → ℕ) (kind : DefKind) (x : Def) → x.kind ≡ kind → x.serial ≤ top x.vdu → is_def_in d kind x ≡ true → IsIn x (defs_up_to d top)
+kind_up_to : (d : Vnfd) (top : ℕ → ℕ) (kind : DefKind) (x : Def) → x.kind ≡ kind → x.serial ≤ top x.vdu → is_def_in d kind x ≡ true
+    → IsIn x (defs_up_to d top)
 kind_up_to d top Link x is low h = link_up_to d top x is h
 kind_up_to d top Storage x is low h = machine_up_to d top Storage x is low h
 kind_up_to d top Compute x is low h = machine_up_to d top Compute x is low h
@@ -172,12 +182,14 @@ Stands p y = (p.held.stands y ≡ true) × (y.serial ≤ p.held.top y.vdu)
 
 there_low : (p : Case) (v s : ℕ) → IsIn s (there p.vnfd p.held v) → s ≤ p.held.top v
 there_low p v s h =
-    let range = (of_range s 1 (p.held.top v) (of_filter (is_there p.vnfd p.held v) s (range_with_len 1 (p.held.top v)) h).0).1 in omega (arith, range)
+    let range = (of_range s 1 (p.held.top v) (of_filter (is_there p.vnfd p.held v) s (range_with_len 1 (p.held.top v)) h).0).1 in
+    omega (arith, range)
 
 link_low : (p : Case) (y : Def) → IsLink p y → y.serial ≤ p.held.top y.vdu
 link_low p y h = let none : y.serial ≡ 0 = ap (λ (x : Def). x.serial) h.2 in omega (arith, none)
 
-planned_stands : (p : Case) (v : Verb) (y : Def) → ((x : Def) → p.held.runs x ≡ true → p.held.stands x ≡ true) → (v ≡ Create → ⊥) → IsPlannedBy p v y → Stands p y
+planned_stands : (p : Case) (v : Verb) (y : Def) → ((x : Def) → p.held.runs x ≡ true → p.held.stands x ≡ true) → (v ≡ Create → ⊥)
+    → IsPlannedBy p v y → Stands p y
 planned_stands p Create y f no_create h = absurd (no_create refl)
 planned_stands p Remove y f no_create h = (
   h.0,
@@ -194,26 +206,30 @@ abbrev with_verb : Verb → List Change → List Change
 with_verb v xs = filter (λ c. same_verb c.verb v) xs
 
 one_verb : (v : Verb) (x : Change) (a b c d : List Change)
-    → length (cond (same_verb v Create) (x ∷ a) a) + length (cond (same_verb v Remove) (x ∷ b) b) + length (cond (same_verb v Start) (x ∷ c) c) + length (cond (same_verb v Stop) (x ∷ d) d)
+    → length (cond (same_verb v Create) (x ∷ a) a) + length (cond (same_verb v Remove) (x ∷ b) b)
+    + length (cond (same_verb v Start) (x ∷ c) c) + length (cond (same_verb v Stop) (x ∷ d) d)
     ≡ suc (length a + length b + length c + length d)
 one_verb Create x a b c d = omega arith
 one_verb Remove x a b c d = omega arith
 one_verb Start x a b c d = omega arith
 one_verb Stop x a b c d = omega arith
 
-by_verbs : (xs : List Change) → length (with_verb Create xs) + length (with_verb Remove xs) + length (with_verb Start xs) + length (with_verb Stop xs) ≡ length xs
+by_verbs : (xs : List Change) → length (with_verb Create xs) + length (with_verb Remove xs) + length (with_verb Start xs)
+    + length (with_verb Stop xs) ≡ length xs
 by_verbs [] = refl
 by_verbs (x ∷ xs) =
     one_verb x.verb x (with_verb Create xs) (with_verb Remove xs) (with_verb Start xs) (with_verb Stop xs) ∙ ap suc (by_verbs xs)
 
-def_differs : (p : Case) (v : Verb) (x y : Change) → IsIn x (with_verb v (plan p)) → IsIn y (with_verb v (plan p)) → Before x y → Differ x.def y.def
+def_differs : (p : Case) (v : Verb) (x y : Change) → IsIn x (with_verb v (plan p)) → IsIn y (with_verb v (plan p)) → Before x y
+    → Differ x.def y.def
 def_differs p v x y hx hy before e =
     let from_x = of_filter (λ c. same_verb c.verb v) x (plan p) hx in
     let from_y = of_filter (λ c. same_verb c.verb v) y (plan p) hy in
     let verbs : x.verb ≡ y.verb = same_verb-true x.verb v from_x.1 ∙ sym (same_verb-true y.verb v from_y.1) in
     let phase_x : x.phase ≡ phase x.verb x.def.kind = (in_plan-planned p x from_x.0).0 in
     let phase_y : y.phase ≡ phase y.verb y.def.kind = (in_plan-planned p y from_y.0).0 in
-    let phases : x.phase ≡ y.phase = phase_x ∙ (ap (λ (w : Verb). phase w x.def.kind) verbs ∙ (ap (λ (z : Def). phase y.verb z.kind) e ∙ sym phase_y)) in
+    let phases : x.phase ≡ y.phase = phase_x ∙ (ap (λ (w : Verb). phase w x.def.kind) verbs
+    ∙ (ap (λ (z : Def). phase y.verb z.kind) e ∙ sym phase_y)) in
     let same : x ≡ y = change_ext phases verbs e in
     not_before (key x) (subst (λ (z : Change). Before x z) (sym same) before)
 
@@ -227,7 +243,8 @@ abbrev held_defs : Case → List Def
 held_defs p = filter p.held.stands (defs_up_to p.vnfd p.held.top)
 
 -- a change that makes nothing is of what stands
-in_held : (p : Case) (v : Verb) (c : Change) → ((x : Def) → p.held.runs x ≡ true → p.held.stands x ≡ true) → (v ≡ Create → ⊥) → IsIn c (plan p) → c.verb ≡ v
+in_held : (p : Case) (v : Verb) (c : Change) → ((x : Def) → p.held.runs x ≡ true → p.held.stands x ≡ true) → (v ≡ Create → ⊥)
+    → IsIn c (plan p) → c.verb ≡ v
     → IsIn c.def (held_defs p)
 in_held p v c f no_create h is =
     let planned = in_plan-planned p c h in
@@ -262,7 +279,8 @@ stops_asked p c h =
 
 one_of_both : (p : Case) → (length (with_verb Start (plan p)) ≡ 0) ⊎ (length (with_verb Stop (plan p)) ≡ 0)
 one_of_both p = by_test (starts p.ask)
-    (λ start. inr (nothing_in (with_verb Stop (plan p)) (λ c h. let clash : true ≡ false = sym (stops_asked p c h) ∙ one_way p.ask start in cc)))
+    (λ start. inr (nothing_in (with_verb Stop (plan p)) (λ c h. let clash : true ≡ false = sym (stops_asked p c h) ∙ one_way p.ask start in
+    cc)))
     (λ still. inl (nothing_in (with_verb Start (plan p)) (λ c h. let clash : true ≡ false = sym (starts_asked p c h) ∙ still in cc)))
 
 -- a plan has at most what it makes, and twice what stands
@@ -280,9 +298,11 @@ record IsFramed (H : List Event) (i : ℕ) : Type 0 where
   frame : List Def
   small : length frame ≤ 2500
   stand : (x : Def) → stands H i x ≡ true → IsIn x frame
-  touched : (o : ℕ) (a : Operation) → operation H o ≡ Some a → a.instance ≡ i → is_final (state H o) ≡ false → (k : Change) → IsIn k a.changes → IsIn k.def frame
+  touched : (o : ℕ) (a : Operation) → operation H o ≡ Some a → a.instance ≡ i → is_final (state H o) ≡ false → (k : Change)
+      → IsIn k a.changes → IsIn k.def frame
 
-framed_settled : (width m : ℕ) (H : List Event) (time : ℕ) (u : Tag) (out : Outcome) (i : ℕ) (x : Def) → IsLegalWithin width m H → is_open H u ≡ true → (h : IsFramed H i)
+framed_settled : (width m : ℕ) (H : List Event) (time : ℕ) (u : Tag) (out : Outcome) (i : ℕ) (x : Def) → IsLegalWithin width m H
+    → is_open H u ≡ true → (h : IsFramed H i)
     → stands (event time (Settled u out) ∷ H) i x ≡ true → IsIn x h.frame
 framed_settled width m H time u out i x legal opened h s =
     let mine = open_operation width m H u legal opened in
@@ -293,7 +313,8 @@ framed_settled width m H time u out i x legal opened h s =
           by_test (same_def change.1.def x)
           (λ same.
           subst (λ (y : Def). IsIn y h.frame) (same_def-true change.1.def x same)
-          (h.touched u.occ mine.0 mine.1 (eqb-true mine.0.instance i ours) mine.2 change.1 (get_in change.1 mine.0.changes u.change change.3)))
+          (h.touched u.occ mine.0 mine.1 (eqb-true mine.0.instance i ours) mine.2 change.1
+          (get_in change.1 mine.0.changes u.change change.3)))
           (λ differ.
           let eff : effect_in H (Settled u (Done change.0)) ≡ Some (effect u change.0 mine.0 change.1) =
           subst (λ (q : Outcome). effect_in H (Settled u q) ≡ Some (effect u change.0 mine.0 change.1)) change.2 change.4 in
@@ -303,17 +324,20 @@ framed_settled width m H time u out i x legal opened h s =
     ])
     (λ not_ours. h.stand x (sym (stands_elsewhere H time u out i x mine.0 mine.1 not_ours) ∙ s))
 
-pub moved_touched : (H : List Event) (time occ : ℕ) (to : OpState) (o : ℕ) → is_final (state H occ) ≡ false → is_final (state (event time (Moved occ to) ∷ H) o) ≡ false
+pub moved_touched : (H : List Event) (time occ : ℕ) (to : OpState) (o : ℕ) → is_final (state H occ) ≡ false
+    → is_final (state (event time (Moved occ to) ∷ H) o) ≡ false
     → is_final (state H o) ≡ false
 moved_touched H time occ to o before after = by_test (occ == o)
     (λ same. subst (λ (n : ℕ). is_final (state H n) ≡ false) (eqb-true occ o same) before)
     (λ other. subst (λ (s : OpState). is_final s ≡ false) (state-moved H time o occ to false other) after)
 
 -- how many definitions stand when an operation is asked for
-few_standing : (H : List Event) (i : ℕ) (d : Vnfd) (p : Case) → p.vnfd ≡ d → IsValid d → (h : IsFramed H i) → p.held.stands ≡ stands H i → length (held_defs p) ≤ 2500
+few_standing : (H : List Event) (i : ℕ) (d : Vnfd) (p : Case) → p.vnfd ≡ d → IsValid d → (h : IsFramed H i) → p.held.stands ≡ stands H i
+    → length (held_defs p) ≤ 2500
 few_standing H i d p is valid h same =
     let differ : Rises Differ (held_defs p) =
-    rises_filter Differ p.held.stands (defs_up_to p.vnfd p.held.top) (up_to_differ p.vnfd p.held.top (subst (λ (x : Vnfd). IsValid x) (sym is) valid)) in
+    rises_filter Differ p.held.stands (defs_up_to p.vnfd p.held.top)
+    (up_to_differ p.vnfd p.held.top (subst (λ (x : Vnfd). IsValid x) (sym is) valid)) in
     let count : length (held_defs p) ≤ length h.frame = few (held_defs p) h.frame differ (λ x g.
     let stand : p.held.stands x ≡ true = (of_filter p.held.stands x (defs_up_to p.vnfd p.held.top) g).1 in
     h.stand x (ap (λ (f : Def → Bool). f x) (sym same) ∙ stand)) in
@@ -338,7 +362,8 @@ record IsFit (H : List Event) (a : Operation) : Type 0 where
   sum : length (held_defs p) + created (plan p) ≤ 2500
   among : (x : Def) → stands H a.instance x ≡ true → IsIn x (held_defs p)
 
-not_too_large : (d : Vnfd) (now : Situation) (ask : Ask) → plan_refusal d now ask ≡ None → is_too_large d now.held (plan (case_in d now ask)) ≡ false
+not_too_large : (d : Vnfd) (now : Situation) (ask : Ask) → plan_refusal d now ask ≡ None
+    → is_too_large d now.held (plan (case_in d now ask)) ≡ false
 not_too_large d now ask e =
     let large = when (is_too_large d now.held (plan (case_in d now ask))) refusals.TooManyResources in
     let above = when (not (is_terminate ask) && is_above_profile d (target d now.levels ask)) refusals.AboveProfile in
@@ -347,7 +372,8 @@ not_too_large d now ask e =
     (none_of-front large [] (none_of-rest above (large ∷ []) (none_of-rest nothing (above ∷ large ∷ [])
     (none_of-rest (naming_refusal d now ask) (nothing ∷ above ∷ large ∷ []) e))))
 
-fit_of : (width m : ℕ) (H : List Event) (a : Operation) (d : Option Vnfd) → IsLegalWithin width m H → descriptor H a.instance ≡ d → IsPlanOf H a d → IsFramed H a.instance → IsFit H a
+fit_of : (width m : ℕ) (H : List Event) (a : Operation) (d : Option Vnfd) → IsLegalWithin width m H → descriptor H a.instance ≡ d
+    → IsPlanOf H a d → IsFramed H a.instance → IsFit H a
 fit_of width m H a None legal described h framed = absurd h
 fit_of width m H a (Some d) legal described h framed =
     let p = case_in d (situation d H a.instance) a.ask in
@@ -373,7 +399,8 @@ fit_of width m H a (Some d) legal described h framed =
           (kind_up_to d p.held.top x.kind x refl of.3 (subst (λ (y : Vnfd). is_def_of y x ≡ true) same of.2)) s);
     }
 
-fit : (width m : ℕ) (H : List Event) (a : Operation) → IsLegalWithin width m H → IsAllowedWithin width m H (Asked a) → IsFramed H a.instance → IsFit H a
+fit : (width m : ℕ) (H : List Event) (a : Operation) → IsLegalWithin width m H → IsAllowedWithin width m H (Asked a) → IsFramed H a.instance
+    → IsFit H a
 fit width m H a legal allowed framed = fit_of width m H a (descriptor H a.instance) legal refl allowed.planned framed
 
 -- the definitions that stand or are made
@@ -386,14 +413,19 @@ new_frame_small p h =
     let mapped = length-map (with_verb Create (plan p)) (λ c. c.def) in
     omega (arith, h, joined, mapped)
 
-change_in_frame : (p : Case) (k : Change) (v : Verb) → k.verb ≡ v → ((x : Def) → p.held.runs x ≡ true → p.held.stands x ≡ true) → IsIn k (plan p) → IsIn k.def (new_frame p)
+change_in_frame : (p : Case) (k : Change) (v : Verb) → k.verb ≡ v → ((x : Def) → p.held.runs x ≡ true → p.held.stands x ≡ true)
+    → IsIn k (plan p) → IsIn k.def (new_frame p)
 change_in_frame p k Create is f h =
     in_back k.def (held_defs p) (map (λ c. c.def) (with_verb Create (plan p)))
     (in_map (λ c. c.def) k (with_verb Create (plan p))
-    (in_filter (λ c. same_verb c.verb Create) k (plan p) h (subst (λ (w : Verb). same_verb w Create ≡ true) (sym is) (same_verb-refl Create))))
-change_in_frame p k Remove is f h = in_front k.def (held_defs p) (map (λ c. c.def) (with_verb Create (plan p))) (in_held p Remove k f (λ e. cc) h is)
-change_in_frame p k Start is f h = in_front k.def (held_defs p) (map (λ c. c.def) (with_verb Create (plan p))) (in_held p Start k f (λ e. cc) h is)
-change_in_frame p k Stop is f h = in_front k.def (held_defs p) (map (λ c. c.def) (with_verb Create (plan p))) (in_held p Stop k f (λ e. cc) h is)
+    (in_filter (λ c. same_verb c.verb Create) k (plan p) h (subst (λ (w : Verb). same_verb w Create ≡ true) (sym is)
+    (same_verb-refl Create))))
+change_in_frame p k Remove is f h = in_front k.def (held_defs p) (map (λ c. c.def) (with_verb Create (plan p)))
+    (in_held p Remove k f (λ e. cc) h is)
+change_in_frame p k Start is f h = in_front k.def (held_defs p) (map (λ c. c.def) (with_verb Create (plan p)))
+    (in_held p Start k f (λ e. cc) h is)
+change_in_frame p k Stop is f h = in_front k.def (held_defs p) (map (λ c. c.def) (with_verb Create (plan p)))
+    (in_held p Stop k f (λ e. cc) h is)
 
 pub found_asked : (H : List Event) (b a : Operation) (o : ℕ) → cond (b.occ == o) (Some b) (operation H o) ≡ Some a
     → (b ≡ a) ⊎ (operation H o ≡ Some a)
@@ -401,7 +433,8 @@ found_asked H b a o e = by_test (b.occ == o)
     (λ same. let is : Some b ≡ Some a = subst (λ (t : Bool). cond t (Some b) (operation H o) ≡ Some a) same e in inl cc)
     (λ other. inr (subst (λ (t : Bool). cond t (Some b) (operation H o) ≡ Some a) other e))
 
-framed_ours : (width m : ℕ) (H : List Event) (time : ℕ) (b : Operation) → IsLegalWithin width m H → IsAllowedWithin width m H (Asked b) → IsFramed H b.instance
+framed_ours : (width m : ℕ) (H : List Event) (time : ℕ) (b : Operation) → IsLegalWithin width m H → IsAllowedWithin width m H (Asked b)
+    → IsFramed H b.instance
     → IsFramed (event time (Asked b) ∷ H) b.instance
 unfolding effect_in
 framed_ours width m H time b legal allowed framed =
@@ -418,7 +451,8 @@ framed_ours width m H time b legal allowed framed =
       ]);
     }
 
-framed_others : (H : List Event) (time : ℕ) (b : Operation) (i : ℕ) → (b.instance == i) ≡ false → IsFramed H i → IsFramed (event time (Asked b) ∷ H) i
+framed_others : (H : List Event) (time : ℕ) (b : Operation) (i : ℕ) → (b.instance == i) ≡ false → IsFramed H i
+    → IsFramed (event time (Asked b) ∷ H) i
 unfolding effect_in
 framed_others H time b i other h = record {
   frame = h.frame;
@@ -432,7 +466,8 @@ framed_others H time b i other h = record {
   ]);
 }
 
-framed_step : (width m : ℕ) (H : List Event) (time : ℕ) (k : EventKind) (i : ℕ) → IsLegalWithin width m H → IsAllowedWithin width m H k → IsFramed H i → IsFramed (event time k ∷ H) i
+framed_step : (width m : ℕ) (H : List Event) (time : ℕ) (k : EventKind) (i : ℕ) → IsLegalWithin width m H → IsAllowedWithin width m H k
+    → IsFramed H i → IsFramed (event time k ∷ H) i
 unfolding effect_in
 framed_step width m H time (Asked b) i legal allowed h = by_test (b.instance == i)
     (λ ours.
@@ -456,10 +491,17 @@ framed_step width m H time k i legal allowed h = record { frame = h.frame; small
 
 framed : (width m : ℕ) (H : List Event) → IsLegalWithin width m H → (i : ℕ) → IsFramed H i
 framed width m H legal i =
-    legal_induction width m (λ H. IsFramed H i) (record { frame = []; small = omega arith; stand = λ x s. cc; touched = λ o a found at goes k has. cc })
+    legal_induction width m (λ H. IsFramed H i) (record {
+      frame = [];
+      small = omega arith;
+      stand = λ x s. cc;
+      touched =
+          λ o a found at goes k has. cc;
+    })
     (λ H time k legal allowed h. framed_step width m H time k i legal allowed h) H legal
 
-pub few_changes : (width m : ℕ) (H : List Event) (a : Operation) → IsLegalWithin width m H → IsAllowedWithin width m H (Asked a) → length a.changes ≤ 5000
+pub few_changes : (width m : ℕ) (H : List Event) (a : Operation) → IsLegalWithin width m H → IsAllowedWithin width m H (Asked a)
+    → length a.changes ≤ 5000
 few_changes width m H a legal allowed =
     let f = fit width m H a legal allowed (framed width m H legal a.instance) in
     let bound = plan_bound f.p f.valid f.runs_stand in
@@ -472,22 +514,28 @@ few_changes width m H a legal allowed =
 abbrev AllFew : List Event → Type 0
 AllFew H = (a : Operation) → IsIn a (operations H) → length a.changes ≤ 5000
 
-few_step : (width m : ℕ) (H : List Event) (time : ℕ) (k : EventKind) → IsLegalWithin width m H → IsAllowedWithin width m H k → AllFew H → AllFew (event time k ∷ H)
-few_step width m H time (Asked b) legal allowed h a (inl e) = subst (λ (z : Operation). length z.changes ≤ 5000) e (few_changes width m H b legal allowed)
+few_step : (width m : ℕ) (H : List Event) (time : ℕ) (k : EventKind) → IsLegalWithin width m H → IsAllowedWithin width m H k → AllFew H
+    → AllFew (event time k ∷ H)
+few_step width m H time (Asked b) legal allowed h a (inl e) = subst (λ (z : Operation). length z.changes ≤ 5000) e
+    (few_changes width m H b legal allowed)
 few_step width m H time (Asked b) legal allowed h a (inr g) = h a g
 few_step width m H time _ legal allowed h a g = h a g
 
-pub plans_small : (width m : ℕ) (H : List Event) → IsLegalWithin width m H → (a : Operation) → IsIn a (operations H) → length a.changes ≤ 5000
-plans_small width m H legal = legal_induction width m AllFew (λ a h. absurd h) (λ H time k legal allowed h. few_step width m H time k legal allowed h) H legal
+pub plans_small : (width m : ℕ) (H : List Event) → IsLegalWithin width m H → (a : Operation) → IsIn a (operations H)
+    → length a.changes ≤ 5000
+plans_small width m H legal = legal_induction width m AllFew (λ a h. absurd h)
+    (λ H time k legal allowed h. few_step width m H time k legal allowed h) H legal
 
 -- at most 2,500 definitions of an instance stand
 pub standing_few : (width m : ℕ) (H : List Event) → IsLegalWithin width m H → (i : ℕ) (d : Vnfd) → descriptor H i ≡ Some d
     → length (filter (stands H i) (defs_up_to d (top H i))) ≤ 2500
 standing_few width m H legal i d described =
-    few_standing H i d (case_in d (situation d H i) (Heal None [])) refl (descriptor_valid width m H i d legal described) (framed width m H legal i) refl
+    few_standing H i d (case_in d (situation d H i) (Heal None [])) refl (descriptor_valid width m H i d legal described)
+    (framed width m H legal i) refl
 
 -- what stands is among the definitions up to the greatest serials
-pub stands_up_to : (width m : ℕ) (H : List Event) → IsLegalWithin width m H → (i : ℕ) (d : Vnfd) (x : Def) → descriptor H i ≡ Some d → stands H i x ≡ true
+pub stands_up_to : (width m : ℕ) (H : List Event) → IsLegalWithin width m H → (i : ℕ) (d : Vnfd) (x : Def) → descriptor H i ≡ Some d
+    → stands H i x ≡ true
     → IsIn x (defs_up_to d (top H i))
 stands_up_to width m H legal i d x described s =
     let of : IsOfInstance H i x = stands_of width m H legal i x s in

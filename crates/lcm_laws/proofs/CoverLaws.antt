@@ -1,5 +1,7 @@
 -- Rows that cover a plan give a grant that may be recorded.
-use Rattle.std.proofs.Common.{◌≡◌, ◌≤◌, ◌+◌, ◌++◌, ◌&&◌, ◌||◌, ◌==◌, ◌∙◌, ℕ, List, [], ◌∷◌, Bool, true, false, cond, Option, None, Some, is_some, refl, ap, sym, subst, length, map, filter, filter_map, find, arith, suc, zero, inl, inr, ◌⊎◌, ltb, lt-ltb, eqb-true, slice_get}
+use Rattle.std.proofs.Common.{◌≡◌, ◌≤◌, ◌+◌, ◌++◌, ◌&&◌, ◌||◌, ◌==◌, ◌∙◌, ℕ, List, [], ◌∷◌, Bool, true, false, cond, Option, None, Some}
+use Rattle.std.proofs.Common.{is_some, refl, ap, sym, subst, length, map, filter, filter_map, find, arith, suc, zero, inl, inr, ◌⊎◌, ltb}
+use Rattle.std.proofs.Common.{lt-ltb, eqb-true, slice_get}
 use Rattle.std.proofs.lemmas.Bool.{leb-true}
 use Rattle.std.specs.List.{enumerate_from, list_all, list_any}
 use Rattle.std.specs.Prelude.{option_map}
@@ -12,7 +14,9 @@ use Rattle.lcm_events.specs.declared.events.Event.{Event}
 use Rattle.lcm_events.specs.declared.events.EventKind.TheVariants.{Granted}
 use Rattle.lcm_events.specs.declared.places.Place.{Place}
 use Rattle.lcm_model.specs.Words.{IsIn}
-use Rattle.lcm_model.specs.Grants.{IsPlacing, change_id, covers, distinct_places, granted_places, granted_spots, ids_of, is_update, names_each_once, place_at, place_in_rows, place_number, place_of_row, places_after, places_at, row_places, rows_for, same_place, same_places}
+use Rattle.lcm_model.specs.Grants.{IsPlacing, change_id, covers, distinct_places, granted_places, granted_spots, ids_of, is_update}
+use Rattle.lcm_model.specs.Grants.{names_each_once, place_at, place_in_rows, place_number, place_of_row, places_after, places_at}
+use Rattle.lcm_model.specs.Grants.{row_places, rows_for, same_place, same_places}
 use Rattle.lcm_model.specs.Operations.{changes}
 use Rattle.lcm_model.specs.Descriptors.{is_given}
 use Rattle.lcm_model.specs.Allowed.{IsAllowedWithin, IsAsking}
@@ -61,18 +65,21 @@ no_answer {A} {B} f x some none = let clash : is_some {T = B} None ≡ true = su
 answered_length : {A B : Type 0} → (f : A → Option B) (xs : List A) → Answered f xs → length (filter_map f xs) ≡ length xs
 answered_length f [] h = refl
 answered_length {A} {B} f (x ∷ xs) h = by_answer (f x) refl (h x (inl refl)) (answered_length f xs (λ z g. h z (inr g))) where
-  by_answer : (o : Option B) → f x ≡ o → is_some (f x) ≡ true → length (filter_map f xs) ≡ length xs → length (filter_map f (x ∷ xs)) ≡ length (x ∷ xs)
+  by_answer : (o : Option B) → f x ≡ o → is_some (f x) ≡ true → length (filter_map f xs) ≡ length xs
+      → length (filter_map f (x ∷ xs)) ≡ length (x ∷ xs)
   by_answer None is some rest = no_answer f x some is
   by_answer (Some y) is some rest = rw is (ap suc rest)
 
-answered_get : {A B : Type 0} → (f : A → Option B) (xs : List A) (n : ℕ) (x : A) → Answered f xs → slice_get xs n ≡ Some x → slice_get (filter_map f xs) n ≡ f x
+answered_get : {A B : Type 0} → (f : A → Option B) (xs : List A) (n : ℕ) (x : A) → Answered f xs → slice_get xs n ≡ Some x
+    → slice_get (filter_map f xs) n ≡ f x
 answered_get f [] n x h e = cc
 answered_get {A} {B} f (y ∷ xs) zero x h e = by_answer (f y) refl (h y (inl refl)) where
   by_answer : (o : Option B) → f y ≡ o → is_some (f y) ≡ true → slice_get (filter_map f (y ∷ xs)) 0 ≡ f x
   by_answer None is some = no_answer f y some is
   by_answer (Some z) is some = let one : y ≡ x = cc in let at : f y ≡ f x = ap f one in rw is (sym is ∙ at)
 answered_get {A} {B} f (y ∷ xs) (suc n) x h e = by_answer (f y) refl (h y (inl refl)) (answered_get f xs n x (λ w g. h w (inr g)) e) where
-  by_answer : (o : Option B) → f y ≡ o → is_some (f y) ≡ true → slice_get (filter_map f xs) n ≡ f x → slice_get (filter_map f (y ∷ xs)) (suc n) ≡ f x
+  by_answer : (o : Option B) → f y ≡ o → is_some (f y) ≡ true → slice_get (filter_map f xs) n ≡ f x
+      → slice_get (filter_map f (y ∷ xs)) (suc n) ≡ f x
   by_answer None is some rest = no_answer f y some is
   by_answer (Some z) is some rest = rw is rest
 
@@ -91,13 +98,16 @@ some_of_map f None e = e
 some_of_map f (Some x) e = refl
 
 -- rows that name the identifiers of some verbs have a place for each change with one of them
-placed_row : (p : Verb → Bool) (xs : List Change) (rows : Rows) (x : ℕ × Change) → names_each_once (ids_of p xs) rows ≡ true → IsIn x (enumerate_from 0 xs)
+placed_row : (p : Verb → Bool) (xs : List Change) (rows : Rows) (x : ℕ × Change) → names_each_once (ids_of p xs) rows ≡ true
+    → IsIn x (enumerate_from 0 xs)
     → p x.1.verb ≡ true → is_some (place_in_rows rows (change_id x.0)) ≡ true
 placed_row p xs rows x named among passes =
     let id : IsIn (change_id x.0) (ids_of p xs) =
-    in_map (λ (y : ℕ × Change). change_id y.0) x (filter (λ y. p y.1.verb) (enumerate_from 0 xs)) (in_filter (λ (y : ℕ × Change). p y.1.verb) x (enumerate_from 0 xs) among passes) in
+    in_map (λ (y : ℕ × Change). change_id y.0) x (filter (λ y. p y.1.verb) (enumerate_from 0 xs))
+    (in_filter (λ (y : ℕ × Change). p y.1.verb) x (enumerate_from 0 xs) among passes) in
     let once : (length (filter (λ r. same_name r.0 (change_id x.0)) rows) == 1) ≡ true =
-    all_in (λ id. length (filter (λ r. same_name r.0 id) rows) == 1) (change_id x.0) (ids_of p xs) (and_right (length rows == length (ids_of p xs)) _ named) id in
+    all_in (λ id. length (filter (λ r. same_name r.0 id) rows) == 1) (change_id x.0) (ids_of p xs)
+    (and_right (length rows == length (ids_of p xs)) _ named) id in
     some_of_map (λ r. r.1) (find (λ r. same_name r.0 (change_id x.0)) rows)
     (found_one (λ r. same_name r.0 (change_id x.0)) rows (eqb-true (length (filter (λ r. same_name r.0 (change_id x.0)) rows)) 1 once))
 
@@ -112,12 +122,15 @@ covered : (xs : List Change) (add remove update : Rows) → covers xs add remove
 covered xs add remove update h = record {
   adds = and_left _ _ (and_left _ _ (and_left _ _ h));
   removes = and_right (names_each_once (ids_of (same_verb Create) xs) add) _ (and_left _ _ (and_left _ _ h));
-  updates = and_right (names_each_once (ids_of (same_verb Create) xs) add && names_each_once (ids_of (same_verb Remove) xs) remove) _ (and_left _ _ h);
+  updates = and_right (names_each_once (ids_of (same_verb Create) xs) add && names_each_once (ids_of (same_verb Remove) xs) remove) _
+      (and_left _ _ h);
   few_places = leb-true (length (distinct_places (map (λ r. r.1) (add ++ remove ++ update)))) 32
-      (and_right (names_each_once (ids_of (same_verb Create) xs) add && names_each_once (ids_of (same_verb Remove) xs) remove && names_each_once (ids_of is_update xs) update) _ h);
+      (and_right (names_each_once (ids_of (same_verb Create) xs) add && names_each_once (ids_of (same_verb Remove) xs) remove
+      && names_each_once (ids_of is_update xs) update) _ h);
 }
 
-row_by : (xs : List Change) (add remove update : Rows) (x : ℕ × Change) (v : Verb) → Covered xs add remove update → IsIn x (enumerate_from 0 xs) → x.1.verb ≡ v
+row_by : (xs : List Change) (add remove update : Rows) (x : ℕ × Change) (v : Verb) → Covered xs add remove update
+    → IsIn x (enumerate_from 0 xs) → x.1.verb ≡ v
     → is_some (place_in_rows (rows_for v add remove update) (change_id x.0)) ≡ true
 row_by xs add remove update x Create h among is = placed_row (same_verb Create) xs add x h.adds among (rw is refl)
 row_by xs add remove update x Remove h among is = placed_row (same_verb Remove) xs remove x h.removes among (rw is refl)
@@ -125,7 +138,8 @@ row_by xs add remove update x Start h among is = placed_row is_update xs update 
 row_by xs add remove update x Stop h among is = placed_row is_update xs update x h.updates among (rw is refl)
 
 -- each change has a place by its row
-rows_answer : (xs : List Change) (add remove update : Rows) → Covered xs add remove update → Answered (place_of_row add remove update) (enumerate_from 0 xs)
+rows_answer : (xs : List Change) (add remove update : Rows) → Covered xs add remove update
+    → Answered (place_of_row add remove update) (enumerate_from 0 xs)
 unfolding place_of_row
 rows_answer xs add remove update h x among = row_by xs add remove update x x.1.verb h among refl
 
@@ -133,7 +147,8 @@ enumerated_length : {A : Type 0} → (k : ℕ) (xs : List A) → length (enumera
 enumerated_length k [] = refl
 enumerated_length k (x ∷ xs) = ap suc (enumerated_length (k + 1) xs)
 
-enumerated_get : {A : Type 0} → (k : ℕ) (xs : List A) (n : ℕ) (x : A) → slice_get xs n ≡ Some x → slice_get (enumerate_from k xs) n ≡ Some (k + n, x)
+enumerated_get : {A : Type 0} → (k : ℕ) (xs : List A) (n : ℕ) (x : A) → slice_get xs n ≡ Some x
+    → slice_get (enumerate_from k xs) n ≡ Some (k + n, x)
 enumerated_get k [] n x e = cc
 enumerated_get k (y ∷ xs) zero x e = let is : y ≡ x = cc in let same : k ≡ k + 0 = omega arith in cc
 enumerated_get {A} k (y ∷ xs) (suc n) x e =
@@ -189,7 +204,8 @@ one_same p q e = elim (beside (same_place p q) false e) [ inl a ↦ a | inr b �
 same_last : (p q : Place) (rs : List Place) → same_place p q ≡ true → list_any (same_place p) (q ∷ rs) ≡ true
 same_last p q rs e = or_first (same_place p q) (list_any (same_place p) rs) e
 
-not_seen : (seen ps : List Place) (q p : Place) → list_any (same_place q) seen ≡ false → (IsIn p ps → KeptOrSeen (seen ++ q ∷ []) ps p) → IsIn p (q ∷ ps)
+not_seen : (seen ps : List Place) (q p : Place) → list_any (same_place q) seen ≡ false → (IsIn p ps → KeptOrSeen (seen ++ q ∷ []) ps p)
+    → IsIn p (q ∷ ps)
     → KeptOrSeen seen (q ∷ ps) p
 not_seen seen ps q p new rest (inl e) =
     let own : same_place p q ≡ true = subst (λ (r : Place). same_place p r ≡ true) (sym e) (same_place-refl p) in
@@ -217,8 +233,10 @@ kept ps p h = elim (kept_or_seen [] ps p h) [ inl none ↦ cc | inr found ↦ fo
 of_places : (seen ps : List Place) (p : Place) → IsIn p (places_after seen ps) → IsIn p ps
 of_places seen [] p h = absurd h
 of_places seen (q ∷ ps) p h = by_test (list_any (same_place q) seen)
-    (λ known. inr (of_places seen ps p (subst (λ (b : Bool). IsIn p (cond b (places_after seen ps) (q ∷ places_after (seen ++ q ∷ []) ps))) known h)))
-    (λ new. in_head (λ g. of_places (seen ++ q ∷ []) ps p g) (subst (λ (b : Bool). IsIn p (cond b (places_after seen ps) (q ∷ places_after (seen ++ q ∷ []) ps))) new h)) where
+    (λ known. inr (of_places seen ps p (subst (λ (b : Bool). IsIn p (cond b (places_after seen ps) (q ∷ places_after (seen ++ q ∷ []) ps)))
+    known h)))
+    (λ new. in_head (λ g. of_places (seen ++ q ∷ []) ps p g) (subst
+    (λ (b : Bool). IsIn p (cond b (places_after seen ps) (q ∷ places_after (seen ++ q ∷ []) ps))) new h)) where
       in_head : (IsIn p (places_after (seen ++ q ∷ []) ps) → IsIn p ps) → IsIn p (q ∷ places_after (seen ++ q ∷ []) ps) → IsIn p (q ∷ ps)
       in_head rest (inl e) = inl e
       in_head rest (inr g) = inr (rest g)
@@ -227,10 +245,12 @@ of_places seen (q ∷ ps) p h = by_test (list_any (same_place q) seen)
 unseen : (seen ps : List Place) (p : Place) → IsIn p (places_after seen ps) → list_any (same_place p) seen ≡ true → ⊥
 unseen seen [] p h s = absurd h
 unseen seen (q ∷ ps) p h s = by_test (list_any (same_place q) seen)
-    (λ known. unseen seen ps p (subst (λ (b : Bool). IsIn p (cond b (places_after seen ps) (q ∷ places_after (seen ++ q ∷ []) ps))) known h) s)
+    (λ known. unseen seen ps p (subst (λ (b : Bool). IsIn p (cond b (places_after seen ps) (q ∷ places_after (seen ++ q ∷ []) ps))) known h)
+    s)
     (λ new. in_head new (λ g. unseen (seen ++ q ∷ []) ps p g (any_front (same_place p) seen (q ∷ []) s))
     (subst (λ (b : Bool). IsIn p (cond b (places_after seen ps) (q ∷ places_after (seen ++ q ∷ []) ps))) new h)) where
-      in_head : list_any (same_place q) seen ≡ false → (IsIn p (places_after (seen ++ q ∷ []) ps) → ⊥) → IsIn p (q ∷ places_after (seen ++ q ∷ []) ps) → ⊥
+      in_head : list_any (same_place q) seen ≡ false → (IsIn p (places_after (seen ++ q ∷ []) ps) → ⊥)
+          → IsIn p (q ∷ places_after (seen ++ q ∷ []) ps) → ⊥
       in_head new rest (inl e) =
           let clash : list_any (same_place p) seen ≡ false = subst (λ (r : Place). list_any (same_place r) seen ≡ false) e new in
           let no_way : true ≡ false = sym s ∙ clash in cc
@@ -256,7 +276,8 @@ any_same p (q ∷ qs) e = elim (beside (same_place p q) (list_any (same_place p)
 ]
 
 -- the number of a place that is kept names it
-numbered : (p : Place) (qs : List Place) → list_any (same_place p) qs ≡ true → (n : ℕ) × (place_number qs p ≡ Some n) × (slice_get qs n ≡ Some p)
+numbered : (p : Place) (qs : List Place) → list_any (same_place p) qs ≡ true
+    → (n : ℕ) × (place_number qs p ≡ Some n) × (slice_get qs n ≡ Some p)
 numbered p [] e = cc
 numbered p (q ∷ qs) e = by_test (same_place p q)
     (λ same.
@@ -299,11 +320,13 @@ numbers_known qs ps h = all_of (λ n. ltb n (length qs)) (filter_map (place_numb
 -- a place that a row gives is one of the rows' places
 row_place : (rows : Rows) (id : List ℕ) (p : Place) → place_in_rows rows id ≡ Some p → IsIn p (map (λ r. r.1) rows)
 row_place rows id p e = by_row (find (λ r. same_name r.0 id) rows) refl e where
-  by_row : (o : Option (List ℕ × Place)) → find (λ r. same_name r.0 id) rows ≡ o → option_map (λ r. r.1) o ≡ Some p → IsIn p (map (λ r. r.1) rows)
+  by_row : (o : Option (List ℕ × Place)) → find (λ r. same_name r.0 id) rows ≡ o → option_map (λ r. r.1) o ≡ Some p
+      → IsIn p (map (λ r. r.1) rows)
   by_row None is h = cc
   by_row (Some r) is h =
       let one : r.1 ≡ p = cc in
-      subst (λ (q : Place). IsIn q (map (λ r. r.1) rows)) one (in_map (λ (s : List ℕ × Place). s.1) r rows (found_in (λ r. same_name r.0 id) rows r is))
+      subst (λ (q : Place). IsIn q (map (λ r. r.1) rows)) one (in_map (λ (s : List ℕ × Place). s.1) r rows
+      (found_in (λ r. same_name r.0 id) rows r is))
 
 of_rows : (add remove update : Rows) (v : Verb) (p : Place) → IsIn p (map (λ r. r.1) (rows_for v add remove update))
     → IsIn p (map (λ r. r.1) (add ++ remove ++ update))
@@ -317,7 +340,8 @@ of_rows add remove update v p h =
       among Start r g = in_back r (add ++ remove) update g
       among Stop r g = in_back r (add ++ remove) update g
 
-given_in : (xs : List Change) (add remove update : Rows) (p : Place) → IsIn p (row_places xs add remove update) → IsIn p (map (λ r. r.1) (add ++ remove ++ update))
+given_in : (xs : List Change) (add remove update : Rows) (p : Place) → IsIn p (row_places xs add remove update)
+    → IsIn p (map (λ r. r.1) (add ++ remove ++ update))
 unfolding place_of_row
 given_in xs add remove update p h =
     let from = of_filter_map (place_of_row add remove update) p (enumerate_from 0 xs) h in
@@ -342,7 +366,8 @@ rows_place xs add remove update h =
     let ps = row_places xs add remove update in
     let qs = granted_places xs add remove update in
     let back : places_at qs (filter_map (place_number qs) ps) ≡ ps = number_back qs ps (λ p among. kept ps p among) in
-    let given : length ps ≡ length (enumerate_from 0 xs) = answered_length (place_of_row add remove update) (enumerate_from 0 xs) (rows_answer xs add remove update c) in
+    let given : length ps ≡ length (enumerate_from 0 xs) = answered_length (place_of_row add remove update) (enumerate_from 0 xs)
+    (rows_answer xs add remove update c) in
     record {
       one_a_change =
           answered_length (place_number qs) ps (numbers_answer qs ps (λ p among. kept ps p among)) ∙ (given ∙ enumerated_length 0 xs);
@@ -352,7 +377,8 @@ rows_place xs add remove update h =
     }
 
 -- each change has the place of its row
-pub rows_given : (xs : List Change) (add remove update : Rows) → covers xs add remove update ≡ true → (c : ℕ) (x : Change) → slice_get xs c ≡ Some x
+pub rows_given : (xs : List Change) (add remove update : Rows) → covers xs add remove update ≡ true → (c : ℕ) (x : Change)
+    → slice_get xs c ≡ Some x
     → place_at (granted_places xs add remove update) (granted_spots xs add remove update) c ≡ place_of_row add remove update (c, x)
 rows_given xs add remove update h c x at =
     let ps = row_places xs add remove update in
@@ -360,7 +386,8 @@ rows_given xs add remove update h c x at =
     let answers = rows_answer xs add remove update (covered xs add remove update h) in
     let shift : 0 + c ≡ c = omega arith in
     let entry : slice_get (enumerate_from 0 xs) c ≡ Some (c, x) = enumerated_get 0 xs c x at ∙ ap (λ (j : ℕ). Some (j, x)) shift in
-    let given : slice_get ps c ≡ place_of_row add remove update (c, x) = answered_get (place_of_row add remove update) (enumerate_from 0 xs) c (c, x) answers entry in
+    let given : slice_get ps c ≡ place_of_row add remove update (c, x) =
+    answered_get (place_of_row add remove update) (enumerate_from 0 xs) c (c, x) answers entry in
     let some : is_some (place_of_row add remove update (c, x)) ≡ true = answers (c, x) (get_in (c, x) (enumerate_from 0 xs) c entry) in
     by_place (place_of_row add remove update (c, x)) given some where
       by_place : (o : Option Place) → slice_get (row_places xs add remove update) c ≡ o → is_some o ≡ true
@@ -378,6 +405,7 @@ rows_given xs add remove update h c x at =
 -- a grant whose rows cover may be recorded
 pub cover_allowed : (width m : ℕ) (H : List Event) (o : ℕ) (name : List ℕ) (add remove update : Rows) → IsAsking H o → is_given name ≡ true
     → covers (changes H o) add remove update ≡ true
-    → IsAllowedWithin width m H (Granted o name (granted_places (changes H o) add remove update) (granted_spots (changes H o) add remove update))
+    → IsAllowedWithin width m H (Granted o name (granted_places (changes H o) add remove update)
+    (granted_spots (changes H o) add remove update))
 cover_allowed width m H o name add remove update asking named h =
     record { asking = asking; named = named; placed = rows_place (changes H o) add remove update h }

@@ -1,5 +1,6 @@
 -- Open attempts fit the state, and an occurrence that ended well is made or undone whole.
-use Rattle.std.proofs.Common.{◌≡◌, ◌<◌, ◌+◌, ◌==◌, ◌∙◌, ℕ, List, [], ◌∷◌, Bool, true, false, cond, not, Option, None, Some, is_some, refl, sym, length, find, arith, eqb-true, subst}
+use Rattle.std.proofs.Common.{◌≡◌, ◌<◌, ◌+◌, ◌==◌, ◌∙◌, ℕ, List, [], ◌∷◌, Bool, true, false, cond, not, Option, None, Some, is_some, refl}
+use Rattle.std.proofs.Common.{sym, length, find, arith, eqb-true, subst}
 use Rattle.std.specs.List.{list_any, list_all, enumerate_from}
 use Rattle.lcm_events.specs.Same.{same_tag}
 use Rattle.lcm_events.proofs.SameLaws.{eq-refl, same_tag-true}
@@ -62,7 +63,8 @@ pub begun_open : (u t : Tag) (b : Bool) (ts : List Tag) → list_any (same_tag t
 begun_open u t true ts h fails = rw fails at h
 begun_open u t false ts h fails = h
 
-fits_state_step : (width m : ℕ) (H : List Event) (time : ℕ) (k : EventKind) (t : Tag) → IsAllowedWithin width m H k → FitsState H t → FitsState (event time k ∷ H) t
+fits_state_step : (width m : ℕ) (H : List Event) (time : ℕ) (k : EventKind) (t : Tag) → IsAllowedWithin width m H k → FitsState H t
+    → FitsState (event time k ∷ H) t
 unfolding is_unsettled
 fits_state_step width m H time (Intent u) t allowed h opened = by_test (same_tag t u)
     (λ same. let is : t ≡ u = same_tag-true t u same in subst (λ (y : Tag). state H y.occ ≡ works_in y.way) (sym is) allowed.works)
@@ -76,17 +78,20 @@ fits_state_step width m H time _ t allowed h opened = h opened
 -- an open attempt is in the state in which attempts in its way are made
 pub open_state : (width m : ℕ) (H : List Event) → IsLegalWithin width m H → (t : Tag) → is_open H t ≡ true → state H t.occ ≡ works_in t.way
 open_state width m H legal t =
-    legal_induction width m (λ H. FitsState H t) (λ opened. cc) (λ H time k legal allowed h. fits_state_step width m H time k t allowed h) H legal
+    legal_induction width m (λ H. FitsState H t) (λ opened. cc) (λ H time k legal allowed h. fits_state_step width m H time k t allowed h) H
+    legal
 
 -- an occurrence that isn't asked for is STARTING
 abbrev Unasked : List Event → ℕ → Type 0
 Unasked H o = operation H o ≡ None → state H o ≡ Starting
 
-unasked_find : (a : Operation) (o : ℕ) (xs : List Operation) (b : Bool) → cond b (Some a) (find (λ x. x.occ == o) xs) ≡ None → find (λ x. x.occ == o) xs ≡ None
+unasked_find : (a : Operation) (o : ℕ) (xs : List Operation) (b : Bool) → cond b (Some a) (find (λ x. x.occ == o) xs) ≡ None
+    → find (λ x. x.occ == o) xs ≡ None
 unasked_find a o xs true e = cc
 unasked_find a o xs false e = e
 
-unasked_step : (width m : ℕ) (H : List Event) (time : ℕ) (k : EventKind) (o : ℕ) → IsAllowedWithin width m H k → Unasked H o → Unasked (event time k ∷ H) o
+unasked_step : (width m : ℕ) (H : List Event) (time : ℕ) (k : EventKind) (o : ℕ) → IsAllowedWithin width m H k → Unasked H o
+    → Unasked (event time k ∷ H) o
 unasked_step width m H time (Asked a) o allowed h none = h (unasked_find a o (operations H) (a.occ == o) none)
 unasked_step width m H time (Moved occ to) o allowed h none = by_test (occ == o)
     (λ same.
@@ -99,17 +104,20 @@ unasked_step width m H time _ o allowed h none = h none
 
 pub unasked_starting : (width m : ℕ) (H : List Event) → IsLegalWithin width m H → (o : ℕ) → operation H o ≡ None → state H o ≡ Starting
 unasked_starting width m H legal o =
-    legal_induction width m (λ H. Unasked H o) (λ none. refl) (λ H time k legal allowed h. unasked_step width m H time k o allowed h) H legal
+    legal_induction width m (λ H. Unasked H o) (λ none. refl) (λ H time k legal allowed h. unasked_step width m H time k o allowed h) H
+    legal
 
 -- an operation was asked for where its state isn't STARTING
-pub asked_for : (width m : ℕ) (H : List Event) → IsLegalWithin width m H → (o : ℕ) (s : OpState) → state H o ≡ s → (s ≡ Starting → ⊥) → (a : Operation) × (operation H o ≡ Some a)
+pub asked_for : (width m : ℕ) (H : List Event) → IsLegalWithin width m H → (o : ℕ) (s : OpState) → state H o ≡ s → (s ≡ Starting → ⊥)
+    → (a : Operation) × (operation H o ≡ Some a)
 asked_for width m H legal o s is fails = found (operation H o) refl where
   found : (x : Option Operation) → operation H o ≡ x → (a : Operation) × (operation H o ≡ Some a)
   found None e = absurd (fails (sym is ∙ unasked_starting width m H legal o e))
   found (Some a) e = (a, e)
 
 -- where the state isn't STARTING, the next event leaves the changes
-pub changes-next : (width m : ℕ) (H : List Event) (time : ℕ) (k : EventKind) (o : ℕ) (s : OpState) → IsLegalWithin width m H → IsAllowedWithin width m H k
+pub changes-next : (width m : ℕ) (H : List Event) (time : ℕ) (k : EventKind) (o : ℕ) (s : OpState) → IsLegalWithin width m H
+    → IsAllowedWithin width m H k
     → state H o ≡ s → (s ≡ Starting → ⊥) → changes (event time k ∷ H) o ≡ changes H o
 changes-next width m H time k o s legal allowed is fails =
     let a : (a : Operation) × (operation H o ≡ Some a) = asked_for width m H legal o s is fails in
@@ -131,9 +139,11 @@ elsewhere width m H legal t o s opened is fails = by_test (t.occ == o)
     (λ other. other)
 
 -- where the work of an occurrence is done, the next event leaves the nets, unless it moves the occurrence
-pub net-next : (width m : ℕ) (H : List Event) (time : ℕ) (k : EventKind) (o c : ℕ) (s : OpState) → IsLegalWithin width m H → IsAllowedWithin width m H k → state H o ≡ s
+pub net-next : (width m : ℕ) (H : List Event) (time : ℕ) (k : EventKind) (o c : ℕ) (s : OpState) → IsLegalWithin width m H
+    → IsAllowedWithin width m H k → state H o ≡ s
     → ((w : Way) → s ≡ works_in w → ⊥) → net (event time k ∷ H) o c ≡ net H o c
-net-next width m H time (Settled t out) o c s legal allowed is fails = net-settled H time t out o c (elsewhere width m H legal t o s allowed is fails)
+net-next width m H time (Settled t out) o c s legal allowed is fails =
+    net-settled H time t out o c (elsewhere width m H legal t o s allowed is fails)
 net-next width m H time _ o c s legal allowed is fails = refl
 
 not_at_work : (s : OpState) → (s ≡ Processing → ⊥) → (s ≡ RollingBack → ⊥) → (w : Way) → s ≡ works_in w → ⊥
@@ -148,7 +158,8 @@ never_starting : (H : List Event) (o : ℕ) (from : OpState) → MayMove H o fro
 never_starting H o Starting h = h
 never_starting H o _ h = h
 
-untouched_step : (width m : ℕ) (H : List Event) (time : ℕ) (k : EventKind) (o : ℕ) → IsLegalWithin width m H → IsAllowedWithin width m H k → Untouched H o → Untouched (event time k ∷ H) o
+untouched_step : (width m : ℕ) (H : List Event) (time : ℕ) (k : EventKind) (o : ℕ) → IsLegalWithin width m H → IsAllowedWithin width m H k
+    → Untouched H o → Untouched (event time k ∷ H) o
 untouched_step width m H time (Moved occ to) o legal allowed h starting c = by_test (occ == o)
     (λ same.
     let is : to ≡ Starting = sym (state-moved H time o occ to true same) ∙ starting in
@@ -160,7 +171,8 @@ untouched_step width m H time _ o legal allowed h starting c = h starting c
 
 pub starting_untouched : (width m : ℕ) (H : List Event) → IsLegalWithin width m H → (o : ℕ) → state H o ≡ Starting → (c : ℕ) → net H o c ≡ 0
 starting_untouched width m H legal o =
-    legal_induction width m (λ H. Untouched H o) (λ e c. refl) (λ H time k legal allowed h. untouched_step width m H time k o legal allowed h) H legal
+    legal_induction width m (λ H. Untouched H o) (λ e c. refl) (λ H time k legal allowed h.
+    untouched_step width m H time k o legal allowed h) H legal
 
 each_net : (H : List Event) (o n : ℕ) → list_all (has_net H o n) (enumerate_from 0 (changes H o)) ≡ true → EachNetIs H o n
 unfolding has_net
@@ -174,14 +186,16 @@ abbrev Ends : List Event → ℕ → OpState → ℕ → Type 0
 Ends H o s n = state H o ≡ s → EachNetIs H o n
 
 -- what has ended stays as it ended
-ends_kept : (width m : ℕ) (H : List Event) (time : ℕ) (k : EventKind) (o n : ℕ) (s : OpState) → IsLegalWithin width m H → IsAllowedWithin width m H k → state H o ≡ s
+ends_kept : (width m : ℕ) (H : List Event) (time : ℕ) (k : EventKind) (o n : ℕ) (s : OpState) → IsLegalWithin width m H
+    → IsAllowedWithin width m H k → state H o ≡ s
     → (s ≡ Starting → ⊥) → ((w : Way) → s ≡ works_in w → ⊥) → EachNetIs H o n → EachNetIs (event time k ∷ H) o n
 ends_kept width m H time k o n s legal allowed is no_start no_work h c within =
     let same : changes (event time k ∷ H) o ≡ changes H o = changes-next width m H time k o s legal allowed is no_start in
     net-next width m H time k o c s legal allowed is no_work ∙ h c (subst (λ xs. c < length xs) same within)
 
 -- a move to the end
-ends_moved : (width m : ℕ) (H : List Event) (time occ : ℕ) (to : OpState) (o n : ℕ) (s : OpState) → IsLegalWithin width m H → IsAllowedWithin width m H (Moved occ to)
+ends_moved : (width m : ℕ) (H : List Event) (time occ : ℕ) (to : OpState) (o n : ℕ) (s : OpState) → IsLegalWithin width m H
+    → IsAllowedWithin width m H (Moved occ to)
     → (s ≡ Starting → ⊥) → ((w : Way) → s ≡ works_in w → ⊥)
     → ((from : OpState) → state H o ≡ from → MayMove H o from s → EachNetIs H o n) → Ends H o s n
     → Ends (event time (Moved occ to) ∷ H) o s n
@@ -196,7 +210,8 @@ ends_moved width m H time occ to o n s legal allowed no_start no_work arrives h 
     let before : state H o ≡ s = sym (state-moved H time o occ to false other) ∙ ended in
     ends_kept width m H time (Moved occ to) o n s legal allowed before no_start no_work (h before))
 
-ends_step : (width m : ℕ) (H : List Event) (time : ℕ) (k : EventKind) (o n : ℕ) (s : OpState) → IsLegalWithin width m H → IsAllowedWithin width m H k
+ends_step : (width m : ℕ) (H : List Event) (time : ℕ) (k : EventKind) (o n : ℕ) (s : OpState) → IsLegalWithin width m H
+    → IsAllowedWithin width m H k
     → (s ≡ Starting → ⊥) → ((w : Way) → s ≡ works_in w → ⊥)
     → ((from : OpState) → state H o ≡ from → MayMove H o from s → EachNetIs H o n) → Ends H o s n → Ends (event time k ∷ H) o s n
 ends_step width m H time (Moved occ to) o n s legal allowed no_start no_work arrives h ended =
@@ -211,7 +226,8 @@ completed_arrives : (H : List Event) (o : ℕ) (from : OpState) → MayMove H o 
 completed_arrives H o Processing may = each_net H o 1 may.1
 completed_arrives H o _ may = absurd may
 
-rolled_arrives : (width m : ℕ) (H : List Event) (o : ℕ) (from : OpState) → IsLegalWithin width m H → state H o ≡ from → MayMove H o from RolledBack → EachNetIs H o 0
+rolled_arrives : (width m : ℕ) (H : List Event) (o : ℕ) (from : OpState) → IsLegalWithin width m H → state H o ≡ from
+    → MayMove H o from RolledBack → EachNetIs H o 0
 rolled_arrives width m H o RollingBack legal is may = each_net H o 0 may.1
 rolled_arrives width m H o Starting legal is may = λ c within. starting_untouched width m H legal o is c
 rolled_arrives width m H o _ legal is may = absurd may
@@ -220,12 +236,14 @@ rolled_arrives width m H o _ legal is may = absurd may
 pub completed_made : (width m : ℕ) (H : List Event) → IsLegalWithin width m H → (o : ℕ) → state H o ≡ Completed → EachNetIs H o 1
 completed_made width m H legal o =
     legal_induction width m (λ H. Ends H o Completed 1) (λ e. cc)
-    (λ H time k legal allowed h. ends_step width m H time k o 1 Completed legal allowed (λ e. cc) (not_at_work Completed (λ e. cc) (λ e. cc))
+    (λ H time k legal allowed h. ends_step width m H time k o 1 Completed legal allowed (λ e. cc)
+    (not_at_work Completed (λ e. cc) (λ e. cc))
     (λ from is may. completed_arrives H o from may) h) H legal
 
 -- no change of a ROLLED_BACK occurrence is made
 pub rolled_back_undone : (width m : ℕ) (H : List Event) → IsLegalWithin width m H → (o : ℕ) → state H o ≡ RolledBack → EachNetIs H o 0
 rolled_back_undone width m H legal o =
     legal_induction width m (λ H. Ends H o RolledBack 0) (λ e. cc)
-    (λ H time k legal allowed h. ends_step width m H time k o 0 RolledBack legal allowed (λ e. cc) (not_at_work RolledBack (λ e. cc) (λ e. cc))
+    (λ H time k legal allowed h. ends_step width m H time k o 0 RolledBack legal allowed (λ e. cc)
+    (not_at_work RolledBack (λ e. cc) (λ e. cc))
     (λ from is may. rolled_arrives width m H o from legal is may) h) H legal

@@ -33,7 +33,8 @@ one_of t u b e f g = by_test (same_tag t u)
 abbrev SettledKnown : List Event → Tag → Type 0
 SettledKnown H t = is_settled H t ≡ true → Known H t
 
-settled_step : (width m : ℕ) (H : List Event) (time : ℕ) (k : EventKind) (t : Tag) → IsAllowedWithin width m H k → SettledKnown H t → SettledKnown (event time k ∷ H) t
+settled_step : (width m : ℕ) (H : List Event) (time : ℕ) (k : EventKind) (t : Tag) → IsAllowedWithin width m H k → SettledKnown H t
+    → SettledKnown (event time k ∷ H) t
 settled_step width m H time (Settled u out) t allowed h e =
     one_of t u (is_settled H t) e (λ is. subst (λ (x : Tag). Known H x) (sym is) (opened_known H u allowed)) h
 settled_step width m H time (Intent u) t allowed h e = or_later (same_tag t u) (list_any (same_tag t) (intents H)) (h e)
@@ -47,7 +48,8 @@ settled_known width m H legal t =
 abbrev FailedKnown : List Event → Tag → Type 0
 FailedKnown H t = has_call_failed H t ≡ true → Known H t
 
-failed_step : (width m : ℕ) (H : List Event) (time : ℕ) (k : EventKind) (t : Tag) → IsAllowedWithin width m H k → FailedKnown H t → FailedKnown (event time k ∷ H) t
+failed_step : (width m : ℕ) (H : List Event) (time : ℕ) (k : EventKind) (t : Tag) → IsAllowedWithin width m H k → FailedKnown H t
+    → FailedKnown (event time k ∷ H) t
 failed_step width m H time (CallFailed u) t allowed h e =
     one_of t u (has_call_failed H t) e (λ is. subst (λ (x : Tag). Known H x) (sym is) (opened_known H u allowed.0)) h
 failed_step width m H time (Intent u) t allowed h e = or_later (same_tag t u) (list_any (same_tag t) (intents H)) (h e)
@@ -67,35 +69,45 @@ more_attempts u false ts n h = h
 
 own_attempt : (width m : ℕ) (H : List Event) (time : ℕ) (u : Tag) → IsAllowedWithin width m H (Intent u)
     → u.attempt ≤ length (attempts (event time (Intent u) ∷ H) u.occ u.change)
-own_attempt width m H time u allowed = let own : is_of u.occ u.change u ≡ true = is_of-own u in let n = allowed.number in rw own (omega (arith, n))
+own_attempt width m H time u allowed = let own : is_of u.occ u.change u ≡ true = is_of-own u in let n = allowed.number in
+    rw own (omega (arith, n))
 
-numbered_step : (width m : ℕ) (H : List Event) (time : ℕ) (k : EventKind) (t : Tag) → IsAllowedWithin width m H k → NumberedTag H t → NumberedTag (event time k ∷ H) t
+numbered_step : (width m : ℕ) (H : List Event) (time : ℕ) (k : EventKind) (t : Tag) → IsAllowedWithin width m H k → NumberedTag H t
+    → NumberedTag (event time k ∷ H) t
 numbered_step width m H time (Intent u) t allowed h e =
     one_of t u (list_any (same_tag t) (intents H)) e
-    (λ is. subst (λ (x : Tag). x.attempt ≤ length (attempts (event time (Intent u) ∷ H) x.occ x.change)) (sym is) (own_attempt width m H time u allowed))
+    (λ is. subst (λ (x : Tag). x.attempt ≤ length (attempts (event time (Intent u) ∷ H) x.occ x.change)) (sym is)
+    (own_attempt width m H time u allowed))
     (λ before. more_attempts u (is_of t.occ t.change u) (attempts H t.occ t.change) t.attempt (h before))
 numbered_step width m H time _ t allowed h e = h e
 
 -- attempts are numbered from 1 in each change
-pub known_number : (width m : ℕ) (H : List Event) → IsLegalWithin width m H → (t : Tag) → Known H t → t.attempt ≤ length (attempts H t.occ t.change)
+pub known_number : (width m : ℕ) (H : List Event) → IsLegalWithin width m H → (t : Tag) → Known H t
+    → t.attempt ≤ length (attempts H t.occ t.change)
 known_number width m H legal t =
-    legal_induction width m (λ H. NumberedTag H t) (λ e. cc) (λ H time k legal allowed h. numbered_step width m H time k t allowed h) H legal
+    legal_induction width m (λ H. NumberedTag H t) (λ e. cc) (λ H time k legal allowed h. numbered_step width m H time k t allowed h) H
+    legal
 
 -- a tag with the next number has neither ended nor failed
-unknown : (width m : ℕ) (H : List Event) → IsLegalWithin width m H → (t : Tag) → t.attempt ≡ length (attempts H t.occ t.change) + 1 → Known H t → ⊥
+unknown : (width m : ℕ) (H : List Event) → IsLegalWithin width m H → (t : Tag) → t.attempt ≡ length (attempts H t.occ t.change) + 1
+    → Known H t → ⊥
 unknown width m H legal t e known = let n = known_number width m H legal t known in absurd (omega (arith, e, n))
 
-pub fresh_unsettled : (width m : ℕ) (H : List Event) → IsLegalWithin width m H → (t : Tag) → t.attempt ≡ length (attempts H t.occ t.change) + 1 → is_unsettled H t ≡ true
+pub fresh_unsettled : (width m : ℕ) (H : List Event) → IsLegalWithin width m H → (t : Tag)
+    → t.attempt ≡ length (attempts H t.occ t.change) + 1 → is_unsettled H t ≡ true
 unfolding is_unsettled
 fresh_unsettled width m H legal t e =
-    not-false (is_settled H t) (by_test (is_settled H t) (λ is. absurd (unknown width m H legal t e (settled_known width m H legal t is))) (λ other. other))
+    not-false (is_settled H t) (by_test (is_settled H t) (λ is. absurd (unknown width m H legal t e (settled_known width m H legal t is)))
+    (λ other. other))
 
-pub fresh_unfailed : (width m : ℕ) (H : List Event) → IsLegalWithin width m H → (t : Tag) → t.attempt ≡ length (attempts H t.occ t.change) + 1 → has_call_failed H t ≡ false
+pub fresh_unfailed : (width m : ℕ) (H : List Event) → IsLegalWithin width m H → (t : Tag)
+    → t.attempt ≡ length (attempts H t.occ t.change) + 1 → has_call_failed H t ≡ false
 fresh_unfailed width m H legal t e =
     by_test (has_call_failed H t) (λ is. absurd (unknown width m H legal t e (failed_known width m H legal t is))) (λ other. other)
 
 -- an attempt that begins with the next number is open
-pub fresh_open : (width m : ℕ) (H : List Event) (time : ℕ) → IsLegalWithin width m H → (t : Tag) → t.attempt ≡ length (attempts H t.occ t.change) + 1
+pub fresh_open : (width m : ℕ) (H : List Event) (time : ℕ) → IsLegalWithin width m H → (t : Tag)
+    → t.attempt ≡ length (attempts H t.occ t.change) + 1
     → is_open (event time (Intent t) ∷ H) t ≡ true
 unfolding is_unsettled
 fresh_open width m H time legal t e =

@@ -1,5 +1,6 @@
 -- Grants, their places, and the attempts behind them.
-use Rattle.std.proofs.Common.{◌≡◌, ◌<◌, ◌==◌, ◌++◌, ℕ, List, [], ◌∷◌, Bool, true, false, Option, None, Some, is_some, refl, sym, subst, length, filter_map, arith, zero, suc, slice_get, ltb, ltb-true, eqb-true}
+use Rattle.std.proofs.Common.{◌≡◌, ◌<◌, ◌==◌, ◌++◌, ℕ, List, [], ◌∷◌, Bool, true, false, Option, None, Some, is_some, refl, sym, subst}
+use Rattle.std.proofs.Common.{length, filter_map, arith, zero, suc, slice_get, ltb, ltb-true, eqb-true}
 use Rattle.std.specs.List.{cons_option, list_all, list_any}
 use Rattle.std.specs.Prelude.{option_and_then, unwrap_or}
 use Rattle.lcm_events.specs.declared.attempts.Tag.{Tag}
@@ -12,10 +13,12 @@ use Rattle.lcm_events.specs.declared.events.EventKind.TheVariants.{Asked, Denied
 use Rattle.lcm_events.specs.declared.events.Operation.{Operation}
 use Rattle.lcm_events.specs.declared.places.Place.{Place}
 use Rattle.lcm_events.specs.declared.states.OpState.{OpState}
-use Rattle.lcm_events.specs.declared.states.OpState.TheVariants.{Completed, Failed, FailedTemp, Processing, RolledBack, RollingBack, Starting}
+use Rattle.lcm_events.specs.declared.states.OpState.TheVariants.{Completed, Failed, FailedTemp, Processing, RolledBack, RollingBack}
+use Rattle.lcm_events.specs.declared.states.OpState.TheVariants.{Starting}
 use Rattle.lcm_model.specs.Words.{first}
 use Rattle.lcm_model.specs.Moves.{state}
-use Rattle.lcm_model.specs.Grants.{GrantAnswer, IsPlacing, answer_in, answers, grant, grant_in, granted_in, granted_place, is_covering, is_granted, place_at}
+use Rattle.lcm_model.specs.Grants.{GrantAnswer, IsPlacing, answer_in, answers, grant, grant_in, granted_in, granted_place, is_covering}
+use Rattle.lcm_model.specs.Grants.{is_granted, place_at}
 use Rattle.lcm_model.specs.Operations.{changes, operation}
 use Rattle.lcm_model.specs.Work.{MayMove, works_in}
 use Rattle.lcm_model.specs.Allowed.{IsAllowedWithin, IsLegalWithin}
@@ -27,7 +30,8 @@ use Rattle.lcm_laws.proofs.OngoingLaws.{state-moved}
 
 -- granted means that there is a grant
 granted_step : (H : List Event) (k : EventKind) (o : ℕ) → is_granted H o ≡ is_some (grant H o)
-    → list_any is_covering (cons_option (answer_in o k) (answers H o)) ≡ is_some (first (cons_option (granted_in o k) (filter_map (λ e. granted_in o e.kind) H)))
+    → list_any is_covering (cons_option (answer_in o k) (answers H o))
+    ≡ is_some (first (cons_option (granted_in o k) (filter_map (λ e. granted_in o e.kind) H)))
 granted_step H (Granted n name places spots) o h = by_test (n == o) (λ same. rw same refl) (λ other. rw other h)
 granted_step H (GrantTried n answer) o h = by_test (n == o) (λ same. rw same h) (λ other. rw other h)
 granted_step H (Denied n) o h = by_test (n == o) (λ same. rw same h) (λ other. rw other h)
@@ -38,7 +42,8 @@ granted_grant [] o = refl
 granted_grant (e ∷ H) o = granted_step H e.kind o (granted_grant H o)
 
 -- the place of a change is that of the grant
-place_step : (H : List Event) (k : EventKind) (o c : ℕ) → granted_place H o c ≡ option_and_then (λ g. place_at g.places g.spots c) (grant H o)
+place_step : (H : List Event) (k : EventKind) (o c : ℕ) → granted_place H o c
+    ≡ option_and_then (λ g. place_at g.places g.spots c) (grant H o)
     → unwrap_or (first (cons_option (grant_in o c k) (filter_map (λ e. grant_in o c e.kind) H))) None
     ≡ option_and_then (λ g. place_at g.places g.spots c) (first (cons_option (granted_in o k) (filter_map (λ e. granted_in o e.kind) H)))
 place_step H (Granted n name places spots) o c h = by_test (n == o) (λ same. rw same refl) (λ other. rw other h)
@@ -61,12 +66,14 @@ get_some (x ∷ xs) (suc n) h = get_some xs n (omega (arith, h))
 
 spot_placed : (places : List Place) (spots : List ℕ) (c : ℕ) (x : Option ℕ) → slice_get spots c ≡ x → is_some (slice_get spots c) ≡ true
     → list_all (λ n. ltb n (length places)) spots ≡ true → is_some (option_and_then (slice_get places) x) ≡ true
-spot_placed places spots c None is some all = let clash : is_some {T = ℕ} None ≡ true = subst (λ (o : Option ℕ). is_some o ≡ true) is some in cc
+spot_placed places spots c None is some all = let clash : is_some {T = ℕ} None ≡ true =
+    subst (λ (o : Option ℕ). is_some o ≡ true) is some in cc
 spot_placed places spots c (Some n) is some all =
     get_some places n (ltb-true n (length places) (all_get (λ n. ltb n (length places)) spots c n all is))
 
 -- each change of a grant has a place
-pub placed : (places : List Place) (spots : List ℕ) (asked c : ℕ) → IsPlacing places spots asked → c < asked → is_some (place_at places spots c) ≡ true
+pub placed : (places : List Place) (spots : List ℕ) (asked c : ℕ) → IsPlacing places spots asked → c < asked
+    → is_some (place_at places spots c) ≡ true
 placed places spots asked c h within =
     let size = h.one_a_change in
     spot_placed places spots c (slice_get spots c) refl (get_some spots c (omega (arith, size, within))) h.known
@@ -80,7 +87,8 @@ pub granted-next : (H : List Event) (time : ℕ) (k : EventKind) (o : ℕ) → i
 granted-next H time k o e = any_more is_covering (answer_in o k) (answers H o) e
 
 -- an occurrence that was granted was asked for
-granted_asked : (width m : ℕ) (H : List Event) (o : ℕ) → IsLegalWithin width m H → is_granted H o ≡ true → (a : Operation) × (operation H o ≡ Some a)
+granted_asked : (width m : ℕ) (H : List Event) (o : ℕ) → IsLegalWithin width m H → is_granted H o ≡ true
+    → (a : Operation) × (operation H o ≡ Some a)
 granted_asked width m H o legal granted = found (operation H o) refl where
   found : (x : Option Operation) → operation H o ≡ x → (a : Operation) × (operation H o ≡ Some a)
   found None e =
@@ -89,7 +97,8 @@ granted_asked width m H o legal granted = found (operation H o) refl where
       cc
   found (Some a) e = (a, e)
 
-changes_stay : (width m : ℕ) (H : List Event) (time : ℕ) (k : EventKind) (o : ℕ) → IsLegalWithin width m H → IsAllowedWithin width m H k → is_granted H o ≡ true
+changes_stay : (width m : ℕ) (H : List Event) (time : ℕ) (k : EventKind) (o : ℕ) → IsLegalWithin width m H → IsAllowedWithin width m H k
+    → is_granted H o ≡ true
     → changes (event time k ∷ H) o ≡ changes H o
 changes_stay width m H time k o legal allowed granted =
     let mine = granted_asked width m H o legal granted in
@@ -98,7 +107,8 @@ changes_stay width m H time k o legal allowed granted =
 abbrev AllPlaced : List Event → ℕ → Type 0
 AllPlaced H o = is_granted H o ≡ true → (c : ℕ) → c < length (changes H o) → is_some (granted_place H o c) ≡ true
 
-placed_step : (width m : ℕ) (H : List Event) (time : ℕ) (k : EventKind) (o : ℕ) → IsLegalWithin width m H → IsAllowedWithin width m H k → AllPlaced H o
+placed_step : (width m : ℕ) (H : List Event) (time : ℕ) (k : EventKind) (o : ℕ) → IsLegalWithin width m H → IsAllowedWithin width m H k
+    → AllPlaced H o
     → AllPlaced (event time k ∷ H) o
 placed_step width m H time (Granted n name places spots) o legal allowed h = by_test (n == o)
     (λ same granted c within.
@@ -117,7 +127,8 @@ placed_step width m H time _ o legal allowed h = h
 pub all_placed : (width m : ℕ) (H : List Event) → IsLegalWithin width m H → (o : ℕ) → is_granted H o ≡ true
     → (c : ℕ) → c < length (changes H o) → is_some (granted_place H o c) ≡ true
 all_placed width m H legal o =
-    legal_induction width m (λ H. AllPlaced H o) (λ granted c within. cc) (λ H time k legal allowed h. placed_step width m H time k o legal allowed h) H legal
+    legal_induction width m (λ H. AllPlaced H o) (λ granted c within. cc)
+    (λ H time k legal allowed h. placed_step width m H time k o legal allowed h) H legal
 
 -- a state that only an occurrence that was granted is in
 abbrev needs_grant : OpState → Bool
@@ -139,7 +150,8 @@ arrives H o _ _ may h e = absurd may
 abbrev Behind : List Event → ℕ → Type 0
 Behind H o = needs_grant (state H o) ≡ true → is_granted H o ≡ true
 
-behind_step : (width m : ℕ) (H : List Event) (time : ℕ) (k : EventKind) (o : ℕ) → IsAllowedWithin width m H k → Behind H o → Behind (event time k ∷ H) o
+behind_step : (width m : ℕ) (H : List Event) (time : ℕ) (k : EventKind) (o : ℕ) → IsAllowedWithin width m H k → Behind H o
+    → Behind (event time k ∷ H) o
 behind_step width m H time (Moved n to) o allowed h e = by_test (n == o)
     (λ same.
     let is : n ≡ o = eqb-true n o same in
@@ -161,7 +173,8 @@ at_work Forward = refl
 at_work Undo = refl
 
 -- where an occurrence works, it was granted
-pub works_granted : (width m : ℕ) (H : List Event) → IsLegalWithin width m H → (o : ℕ) (w : Way) → state H o ≡ works_in w → is_granted H o ≡ true
+pub works_granted : (width m : ℕ) (H : List Event) → IsLegalWithin width m H → (o : ℕ) (w : Way) → state H o ≡ works_in w
+    → is_granted H o ≡ true
 works_granted width m H legal o w is = behind width m H legal o (subst (λ (s : OpState). needs_grant s ≡ true) (sym is) (at_work w))
 
 -- an attempt begins behind a grant of its occurrence

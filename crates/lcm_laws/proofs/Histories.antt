@@ -10,7 +10,8 @@ legal_before width m H [] h = h
 legal_before width m H (e ∷ later) h = legal_before width m H later h.1
 
 -- each event was allowed after those before it
-pub allowed_at : (width m : ℕ) (H : List Event) (e : Event) (later : List Event) → IsLegalWithin width m (later ++ e ∷ H) → IsAllowedWithin width m H e.kind
+pub allowed_at : (width m : ℕ) (H : List Event) (e : Event) (later : List Event) → IsLegalWithin width m (later ++ e ∷ H)
+    → IsAllowedWithin width m H e.kind
 allowed_at width m H e later h = (legal_before width m (e ∷ H) later h).0
 
 -- an event by its parts

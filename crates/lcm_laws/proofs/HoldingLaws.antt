@@ -1,5 +1,7 @@
 -- The holding of an instance has what stands of it, in order, and is of its descriptor.
-use Rattle.std.proofs.Common.{◌≡◌, ◌≤◌, ◌<◌, ◌+◌, ◌++◌, ◌||◌, ◌∙◌, ℕ, List, [], ◌∷◌, Bool, true, false, Option, None, Some, is_some, refl, ap, sym, subst, length, map, filter, filter_map, flat_map, arith, suc, zero, inl, inr, ltb, lt-ltb, ltb-true, eq-eqb, slice_get, unwrap_or}
+use Rattle.std.proofs.Common.{◌≡◌, ◌≤◌, ◌<◌, ◌+◌, ◌++◌, ◌||◌, ◌∙◌, ℕ, List, [], ◌∷◌, Bool, true, false, Option, None, Some, is_some, refl}
+use Rattle.std.proofs.Common.{ap, sym, subst, length, map, filter, filter_map, flat_map, arith, suc, zero, inl, inr, ltb, lt-ltb, ltb-true}
+use Rattle.std.proofs.Common.{eq-eqb, slice_get, unwrap_or}
 use Rattle.std.proofs.lemmas.List.{length-map}
 use Rattle.std.proofs.lemmas.Bool.{leb-true, le-leb}
 use Rattle.std.specs.List.{list_all, range_with_len}
@@ -30,7 +32,8 @@ use Rattle.lcm_model.proofs.LevelLaws.{at_levels, default_levels, named_levels, 
 use Rattle.lcm_laws.specs.Holdings.{HoldsWhatStands, IsAsItStands}
 use Rattle.lcm_laws.specs.Standing.{IsOfInstance}
 use Rattle.lcm_laws.proofs.Lists.{and_left, and_true, by_test}
-use Rattle.lcm_laws.proofs.Members.{Less, Rises, in_either, in_filter, in_map, of_filter, of_flat_map, of_map, of_range, rises_append, rises_filter, rises_flat_map, rises_map, rises_range}
+use Rattle.lcm_laws.proofs.Members.{Less, Rises, in_either, in_filter, in_map, of_filter, of_flat_map, of_map, of_range, rises_append}
+use Rattle.lcm_laws.proofs.Members.{rises_filter, rises_flat_map, rises_map, rises_range}
 use Rattle.lcm_laws.proofs.BoundLaws.{all_parts, standing_few, stands_up_to}
 use Rattle.lcm_laws.proofs.MakerLaws.{has_place, has_resource}
 use Rattle.lcm_laws.proofs.PlanHistory.{descriptor_valid}
@@ -43,7 +46,8 @@ use Rattle.lcm_laws.proofs.StandLaws.{of_cons, stands_of}
 abbrev HeldAs : List Event → ℕ → Def → Type 0
 HeldAs H i x = (y : Held) × (held_at H i x ≡ Some y) × (y.def ≡ x) × IsAsItStands H i y
 
-held_when : (H : List Event) (i : ℕ) (x : Def) (r : Option (List ℕ)) (p : Option Place) → stands H i x ≡ true → resource H i x ≡ r → place H i x ≡ p
+held_when : (H : List Event) (i : ℕ) (x : Def) (r : Option (List ℕ)) (p : Option Place) → stands H i x ≡ true → resource H i x ≡ r
+    → place H i x ≡ p
     → is_some r ≡ true → is_some p ≡ true → HeldAs H i x
 held_when H i x (Some name) (Some at) s er ep hr hp = (
   record { def = x; resource = name; place = at; running = runs H i x },
@@ -75,14 +79,16 @@ map_held width m H legal i (x ∷ ds) =
     (λ fails. rw fails rest)
 
 -- where something kept by a question comes from
-pub of_filter_map : {A B : Type 0} → (f : A → Option B) (y : B) (xs : List A) → IsIn y (filter_map f xs) → (x : A) × IsIn x xs × (f x ≡ Some y)
+pub of_filter_map : {A B : Type 0} → (f : A → Option B) (y : B) (xs : List A) → IsIn y (filter_map f xs)
+    → (x : A) × IsIn x xs × (f x ≡ Some y)
 of_filter_map f y [] h = absurd h
 of_filter_map f y (x ∷ xs) h = elim (of_cons y (f x) (filter_map f xs) h) [
   | inl is ↦ (x, inl refl, is)
   | inr more ↦ (let from = of_filter_map f y xs more in (from.0, inr from.1, from.2))
 ]
 
-item_as : (width m : ℕ) (H : List Event) → IsLegalWithin width m H → (i : ℕ) (ds : List Def) (y : Held) → IsIn y (filter_map (held_at H i) ds) → IsAsItStands H i y
+item_as : (width m : ℕ) (H : List Event) → IsLegalWithin width m H → (i : ℕ) (ds : List Def) (y : Held)
+    → IsIn y (filter_map (held_at H i) ds) → IsAsItStands H i y
 item_as width m H legal i ds y h =
     let from = of_filter_map (held_at H i) y ds h in
     by_test (stands H i from.0)
@@ -94,7 +100,8 @@ item_as width m H legal i ds y h =
     (λ fails. let clash : None ≡ Some y = sym (not_held H i from.0 fails) ∙ from.2 in cc)
 
 -- the holding has exactly what stands
-pub holding_exact : (width m : ℕ) (H : List Event) → IsLegalWithin width m H → (i : ℕ) (d : Vnfd) → descriptor H i ≡ Some d → HoldsWhatStands d H i
+pub holding_exact : (width m : ℕ) (H : List Event) → IsLegalWithin width m H → (i : ℕ) (d : Vnfd) → descriptor H i ≡ Some d
+    → HoldsWhatStands d H i
 holding_exact width m H legal i d described =
     let same : map (λ y. y.def) (filter_map (held_at H i) (defs_up_to d (top H i))) ≡ filter (stands H i) (defs_up_to d (top H i)) =
     map_held width m H legal i (defs_up_to d (top H i)) in
@@ -138,10 +145,12 @@ by_item x y v s k h =
 
 items_before : (d : Vnfd) (kind : DefKind) (v s : ℕ) → IsValid d → Rises DefBefore (defs d kind v s)
 items_before d kind v s valid =
-    rises_map Less DefBefore (def_of kind v s) (items d kind v) (λ a b ha hb less. by_item (def_of kind v s a) (def_of kind v s b) refl refl refl less)
+    rises_map Less DefBefore (def_of kind v s) (items d kind v) (λ a b ha hb less.
+    by_item (def_of kind v s a) (def_of kind v s b) refl refl refl less)
     (items_rise d kind v valid)
 
-kinds_before : (d : Vnfd) (j k : DefKind) (v s : ℕ) (x y : Def) → kind_number j < kind_number k → IsIn x (defs d j v s) → IsIn y (defs d k v s) → DefBefore x y
+kinds_before : (d : Vnfd) (j k : DefKind) (v s : ℕ) (x y : Def) → kind_number j < kind_number k → IsIn x (defs d j v s)
+    → IsIn y (defs d k v s) → DefBefore x y
 kinds_before d j k v s x y less hx hy =
     let px = of_defs d j v s x hx in
     let py = of_defs d k v s y hy in
@@ -161,7 +170,8 @@ machine_before d v s valid =
     ])
 
 pub few_vdus : (d : Vnfd) → IsValid d → length d.vdus ≤ 64
-few_vdus d valid = leb-true (length d.vdus) 64 (and_left _ _ (and_left _ _ (and_left _ _ (and_left _ _ (and_left _ _ (and_left _ _ valid.counts))))))
+few_vdus d valid = leb-true (length d.vdus) 64 (and_left _ _ (and_left _ _
+    (and_left _ _ (and_left _ _ (and_left _ _ (and_left _ _ valid.counts))))))
 
 link_vdu : (d : Vnfd) (y : Def) → IsIn y (links d) → y.vdu ≡ 65535
 link_vdu d y h = let from = of_map link_def y (range_with_len 0 (length d.links)) h in sym (ap (λ (z : Def). z.vdu) from.2)
@@ -181,7 +191,8 @@ up_to_before d top valid =
     let from_y = of_flat_map (all_defs d v) y (range_with_len 1 (top v)) hy in
     let a = (all_parts d u from_x.0 x from_x.2).1 in let b = (all_parts d v from_y.0 y from_y.2).1 in
     by_vdu x y (omega (arith, less, a, b))))
-    (rises_map Less DefBefore link_def (range_with_len 0 (length d.links)) (λ a b ha hb less. by_item (link_def a) (link_def b) refl refl refl less)
+    (rises_map Less DefBefore link_def (range_with_len 0 (length d.links))
+    (λ a b ha hb less. by_item (link_def a) (link_def b) refl refl refl less)
     (rises_range 0 (length d.links)))
     (λ x y hx hy.
     let from = of_flat_map (λ v. flat_map (all_defs d v) (range_with_len 1 (top v))) x (vdu_numbers d) hx in
@@ -207,7 +218,8 @@ unwrapped : (d : Vnfd) (o : Option (List ℕ)) (ns : List ℕ) → IfSome o (λ 
 unwrapped d None ns h g = g
 unwrapped d (Some ms) ns h g = h
 
-replaced_levels : (d : Vnfd) (named : List AspectLevel) (ns : List ℕ) → are_levels_of d ns ≡ true → are_levels_of d (replaced d ns named) ≡ true
+replaced_levels : (d : Vnfd) (named : List AspectLevel) (ns : List ℕ) → are_levels_of d ns ≡ true
+    → are_levels_of d (replaced d ns named) ≡ true
 replaced_levels d [] ns h = h
 replaced_levels d (x ∷ named) ns h =
     replaced_levels d named (at_aspect d.aspects x.aspect (to_level x.level) ns) (at_levels d x.aspect (to_level x.level) ns h)
@@ -247,7 +259,8 @@ map_get f (y ∷ xs) (suc n) x e = map_get f xs n x e
 
 tops_at : (d : Vnfd) (f : ℕ → ℕ) (v : ℕ) → v < length d.vdus → unwrap_or (slice_get (map f (vdu_numbers d)) v) 0 ≡ f v
 tops_at d f v h =
-    let at : slice_get (map f (vdu_numbers d)) v ≡ Some (f (0 + v)) = map_get f (vdu_numbers d) v (0 + v) (range_get 0 (length d.vdus) v h) in
+    let at : slice_get (map f (vdu_numbers d)) v ≡ Some (f (0 + v)) =
+    map_get f (vdu_numbers d) v (0 + v) (range_get 0 (length d.vdus) v h) in
     let same : 0 + v ≡ v = omega arith in
     rw at (ap f same)
 
@@ -275,7 +288,8 @@ known_by d f x Compute is own low =
 known_by d f x Port is own low =
     known_machine d f x own low (machine_vdu d x.kind x own (λ e. let no_way : Port ≡ Link = sym is ∙ e in cc))
 
-known_item : (width m : ℕ) (H : List Event) → IsLegalWithin width m H → (i : ℕ) (d : Vnfd) → descriptor H i ≡ Some d → (x : Def) → stands H i x ≡ true
+known_item : (width m : ℕ) (H : List Event) → IsLegalWithin width m H → (i : ℕ) (d : Vnfd) → descriptor H i ≡ Some d → (x : Def)
+    → stands H i x ≡ true
     → is_def_up_to d (map (top H i) (vdu_numbers d)) x ≡ true
 known_item width m H legal i d described x s =
     let of : IsOfInstance H i x = stands_of width m H legal i x s in
@@ -294,14 +308,16 @@ holding_of width m H legal i d described small =
     let mapped = length-map has (λ y. y.def) in
     let bound = standing_few width m H legal i d described in
     let rises : Rises DefBefore (map (λ y. y.def) has) =
-    subst (λ (xs : List Def). Rises DefBefore xs) (sym same) (rises_filter DefBefore (stands H i) (defs_up_to d (top H i)) (up_to_before d (top H i) valid)) in
+    subst (λ (xs : List Def). Rises DefBefore xs) (sym same) (rises_filter DefBefore (stands H i) (defs_up_to d (top H i))
+    (up_to_before d (top H i) valid)) in
     record {
       levels = from_levels d (told (moving sets_levels i) H) valid;
       few = omega (arith, size, mapped, bound);
       rising = rising_of (λ x y. is_def_before x.def y.def) has (rises_unmap DefBefore (λ y. y.def) has rises);
       known = all_of (λ x. is_def_up_to d (map (top H i) (vdu_numbers d)) x.def) has
           (λ y among. known_item width m H legal i d described y.def (item_as width m H legal i (defs_up_to d (top H i)) y among).stands);
-      tops = (let counted = length-map (vdu_numbers d) (top H i) in let ranged = range_length 0 (length d.vdus) in omega (arith, counted, ranged));
+      tops = (let counted = length-map (vdu_numbers d) (top H i) in let ranged = range_length 0 (length d.vdus) in
+          omega (arith, counted, ranged));
       small = all_of (λ n. ltb n 2147483648) (map (top H i) (vdu_numbers d))
           (λ n among.
           let from = of_map (top H i) n (vdu_numbers d) among in

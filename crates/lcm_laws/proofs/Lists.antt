@@ -1,5 +1,6 @@
 -- Laws of lists, tests and options.
-use Rattle.std.proofs.Common.{◌≡◌, ◌≤◌, ◌<◌, ◌+◌, ◌∙◌, ◌||◌, ℕ, List, [], ◌∷◌, Bool, true, false, cond, not, ◌&&◌, Option, None, Some, is_some, refl, ap, sym, subst, length, filter, arith, zero, suc}
+use Rattle.std.proofs.Common.{◌≡◌, ◌≤◌, ◌<◌, ◌+◌, ◌∙◌, ◌||◌, ℕ, List, [], ◌∷◌, Bool, true, false, cond, not, ◌&&◌, Option, None, Some}
+use Rattle.std.proofs.Common.{is_some, refl, ap, sym, subst, length, filter, arith, zero, suc}
 use Rattle.std.specs.List.{enumerate_from, list_all, list_any}
 use Rattle.lcm_model.specs.Words.{first, first_some, when}
 
@@ -106,14 +107,16 @@ any_of_filter p q (x ∷ xs) e = by_test (p x)
     (λ holds. rw holds refl)
     (λ fails. by_test (q x)
     (λ more.
-    let rest : list_any p (filter q xs) ≡ true = subst (λ (b : Bool). (b || list_any p (filter q xs)) ≡ true) fails (subst (λ (b : Bool). list_any p (cond b (x ∷ filter q xs) (filter q xs)) ≡ true) more e) in
+    let rest : list_any p (filter q xs) ≡ true = subst (λ (b : Bool). (b || list_any p (filter q xs)) ≡ true) fails
+    (subst (λ (b : Bool). list_any p (cond b (x ∷ filter q xs) (filter q xs)) ≡ true) more e) in
     rw fails (any_of_filter p q xs rest))
     (λ less.
     let rest : list_any p (filter q xs) ≡ true = subst (λ (b : Bool). list_any p (cond b (x ∷ filter q xs) (filter q xs)) ≡ true) less e in
     rw fails (any_of_filter p q xs rest)))
 
 -- a test of places that all pass is passed by each
-pub places_pass : {A : Type 0} → (f : ℕ → Bool) (k : ℕ) (xs : List A) (c : ℕ) → list_all (λ x. f x.0) (enumerate_from k xs) ≡ true → c < length xs
+pub places_pass : {A : Type 0} → (f : ℕ → Bool) (k : ℕ) (xs : List A) (c : ℕ) → list_all (λ x. f x.0) (enumerate_from k xs) ≡ true
+    → c < length xs
     → f (k + c) ≡ true
 places_pass f k [] c e h = absurd (omega (arith, h))
 places_pass f k (x ∷ xs) zero e h =

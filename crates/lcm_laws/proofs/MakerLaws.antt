@@ -1,5 +1,6 @@
 -- What stands was made: it has a resource and a place.
-use Rattle.std.proofs.Common.{◌≡◌, ◌<◌, ◌==◌, ◌∙◌, ℕ, List, [], ◌∷◌, true, false, Option, None, Some, is_some, refl, sym, subst, length, filter, inl, inr, slice_get, eqb-true, eq-eqb}
+use Rattle.std.proofs.Common.{◌≡◌, ◌<◌, ◌==◌, ◌∙◌, ℕ, List, [], ◌∷◌, true, false, Option, None, Some, is_some, refl, sym, subst, length}
+use Rattle.std.proofs.Common.{filter, inl, inr, slice_get, eqb-true, eq-eqb}
 use Rattle.std.specs.Option.{option_map_or}
 use Rattle.std.specs.Prelude.{option_and_then, option_map}
 use Rattle.lcm_events.specs.Same.{same_def, same_verb, same_way}
@@ -19,7 +20,8 @@ use Rattle.lcm_model.specs.declared.holding.Effect.{Effect}
 use Rattle.lcm_model.specs.Words.{IsIn, first, told}
 use Rattle.lcm_model.specs.Grants.{granted_place, is_granted}
 use Rattle.lcm_model.specs.Operations.{changes, operation, operations, verb_done}
-use Rattle.lcm_model.specs.Holding.{effect, effect_in, effects, is_creation, is_effect_on, is_forward_creation, leaves_it, place, resource, stands}
+use Rattle.lcm_model.specs.Holding.{effect, effect_in, effects, is_creation, is_effect_on, is_forward_creation, leaves_it, place, resource}
+use Rattle.lcm_model.specs.Holding.{stands}
 use Rattle.lcm_model.specs.Lives.{descriptor}
 use Rattle.lcm_model.specs.Plans.{Case}
 use Rattle.lcm_model.specs.Planned.{IsPlannedBy}
@@ -48,7 +50,8 @@ record Source (H : List Event) (y : Effect) : Type 0 where
   verb : y.verb ≡ verb_done y.tag.way c.verb
   granted : is_granted H y.tag.occ ≡ true
 
-new_source : (width m : ℕ) (H : List Event) (k : EventKind) (y : Effect) → IsLegalWithin width m H → IsAllowedWithin width m H k → effect_in H k ≡ Some y → Source H y
+new_source : (width m : ℕ) (H : List Event) (k : EventKind) (y : Effect) → IsLegalWithin width m H → IsAllowedWithin width m H k
+    → effect_in H k ≡ Some y → Source H y
 unfolding effect_in
 new_source width m H (Settled t out) y legal allowed is =
     let mine = open_operation width m H t legal allowed in
@@ -70,7 +73,8 @@ new_source width m H (Settled t out) y legal allowed is =
     ]
 new_source width m H _ y legal allowed is = cc
 
-source-next : (width m : ℕ) (H : List Event) (time : ℕ) (k : EventKind) (y : Effect) → IsLegalWithin width m H → IsAllowedWithin width m H k → Source H y
+source-next : (width m : ℕ) (H : List Event) (time : ℕ) (k : EventKind) (y : Effect) → IsLegalWithin width m H → IsAllowedWithin width m H k
+    → Source H y
     → Source (event time k ∷ H) y
 source-next width m H time k y legal allowed h = record {
   a = h.a;
@@ -84,7 +88,8 @@ source-next width m H time k y legal allowed h = record {
 }
 
 source_step : (width m : ℕ) (H : List Event) (time : ℕ) (k : EventKind) → IsLegalWithin width m H → IsAllowedWithin width m H k
-    → ((y : Effect) → IsIn y (told effect_in H) → Source H y) → (y : Effect) → IsIn y (told effect_in (event time k ∷ H)) → Source (event time k ∷ H) y
+    → ((y : Effect) → IsIn y (told effect_in H) → Source H y) → (y : Effect) → IsIn y (told effect_in (event time k ∷ H))
+    → Source (event time k ∷ H) y
 source_step width m H time k legal allowed h y among = elim (of_cons y (effect_in H k) (told effect_in H) among) [
   | inl is ↦ source-next width m H time k y legal allowed (new_source width m H k y legal allowed is)
   | inr before ↦ source-next width m H time k y legal allowed (h y before)
@@ -107,13 +112,15 @@ made-next H e i x h = (h.0, in_cons h.0 (effect_in H e.kind) (told effect_in H) 
 abbrev OthersMade : List Event → Type 0
 OthersMade H = (a : Operation) → IsIn a (operations H) → (k : Change) → IsIn k a.changes → (k.verb ≡ Create → ⊥) → Made H a.instance k.def
 
-last_of : (ys : List Effect) → option_map_or leaves_it (option_map (λ y. y.verb) (first ys)) false ≡ true → (y : Effect) × IsIn y ys × (leaves_it y.verb ≡ true)
+last_of : (ys : List Effect) → option_map_or leaves_it (option_map (λ y. y.verb) (first ys)) false ≡ true
+    → (y : Effect) × IsIn y ys × (leaves_it y.verb ≡ true)
 last_of [] e = cc
 last_of (y ∷ ys) e = (y, inl refl, e)
 
 on_it : (i : ℕ) (x : Def) (y : Effect) → y.instance ≡ i → y.def ≡ x → is_effect_on i x y ≡ true
 on_it i x y at on =
-    and_true (y.instance == i) (same_def y.def x) (eq-eqb y.instance i at) (subst (λ (z : Def). same_def y.def z ≡ true) on (same_def-refl y.def))
+    and_true (y.instance == i) (same_def y.def x) (eq-eqb y.instance i at)
+    (subst (λ (z : Def). same_def y.def z ≡ true) on (same_def-refl y.def))
 
 forward_made : (y : Effect) (w : Way) (v : Verb) → y.tag.way ≡ w → y.verb ≡ v → v ≡ Create → w ≡ Forward → is_forward_creation y ≡ true
 forward_made y w v way verb make forward =
@@ -123,7 +130,8 @@ forward_made y w v way verb make forward =
 
 by_source : (H : List Event) (i : ℕ) (x : Def) (y : Effect) (w : Way) (v : Verb) → IsIn y (told effect_in H) → y.instance ≡ i → y.def ≡ x
     → y.tag.way ≡ w → y.verb ≡ verb_done w v → leaves_it y.verb ≡ true → ((v ≡ Create → ⊥) → Made H i x) → Made H i x
-by_source H i x y Forward Create among at on way verb leaves other = (y, among, on_it i x y at on, forward_made y Forward Create way verb refl refl)
+by_source H i x y Forward Create among at on way verb leaves other =
+    (y, among, on_it i x y at on, forward_made y Forward Create way verb refl refl)
 by_source H i x y Undo Create among at on way verb leaves other =
     let clash : leaves_it Remove ≡ true = subst (λ (u : Verb). leaves_it u ≡ true) verb leaves in cc
 by_source H i x y w Remove among at on way verb leaves other = other (λ e. cc)
@@ -141,38 +149,46 @@ stands_made width m H legal others i x h =
     by_source H i x last.0 last.0.tag.way from.c.verb passed.0 at on refl from.verb last.2
     (λ other.
     let made : Made H from.a.instance from.c.def =
-    others from.a (found_in (λ b. b.occ == last.0.tag.occ) (operations H) from.a from.found) from.c (get_in from.c from.a.changes last.0.tag.change from.at) other in
+    others from.a (found_in (λ b. b.occ == last.0.tag.occ) (operations H) from.a from.found) from.c
+    (get_in from.c from.a.changes last.0.tag.change from.at) other in
     let here : Made H i from.c.def = subst (λ (n : ℕ). Made H n from.c.def) (from.instance ∙ at) made in
     subst (λ (z : Def). Made H i z) (from.def ∙ on) here)
 
 -- a change that doesn't make anything is planned where its definition stands
-planned_stands : (p : Case) (v : Verb) (x : Def) → ((y : Def) → p.held.runs y ≡ true → p.held.stands y ≡ true) → (v ≡ Create → ⊥) → IsPlannedBy p v x → p.held.stands x ≡ true
+planned_stands : (p : Case) (v : Verb) (x : Def) → ((y : Def) → p.held.runs y ≡ true → p.held.stands y ≡ true) → (v ≡ Create → ⊥)
+    → IsPlannedBy p v x → p.held.stands x ≡ true
 planned_stands p Create x f other h = absurd (other refl)
 planned_stands p Remove x f other h = h.0
 planned_stands p Start x f other h = h.3
 planned_stands p Stop x f other h = f x h.3
 
-asked_stands_of : (H : List Event) (a : Operation) (d : Option Vnfd) → IsPlanOf H a d → (k : Change) → IsIn k a.changes → (k.verb ≡ Create → ⊥)
+asked_stands_of : (H : List Event) (a : Operation) (d : Option Vnfd) → IsPlanOf H a d → (k : Change) → IsIn k a.changes
+    → (k.verb ≡ Create → ⊥)
     → stands H a.instance k.def ≡ true
 asked_stands_of H a None h k has other = absurd h
 asked_stands_of H a (Some d) h k has other =
     let p = case_in d (situation d H a.instance) a.ask in
-    planned_stands p k.verb k.def (λ y r. runs-stands H a.instance y r) other (in_plan-planned p k (subst (λ (ks : List Change). IsIn k ks) h.1 has)).1
+    planned_stands p k.verb k.def (λ y r. runs-stands H a.instance y r) other
+    (in_plan-planned p k (subst (λ (ks : List Change). IsIn k ks) h.1 has)).1
 
-pub asked_stands : (width m : ℕ) (H : List Event) (a : Operation) → IsAllowedWithin width m H (Asked a) → (k : Change) → IsIn k a.changes → (k.verb ≡ Create → ⊥)
+pub asked_stands : (width m : ℕ) (H : List Event) (a : Operation) → IsAllowedWithin width m H (Asked a) → (k : Change) → IsIn k a.changes
+    → (k.verb ≡ Create → ⊥)
     → stands H a.instance k.def ≡ true
 asked_stands width m H a allowed = asked_stands_of H a (descriptor H a.instance) allowed.planned
 
-others_step : (width m : ℕ) (H : List Event) (time : ℕ) (k : EventKind) → IsLegalWithin width m H → IsAllowedWithin width m H k → OthersMade H → OthersMade (event time k ∷ H)
+others_step : (width m : ℕ) (H : List Event) (time : ℕ) (k : EventKind) → IsLegalWithin width m H → IsAllowedWithin width m H k
+    → OthersMade H → OthersMade (event time k ∷ H)
 others_step width m H time (Asked b) legal allowed h a (inl e) c has other =
     let own : IsIn c b.changes = subst (λ (z : Operation). IsIn c z.changes) (sym e) has in
     let made : Made H b.instance c.def = stands_made width m H legal h b.instance c.def (asked_stands width m H b allowed c own other) in
     subst (λ (z : Operation). Made (event time (Asked b) ∷ H) z.instance c.def) e (made-next H (event time (Asked b)) b.instance c.def made)
-others_step width m H time (Asked b) legal allowed h a (inr g) c has other = made-next H (event time (Asked b)) a.instance c.def (h a g c has other)
+others_step width m H time (Asked b) legal allowed h a (inr g) c has other =
+    made-next H (event time (Asked b)) a.instance c.def (h a g c has other)
 others_step width m H time k legal allowed h a g c has other = made-next H (event time k) a.instance c.def (h a g c has other)
 
 others_made : (width m : ℕ) (H : List Event) → IsLegalWithin width m H → OthersMade H
-others_made width m H legal = legal_induction width m OthersMade (λ a h. absurd h) (λ H time k legal allowed h. others_step width m H time k legal allowed h) H legal
+others_made width m H legal = legal_induction width m OthersMade (λ a h. absurd h)
+    (λ H time k legal allowed h. others_step width m H time k legal allowed h) H legal
 
 some_first : {A : Type 0} → (y : A) (ys : List A) → IsIn y ys → is_some (first ys) ≡ true
 some_first y [] h = absurd h
@@ -190,14 +206,18 @@ creation_too : (y : Effect) → is_forward_creation y ≡ true → is_creation y
 creation_too y h = and_left (same_verb y.verb Create) (same_way y.tag.way Forward) h
 
 -- what stands has a resource
-pub has_resource : (width m : ℕ) (H : List Event) → IsLegalWithin width m H → (i : ℕ) (x : Def) → stands H i x ≡ true → is_some (resource H i x) ≡ true
+pub has_resource : (width m : ℕ) (H : List Event) → IsLegalWithin width m H → (i : ℕ) (x : Def) → stands H i x ≡ true
+    → is_some (resource H i x) ≡ true
 has_resource width m H legal i x h =
     let made : Made H i x = stands_made width m H legal (others_made width m H legal) i x h in
     let among : IsIn made.0 (filter is_creation (effects H i x)) =
-    in_filter is_creation made.0 (effects H i x) (in_filter (is_effect_on i x) made.0 (told effect_in H) made.1 made.2) (creation_too made.0 made.3) in
-    some_mapped (λ y. y.resource) (first (filter is_creation (effects H i x))) (some_first made.0 (filter is_creation (effects H i x)) among)
+    in_filter is_creation made.0 (effects H i x) (in_filter (is_effect_on i x) made.0 (told effect_in H) made.1 made.2)
+    (creation_too made.0 made.3) in
+    some_mapped (λ y. y.resource) (first (filter is_creation (effects H i x)))
+    (some_first made.0 (filter is_creation (effects H i x)) among)
 
-place_by : (width m : ℕ) (H : List Event) (i : ℕ) (x : Def) (o : Option Effect) → IsLegalWithin width m H → first (filter is_forward_creation (effects H i x)) ≡ o
+place_by : (width m : ℕ) (H : List Event) (i : ℕ) (x : Def) (o : Option Effect) → IsLegalWithin width m H
+    → first (filter is_forward_creation (effects H i x)) ≡ o
     → is_some o ≡ true → is_some (option_and_then (λ y. granted_place H y.tag.occ y.tag.change) o) ≡ true
 place_by width m H i x None legal is some = some
 place_by width m H i x (Some z) legal is some =
@@ -210,12 +230,14 @@ place_by width m H i x (Some z) legal is some =
     all_placed width m H legal z.tag.occ from.granted z.tag.change within
 
 -- what stands has a place
-pub has_place : (width m : ℕ) (H : List Event) → IsLegalWithin width m H → (i : ℕ) (x : Def) → stands H i x ≡ true → is_some (place H i x) ≡ true
+pub has_place : (width m : ℕ) (H : List Event) → IsLegalWithin width m H → (i : ℕ) (x : Def) → stands H i x ≡ true
+    → is_some (place H i x) ≡ true
 has_place width m H legal i x h =
     let made : Made H i x = stands_made width m H legal (others_made width m H legal) i x h in
     let among : IsIn made.0 (filter is_forward_creation (effects H i x)) =
     in_filter is_forward_creation made.0 (effects H i x) (in_filter (is_effect_on i x) made.0 (told effect_in H) made.1 made.2) made.3 in
-    place_by width m H i x (first (filter is_forward_creation (effects H i x))) legal refl (some_first made.0 (filter is_forward_creation (effects H i x)) among)
+    place_by width m H i x (first (filter is_forward_creation (effects H i x))) legal refl
+    (some_first made.0 (filter is_forward_creation (effects H i x)) among)
 
 pub stands_named : (width m : ℕ) (H : List Event) → IsLegalWithin width m H → (i : ℕ) (x : Def) → stands H i x ≡ true
     → (is_some (resource H i x) ≡ true) × (is_some (place H i x) ≡ true)

@@ -1,5 +1,7 @@
 -- What is in a list, and lists in which each entry stands before the later ones.
-use Rattle.std.proofs.Common.{length, Some, slice_get, ◌≡◌, ◌≤◌, ◌<◌, ◌+◌, ◌++◌, ◌||◌, ◌==◌, ℕ, List, [], ◌∷◌, Bool, true, false, cond, refl, ap, sym, subst, map, filter, flat_map, take, arith, zero, suc, ◌⊎◌, inl, inr, if◌then◌else◌, ltb-true, eqb-true, eq-eqb, false-eqb, ltb}
+use Rattle.std.proofs.Common.{length, Some, slice_get, ◌≡◌, ◌≤◌, ◌<◌, ◌+◌, ◌++◌, ◌||◌, ◌==◌, ℕ, List, [], ◌∷◌, Bool, true, false, cond}
+use Rattle.std.proofs.Common.{refl, ap, sym, subst, map, filter, flat_map, take, arith, zero, suc, ◌⊎◌, inl, inr, if◌then◌else◌, ltb-true}
+use Rattle.std.proofs.Common.{eqb-true, eq-eqb, false-eqb, ltb}
 use Rattle.std.specs.List.{list_any, range_with_len}
 use Rattle.lcm_model.specs.Words.{IsIn, is_among}
 use Rattle.lcm_events.specs.Descriptors.{is_rising}
@@ -58,7 +60,8 @@ of_flat_map f y (x ∷ xs) h = onward (in_either y (f x) (flat_map f xs) h) (λ 
 pub in_filter : {A : Type 0} → (p : A → Bool) (x : A) (xs : List A) → IsIn x xs → p x ≡ true → IsIn x (filter p xs)
 in_filter p x [] h e = absurd h
 in_filter {A} p x (y ∷ xs) (inl is) e = let passes : p y ≡ true = subst (λ (z : A). p z ≡ true) (sym is) e in rw passes (inl is)
-in_filter p x (y ∷ xs) (inr h) e = by_test (p y) (λ passes. rw passes (inr (in_filter p x xs h e))) (λ fails. rw fails (in_filter p x xs h e))
+in_filter p x (y ∷ xs) (inr h) e = by_test (p y) (λ passes. rw passes (inr (in_filter p x xs h e)))
+    (λ fails. rw fails (in_filter p x xs h e))
 
 abbrev pub Passed : {A : Type 0} → (A → Bool) → List A → A → Type 0
 Passed p xs x = IsIn x xs × (p x ≡ true)
@@ -70,7 +73,8 @@ pub of_filter : {A : Type 0} → (p : A → Bool) (x : A) (xs : List A) → IsIn
 of_filter p x [] h = absurd h
 of_filter {A} p x (y ∷ xs) h = by_test (p y)
     (λ passes. here passes (λ g. of_filter p x xs g) (subst (λ (b : Bool). IsIn x (cond b (y ∷ filter p xs) (filter p xs))) passes h))
-    (λ fails. passed_later p x y xs (of_filter p x xs (subst (λ (b : Bool). IsIn x (cond b (y ∷ filter p xs) (filter p xs))) fails h))) where
+    (λ fails. passed_later p x y xs (of_filter p x xs (subst (λ (b : Bool). IsIn x (cond b (y ∷ filter p xs) (filter p xs))) fails
+    h))) where
       here : p y ≡ true → (IsIn x (filter p xs) → Passed p xs x) → IsIn x (y ∷ filter p xs) → Passed p (y ∷ xs) x
       here passes rest (inl e) = (inl e, subst (λ (z : A). p z ≡ true) e passes)
       here passes rest (inr g) = passed_later p x y xs (rest g)
@@ -125,7 +129,8 @@ pub rises_map : {A B : Type 0} → (R : A → A → Type 0) (S : B → B → Typ
     → ((x y : A) → IsIn x xs → IsIn y xs → R x y → S (f x) (f y)) → Rises R xs → Rises S (map f xs)
 rises_map R S f [] g h = tt
 rises_map {A} {B} R S f (x ∷ xs) g h = (
-  λ y within. let from = of_map f y xs within in subst (λ (z : B). S (f x) z) from.2 (g x from.0 (inl refl) (inr from.1) (h.0 from.0 from.1)),
+  λ y within. let from = of_map f y xs within in subst (λ (z : B). S (f x) z) from.2
+      (g x from.0 (inl refl) (inr from.1) (h.0 from.0 from.1)),
   rises_map R S f xs (λ u v hu hv. g u v (inr hu) (inr hv)) h.1,
 )
 
@@ -177,7 +182,8 @@ among_in (k ∷ ns) n e = by_test (k == n)
 pub in_among : (ns : List ℕ) (n : ℕ) → IsIn n ns → is_among ns n ≡ true
 in_among [] n h = absurd h
 in_among (k ∷ ns) n (inl e) = let same : (k == n) ≡ true = eq-eqb k n e in rw same refl
-in_among (k ∷ ns) n (inr h) = let rest : is_among ns n ≡ true = in_among ns n h in by_test (k == n) (λ same. rw same refl) (λ other. rw other rest)
+in_among (k ∷ ns) n (inr h) = let rest : is_among ns n ≡ true = in_among ns n h in
+    by_test (k == n) (λ same. rw same refl) (λ other. rw other rest)
 
 -- an entry that passes a test
 pub any_in : {A : Type 0} → (p : A → Bool) (x : A) (xs : List A) → IsIn x xs → p x ≡ true → list_any p xs ≡ true

@@ -1,5 +1,6 @@
 -- Each net is 0 or 1, and fits the open attempt of its change.
-use Rattle.std.proofs.Common.{◌≡◌, ◌≤◌, ◌+◌, ◌-◌, ◌==◌, ◌&&◌, ◌||◌, ◌∙◌, ℕ, List, [], ◌∷◌, Bool, true, false, cond, not, Option, None, Some, refl, ap, sym, length, filter, arith, eqb-true, subst, suc}
+use Rattle.std.proofs.Common.{◌≡◌, ◌≤◌, ◌+◌, ◌-◌, ◌==◌, ◌&&◌, ◌||◌, ◌∙◌, ℕ, List, [], ◌∷◌, Bool, true, false, cond, not, Option, None, Some}
+use Rattle.std.proofs.Common.{refl, ap, sym, length, filter, arith, eqb-true, subst, suc}
 use Rattle.std.specs.List.{list_any}
 use Rattle.lcm_events.specs.Same.{same_tag, same_way}
 use Rattle.lcm_events.proofs.SameLaws.{eq-refl, same_tag-refl, same_tag-true}
@@ -59,7 +60,8 @@ another-false t x p fails holds = not-false (same_tag x t) (by_test (same_tag x 
 pub open_attempts-other : (H : List Event) (time : ℕ) (t : Tag) (out : Outcome) (o c : ℕ) → is_of o c t ≡ false
     → open_attempts (event time (Settled t out) ∷ H) o c ≡ open_attempts H o c
 open_attempts-other H time t out o c fails =
-    open_attempts-settled H time t out o c ∙ filter_same (is_of o c) (another t) (open_tags H) (λ x holds. another-false t x (is_of o c) fails holds)
+    open_attempts-settled H time t out o c ∙ filter_same (is_of o c) (another t) (open_tags H)
+    (λ x holds. another-false t x (is_of o c) fails holds)
 
 -- nothing of another change is done
 pub done_count-other : (way : Way) (H : List Event) (time : ℕ) (t : Tag) (out : Outcome) (o c : ℕ) → is_of o c t ≡ false
@@ -73,7 +75,8 @@ counted t false ts = refl
 
 -- one more of its change is done
 pub done_count-done : (way : Way) (H : List Event) (time : ℕ) (t : Tag) (name : List ℕ) (o c : ℕ) → is_of o c t ≡ true
-    → done_count way (event time (Settled t (Done name)) ∷ H) o c ≡ cond (same_way way t.way) (suc (done_count way H o c)) (done_count way H o c)
+    → done_count way (event time (Settled t (Done name)) ∷ H) o c ≡ cond (same_way way t.way) (suc (done_count way H o c))
+    (done_count way H o c)
 done_count-done way H time t name o c holds =
     rw holds (counted t (same_way way t.way) (filter (λ t. is_of o c t && same_way way t.way) (done H)))
 
@@ -136,10 +139,15 @@ fits_settled H time t out o c opened h = by_test (is_of o c t)
     at_own (λ o c. list_any (same_tag t) (open_attempts H o c) ≡ true) o c t holds (open_own H t opened) in
     let only : (filter (another t) (open_attempts H o c) ≡ []) × (done_count Forward H o c ≡ done_count Undo H o c + net_before t.way) =
     sole (open_attempts H o c) t (done_count Forward H o c) (done_count Undo H o c) h among in
-    subst (λ (ts : List Tag). Fits ts (done_count Forward (event time (Settled t out) ∷ H) o c) (done_count Undo (event time (Settled t out) ∷ H) o c))
+    subst (λ (ts : List Tag). Fits ts (done_count Forward (event time (Settled t out) ∷ H) o c)
+    (done_count Undo (event time (Settled t out) ∷ H) o c))
     (sym (open_attempts-settled H time t out o c ∙ only.0))
     (fits_ended H time t out o c holds only.1))
-    (λ fails. rw (open_attempts-other H time t out o c fails, done_count-other Forward H time t out o c fails, done_count-other Undo H time t out o c fails) h)
+    (λ fails. rw (
+      open_attempts-other H time t out o c fails,
+      done_count-other Forward H time t out o c fails,
+      done_count-other Undo H time t out o c fails,
+    ) h)
 
 turn_net : (H : List Event) (t : Tag) (x : Option Change) → IsTurnOf H t x → net H t.occ t.change ≡ net_before t.way
 turn_net H t None h = absurd h
@@ -149,7 +157,8 @@ began : (w : Way) (made undone : ℕ) → undone ≤ made → made - undone ≡ 
 began Forward made undone h e = omega (arith, h, e)
 began Undo made undone h e = omega (arith, h, e)
 
-fits_begun : (t : Tag) (b : Bool) (made undone : ℕ) → Fits [] made undone → made - undone ≡ net_before t.way → Fits (cond b (t ∷ []) []) made undone
+fits_begun : (t : Tag) (b : Bool) (made undone : ℕ) → Fits [] made undone → made - undone ≡ net_before t.way
+    → Fits (cond b (t ∷ []) []) made undone
 fits_begun t true made undone h e = began t.way made undone h.0 e
 fits_begun t false made undone h e = h
 
@@ -158,7 +167,8 @@ filter_cond : {A : Type 0} → (p : A → Bool) (x : A) (b : Bool) (xs : List A)
 filter_cond p x true xs e none = rw (e, none) refl
 filter_cond p x false xs e none = none
 
-pub filter_cond_other : {A : Type 0} → (p : A → Bool) (x : A) (b : Bool) (xs : List A) → p x ≡ false → filter p (cond b (x ∷ xs) xs) ≡ filter p xs
+pub filter_cond_other : {A : Type 0} → (p : A → Bool) (x : A) (b : Bool) (xs : List A) → p x ≡ false
+    → filter p (cond b (x ∷ xs) xs) ≡ filter p xs
 filter_cond_other p x true xs e = rw e refl
 filter_cond_other p x false xs e = refl
 
@@ -168,7 +178,8 @@ unfolding is_unsettled
 fits_intent width m H time t o c allowed h = by_test (is_of o c t)
     (λ holds.
     let none : open_attempts H o c ≡ [] = at_own (λ o c. open_attempts H o c ≡ []) o c t holds allowed.none_open in
-    let before : net H o c ≡ net_before t.way = at_own (λ o c. net H o c ≡ net_before t.way) o c t holds (turn_net H t (change_of H t) allowed.turn) in
+    let before : net H o c ≡ net_before t.way = at_own (λ o c. net H o c ≡ net_before t.way) o c t holds
+    (turn_net H t (change_of H t) allowed.turn) in
     let empty : Fits [] (done_count Forward H o c) (done_count Undo H o c) =
     subst (λ (ts : List Tag). Fits ts (done_count Forward H o c) (done_count Undo H o c)) none h in
     subst (λ (ts : List Tag). Fits ts (done_count Forward H o c) (done_count Undo H o c))
@@ -178,7 +189,8 @@ fits_intent width m H time t o c allowed h = by_test (is_of o c t)
     subst (λ (ts : List Tag). Fits ts (done_count Forward H o c) (done_count Undo H o c))
     (sym (filter_cond_other (is_of o c) t (is_unsettled H t) (open_tags H) fails)) h)
 
-fits_step : (width m : ℕ) (H : List Event) (time : ℕ) (k : EventKind) (o c : ℕ) → IsAllowedWithin width m H k → FitsAfter H o c → FitsAfter (event time k ∷ H) o c
+fits_step : (width m : ℕ) (H : List Event) (time : ℕ) (k : EventKind) (o c : ℕ) → IsAllowedWithin width m H k → FitsAfter H o c
+    → FitsAfter (event time k ∷ H) o c
 unfolding is_unsettled
 fits_step width m H time (Intent t) o c allowed h = fits_intent width m H time t o c allowed h
 fits_step width m H time (Settled t out) o c allowed h = fits_settled H time t out o c allowed h
@@ -187,7 +199,8 @@ fits_step width m H time _ o c allowed h = h
 -- the open attempts of each change fit its counts
 pub fits : (width m : ℕ) (H : List Event) → IsLegalWithin width m H → (o c : ℕ) → FitsAfter H o c
 fits width m H legal o c =
-    legal_induction width m (λ H. FitsAfter H o c) (omega arith, omega arith) (λ H t k legal allowed h. fits_step width m H t k o c allowed h) H legal
+    legal_induction width m (λ H. FitsAfter H o c) (omega arith, omega arith)
+    (λ H t k legal allowed h. fits_step width m H t k o c allowed h) H legal
 
 fits_one : (w : Way) (made undone : ℕ) → made ≡ undone + net_before w → (undone ≤ made) × (made ≤ undone + 1)
 fits_one w made undone h = fits_still w made undone h
@@ -219,7 +232,8 @@ difference : (a b n : ℕ) → a ≡ b + n → a - b ≡ n
 difference a b n h = omega (arith, h)
 
 -- an open attempt fits the net of its change
-pub open_fits : (width m : ℕ) (H : List Event) → IsLegalWithin width m H → (t : Tag) → is_open H t ≡ true → net H t.occ t.change ≡ net_before t.way
+pub open_fits : (width m : ℕ) (H : List Event) → IsLegalWithin width m H → (t : Tag) → is_open H t ≡ true
+    → net H t.occ t.change ≡ net_before t.way
 open_fits width m H legal t opened =
     difference (done_count Forward H t.occ t.change) (done_count Undo H t.occ t.change) (net_before t.way)
     (sole (open_attempts H t.occ t.change) t _ _ (fits width m H legal t.occ t.change) (open_own H t opened)).1

@@ -1,5 +1,7 @@
 -- The events of the next action are allowed.
-use Rattle.std.proofs.Common.{◌≡◌, ◌≤◌, ◌<◌, ◌+◌, ◌&&◌, ◌||◌, ◌==◌, ◌∙◌, ℕ, List, [], ◌∷◌, Bool, true, false, not, Option, None, Some, is_some, refl, ap, sym, subst, length, arith, zero, suc, inl, inr, ◌⊎◌, ltb, ltb-true, eqb-true, eq-eqb, false-eqb, slice_get, unwrap_or, ◌≢◌}
+use Rattle.std.proofs.Common.{◌≡◌, ◌≤◌, ◌<◌, ◌+◌, ◌&&◌, ◌||◌, ◌==◌, ◌∙◌, ℕ, List, [], ◌∷◌, Bool, true, false, not, Option, None, Some}
+use Rattle.std.proofs.Common.{is_some, refl, ap, sym, subst, length, arith, zero, suc, inl, inr, ◌⊎◌, ltb, ltb-true, eqb-true, eq-eqb}
+use Rattle.std.proofs.Common.{false-eqb, slice_get, unwrap_or, ◌≢◌}
 use Rattle.std.specs.List.{enumerate_from, list_all, range_with_len}
 use Rattle.std.specs.Option.{option_map_or}
 use Rattle.std.specs.Prelude.{option_and_then, option_map}
@@ -26,14 +28,19 @@ use Rattle.lcm_model.specs.Grants.{has_ended, is_granted, location}
 use Rattle.lcm_model.specs.Since.{has_trouble, is_cancelled, is_forced}
 use Rattle.lcm_model.specs.Planned.{is_before}
 use Rattle.lcm_model.specs.Refusals.{case_in, situation}
-use Rattle.lcm_model.specs.Work.{HasStopped, IsQuiet, IsTurnOf, MayBeginWithin, MayMove, all_have_net, all_through, gives_up, goes_before, has_net, is_through, net_after, net_before, works_in}
+use Rattle.lcm_model.specs.Work.{HasStopped, IsQuiet, IsTurnOf, MayBeginWithin, MayMove, all_have_net, all_through, gives_up, goes_before}
+use Rattle.lcm_model.specs.Work.{has_net, is_through, net_after, net_before, works_in}
 use Rattle.lcm_model.specs.Allowed.{IsAllowedWithin, IsAsking, IsLegalWithin, IsPlanOf}
 use Rattle.lcm_model.specs.Lives.{descriptor}
-use Rattle.lcm_model.specs.Next.{Answer, BeginFailed, BeginRefused, BeginTaken, GrantCame, GrantDenied, GrantLater, GrantMissesSome, GrantTrouble, LookedAborted, LookedAbsent, LookedBroken, LookedDone, appended, begin_of, beginning, first_open, granting, is_at_net, look_at, looking, new_tag, next_action, next_at_work, next_in, next_while_asking, polling, with_net}
+use Rattle.lcm_model.specs.Next.{Answer, BeginFailed, BeginRefused, BeginTaken, GrantCame, GrantDenied, GrantLater, GrantMissesSome}
+use Rattle.lcm_model.specs.Next.{GrantTrouble, LookedAborted, LookedAbsent, LookedBroken, LookedDone, appended, begin_of, beginning}
+use Rattle.lcm_model.specs.Next.{first_open, granting, is_at_net, look_at, looking, new_tag, next_action, next_at_work, next_in}
+use Rattle.lcm_model.specs.Next.{next_while_asking, polling, with_net}
 use Rattle.lcm_laws.specs.Acting.{IsAnswer, with_events}
 use Rattle.lcm_laws.proofs.Histories.{event, legal_induction}
 use Rattle.lcm_laws.proofs.Lists.{first-nil, and_left, and_true, by_test}
-use Rattle.lcm_laws.proofs.Members.{any_in, get_in, get_within, Less, Rises, in_filter, in_range, of_filter, of_range, rises_filter, rises_range}
+use Rattle.lcm_laws.proofs.Members.{any_in, get_in, get_within, Less, Rises, in_filter, in_range, of_filter, of_range, rises_filter}
+use Rattle.lcm_laws.proofs.Members.{rises_range}
 use Rattle.lcm_laws.proofs.FreshLaws.{fresh_open, fresh_unfailed}
 use Rattle.lcm_laws.proofs.NetLaws.{made_at_most_once}
 use Rattle.lcm_laws.proofs.PlanHistory.{descriptor_valid, found_in}
@@ -67,7 +74,8 @@ not_both_second true b e h = e
 not_both_second false b e h = cc
 
 -- ask, and poll
-is_asking : (H : List Event) (o : ℕ) → is_some (operation H o) ≡ true → state H o ≡ Starting → gives_up H o ≡ false → is_granted H o ≡ false → IsAsking H o
+is_asking : (H : List Event) (o : ℕ) → is_some (operation H o) ≡ true → state H o ≡ Starting → gives_up H o ≡ false → is_granted H o ≡ false
+    → IsAsking H o
 is_asking H o asked starting stays ungranted = record {
   asked = asked;
   starting = starting;
@@ -81,7 +89,8 @@ is_asking H o asked starting stays ungranted = record {
       (or_left_false (is_forced H o || (has_ended H o && not (is_granted H o))) (is_granted H o && is_cancelled H o) stays);
 }
 
-legal_granting : (width m : ℕ) (H : List Event) (o now : ℕ) (answer : Answer) → IsLegalWithin width m H → IsAsking H o → location H o ≡ None → IsAnswer H o answer
+legal_granting : (width m : ℕ) (H : List Event) (o now : ℕ) (answer : Answer) → IsLegalWithin width m H → IsAsking H o → location H o ≡ None
+    → IsAnswer H o answer
     → IsLegalWithin width m (with_events now (granting o answer) H)
 legal_granting width m H o now (GrantCame grant places spots) legal asking none answer =
     (record { asking = asking; named = answer.0; placed = answer.1 }, legal)
@@ -108,7 +117,8 @@ IsFine width m H o now answer action = IsLegalWithin width m (with_events now (a
 may_move_in : (H : List Event) (o : ℕ) (from to : OpState) → state H o ≡ from → MayMove H o from to → MayMove H o (state H o) to
 may_move_in H o from to is may = subst (λ (s : OpState). MayMove H o s to) (sym is) may
 
-fine_move : (width m : ℕ) (H : List Event) (o now : ℕ) (answer : Answer) (from to : OpState) → IsLegalWithin width m H → is_some (operation H o) ≡ true
+fine_move : (width m : ℕ) (H : List Event) (o now : ℕ) (answer : Answer) (from to : OpState) → IsLegalWithin width m H
+    → is_some (operation H o) ≡ true
     → state H o ≡ from → MayMove H o from to → IsFine width m H o now answer (MoveTo to)
 fine_move width m H o now answer from to legal asked is may = ((asked, may_move_in H o from to is may), legal)
 
@@ -116,31 +126,37 @@ none_known : {A : Type 0} → (o : Option A) → is_some o ≡ false → o ≡ N
 none_known None e = refl
 none_known (Some x) e = cc
 
-fine_starting : (width m : ℕ) (H : List Event) (o now : ℕ) (answer : Answer) (action : Action) → IsLegalWithin width m H → is_some (operation H o) ≡ true
+fine_starting : (width m : ℕ) (H : List Event) (o now : ℕ) (answer : Answer) (action : Action) → IsLegalWithin width m H
+    → is_some (operation H o) ≡ true
     → state H o ≡ Starting → IsAnswer H o answer → next_while_asking H o ≡ Some action → IsFine width m H o now answer action
 fine_starting width m H o now answer action legal asked is good e = give_up (pick_when (gives_up H o) (MoveTo RolledBack) action _ e) where
   ask : gives_up H o ≡ false → is_granted H o ≡ false → ((is_some (location H o) ≡ true) × (Poll ≡ action))
       ⊎ ((is_some (location H o) ≡ false) × (first_some (Some AskForGrant ∷ []) ≡ Some action)) → IsFine width m H o now answer action
   ask stays ungranted (inl h) =
-      subst (λ (a : Action). IsFine width m H o now answer a) h.1 (legal_polling width m H o now answer legal (is_asking H o asked is stays ungranted) good)
+      subst (λ (a : Action). IsFine width m H o now answer a) h.1 (legal_polling width m H o now answer legal
+      (is_asking H o asked is stays ungranted) good)
   ask stays ungranted (inr h) =
       let same : AskForGrant ≡ action = cc in
       subst (λ (a : Action). IsFine width m H o now answer a) same
       (legal_granting width m H o now answer legal (is_asking H o asked is stays ungranted) (none_known (location H o) h.0) good)
 
   grant : gives_up H o ≡ false → ((is_granted H o ≡ true) × (MoveTo Processing ≡ action))
-      ⊎ ((is_granted H o ≡ false) × (first_some (when (is_some (location H o)) Poll ∷ Some AskForGrant ∷ []) ≡ Some action)) → IsFine width m H o now answer action
+      ⊎ ((is_granted H o ≡ false) × (first_some (when (is_some (location H o)) Poll ∷ Some AskForGrant ∷ []) ≡ Some action))
+      → IsFine width m H o now answer action
   grant stays (inl h) =
       let uncancelled : is_cancelled H o ≡ false =
       not_both_second (is_granted H o) (is_cancelled H o)
       (or_right_false (is_forced H o || (has_ended H o && not (is_granted H o))) (is_granted H o && is_cancelled H o) stays) h.0 in
-      subst (λ (a : Action). IsFine width m H o now answer a) h.1 (fine_move width m H o now answer Starting Processing legal asked is (h.0, uncancelled))
+      subst (λ (a : Action). IsFine width m H o now answer a) h.1 (fine_move width m H o now answer Starting Processing legal asked is
+      (h.0, uncancelled))
   grant stays (inr h) = ask stays h.0 (pick_when (is_some (location H o)) Poll action _ h.1)
 
   give_up : ((gives_up H o ≡ true) × (MoveTo RolledBack ≡ action))
-      ⊎ ((gives_up H o ≡ false) × (first_some (when (is_granted H o) (MoveTo Processing) ∷ when (is_some (location H o)) Poll ∷ Some AskForGrant ∷ []) ≡ Some action))
+      ⊎ ((gives_up H o ≡ false) × (first_some (when (is_granted H o) (MoveTo Processing) ∷ when (is_some (location H o)) Poll
+      ∷ Some AskForGrant ∷ []) ≡ Some action))
       → IsFine width m H o now answer action
-  give_up (inl h) = subst (λ (a : Action). IsFine width m H o now answer a) h.1 (fine_move width m H o now answer Starting RolledBack legal asked is h.0)
+  give_up (inl h) = subst (λ (a : Action). IsFine width m H o now answer a) h.1
+      (fine_move width m H o now answer Starting RolledBack legal asked is h.0)
   give_up (inr h) = grant h.0 (pick_when (is_granted H o) (MoveTo Processing) action _ h.1)
 
 -- look
@@ -159,14 +175,16 @@ first_in : {A : Type 0} → (x : A) (xs : List A) → first xs ≡ Some x → Is
 first_in x [] e = cc
 first_in x (y ∷ xs) e = inl cc
 
-legal_looking : (width m : ℕ) (H : List Event) (now : ℕ) (t : Tag) (answer : Answer) → IsLegalWithin width m H → is_open H t ≡ true → IsLegalWithin width m (with_events now (looking t answer) H)
+legal_looking : (width m : ℕ) (H : List Event) (now : ℕ) (t : Tag) (answer : Answer) → IsLegalWithin width m H → is_open H t ≡ true
+    → IsLegalWithin width m (with_events now (looking t answer) H)
 legal_looking width m H now t (LookedDone name) legal h = (h, legal)
 legal_looking width m H now t (LookedBroken code) legal h = (h, legal)
 legal_looking width m H now t LookedAborted legal h = (h, legal)
 legal_looking width m H now t LookedAbsent legal h = (h, legal)
 legal_looking width m H now t _ legal h = legal
 
-fine_look : (width m : ℕ) (H : List Event) (o now : ℕ) (t : Tag) (answer : Answer) (force : Bool) → IsLegalWithin width m H → is_open H t ≡ true
+fine_look : (width m : ℕ) (H : List Event) (o now : ℕ) (t : Tag) (answer : Answer) (force : Bool) → IsLegalWithin width m H
+    → is_open H t ≡ true
     → IsFine width m H o now answer (look_at force t)
 fine_look width m H o now t answer true legal h = legal_looking width m H now t answer legal h
 fine_look width m H o now t answer false legal h = legal_looking width m H now t answer legal h
@@ -179,20 +197,23 @@ first_open-open H o t e =
 abbrev Sorted : List Event → Type 0
 Sorted H = (a : Operation) → IsIn a (operations H) → Rises Before a.changes
 
-asked_sorted : (width m : ℕ) (H : List Event) (a : Operation) → IsLegalWithin width m H → (d : Option Vnfd) → descriptor H a.instance ≡ d → IsPlanOf H a d → Rises Before a.changes
+asked_sorted : (width m : ℕ) (H : List Event) (a : Operation) → IsLegalWithin width m H → (d : Option Vnfd) → descriptor H a.instance ≡ d
+    → IsPlanOf H a d → Rises Before a.changes
 asked_sorted width m H a legal None is h = absurd h
 asked_sorted width m H a legal (Some d) is h =
     subst (λ (xs : List Change). Rises Before xs) (sym h.1)
     (plan_rises (case_in d (situation d H a.instance) a.ask) (descriptor_valid width m H a.instance d legal is))
 
-sorted_step : (width m : ℕ) (H : List Event) (time : ℕ) (k : EventKind) → IsLegalWithin width m H → IsAllowedWithin width m H k → Sorted H → Sorted (event time k ∷ H)
+sorted_step : (width m : ℕ) (H : List Event) (time : ℕ) (k : EventKind) → IsLegalWithin width m H → IsAllowedWithin width m H k → Sorted H
+    → Sorted (event time k ∷ H)
 sorted_step width m H time (Asked b) legal allowed h a (inl e) =
     subst (λ (z : Operation). Rises Before z.changes) e (asked_sorted width m H b legal (descriptor H b.instance) refl allowed.planned)
 sorted_step width m H time (Asked b) legal allowed h a (inr g) = h a g
 sorted_step width m H time _ legal allowed h a g = h a g
 
 sorted : (width m : ℕ) (H : List Event) → IsLegalWithin width m H → Sorted H
-sorted width m H legal = legal_induction width m Sorted (λ a h. absurd h) (λ H time k legal allowed h. sorted_step width m H time k legal allowed h) H legal
+sorted width m H legal = legal_induction width m Sorted (λ a h. absurd h)
+    (λ H time k legal allowed h. sorted_step width m H time k legal allowed h) H legal
 
 changes_rise : (width m : ℕ) (H : List Event) (o : ℕ) → IsLegalWithin width m H → Rises Before (changes H o)
 changes_rise width m H o legal = rise (operation H o) refl where
@@ -201,7 +222,8 @@ changes_rise width m H o legal = rise (operation H o) refl where
   rise (Some a) is = sorted width m H legal a (found_in (λ b. b.occ == o) (operations H) a is)
 
 -- of two entries the one further on comes later
-pub rises_get : {A : Type 0} → (R : A → A → Type 0) (xs : List A) (i j : ℕ) (x y : A) → Rises R xs → slice_get xs i ≡ Some x → slice_get xs j ≡ Some y → i < j → R x y
+pub rises_get : {A : Type 0} → (R : A → A → Type 0) (xs : List A) (i j : ℕ) (x y : A) → Rises R xs → slice_get xs i ≡ Some x
+    → slice_get xs j ≡ Some y → i < j → R x y
 rises_get R [] i j x y h ex ey less = cc
 rises_get R (z ∷ xs) i zero x y h ex ey less = absurd (omega (arith, less))
 rises_get {A} R (z ∷ xs) zero (suc j) x y h ex ey less =
@@ -212,8 +234,10 @@ before_phase : (x y : Change) → Before x y → x.phase ≤ y.phase
 before_phase x y h = by_test (ltb x.phase y.phase)
     (λ less. let n = ltb-true x.phase y.phase less in omega (arith, n))
     (λ other.
-    let rest : ((x.phase == y.phase) && is_before (x.def.vdu ∷ x.def.serial ∷ x.def.item ∷ []) (y.def.vdu ∷ y.def.serial ∷ y.def.item ∷ [])) ≡ true =
-    subst (λ (b : Bool). (b || ((x.phase == y.phase) && is_before (x.def.vdu ∷ x.def.serial ∷ x.def.item ∷ []) (y.def.vdu ∷ y.def.serial ∷ y.def.item ∷ []))) ≡ true) other h in
+    let rest : ((x.phase == y.phase) && is_before (x.def.vdu ∷ x.def.serial ∷ x.def.item ∷ []) (y.def.vdu ∷ y.def.serial ∷ y.def.item ∷ []))
+    ≡ true =
+    subst (λ (b : Bool). (b || ((x.phase == y.phase) && is_before (x.def.vdu ∷ x.def.serial ∷ x.def.item ∷ [])
+    (y.def.vdu ∷ y.def.serial ∷ y.def.item ∷ []))) ≡ true) other h in
     let same = eqb-true x.phase y.phase (and_left (x.phase == y.phase) _ rest) in omega (arith, same))
 
 -- a test of entries with their places that each passes
@@ -255,7 +279,8 @@ with_net_rises H o n = rises_filter Less (is_at_net H o n) (range_with_len 0 (le
 in_with_net : (H : List Event) (o n j : ℕ) → j < length (changes H o) → net H o j ≡ n → IsIn j (with_net H o n)
 unfolding is_at_net
 in_with_net H o n j within is =
-    in_filter (is_at_net H o n) j (range_with_len 0 (length (changes H o))) (in_range j 0 (length (changes H o)) (omega arith) (omega (arith, within)))
+    in_filter (is_at_net H o n) j (range_with_len 0 (length (changes H o)))
+    (in_range j 0 (length (changes H o)) (omega arith) (omega (arith, within)))
     (eq-eqb (net H o j) n is)
 
 of_with_net : (H : List Event) (o n j : ℕ) → IsIn j (with_net H o n) → (j < length (changes H o)) × (net H o j ≡ n)
@@ -311,7 +336,8 @@ or_true_right : (a b : Bool) → b ≡ true → (a || b) ≡ true
 or_true_right true b e = refl
 or_true_right false b e = e
 
-through : (width m : ℕ) (H : List Event) (o : ℕ) (w : Way) (c : ℕ) (x : Change) → IsLegalWithin width m H → IsChosen H o w c → slice_get (changes H o) c ≡ Some x
+through : (width m : ℕ) (H : List Event) (o : ℕ) (w : Way) (c : ℕ) (x : Change) → IsLegalWithin width m H → IsChosen H o w c
+    → slice_get (changes H o) c ≡ Some x
     → all_through H o w x.phase ≡ true
 unfolding is_through
 through width m H o w c x legal chosen is =
@@ -325,10 +351,14 @@ through width m H o w c x legal chosen is =
     rw shift (or_true_right (not (goes_before w x.phase y)) (net H o j == net_after w) (eq-eqb (net H o j) (net_after w) after)))
     (λ stays. rw stays refl))
 
-turn_of : (width m : ℕ) (H : List Event) (o : ℕ) (w : Way) (c : ℕ) → IsLegalWithin width m H → IsChosen H o w c → (x : Option Change) → slice_get (changes H o) c ≡ x
+turn_of : (width m : ℕ) (H : List Event) (o : ℕ) (w : Way) (c : ℕ) → IsLegalWithin width m H → IsChosen H o w c → (x : Option Change)
+    → slice_get (changes H o) c ≡ x
     → IsTurnOf H (new_tag H o w c) x
 turn_of width m H o w c legal chosen None is = get_missing (changes H o) c (of_with_net H o (net_before w) c chosen.0).0 is
-turn_of width m H o w c legal chosen (Some x) is = ((of_with_net H o (net_before w) c chosen.0).1, through width m H o w c x legal chosen is)
+turn_of width m H o w c legal chosen (Some x) is = (
+  (of_with_net H o (net_before w) c chosen.0).1,
+  through width m H o w c x legal chosen is,
+)
 
 none_of_change : (H : List Event) (o c : ℕ) → open_of H o ≡ [] → open_attempts H o c ≡ []
 none_of_change H o c none = empty (open_attempts H o c) (λ t h.
@@ -339,7 +369,8 @@ none_of_change H o c none = empty (open_attempts H o c) (λ t h.
       empty [] f = refl
       empty (t ∷ ts) f = absurd (f t (inl refl))
 
-may_begin : (width m : ℕ) (H : List Event) (o : ℕ) (w : Way) (c : ℕ) → 1 ≤ width → IsLegalWithin width m H → state H o ≡ works_in w → open_of H o ≡ []
+may_begin : (width m : ℕ) (H : List Event) (o : ℕ) (w : Way) (c : ℕ) → 1 ≤ width → IsLegalWithin width m H → state H o ≡ works_in w
+    → open_of H o ≡ []
     → (has_trouble H o || is_cancelled H o) ≡ false → IsChosen H o w c → MayBeginWithin width H (new_tag H o w c)
 may_begin width m H o w c wide legal works none quiet chosen = record {
   works = works;
@@ -351,10 +382,17 @@ may_begin width m H o w c wide legal works none quiet chosen = record {
   turn = turn_of width m H o w c legal chosen (slice_get (changes H o) c) refl;
 }
 
-legal_beginning : (width m : ℕ) (H : List Event) (now : ℕ) (t : Tag) (answer : Answer) → IsLegalWithin width m H → MayBeginWithin width H t → IsLegalWithin width m (with_events now (beginning t answer) H)
+legal_beginning : (width m : ℕ) (H : List Event) (now : ℕ) (t : Tag) (answer : Answer) → IsLegalWithin width m H → MayBeginWithin width H t
+    → IsLegalWithin width m (with_events now (beginning t answer) H)
 legal_beginning width m H now t BeginTaken legal may = (may, legal)
 legal_beginning width m H now t (BeginRefused code) legal may = (fresh_open width m H now legal t may.number, (may, legal))
-legal_beginning width m H now t BeginFailed legal may = ((fresh_open width m H now legal t may.number, fresh_unfailed width m H legal t may.number), (may, legal))
+legal_beginning width m H now t BeginFailed legal may = (
+  (
+    fresh_open width m H now legal t may.number,
+    fresh_unfailed width m H legal t may.number,
+  ),
+  (may, legal),
+)
 legal_beginning width m H now t _ legal may = legal
 
 quiet_now : (H : List Event) (o : ℕ) → open_of H o ≡ [] → (has_trouble H o || is_cancelled H o) ≡ false → IsQuiet H o
@@ -364,7 +402,8 @@ quiet_now H o none quiet = record {
   no_cancel = or_right_false (has_trouble H o) (is_cancelled H o) quiet;
 }
 
-all_after : (width m : ℕ) (H : List Event) (o : ℕ) (w : Way) → IsLegalWithin width m H → with_net H o (net_before w) ≡ [] → all_have_net H o (net_after w) ≡ true
+all_after : (width m : ℕ) (H : List Event) (o : ℕ) (w : Way) → IsLegalWithin width m H → with_net H o (net_before w) ≡ []
+    → all_have_net H o (net_after w) ≡ true
 unfolding has_net
 all_after width m H o w legal none =
     all_placed (has_net H o (net_after w)) 0 (changes H o) (λ j y e.
@@ -379,7 +418,8 @@ abbrev end_of : Way → OpState
 end_of Forward = Completed
 end_of Undo = RolledBack
 
-may_end : (width m : ℕ) (H : List Event) (o : ℕ) (w : Way) → IsLegalWithin width m H → open_of H o ≡ [] → (has_trouble H o || is_cancelled H o) ≡ false
+may_end : (width m : ℕ) (H : List Event) (o : ℕ) (w : Way) → IsLegalWithin width m H → open_of H o ≡ []
+    → (has_trouble H o || is_cancelled H o) ≡ false
     → with_net H o (net_before w) ≡ [] → MayMove H o (works_in w) (end_of w)
 may_end width m H o Forward legal none quiet done = (quiet_now H o none quiet, all_after width m H o Forward legal done)
 may_end width m H o Undo legal none quiet done = (quiet_now H o none quiet, all_after width m H o Undo legal done)
@@ -405,40 +445,52 @@ chosen_none Undo ns e = last-none ns e
 abbrev work_lines : List Event → ℕ → Way → List (Option Action)
 work_lines H o w = option_map (begin_of H o w) (choice w (with_net H o (net_before w))) ∷ Some (MoveTo (end_of w)) ∷ []
 
-fine_work : (width m : ℕ) (H : List Event) (o now : ℕ) (answer : Answer) (action : Action) (w : Way) → 1 ≤ width → IsLegalWithin width m H → is_some (operation H o) ≡ true
+fine_work : (width m : ℕ) (H : List Event) (o now : ℕ) (answer : Answer) (action : Action) (w : Way) → 1 ≤ width → IsLegalWithin width m H
+    → is_some (operation H o) ≡ true
     → state H o ≡ works_in w → next_at_work H o (work_lines H o w) ≡ Some action → IsFine width m H o now answer action
-fine_work width m H o now answer action w wide legal asked is e = look (pick_map (look_at (is_forced H o)) (first_open H o) action _ e) where
-  begin : open_of H o ≡ [] → (has_trouble H o || is_cancelled H o) ≡ false
-      → ((c : ℕ) × (choice w (with_net H o (net_before w)) ≡ Some c) × (begin_of H o w c ≡ action))
-      ⊎ ((choice w (with_net H o (net_before w)) ≡ None) × (first_some (Some (MoveTo (end_of w)) ∷ []) ≡ Some action)) → IsFine width m H o now answer action
-  begin none quiet (inl h) =
-      subst (λ (a : Action). IsFine width m H o now answer a) h.2
-      (legal_beginning width m H now (new_tag H o w h.0) answer legal (may_begin width m H o w h.0 wide legal is none quiet (chosen_is H o w h.0 h.1)))
-  begin none quiet (inr h) =
-      let same : MoveTo (end_of w) ≡ action = cc in
-      subst (λ (a : Action). IsFine width m H o now answer a) same
-      (fine_move width m H o now answer (works_in w) (end_of w) legal asked is (may_end width m H o w legal none quiet (chosen_none w (with_net H o (net_before w)) h.0)))
+fine_work width m H o now answer action w wide legal asked is e =
+    look (pick_map (look_at (is_forced H o)) (first_open H o) action _ e) where
+      begin : open_of H o ≡ [] → (has_trouble H o || is_cancelled H o) ≡ false
+          → ((c : ℕ) × (choice w (with_net H o (net_before w)) ≡ Some c) × (begin_of H o w c ≡ action))
+          ⊎ ((choice w (with_net H o (net_before w)) ≡ None) × (first_some (Some (MoveTo (end_of w)) ∷ []) ≡ Some action))
+          → IsFine width m H o now answer action
+      begin none quiet (inl h) =
+          subst (λ (a : Action). IsFine width m H o now answer a) h.2
+          (legal_beginning width m H now (new_tag H o w h.0) answer legal
+          (may_begin width m H o w h.0 wide legal is none quiet (chosen_is H o w h.0 h.1)))
+      begin none quiet (inr h) =
+          let same : MoveTo (end_of w) ≡ action = cc in
+          subst (λ (a : Action). IsFine width m H o now answer a) same
+          (fine_move width m H o now answer (works_in w) (end_of w) legal asked is
+          (may_end width m H o w legal none quiet (chosen_none w (with_net H o (net_before w)) h.0)))
 
-  stop : open_of H o ≡ [] → (((has_trouble H o || is_cancelled H o) ≡ true) × (MoveTo FailedTemp ≡ action))
-      ⊎ (((has_trouble H o || is_cancelled H o) ≡ false) × (first_some (work_lines H o w) ≡ Some action)) → IsFine width m H o now answer action
-  stop none (inl h) =
-      subst (λ (a : Action). IsFine width m H o now answer a) h.1
-      (fine_move width m H o now answer (works_in w) FailedTemp legal asked is (may_stop H o w (record { none_open = none; cause = h.0 })))
-  stop none (inr h) = begin none h.0 (pick_map (begin_of H o w) (choice w (with_net H o (net_before w))) action _ h.1)
+      stop : open_of H o ≡ [] → (((has_trouble H o || is_cancelled H o) ≡ true) × (MoveTo FailedTemp ≡ action))
+          ⊎ (((has_trouble H o || is_cancelled H o) ≡ false) × (first_some (work_lines H o w) ≡ Some action))
+          → IsFine width m H o now answer action
+      stop none (inl h) =
+          subst (λ (a : Action). IsFine width m H o now answer a) h.1
+          (fine_move width m H o now answer (works_in w) FailedTemp legal asked is (may_stop H o w (record { none_open = none; cause = h.0 })))
+      stop none (inr h) = begin none h.0 (pick_map (begin_of H o w) (choice w (with_net H o (net_before w))) action _ h.1)
 
-  look : ((t : Tag) × (first_open H o ≡ Some t) × (look_at (is_forced H o) t ≡ action))
-      ⊎ ((first_open H o ≡ None) × (first_some (when (has_trouble H o || is_cancelled H o) (MoveTo FailedTemp) ∷ work_lines H o w) ≡ Some action))
-      → IsFine width m H o now answer action
-  look (inl h) =
-      subst (λ (a : Action). IsFine width m H o now answer a) h.2 (fine_look width m H o now h.0 answer (is_forced H o) legal (first_open-open H o h.0 h.1))
-  look (inr h) =
-      stop (last-none (open_of H o) h.0) (pick_when (has_trouble H o || is_cancelled H o) (MoveTo FailedTemp) action _ h.1)
+      look : ((t : Tag) × (first_open H o ≡ Some t) × (look_at (is_forced H o) t ≡ action))
+          ⊎ ((first_open H o ≡ None) × (first_some (when (has_trouble H o || is_cancelled H o) (MoveTo FailedTemp) ∷ work_lines H o w)
+          ≡ Some action))
+          → IsFine width m H o now answer action
+      look (inl h) =
+          subst (λ (a : Action). IsFine width m H o now answer a) h.2 (fine_look width m H o now h.0 answer (is_forced H o) legal
+          (first_open-open H o h.0 h.1))
+      look (inr h) =
+          stop (last-none (open_of H o) h.0) (pick_when (has_trouble H o || is_cancelled H o) (MoveTo FailedTemp) action _ h.1)
 
-fine_in : (width m : ℕ) (H : List Event) (o now : ℕ) (answer : Answer) (action : Action) (s : OpState) → 1 ≤ width → IsLegalWithin width m H → is_some (operation H o) ≡ true
+fine_in : (width m : ℕ) (H : List Event) (o now : ℕ) (answer : Answer) (action : Action) (s : OpState) → 1 ≤ width → IsLegalWithin width m H
+    → is_some (operation H o) ≡ true
     → IsAnswer H o answer → state H o ≡ s → next_in s H o ≡ Some action → IsFine width m H o now answer action
-fine_in width m H o now answer action Starting wide legal asked good is e = fine_starting width m H o now answer action legal asked is good e
-fine_in width m H o now answer action Processing wide legal asked good is e = fine_work width m H o now answer action Forward wide legal asked is e
-fine_in width m H o now answer action RollingBack wide legal asked good is e = fine_work width m H o now answer action Undo wide legal asked is e
+fine_in width m H o now answer action Starting wide legal asked good is e =
+    fine_starting width m H o now answer action legal asked is good e
+fine_in width m H o now answer action Processing wide legal asked good is e =
+    fine_work width m H o now answer action Forward wide legal asked is e
+fine_in width m H o now answer action RollingBack wide legal asked good is e =
+    fine_work width m H o now answer action Undo wide legal asked is e
 fine_in width m H o now answer action _ wide legal asked good is e = cc
 
 -- an action of an occurrence is one of its state
@@ -447,17 +499,20 @@ acted s None action e = cc
 acted s (Some a) action e = e
 
 -- the events of the next action are allowed
-pub next_legal : (width m : ℕ) (H : List Event) → 1 ≤ width → IsLegalWithin width m H → (o now : ℕ) (action : Action) (answer : Answer) → is_some (operation H o) ≡ true
+pub next_legal : (width m : ℕ) (H : List Event) → 1 ≤ width → IsLegalWithin width m H → (o now : ℕ) (action : Action) (answer : Answer)
+    → is_some (operation H o) ≡ true
     → next_action H o ≡ Some action → IsAnswer H o answer → IsLegalWithin width m (with_events now (appended o action answer) H)
 next_legal width m H wide legal o now action answer asked e good =
     fine_in width m H o now answer action (state H o) wide legal asked good refl (acted (next_in (state H o) H o) (operation H o) action e)
 
-some_line : {A : Type 0} → (o : Option A) (lines : List (Option A)) → is_some (first_some lines) ≡ true → is_some (first_some (o ∷ lines)) ≡ true
+some_line : {A : Type 0} → (o : Option A) (lines : List (Option A)) → is_some (first_some lines) ≡ true
+    → is_some (first_some (o ∷ lines)) ≡ true
 some_line None lines h = h
 some_line (Some x) lines h = refl
 
 active_acts_in : (H : List Event) (o : ℕ) (s : OpState) → is_some (next_in s H o) ≡ is_active s
-active_acts_in H o Starting = some_line (when (gives_up H o) (MoveTo RolledBack)) _ (some_line (when (is_granted H o) (MoveTo Processing)) _ (some_line (when (is_some (location H o)) Poll) _ refl))
+active_acts_in H o Starting = some_line (when (gives_up H o) (MoveTo RolledBack)) _
+    (some_line (when (is_granted H o) (MoveTo Processing)) _ (some_line (when (is_some (location H o)) Poll) _ refl))
 active_acts_in H o Processing =
     some_line (option_map (look_at (is_forced H o)) (first_open H o)) _
     (some_line (when (has_trouble H o || is_cancelled H o) (MoveTo FailedTemp)) _

@@ -1,5 +1,6 @@
 -- What is made is numbered from 1 on.
-use Rattle.std.proofs.Common.{◌≡◌, ◌≤◌, ◌+◌, ◌++◌, ◌==◌, ◌∙◌, ◌↔◌, ℕ, List, [], ◌∷◌, true, false, Some, is_some, refl, ap, sym, length, map, reverse, find, arith, eqb-true, false-eqb, ◌≢◌, zero, suc}
+use Rattle.std.proofs.Common.{◌≡◌, ◌≤◌, ◌+◌, ◌++◌, ◌==◌, ◌∙◌, ◌↔◌, ℕ, List, [], ◌∷◌, true, false, Some, is_some, refl, ap, sym, length, map}
+use Rattle.std.proofs.Common.{reverse, find, arith, eqb-true, false-eqb, ◌≢◌, zero, suc}
 use Rattle.std.proofs.lemmas.List.{length-map}
 use mathlib.Core.List.{reverse-cons}
 use Rattle.std.specs.List.{range_with_len}
@@ -43,23 +44,28 @@ counted_step width m H t _ allowed h = h
 
 -- the operations of a legal history are counted
 pub operations_counted : (width m : ℕ) (H : List Event) → IsLegalWithin width m H → IsCounted (λ a. a.occ) (operations H)
-operations_counted width m H legal = legal_induction width m (λ H. IsCounted (λ a. a.occ) (operations H)) tt (λ H t k legal allowed h. counted_step width m H t k allowed h) H legal
+operations_counted width m H legal = legal_induction width m (λ H. IsCounted (λ a. a.occ) (operations H)) tt
+    (λ H t k legal allowed h. counted_step width m H t k allowed h) H legal
 
-instances_step : (width m : ℕ) (H : List Event) (t : ℕ) (k : EventKind) → IsAllowedWithin width m H k → IsCounted (λ x. x.instance) (creations H)
+instances_step : (width m : ℕ) (H : List Event) (t : ℕ) (k : EventKind) → IsAllowedWithin width m H k
+    → IsCounted (λ x. x.instance) (creations H)
     → IsCounted (λ x. x.instance) (creations (event t k ∷ H))
 instances_step width m H t (Created i vnfd name text) allowed h = (allowed.number, h)
 instances_step width m H t _ allowed h = h
 
 pub instances_counted : (width m : ℕ) (H : List Event) → IsLegalWithin width m H → IsCounted (λ x. x.instance) (creations H)
-instances_counted width m H legal = legal_induction width m (λ H. IsCounted (λ x. x.instance) (creations H)) tt (λ H t k legal allowed h. instances_step width m H t k allowed h) H legal
+instances_counted width m H legal = legal_induction width m (λ H. IsCounted (λ x. x.instance) (creations H)) tt
+    (λ H t k legal allowed h. instances_step width m H t k allowed h) H legal
 
-subscriptions_step : (width m : ℕ) (H : List Event) (t : ℕ) (k : EventKind) → IsAllowedWithin width m H k → IsCounted (λ x. x.number) (subscriptions H)
+subscriptions_step : (width m : ℕ) (H : List Event) (t : ℕ) (k : EventKind) → IsAllowedWithin width m H k
+    → IsCounted (λ x. x.number) (subscriptions H)
     → IsCounted (λ x. x.number) (subscriptions (event t k ∷ H))
 subscriptions_step width m H t (Subscribed s role callback filter) allowed h = (allowed.number, h)
 subscriptions_step width m H t _ allowed h = h
 
 pub subscriptions_counted : (width m : ℕ) (H : List Event) → IsLegalWithin width m H → IsCounted (λ x. x.number) (subscriptions H)
-subscriptions_counted width m H legal = legal_induction width m (λ H. IsCounted (λ x. x.number) (subscriptions H)) tt (λ H t k legal allowed h. subscriptions_step width m H t k allowed h) H legal
+subscriptions_counted width m H legal = legal_induction width m (λ H. IsCounted (λ x. x.number) (subscriptions H)) tt
+    (λ H t k legal allowed h. subscriptions_step width m H t k allowed h) H legal
 
 pub numbered : (width m : ℕ) (H : List Event) → IsLegalWithin width m H → IsNumbered H
 numbered width m H legal = record {
@@ -91,7 +97,8 @@ within_found f (x ∷ xs) n h low high = by_test (f x == n)
       below : (a b k : ℕ) → a ≡ k + 1 → (a == b) ≡ false → b ≤ suc k → b ≤ k
       below a b k e ne h = let no : a ≢ b = false-eqb a b (sym ne) in omega (arith, e, no, h)
 
-pub found_exactly : (width m : ℕ) (H : List Event) → IsLegalWithin width m H → (o : ℕ) → (is_some (operation H o) ≡ true) ↔ (1 ≤ o) × (o ≤ occurrences_made H)
+pub found_exactly : (width m : ℕ) (H : List Event) → IsLegalWithin width m H → (o : ℕ)
+    → (is_some (operation H o) ≡ true) ↔ (1 ≤ o) × (o ≤ occurrences_made H)
 found_exactly width m H legal o = (
   λ found. found_within (λ a. a.occ) (operations H) o (operations_counted width m H legal) found,
   λ within. within_found (λ a. a.occ) (operations H) o (operations_counted width m H legal) within.0 within.1,
@@ -106,18 +113,22 @@ find-skips f b xs n a number h e = by_test (f b == n)
     absurd (omega (arith, number, is, (found_within f xs n h found).1)))
     (λ other. rw other e)
 
-stays_step : (width m : ℕ) (H : List Event) (k : EventKind) (t o : ℕ) (a : Operation) → IsLegalWithin width m H → IsAllowedWithin width m H k
+stays_step : (width m : ℕ) (H : List Event) (k : EventKind) (t o : ℕ) (a : Operation) → IsLegalWithin width m H
+    → IsAllowedWithin width m H k
     → operation H o ≡ Some a → operation (event t k ∷ H) o ≡ Some a
-stays_step width m H (Asked b) t o a legal allowed e = find-skips (λ x. x.occ) b (operations H) o a allowed.number (operations_counted width m H legal) e
+stays_step width m H (Asked b) t o a legal allowed e = find-skips (λ x. x.occ) b (operations H) o a allowed.number
+    (operations_counted width m H legal) e
 stays_step width m H _ t o a legal allowed e = e
 
 -- an operation that is found stays found by the next event
-pub operation-next : (width m : ℕ) (H : List Event) (t : ℕ) (k : EventKind) (o : ℕ) (a : Operation) → IsLegalWithin width m H → IsAllowedWithin width m H k
+pub operation-next : (width m : ℕ) (H : List Event) (t : ℕ) (k : EventKind) (o : ℕ) (a : Operation) → IsLegalWithin width m H
+    → IsAllowedWithin width m H k
     → operation H o ≡ Some a → operation (event t k ∷ H) o ≡ Some a
 operation-next width m H t k o a legal allowed e = stays_step width m H k t o a legal allowed e
 
 -- an operation that is found stays found
-pub operation-later : (width m : ℕ) (H later : List Event) (o : ℕ) (a : Operation) → IsLegalWithin width m (later ++ H) → operation H o ≡ Some a
+pub operation-later : (width m : ℕ) (H later : List Event) (o : ℕ) (a : Operation) → IsLegalWithin width m (later ++ H)
+    → operation H o ≡ Some a
     → operation (later ++ H) o ≡ Some a
 operation-later width m H [] o a legal e = e
 operation-later width m H (x ∷ later) o a legal e =

@@ -1,5 +1,6 @@
 -- An instance has at most one operation that goes on.
-use Rattle.std.proofs.Common.{◌≡◌, ◌≤◌, ◌==◌, ℕ, List, [], ◌∷◌, Bool, true, false, cond, not, Option, None, Some, refl, ap, length, arith, eqb-true, subst, if◌then◌else◌}
+use Rattle.std.proofs.Common.{◌≡◌, ◌≤◌, ◌==◌, ℕ, List, [], ◌∷◌, Bool, true, false, cond, not, Option, None, Some, refl, ap, length, arith}
+use Rattle.std.proofs.Common.{eqb-true, subst, if◌then◌else◌}
 use Rattle.lcm_events.specs.declared.descriptor.Vnfd.{Vnfd}
 use Rattle.lcm_events.specs.declared.events.Event.{Event}
 use Rattle.lcm_events.specs.declared.events.EventKind.{EventKind}
@@ -14,7 +15,8 @@ use Rattle.lcm_model.specs.Refusals.{Situation, ask_refusal, content_refusal, in
 use Rattle.lcm_model.specs.Work.{MayMove}
 use Rattle.lcm_model.specs.Allowed.{IsAllowedWithin, IsLegalWithin, IsPlanOf}
 use Rattle.lcm_laws.proofs.Histories.{event, legal_induction}
-use Rattle.lcm_laws.proofs.Lists.{by_test, filter_shorter, first-none, none_of-front, none_of-rest, not-false, and_left, and_right, and_true, when-none}
+use Rattle.lcm_laws.proofs.Lists.{by_test, filter_shorter, first-none, none_of-front, none_of-rest, not-false, and_left, and_right}
+use Rattle.lcm_laws.proofs.Lists.{and_true, when-none}
 use Rattle.lcm_laws.proofs.PathLaws.{may_move-edge}
 
 -- the state after a move
@@ -87,4 +89,5 @@ ongoing_step width m H t _ i allowed h = h
 
 -- at most one operation of an instance goes on
 pub one_ongoing : (width m : ℕ) (H : List Event) → IsLegalWithin width m H → (i : ℕ) → length (ongoing H i) ≤ 1
-one_ongoing width m H legal i = legal_induction width m (λ H. length (ongoing H i) ≤ 1) (omega arith) (λ H t k legal allowed h. ongoing_step width m H t k i allowed h) H legal
+one_ongoing width m H legal i = legal_induction width m (λ H. length (ongoing H i) ≤ 1) (omega arith)
+    (λ H t k legal allowed h. ongoing_step width m H t k i allowed h) H legal

@@ -1,5 +1,6 @@
 -- The open attempts of an occurrence, event by event.
-use Rattle.std.proofs.Common.{◌≡◌, ◌≤◌, ◌<◌, ◌==◌, ◌∙◌, ℕ, List, [], ◌∷◌, Bool, true, false, cond, None, refl, ap, sym, subst, length, filter, arith, eqb-true, if◌then◌else◌}
+use Rattle.std.proofs.Common.{◌≡◌, ◌≤◌, ◌<◌, ◌==◌, ◌∙◌, ℕ, List, [], ◌∷◌, Bool, true, false, cond, None, refl, ap, sym, subst, length}
+use Rattle.std.proofs.Common.{filter, arith, eqb-true, if◌then◌else◌}
 use Rattle.std.specs.List.{list_any}
 use Rattle.lcm_events.specs.Same.{same_tag}
 use Rattle.lcm_events.proofs.SameLaws.{same_tag-true}
@@ -8,7 +9,8 @@ use Rattle.lcm_events.specs.declared.attempts.Tag.{Tag}
 use Rattle.lcm_events.specs.declared.events.Event.{Event}
 use Rattle.lcm_events.specs.declared.events.EventKind.{EventKind}
 use Rattle.lcm_events.specs.declared.events.EventKind.TheVariants.{Intent, Settled}
-use Rattle.lcm_model.specs.Attempts.{intent_in, intents, is_of_occurrence, is_open, is_settled, is_unsettled, open_of, open_tags, settled_in}
+use Rattle.lcm_model.specs.Attempts.{intent_in, intents, is_of_occurrence, is_open, is_settled, is_unsettled, open_of, open_tags}
+use Rattle.lcm_model.specs.Attempts.{settled_in}
 use Rattle.lcm_model.specs.Allowed.{IsAllowedWithin, IsLegalWithin}
 use Rattle.lcm_laws.proofs.Histories.{event, legal_induction}
 use Rattle.lcm_laws.proofs.Lists.{by_test, filter_swap, not-true}
@@ -19,7 +21,8 @@ passing : (p : Tag → Bool) (t : Tag) (ts : List Tag) → list_any (same_tag t)
 passing p t [] e = cc
 passing p t (x ∷ ts) e = by_test (p x)
     (λ passes.
-    let here : list_any (same_tag t) (x ∷ filter p ts) ≡ true = subst (λ (b : Bool). list_any (same_tag t) (cond b (x ∷ filter p ts) (filter p ts)) ≡ true) passes e in
+    let here : list_any (same_tag t) (x ∷ filter p ts) ≡ true = subst
+    (λ (b : Bool). list_any (same_tag t) (cond b (x ∷ filter p ts) (filter p ts)) ≡ true) passes e in
     by_test (same_tag t x)
     (λ same. let is : t ≡ x = same_tag-true t x same in rw is passes)
     (λ other. passing p t ts (rw other at here)))
@@ -59,7 +62,8 @@ fewer p (x ∷ xs) = by_test (p x)
     (λ passes. let rest = fewer p xs in rw passes (omega (arith, rest)))
     (λ fails. let rest = fewer p xs in rw fails (omega (arith, rest)))
 
-begun_few : (b : Bool) (t : Tag) (ts : List Tag) (n : ℕ) → (b ≡ true → length ts < n) → length ts ≤ n → length (if b then t ∷ ts else ts) ≤ n
+begun_few : (b : Bool) (t : Tag) (ts : List Tag) (n : ℕ) → (b ≡ true → length ts < n) → length ts ≤ n
+    → length (if b then t ∷ ts else ts) ≤ n
 begun_few true t ts n room h = let more = room refl in omega (arith, more)
 begun_few false t ts n room h = h
 
@@ -80,4 +84,5 @@ window_step width m H time _ o legal allowed h = h
 -- no more attempts of an occurrence are open than may be
 pub open_few : (width m : ℕ) (H : List Event) → IsLegalWithin width m H → (o : ℕ) → length (open_of H o) ≤ width
 open_few width m H legal o =
-    legal_induction width m (λ H. length (open_of H o) ≤ width) (omega arith) (λ H time k legal allowed h. window_step width m H time k o legal allowed h) H legal
+    legal_induction width m (λ H. length (open_of H o) ≤ width) (omega arith)
+    (λ H time k legal allowed h. window_step width m H time k o legal allowed h) H legal

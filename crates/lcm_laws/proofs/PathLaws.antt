@@ -1,10 +1,12 @@
 -- Moves are a path.
-use Rattle.std.proofs.Common.{◌≡◌, ℕ, List, [], ◌∷◌, ◌++◌, ◌==◌, Bool, true, false, None, Some, refl, filter_map, subst, eqb-true, unwrap_or, if◌then◌else◌}
+use Rattle.std.proofs.Common.{◌≡◌, ℕ, List, [], ◌∷◌, ◌++◌, ◌==◌, Bool, true, false, None, Some, refl, filter_map, subst, eqb-true}
+use Rattle.std.proofs.Common.{unwrap_or, if◌then◌else◌}
 use Rattle.lcm_events.specs.declared.events.Event.{Event}
 use Rattle.lcm_events.specs.declared.events.EventKind.{EventKind}
 use Rattle.lcm_events.specs.declared.events.EventKind.TheVariants.{Moved}
 use Rattle.lcm_events.specs.declared.states.OpState.{OpState}
-use Rattle.lcm_events.specs.declared.states.OpState.TheVariants.{Completed, Failed, FailedTemp, Processing, RolledBack, RollingBack, Starting}
+use Rattle.lcm_events.specs.declared.states.OpState.TheVariants.{Completed, Failed, FailedTemp, Processing, RolledBack, RollingBack}
+use Rattle.lcm_events.specs.declared.states.OpState.TheVariants.{Starting}
 use Rattle.std.specs.List.{cons_option}
 use Rattle.lcm_model.specs.Words.{first}
 use Rattle.lcm_model.specs.Moves.{IsPath, edge, moved_to, moves, state}

@@ -30,25 +30,29 @@ found_in {A} p (y ∷ xs) x e = by_test (p y)
 abbrev AllValid : List Event → Type 0
 AllValid H = (d : Vnfd) → IsIn d (descriptors H) → IsValid d
 
-valid_step : (width m : ℕ) (H : List Event) (time : ℕ) (k : EventKind) → IsAllowedWithin width m H k → AllValid H → AllValid (event time k ∷ H)
+valid_step : (width m : ℕ) (H : List Event) (time : ℕ) (k : EventKind) → IsAllowedWithin width m H k → AllValid H
+    → AllValid (event time k ∷ H)
 valid_step width m H time (Onboarded x) allowed h d (inl e) = subst (λ (y : Vnfd). IsValid y) e allowed.valid
 valid_step width m H time (Onboarded x) allowed h d (inr g) = h d g
 valid_step width m H time _ allowed h d g = h d g
 
 -- every descriptor that was onboarded is valid
 pub all_valid : (width m : ℕ) (H : List Event) → IsLegalWithin width m H → AllValid H
-all_valid width m H legal = legal_induction width m AllValid (λ d h. absurd h) (λ H time k legal allowed h. valid_step width m H time k allowed h) H legal
+all_valid width m H legal = legal_induction width m AllValid (λ d h. absurd h)
+    (λ H time k legal allowed h. valid_step width m H time k allowed h) H legal
 
 named_valid : (width m : ℕ) (H : List Event) (d : Vnfd) → IsLegalWithin width m H → (x : Option CreatedInstance)
     → option_and_then (λ c. descriptor_named H c.vnfd) x ≡ Some d → IsValid d
 named_valid width m H d legal None e = cc
-named_valid width m H d legal (Some c) e = all_valid width m H legal d (found_in (λ y. same_name y.descriptor_id c.vnfd) (descriptors H) d e)
+named_valid width m H d legal (Some c) e = all_valid width m H legal d
+    (found_in (λ y. same_name y.descriptor_id c.vnfd) (descriptors H) d e)
 
 -- the descriptor of an instance is valid
 pub descriptor_valid : (width m : ℕ) (H : List Event) (i : ℕ) (d : Vnfd) → IsLegalWithin width m H → descriptor H i ≡ Some d → IsValid d
 descriptor_valid width m H i d legal e = named_valid width m H d legal (creation H i) e
 
-has_plan : (width m : ℕ) (H : List Event) (a : Operation) → IsLegalWithin width m H → (o : Option Vnfd) → descriptor H a.instance ≡ o → IsPlanOf H a o → HasPlan H a
+has_plan : (width m : ℕ) (H : List Event) (a : Operation) → IsLegalWithin width m H → (o : Option Vnfd) → descriptor H a.instance ≡ o
+    → IsPlanOf H a o → HasPlan H a
 has_plan width m H a legal None is h = absurd h
 has_plan width m H a legal (Some d) is h =
     let p = case_in d (situation d H a.instance) a.ask in
@@ -63,7 +67,8 @@ has_plan width m H a legal (Some d) is h =
     )
 
 -- each operation has its plan
-pub operation_planned : (width m : ℕ) (H later : List Event) (time : ℕ) (a : Operation) → IsLegalWithin width m (later ++ event time (Asked a) ∷ H) → HasPlan H a
+pub operation_planned : (width m : ℕ) (H later : List Event) (time : ℕ) (a : Operation)
+    → IsLegalWithin width m (later ++ event time (Asked a) ∷ H) → HasPlan H a
 operation_planned width m H later time a legal =
     let here = legal_before width m (event time (Asked a) ∷ H) later legal in
     has_plan width m H a here.1 (descriptor H a.instance) refl here.0.planned

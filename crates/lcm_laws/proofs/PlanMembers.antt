@@ -1,5 +1,6 @@
 -- A change is in the plan exactly where it is planned.
-use Rattle.std.proofs.Common.{◌≡◌, ◌≤◌, ◌<◌, ◌+◌, ◌++◌, ◌&&◌, ℕ, List, true, not, refl, ap, sym, subst, length, map, filter, flat_map, arith, ◌⊎◌, inl, inr, ◌↔◌, append_assoc}
+use Rattle.std.proofs.Common.{◌≡◌, ◌≤◌, ◌<◌, ◌+◌, ◌++◌, ◌&&◌, ℕ, List, true, not, refl, ap, sym, subst, length, map, filter, flat_map}
+use Rattle.std.proofs.Common.{arith, ◌⊎◌, inl, inr, ◌↔◌, append_assoc}
 use Rattle.std.specs.List.{range_with_len}
 use Rattle.lcm_events.proofs.SameLaws.{change_ext}
 use Rattle.lcm_events.specs.declared.changes.Change.{Change}
@@ -11,10 +12,12 @@ use Rattle.lcm_events.specs.declared.changes.Verb.TheVariants.{Create, Remove, S
 use Rattle.lcm_events.specs.declared.descriptor.Vnfd.{Vnfd}
 use Rattle.lcm_model.specs.Words.{IsIn}
 use Rattle.lcm_model.specs.Vnfcs.{all_defs, def_of, defs, items, link_def, links, there, vdu_numbers}
-use Rattle.lcm_model.specs.Plans.{Case, change, defs_of, leaving, links_made, links_removed, made, makes_links, new, plan, removed, removes_links, started, starts, stay, stopped, stops}
+use Rattle.lcm_model.specs.Plans.{Case, change, defs_of, leaving, links_made, links_removed, made, makes_links, new, plan, removed}
+use Rattle.lcm_model.specs.Plans.{removes_links, started, starts, stay, stopped, stops}
 use Rattle.lcm_model.specs.Planned.{IsLink, IsOf, IsPlanned, IsPlannedBy}
 use Rattle.lcm_laws.proofs.Lists.{and_left, and_right, and_true, not-false, not-true}
-use Rattle.lcm_laws.proofs.Members.{in_back, in_either, in_filter, in_flat_map, in_front, in_if, in_map, in_range, of_filter, of_flat_map, of_if, of_map, of_range}
+use Rattle.lcm_laws.proofs.Members.{in_back, in_either, in_filter, in_flat_map, in_front, in_if, in_map, in_range, of_filter, of_flat_map}
+use Rattle.lcm_laws.proofs.Members.{of_if, of_map, of_range}
 
 -- what the definitions of one kind of a machine have in common
 pub of_defs : (d : Vnfd) (kind : DefKind) (v s : ℕ) (x : Def) → IsIn x (defs d kind v s) → (x.kind ≡ kind) × (x.vdu ≡ v) × (x.serial ≡ s)
@@ -25,8 +28,10 @@ of_defs d kind v s x h =
 -- a definition of one kind is one of the machine's
 pub in_all : (d : Vnfd) (kind : DefKind) (v s : ℕ) (x : Def) → IsIn x (defs d kind v s) → IsIn x (all_defs d v s)
 in_all d Link v s x h = absurd h
-in_all d Storage v s x h = in_front x (defs d Storage v s ++ defs d Compute v s) (defs d Port v s) (in_front x (defs d Storage v s) (defs d Compute v s) h)
-in_all d Compute v s x h = in_front x (defs d Storage v s ++ defs d Compute v s) (defs d Port v s) (in_back x (defs d Storage v s) (defs d Compute v s) h)
+in_all d Storage v s x h = in_front x (defs d Storage v s ++ defs d Compute v s) (defs d Port v s)
+    (in_front x (defs d Storage v s) (defs d Compute v s) h)
+in_all d Compute v s x h = in_front x (defs d Storage v s ++ defs d Compute v s) (defs d Port v s)
+    (in_back x (defs d Storage v s) (defs d Compute v s) h)
 in_all d Port v s x h = in_back x (defs d Storage v s ++ defs d Compute v s) (defs d Port v s) h
 
 -- a kind of definition that a machine has
@@ -53,7 +58,8 @@ of_all d v s x h = second (in_either x (defs d Storage v s ++ defs d Compute v s
   second (inr g) = own_kind d Port v s x (inr (inr refl)) g
 
 -- the definitions of one kind of some machines
-pub of_defs_of : (p : Case) (kind : DefKind) (serials : ℕ → List ℕ) (x : Def) → IsIn x (defs_of p kind serials) → (x.kind ≡ kind) × IsOf serials p x
+pub of_defs_of : (p : Case) (kind : DefKind) (serials : ℕ → List ℕ) (x : Def) → IsIn x (defs_of p kind serials)
+    → (x.kind ≡ kind) × IsOf serials p x
 of_defs_of p kind serials x h =
     let at = of_flat_map (λ v. flat_map (defs p.vnfd kind v) (serials v)) x (vdu_numbers p.vnfd) h in
     let machine = of_flat_map (defs p.vnfd kind at.0) x (serials at.0) at.2 in
@@ -71,13 +77,15 @@ of_defs_of p kind serials x h =
       ),
     )
 
-pub in_defs_of : (p : Case) (kind : DefKind) (serials : ℕ → List ℕ) (x : Def) → IsOf serials p x → x.kind ≡ kind → IsIn x (defs_of p kind serials)
+pub in_defs_of : (p : Case) (kind : DefKind) (serials : ℕ → List ℕ) (x : Def) → IsOf serials p x → x.kind ≡ kind
+    → IsIn x (defs_of p kind serials)
 in_defs_of p kind serials x h is =
     let within : x.vdu < 0 + length p.vnfd.vdus = omega (arith, h.0) in
     let low : 0 ≤ x.vdu = omega arith in
     let own : IsIn x (defs p.vnfd kind x.vdu x.serial) =
     subst (λ (k : DefKind). IsIn x (defs p.vnfd k x.vdu x.serial)) is (of_all p.vnfd x.vdu x.serial x h.2).1 in
-    in_flat_map (λ v. flat_map (defs p.vnfd kind v) (serials v)) x.vdu x (vdu_numbers p.vnfd) (in_range x.vdu 0 (length p.vnfd.vdus) low within)
+    in_flat_map (λ v. flat_map (defs p.vnfd kind v) (serials v)) x.vdu x (vdu_numbers p.vnfd)
+    (in_range x.vdu 0 (length p.vnfd.vdus) low within)
     (in_flat_map (defs p.vnfd kind x.vdu) x.serial x (serials x.vdu) h.1 own)
 
 -- the links
@@ -92,10 +100,12 @@ in_links : (p : Case) (x : Def) → IsLink p x → IsIn x (links p.vnfd)
 in_links p x h =
     let low : 0 ≤ h.0 = omega arith in
     let within : h.0 < 0 + length p.vnfd.links = omega (arith, h.1) in
-    subst (λ (y : Def). IsIn y (links p.vnfd)) (sym h.2) (in_map link_def h.0 (range_with_len 0 (length p.vnfd.links)) (in_range h.0 0 (length p.vnfd.links) low within))
+    subst (λ (y : Def). IsIn y (links p.vnfd)) (sym h.2) (in_map link_def h.0 (range_with_len 0 (length p.vnfd.links))
+    (in_range h.0 0 (length p.vnfd.links) low within))
 
 -- changes with one verb at some definitions are planned where the definitions are
-all_planned : (p : Case) (v : Verb) (ds : List Def) (x : Change) → ((y : Def) → IsIn y ds → IsPlannedBy p v y) → IsIn x (map (change v) ds) → IsPlanned p x
+all_planned : (p : Case) (v : Verb) (ds : List Def) (x : Change) → ((y : Def) → IsIn y ds → IsPlannedBy p v y) → IsIn x (map (change v) ds)
+    → IsPlanned p x
 all_planned p v ds x f h =
     let from = of_map (change v) x ds h in
     subst (λ (z : Change). IsPlanned p z) from.2 (refl, f from.0 from.1)
@@ -128,7 +138,8 @@ stopped_planned p y h =
     let is = of_defs_of p Compute (there p.vnfd p.held) y runs.0 in
     (stop.0, is.0, is.1, runs.1)
 
-removed_planned : (p : Case) (kind : DefKind) (y : Def) → IsIn y (filter p.held.stands (defs_of p kind (leaving p))) → IsPlannedBy p Remove y
+removed_planned : (p : Case) (kind : DefKind) (y : Def) → IsIn y (filter p.held.stands (defs_of p kind (leaving p)))
+    → IsPlannedBy p Remove y
 removed_planned p kind y h =
     let stands = of_filter p.held.stands y (defs_of p kind (leaving p)) h in
     (stands.1, inl (of_defs_of p kind (leaving p) y stands.0).1)
@@ -192,9 +203,12 @@ in_groups-planned p x h =
     (either x (made p Port) (from_starts p) (all_planned p Create (defs_of p Port (new p)) x (made_planned p Port))
     (either x (map (change Start) (started p)) (from_stops p) (all_planned p Start (started p) x (started_planned p))
     (either x (map (change Stop) (stopped p)) (from_ports p) (all_planned p Stop (stopped p) x (stopped_planned p))
-    (either x (removed p Port) (from_computes p) (all_planned p Remove (filter p.held.stands (defs_of p Port (leaving p))) x (removed_planned p Port))
-    (either x (removed p Compute) (from_storages p) (all_planned p Remove (filter p.held.stands (defs_of p Compute (leaving p))) x (removed_planned p Compute))
-    (either x (removed p Storage) (from_links p) (all_planned p Remove (filter p.held.stands (defs_of p Storage (leaving p))) x (removed_planned p Storage))
+    (either x (removed p Port) (from_computes p) (all_planned p Remove (filter p.held.stands (defs_of p Port (leaving p))) x
+    (removed_planned p Port))
+    (either x (removed p Compute) (from_storages p) (all_planned p Remove (filter p.held.stands (defs_of p Compute (leaving p))) x
+    (removed_planned p Compute))
+    (either x (removed p Storage) (from_links p) (all_planned p Remove (filter p.held.stands (defs_of p Storage (leaving p))) x
+    (removed_planned p Storage))
     (all_planned p Remove (links_removed p) x (link_removed p)))))))))) h
 
 -- each group is in the plan
@@ -227,21 +241,29 @@ at_links p x h = at_storages p x (in_back x (removed p Storage) (from_links p) h
 
 made_in_plan : (p : Case) (y : Def) → IsOf (new p) p y → OfMachine y.kind → IsIn (change Create y) (from_start p)
 made_in_plan p y h (inl is) =
-    at_new_storages p (change Create y) (in_front (change Create y) (made p Storage) (from_new_computes p) (in_map (change Create) y (defs_of p Storage (new p)) (in_defs_of p Storage (new p) y h is)))
+    at_new_storages p (change Create y) (in_front (change Create y) (made p Storage) (from_new_computes p)
+    (in_map (change Create) y (defs_of p Storage (new p)) (in_defs_of p Storage (new p) y h is)))
 made_in_plan p y h (inr (inl is)) =
-    at_new_computes p (change Create y) (in_front (change Create y) (made p Compute) (from_new_ports p) (in_map (change Create) y (defs_of p Compute (new p)) (in_defs_of p Compute (new p) y h is)))
+    at_new_computes p (change Create y) (in_front (change Create y) (made p Compute) (from_new_ports p)
+    (in_map (change Create) y (defs_of p Compute (new p)) (in_defs_of p Compute (new p) y h is)))
 made_in_plan p y h (inr (inr is)) =
-    at_new_ports p (change Create y) (in_front (change Create y) (made p Port) (from_starts p) (in_map (change Create) y (defs_of p Port (new p)) (in_defs_of p Port (new p) y h is)))
+    at_new_ports p (change Create y) (in_front (change Create y) (made p Port) (from_starts p)
+    (in_map (change Create) y (defs_of p Port (new p)) (in_defs_of p Port (new p) y h is)))
 
-taken : (p : Case) (kind : DefKind) (y : Def) → p.held.stands y ≡ true → IsOf (leaving p) p y → y.kind ≡ kind → IsIn (change Remove y) (removed p kind)
+taken : (p : Case) (kind : DefKind) (y : Def) → p.held.stands y ≡ true → IsOf (leaving p) p y → y.kind ≡ kind
+    → IsIn (change Remove y) (removed p kind)
 taken p kind y stands h is =
     in_map (change Remove) y (filter p.held.stands (defs_of p kind (leaving p)))
     (in_filter p.held.stands y (defs_of p kind (leaving p)) (in_defs_of p kind (leaving p) y h is) stands)
 
-removed_in_plan : (p : Case) (y : Def) → p.held.stands y ≡ true → IsOf (leaving p) p y → OfMachine y.kind → IsIn (change Remove y) (from_start p)
-removed_in_plan p y stands h (inl is) = at_storages p (change Remove y) (in_front (change Remove y) (removed p Storage) (from_links p) (taken p Storage y stands h is))
-removed_in_plan p y stands h (inr (inl is)) = at_computes p (change Remove y) (in_front (change Remove y) (removed p Compute) (from_storages p) (taken p Compute y stands h is))
-removed_in_plan p y stands h (inr (inr is)) = at_ports p (change Remove y) (in_front (change Remove y) (removed p Port) (from_computes p) (taken p Port y stands h is))
+removed_in_plan : (p : Case) (y : Def) → p.held.stands y ≡ true → IsOf (leaving p) p y → OfMachine y.kind
+    → IsIn (change Remove y) (from_start p)
+removed_in_plan p y stands h (inl is) = at_storages p (change Remove y)
+    (in_front (change Remove y) (removed p Storage) (from_links p) (taken p Storage y stands h is))
+removed_in_plan p y stands h (inr (inl is)) = at_computes p (change Remove y)
+    (in_front (change Remove y) (removed p Compute) (from_storages p) (taken p Compute y stands h is))
+removed_in_plan p y stands h (inr (inr is)) = at_ports p (change Remove y)
+    (in_front (change Remove y) (removed p Port) (from_computes p) (taken p Port y stands h is))
 
 -- what is planned is in the plan
 planned_in : (p : Case) (v : Verb) (y : Def) → IsPlannedBy p v y → IsIn (change v y) (from_start p)
@@ -256,7 +278,8 @@ planned_in p Remove y h = elim h.1 [
   | inr g ↦
       at_links p (change Remove y)
       (in_map (change Remove) y (links_removed p)
-      (in_if y (removes_links p.ask) (filter p.held.stands (links p.vnfd)) g.0 (in_filter p.held.stands y (links p.vnfd) (in_links p y g.1) h.0)))
+      (in_if y (removes_links p.ask) (filter p.held.stands (links p.vnfd)) g.0
+      (in_filter p.held.stands y (links p.vnfd) (in_links p y g.1) h.0)))
 ]
 planned_in p Start y h =
     at_starts p (change Start y) (in_front (change Start y) (map (change Start) (started p)) (from_stops p)
@@ -276,7 +299,8 @@ in_plan-planned p x h = in_groups-planned p x (subst (λ (xs : List Change). IsI
 pub planned-in_plan : (p : Case) (x : Change) → IsPlanned p x → IsIn x (plan p)
 planned-in_plan p x h =
     let is : change x.verb x.def ≡ x = change_ext (sym h.0) refl refl in
-    subst (λ (z : Change). IsIn z (plan p)) is (subst (λ (xs : List Change). IsIn (change x.verb x.def) xs) (sym (plan-nested p)) (planned_in p x.verb x.def h.1))
+    subst (λ (z : Change). IsIn z (plan p)) is (subst (λ (xs : List Change). IsIn (change x.verb x.def) xs) (sym (plan-nested p))
+    (planned_in p x.verb x.def h.1))
 
 -- a change is in the plan exactly where it is planned
 pub plan_exact : (p : Case) (x : Change) → IsIn x (plan p) ↔ IsPlanned p x

@@ -1,5 +1,6 @@
 -- A plan over a valid descriptor is sorted, so no two of its changes are equal.
-use Rattle.std.proofs.Common.{◌≡◌, ◌≤◌, ◌<◌, ◌+◌, ◌++◌, ◌&&◌, ◌||◌, ◌==◌, ◌∙◌, ℕ, List, [], ◌∷◌, Bool, true, false, not, refl, ap, sym, subst, length, map, filter, flat_map, arith, zero, suc, ◌⊎◌, inl, inr, ltb, lt-ltb, le-ltb, eq-eqb, slice_get}
+use Rattle.std.proofs.Common.{◌≡◌, ◌≤◌, ◌<◌, ◌+◌, ◌++◌, ◌&&◌, ◌||◌, ◌==◌, ◌∙◌, ℕ, List, [], ◌∷◌, Bool, true, false, not, refl, ap, sym}
+use Rattle.std.proofs.Common.{subst, length, map, filter, flat_map, arith, zero, suc, ◌⊎◌, inl, inr, ltb, lt-ltb, le-ltb, eq-eqb, slice_get}
 use Rattle.std.specs.List.{enumerate_from, list_all, range_with_len}
 use Rattle.std.specs.Option.{option_map_or}
 use Rattle.lcm_events.specs.declared.asks.Ask.{Ask}
@@ -14,19 +15,23 @@ use Rattle.lcm_events.specs.declared.descriptor.Vdu.{Vdu}
 use Rattle.lcm_events.specs.declared.descriptor.Vnfd.{Vnfd}
 use Rattle.lcm_model.specs.Words.{IsIn, is_among}
 use Rattle.lcm_model.specs.Vnfcs.{def_of, defs, is_there, is_whole, items, link_def, links, ports_of, there, vdu_numbers}
-use Rattle.lcm_model.specs.Plans.{Case, change, defs_of, is_named, leaving, links_made, links_removed, made, makes_links, may_stay, new, new_by, phase, plan, removed, removes_links, started, starts, stay, stay_by, stopped, stops, want}
+use Rattle.lcm_model.specs.Plans.{Case, change, defs_of, is_named, leaving, links_made, links_removed, made, makes_links, may_stay, new}
+use Rattle.lcm_model.specs.Plans.{new_by, phase, plan, removed, removes_links, started, starts, stay, stay_by, stopped, stops, want}
 use Rattle.lcm_model.specs.Planned.{AreInOrder, IsBeforeAll, is_before, key}
 use Rattle.lcm_model.specs.Descriptors.{IsValid, is_valid_vdu}
 use Rattle.lcm_laws.specs.Planning.{AreDistinct}
 use Rattle.lcm_laws.proofs.Lists.{and_left, and_right, and_true, by_test}
-use Rattle.lcm_laws.proofs.Members.{Less, Rises, in_either, of_filter, of_flat_map, of_if, of_map, rises_append, rises_filter, rises_flat_map, rises_if, rises_map, rises_range, rises_take, rising_rises}
-use Rattle.lcm_laws.proofs.PlanMembers.{from_computes, from_links, from_new_computes, from_new_ports, from_new_storages, from_ports, from_start, from_starts, from_stops, from_storages, of_defs, of_defs_of, plan-nested}
+use Rattle.lcm_laws.proofs.Members.{Less, Rises, in_either, of_filter, of_flat_map, of_if, of_map, rises_append, rises_filter}
+use Rattle.lcm_laws.proofs.Members.{rises_flat_map, rises_if, rises_map, rises_range, rises_take, rising_rises}
+use Rattle.lcm_laws.proofs.PlanMembers.{from_computes, from_links, from_new_computes, from_new_ports, from_new_storages, from_ports}
+use Rattle.lcm_laws.proofs.PlanMembers.{from_start, from_starts, from_stops, from_storages, of_defs, of_defs_of, plan-nested}
 
 -- the items of a kind rise
 vdu_storages : (d : Vnfd) (u : Vdu) → is_valid_vdu d u ≡ true → Rises Less u.storages
 vdu_storages d u h = rising_rises u.storages (and_right _ _ (and_left _ _ h))
 
-storages_rise : (d : Vnfd) (us : List Vdu) (v : ℕ) → list_all (is_valid_vdu d) us ≡ true → Rises Less (option_map_or (λ u. u.storages) (slice_get us v) [])
+storages_rise : (d : Vnfd) (us : List Vdu) (v : ℕ) → list_all (is_valid_vdu d) us ≡ true
+    → Rises Less (option_map_or (λ u. u.storages) (slice_get us v) [])
 storages_rise d [] v h = tt
 storages_rise d (u ∷ us) zero h = vdu_storages d u (and_left (is_valid_vdu d u) (list_all (is_valid_vdu d) us) h)
 storages_rise d (u ∷ us) (suc v) h = storages_rise d us v (and_right (is_valid_vdu d u) (list_all (is_valid_vdu d) us) h)
@@ -62,7 +67,8 @@ Earlier x y =
 
 defs_rise : (d : Vnfd) (kind : DefKind) (v s : ℕ) → IsValid d → Rises Earlier (defs d kind v s)
 defs_rise d kind v s valid =
-    rises_map Less Earlier (def_of kind v s) (items d kind v) (λ a b ha hb less. (refl, inr (refl, inr (refl, less)))) (items_rise d kind v valid)
+    rises_map Less Earlier (def_of kind v s) (items d kind v) (λ a b ha hb less. (refl, inr (refl, inr (refl, less))))
+    (items_rise d kind v valid)
 
 by_serial : (d : Vnfd) (kind : DefKind) (v r s : ℕ) (x y : Def) → r < s → IsIn x (defs d kind v r) → IsIn y (defs d kind v s) → Earlier x y
 by_serial d kind v r s x y less hx hy =
@@ -79,7 +85,8 @@ by_vdu d kind serials u v x y less hx hy =
     let b = of_defs d kind v from_y.0 y from_y.2 in
     (a.0 ∙ sym b.0, inl (omega (arith, less, a.1, b.1)))
 
-machines_rise : (p : Case) (kind : DefKind) (serials : ℕ → List ℕ) → IsValid p.vnfd → ((v : ℕ) → Rises Less (serials v)) → Rises Earlier (defs_of p kind serials)
+machines_rise : (p : Case) (kind : DefKind) (serials : ℕ → List ℕ) → IsValid p.vnfd → ((v : ℕ) → Rises Less (serials v))
+    → Rises Earlier (defs_of p kind serials)
 machines_rise p kind serials valid h =
     rises_flat_map Less Earlier (λ v. flat_map (defs p.vnfd kind v) (serials v)) (vdu_numbers p.vnfd) (rises_range 0 (length p.vnfd.vdus))
     (λ v within.
@@ -108,10 +115,13 @@ may_stay_rises p (Operate started stop) v = there_rises p v
 
 stay_by_rises : (p : Case) (ask : Ask) (v : ℕ) → Rises Less (stay_by ask p v)
 stay_by_rises p (Operate started stop) v = may_stay_rises p (Operate started stop) v
-stay_by_rises p (Instantiate flavour level) v = rises_take Less (want p v) (may_stay (Instantiate flavour level) p v) (may_stay_rises p (Instantiate flavour level) v)
-stay_by_rises p (Terminate mode timeout) v = rises_take Less (want p v) (may_stay (Terminate mode timeout) p v) (may_stay_rises p (Terminate mode timeout) v)
+stay_by_rises p (Instantiate flavour level) v = rises_take Less (want p v) (may_stay (Instantiate flavour level) p v)
+    (may_stay_rises p (Instantiate flavour level) v)
+stay_by_rises p (Terminate mode timeout) v = rises_take Less (want p v) (may_stay (Terminate mode timeout) p v)
+    (may_stay_rises p (Terminate mode timeout) v)
 stay_by_rises p (Heal cause named) v = rises_take Less (want p v) (may_stay (Heal cause named) p v) (may_stay_rises p (Heal cause named) v)
-stay_by_rises p (Scale way aspect steps) v = rises_take Less (want p v) (may_stay (Scale way aspect steps) p v) (may_stay_rises p (Scale way aspect steps) v)
+stay_by_rises p (Scale way aspect steps) v = rises_take Less (want p v) (may_stay (Scale way aspect steps) p v)
+    (may_stay_rises p (Scale way aspect steps) v)
 stay_by_rises p (ScaleToLevel aim) v = rises_take Less (want p v) (may_stay (ScaleToLevel aim) p v) (may_stay_rises p (ScaleToLevel aim) v)
 
 leaving_rises : (p : Case) (v : ℕ) → Rises Less (leaving p v)
@@ -138,7 +148,8 @@ lead_same k n ks ns e h = or_right (ltb k n) ((k == n) && is_before ks ns) (and_
 
 earlier_before : (verb : Verb) (x y : Def) → Earlier x y → Before (change verb x) (change verb y)
 earlier_before verb x y h =
-    lead_same (phase verb x.kind) (phase verb y.kind) (x.vdu ∷ x.serial ∷ x.item ∷ []) (y.vdu ∷ y.serial ∷ y.item ∷ []) (ap (phase verb) h.0)
+    lead_same (phase verb x.kind) (phase verb y.kind) (x.vdu ∷ x.serial ∷ x.item ∷ []) (y.vdu ∷ y.serial ∷ y.item ∷ [])
+    (ap (phase verb) h.0)
     (elim h.1 [
       | inl less ↦ lead_less x.vdu y.vdu (x.serial ∷ x.item ∷ []) (y.serial ∷ y.item ∷ []) less
       | inr same ↦
@@ -181,7 +192,8 @@ last_group : (n : ℕ) (xs : List Change) → Group n xs → Ordered n xs
 last_group n xs h = (h.0, λ x within. let e = h.1 x within in omega (arith, e))
 
 -- the changes with one verb at definitions of one kind in order are a group
-group : (verb : Verb) (kind : DefKind) (n : ℕ) (ds : List Def) → phase verb kind ≡ n → Rises Earlier ds → ((x : Def) → IsIn x ds → x.kind ≡ kind)
+group : (verb : Verb) (kind : DefKind) (n : ℕ) (ds : List Def) → phase verb kind ≡ n → Rises Earlier ds
+    → ((x : Def) → IsIn x ds → x.kind ≡ kind)
     → Group n (map (change verb) ds)
 group verb kind n ds is h kinds = (
   rises_map Earlier Before (change verb) ds (λ x y hx hy earlier. earlier_before verb x y earlier) h,
@@ -215,13 +227,15 @@ links_removed_group : (p : Case) → Group 8 (map (change Remove) (links_removed
 links_removed_group p =
     group Remove Link 8 (links_removed p) refl
     (rises_if Earlier (removes_links p.ask) _ (rises_filter Earlier p.held.stands (links p.vnfd) (links_rise p)))
-    (λ x h. link_kind p x (of_filter p.held.stands x (links p.vnfd) (of_if x (removes_links p.ask) (filter p.held.stands (links p.vnfd)) h).1).0)
+    (λ x h. link_kind p x (of_filter p.held.stands x (links p.vnfd)
+    (of_if x (removes_links p.ask) (filter p.held.stands (links p.vnfd)) h).1).0)
 
 started_group : (p : Case) → IsValid p.vnfd → Group 4 (map (change Start) (started p))
 started_group p valid =
     group Start Compute 4 (started p) refl
     (rises_if Earlier (starts p.ask) _
-    (rises_filter Earlier (λ x. p.held.stands x && not (p.held.runs x)) (defs_of p Compute (stay p)) (machines_rise p Compute (stay p) valid (stay_by_rises p p.ask))))
+    (rises_filter Earlier (λ x. p.held.stands x && not (p.held.runs x)) (defs_of p Compute (stay p))
+    (machines_rise p Compute (stay p) valid (stay_by_rises p p.ask))))
     (λ x h. (of_defs_of p Compute (stay p) x (of_filter (λ x. p.held.stands x && not (p.held.runs x)) x (defs_of p Compute (stay p))
     (of_if x (starts p.ask) (filter (λ x. p.held.stands x && not (p.held.runs x)) (defs_of p Compute (stay p))) h).1).0).0)
 
@@ -229,15 +243,18 @@ stopped_group : (p : Case) → IsValid p.vnfd → Group 4 (map (change Stop) (st
 stopped_group p valid =
     group Stop Compute 4 (stopped p) refl
     (rises_if Earlier (stops p.ask) _
-    (rises_filter Earlier p.held.runs (defs_of p Compute (there p.vnfd p.held)) (machines_rise p Compute (there p.vnfd p.held) valid (there_rises p))))
+    (rises_filter Earlier p.held.runs (defs_of p Compute (there p.vnfd p.held))
+    (machines_rise p Compute (there p.vnfd p.held) valid (there_rises p))))
     (λ x h. (of_defs_of p Compute (there p.vnfd p.held) x (of_filter p.held.runs x (defs_of p Compute (there p.vnfd p.held))
     (of_if x (stops p.ask) (filter p.held.runs (defs_of p Compute (there p.vnfd p.held))) h).1).0).0)
 
 ports_ordered : (p : Case) → IsValid p.vnfd → Ordered 5 (from_ports p)
 ports_ordered p valid =
     let links : Ordered 8 (from_links p) = last_group 8 (from_links p) (links_removed_group p) in
-    let storages : Ordered 7 (from_storages p) = join 7 8 (removed p Storage) (from_links p) (omega arith) (removed_group p Storage 7 valid refl) links in
-    let computes : Ordered 6 (from_computes p) = join 6 7 (removed p Compute) (from_storages p) (omega arith) (removed_group p Compute 6 valid refl) storages in
+    let storages : Ordered 7 (from_storages p) = join 7 8 (removed p Storage) (from_links p) (omega arith)
+    (removed_group p Storage 7 valid refl) links in
+    let computes : Ordered 6 (from_computes p) = join 6 7 (removed p Compute) (from_storages p) (omega arith)
+    (removed_group p Compute 6 valid refl) storages in
     join 5 6 (removed p Port) (from_computes p) (omega arith) (removed_group p Port 5 valid refl) computes
 
 -- no ask both starts and stops
@@ -258,14 +275,18 @@ starts_ordered p valid = by_test (starts p.ask)
     join 4 5 (map (change Start) (started p)) (from_stops p) (omega arith) (started_group p valid) stops)
     (λ still.
     let none : started p ≡ [] = rw still refl in
-    let stops : Ordered 4 (from_stops p) = join 4 5 (map (change Stop) (stopped p)) (from_ports p) (omega arith) (stopped_group p valid) (ports_ordered p valid) in
+    let stops : Ordered 4 (from_stops p) = join 4 5 (map (change Stop) (stopped p)) (from_ports p) (omega arith) (stopped_group p valid)
+    (ports_ordered p valid) in
     subst (λ (ds : List Def). Ordered 4 (map (change Start) ds ++ from_stops p)) (sym none) stops)
 
 groups_ordered : (p : Case) → IsValid p.vnfd → Ordered 0 (from_start p)
 groups_ordered p valid =
-    let ports : Ordered 3 (from_new_ports p) = join 3 4 (made p Port) (from_starts p) (omega arith) (made_group p Port 3 valid refl) (starts_ordered p valid) in
-    let computes : Ordered 2 (from_new_computes p) = join 2 3 (made p Compute) (from_new_ports p) (omega arith) (made_group p Compute 2 valid refl) ports in
-    let storages : Ordered 1 (from_new_storages p) = join 1 2 (made p Storage) (from_new_computes p) (omega arith) (made_group p Storage 1 valid refl) computes in
+    let ports : Ordered 3 (from_new_ports p) = join 3 4 (made p Port) (from_starts p) (omega arith) (made_group p Port 3 valid refl)
+    (starts_ordered p valid) in
+    let computes : Ordered 2 (from_new_computes p) = join 2 3 (made p Compute) (from_new_ports p) (omega arith)
+    (made_group p Compute 2 valid refl) ports in
+    let storages : Ordered 1 (from_new_storages p) = join 1 2 (made p Storage) (from_new_computes p) (omega arith)
+    (made_group p Storage 1 valid refl) computes in
     join 0 1 (map (change Create) (links_made p)) (from_new_storages p) (omega arith) (links_made_group p) storages
 
 pub plan_rises : (p : Case) → IsValid p.vnfd → Rises Before (plan p)

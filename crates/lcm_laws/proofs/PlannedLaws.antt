@@ -1,5 +1,6 @@
 -- A plan fits what stands: what it makes doesn't, and what else it touches does.
-use Rattle.std.proofs.Common.{◌≡◌, ◌≤◌, ◌<◌, ◌+◌, ◌-◌, ℕ, List, [], ◌∷◌, false, Option, None, Some, refl, ap, subst, arith, suc, zero, inl, inr, length, take}
+use Rattle.std.proofs.Common.{◌≡◌, ◌≤◌, ◌<◌, ◌+◌, ◌-◌, ℕ, List, [], ◌∷◌, false, Option, None, Some, refl, ap, subst, arith, suc, zero, inl}
+use Rattle.std.proofs.Common.{inr, length, take}
 use Rattle.std.specs.List.{range_with_len}
 use Rattle.std.proofs.lemmas.List.FromFn.{length-range_with_len}
 use Rattle.lcm_events.specs.declared.asks.Ask.{Ask}
@@ -49,7 +50,8 @@ make_absent width m H d i ask Create x legal is (inl h) = by_test (stands H i x)
 make_absent width m H d i ask Create x legal is (inr h) = h.2
 make_absent width m H d i ask _ x legal is h = cc
 
-asked_absent_of : (width m : ℕ) (H : List Event) (a : Operation) (d : Option Vnfd) → IsLegalWithin width m H → IsPlanOf H a d → (k : Change) → IsIn k a.changes
+asked_absent_of : (width m : ℕ) (H : List Event) (a : Operation) (d : Option Vnfd) → IsLegalWithin width m H → IsPlanOf H a d → (k : Change)
+    → IsIn k a.changes
     → k.verb ≡ Create → stands H a.instance k.def ≡ false
 asked_absent_of width m H a None legal h k has is = absurd h
 asked_absent_of width m H a (Some d) legal h k has is =
@@ -57,12 +59,14 @@ asked_absent_of width m H a (Some d) legal h k has is =
     make_absent width m H d a.instance a.ask k.verb k.def legal is (in_plan-planned p k (subst (λ (ks : List Change). IsIn k ks) h.1 has)).1
 
 -- what a plan makes doesn't stand when it is planned
-pub asked_absent : (width m : ℕ) (H : List Event) (a : Operation) → IsLegalWithin width m H → IsAllowedWithin width m H (Asked a) → (k : Change) → IsIn k a.changes
+pub asked_absent : (width m : ℕ) (H : List Event) (a : Operation) → IsLegalWithin width m H → IsAllowedWithin width m H (Asked a)
+    → (k : Change) → IsIn k a.changes
     → k.verb ≡ Create → stands H a.instance k.def ≡ false
 asked_absent width m H a legal allowed = asked_absent_of width m H a (descriptor H a.instance) legal allowed.planned
 
 -- a plan fits what stands
-pub plan_fits : (width m : ℕ) (H : List Event) (a : Operation) → IsLegalWithin width m H → IsAllowedWithin width m H (Asked a) → (k : Change) → IsIn k a.changes
+pub plan_fits : (width m : ℕ) (H : List Event) (a : Operation) → IsLegalWithin width m H → IsAllowedWithin width m H (Asked a)
+    → (k : Change) → IsIn k a.changes
     → FitsWhatStands H a.instance k
 plan_fits width m H a legal allowed k has = record {
   makes = λ is. asked_absent width m H a legal allowed k has is;

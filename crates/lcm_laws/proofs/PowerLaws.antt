@@ -23,12 +23,14 @@ runs_by Start running e = e
 runs_by Stop running e = e
 runs_by Remove running e = e
 
-effect_of : (H : List Event) (t : Tag) (name : List ℕ) (a : Operation) (k : Change) → operation H t.occ ≡ Some a → slice_get a.changes t.change ≡ Some k
+effect_of : (H : List Event) (t : Tag) (name : List ℕ) (a : Operation) (k : Change) → operation H t.occ ≡ Some a
+    → slice_get a.changes t.change ≡ Some k
     → effect_in H (Settled t (Done name)) ≡ Some (effect t name a k)
 unfolding effect_in
 effect_of H t name a k found is = rw (found, is) refl
 
-left_running : (H : List Event) (time : ℕ) (t : Tag) (name : List ℕ) (a : Operation) (k : Change) → effect_in H (Settled t (Done name)) ≡ Some (effect t name a k)
+left_running : (H : List Event) (time : ℕ) (t : Tag) (name : List ℕ) (a : Operation) (k : Change)
+    → effect_in H (Settled t (Done name)) ≡ Some (effect t name a k)
     → k.def.kind ≡ Compute → runs (event time (Settled t (Done name)) ∷ H) a.instance k.def ≡ leaves_it_running (verb_done t.way k.verb)
 left_running H time t name a k eff is =
     let kind : same_kind k.def.kind Compute ≡ true = ap (λ (z : DefKind). same_kind z Compute) is in
@@ -37,7 +39,8 @@ left_running H time t name a k eff is =
     rw (eff, kind, here, same) refl
 
 -- a compute runs as what was done to it last left it
-pub runs_left : (H : List Event) (time : ℕ) (t : Tag) (name : List ℕ) (a : Operation) (k : Change) → operation H t.occ ≡ Some a → slice_get a.changes t.change ≡ Some k
+pub runs_left : (H : List Event) (time : ℕ) (t : Tag) (name : List ℕ) (a : Operation) (k : Change) → operation H t.occ ≡ Some a
+    → slice_get a.changes t.change ≡ Some k
     → k.def.kind ≡ Compute → RunsAfter (verb_done t.way k.verb) (runs (event time (Settled t (Done name)) ∷ H) a.instance k.def)
 runs_left H time t name a k found is compute =
     runs_by (verb_done t.way k.verb) (runs (event time (Settled t (Done name)) ∷ H) a.instance k.def)

@@ -1,5 +1,6 @@
 -- No serial is greater than the number of changes that were asked for.
-use Rattle.std.proofs.Common.{◌≡◌, ◌≤◌, ◌<◌, ◌+◌, ℕ, List, [], ◌∷◌, Bool, true, false, if◌then◌else◌, Option, None, Some, refl, ap, sym, subst, length, map, filter, arith, inl, inr, zero, suc, eqb-true}
+use Rattle.std.proofs.Common.{◌≡◌, ◌≤◌, ◌<◌, ◌+◌, ℕ, List, [], ◌∷◌, Bool, true, false, if◌then◌else◌, Option, None, Some, refl, ap, sym}
+use Rattle.std.proofs.Common.{subst, length, map, filter, arith, inl, inr, zero, suc, eqb-true}
 use Rattle.std.proofs.lemmas.List.{length-map}
 use Rattle.std.specs.List.{range_with_len}
 use Rattle.lcm_events.specs.declared.asks.Ask.{Ask}
@@ -61,7 +62,8 @@ new_few p v within =
     let count : length (map (made_at v) (new p v)) ≤ length (plan p) = few (map (made_at v) (new p v)) (plan p) differ (λ x h.
     let from = of_map (made_at v) x (new p v) h in
     subst (λ (z : Change). IsIn z (plan p)) from.2
-    (planned-in_plan p (made_at v from.0) (refl, inl (within, from.1, in_all p.vnfd Compute v from.0 (compute_def v from.0) (inl refl))))) in
+    (planned-in_plan p (made_at v from.0) (refl, inl (within, from.1, in_all p.vnfd Compute v from.0 (compute_def v from.0) (inl refl)))))
+    in
     let same = length-map (new p v) (made_at v) in
     omega (arith, count, same)
 
@@ -104,10 +106,12 @@ plan_within p v = greatest_within (p.held.top v + length (plan p)) (map serial_o
     subst (λ (k : ℕ). k ≤ p.held.top v + length (plan p)) from.2
     (subst (λ (w : ℕ). from.0.def.serial ≤ p.held.top w + length (plan p)) at serial))
 
-asked_within : (H : List Event) (a : Operation) (o : Option Vnfd) → IsPlanOf H a o → (v : ℕ) → top_of v a.changes ≤ top H a.instance v + length a.changes
+asked_within : (H : List Event) (a : Operation) (o : Option Vnfd) → IsPlanOf H a o → (v : ℕ)
+    → top_of v a.changes ≤ top H a.instance v + length a.changes
 asked_within H a None h v = absurd h
 asked_within H a (Some d) h v =
-    subst (λ (xs : List Change). top_of v xs ≤ top H a.instance v + length xs) (sym h.1) (plan_within (case_in d (situation d H a.instance) a.ask) v)
+    subst (λ (xs : List Change). top_of v xs ≤ top H a.instance v + length xs) (sym h.1)
+    (plan_within (case_in d (situation d H a.instance) a.ask) v)
 
 grown : (b : Bool) (v : ℕ) (a : Operation) (xs : List Operation) (n : ℕ) → top_in v a ≤ length a.changes + n
     → greatest (map (top_in v) xs) ≤ n → greatest (map (top_in v) (if b then a ∷ xs else xs)) ≤ length a.changes + n
@@ -118,14 +122,16 @@ grown false v a xs n own h = omega (arith, h)
 abbrev AreCounted : List Event → Type 0
 AreCounted H = (i v : ℕ) → top H i v ≤ changes_asked H
 
-own_within : (width m : ℕ) (H : List Event) (b : Operation) → IsAllowedWithin width m H (Asked b) → AreCounted H → (v : ℕ) → top_in v b ≤ length b.changes + changes_asked H
+own_within : (width m : ℕ) (H : List Event) (b : Operation) → IsAllowedWithin width m H (Asked b) → AreCounted H → (v : ℕ)
+    → top_in v b ≤ length b.changes + changes_asked H
 unfolding top_in
 own_within width m H b allowed h v =
     let own = asked_within H b (descriptor H b.instance) allowed.planned v in
     let before = h b.instance v in
     omega (arith, own, before)
 
-counted_step : (width m : ℕ) (H : List Event) (time : ℕ) (k : EventKind) → IsAllowedWithin width m H k → AreCounted H → AreCounted (event time k ∷ H)
+counted_step : (width m : ℕ) (H : List Event) (time : ℕ) (k : EventKind) → IsAllowedWithin width m H k → AreCounted H
+    → AreCounted (event time k ∷ H)
 counted_step width m H time (Asked b) allowed h i v =
     grown (is_of_instance i b) v b (filter (is_of_instance i) (operations H)) (changes_asked H) (own_within width m H b allowed h v) (h i v)
 counted_step width m H time _ allowed h i v = h i v

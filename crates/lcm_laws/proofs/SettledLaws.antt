@@ -1,5 +1,6 @@
 -- What an attempt that ends does to nets and to what stands.
-use Rattle.std.proofs.Common.{◌≡◌, ◌≤◌, ◌+◌, ◌-◌, ◌&&◌, ◌==◌, ◌∙◌, ℕ, List, [], ◌∷◌, Bool, true, false, cond, Option, None, Some, refl, ap, sym, subst, length, find, arith, suc, inl, inr, ◌⊎◌, eqb-true, eq-eqb, slice_get}
+use Rattle.std.proofs.Common.{◌≡◌, ◌≤◌, ◌+◌, ◌-◌, ◌&&◌, ◌==◌, ◌∙◌, ℕ, List, [], ◌∷◌, Bool, true, false, cond, Option, None, Some, refl, ap}
+use Rattle.std.proofs.Common.{sym, subst, length, find, arith, suc, inl, inr, ◌⊎◌, eqb-true, eq-eqb, slice_get}
 use Rattle.std.specs.Option.{option_map_or}
 use Rattle.std.specs.Prelude.{option_map}
 use Rattle.lcm_events.specs.Same.{same_def, same_way}
@@ -56,7 +57,8 @@ find-own f (x ∷ xs) b h (inr g) = by_test (f x == f b)
     (λ other. rw other (find-own f xs b h.1 g))
 
 -- an operation of the instance whose state isn't final is among those that go on
-pub going_in : (H : List Event) (i o : ℕ) (a : Operation) → operation H o ≡ Some a → a.instance ≡ i → is_final (state H o) ≡ false → IsIn a (ongoing H i)
+pub going_in : (H : List Event) (i o : ℕ) (a : Operation) → operation H o ≡ Some a → a.instance ≡ i → is_final (state H o) ≡ false
+    → IsIn a (ongoing H i)
 unfolding goes_on
 going_in H i o a found at goes =
     let number : a.occ ≡ o = found_number (λ x. x.occ) (operations H) o a found in
@@ -64,7 +66,8 @@ going_in H i o a found at goes =
     in_filter (is_ongoing H i) a (operations H) (found_in (λ x. x.occ == o) (operations H) a found)
     (and_true (a.instance == i) (goes_on H a) (eq-eqb a.instance i at) (not-false (is_final (state H a.occ)) still))
 
-pub idle_none : (H : List Event) (i o : ℕ) (a : Operation) → ongoing H i ≡ [] → operation H o ≡ Some a → a.instance ≡ i → is_final (state H o) ≡ false → ⊥
+pub idle_none : (H : List Event) (i o : ℕ) (a : Operation) → ongoing H i ≡ [] → operation H o ≡ Some a → a.instance ≡ i
+    → is_final (state H o) ≡ false → ⊥
 idle_none H i o a none found at goes = subst (λ (xs : List Operation). IsIn a xs) none (going_in H i o a found at goes)
 
 sole_entry : {A : Type 0} → (xs : List A) (a b : A) → length xs ≤ 1 → IsIn a xs → IsIn b xs → a ≡ b
@@ -75,11 +78,14 @@ sole_entry (x ∷ []) a b h (inl ea) (inr g) = absurd g
 sole_entry (x ∷ y ∷ xs) a b h ga gb = absurd (omega (arith, h))
 
 -- two operations of an instance that go on are one
-pub one_going : (width m : ℕ) (H : List Event) (i o n : ℕ) (a b : Operation) → IsLegalWithin width m H → operation H o ≡ Some a → a.instance ≡ i → is_final (state H o) ≡ false
+pub one_going : (width m : ℕ) (H : List Event) (i o n : ℕ) (a b : Operation) → IsLegalWithin width m H → operation H o ≡ Some a
+    → a.instance ≡ i → is_final (state H o) ≡ false
     → operation H n ≡ Some b → b.instance ≡ i → is_final (state H n) ≡ false → n ≡ o
 one_going width m H i o n a b legal fa ia ga fb ib gb =
-    let same : a ≡ b = sole_entry (ongoing H i) a b (one_ongoing width m H legal i) (going_in H i o a fa ia ga) (going_in H i n b fb ib gb) in
-    sym (found_number (λ x. x.occ) (operations H) n b fb) ∙ (ap (λ (x : Operation). x.occ) (sym same) ∙ found_number (λ x. x.occ) (operations H) o a fa)
+    let same : a ≡ b = sole_entry (ongoing H i) a b (one_ongoing width m H legal i) (going_in H i o a fa ia ga)
+    (going_in H i n b fb ib gb) in
+    sym (found_number (λ x. x.occ) (operations H) n b fb) ∙ (ap (λ (x : Operation). x.occ) (sym same)
+    ∙ found_number (λ x. x.occ) (operations H) o a fa)
 
 pub works_on : (w : Way) → is_final (works_in w) ≡ false
 works_on Forward = refl
@@ -135,7 +141,8 @@ DoesNothing H time u out a =
 -- a change of the operation is done
 abbrev pub DoesChange : List Event → Tag → Outcome → Operation → Type 0
 DoesChange H u out a =
-    (name : List ℕ) × (k : Change) × (out ≡ Done name) × (slice_get a.changes u.change ≡ Some k) × (effect_in H (Settled u out) ≡ Some (effect u name a k))
+    (name : List ℕ) × (k : Change) × (out ≡ Done name) × (slice_get a.changes u.change ≡ Some k)
+    × (effect_in H (Settled u out) ≡ Some (effect u name a k))
 
 done_effect : (H : List Event) (time : ℕ) (u : Tag) (name : List ℕ) (a : Operation) (k : Option Change) → operation H u.occ ≡ Some a
     → slice_get a.changes u.change ≡ k → DoesNothing H time u (Done name) a ⊎ DoesChange H u (Done name) a
@@ -169,6 +176,7 @@ stands_cond : (b : Bool) (y : Effect) (ys : List Effect)
 stands_cond true y ys = refl
 stands_cond false y ys = refl
 
-pub stands-done : (H : List Event) (time : ℕ) (u : Tag) (out : Outcome) (i : ℕ) (x : Def) (y : Effect) → effect_in H (Settled u out) ≡ Some y
+pub stands-done : (H : List Event) (time : ℕ) (u : Tag) (out : Outcome) (i : ℕ) (x : Def) (y : Effect)
+    → effect_in H (Settled u out) ≡ Some y
     → stands (event time (Settled u out) ∷ H) i x ≡ cond ((y.instance == i) && same_def y.def x) (leaves_it y.verb) (stands H i x)
 stands-done H time u out i x y e = rw e (stands_cond (is_effect_on i x y) y (effects H i x))

@@ -1,5 +1,6 @@
 -- What stands of an instance is of its descriptor.
-use Rattle.std.proofs.Common.{◌≡◌, ◌≤◌, ◌+◌, ◌&&◌, ◌==◌, ◌∙◌, ℕ, List, [], ◌∷◌, true, false, not, Option, None, Some, refl, ap, sym, subst, length, map, filter, find, arith, ◌⊎◌, inl, inr, ltb, lt-ltb, eqb-true, eq-eqb, slice_get}
+use Rattle.std.proofs.Common.{◌≡◌, ◌≤◌, ◌+◌, ◌&&◌, ◌==◌, ◌∙◌, ℕ, List, [], ◌∷◌, true, false, not, Option, None, Some, refl, ap, sym, subst}
+use Rattle.std.proofs.Common.{length, map, filter, find, arith, ◌⊎◌, inl, inr, ltb, lt-ltb, eqb-true, eq-eqb, slice_get}
 use Rattle.std.specs.List.{cons_option, range_with_len}
 use Rattle.std.specs.Option.{option_map_or}
 use Rattle.std.specs.Prelude.{option_and_then, option_map}
@@ -24,7 +25,8 @@ use Rattle.lcm_events.specs.declared.events.Operation.{Operation}
 use Rattle.lcm_model.specs.declared.holding.Effect.{Effect}
 use Rattle.lcm_model.specs.Words.{IsIn, first, greatest, is_among, told}
 use Rattle.lcm_model.specs.Operations.{asked_in, operation, operations}
-use Rattle.lcm_model.specs.Holding.{effect, effect_done, effect_in, effects, is_effect_on, is_of_instance, is_of_vdu, leaves_it, serial_of, stands, top, top_in, top_of}
+use Rattle.lcm_model.specs.Holding.{effect, effect_done, effect_in, effects, is_effect_on, is_of_instance, is_of_vdu, leaves_it, serial_of}
+use Rattle.lcm_model.specs.Holding.{stands, top, top_in, top_of}
 use Rattle.lcm_model.specs.Lives.{CreatedInstance, creation, creations, descriptor, descriptor_named, descriptors}
 use Rattle.lcm_model.specs.Vnfcs.{def_of, is_def_in, is_def_of, is_there, is_whole, items, there}
 use Rattle.lcm_model.specs.Plans.{Case, is_named, leaving, may_stay, new_by, plan, stay, stay_by, want}
@@ -150,7 +152,8 @@ onboarded-next : (H : List Event) (x d : Vnfd) (c : Option CreatedInstance) → 
 onboarded-next H x d None unknown e = cc
 onboarded-next H x d (Some c) unknown e = named-next H x d c.vnfd unknown e
 
-created-next : (width m : ℕ) (H : List Event) (b : CreatedInstance) (i : ℕ) (d : Vnfd) (c : Option CreatedInstance) → IsLegalWithin width m H
+created-next : (width m : ℕ) (H : List Event) (b : CreatedInstance) (i : ℕ) (d : Vnfd) (c : Option CreatedInstance)
+    → IsLegalWithin width m H
     → b.instance ≡ length (creations H) + 1 → creation H i ≡ c → option_and_then (λ c. descriptor_named H c.vnfd) c ≡ Some d
     → option_and_then (λ c. descriptor_named H c.vnfd) (find (λ x. x.instance == i) (b ∷ creations H)) ≡ Some d
 created-next width m H b i d None legal number is e = cc
@@ -158,7 +161,8 @@ created-next width m H b i d (Some c) legal number is e =
     rw (find-skips (λ x. x.instance) b (creations H) i c number (instances_counted width m H legal) is) e
 
 -- the descriptor of an instance stays
-pub descriptor-next : (width m : ℕ) (H : List Event) (time : ℕ) (k : EventKind) (i : ℕ) (d : Vnfd) → IsLegalWithin width m H → IsAllowedWithin width m H k
+pub descriptor-next : (width m : ℕ) (H : List Event) (time : ℕ) (k : EventKind) (i : ℕ) (d : Vnfd) → IsLegalWithin width m H
+    → IsAllowedWithin width m H k
     → descriptor H i ≡ Some d → descriptor (event time k ∷ H) i ≡ Some d
 descriptor-next width m H time (Onboarded x) i d legal allowed e = onboarded-next H x d (creation H i) allowed.unknown e
 descriptor-next width m H time (Created j vnfd name text) i d legal allowed e =
@@ -203,7 +207,8 @@ new_from_one p (Terminate mode timeout) v s h = absurd h
 new_from_one p _ v s h = above_one (p.held.top v) s _ h
 
 -- a planned definition is the descriptor's
-def_in_kind : (d : Vnfd) (kind : DefKind) (y : Def) → OfMachine kind → ltb y.vdu (length d.vdus) ≡ true → is_among (items d kind y.vdu) y.item ≡ true
+def_in_kind : (d : Vnfd) (kind : DefKind) (y : Def) → OfMachine kind → ltb y.vdu (length d.vdus) ≡ true
+    → is_among (items d kind y.vdu) y.item ≡ true
     → ltb 0 y.serial ≡ true → is_def_in d kind y ≡ true
 def_in_kind d Link y (inl e) a b c = cc
 def_in_kind d Link y (inr (inl e)) a b c = cc
@@ -212,7 +217,8 @@ def_in_kind d Storage y h a b c = and_true _ _ (and_true _ _ a b) c
 def_in_kind d Compute y h a b c = and_true _ _ (and_true _ _ a b) c
 def_in_kind d Port y h a b c = and_true _ _ (and_true _ _ a b) c
 
-of_machine : (p : Case) (serials : ℕ → List ℕ) (y : Def) → ((v s : ℕ) → IsIn s (serials v) → 1 ≤ s) → IsOf serials p y → is_def_of p.vnfd y ≡ true
+of_machine : (p : Case) (serials : ℕ → List ℕ) (y : Def) → ((v s : ℕ) → IsIn s (serials v) → 1 ≤ s) → IsOf serials p y
+    → is_def_of p.vnfd y ≡ true
 of_machine p serials y f h =
     let sorted = of_all p.vnfd y.vdu y.serial y h.2 in
     let from = of_map (def_of y.kind y.vdu y.serial) y (items p.vnfd y.kind y.vdu) sorted.1 in
@@ -246,31 +252,38 @@ DescribedAt H a c = (d : Vnfd) × (descriptor H a.instance ≡ Some d) × (is_de
 abbrev Described : List Event → Type 0
 Described H = (a : Operation) → IsIn a (operations H) → (c : Change) → IsIn c a.changes → DescribedAt H a c
 
-asked_described : (H : List Event) (a : Operation) (o : Option Vnfd) → descriptor H a.instance ≡ o → IsPlanOf H a o → (c : Change) → IsIn c a.changes
+asked_described : (H : List Event) (a : Operation) (o : Option Vnfd) → descriptor H a.instance ≡ o → IsPlanOf H a o → (c : Change)
+    → IsIn c a.changes
     → DescribedAt H a c
 asked_described H a None is h c has = absurd h
 asked_described H a (Some d) is h c has =
     let p = case_in d (situation d H a.instance) a.ask in
     (d, is, in_plan-def p c (subst (λ (xs : List Change). IsIn c xs) h.1 has))
 
-described_later : (width m : ℕ) (H : List Event) (time : ℕ) (k : EventKind) (a : Operation) (c : Change) → IsLegalWithin width m H → IsAllowedWithin width m H k
+described_later : (width m : ℕ) (H : List Event) (time : ℕ) (k : EventKind) (a : Operation) (c : Change) → IsLegalWithin width m H
+    → IsAllowedWithin width m H k
     → DescribedAt H a c → DescribedAt (event time k ∷ H) a c
 described_later width m H time k a c legal allowed h = (h.0, descriptor-next width m H time k a.instance h.0 legal allowed h.1, h.2)
 
-described_step : (width m : ℕ) (H : List Event) (time : ℕ) (k : EventKind) → IsLegalWithin width m H → IsAllowedWithin width m H k → Described H → Described (event time k ∷ H)
+described_step : (width m : ℕ) (H : List Event) (time : ℕ) (k : EventKind) → IsLegalWithin width m H → IsAllowedWithin width m H k
+    → Described H → Described (event time k ∷ H)
 described_step width m H time (Asked b) legal allowed h a (inl e) c has =
     subst (λ (z : Operation). DescribedAt (event time (Asked b) ∷ H) z c) e
     (described_later width m H time (Asked b) b c legal allowed
     (asked_described H b (descriptor H b.instance) refl allowed.planned c (subst (λ (z : Operation). IsIn c z.changes) (sym e) has)))
-described_step width m H time (Asked b) legal allowed h a (inr g) c has = described_later width m H time (Asked b) a c legal allowed (h a g c has)
-described_step width m H time (Onboarded x) legal allowed h a g c has = described_later width m H time (Onboarded x) a c legal allowed (h a g c has)
+described_step width m H time (Asked b) legal allowed h a (inr g) c has =
+    described_later width m H time (Asked b) a c legal allowed (h a g c has)
+described_step width m H time (Onboarded x) legal allowed h a g c has =
+    described_later width m H time (Onboarded x) a c legal allowed (h a g c has)
 described_step width m H time (Created j vnfd name text) legal allowed h a g c has =
     described_later width m H time (Created j vnfd name text) a c legal allowed (h a g c has)
 described_step width m H time _ legal allowed h a g c has = h a g c has
 
-pub described : (width m : ℕ) (H : List Event) → IsLegalWithin width m H → (a : Operation) → IsIn a (operations H) → (c : Change) → IsIn c a.changes → DescribedAt H a c
+pub described : (width m : ℕ) (H : List Event) → IsLegalWithin width m H → (a : Operation) → IsIn a (operations H) → (c : Change)
+    → IsIn c a.changes → DescribedAt H a c
 described width m H legal =
-    legal_induction width m Described (λ a h. absurd h) (λ H time k legal allowed h. described_step width m H time k legal allowed h) H legal
+    legal_induction width m Described (λ a h. absurd h) (λ H time k legal allowed h. described_step width m H time k legal allowed h) H
+    legal
 
 -- what stands is of the descriptor
 pub stands_of : (width m : ℕ) (H : List Event) → IsLegalWithin width m H → (i : ℕ) (x : Def) → stands H i x ≡ true → IsOfInstance H i x

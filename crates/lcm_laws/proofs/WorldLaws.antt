@@ -1,5 +1,6 @@
 -- What stands is on what stands, in every legal history.
-use Rattle.std.proofs.Common.{◌≡◌, ◌-◌, ◌&&◌, ◌==◌, ◌∙◌, ℕ, List, [], ◌∷◌, Bool, true, false, cond, not, Option, None, Some, refl, ap, sym, subst, arith, inl, inr, eqb-true, eq-eqb, slice_get}
+use Rattle.std.proofs.Common.{◌≡◌, ◌-◌, ◌&&◌, ◌==◌, ◌∙◌, ℕ, List, [], ◌∷◌, Bool, true, false, cond, not, Option, None, Some, refl, ap, sym}
+use Rattle.std.proofs.Common.{subst, arith, inl, inr, eqb-true, eq-eqb, slice_get}
 use Rattle.lcm_events.specs.declared.asks.Ask.{Ask}
 use Rattle.lcm_events.specs.declared.asks.Ask.TheVariants.{Heal, Instantiate, Operate, Scale, ScaleToLevel, Terminate}
 use Rattle.lcm_events.specs.declared.attempts.Outcome.{Outcome}
@@ -26,7 +27,8 @@ use Rattle.lcm_model.specs.Lives.{descriptor}
 use Rattle.lcm_model.specs.Vnfcs.{is_def_of, is_in_step, links}
 use Rattle.lcm_model.specs.Needs.{needs}
 use Rattle.lcm_model.specs.Plans.{Case, makes_links, new_by}
-use Rattle.lcm_model.specs.Refusals.{Situation, ask_refusal, case_in, content_refusal, instantiation_refusal, needs_started, needs_step, plan_refusal, situation, state_refusal}
+use Rattle.lcm_model.specs.Refusals.{Situation, ask_refusal, case_in, content_refusal, instantiation_refusal, needs_started, needs_step}
+use Rattle.lcm_model.specs.Refusals.{plan_refusal, situation, state_refusal}
 use Rattle.lcm_model.specs.Allowed.{IsAllowedWithin, IsLegalWithin, IsPlanOf}
 use Rattle.lcm_laws.specs.Asking.{IsUntouched}
 use Rattle.lcm_laws.specs.Standing.{IsOfInstance}
@@ -91,9 +93,11 @@ tracks_kept H H' i o a S same nets t = record {
   made = λ x has. same x ∙ t.made x (has.0, has.1, has.2, has.3, has.4, sym (nets has.0 has.1 has.2) ∙ has.5);
 }
 
-follows_kept : (width m : ℕ) (H : List Event) (time : ℕ) (k : EventKind) (i o : ℕ) (a : Operation) → IsLegalWithin width m H → IsAllowedWithin width m H k
+follows_kept : (width m : ℕ) (H : List Event) (time : ℕ) (k : EventKind) (i o : ℕ) (a : Operation) → IsLegalWithin width m H
+    → IsAllowedWithin width m H k
     → ((x : Def) → stands (event time k ∷ H) i x ≡ stands H i x)
-    → ((c : ℕ) (j : Change) → slice_get a.changes c ≡ Some j → net (event time k ∷ H) o c ≡ net H o c) → Follows H i o a → Follows (event time k ∷ H) i o a
+    → ((c : ℕ) (j : Change) → slice_get a.changes c ≡ Some j → net (event time k ∷ H) o c ≡ net H o c) → Follows H i o a
+    → Follows (event time k ∷ H) i o a
 follows_kept width m H time k i o a legal allowed same nets f = record {
   p = f.p;
   described = descriptor-next width m H time k i f.p.vnfd legal allowed f.described;
@@ -115,17 +119,21 @@ both_false true true e h = refl
 both_false true false e h = cc
 both_false false b e h = cc
 
-pub in_step : (d : Vnfd) (now : Situation) (ask : Ask) → ask_refusal d now ask ≡ None → needs_step ask ≡ true → is_in_step d now.held now.levels now.started ≡ true
+pub in_step : (d : Vnfd) (now : Situation) (ask : Ask) → ask_refusal d now ask ≡ None → needs_step ask ≡ true
+    → is_in_step d now.held now.levels now.started ≡ true
 in_step d now ask e need =
-    let state : state_refusal d now ask ≡ None = none_of-front (state_refusal d now ask) (plan_refusal d now ask ∷ []) (none_of-rest (content_refusal d ask) (state_refusal d now ask ∷ plan_refusal d now ask ∷ []) e) in
+    let state : state_refusal d now ask ≡ None = none_of-front (state_refusal d now ask) (plan_refusal d now ask ∷ [])
+    (none_of-rest (content_refusal d ask) (state_refusal d now ask ∷ plan_refusal d now ask ∷ []) e) in
     let out = when (needs_step ask && not (is_in_step d now.held now.levels now.started)) refusals.OutOfStep in
     let stopped = when (needs_started ask && not now.started) refusals.Stopped in
     let busy = when now.busy refusals.Ongoing in
     both_false (needs_step ask) (is_in_step d now.held now.levels now.started)
     (when-none (needs_step ask && not (is_in_step d now.held now.levels now.started)) refusals.OutOfStep
-    (none_of-front out (stopped ∷ []) (none_of-rest busy (out ∷ stopped ∷ []) (none_of-rest (instantiation_refusal ask now.instantiated) (busy ∷ out ∷ stopped ∷ []) state)))) need
+    (none_of-front out (stopped ∷ []) (none_of-rest busy (out ∷ stopped ∷ [])
+    (none_of-rest (instantiation_refusal ask now.instantiated) (busy ∷ out ∷ stopped ∷ []) state)))) need
 
-planned_over : (width m : ℕ) (H : List Event) (b : Operation) (d : Vnfd) → IsLegalWithin width m H → IsAllowedWithin width m H (Asked b) → descriptor H b.instance ≡ Some d
+planned_over : (width m : ℕ) (H : List Event) (b : Operation) (d : Vnfd) → IsLegalWithin width m H → IsAllowedWithin width m H (Asked b)
+    → descriptor H b.instance ≡ Some d
     → IsPlanOf H b (Some d) → IsRooted H b.instance → IsPlannedOver (case_in d (situation d H b.instance) b.ask) b
 planned_over width m H b d legal allowed described h rooted = record {
   planned = h.1;
@@ -134,7 +142,8 @@ planned_over width m H b d legal allowed described h rooted = record {
   others = λ k has other. asked_stands width m H b allowed k has other;
   rooted = rooted d described;
   linked = λ v s made no_links y among.
-      (let step = in_step d (situation d H b.instance) b.ask h.0 (step_needed b.ask (case_in d (situation d H b.instance) b.ask) v s made no_links) in
+      (let step = in_step d (situation d H b.instance) b.ask h.0 (step_needed b.ask
+      (case_in d (situation d H b.instance) b.ask) v s made no_links) in
       all_in (stands H b.instance) y (links d) (and_right _ _ step) among);
   own = λ x s.
       (let of : IsOfInstance H b.instance x = stands_of width m H legal b.instance x s in
@@ -154,19 +163,23 @@ tracks_new H i o a nets = record {
   made = λ x has. (let none = nets has.0 in let one = has.5 in absurd (omega (arith, none, one)));
 }
 
-follows_of : (width m : ℕ) (H : List Event) (b : Operation) (d : Option Vnfd) → IsLegalWithin width m H → IsAllowedWithin width m H (Asked b) → descriptor H b.instance ≡ d
+follows_of : (width m : ℕ) (H : List Event) (b : Operation) (d : Option Vnfd) → IsLegalWithin width m H
+    → IsAllowedWithin width m H (Asked b) → descriptor H b.instance ≡ d
     → IsPlanOf H b d → IsRooted H b.instance → Follows H b.instance b.occ b
 follows_of width m H b None legal allowed described h rooted = absurd h
 follows_of width m H b (Some d) legal allowed described h rooted =
-    let new : IsUntouched H b.occ = unasked_untouched width m H legal b.occ (new_none width m H b.occ (operation H b.occ) legal allowed.number refl) in
+    let new : IsUntouched H b.occ = unasked_untouched width m H legal b.occ
+    (new_none width m H b.occ (operation H b.occ) legal allowed.number refl) in
     record {
       p = case_in d (situation d H b.instance) b.ask;
       described = described;
       over = planned_over width m H b d legal allowed described h rooted;
-      tracks = tracks_new H b.instance b.occ b (λ c. less_zero (done_count Forward H b.occ c) (done_count Undo H b.occ c) (new.none_done Forward c));
+      tracks = tracks_new H b.instance b.occ b (λ c. less_zero (done_count Forward H b.occ c) (done_count Undo H b.occ c)
+          (new.none_done Forward c));
     }
 
-follows_asked : (width m : ℕ) (H : List Event) (time : ℕ) (b : Operation) (i : ℕ) → IsLegalWithin width m H → IsAllowedWithin width m H (Asked b) → World H i
+follows_asked : (width m : ℕ) (H : List Event) (time : ℕ) (b : Operation) (i : ℕ) → IsLegalWithin width m H
+    → IsAllowedWithin width m H (Asked b) → World H i
     → AllFollow (event time (Asked b) ∷ H) i
 unfolding effect_in
 follows_asked width m H time b i legal allowed w o a found at goes = by_test (b.occ == o)
@@ -185,10 +198,12 @@ follows_asked width m H time b i legal allowed w o a found at goes = by_test (b.
     follows_kept width m H time (Asked b) i o a legal allowed (λ x. refl) (λ c j e. refl) (w.follows o a before at goes))
 
 -- an attempt of an operation of the instance ends
-follows_ended : (width m : ℕ) (H : List Event) (time : ℕ) (u : Tag) (out : Outcome) (i : ℕ) (a : Operation) → IsLegalWithin width m H → IsAllowedWithin width m H (Settled u out)
+follows_ended : (width m : ℕ) (H : List Event) (time : ℕ) (u : Tag) (out : Outcome) (i : ℕ) (a : Operation) → IsLegalWithin width m H
+    → IsAllowedWithin width m H (Settled u out)
     → operation H u.occ ≡ Some a → a.instance ≡ i → Follows H i u.occ a → Follows (event time (Settled u out) ∷ H) i u.occ a
 follows_ended width m H time u out i a legal opened found at f = elim (what_is_done H time u out a found) [
-  | inl nothing ↦ follows_kept width m H time (Settled u out) i u.occ a legal opened (λ x. stands-nothing H time u out i x nothing.0) nothing.1 f
+  | inl nothing ↦ follows_kept width m H time (Settled u out) i u.occ a legal opened
+      (λ x. stands-nothing H time u out i x nothing.0) nothing.1 f
   | inr change ↦
       (let eff : effect_in H (Settled u (Done change.0)) ≡ Some (effect u change.0 a change.1) =
       subst (λ (q : Outcome). effect_in H (Settled u q) ≡ Some (effect u change.0 a change.1)) change.2 change.4 in
@@ -208,8 +223,10 @@ follows_ended width m H time u out i a legal opened found at f = elim (what_is_d
       }))
 ]
 
-world_ours : (width m : ℕ) (H : List Event) (time : ℕ) (u : Tag) (out : Outcome) (i : ℕ) (mine : Operation) → IsLegalWithin width m H → IsAllowedWithin width m H (Settled u out)
-    → operation H u.occ ≡ Some mine → is_final (state H u.occ) ≡ false → mine.instance ≡ i → World H i → World (event time (Settled u out) ∷ H) i
+world_ours : (width m : ℕ) (H : List Event) (time : ℕ) (u : Tag) (out : Outcome) (i : ℕ) (mine : Operation) → IsLegalWithin width m H
+    → IsAllowedWithin width m H (Settled u out)
+    → operation H u.occ ≡ Some mine → is_final (state H u.occ) ≡ false → mine.instance ≡ i → World H i
+    → World (event time (Settled u out) ∷ H) i
 world_ours width m H time u out i mine legal opened found goes at w =
     let now : Follows (event time (Settled u out) ∷ H) i u.occ mine =
     follows_ended width m H time u out i mine legal opened found at (w.follows u.occ mine found at goes) in
@@ -227,14 +244,16 @@ world_ours width m H time u out i mine legal opened found goes at w =
           subst (λ (z : Operation). Follows later i o z) op (subst (λ (n : ℕ). Follows later i n mine) one now));
     }
 
-world_settled : (width m : ℕ) (H : List Event) (time : ℕ) (u : Tag) (out : Outcome) (i : ℕ) → IsLegalWithin width m H → IsAllowedWithin width m H (Settled u out) → World H i
+world_settled : (width m : ℕ) (H : List Event) (time : ℕ) (u : Tag) (out : Outcome) (i : ℕ) → IsLegalWithin width m H
+    → IsAllowedWithin width m H (Settled u out) → World H i
     → World (event time (Settled u out) ∷ H) i
 world_settled width m H time u out i legal opened w =
     let mine = open_operation width m H u legal opened in
     by_test (mine.0.instance == i)
     (λ ours. world_ours width m H time u out i mine.0 legal opened mine.1 mine.2 (eqb-true mine.0.instance i ours) w)
     (λ away.
-    let same : (x : Def) → stands (event time (Settled u out) ∷ H) i x ≡ stands H i x = λ x. stands_elsewhere H time u out i x mine.0 mine.1 away in
+    let same : (x : Def) → stands (event time (Settled u out) ∷ H) i x ≡ stands H i x =
+    λ x. stands_elsewhere H time u out i x mine.0 mine.1 away in
     record {
       rooted = rooted_kept width m H time (Settled u out) i legal opened same w.rooted;
       follows = λ o a found at goes.
@@ -244,10 +263,12 @@ world_settled width m H time u out i legal opened w =
           let one : mine.0 ≡ a = one_value (operation H u.occ) mine.0 a mine.1 here in
           let ours : (mine.0.instance == i) ≡ true = eq-eqb mine.0.instance i (ap (λ (z : Operation). z.instance) one ∙ at) in cc)
           (λ e. e) in
-          follows_kept width m H time (Settled u out) i o a legal opened same (λ c k e. net-other_occ H time u out o c other) (w.follows o a found at goes));
+          follows_kept width m H time (Settled u out) i o a legal opened same (λ c k e. net-other_occ H time u out o c other)
+          (w.follows o a found at goes));
     })
 
-world_step : (width m : ℕ) (H : List Event) (time : ℕ) (k : EventKind) (i : ℕ) → IsLegalWithin width m H → IsAllowedWithin width m H k → World H i → World (event time k ∷ H) i
+world_step : (width m : ℕ) (H : List Event) (time : ℕ) (k : EventKind) (i : ℕ) → IsLegalWithin width m H → IsAllowedWithin width m H k
+    → World H i → World (event time k ∷ H) i
 unfolding effect_in
 world_step width m H time (Settled u out) i legal allowed w = world_settled width m H time u out i legal allowed w
 world_step width m H time (Asked b) i legal allowed w = record {
@@ -262,7 +283,8 @@ world_step width m H time (Moved occ to) i legal allowed w = record {
 }
 world_step width m H time k i legal allowed w = record {
   rooted = rooted_kept width m H time k i legal allowed (λ x. refl) w.rooted;
-  follows = λ o a found at goes. follows_kept width m H time k i o a legal allowed (λ x. refl) (λ c j e. refl) (w.follows o a found at goes);
+  follows = λ o a found at goes. follows_kept width m H time k i o a legal allowed (λ x. refl) (λ c j e. refl)
+      (w.follows o a found at goes);
 }
 
 world : (width m : ℕ) (H : List Event) → IsLegalWithin width m H → (i : ℕ) → World H i
@@ -284,15 +306,18 @@ computes_linked width m H legal i d described = ((world width m H legal i).roote
 pub follows_at : (width m : ℕ) (H : List Event) (t : Tag) → IsLegalWithin width m H → IsAllowedWithin width m H (Intent t)
     → (a : Operation) → operation H t.occ ≡ Some a → Follows H a.instance t.occ a
 follows_at width m H t legal allowed a found =
-    (world width m H legal a.instance).follows t.occ a found refl (subst (λ (s : OpState). is_final s ≡ false) (sym allowed.works) (works_on t.way))
+    (world width m H legal a.instance).follows t.occ a found refl (subst (λ (s : OpState). is_final s ≡ false) (sym allowed.works)
+    (works_on t.way))
 
 -- when an attempt may begin, what its work needs stands
 pub work_needs : (width m : ℕ) (H : List Event) (t : Tag) → IsLegalWithin width m H → IsAllowedWithin width m H (Intent t)
-    → (a : Operation) (k : Change) (d : Vnfd) → operation H t.occ ≡ Some a → slice_get a.changes t.change ≡ Some k → descriptor H a.instance ≡ Some d
+    → (a : Operation) (k : Change) (d : Vnfd) → operation H t.occ ≡ Some a → slice_get a.changes t.change ≡ Some k
+    → descriptor H a.instance ≡ Some d
     → (y : Def) → IsIn y (needs d (verb_done t.way k.verb) k.def) → stands H a.instance y ≡ true
 work_needs width m H t legal allowed a k d found is described y among =
     let f : Follows H a.instance t.occ a = follows_at width m H t legal allowed a found in
     let same : d ≡ f.p.vnfd = one_value (descriptor H a.instance) d f.p.vnfd described f.described in
     let at_turn = turn_at width m H t a k allowed found is in
-    work_finds H a.instance t a k f.p t.way k.verb y (record { found = found; is = is; net = at_turn.0; through = at_turn.1 }) f.over f.tracks
+    work_finds H a.instance t a k f.p t.way k.verb y (record { found = found; is = is; net = at_turn.0; through = at_turn.1 }) f.over
+    f.tracks
     (ordered width m H legal t.occ a found) refl refl (subst (λ (e : Vnfd). IsIn y (needs e (verb_done t.way k.verb) k.def)) same among)

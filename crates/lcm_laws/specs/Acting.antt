@@ -23,9 +23,12 @@ IsAnswer H o _ = Unit {0}
 -- a legal history stays legal by the events that the next action of an occurrence appends, for each answer (own rule)
 abbrev pub NextActionsAreAllowed : Type 0
 NextActionsAreAllowed =
-    (width m : ℕ) (H : List Event) → 1 ≤ width → IsLegalWithin width m H → (o now : ℕ) (action : Action) (answer : Answer) → is_some (operation H o) ≡ true
-    → next_action H o ≡ Some action → IsAnswer H o answer → IsLegalWithin width m (with_events now (appended o action answer) H)
+    (width m : ℕ) (H : List Event) → 1 ≤ width → IsLegalWithin width m H
+    → (o now : ℕ) (action : Action) (answer : Answer) → is_some (operation H o) ≡ true
+    → next_action H o ≡ Some action → IsAnswer H o answer
+    → IsLegalWithin width m (with_events now (appended o action answer) H)
 
 -- an occurrence that was asked for has exactly one next action while it is active, and another none (own rule)
 abbrev pub ActiveOccurrencesAct : Type 0
-ActiveOccurrencesAct = (H : List Event) (o : ℕ) → is_some (next_action H o) ≡ (is_some (operation H o) && is_active (state H o))
+ActiveOccurrencesAct = (H : List Event) (o : ℕ) → is_some (next_action H o)
+    ≡ (is_some (operation H o) && is_active (state H o))

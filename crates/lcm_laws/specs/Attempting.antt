@@ -17,13 +17,15 @@ OpenAttemptsHaveNotEnded = (H : List Event) (t : Tag) → is_open H t ≡ true �
 abbrev pub BegunAttemptsAreOpen : Type 0
 BegunAttemptsAreOpen =
     (width m : ℕ) (H : List Event) (time : ℕ) (t : Tag) → IsLegalWithin width m H → IsAllowedWithin width m H (Intent t)
-    → (o : ℕ) → open_of (record { moment = time; kind = Intent t } ∷ H) o ≡ (if t.occ == o then t ∷ open_of H o else open_of H o)
+    → (o : ℕ) → open_of (record { moment = time; kind = Intent t } ∷ H) o
+    ≡ (if t.occ == o then t ∷ open_of H o else open_of H o)
 
 -- once an attempt has ended, the others stay open (own rule)
 abbrev pub EndedAttemptsAreNotOpen : Type 0
 EndedAttemptsAreNotOpen =
     (H : List Event) (time : ℕ) (t : Tag) (outcome : Outcome) (o : ℕ)
-    → open_of (record { moment = time; kind = Settled t outcome } ∷ H) o ≡ filter (λ x. not (same_tag x t)) (open_of H o)
+    → open_of (record { moment = time; kind = Settled t outcome } ∷ H) o
+    ≡ filter (λ x. not (same_tag x t)) (open_of H o)
 
 -- an event that neither begins an attempt nor ends one leaves the open attempts (own rule)
 abbrev pub OtherEventsLeaveAttempts : Type 0
@@ -33,4 +35,5 @@ OtherEventsLeaveAttempts =
 
 -- in a legal history an occurrence has at most as many open attempts as may be open at once (own rule)
 abbrev pub OpenAttemptsFitTheWindow : Type 0
-OpenAttemptsFitTheWindow = (width m : ℕ) (H : List Event) → IsLegalWithin width m H → (o : ℕ) → length (open_of H o) ≤ width
+OpenAttemptsFitTheWindow = (width m : ℕ) (H : List Event) → IsLegalWithin width m H → (o : ℕ)
+    → length (open_of H o) ≤ width

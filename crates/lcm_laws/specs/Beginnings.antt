@@ -9,4 +9,5 @@ BeginningsAreLegal = (width m : ℕ) (H later : List Event) → IsLegalWithin wi
 
 -- each event of a legal history was allowed after the events before it (own rule)
 abbrev pub EachEventWasAllowed : Type 0
-EachEventWasAllowed = (width m : ℕ) (H : List Event) (e : Event) (later : List Event) → IsLegalWithin width m (later ++ e ∷ H) → IsAllowedWithin width m H e.kind
+EachEventWasAllowed = (width m : ℕ) (H : List Event) (e : Event) (later : List Event)
+    → IsLegalWithin width m (later ++ e ∷ H) → IsAllowedWithin width m H e.kind

@@ -28,7 +28,8 @@ pub record HoldsWhatStands (d : Vnfd) (H : List Event) (i : ℕ) : Type 0 where
 -- in a legal history the holding of an instance has exactly what stands (SOL 003 5.5.2.2)
 abbrev pub HoldingsAreExact : Type 0
 HoldingsAreExact =
-    (width m : ℕ) (H : List Event) → IsLegalWithin width m H → (i : ℕ) (d : Vnfd) → descriptor H i ≡ Some d → HoldsWhatStands d H i
+    (width m : ℕ) (H : List Event) → IsLegalWithin width m H → (i : ℕ) (d : Vnfd) → descriptor H i ≡ Some d
+    → HoldsWhatStands d H i
 
 -- in a legal history the holding of an instance is of its descriptor, while its serials are below 2^31 (own rule)
 abbrev pub HoldingsAreOfTheDescriptor : Type 0
@@ -39,4 +40,5 @@ HoldingsAreOfTheDescriptor =
 -- in a legal history at most 2,500 definitions of an instance stand (own limit)
 abbrev pub FewDefinitionsStand : Type 0
 FewDefinitionsStand =
-    (width m : ℕ) (H : List Event) → IsLegalWithin width m H → (i : ℕ) (d : Vnfd) → descriptor H i ≡ Some d → standing d (inventory H i) ≤ 2500
+    (width m : ℕ) (H : List Event) → IsLegalWithin width m H → (i : ℕ) (d : Vnfd) → descriptor H i ≡ Some d
+    → standing d (inventory H i) ≤ 2500

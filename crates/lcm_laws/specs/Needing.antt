@@ -30,10 +30,11 @@ pub record IsPartBeside (d : Vnfd) (part : DefKind) (x y : Def) : Type 0 where
 abbrev pub IsLinkOf : Vnfd → Def → Def → Type 0
 IsLinkOf d x y = (n : ℕ) × (option_and_then (λ p. p.link) (slice_get d.ports x.item) ≡ Some n) × (y ≡ link_def n)
 
--- a compute is made on each storage of its machine, a port on the compute of its machine and on its link, and nothing else on anything
--- (SOL 001, Vdu.Compute, VduCp)
+-- a compute is made on each storage of its machine, a port on the compute of its machine and on its link, and nothing
+-- else on anything (SOL 001, Vdu.Compute, VduCp)
 abbrev pub IsMadeOn : Vnfd → Def → Def → Type 0
-IsMadeOn d x y = ((x.kind ≡ Compute) × IsPartBeside d Storage x y) ⊎ ((x.kind ≡ Port) × (IsPartBeside d Compute x y ⊎ IsLinkOf d x y))
+IsMadeOn d x y = ((x.kind ≡ Compute) × IsPartBeside d Storage x y)
+    ⊎ ((x.kind ≡ Port) × (IsPartBeside d Compute x y ⊎ IsLinkOf d x y))
 
 -- work on a definition needs it to stand, or, where it makes it, what it is made on (own rule)
 abbrev pub IsNeeded : Vnfd → Verb → Def → Def → Type 0
@@ -48,10 +49,12 @@ NeedsAreExact = (d : Vnfd) (verb : Verb) (x y : Def) → IsIn y (needs d verb x)
 abbrev pub WorkFindsWhatItNeeds : Type 0
 WorkFindsWhatItNeeds =
     (width m : ℕ) (H : List Event) (t : Tag) → IsLegalWithin width m H → IsAllowedWithin width m H (Intent t)
-    → (a : Operation) (k : Change) (d : Vnfd) → operation H t.occ ≡ Some a → slice_get a.changes t.change ≡ Some k → descriptor H a.instance ≡ Some d
+    → (a : Operation) (k : Change) (d : Vnfd) → operation H t.occ ≡ Some a → slice_get a.changes t.change ≡ Some k
+    → descriptor H a.instance ≡ Some d
     → (y : Def) → IsIn y (needs d (verb_done t.way k.verb) k.def) → stands H a.instance y ≡ true
 
--- in a legal history what a definition that stands was made on stands too: a compute's storages, a port's compute and link (SOL 001, Vdu.Compute, VduCp)
+-- in a legal history what a definition that stands was made on stands too: a compute's storages, a port's compute and
+-- link (SOL 001, Vdu.Compute, VduCp)
 abbrev pub WhatStandsIsOnWhatStands : Type 0
 WhatStandsIsOnWhatStands =
     (width m : ℕ) (H : List Event) → IsLegalWithin width m H → (i : ℕ) (d : Vnfd) → descriptor H i ≡ Some d

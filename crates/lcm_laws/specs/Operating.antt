@@ -12,9 +12,11 @@ OneOperationGoesOn = (width m : ℕ) (H : List Event) → IsLegalWithin width m 
 -- an operation once asked for is found for ever, whatever comes later (own rule)
 abbrev pub OperationsStayFound : Type 0
 OperationsStayFound =
-    (width m : ℕ) (H later : List Event) (o : ℕ) (a : Operation) → IsLegalWithin width m (later ++ H) → operation H o ≡ Some a → operation (later ++ H) o ≡ Some a
+    (width m : ℕ) (H later : List Event) (o : ℕ) (a : Operation) → IsLegalWithin width m (later ++ H)
+    → operation H o ≡ Some a → operation (later ++ H) o ≡ Some a
 
 -- in a legal history an operation is found exactly under the numbers from 1 to how many were asked for (own rule)
 abbrev pub OperationsAreFound : Type 0
 OperationsAreFound =
-    (width m : ℕ) (H : List Event) → IsLegalWithin width m H → (o : ℕ) → (is_some (operation H o) ≡ true) ↔ (1 ≤ o) × (o ≤ occurrences_made H)
+    (width m : ℕ) (H : List Event) → IsLegalWithin width m H → (o : ℕ)
+    → (is_some (operation H o) ≡ true) ↔ (1 ≤ o) × (o ≤ occurrences_made H)

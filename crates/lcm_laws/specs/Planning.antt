@@ -41,7 +41,8 @@ PlansAreDistinct = (p : Case) → IsValid p.vnfd → AreDistinct (plan p)
 -- the operation was asked for after this history over a valid descriptor, with exactly its plan (own rule)
 abbrev pub HasPlan : List Event → Operation → Type 0
 HasPlan H a =
-    (d : Vnfd) × (descriptor H a.instance ≡ Some d) × IsValid d × IsPlan (case_in d (situation d H a.instance) a.ask) a.changes
+    (d : Vnfd) × (descriptor H a.instance ≡ Some d) × IsValid d
+    × IsPlan (case_in d (situation d H a.instance) a.ask) a.changes
 
 -- in a legal history each operation has the changes that were planned when it was asked for (own rule)
 abbrev pub OperationsHavePlans : Type 0
@@ -51,7 +52,8 @@ OperationsHavePlans =
 
 -- in a legal history no operation has more than 5,000 changes (own limit)
 abbrev pub PlansAreSmall : Type 0
-PlansAreSmall = (width m : ℕ) (H : List Event) → IsLegalWithin width m H → (a : Operation) → IsIn a (operations H) → length a.changes ≤ 5000
+PlansAreSmall = (width m : ℕ) (H : List Event) → IsLegalWithin width m H → (a : Operation) → IsIn a (operations H)
+    → length a.changes ≤ 5000
 
 -- a change that makes something is for what doesn't stand, and any other for what stands (own rule)
 pub record FitsWhatStands (H : List Event) (i : ℕ) (k : Change) : Type 0 where
@@ -75,7 +77,8 @@ IsOfWholeMachines _ = ⊥
 abbrev pub OperationsBeginInStep : Type 0
 OperationsBeginInStep =
     (width m : ℕ) (H later : List Event) (time : ℕ) (a : Operation) (d : Vnfd)
-    → IsLegalWithin width m (later ++ record { moment = time; kind = Asked a } ∷ H) → descriptor H a.instance ≡ Some d → IsOfWholeMachines a.ask
+    → IsLegalWithin width m (later ++ record { moment = time; kind = Asked a } ∷ H) → descriptor H a.instance ≡ Some d
+    → IsOfWholeMachines a.ask
     → is_in_step d (inventory H a.instance) (levels d H a.instance) (is_started H a.instance) ≡ true
 
 -- the ask aims at a number of machines of each VDU: each but OPERATE and TERMINATE (own rule)
@@ -86,4 +89,5 @@ AimsAtCounts _ = Unit {0}
 
 -- as many machines of each VDU stay or are new as the levels that the ask aims at say (SOL 001, VduScalingAspectDeltas)
 abbrev pub PlansMeetTheirCounts : Type 0
-PlansMeetTheirCounts = (p : Case) (v : ℕ) → AimsAtCounts p.ask → length (stay p v) + length (new p v) ≡ count p.vnfd v p.to
+PlansMeetTheirCounts = (p : Case) (v : ℕ) → AimsAtCounts p.ask
+    → length (stay p v) + length (new p v) ≡ count p.vnfd v p.to

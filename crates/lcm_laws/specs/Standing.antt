@@ -18,25 +18,30 @@ use Rattle.lcm_model.specs.Lives.{descriptor, is_deleted}
 use Rattle.lcm_model.specs.Operations.{ongoing, operation, verb_done}
 use Rattle.lcm_model.specs.Vnfcs.{is_def_of}
 
--- the definition is one of the instance's descriptor, with a serial up to the greatest that any operation named (own rule)
+-- the definition is one of the instance's descriptor, with a serial up to the greatest that any operation named (own
+-- rule)
 abbrev pub IsOfInstance : List Event → ℕ → Def → Type 0
 IsOfInstance H i x = (d : Vnfd) × (descriptor H i ≡ Some d) × (is_def_of d x ≡ true) × (x.serial ≤ top H i x.vdu)
 
 -- in a legal history what stands of an instance is of its descriptor, with a serial up to the greatest (own rule)
 abbrev pub WhatStandsIsOfTheDescriptor : Type 0
-WhatStandsIsOfTheDescriptor = (width m : ℕ) (H : List Event) → IsLegalWithin width m H → (i : ℕ) (x : Def) → stands H i x ≡ true → IsOfInstance H i x
+WhatStandsIsOfTheDescriptor = (width m : ℕ) (H : List Event) → IsLegalWithin width m H → (i : ℕ) (x : Def)
+    → stands H i x ≡ true → IsOfInstance H i x
 
 -- nothing of the instance stands (own rule)
 abbrev pub HoldsNothing : List Event → ℕ → Type 0
 HoldsNothing H i = (x : Def) → stands H i x ≡ false
 
--- in a legal history an instance that is NOT_INSTANTIATED without an operation that goes on holds nothing (SOL 003 5.5.2.2, instantiationState)
+-- in a legal history an instance that is NOT_INSTANTIATED without an operation that goes on holds nothing (SOL 003
+-- 5.5.2.2, instantiationState)
 abbrev pub IdleInstancesHoldNothing : Type 0
-IdleInstancesHoldNothing = (width m : ℕ) (H : List Event) → IsLegalWithin width m H → (i : ℕ) → is_instantiated H i ≡ false → ongoing H i ≡ [] → HoldsNothing H i
+IdleInstancesHoldNothing = (width m : ℕ) (H : List Event) → IsLegalWithin width m H → (i : ℕ)
+    → is_instantiated H i ≡ false → ongoing H i ≡ [] → HoldsNothing H i
 
 -- in a legal history a deleted instance holds nothing (SOL 003 5.4.3)
 abbrev pub DeletedInstancesHoldNothing : Type 0
-DeletedInstancesHoldNothing = (width m : ℕ) (H : List Event) → IsLegalWithin width m H → (i : ℕ) → is_deleted H i ≡ true → HoldsNothing H i
+DeletedInstancesHoldNothing = (width m : ℕ) (H : List Event) → IsLegalWithin width m H → (i : ℕ) → is_deleted H i ≡ true
+    → HoldsNothing H i
 
 -- in a legal history what stands has a resource and a place (SOL 003 5.5.3, the resource infos of an instance)
 abbrev pub WhatStandsHasAPlace : Type 0
@@ -46,7 +51,8 @@ WhatStandsHasAPlace =
 
 -- what runs of an instance is a compute, and stands (SOL 003 5.5.3, the resource infos of an instance)
 abbrev pub WhatRunsIsAComputeThatStands : Type 0
-WhatRunsIsAComputeThatStands = (H : List Event) (i : ℕ) (x : Def) → runs H i x ≡ true → (x.kind ≡ Compute) × (stands H i x ≡ true)
+WhatRunsIsAComputeThatStands = (H : List Event) (i : ℕ) (x : Def) → runs H i x ≡ true
+    → (x.kind ≡ Compute) × (stands H i x ≡ true)
 
 -- whether a compute runs, by what was done to it last (SOL 003 5.4.10, Operate VNF task)
 abbrev pub RunsAfter : Verb → Bool → Type 0
@@ -55,8 +61,11 @@ RunsAfter Start running = running ≡ true
 RunsAfter Stop running = running ≡ false
 RunsAfter Remove running = running ≡ false
 
--- a compute runs once it is made or started, and doesn't once it is stopped or removed, by a change or by an undo (SOL 003 5.4.10)
+-- a compute runs once it is made or started, and doesn't once it is stopped or removed, by a change or by an undo (SOL
+-- 003 5.4.10)
 abbrev pub ComputesRunAsTheyWereLeft : Type 0
 ComputesRunAsTheyWereLeft =
-    (H : List Event) (time : ℕ) (t : Tag) (name : List ℕ) (a : Operation) (k : Change) → operation H t.occ ≡ Some a → slice_get a.changes t.change ≡ Some k
-    → k.def.kind ≡ Compute → RunsAfter (verb_done t.way k.verb) (runs (record { moment = time; kind = Settled t (Done name) } ∷ H) a.instance k.def)
+    (H : List Event) (time : ℕ) (t : Tag) (name : List ℕ) (a : Operation) (k : Change) → operation H t.occ ≡ Some a
+    → slice_get a.changes t.change ≡ Some k
+    → k.def.kind ≡ Compute → RunsAfter (verb_done t.way k.verb)
+    (runs (record { moment = time; kind = Settled t (Done name) } ∷ H) a.instance k.def)

@@ -1,6 +1,7 @@
 //! The open attempts of an occurrence, event by event.
 
-ghost use Rattle.lcm_laws.specs.Attempting.{BegunAttemptsAreOpen, EndedAttemptsAreNotOpen, OpenAttemptsFitTheWindow, OpenAttemptsHaveNotEnded, OtherEventsLeaveAttempts};
+ghost use Rattle.lcm_laws.specs.Attempting.{BegunAttemptsAreOpen, EndedAttemptsAreNotOpen, OpenAttemptsFitTheWindow};
+ghost use Rattle.lcm_laws.specs.Attempting.{OpenAttemptsHaveNotEnded, OtherEventsLeaveAttempts};
 
 /// An attempt that is open hasn't ended.
 ///

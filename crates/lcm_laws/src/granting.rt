@@ -1,6 +1,8 @@
 //! Grants: what they give, and what stands behind them.
 
-ghost use Rattle.lcm_laws.specs.Granting.{AttemptsStandBehindGrants, CoveringGrantsAreAllowed, CoveringRowsPlaceChanges, GrantedChangesHavePlaces, GrantedMeansAGrant, PlacesAreTheGrants, RecordedPlacesAreThoseOfRows};
+ghost use Rattle.lcm_laws.specs.Granting.{AttemptsStandBehindGrants, CoveringGrantsAreAllowed};
+ghost use Rattle.lcm_laws.specs.Granting.{CoveringRowsPlaceChanges, GrantedChangesHavePlaces, GrantedMeansAGrant};
+ghost use Rattle.lcm_laws.specs.Granting.{PlacesAreTheGrants, RecordedPlacesAreThoseOfRows};
 
 /// An occurrence was granted exactly where it has a grant.
 ///

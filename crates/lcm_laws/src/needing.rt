@@ -1,9 +1,10 @@
 //! What work needs stands, and what stands is on what stands.
 
-ghost use Rattle.lcm_laws.specs.Needing.{ComputesStandBesideLinks, NeedsAreExact, WhatStandsIsOnWhatStands, WorkFindsWhatItNeeds, WorkFitsWhatStands};
+ghost use Rattle.lcm_laws.specs.Needing.{ComputesStandBesideLinks, NeedsAreExact, WhatStandsIsOnWhatStands};
+ghost use Rattle.lcm_laws.specs.Needing.{WorkFindsWhatItNeeds, WorkFitsWhatStands};
 
-/// What work on a definition needs: a compute that is made needs the storages of its machine, a port its compute and its link, and other work
-/// the definition itself.
+/// What work on a definition needs: a compute that is made needs the storages of its machine, a port its compute and
+/// its link, and other work the definition itself.
 ///
 /// Source: SOL 001 (Vdu.Compute, VduCp).
 pub fn needs_are_exact()

@@ -1,6 +1,7 @@
 //! A change is made at most once at a time, and an occurrence that ended well is made or undone whole.
 
-ghost use Rattle.lcm_laws.specs.Nets.{CompletedIsMade, NetsAreZeroOrOne, OneAttemptIsOpen, OpenAttemptsFitNets, OpenAttemptsFitStates, RolledBackIsUndone};
+ghost use Rattle.lcm_laws.specs.Nets.{CompletedIsMade, NetsAreZeroOrOne, OneAttemptIsOpen, OpenAttemptsFitNets};
+ghost use Rattle.lcm_laws.specs.Nets.{OpenAttemptsFitStates, RolledBackIsUndone};
 
 /// Each net is 0 or 1.
 ///

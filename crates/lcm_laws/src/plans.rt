@@ -1,6 +1,7 @@
 //! The changes of an operation are exactly what is planned, in order.
 
-ghost use Rattle.lcm_laws.specs.Planning.{OperationsBeginInStep, OperationsHavePlans, PlansAreDistinct, PlansAreExact, PlansAreSmall, PlansAreSorted, PlansFitWhatStands, PlansMeetTheirCounts};
+ghost use Rattle.lcm_laws.specs.Planning.{OperationsBeginInStep, OperationsHavePlans, PlansAreDistinct, PlansAreExact};
+ghost use Rattle.lcm_laws.specs.Planning.{PlansAreSmall, PlansAreSorted, PlansFitWhatStands, PlansMeetTheirCounts};
 
 /// A change is in the plan exactly where it is planned.
 ///
@@ -44,14 +45,16 @@ pub fn plans_fit_what_stands()
     ensures { PlansFitWhatStands }
 {}
 
-/// An instance was in step when it was asked to be scaled, started or stopped: each of its machines whole, as many as its levels say, and all links.
+/// An instance was in step when it was asked to be scaled, started or stopped: each of its machines whole, as many as
+/// its levels say, and all links.
 ///
 /// Source: own rule.
 pub fn operations_begin_in_step()
     ensures { OperationsBeginInStep }
 {}
 
-/// As many machines of each VDU stay or are new as the levels that the ask aims at say, but for OPERATE and TERMINATE, which make none.
+/// As many machines of each VDU stay or are new as the levels that the ask aims at say, but for OPERATE and TERMINATE,
+/// which make none.
 ///
 /// Source: SOL 001 (VduScalingAspectDeltas).
 pub fn plans_meet_their_counts()

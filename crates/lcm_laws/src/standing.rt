@@ -1,6 +1,8 @@
 //! What stands of an instance.
 
-ghost use Rattle.lcm_laws.specs.Standing.{ComputesRunAsTheyWereLeft, DeletedInstancesHoldNothing, IdleInstancesHoldNothing, WhatRunsIsAComputeThatStands, WhatStandsHasAPlace, WhatStandsIsOfTheDescriptor};
+ghost use Rattle.lcm_laws.specs.Standing.{ComputesRunAsTheyWereLeft, DeletedInstancesHoldNothing};
+ghost use Rattle.lcm_laws.specs.Standing.{IdleInstancesHoldNothing, WhatRunsIsAComputeThatStands, WhatStandsHasAPlace};
+ghost use Rattle.lcm_laws.specs.Standing.{WhatStandsIsOfTheDescriptor};
 
 /// What stands of an instance is of its descriptor, with a serial up to the greatest.
 ///

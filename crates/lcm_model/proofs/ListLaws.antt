@@ -1,5 +1,6 @@
 -- Laws of lists and ranges that loops cite.
-use Rattle.std.proofs.Common.{◌≡◌, ℕ, ◌+◌, ◌-◌, ◌<◌, suc, List, [], ◌∷◌, refl, ap, sym, add-one, arith, ◌≤◌, Bool, true, length, drop, map, length-drop, zero, take, get_or, ◌*◌, drop-cons, subst, ◌&&◌, false}
+use Rattle.std.proofs.Common.{◌≡◌, ℕ, ◌+◌, ◌-◌, ◌<◌, suc, List, [], ◌∷◌, refl, ap, sym, add-one, arith, ◌≤◌, Bool, true, length, drop, map}
+use Rattle.std.proofs.Common.{length-drop, zero, take, get_or, ◌*◌, drop-cons, subst, ◌&&◌, false}
 use Rattle.std.specs.List.{range_with_len, list_all}
 use Rattle.lcm_model.specs.Levels.{steps_to}
 use Rattle.lcm_model.specs.Words.{total}
@@ -27,8 +28,10 @@ map_short f (x ∷ []) h = omega arith
 map_short f (x ∷ y ∷ xs) h = absurd (omega (arith, h))
 
 -- the last entry rises by what is read from it
-pub rising_end_by : {A B : Type 0} → (p : B → B → Bool) (f : A → B) (xs : List A) (i : ℕ) → length xs ≤ i → is_rising p (map f (drop (i - 1) xs)) ≡ true
-rising_end_by p f xs i h = rising_short p (map f (drop (i - 1) xs)) (map_short f (drop (i - 1) xs) (omega (arith, length-drop (i - 1) xs, h)))
+pub rising_end_by : {A B : Type 0} → (p : B → B → Bool) (f : A → B) (xs : List A) (i : ℕ) → length xs ≤ i
+    → is_rising p (map f (drop (i - 1) xs)) ≡ true
+rising_end_by p f xs i h = rising_short p (map f (drop (i - 1) xs))
+    (map_short f (drop (i - 1) xs) (omega (arith, length-drop (i - 1) xs, h)))
 
 -- the first of some numbers is added first
 pub total_take : (k x : ℕ) (xs : List ℕ) → 0 < k → total (take k (x ∷ xs)) ≡ x + total (take (k - 1) xs)
@@ -52,9 +55,11 @@ pub drop_next : (xs : List ℕ) (i : ℕ) → i < length xs → drop i xs ≡ ge
 drop_next xs i h = rw (add-one, drop-cons xs i 0)
 
 -- a sum goes on by its next number
-pub sum_step : (xs : List ℕ) (i left s t : ℕ) → i < length xs → 0 < left → s + total (take left (drop i xs)) ≡ t → (s + get_or xs i 0) + total (take (left - 1) (drop (i + 1) xs)) ≡ t
+pub sum_step : (xs : List ℕ) (i left s t : ℕ) → i < length xs → 0 < left → s + total (take left (drop i xs)) ≡ t
+    → (s + get_or xs i 0) + total (take (left - 1) (drop (i + 1) xs)) ≡ t
 sum_step xs i left s t h k e =
-    let d : s + total (take left (get_or xs i 0 ∷ drop (i + 1) xs)) ≡ t = subst (λ (ys : List ℕ). s + total (take left ys) ≡ t) (drop_next xs i h) e in
+    let d : s + total (take left (get_or xs i 0 ∷ drop (i + 1) xs)) ≡ t =
+    subst (λ (ys : List ℕ). s + total (take left ys) ≡ t) (drop_next xs i h) e in
     omega (arith, total_take left (get_or xs i 0) (drop (i + 1) xs) k, d)
 
 -- the front and the back of what holds together
@@ -71,9 +76,11 @@ and_both true b ea eb = eb
 and_both false b ea eb = ea
 
 -- what passes a test passes one that asks less
-pub list_all_weaker : {A : Type 0} → (p q : A → Bool) (xs : List A) → ((x : A) → p x ≡ true → q x ≡ true) → list_all p xs ≡ true → list_all q xs ≡ true
+pub list_all_weaker : {A : Type 0} → (p q : A → Bool) (xs : List A) → ((x : A) → p x ≡ true → q x ≡ true) → list_all p xs ≡ true
+    → list_all q xs ≡ true
 list_all_weaker p q [] f h = refl
-list_all_weaker p q (x ∷ xs) f h = and_both (q x) (list_all q xs) (f x (and_front (p x) (list_all p xs) h)) (list_all_weaker p q xs f (and_back (p x) (list_all p xs) h))
+list_all_weaker p q (x ∷ xs) f h = and_both (q x) (list_all q xs) (f x (and_front (p x) (list_all p xs) h))
+    (list_all_weaker p q xs f (and_back (p x) (list_all p xs) h))
 
 -- where all that is left passes a test, the next entry does
 pub small_here : (p : ℕ → Bool) (xs : List ℕ) (i : ℕ) → i < length xs → list_all p (drop i xs) ≡ true → p (get_or xs i 0) ≡ true

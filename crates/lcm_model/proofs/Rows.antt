@@ -11,7 +11,8 @@ use Rattle.lcm_events.specs.declared.changes.Change.{Change}
 use Rattle.lcm_events.specs.declared.changes.DefKind.TheVariants.{Storage, Compute, Port}
 use Rattle.lcm_events.specs.declared.changes.Verb.TheVariants.{Create, Remove, Start, Stop}
 use Rattle.lcm_events.specs.declared.events.Event.{Event}
-use Rattle.lcm_events.specs.declared.events.EventKind.TheVariants.{Asked, CallFailed, CancelAsked, Denied, GrantTried, Granted, Intent, Moved, Posted, Settled, Subscribed}
+use Rattle.lcm_events.specs.declared.events.EventKind.TheVariants.{Asked, CallFailed, CancelAsked, Denied, GrantTried, Granted, Intent}
+use Rattle.lcm_events.specs.declared.events.EventKind.TheVariants.{Moved, Posted, Settled, Subscribed}
 use Rattle.lcm_events.specs.declared.events.GrantTry.TheVariants.{Later, NotCovering, Trouble}
 use Rattle.lcm_events.specs.declared.events.PostOutcome.TheVariants.{NotTaken, Delivered}
 use Rattle.lcm_events.specs.declared.filters.Filter.{Filter}
@@ -39,7 +40,8 @@ use Rattle.lcm_model.specs.Notices.{next_notice, notices}
 use Rattle.lcm_model.specs.Allowed.{IsAllowed}
 use Rattle.lcm_model.specs.Work.{has_net, is_through}
 use Rattle.lcm_model.specs.Next.{GrantLater, appended, is_at_net, next_action}
-use Rattle.lcm_model.specs.Fixture.{asks, at, attempt, begun, completes, does_first, granted, half_way, instantiate, planned, refused, router, running, scale_given_up, scale_in, scale_out, somewhere}
+use Rattle.lcm_model.specs.Fixture.{asks, at, attempt, begun, completes, does_first, granted, half_way, instantiate, planned, refused}
+use Rattle.lcm_model.specs.Fixture.{router, running, scale_given_up, scale_in, scale_out, somewhere}
 
 -- The descriptor.
 
@@ -146,7 +148,8 @@ a_told_location_is_polled : next_action (at (GrantTried 1 (Later (codes "/grant/
 unfolding is_unsettled goes_on effect_in top_in moving is_kept is_live_of is_through has_net is_at_net added is_aspect
 a_told_location_is_polled = refl
 
-an_answer_later_tells_where : appended 1 AskForGrant (GrantLater (Some (codes "/grant/v1/grants/g1"))) ≡ GrantTried 1 (Later (codes "/grant/v1/grants/g1")) ∷ []
+an_answer_later_tells_where : appended 1 AskForGrant (GrantLater (Some (codes "/grant/v1/grants/g1")))
+    ≡ GrantTried 1 (Later (codes "/grant/v1/grants/g1")) ∷ []
 an_answer_later_tells_where = refl
 
 an_answer_later_that_tells_no_place_is_trouble : appended 1 AskForGrant (GrantLater None) ≡ GrantTried 1 Trouble ∷ []
@@ -167,7 +170,8 @@ a_grant_that_misses_some_rolls_back : next_action (at (GrantTried 1 NotCovering)
 unfolding is_unsettled goes_on effect_in top_in moving is_kept is_live_of is_through has_net is_at_net added is_aspect
 a_grant_that_misses_some_rolls_back = refl
 
-five_tries_in_trouble_roll_back : next_action (replicate 5 (at (GrantTried 1 Trouble)) ++ asks 1 instantiate begun) 1 ≡ Some (MoveTo RolledBack)
+five_tries_in_trouble_roll_back : next_action (replicate 5 (at (GrantTried 1 Trouble)) ++ asks 1 instantiate begun) 1
+    ≡ Some (MoveTo RolledBack)
 unfolding is_unsettled goes_on effect_in top_in moving is_kept is_live_of is_through has_net is_at_net added is_aspect
 five_tries_in_trouble_roll_back = refl
 
@@ -226,12 +230,14 @@ a_lost_call_stops_the_work : next_action lost 1 ≡ Some (MoveTo FailedTemp)
 unfolding lost is_unsettled goes_on effect_in top_in moving is_kept is_live_of is_through has_net is_at_net added is_aspect
 a_lost_call_stops_the_work = refl
 
-a_retry_makes_a_second_attempt : next_action (at (Moved 1 Processing) ∷ at (Moved 1 FailedTemp) ∷ lost) 1 ≡ Some (Begin (attempt 1 0 2 Forward))
+a_retry_makes_a_second_attempt : next_action (at (Moved 1 Processing) ∷ at (Moved 1 FailedTemp) ∷ lost) 1
+    ≡ Some (Begin (attempt 1 0 2 Forward))
 unfolding lost is_unsettled goes_on effect_in top_in moving is_kept is_live_of is_through has_net is_at_net added is_aspect
 a_retry_makes_a_second_attempt = refl
 
 a_call_that_failed_and_arrived_is_no_trouble :
-    next_action (at (Settled (attempt 1 0 1 Forward) (Done (codes "r1"))) ∷ at (CallFailed (attempt 1 0 1 Forward)) ∷ at (Intent (attempt 1 0 1 Forward))
+    next_action (at (Settled (attempt 1 0 1 Forward) (Done (codes "r1"))) ∷ at (CallFailed (attempt 1 0 1 Forward))
+    ∷ at (Intent (attempt 1 0 1 Forward))
     ∷ granted 1 13 (asks 1 instantiate begun)) 1 ≡ Some (Begin (attempt 1 1 1 Forward))
 unfolding is_unsettled goes_on effect_in top_in moving is_kept is_live_of is_through has_net is_at_net added is_aspect
 a_call_that_failed_and_arrived_is_no_trouble = refl
@@ -266,7 +272,8 @@ a_graceful_cancel_waits_for_the_grant = refl
 
 stuck : List Event
 unfolding is_unsettled goes_on effect_in top_in moving is_kept is_live_of is_through has_net is_at_net added is_aspect
-stuck = at (Moved 2 FailedTemp) ∷ at (Settled (attempt 2 2 1 Forward) NotBegun) ∷ at (CallFailed (attempt 2 2 1 Forward)) ∷ at (Intent (attempt 2 2 1 Forward))
+stuck = at (Moved 2 FailedTemp) ∷ at (Settled (attempt 2 2 1 Forward) NotBegun) ∷ at (CallFailed (attempt 2 2 1 Forward))
+    ∷ at (Intent (attempt 2 2 1 Forward))
     ∷ does_first 2 2 (granted 2 4 (asks 2 (scale_out 1) running))
 
 rolling_back : List Event
@@ -279,26 +286,32 @@ the_last_change_made_is_undone_first = refl
 
 undone : List Event
 unfolding is_unsettled goes_on effect_in top_in moving is_kept is_live_of is_through has_net is_at_net added is_aspect
-undone = at (Moved 2 FailedTemp) ∷ at (Settled (attempt 2 1 2 Undo) (Done (codes "r15"))) ∷ at (CancelAsked 2 modes.Graceful) ∷ at (Intent (attempt 2 1 2 Undo)) ∷ rolling_back
+undone = at (Moved 2 FailedTemp) ∷ at (Settled (attempt 2 1 2 Undo) (Done (codes "r15"))) ∷ at (CancelAsked 2 modes.Graceful)
+    ∷ at (Intent (attempt 2 1 2 Undo)) ∷ rolling_back
 
 an_undo_takes_the_net_back : net undone 2 1 ≡ 0
-unfolding undone rolling_back stuck is_unsettled goes_on effect_in top_in moving is_kept is_live_of is_through has_net is_at_net added is_aspect
+unfolding undone rolling_back stuck is_unsettled goes_on effect_in top_in moving is_kept is_live_of is_through has_net is_at_net added
+    is_aspect
 an_undo_takes_the_net_back = refl
 
 what_was_undone_stands_no_more : stands undone 1 (def_of Compute 0 3 0) ≡ false
-unfolding undone rolling_back stuck is_unsettled goes_on effect_in top_in moving is_kept is_live_of is_through has_net is_at_net added is_aspect
+unfolding undone rolling_back stuck is_unsettled goes_on effect_in top_in moving is_kept is_live_of is_through has_net is_at_net added
+    is_aspect
 what_was_undone_stands_no_more = refl
 
 what_was_not_undone_stands : stands undone 1 (def_of Storage 0 3 0) ≡ true
-unfolding undone rolling_back stuck is_unsettled goes_on effect_in top_in moving is_kept is_live_of is_through has_net is_at_net added is_aspect
+unfolding undone rolling_back stuck is_unsettled goes_on effect_in top_in moving is_kept is_live_of is_through has_net is_at_net added
+    is_aspect
 what_was_not_undone_stands = refl
 
 a_retry_after_a_rollback_makes_the_third_attempt : next_action (at (Moved 2 Processing) ∷ undone) 2 ≡ Some (Begin (attempt 2 1 3 Forward))
-unfolding undone rolling_back stuck is_unsettled goes_on effect_in top_in moving is_kept is_live_of is_through has_net is_at_net added is_aspect
+unfolding undone rolling_back stuck is_unsettled goes_on effect_in top_in moving is_kept is_live_of is_through has_net is_at_net added
+    is_aspect
 a_retry_after_a_rollback_makes_the_third_attempt = refl
 
 the_rest_is_undone_next :
-    next_action (at (Settled (attempt 2 1 2 Undo) (Done (codes "r15"))) ∷ at (Intent (attempt 2 1 2 Undo)) ∷ rolling_back) 2 ≡ Some (Begin (attempt 2 0 2 Undo))
+    next_action (at (Settled (attempt 2 1 2 Undo) (Done (codes "r15"))) ∷ at (Intent (attempt 2 1 2 Undo)) ∷ rolling_back) 2
+    ≡ Some (Begin (attempt 2 0 2 Undo))
 unfolding rolling_back stuck is_unsettled goes_on effect_in top_in moving is_kept is_live_of is_through has_net is_at_net added is_aspect
 the_rest_is_undone_next = refl
 
@@ -454,7 +467,15 @@ an_operation_is_asked_with_its_plan a = let short : [] ≡ planned begun instant
 
 the_next_change_may_begin : IsAllowed 7 half_way (Intent (attempt 1 3 1 Forward))
 unfolding is_unsettled goes_on effect_in top_in moving is_kept is_live_of is_through has_net is_at_net added is_aspect
-the_next_change_may_begin = record { works = refl; no_trouble = refl; no_cancel = refl; room = lit< tt; none_open = refl; number = refl; turn = (refl, refl) }
+the_next_change_may_begin = record {
+  works = refl;
+  no_trouble = refl;
+  no_cancel = refl;
+  room = lit< tt;
+  none_open = refl;
+  number = refl;
+  turn = (refl, refl);
+}
 
 -- Notices.
 
@@ -464,7 +485,8 @@ everything = record { vnfds = []; instances = []; names = []; notices = []; oper
 
 watched : List Event
 unfolding is_unsettled goes_on effect_in top_in moving is_kept is_live_of is_through has_net is_at_net added is_aspect
-watched = at (Moved 1 Processing) ∷ at (Granted 1 (codes "g1") (somewhere ∷ []) (replicate 13 0)) ∷ asks 1 instantiate (at (Subscribed 1 Element (codes "http://127.0.0.1:9900/n") everything) ∷ begun)
+watched = at (Moved 1 Processing) ∷ at (Granted 1 (codes "g1") (somewhere ∷ []) (replicate 13 0))
+    ∷ asks 1 instantiate (at (Subscribed 1 Element (codes "http://127.0.0.1:9900/n") everything) ∷ begun)
 
 what_was_before_the_subscription_is_not_told : notices 7 watched 1 ≡ 6 ∷ 4 ∷ []
 unfolding watched everything is_unsettled goes_on effect_in top_in moving is_kept is_live_of is_through has_net is_at_net added is_aspect
@@ -487,7 +509,8 @@ unfolding watched everything is_unsettled goes_on effect_in top_in moving is_kep
 what_was_delivered_is_passed = refl
 
 places_stand_in_the_order_of_changes :
-    distinct_places (somewhere ∷ record { vim = codes "vim2"; zone = [] } ∷ somewhere ∷ []) ≡ somewhere ∷ record { vim = codes "vim2"; zone = [] } ∷ []
+    distinct_places (somewhere ∷ record { vim = codes "vim2"; zone = [] } ∷ somewhere ∷ [])
+    ≡ somewhere ∷ record { vim = codes "vim2"; zone = [] } ∷ []
 unfolding is_unsettled goes_on effect_in top_in moving is_kept is_live_of is_through has_net is_at_net added is_aspect
 places_stand_in_the_order_of_changes = refl
 

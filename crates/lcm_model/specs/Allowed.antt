@@ -3,7 +3,9 @@ use Rattle.std.specs.Prelude.{List, None, Option, Some, [], false, filter, is_so
 use Rattle.lcm_events.specs.declared.descriptor.Vnfd.{Vnfd}
 use Rattle.lcm_events.specs.declared.events.Event.{Event}
 use Rattle.lcm_events.specs.declared.events.EventKind.{EventKind}
-use Rattle.lcm_events.specs.declared.events.EventKind.TheVariants.{Asked, CallFailed, CancelAsked, Created, Deleted, Denied, GrantTried, Granted, Intent, Moved, Onboarded, Posted, Settled, Subscribed, Unsubscribed}
+use Rattle.lcm_events.specs.declared.events.EventKind.TheVariants.{Asked, CallFailed, CancelAsked, Created, Deleted}
+use Rattle.lcm_events.specs.declared.events.EventKind.TheVariants.{Denied, GrantTried, Granted, Intent, Moved}
+use Rattle.lcm_events.specs.declared.events.EventKind.TheVariants.{Onboarded, Posted, Settled, Subscribed, Unsubscribed}
 use Rattle.lcm_events.specs.declared.events.GrantTry.{GrantTry}
 use Rattle.lcm_events.specs.declared.events.GrantTry.TheVariants.{Later}
 use Rattle.lcm_events.specs.declared.events.Operation.{Operation}
@@ -14,7 +16,8 @@ use Rattle.lcm_events.specs.declared.states.Role.{Role}
 use Rattle.lcm_model.specs.Moves.{is_active, state}
 use Rattle.lcm_model.specs.Attempts.{is_open}
 use Rattle.lcm_model.specs.Operations.{changes, occurrences_made, operation}
-use Rattle.lcm_model.specs.Lives.{descriptor, descriptor_named, descriptors, instances_made, is_live, is_subscribed, live_instances, live_subscriptions, subscriptions_made}
+use Rattle.lcm_model.specs.Lives.{descriptor, descriptor_named, descriptors, instances_made, is_live, is_subscribed}
+use Rattle.lcm_model.specs.Lives.{live_instances, live_subscriptions, subscriptions_made}
 use Rattle.lcm_model.specs.Grants.{IsPlacing, has_ended, location}
 use Rattle.lcm_model.specs.Holding.{place}
 use Rattle.lcm_model.specs.Since.{has_call_failed, is_forced}
@@ -46,9 +49,11 @@ pub record MayDelete (H : List Event) (i : ℕ) : Type 0 where
 abbrev pub IsPlanOf : List Event → Operation → Option Vnfd → Type 0
 IsPlanOf H a None = ⊥
 IsPlanOf H a (Some d) =
-    (ask_refusal d (situation d H a.instance) a.ask ≡ None) × (a.changes ≡ plan (case_in d (situation d H a.instance) a.ask))
+    (ask_refusal d (situation d H a.instance) a.ask ≡ None)
+    × (a.changes ≡ plan (case_in d (situation d H a.instance) a.ask))
 
--- the operation may be asked for: its number is the next, its instance is live, and it is accepted with its plan (SOL 003 5.4.4 to 5.4.10)
+-- the operation may be asked for: its number is the next, its instance is live, and it is accepted with its plan (SOL
+-- 003 5.4.4 to 5.4.10)
 pub record MayAsk (H : List Event) (a : Operation) : Type 0 where
   pub number : a.occ ≡ occurrences_made H + 1
   pub live : is_live H a.instance ≡ true
@@ -78,7 +83,8 @@ pub record MaySubscribe (H : List Event) (s : ℕ) (role : Role) (f : Filter) : 
   pub room : length (live_subscriptions H role) < MAX_SUBSCRIPTIONS
   pub small : is_small_filter f ≡ true
 
--- the post may be recorded: the subscription is live, and the place is that of its first notice past the cursor (own rule)
+-- the post may be recorded: the subscription is live, and the place is that of its first notice past the cursor (own
+-- rule)
 pub record MayPost (m : ℕ) (H : List Event) (s : ℕ) (place : ℕ) : Type 0 where
   pub live : is_subscribed H s ≡ true
   pub next : next_notice m H s ≡ Some place
@@ -102,7 +108,8 @@ IsAllowedWithin width m H (Subscribed s role callback filter) = MaySubscribe H s
 IsAllowedWithin width m H (Unsubscribed s) = is_subscribed H s ≡ true
 IsAllowedWithin width m H (Posted s place outcome) = MayPost m H s place
 
--- every event was allowed after the events before it, where at most so many attempts of an occurrence may be open (own rule)
+-- every event was allowed after the events before it, where at most so many attempts of an occurrence may be open (own
+-- rule)
 abbrev pub IsLegalWithin : ℕ → ℕ → List Event → Type 0
 IsLegalWithin width m [] = Unit {0}
 IsLegalWithin width m (e ∷ H) = IsAllowedWithin width m H e.kind × IsLegalWithin width m H

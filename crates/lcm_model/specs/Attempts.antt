@@ -1,6 +1,7 @@
 -- The attempts of a change, which of them are open, and the change's net (own rule).
 use Rattle.std.specs.List.{list_any}
-use Rattle.std.specs.Prelude.{Bool, List, None, Option, Some, false, filter, filter_map, length, not, true, ℕ, ◌&&◌, ◌-◌, ◌==◌}
+use Rattle.std.specs.Prelude.{Bool, List, None, Option, Some, false, filter, filter_map, length, not, true, ℕ, ◌&&◌}
+use Rattle.std.specs.Prelude.{◌-◌, ◌==◌}
 use Rattle.lcm_events.specs.Same.{same_tag, same_way}
 use Rattle.lcm_events.specs.declared.attempts.Outcome.{Outcome}
 use Rattle.lcm_events.specs.declared.attempts.Outcome.TheVariants.{Done}

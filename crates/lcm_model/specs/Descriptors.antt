@@ -1,7 +1,8 @@
 -- Which descriptors are valid, and which levels, holdings and changes are of a descriptor (own limits over SOL 001).
 use Rattle.std.specs.List.{list_all}
 use Rattle.std.specs.Option.{option_map_or}
-use Rattle.std.specs.Prelude.{Bool, List, length, map, nat_le, nat_lt, slice_get, true, unwrap_or, zip, ℕ, ◌&&◌, ◌==◌, ◌||◌, ◌≡◌, ◌≤◌}
+use Rattle.std.specs.Prelude.{Bool, List, length, map, nat_le, nat_lt, slice_get, true, unwrap_or, zip, ℕ, ◌&&◌, ◌==◌}
+use Rattle.std.specs.Prelude.{◌||◌, ◌≡◌, ◌≤◌}
 use Rattle.lcm_events.specs.Descriptors.{is_name_before, is_rising, is_valid_steps}
 use Rattle.lcm_events.specs.Same.{kind_number, same_kind}
 use Rattle.lcm_events.specs.declared.changes.Def.{Def}
@@ -23,13 +24,15 @@ is_given name = nat_lt 0 (length name)
 
 -- these levels are of the descriptor: one number for each aspect, within its maximum (SOL 001, ScalingAspects)
 abbrev pub are_levels_of : Vnfd → List ℕ → Bool
-are_levels_of d levels = (length levels == length d.aspects) && list_all (λ x. nat_le x.1 x.0.maximum) (zip d.aspects levels)
+are_levels_of d levels = (length levels == length d.aspects)
+    && list_all (λ x. nat_le x.1 x.0.maximum) (zip d.aspects levels)
 
 -- the VDU's maximum is a number of instances, or none is given (SOL 001, vdu_profile)
 abbrev pub is_valid_maximum : ℕ → Bool
 is_valid_maximum n = nat_le n 65535 || (n == 4294967295)
 
--- the VDU is valid: its name is given, its sizes are within the limits, its storages exist and rise (SOL 001, Vdu.Compute)
+-- the VDU is valid: its name is given, its sizes are within the limits, its storages exist and rise (SOL 001,
+-- Vdu.Compute)
 abbrev pub is_valid_vdu : Vnfd → Vdu → Bool
 is_valid_vdu d u =
     is_given u.name && nat_le u.memory 1152921504606846976 && nat_le 1 u.cpus && nat_le u.cpus 65535
@@ -42,13 +45,16 @@ is_valid_storage x = is_given x.name && nat_le x.size 1152921504606846976
 
 -- the port is valid: its name is given, its VDU exists, and its link where it has one (SOL 001, VduCp)
 abbrev pub is_valid_port : Vnfd → Port → Bool
-is_valid_port d p = is_given p.name && nat_lt p.vdu (length d.vdus) && option_map_or (λ n. nat_lt n (length d.links)) p.link true
+is_valid_port d p = is_given p.name && nat_lt p.vdu (length d.vdus)
+    && option_map_or (λ n. nat_lt n (length d.links)) p.link true
 
 -- the row is valid: its VDU exists, and it has so many deltas, each within the limit (SOL 001, VduScalingAspectDeltas)
 abbrev pub is_valid_row : Vnfd → ℕ → Row → Bool
-is_valid_row d steps row = nat_lt row.vdu (length d.vdus) && (length row.deltas == steps) && list_all (λ n. nat_le n 65535) row.deltas
+is_valid_row d steps row = nat_lt row.vdu (length d.vdus) && (length row.deltas == steps)
+    && list_all (λ n. nat_le n 65535) row.deltas
 
--- the aspect is valid: its name is given, its maximum is within the limit, its rows are valid and rise by VDU (SOL 001, ScalingAspects)
+-- the aspect is valid: its name is given, its maximum is within the limit, its rows are valid and rise by VDU (SOL 001,
+-- ScalingAspects)
 abbrev pub is_valid_aspect : Vnfd → Aspect → Bool
 is_valid_aspect d a =
     is_given a.name && nat_le a.maximum 1000 && is_valid_steps a.maximum a.steps

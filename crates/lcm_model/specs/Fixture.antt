@@ -10,7 +10,8 @@ use Rattle.lcm_events.specs.declared.changes.Change.{Change}
 use Rattle.lcm_events.specs.declared.descriptor.Vnfd.{Vnfd}
 use Rattle.lcm_events.specs.declared.events.Event.{Event}
 use Rattle.lcm_events.specs.declared.events.EventKind.{EventKind}
-use Rattle.lcm_events.specs.declared.events.EventKind.TheVariants.{Asked, CallFailed, Created, Granted, Intent, Moved, Onboarded, Settled}
+use Rattle.lcm_events.specs.declared.events.EventKind.TheVariants.{Asked, CallFailed, Created, Granted, Intent, Moved}
+use Rattle.lcm_events.specs.declared.events.EventKind.TheVariants.{Onboarded, Settled}
 use Rattle.lcm_events.specs.declared.events.Operation.{Operation}
 use Rattle.lcm_events.specs.declared.places.Place.{Place}
 use Rattle.lcm_events.specs.declared.states.OpState.TheVariants.{Completed, Failed, FailedTemp, Processing}
@@ -31,14 +32,24 @@ router = record {
   flavour_id = codes "simple";
   vdus =
       record { name = codes "VDU_A"; memory = 2147483648; cpus = 2; maximum = 11; initial = 1; storages = 0 ∷ [] }
-      ∷ record { name = codes "VDU_B"; memory = 512000000; cpus = 1; maximum = 4294967295; initial = 1; storages = 1 ∷ [] } ∷ [];
-  storages = record { name = codes "STO_A"; size = 10000000000 } ∷ record { name = codes "STO_B"; size = 1000000000 } ∷ [];
+      ∷ record {
+        name = codes "VDU_B";
+        memory = 512000000;
+        cpus = 1;
+        maximum = 4294967295;
+        initial = 1;
+        storages =
+            1 ∷ [];
+      } ∷ [];
+  storages = record { name = codes "STO_A"; size = 10000000000 } ∷ record { name = codes "STO_B"; size = 1000000000 }
+      ∷ [];
   links = codes "net_data" ∷ codes "net_mgmt" ∷ [];
   ports =
       record { name = codes "CP_A_data"; vdu = 0; link = Some 0 }
       ∷ record { name = codes "CP_A_mgmt"; vdu = 0; link = Some 1 }
       ∷ record { name = codes "CP_B_mgmt"; vdu = 1; link = Some 1 } ∷ [];
-  aspects = record { name = codes "workers"; maximum = 10; steps = 1; rows = record { vdu = 0; deltas = 1 ∷ [] } ∷ [] } ∷ [];
+  aspects = record { name = codes "workers"; maximum = 10; steps = 1; rows = record { vdu = 0; deltas = 1 ∷ [] } ∷ [] }
+      ∷ [];
   levels = record { name = codes "normal"; numbers = 1 ∷ [] } ∷ record { name = codes "small"; numbers = 0 ∷ [] } ∷ [];
   default_level = 0;
 }

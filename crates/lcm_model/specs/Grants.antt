@@ -2,7 +2,9 @@
 use Rattle.std.specs.Cmp.Lexicographic.{pointwise}
 use Rattle.std.specs.Fmt.{decimal}
 use Rattle.std.specs.List.{enumerate_from, list_all, list_any}
-use Rattle.std.specs.Prelude.{Bool, List, None, Option, Some, [], false, filter, filter_map, find, length, map, nat_le, nat_lt, option_and_then, option_map, unwrap_or, if◌then◌else◌, slice_get, true, ℕ, ◌&&◌, ◌+◌, ◌==◌, ◌||◌, ◌∷◌, ◌++◌, ◌≡◌, ◌≤◌}
+use Rattle.std.specs.Prelude.{Bool, List, None, Option, Some, [], false, filter, filter_map, find, length, map, nat_le}
+use Rattle.std.specs.Prelude.{nat_lt, option_and_then, option_map, unwrap_or, if◌then◌else◌, slice_get, true, ℕ, ◌&&◌}
+use Rattle.std.specs.Prelude.{◌+◌, ◌==◌, ◌||◌, ◌∷◌, ◌++◌, ◌≡◌, ◌≤◌}
 use Rattle.lcm_events.specs.Same.{same_verb, same_name}
 use Rattle.lcm_events.specs.declared.changes.Change.{Change}
 use Rattle.lcm_events.specs.declared.changes.Verb.{Verb}
@@ -78,7 +80,8 @@ same_place a b = same_name a.vim b.vim && same_name a.zone b.zone
 -- the places that aren't among those seen or before them: each place once, where it comes first (own rule)
 abbrev pub places_after : List Place → List Place → List Place
 places_after seen [] = []
-places_after seen (p ∷ places) = if list_any (same_place p) seen then places_after seen places else p ∷ places_after (seen ++ p ∷ []) places
+places_after seen (p ∷ places) = if list_any (same_place p) seen then places_after seen places
+    else p ∷ places_after (seen ++ p ∷ []) places
 
 -- each place once, where it comes first (own rule)
 abbrev pub distinct_places : List Place → List Place
@@ -92,7 +95,8 @@ same_places a b = pointwise same_place a b
 abbrev pub places_at : List Place → List ℕ → List Place
 places_at places spots = filter_map (slice_get places) spots
 
--- the places are named in the order of the first change that has them, each once, at most 32, and each change has one (own rule)
+-- the places are named in the order of the first change that has them, each once, at most 32, and each change has one
+-- (own rule)
 pub record IsPlacing (places : List Place) (spots : List ℕ) (asked : ℕ) : Type 0 where
   pub one_a_change : length spots ≡ asked
   pub known : list_all (λ n. nat_lt n (length places)) spots ≡ true
@@ -120,7 +124,8 @@ pub record GivenGrant : Type 0 where
 
 -- the grant of o that an event records (SOL 003 9.4.2)
 abbrev pub granted_in : ℕ → EventKind → Option GivenGrant
-granted_in o (Granted occ grant places spots) = when (occ == o) (record { name = grant; places = places; spots = spots })
+granted_in o (Granted occ grant places spots) = when (occ == o)
+    (record { name = grant; places = places; spots = spots })
 granted_in o _ = None
 
 -- the grant of an occurrence (SOL 003 9.4.2)
@@ -135,9 +140,11 @@ change_id k = 100 ∷ decimal k
 abbrev pub ids_of : (Verb → Bool) → List Change → List (List ℕ)
 ids_of p xs = map (λ x. change_id x.0) (filter (λ x. p x.1.verb) (enumerate_from 0 xs))
 
--- rows of a grant, each an identifier with its place, name each of these identifiers once, in any order, and no other (own rule)
+-- rows of a grant, each an identifier with its place, name each of these identifiers once, in any order, and no other
+-- (own rule)
 abbrev pub names_each_once : List (List ℕ) → List (List ℕ × Place) → Bool
-names_each_once ids rows = (length rows == length ids) && list_all (λ id. length (filter (λ r. same_name r.0 id) rows) == 1) ids
+names_each_once ids rows = (length rows == length ids)
+    && list_all (λ id. length (filter (λ r. same_name r.0 id) rows) == 1) ids
 
 -- the verb changes a resource that stays (SOL 003 9.5.2.2)
 abbrev pub is_update : Verb → Bool
@@ -153,7 +160,8 @@ covers xs add remove update =
     && nat_le (length (distinct_places (map (λ r. r.1) (add ++ remove ++ update)))) 32
 
 -- the rows, of those that add, remove and update, among which a change with this verb is named (SOL 003 9.5.2.3)
-abbrev pub rows_for : Verb → List (List ℕ × Place) → List (List ℕ × Place) → List (List ℕ × Place) → List (List ℕ × Place)
+abbrev pub rows_for : Verb → List (List ℕ × Place) → List (List ℕ × Place) → List (List ℕ × Place)
+    → List (List ℕ × Place)
 rows_for Create add remove update = add
 rows_for Remove add remove update = remove
 rows_for _ add remove update = update
@@ -163,7 +171,8 @@ abbrev pub place_in_rows : List (List ℕ × Place) → List ℕ → Option Plac
 place_in_rows rows id = option_map (λ r. r.1) (find (λ r. same_name r.0 id) rows)
 
 -- the place that rows give to a change with its number (SOL 003 9.5.2.3)
-unfoldable pub place_of_row : List (List ℕ × Place) → List (List ℕ × Place) → List (List ℕ × Place) → ℕ × Change → Option Place
+unfoldable pub place_of_row : List (List ℕ × Place) → List (List ℕ × Place) → List (List ℕ × Place) → ℕ × Change
+    → Option Place
 place_of_row add remove update x = place_in_rows (rows_for x.1.verb add remove update) (change_id x.0)
 
 -- the places that rows give to the changes of a plan, in its order (SOL 003 9.5.2.3)
@@ -176,7 +185,8 @@ place_number [] p = None
 place_number (q ∷ places) p = if same_place q p then Some 0 else option_map (λ n. n + 1) (place_number places p)
 
 -- the places that a grant by these rows records: each once, in the order of the first change that has it (own format)
-abbrev pub granted_places : List Change → List (List ℕ × Place) → List (List ℕ × Place) → List (List ℕ × Place) → List Place
+abbrev pub granted_places : List Change → List (List ℕ × Place) → List (List ℕ × Place) → List (List ℕ × Place)
+    → List Place
 granted_places xs add remove update = distinct_places (row_places xs add remove update)
 
 -- the number of the place of each change that a grant by these rows records (own format)

@@ -1,6 +1,8 @@
--- What stands of an instance: the effects of its attempts, the latest first (SOL 003 5.5.3, the resource infos of an instance).
+-- What stands of an instance: the effects of its attempts, the latest first (SOL 003 5.5.3, the resource infos of an
+-- instance).
 use Rattle.std.specs.Option.{option_map_or}
-use Rattle.std.specs.Prelude.{Bool, List, None, Option, false, filter, map, option_and_then, option_map, slice_get, true, ℕ, ◌&&◌, ◌==◌}
+use Rattle.std.specs.Prelude.{Bool, List, None, Option, false, filter, map, option_and_then, option_map, slice_get}
+use Rattle.std.specs.Prelude.{true, ℕ, ◌&&◌, ◌==◌}
 use Rattle.lcm_events.specs.Same.{same_def, same_kind, same_verb, same_way}
 use Rattle.lcm_events.specs.declared.attempts.Outcome.{Outcome}
 use Rattle.lcm_events.specs.declared.attempts.Outcome.TheVariants.{Done}
@@ -23,11 +25,19 @@ use Rattle.lcm_model.specs.Grants.{granted_place}
 
 -- the effect of a tag at a change of an operation (own rule)
 abbrev pub effect : Tag → List ℕ → Operation → Change → Effect
-effect t name a c = record { tag = t; instance = a.instance; def = c.def; verb = verb_done t.way c.verb; resource = name }
+effect t name a c = record {
+  tag = t;
+  instance = a.instance;
+  def = c.def;
+  verb = verb_done t.way c.verb;
+  resource =
+      name;
+}
 
 -- the effect of an attempt with this outcome, after its past (own rule)
 abbrev pub effect_done : List Event → Tag → Outcome → Option Effect
-effect_done H t (Done name) = option_and_then (λ a. option_map (effect t name a) (slice_get a.changes t.change)) (operation H t.occ)
+effect_done H t (Done name) = option_and_then (λ a. option_map (effect t name a) (slice_get a.changes t.change))
+    (operation H t.occ)
 effect_done H t _ = None
 
 -- the effect of an event after its past (own rule)
@@ -80,7 +90,8 @@ resource H i x = option_map (λ y. y.resource) (first (filter is_creation (effec
 
 -- where the resource stands: the place that was granted to its last creation that wasn't an undo (SOL 003 5.5.3)
 abbrev pub place : List Event → ℕ → Def → Option Place
-place H i x = option_and_then (λ y. granted_place H y.tag.occ y.tag.change) (first (filter is_forward_creation (effects H i x)))
+place H i x = option_and_then (λ y. granted_place H y.tag.occ y.tag.change)
+    (first (filter is_forward_creation (effects H i x)))
 
 -- the change is of the VDU (own rule)
 abbrev pub is_of_vdu : ℕ → Change → Bool

@@ -1,6 +1,7 @@
 -- The state of an instance: instantiated, at which levels, started, in step (SOL 003 5.5.2.2, VnfInstance).
 use Rattle.std.specs.List.{list_any, range_with_len}
-use Rattle.std.specs.Prelude.{Bool, List, None, Option, Some, [], false, filter_map, flat_map, if◌then◌else◌, map, option_and_then, option_map, slice_get, true, unwrap_or, ℕ, ◌&&◌, ◌++◌, ◌==◌, ◌∷◌}
+use Rattle.std.specs.Prelude.{Bool, List, None, Option, Some, [], false, filter_map, flat_map, if◌then◌else◌, map}
+use Rattle.std.specs.Prelude.{option_and_then, option_map, slice_get, true, unwrap_or, ℕ, ◌&&◌, ◌++◌, ◌==◌, ◌∷◌}
 use Rattle.lcm_events.specs.Same.{same_def}
 use Rattle.lcm_events.specs.declared.asks.Ask.{Ask}
 use Rattle.lcm_events.specs.declared.asks.Ask.TheVariants.{Heal, Instantiate, Operate, Scale, ScaleToLevel, Terminate}
@@ -72,10 +73,12 @@ inventory H i = record { stands = stands H i; runs = runs H i; top = top H i }
 -- a definition that stands, with its resource and its place (SOL 003 5.5.3)
 abbrev pub held_at : List Event → ℕ → Def → Option Held
 held_at H i x =
-    if stands H i x then option_and_then (λ name. option_map (λ at. record { def = x; resource = name; place = at; running = runs H i x }) (place H i x)) (resource H i x)
+    if stands H i x then option_and_then (λ name. option_map
+    (λ at. record { def = x; resource = name; place = at; running = runs H i x }) (place H i x)) (resource H i x)
     else None
 
--- the definitions of the descriptor with serials up to these, in order of VDU, serial, kind and item, the links last (own rule)
+-- the definitions of the descriptor with serials up to these, in order of VDU, serial, kind and item, the links last
+-- (own rule)
 abbrev pub defs_up_to : Vnfd → (ℕ → ℕ) → List Def
 defs_up_to d top = flat_map (λ v. flat_map (all_defs d v) (range_with_len 1 (top v))) (vdu_numbers d) ++ links d
 

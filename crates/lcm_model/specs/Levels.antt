@@ -1,7 +1,8 @@
 -- How many machines a VDU has at given levels, and the levels that an ask aims at (SOL 001, scaling policies).
 use Rattle.std.specs.Option.{option_map_or}
 use Rattle.std.specs.List.{list_all}
-use Rattle.std.specs.Prelude.{Bool, nat_le, ◌&&◌, min, List, None, Option, Some, [], find, if◌then◌else◌, map, option_map, slice_get, take, unwrap_or, zip, ℕ, ◌*◌, ◌+◌, ◌-◌, ◌==◌, ◌∷◌}
+use Rattle.std.specs.Prelude.{Bool, nat_le, ◌&&◌, min, List, None, Option, Some, [], find, if◌then◌else◌, map}
+use Rattle.std.specs.Prelude.{option_map, slice_get, take, unwrap_or, zip, ℕ, ◌*◌, ◌+◌, ◌-◌, ◌==◌, ◌∷◌}
 use Rattle.lcm_model.specs.Words.{total}
 use Rattle.lcm_events.specs.Same.{same_name}
 use Rattle.lcm_events.specs.declared.asks.Aim.{Aim}
@@ -15,7 +16,8 @@ use Rattle.lcm_events.specs.declared.descriptor.Vnfd.{Vnfd}
 use Rattle.lcm_events.specs.declared.asks.Aim.TheVariants as aims
 use Rattle.lcm_events.specs.declared.asks.ScaleWay.TheVariants.{Out, In}
 
--- what the first n steps add: a single delta holds for every step (SOL 001, VduScalingAspectDeltas; ScalingAspects, step_deltas)
+-- what the first n steps add: a single delta holds for every step (SOL 001, VduScalingAspectDeltas; ScalingAspects,
+-- step_deltas)
 abbrev pub steps_to : ℕ → List ℕ → ℕ
 steps_to n (delta ∷ []) = n * delta
 steps_to n deltas = total (take n deltas)
@@ -72,7 +74,8 @@ to_level level before = level
 abbrev pub at_aspect : List Aspect → List ℕ → (ℕ → ℕ) → List ℕ → List ℕ
 at_aspect [] name f levels = levels
 at_aspect (a ∷ aspects) name f [] = []
-at_aspect (a ∷ aspects) name f (n ∷ levels) = (if same_name a.name name then min (f n) a.maximum else n) ∷ at_aspect aspects name f levels
+at_aspect (a ∷ aspects) name f (n ∷ levels) = (if same_name a.name name then min (f n) a.maximum else n)
+    ∷ at_aspect aspects name f levels
 
 -- the levels, where those of the named aspects are replaced (SOL 003 5.5.2.6)
 abbrev pub replaced : Vnfd → List ℕ → List AspectLevel → List ℕ

@@ -1,10 +1,13 @@
--- What was made and what is live: descriptors, instances, subscriptions (SOL 003 5.4.2, VNF instances; 5.4.18, Subscriptions).
-use Rattle.std.specs.Prelude.{Bool, List, None, Option, Some, filter, filter_map, find, is_some, length, not, option_and_then, ℕ, ◌&&◌, ◌==◌}
+-- What was made and what is live: descriptors, instances, subscriptions (SOL 003 5.4.2, VNF instances; 5.4.18,
+-- Subscriptions).
+use Rattle.std.specs.Prelude.{Bool, List, None, Option, Some, filter, filter_map, find, is_some, length, not}
+use Rattle.std.specs.Prelude.{option_and_then, ℕ, ◌&&◌, ◌==◌}
 use Rattle.lcm_events.specs.Same.{same_name, same_role}
 use Rattle.lcm_events.specs.declared.descriptor.Vnfd.{Vnfd}
 use Rattle.lcm_events.specs.declared.events.Event.{Event}
 use Rattle.lcm_events.specs.declared.events.EventKind.{EventKind}
-use Rattle.lcm_events.specs.declared.events.EventKind.TheVariants.{Created, Deleted, Onboarded, Subscribed, Unsubscribed}
+use Rattle.lcm_events.specs.declared.events.EventKind.TheVariants.{Created, Deleted, Onboarded, Subscribed}
+use Rattle.lcm_events.specs.declared.events.EventKind.TheVariants.{Unsubscribed}
 use Rattle.lcm_events.specs.declared.filters.Filter.{Filter}
 use Rattle.lcm_events.specs.declared.states.Role.{Role}
 use Rattle.lcm_model.specs.Words.{is_among}
@@ -30,7 +33,13 @@ onboarded_in _ = None
 
 -- the instance that an event creates (own rule)
 abbrev pub created_in : EventKind → Option CreatedInstance
-created_in (Created instance vnfd name text) = Some (record { instance = instance; vnfd = vnfd; name = name; text = text })
+created_in (Created instance vnfd name text) = Some (record {
+  instance = instance;
+  vnfd = vnfd;
+  name = name;
+  text =
+      text;
+})
 created_in _ = None
 
 -- the number of the instance that an event deletes (own rule)
@@ -40,7 +49,8 @@ deleted_in _ = None
 
 -- the subscription that an event makes (own rule)
 abbrev pub subscribed_in : EventKind → Option Subscription
-subscribed_in (Subscribed subscription role callback filter) = Some (record { number = subscription; role = role; callback = callback; filter = filter })
+subscribed_in (Subscribed subscription role callback filter) =
+    Some (record { number = subscription; role = role; callback = callback; filter = filter })
 subscribed_in _ = None
 
 -- the number of the subscription that an event ends (own rule)

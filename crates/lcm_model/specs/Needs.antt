@@ -13,7 +13,8 @@ use Rattle.lcm_model.specs.Vnfcs.{compute_def, defs, link_def}
 abbrev pub port_links : Vnfd → ℕ → List Def
 port_links d n = option_map_or (λ p. option_map_or (λ l. link_def l ∷ []) p.link []) (slice_get d.ports n) []
 
--- on what a definition of this kind is made: a compute on its storages, a port on its compute and its link (SOL 001, Vdu.Compute, VduCp)
+-- on what a definition of this kind is made: a compute on its storages, a port on its compute and its link (SOL 001,
+-- Vdu.Compute, VduCp)
 abbrev pub made_on : Vnfd → DefKind → Def → List Def
 made_on d Compute x = defs d Storage x.vdu x.serial
 made_on d Port x = compute_def x.vdu x.serial ∷ port_links d x.item

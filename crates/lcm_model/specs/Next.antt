@@ -1,17 +1,20 @@
 -- The next action of an active occurrence, and the events that it appends (own rule over SOL 003 5.6.2).
 use Rattle.std.specs.List.{range_with_len}
-use Rattle.std.specs.Prelude.{Bool, List, None, Option, Some, [], false, filter, is_some, length, option_and_then, option_map, true, ℕ, ◌+◌, ◌==◌, ◌||◌, ◌∷◌}
+use Rattle.std.specs.Prelude.{Bool, List, None, Option, Some, [], false, filter, is_some, length, option_and_then}
+use Rattle.std.specs.Prelude.{option_map, true, ℕ, ◌+◌, ◌==◌, ◌||◌, ◌∷◌}
 use Rattle.lcm_events.specs.declared.attempts.Outcome.TheVariants.{Aborted, Broken, Done, NotBegun}
 use Rattle.lcm_events.specs.declared.attempts.Tag.{Tag}
 use Rattle.lcm_events.specs.declared.attempts.Way.{Way}
 use Rattle.lcm_events.specs.declared.attempts.Way.TheVariants.{Forward, Undo}
 use Rattle.lcm_events.specs.declared.events.Event.{Event}
 use Rattle.lcm_events.specs.declared.events.EventKind.{EventKind}
-use Rattle.lcm_events.specs.declared.events.EventKind.TheVariants.{CallFailed, Denied, GrantTried, Granted, Intent, Moved, Settled}
+use Rattle.lcm_events.specs.declared.events.EventKind.TheVariants.{CallFailed, Denied, GrantTried, Granted, Intent}
+use Rattle.lcm_events.specs.declared.events.EventKind.TheVariants.{Moved, Settled}
 use Rattle.lcm_events.specs.declared.events.GrantTry.TheVariants.{Later, NotCovering, Trouble}
 use Rattle.lcm_events.specs.declared.places.Place.{Place}
 use Rattle.lcm_events.specs.declared.states.OpState.{OpState}
-use Rattle.lcm_events.specs.declared.states.OpState.TheVariants.{Completed, FailedTemp, Processing, RolledBack, RollingBack, Starting}
+use Rattle.lcm_events.specs.declared.states.OpState.TheVariants.{Completed, FailedTemp, Processing, RolledBack}
+use Rattle.lcm_events.specs.declared.states.OpState.TheVariants.{RollingBack, Starting}
 use Rattle.lcm_model.specs.declared.actions.Action.{Action}
 use Rattle.lcm_model.specs.declared.actions.Action.TheVariants.{AbortAndLook, AskForGrant, Begin, Look, MoveTo, Poll}
 use Rattle.lcm_model.specs.Words.{first, first_some, last, when}
@@ -55,7 +58,8 @@ next_while_asking H o = first_some (
     ∷ when (is_some (location H o)) Poll
     ∷ Some AskForGrant ∷ [])
 
--- what is done while attempts are made: an open one is looked at; after trouble or a cancel the work stops; else this (own rule)
+-- what is done while attempts are made: an open one is looked at; after trouble or a cancel the work stops; else this
+-- (own rule)
 abbrev pub next_at_work : List Event → ℕ → List (Option Action) → Option Action
 next_at_work H o lines = first_some (
     option_map (look_at (is_forced H o)) (first_open H o)
@@ -65,8 +69,10 @@ next_at_work H o lines = first_some (
 -- what is done in a state: changes are made in order, and undone in the reverse order (own rule)
 abbrev pub next_in : OpState → List Event → ℕ → Option Action
 next_in Starting H o = next_while_asking H o
-next_in Processing H o = next_at_work H o (option_map (begin_of H o Forward) (first (with_net H o 0)) ∷ Some (MoveTo Completed) ∷ [])
-next_in RollingBack H o = next_at_work H o (option_map (begin_of H o Undo) (last (with_net H o 1)) ∷ Some (MoveTo RolledBack) ∷ [])
+next_in Processing H o = next_at_work H o (option_map (begin_of H o Forward) (first (with_net H o 0))
+    ∷ Some (MoveTo Completed) ∷ [])
+next_in RollingBack H o = next_at_work H o (option_map (begin_of H o Undo) (last (with_net H o 1))
+    ∷ Some (MoveTo RolledBack) ∷ [])
 next_in _ H o = None
 
 -- the next action of an occurrence that was asked for, which an active one has (own rule)
@@ -90,8 +96,8 @@ pub data Answer : Type 0 where
   LookedRunning : Answer
   LookFailed : Answer
 
--- the events that the answer to a grant request of o appends, the latest first: one that comes later tells where, or is trouble
--- (SOL 003 9.4.2)
+-- the events that the answer to a grant request of o appends, the latest first: one that comes later tells where, or is
+-- trouble (SOL 003 9.4.2)
 abbrev pub granting : ℕ → Answer → List EventKind
 granting o (GrantCame grant places spots) = Granted o grant places spots ∷ []
 granting o GrantMissesSome = GrantTried o NotCovering ∷ []

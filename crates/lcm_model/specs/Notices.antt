@@ -1,7 +1,9 @@
--- The notices of a subscription and how far they were delivered (SOL 003 5.4.18 to 5.4.20, Subscriptions, Notification endpoint).
+-- The notices of a subscription and how far they were delivered (SOL 003 5.4.18 to 5.4.20, Subscriptions, Notification
+-- endpoint).
 use Rattle.std.specs.List.{list_any}
 use Rattle.std.specs.Option.{option_map_or}
-use Rattle.std.specs.Prelude.{Bool, List, None, Option, Some, [], false, filter, filter_map, length, map, nat_le, nat_lt, not, option_and_then, option_map, true, unwrap_or, ℕ, ◌&&◌, ◌+◌, ◌==◌, ◌||◌, ◌∷◌}
+use Rattle.std.specs.Prelude.{Bool, List, None, Option, Some, [], false, filter, filter_map, length, map, nat_le}
+use Rattle.std.specs.Prelude.{nat_lt, not, option_and_then, option_map, true, unwrap_or, ℕ, ◌&&◌, ◌+◌, ◌==◌, ◌||◌, ◌∷◌}
 use Rattle.lcm_events.specs.Same.{same_name, same_state}
 use Rattle.lcm_events.specs.declared.asks.OpKind.{OpKind}
 use Rattle.lcm_events.specs.declared.events.Event.{Event}
@@ -84,12 +86,36 @@ matches m f n =
 
 -- what a notice of an operation's state tells (SOL 003 5.5.2.17, VnfLcmOperationOccurrenceNotification)
 abbrev pub occurrence_facts : List Event → OpState → Operation → Option NoticeFacts
-occurrence_facts H at a = option_map (λ x. record { which = Occurrence; vnfd = x.vnfd; instance = a.instance; name = x.name; op = Some (kind_of a.ask); state = Some at }) (creation H a.instance)
+occurrence_facts H at a = option_map (λ x. record {
+  which = Occurrence;
+  vnfd = x.vnfd;
+  instance = a.instance;
+  name =
+      x.name;
+  op = Some (kind_of a.ask);
+  state = Some at;
+}) (creation H a.instance)
 
 -- what the notice of an event tells, where the event makes one (SOL 003 5.5.2.17 to 5.5.2.19)
 abbrev pub facts_of : List Event → EventKind → Option NoticeFacts
-facts_of H (Created instance vnfd name text) = Some (record { which = Creation; vnfd = vnfd; instance = instance; name = name; op = None; state = None })
-facts_of H (Deleted instance) = option_map (λ x. record { which = Deletion; vnfd = x.vnfd; instance = instance; name = x.name; op = None; state = None }) (creation H instance)
+facts_of H (Created instance vnfd name text) = Some (record {
+  which = Creation;
+  vnfd = vnfd;
+  instance = instance;
+  name =
+      name;
+  op = None;
+  state = None;
+})
+facts_of H (Deleted instance) = option_map (λ x. record {
+  which = Deletion;
+  vnfd = x.vnfd;
+  instance = instance;
+  name =
+      x.name;
+  op = None;
+  state = None;
+}) (creation H instance)
 facts_of H (Asked a) = occurrence_facts H Starting a
 facts_of H (Moved o to) = option_and_then (occurrence_facts H to) (operation H o)
 facts_of H _ = None
@@ -98,7 +124,8 @@ facts_of H _ = None
 abbrev pub is_noticed : ℕ → List Event → EventKind → Subscription → Bool
 is_noticed m H kind sub = option_map_or (matches m sub.filter) (facts_of H kind) false
 
--- the place of an event in the journal, from 1, where it makes a notice of the subscription, which was made before it (own rule)
+-- the place of an event in the journal, from 1, where it makes a notice of the subscription, which was made before it
+-- (own rule)
 abbrev pub notice_in : ℕ → ℕ → List Event → EventKind → Option ℕ
 notice_in m s H kind = option_and_then (λ sub. when (is_noticed m H kind sub) (length H + 1)) (subscription H s)
 

@@ -15,14 +15,18 @@ IsLink p x = (n : ℕ) × (n < length p.vnfd.links) × (x ≡ link_def n)
 
 -- the definition is of one of these machines of its VDU (own rule)
 abbrev pub IsOf : (ℕ → List ℕ) → Case → Def → Type 0
-IsOf serials p x = (x.vdu < length p.vnfd.vdus) × IsIn x.serial (serials x.vdu) × IsIn x (all_defs p.vnfd x.vdu x.serial)
+IsOf serials p x = (x.vdu < length p.vnfd.vdus) × IsIn x.serial (serials x.vdu)
+    × IsIn x (all_defs p.vnfd x.vdu x.serial)
 
 -- a change with this verb at a definition is planned (own rule)
 abbrev pub IsPlannedBy : Case → Verb → Def → Type 0
 IsPlannedBy p Create x = (IsOf (new p) p x) ⊎ ((makes_links p.ask ≡ true) × IsLink p x × (p.held.stands x ≡ false))
-IsPlannedBy p Remove x = (p.held.stands x ≡ true) × ((IsOf (leaving p) p x) ⊎ ((removes_links p.ask ≡ true) × IsLink p x))
-IsPlannedBy p Start x = (starts p.ask ≡ true) × (x.kind ≡ Compute) × IsOf (stay p) p x × (p.held.stands x ≡ true) × (p.held.runs x ≡ false)
-IsPlannedBy p Stop x = (stops p.ask ≡ true) × (x.kind ≡ Compute) × IsOf (there p.vnfd p.held) p x × (p.held.runs x ≡ true)
+IsPlannedBy p Remove x = (p.held.stands x ≡ true) × ((IsOf (leaving p) p x)
+    ⊎ ((removes_links p.ask ≡ true) × IsLink p x))
+IsPlannedBy p Start x = (starts p.ask ≡ true) × (x.kind ≡ Compute) × IsOf (stay p) p x × (p.held.stands x ≡ true)
+    × (p.held.runs x ≡ false)
+IsPlannedBy p Stop x = (stops p.ask ≡ true) × (x.kind ≡ Compute) × IsOf (there p.vnfd p.held) p x
+    × (p.held.runs x ≡ true)
 
 -- the change is planned (own rule)
 abbrev pub IsPlanned : Case → Change → Type 0

@@ -1,6 +1,7 @@
 -- The changes of an operation: which they are, and their order (own rule).
 use Rattle.std.specs.List.{list_any, range_with_len}
-use Rattle.std.specs.Prelude.{Bool, List, [], false, filter, flat_map, if◌then◌else◌, length, map, not, take, true, ℕ, ◌&&◌, ◌++◌, ◌+◌, ◌-◌, ◌==◌, ◌∷◌}
+use Rattle.std.specs.Prelude.{Bool, List, [], false, filter, flat_map, if◌then◌else◌, length, map, not, take, true, ℕ}
+use Rattle.std.specs.Prelude.{◌&&◌, ◌++◌, ◌+◌, ◌-◌, ◌==◌, ◌∷◌}
 use Rattle.lcm_events.specs.Same.{kind_number}
 use Rattle.lcm_events.specs.declared.asks.Ask.{Ask}
 use Rattle.lcm_events.specs.declared.asks.Ask.TheVariants.{Heal, Instantiate, Operate, Terminate}
@@ -32,13 +33,14 @@ want p v = count p.vnfd v p.to
 abbrev pub is_named : List Vnfc → ℕ → ℕ → Bool
 is_named named v s = list_any (λ x. (x.vdu == v) && (x.serial == s)) named
 
--- the machines of a VDU that an ask may leave: none for INSTANTIATE and TERMINATE; for HEAL the whole ones that aren't named,
--- none where none is named; else all (own rule)
+-- the machines of a VDU that an ask may leave: none for INSTANTIATE and TERMINATE; for HEAL the whole ones that aren't
+-- named, none where none is named; else all (own rule)
 abbrev pub may_stay : Ask → Case → ℕ → List ℕ
 may_stay (Instantiate flavour level) p v = []
 may_stay (Terminate mode timeout) p v = []
 may_stay (Heal cause []) p v = []
-may_stay (Heal cause (x ∷ named)) p v = filter (λ s. is_whole p.vnfd p.held v s && not (is_named (x ∷ named) v s)) (there p.vnfd p.held v)
+may_stay (Heal cause (x ∷ named)) p v = filter (λ s. is_whole p.vnfd p.held v s && not (is_named (x ∷ named) v s))
+    (there p.vnfd p.held v)
 may_stay _ p v = there p.vnfd p.held v
 
 -- the serials that stay: for OPERATE all, else the least of those that may, as many as are wanted (own rule)
@@ -54,7 +56,8 @@ stay p v = stay_by p.ask p v
 abbrev pub leaving : Case → ℕ → List ℕ
 leaving p v = filter (λ s. not (is_among (stay p v) s)) (there p.vnfd p.held v)
 
--- the serials that an ask makes: as many as are wanted beside those that stay, above the greatest; none for OPERATE and TERMINATE (own rule)
+-- the serials that an ask makes: as many as are wanted beside those that stay, above the greatest; none for OPERATE and
+-- TERMINATE (own rule)
 abbrev pub new_by : Ask → Case → ℕ → List ℕ
 new_by (Operate started stop) p v = []
 new_by (Terminate mode timeout) p v = []
@@ -87,8 +90,8 @@ stops (Operate started stop) = not started
 stops (Terminate Graceful timeout) = true
 stops _ = false
 
--- when it is a change's turn: links, storages, computes and ports are made, then computes started and stopped, then ports,
--- computes, storages and links removed (own rule)
+-- when it is a change's turn: links, storages, computes and ports are made, then computes started and stopped, then
+-- ports, computes, storages and links removed (own rule)
 abbrev pub phase : Verb → DefKind → ℕ
 phase Create kind = kind_number kind
 phase Remove kind = 8 - kind_number kind
@@ -113,7 +116,8 @@ links_removed p = if removes_links p.ask then filter p.held.stands (links p.vnfd
 
 -- the computes that are started: those that stay and stand stopped (own rule)
 abbrev pub started : Case → List Def
-started p = if starts p.ask then filter (λ x. p.held.stands x && not (p.held.runs x)) (defs_of p Compute (stay p)) else []
+started p = if starts p.ask then filter (λ x. p.held.stands x && not (p.held.runs x)) (defs_of p Compute (stay p))
+    else []
 
 -- the computes that are stopped: those that run (own rule)
 abbrev pub stopped : Case → List Def

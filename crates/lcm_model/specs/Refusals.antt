@@ -1,8 +1,10 @@
--- When an operation, a task or a deletion is refused, and why first (SOL 003 5.4.3 to 5.4.17; the texts and their order are an own rule).
+-- When an operation, a task or a deletion is refused, and why first (SOL 003 5.4.3 to 5.4.17; the texts and their order
+-- are an own rule).
 use Rattle.std.specs.Cmp.Lexicographic.{pointwise}
 use Rattle.std.specs.List.{enumerate_from, list_any}
 use Rattle.std.specs.Option.{option_map_or}
-use Rattle.std.specs.Prelude.{Bool, List, None, Option, Some, [], false, filter, find, is_some, length, nat_lt, not, option_and_then, true, ℕ, ◌&&◌, ◌+◌, ◌==◌, ◌||◌, ◌∷◌}
+use Rattle.std.specs.Prelude.{Bool, List, None, Option, Some, [], false, filter, find, is_some, length, nat_lt, not}
+use Rattle.std.specs.Prelude.{option_and_then, true, ℕ, ◌&&◌, ◌+◌, ◌==◌, ◌||◌, ◌∷◌}
 use Rattle.lcm_events.specs.Same.{same_name, same_state, same_verb}
 use Rattle.lcm_events.specs.declared.asks.Aim.{Aim}
 use Rattle.lcm_events.specs.declared.asks.Ask.{Ask}
@@ -127,7 +129,8 @@ step_refusal Out steps a = when (nat_lt a.0.maximum (a.1 + steps)) refusals.Abov
 -- why what an ask names is refused against what stands (SOL 003 5.5.2.5, 5.5.2.9)
 abbrev pub naming_refusal : Vnfd → Situation → Ask → Option Refusal
 naming_refusal d now (Scale way aspect steps) = option_and_then (step_refusal way steps) (aspect_at d now.levels aspect)
-naming_refusal d now (Heal cause named) = when (list_any (λ x. not (is_there d now.held x.vdu x.serial)) named) refusals.UnknownVnfc
+naming_refusal d now (Heal cause named) = when (list_any (λ x. not (is_there d now.held x.vdu x.serial)) named)
+    refusals.UnknownVnfc
 naming_refusal d now _ = None
 
 -- an ask aims at what is already so (own rule)
@@ -169,13 +172,15 @@ plan_refusal d now ask = first_some (
     ∷ when (not (is_terminate ask) && is_above_profile d (target d now.levels ask)) refusals.AboveProfile
     ∷ when (is_too_large d now.held (plan (case_in d now ask))) refusals.TooManyResources ∷ [])
 
--- why an ask is refused: by its content, by the instance's state, by what stands and is planned, in this order (own rule)
+-- why an ask is refused: by its content, by the instance's state, by what stands and is planned, in this order (own
+-- rule)
 abbrev pub ask_refusal : Vnfd → Situation → Ask → Option Refusal
 ask_refusal d now ask = first_some (content_refusal d ask ∷ state_refusal d now ask ∷ plan_refusal d now ask ∷ [])
 
 -- why the deletion of an instance is refused (SOL 003 5.4.3)
 abbrev pub delete_refusal : List Event → ℕ → Option Refusal
-delete_refusal H i = first_some (when (is_instantiated H i) refusals.Instantiated ∷ when (is_some (first (ongoing H i))) refusals.Ongoing ∷ [])
+delete_refusal H i = first_some (when (is_instantiated H i) refusals.Instantiated
+    ∷ when (is_some (first (ongoing H i))) refusals.Ongoing ∷ [])
 
 -- the state in which a task may be asked (SOL 003 5.4.14 to 5.4.17)
 abbrev pub serves : Task → OpState → Bool
@@ -189,4 +194,5 @@ has_task _ _ = true
 
 -- why a task on an occurrence is refused (SOL 003 5.4.14 to 5.4.17)
 abbrev pub task_refusal : OpKind → OpState → Task → Option TaskRefusal
-task_refusal kind state task = first_some (when (not (has_task kind task)) NotSupported ∷ when (not (serves task state)) (WrongState state) ∷ [])
+task_refusal kind state task = first_some (when (not (has_task kind task)) NotSupported
+    ∷ when (not (serves task state)) (WrongState state) ∷ [])

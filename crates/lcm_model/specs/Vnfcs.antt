@@ -70,7 +70,8 @@ is_there d held v s = list_any held.stands (all_defs d v s)
 abbrev pub there : Vnfd → Inventory → ℕ → List ℕ
 there d held v = filter (is_there d held v) (range_with_len 1 (held.top v))
 
--- the VDU is in step: as many machines as the count, all whole, each running exactly where the instance is started (own rule)
+-- the VDU is in step: as many machines as the count, all whole, each running exactly where the instance is started (own
+-- rule)
 abbrev pub is_vdu_in_step : Vnfd → Inventory → List ℕ → Bool → ℕ → Bool
 is_vdu_in_step d held levels started v =
     (length (there d held v) == count d v levels)
@@ -86,6 +87,7 @@ abbrev pub is_def_in : Vnfd → DefKind → Def → Bool
 is_def_in d Link x = nat_lt x.item (length d.links) && (x.vdu == 65535) && (x.serial == 0)
 is_def_in d kind x = nat_lt x.vdu (length d.vdus) && is_among (items d kind x.vdu) x.item && nat_lt 0 x.serial
 
--- the definition is one of the descriptor's: a link of it, or an item of one of its VDUs with a serial from 1 (own rule)
+-- the definition is one of the descriptor's: a link of it, or an item of one of its VDUs with a serial from 1 (own
+-- rule)
 abbrev pub is_def_of : Vnfd → Def → Bool
 is_def_of d x = is_def_in d x.kind x

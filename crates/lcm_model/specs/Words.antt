@@ -1,6 +1,7 @@
 -- Small words over histories. A history is a list of events, the latest first, so that an event stands before its past.
 use Rattle.std.specs.List.{cons_option, list_any}
-use Rattle.std.specs.Prelude.{unwrap_or, ◌+◌, Bool, List, None, Option, Some, [], false, max, not, true, ℕ, ◌==◌, ◌∷◌, ◌≡◌, ◌⊎◌}
+use Rattle.std.specs.Prelude.{unwrap_or, ◌+◌, Bool, List, None, Option, Some, [], false, max, not, true, ℕ, ◌==◌, ◌∷◌}
+use Rattle.std.specs.Prelude.{◌≡◌, ◌⊎◌}
 use Rattle.lcm_events.specs.declared.events.Event.{Event}
 use Rattle.lcm_events.specs.declared.events.EventKind.{EventKind}
 

@@ -1,6 +1,7 @@
 -- When an attempt may begin and when an occurrence may move (SOL 003 5.6.2; phases and windows are own rules).
 use Rattle.std.specs.List.{enumerate_from, list_all}
-use Rattle.std.specs.Prelude.{Bool, List, None, Option, Some, [], false, length, nat_lt, not, true, ℕ, ◌&&◌, ◌+◌, ◌<◌, ◌==◌, ◌||◌, ◌≡◌}
+use Rattle.std.specs.Prelude.{Bool, List, None, Option, Some, [], false, length, nat_lt, not, true, ℕ, ◌&&◌, ◌+◌, ◌<◌}
+use Rattle.std.specs.Prelude.{◌==◌, ◌||◌, ◌≡◌}
 use Rattle.lcm_events.specs.declared.attempts.Tag.{Tag}
 use Rattle.lcm_events.specs.declared.attempts.Way.{Way}
 use Rattle.lcm_events.specs.declared.attempts.Way.TheVariants.{Forward, Undo}
@@ -8,7 +9,8 @@ use Rattle.lcm_events.specs.declared.changes.Change.{Change}
 use Rattle.lcm_events.specs.declared.events.Event.{Event}
 use Rattle.lcm_events.specs.declared.events.Operation.{Operation}
 use Rattle.lcm_events.specs.declared.states.OpState.{OpState}
-use Rattle.lcm_events.specs.declared.states.OpState.TheVariants.{Completed, Failed, FailedTemp, Processing, RolledBack, RollingBack, Starting}
+use Rattle.lcm_events.specs.declared.states.OpState.TheVariants.{Completed, Failed, FailedTemp, Processing, RolledBack}
+use Rattle.lcm_events.specs.declared.states.OpState.TheVariants.{RollingBack, Starting}
 use Rattle.lcm_model.specs.Moves.{state}
 use Rattle.lcm_model.specs.Attempts.{attempts, net, open_attempts, open_of}
 use Rattle.lcm_model.specs.Operations.{change_of, changes, operation}

@@ -1,6 +1,7 @@
 //! How many machines a VDU has at given levels.
 
-ghost use Rattle.std.specs.Prelude.{◌≡◌, ◌+◌, ◌*◌, ◌<◌, ◌≤◌, IfSome, take, length, map, zip, true, nat_le, option_copied};
+ghost use Rattle.std.specs.Prelude.{◌≡◌, ◌+◌, ◌*◌, ◌<◌, ◌≤◌, IfSome, take, length, map, zip, true, nat_le};
+ghost use Rattle.std.specs.Prelude.{option_copied};
 ghost use Rattle.std.specs.List.{list_all};
 ghost use Rattle.lcm_model.specs.Words.{total};
 ghost use Rattle.lcm_model.specs.Levels.{added, count, has_small_deltas, has_small_row, initial, row_of, steps_to};

@@ -1,5 +1,5 @@
-//! What a history of events means: its definitions, the words that they use, and a program for each question that a descriptor, a plan or
-//! a grant answers alone. What the history itself answers, tables keep.
+//! What a history of events means: its definitions, the words that they use, and a program for each question that a
+//! descriptor, a plan or a grant answers alone. What the history itself answers, tables keep.
 #![tactic(auto)]
 
 mod actions;

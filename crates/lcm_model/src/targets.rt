@@ -20,7 +20,8 @@ fn moved_level(way: ScaleWay, steps: u32, level: u32, maximum: u32) -> u32
 
 /// The level that an aspect has once that of this name is moved by steps.
 fn stepped_level(aspect: &Aspect, name: &Name, way: ScaleWay, steps: u32, level: u32) -> u32
-    ensures { result ≡ (if same_name aspect.now.name name.now then min (moved_by way steps level) aspect.now.maximum else level) }
+    ensures { result ≡ (if same_name aspect.now.name name.now then min (moved_by way steps level) aspect.now.maximum
+        else level) }
 {
     if aspect.name == *name {
         moved_level(way, steps, level, aspect.maximum)
@@ -52,7 +53,8 @@ pub fn stepped_levels(
 
 /// The level that an aspect has once that of this name is replaced.
 fn replaced_level(aspect: &Aspect, name: &Name, level: u32, before: u32) -> u32
-    ensures { result ≡ (if same_name aspect.now.name name.now then min (to_level level before) aspect.now.maximum else before) }
+    ensures { result ≡ (if same_name aspect.now.name name.now then min (to_level level before) aspect.now.maximum
+        else before) }
 {
     if aspect.name == *name {
         level.min(aspect.maximum)

@@ -2,7 +2,9 @@
 
 ghost use Rattle.std.specs.Prelude.{◌≡◌, ◌↔◌, ℕ, List, IsTrue, map, nat_le, nat_lt, zip, ◌&&◌};
 ghost use Rattle.std.specs.List.{list_all};
-ghost use Rattle.lcm_model.specs.Descriptors.{IsValid, are_levels_of, are_sorted, has_sorted_names, has_valid_counts, is_given, is_valid_aspect, is_valid_level, is_valid_port, is_valid_row, is_valid_storage, is_valid_vdu};
+ghost use Rattle.lcm_model.specs.Descriptors.{IsValid, are_levels_of, are_sorted, has_sorted_names, has_valid_counts};
+ghost use Rattle.lcm_model.specs.Descriptors.{is_given, is_valid_aspect, is_valid_level, is_valid_port, is_valid_row};
+ghost use Rattle.lcm_model.specs.Descriptors.{is_valid_storage, is_valid_vdu};
 ghost use Rattle.lcm_events.specs.Descriptors.{is_name_before, is_rising, is_valid_steps};
 
 use lcm_events::{Aspect, Level, Port, Row, Storage, Vdu, Vnfd};

@@ -15,14 +15,16 @@ use Rattle.lcm_model.specs.Descriptors.{IsHoldingOf, IsValid}
 use Rattle.lcm_model.specs.Instances.{holding, inventory, inventory_of, is_instantiated, is_started, levels}
 use Rattle.lcm_model.specs.Levels.{target}
 use Rattle.lcm_model.specs.Plans.{plan}
-use Rattle.lcm_model.specs.Refusals.{Situation, case_in, has_nothing_to_do, is_above_profile, is_terminate, naming_refusal, plan_refusal, situation, state_refusal}
+use Rattle.lcm_model.specs.Refusals.{Situation, case_in, has_nothing_to_do, is_above_profile, is_terminate, naming_refusal, plan_refusal}
+use Rattle.lcm_model.specs.Refusals.{situation, state_refusal}
 use Rattle.lcm_model.specs.Vnfcs.{Inventory, is_there}
 use Rattle.lcm_model.specs.Operations.{ongoing}
 use Rattle.lcm_model.specs.Words.{first, first_some, when}
 use Rattle.lcm_model.specs.declared.refusals.Refusal.{Refusal}
 use Rattle.change_planner.proofs.InventoryLaws.{holding_tells, plans_agree}
 use Rattle.change_planner.specs.Inventories.{case_of}
-use Rattle.change_planner.specs.Planning.{above_profile, aims_at_present, is_oversized, planned_size, unknown_among, unknown_vnfc, vdu_above}
+use Rattle.change_planner.specs.Planning.{above_profile, aims_at_present, is_oversized, planned_size, unknown_among, unknown_vnfc}
+use Rattle.change_planner.specs.Planning.{vdu_above}
 use Rattle.change_planner.specs.declared.refusals.PlanRefusal.TheVariants.{AboveProfile, NothingToDo, TooMany, UnknownVnfc}
 use Rattle.lcm_plans.specs.Cases.{CanBeAsked, refusal_over, scale_refusal, situation_over, standing_refusal, told_as}
 use Rattle.lcm_model.specs.declared.refusals.Refusal.TheVariants as refusals
@@ -46,8 +48,10 @@ numbered_any p k (x ∷ xs) = ap (λ b. p x || b) (numbered_any p (k + 1) xs)
 
 -- refusals of a plan are told in their order
 told_in_order : (s : Option Refusal) (a : Option ℕ) (b : Bool) (c : Option ℕ) (t : Bool) (n : ℕ)
-    → first_some (s ∷ option_and_then told_as (first_some (first_some (option_map UnknownVnfc a ∷ when b NothingToDo ∷ option_map AboveProfile c ∷ []) ∷ when t (TooMany n) ∷ [])) ∷ [])
-    ≡ first_some (first_some (s ∷ when (is_some a) refusals.UnknownVnfc ∷ []) ∷ when b refusals.NothingToDo ∷ when (is_some c) refusals.AboveProfile ∷ when t refusals.TooManyResources ∷ [])
+    → first_some (s ∷ option_and_then told_as (first_some (first_some
+    (option_map UnknownVnfc a ∷ when b NothingToDo ∷ option_map AboveProfile c ∷ []) ∷ when t (TooMany n) ∷ [])) ∷ [])
+    ≡ first_some (first_some (s ∷ when (is_some a) refusals.UnknownVnfc ∷ []) ∷ when b refusals.NothingToDo
+    ∷ when (is_some c) refusals.AboveProfile ∷ when t refusals.TooManyResources ∷ [])
 told_in_order (Some w) a b c t n = refl
 told_in_order None (Some p) b c t n = refl
 told_in_order None None true c t n = refl
@@ -65,9 +69,17 @@ last_alone (Some x) = refl
 
 -- how an instance is, with what a holding says
 abbrev seen : Vnfd → List Event → ℕ → Inventory → Bool → Situation
-seen d H i held busy = record { instantiated = is_instantiated H i; started = is_started H i; levels = levels d H i; held = held; busy = busy }
+seen d H i held busy = record {
+  instantiated = is_instantiated H i;
+  started = is_started H i;
+  levels = levels d H i;
+  held = held;
+  busy =
+      busy;
+}
 
-unknown_told : (d : Vnfd) (h : Holding) (named : List Vnfc) → is_some (unknown_among d h named) ≡ list_any (λ x. not (is_there d (inventory_of h) x.vdu x.serial)) named
+unknown_told : (d : Vnfd) (h : Holding) (named : List Vnfc) → is_some (unknown_among d h named)
+    ≡ list_any (λ x. not (is_there d (inventory_of h) x.vdu x.serial)) named
 unknown_told d h named =
     mapped_some (λ (x : ℕ × Vnfc). x.0) (find (λ x. not (is_there d (inventory_of h) x.1.vdu x.1.serial)) (enumerate_from 0 named))
     ∙ (found_some (λ (x : ℕ × Vnfc). not (is_there d (inventory_of h) x.1.vdu x.1.serial)) (enumerate_from 0 named)
@@ -78,7 +90,8 @@ naming_told : (d : Vnfd) (H : List Event) (i : ℕ) (busy : Bool) (ask : Ask)
     ≡ naming_refusal d (seen d H i (inventory_of (holding d H i)) busy) ask
 naming_told d H i busy (Scale way aspect steps) = first_alone (scale_refusal d (levels d H i) (Scale way aspect steps))
 naming_told d H i busy (Heal cause named) =
-    last_alone (when (is_some (unknown_among d (holding d H i) named)) refusals.UnknownVnfc) ∙ ap (λ b. when b refusals.UnknownVnfc) (unknown_told d (holding d H i) named)
+    last_alone (when (is_some (unknown_among d (holding d H i) named)) refusals.UnknownVnfc)
+    ∙ ap (λ b. when b refusals.UnknownVnfc) (unknown_told d (holding d H i) named)
 naming_told d H i busy (Instantiate flavour level) = refl
 naming_told d H i busy (ScaleToLevel aim) = refl
 naming_told d H i busy (Operate started stop) = refl
@@ -110,16 +123,25 @@ told_over : (d : Vnfd) (H : List Event) (i : ℕ) (busy : Bool) (ask : Ask)
 told_over d H i busy ask =
     let h = holding d H i in
     let to = target d (levels d H i) ask in
-    told_in_order (scale_refusal d (levels d H i) ask) (unknown_vnfc d h ask) (aims_at_present h ask to) (above_profile d ask to) (is_oversized d h ask to) (planned_size d h ask to)
-    ∙ (ap (λ o. first_some (o ∷ when (aims_at_present h ask to) refusals.NothingToDo ∷ when (is_some (above_profile d ask to)) refusals.AboveProfile ∷ when (is_oversized d h ask to) refusals.TooManyResources ∷ [])) (naming_told d H i busy ask)
-    ∙ (ap (λ b. first_some (naming_refusal d (seen d H i (inventory_of h) busy) ask ∷ when b refusals.NothingToDo ∷ when (is_some (above_profile d ask to)) refusals.AboveProfile ∷ when (is_oversized d h ask to) refusals.TooManyResources ∷ [])) (nothing_told d H i (inventory_of h) busy ask)
-    ∙ ap (λ b. first_some (naming_refusal d (seen d H i (inventory_of h) busy) ask ∷ when (has_nothing_to_do d (seen d H i (inventory_of h) busy) ask) refusals.NothingToDo ∷ when b refusals.AboveProfile ∷ when (is_oversized d h ask to) refusals.TooManyResources ∷ [])) (above_told d ask to)))
+    told_in_order (scale_refusal d (levels d H i) ask) (unknown_vnfc d h ask) (aims_at_present h ask to) (above_profile d ask to)
+    (is_oversized d h ask to) (planned_size d h ask to)
+    ∙ (ap (λ o. first_some (o ∷ when (aims_at_present h ask to) refusals.NothingToDo
+    ∷ when (is_some (above_profile d ask to)) refusals.AboveProfile ∷ when (is_oversized d h ask to) refusals.TooManyResources ∷ []))
+    (naming_told d H i busy ask)
+    ∙ (ap (λ b. first_some (naming_refusal d (seen d H i (inventory_of h) busy) ask ∷ when b refusals.NothingToDo
+    ∷ when (is_some (above_profile d ask to)) refusals.AboveProfile ∷ when (is_oversized d h ask to) refusals.TooManyResources ∷ []))
+    (nothing_told d H i (inventory_of h) busy ask)
+    ∙ ap (λ b. first_some (naming_refusal d (seen d H i (inventory_of h) busy) ask
+    ∷ when (has_nothing_to_do d (seen d H i (inventory_of h) busy) ask) refusals.NothingToDo ∷ when b refusals.AboveProfile
+    ∷ when (is_oversized d h ask to) refusals.TooManyResources ∷ [])) (above_told d ask to)))
 
 -- what refuses an ask over the holding of an instance refuses it after the history
-pub refusals_agree : (d : Vnfd) (H : List Event) (i : ℕ) (ask : Ask) → CanBeAsked d H i → refusal_over d (holding d H i) ask ≡ plan_refusal d (situation d H i) ask
+pub refusals_agree : (d : Vnfd) (H : List Event) (i : ℕ) (ask : Ask) → CanBeAsked d H i
+    → refusal_over d (holding d H i) ask ≡ plan_refusal d (situation d H i) ask
 refusals_agree d H i ask can =
     told_over d H i (situation d H i).busy ask
-    ∙ ap (λ held. plan_refusal d (seen d H i held (situation d H i).busy) ask) (holding_tells can.width can.manager H can.legal i d can.described)
+    ∙ ap (λ held. plan_refusal d (seen d H i held (situation d H i).busy) ask)
+    (holding_tells can.width can.manager H can.legal i d can.described)
 
 -- the plan over the holding of an instance is its plan after the history
 pub plans_same : (d : Vnfd) (H : List Event) (i : ℕ) (ask : Ask) → CanBeAsked d H i
@@ -136,14 +158,17 @@ refused_same : (d : Vnfd) (H : List Event) (i : ℕ) (h : Holding) (ask : Ask) �
 refused_same d H i h ask can is = ap (λ (g : Holding). refusal_over d g ask) is ∙ refusals_agree d H i ask can
 
 -- how an instance is after a history is as its holding says
-situation_same : (d : Vnfd) (H : List Event) (i : ℕ) (h : Holding) (busy : Bool) → CanBeAsked d H i → h ≡ holding d H i → busy ≡ is_some (first (ongoing H i))
+situation_same : (d : Vnfd) (H : List Event) (i : ℕ) (h : Holding) (busy : Bool) → CanBeAsked d H i → h ≡ holding d H i
+    → busy ≡ is_some (first (ongoing H i))
     → situation_over h busy ≡ situation d H i
 situation_same d H i h busy can is goes =
     ap (λ (g : Holding). situation_over g busy) is
-    ∙ (ap (λ (held : Inventory). seen d H i held busy) (holding_tells can.width can.manager H can.legal i d can.described) ∙ ap (λ (b : Bool). seen d H i (inventory H i) b) goes)
+    ∙ (ap (λ (held : Inventory). seen d H i held busy) (holding_tells can.width can.manager H can.legal i d can.described)
+    ∙ ap (λ (b : Bool). seen d H i (inventory H i) b) goes)
 
 -- what refuses an ask over its holding refuses it after the history
-pub standing_same : (d : Vnfd) (H : List Event) (i : ℕ) (h : Holding) (busy : Bool) (ask : Ask) → CanBeAsked d H i → h ≡ holding d H i → busy ≡ is_some (first (ongoing H i))
+pub standing_same : (d : Vnfd) (H : List Event) (i : ℕ) (h : Holding) (busy : Bool) (ask : Ask) → CanBeAsked d H i → h ≡ holding d H i
+    → busy ≡ is_some (first (ongoing H i))
     → standing_refusal d h busy ask ≡ first_some (state_refusal d (situation d H i) ask ∷ plan_refusal d (situation d H i) ask ∷ [])
 standing_same d H i h busy ask can is goes =
     ap (λ (s : Situation). first_some (state_refusal d s ask ∷ refusal_over d h ask ∷ [])) (situation_same d H i h busy can is goes)

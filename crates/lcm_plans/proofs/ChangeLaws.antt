@@ -39,4 +39,7 @@ same_itself (x ∷ a) = and_both (same_change x x) (pointwise same_change a a) (
 -- an answer that says whether the entries are the same says whether the lists are equal
 pub same_changes : (r : Bool) (a b : List Change) → r ≡ pointwise same_change a b → IsTrue r ↔ (a ≡ b)
 same_changes true a b e = (λ h. same_entries a b (sym e), λ f. refl)
-same_changes false a b e = (λ h. absurd (true_not_false (sym h)), λ f. absurd (true_not_false (sym (subst (λ (ys : List Change). pointwise same_change a ys ≡ true) f (same_itself a)) ∙ sym e)))
+same_changes false a b e = (
+  λ h. absurd (true_not_false (sym h)),
+  λ f. absurd (true_not_false (sym (subst (λ (ys : List Change). pointwise same_change a ys ≡ true) f (same_itself a)) ∙ sym e)),
+)

@@ -15,15 +15,16 @@ use Rattle.lcm_model.specs.Words.{first_some}
 use Rattle.lcm_model.specs.declared.refusals.Refusal.{Refusal}
 use Rattle.change_planner.specs.Planning.{refusal}
 use Rattle.change_planner.specs.declared.refusals.PlanRefusal.{PlanRefusal}
-use Rattle.change_planner.specs.declared.refusals.PlanRefusal.TheVariants.{AboveProfile, Memory, NothingToDo, TooMany, UnknownVnfc}
+use Rattle.change_planner.specs.declared.refusals.PlanRefusal.TheVariants.{AboveProfile, Memory, NothingToDo, TooMany}
+use Rattle.change_planner.specs.declared.refusals.PlanRefusal.TheVariants.{UnknownVnfc}
 use Rattle.lcm_model.specs.declared.refusals.Refusal.TheVariants as refusals
 
 -- no serial of the instance is past the limit of a holding (own limit)
 abbrev pub HasSmallSerials : List Event → ℕ → Type 0
 HasSmallSerials H i = (v : ℕ) → top H i v < 2147483648
 
--- an ask of the instance can be judged: the history is a manager's legal one, the descriptor is the instance's, and no serial
--- is past the limit of a holding (own rule)
+-- an ask of the instance can be judged: the history is a manager's legal one, the descriptor is the instance's, and no
+-- serial is past the limit of a holding (own rule)
 pub record CanBeAsked (d : Vnfd) (H : List Event) (i : ℕ) : Type 0 where
   pub width : ℕ
   pub manager : ℕ
@@ -46,7 +47,8 @@ told_as Memory = None
 
 -- why an ask is refused over what a holding says stands: by its steps, then as its plan is (own rule)
 abbrev pub refusal_over : Vnfd → Holding → Ask → Option Refusal
-refusal_over d h ask = first_some (scale_refusal d h.levels ask ∷ option_and_then told_as (refusal d h ask (target d h.levels ask)) ∷ [])
+refusal_over d h ask = first_some (scale_refusal d h.levels ask
+    ∷ option_and_then told_as (refusal d h ask (target d h.levels ask)) ∷ [])
 
 -- how an instance is, as its holding says; busy where an operation of it goes on (own rule)
 abbrev pub situation_over : Holding → Bool → Situation
@@ -58,6 +60,7 @@ situation_over h busy = record {
   busy = busy;
 }
 
--- why an ask is refused over what a holding says stands: by the instance's state, by its steps, then as its plan is (own rule)
+-- why an ask is refused over what a holding says stands: by the instance's state, by its steps, then as its plan is
+-- (own rule)
 abbrev pub standing_refusal : Vnfd → Holding → Bool → Ask → Option Refusal
 standing_refusal d h busy ask = first_some (state_refusal d (situation_over h busy) ask ∷ refusal_over d h ask ∷ [])

@@ -1,7 +1,8 @@
 //! The levels that an ask aims at.
 
 ghost use Rattle.std.specs.Prelude.{◌≡◌, IfOk, IfSome, option_copied, true};
-ghost use Rattle.lcm_model.specs.Levels.{aimed, asked_level, at_aspect, default_level, level_of, moved_by, replaced, target, to_level};
+ghost use Rattle.lcm_model.specs.Levels.{aimed, asked_level, at_aspect, default_level, level_of, moved_by, replaced};
+ghost use Rattle.lcm_model.specs.Levels.{target, to_level};
 ghost use Rattle.lcm_model.specs.Instances.{levels};
 ghost use Rattle.lcm_model.specs.Descriptors.{IsValid, are_levels_of};
 
@@ -83,7 +84,8 @@ fn with_level(
     x: &AspectLevel,
 ) -> Result<Vec<u32>, AllocError>
     requires { are_levels_of vnfd.now levels.now ≡ true }
-    ensures value { IfOk result (λ v. v.items ≡ at_aspect vnfd.now.aspects x.now.aspect (to_level x.now.level) levels.now) }
+    ensures value { IfOk result (λ v. v.items ≡ at_aspect vnfd.now.aspects x.now.aspect
+        (to_level x.now.level) levels.now) }
     ensures levels { IfOk result (λ v. are_levels_of vnfd.now v.items ≡ true) }
 {
     replaced_levels(alloc, vnfd.aspects.as_slice(), levels, &x.aspect, x.level)

@@ -95,8 +95,10 @@ pub fn stepped(
     requires levels { are_levels_of vnfd.now levels.now ≡ true }
     ensures moved { IfOk result (λ new. new ≡ at_aspect vnfd.now.aspects aspect.now (moved_by way steps) levels.now) }
     ensures no_aspect { (result ≡ Err StepFault.NoAspect) ↔ (aspect_at vnfd.now levels.now aspect.now ≡ None) }
-    ensures below { (result ≡ Err StepFault.BelowZero) ↔ IsSomeAnd (aspect_at vnfd.now levels.now aspect.now) (IsBelow way steps) }
-    ensures above { (max : ℕ) → (result ≡ Err (StepFault.AboveMax max)) ↔ IsSomeAnd (aspect_at vnfd.now levels.now aspect.now) (IsAbove way steps max) }
+    ensures below { (result ≡ Err StepFault.BelowZero) ↔ IsSomeAnd (aspect_at vnfd.now levels.now aspect.now)
+        (IsBelow way steps) }
+    ensures above { (max : ℕ) → (result ≡ Err (StepFault.AboveMax max))
+        ↔ IsSomeAnd (aspect_at vnfd.now levels.now aspect.now) (IsAbove way steps max) }
 {
     let aspects = vnfd.aspects.as_slice();
     let Some((maximum, level)) = lcm_model::aspect_of(aspects, levels.as_slice(), aspect) else {
@@ -120,11 +122,11 @@ pub fn stepped(
     }
 }
 
-/// The levels that an operation aims at, beside what stands: those of a name for INSTANTIATE and SCALE_TO_LEVEL, or the present ones with
-/// some replaced; the present ones moved by steps for SCALE; else the present ones.
+/// The levels that an operation aims at, beside what stands: those of a name for INSTANTIATE and SCALE_TO_LEVEL, or the
+/// present ones with some replaced; the present ones moved by steps for SCALE; else the present ones.
 ///
-/// Refusals, of SCALE alone and in this order: `NoAspect`, `BelowZero` and `AboveMax`, each exactly where the descriptor and the levels say
-/// so; `Memory`.
+/// Refusals, of SCALE alone and in this order: `NoAspect`, `BelowZero` and `AboveMax`, each exactly where the
+/// descriptor and the levels say so; `Memory`.
 /// Source: SOL 003 5.4.4 to 5.4.10 (the tasks of an individual VNF instance).
 pub fn target(alloc: Global, vnfd: &Vnfd, holding: &Holding, ask: &Ask) -> Result<Levels, StepFault>
     requires valid { IsValid vnfd.now }
@@ -132,7 +134,8 @@ pub fn target(alloc: Global, vnfd: &Vnfd, holding: &Holding, ask: &Ask) -> Resul
     ensures target { IfOk result (λ levels. levels ≡ target vnfd.now holding.now.levels ask.now) }
     ensures no_aspect { (result ≡ Err StepFault.NoAspect) ↔ LacksAspect vnfd.now holding.now.levels ask.now }
     ensures below { (result ≡ Err StepFault.BelowZero) ↔ LeadsBelow vnfd.now holding.now.levels ask.now }
-    ensures above { (max : ℕ) → (result ≡ Err (StepFault.AboveMax max)) ↔ LeadsAbove vnfd.now holding.now.levels max ask.now }
+    ensures above { (max : ℕ) → (result ≡ Err (StepFault.AboveMax max))
+        ↔ LeadsAbove vnfd.now holding.now.levels max ask.now }
 {
     match ask {
         Ask::Scale { way, aspect, steps } => {

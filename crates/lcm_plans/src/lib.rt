@@ -1,5 +1,5 @@
-//! The plan of an operation, and why an operation is refused, over what stands of its instance. The plan alone, and whether what stands is in
-//! step, are change_planner's.
+//! The plan of an operation, and why an operation is refused, over what stands of its instance. The plan alone, and
+//! whether what stands is in step, are change_planner's.
 #![tactic(auto)]
 
 mod aims;

@@ -38,9 +38,12 @@ fn plan_over(
 ) -> Result<Result<Changes, Refusal>, AllocError>
     requires can { CanBePlanned vnfd.now holding.now to.now }
     requires target { to.now ≡ target vnfd.now holding.now.levels ask.now }
-    ensures planned { IfOk result (λ answer. IfOk answer (λ changes. changes ≡ plan (case_of vnfd.now holding.now ask.now to.now))) }
-    ensures accepted { IfOk result (λ answer. IfOk answer (λ changes. refusal_over vnfd.now holding.now ask.now ≡ None)) }
-    ensures refused { IfOk result (λ answer. IfErr answer (λ why. refusal_over vnfd.now holding.now ask.now ≡ Some why)) }
+    ensures planned { IfOk result (λ answer. IfOk answer (λ changes. changes
+        ≡ plan (case_of vnfd.now holding.now ask.now to.now))) }
+    ensures accepted { IfOk result (λ answer. IfOk answer
+        (λ changes. refusal_over vnfd.now holding.now ask.now ≡ None)) }
+    ensures refused { IfOk result (λ answer. IfErr answer
+        (λ why. refusal_over vnfd.now holding.now ask.now ≡ Some why)) }
 {
     if let Some(wrong) = scale_refusal_in(vnfd, holding.levels.as_slice(), ask) {
         return Ok(Err(wrong));
@@ -63,16 +66,20 @@ fn plan_aimed(
 ) -> Result<Result<Changes, Refusal>, AllocError>
     requires valid { IsValid vnfd.now }
     requires held { IsHoldingOf vnfd.now holding.now }
-    ensures planned { IfOk result (λ answer. IfOk answer (λ changes. changes ≡ plan (case_of vnfd.now holding.now ask.now (target vnfd.now holding.now.levels ask.now)))) }
-    ensures accepted { IfOk result (λ answer. IfOk answer (λ changes. refusal_over vnfd.now holding.now ask.now ≡ None)) }
-    ensures refused { IfOk result (λ answer. IfErr answer (λ why. refusal_over vnfd.now holding.now ask.now ≡ Some why)) }
+    ensures planned { IfOk result (λ answer. IfOk answer (λ changes. changes
+        ≡ plan (case_of vnfd.now holding.now ask.now (target vnfd.now holding.now.levels ask.now)))) }
+    ensures accepted { IfOk result (λ answer. IfOk answer
+        (λ changes. refusal_over vnfd.now holding.now ask.now ≡ None)) }
+    ensures refused { IfOk result (λ answer. IfErr answer
+        (λ why. refusal_over vnfd.now holding.now ask.now ≡ Some why)) }
 {
     let to = Listed::of(target_in(alloc, vnfd, holding.levels.as_slice(), ask)?);
     plan_over(alloc, vnfd, holding, ask, &to)
 }
 
-/// The plan of an ask over what stands, or why it is refused: by the instance's state, where `busy` says that an operation of it goes on, by
-/// what stands, or by what is planned, in this order. That the ask's content isn't refused is asked apart.
+/// The plan of an ask over what stands, or why it is refused: by the instance's state, where `busy` says that an
+/// operation of it goes on, by what stands, or by what is planned, in this order. That the ask's content isn't refused
+/// is asked apart.
 ///
 /// Source: docs/MODEL.md, "Plans" and "Refusals".
 pub fn plan_standing(
@@ -84,9 +91,12 @@ pub fn plan_standing(
 ) -> Result<Result<Changes, Refusal>, AllocError>
     requires valid { IsValid vnfd.now }
     requires held { IsHoldingOf vnfd.now holding.now }
-    ensures planned { IfOk result (λ answer. IfOk answer (λ changes. changes ≡ plan (case_of vnfd.now holding.now ask.now (target vnfd.now holding.now.levels ask.now)))) }
-    ensures accepted { IfOk result (λ answer. IfOk answer (λ changes. standing_refusal vnfd.now holding.now busy ask.now ≡ None)) }
-    ensures refused { IfOk result (λ answer. IfErr answer (λ why. standing_refusal vnfd.now holding.now busy ask.now ≡ Some why)) }
+    ensures planned { IfOk result (λ answer. IfOk answer (λ changes. changes
+        ≡ plan (case_of vnfd.now holding.now ask.now (target vnfd.now holding.now.levels ask.now)))) }
+    ensures accepted { IfOk result (λ answer. IfOk answer
+        (λ changes. standing_refusal vnfd.now holding.now busy ask.now ≡ None)) }
+    ensures refused { IfOk result (λ answer. IfErr answer
+        (λ why. standing_refusal vnfd.now holding.now busy ask.now ≡ Some why)) }
 {
     match state_refusal_over(vnfd, holding, busy, ask) {
         Some(wrong) => Ok(Err(wrong)),

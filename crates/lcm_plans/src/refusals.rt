@@ -6,7 +6,9 @@ ghost use Rattle.lcm_events.specs.Same.{same_name};
 ghost use Rattle.lcm_model.specs.Descriptors.{IsHoldingOf, IsValid, are_levels_of};
 ghost use Rattle.lcm_model.specs.Instances.{inventory_of};
 ghost use Rattle.lcm_model.specs.Levels.{is_aspect};
-ghost use Rattle.lcm_model.specs.Refusals.{aim_refusal, aspect_named, content_refusal, has_aspect, instantiation_refusal, is_above, is_known_level, names_twice, needs_started, needs_step, state_refusal, step_refusal};
+ghost use Rattle.lcm_model.specs.Refusals.{aim_refusal, aspect_named, content_refusal, has_aspect};
+ghost use Rattle.lcm_model.specs.Refusals.{instantiation_refusal, is_above, is_known_level, names_twice, needs_started};
+ghost use Rattle.lcm_model.specs.Refusals.{needs_step, state_refusal, step_refusal};
 ghost use Rattle.lcm_model.specs.Vnfcs.{is_in_step};
 ghost use Rattle.lcm_plans.specs.Cases.{scale_refusal, situation_over};
 
@@ -203,7 +205,8 @@ fn instantiation_refusal_in(ask: &Ask, instantiated: bool) -> Option<Refusal>
 fn is_out_of_step(vnfd: &Vnfd, holding: &Holding, ask: &Ask) -> bool
     requires valid { IsValid vnfd.now }
     requires held { IsHoldingOf vnfd.now holding.now }
-    ensures { result ≡ (needs_step ask.now && not (is_in_step vnfd.now (inventory_of holding.now) holding.now.levels holding.now.started)) }
+    ensures { result ≡ (needs_step ask.now && not (is_in_step vnfd.now
+        (inventory_of holding.now) holding.now.levels holding.now.started)) }
 {
     needs_step_in(ask) && !change_planner::is_in_step(vnfd, holding)
 }
@@ -266,7 +269,8 @@ fn steps_refusal_in(
     steps: u32,
 ) -> Option<Refusal>
     requires { length present.now ≡ length aspects.now }
-    ensures { result ≡ option_and_then (step_refusal way steps) (find (is_aspect name.now) (zip aspects.now present.now)) }
+    ensures { result ≡ option_and_then (step_refusal way steps)
+        (find (is_aspect name.now) (zip aspects.now present.now)) }
 {
     match aspect_of(aspects, present, name) {
         Some((maximum, level)) => step_refusal_in(way, steps, maximum, level),

@@ -1,5 +1,7 @@
 -- A walk over rows that hold texts, identifiers and slashes, in the words of a path's segments.
-use Rattle.std.proofs.Common.{◌≡◌, ◌≢◌, ◌⊎◌, inl, inr, ℕ, suc, ◌-◌, ◌<◌, ◌≤◌, List, [], ◌∷◌, ◌++◌, length, drop, Option, Some, None, Bool, true, false, cond, refl, sym, ap, ◌∙◌, subst, arith, nat_eq, ◌==◌, ltb, ◌&&◌, ◌||◌, not, append-nil, length-append}
+use Rattle.std.proofs.Common.{◌≡◌, ◌≢◌, ◌⊎◌, inl, inr, ℕ, suc, ◌-◌, ◌<◌, ◌≤◌, List, [], ◌∷◌, ◌++◌, length, drop, Option, Some, None, Bool}
+use Rattle.std.proofs.Common.{true, false, cond, refl, sym, ap, ◌∙◌, subst, arith, nat_eq, ◌==◌, ltb, ◌&&◌, ◌||◌, not, append-nil}
+use Rattle.std.proofs.Common.{length-append}
 use Rattle.std.proofs.lemmas.Bool.Decides.{nat_tests}
 use Rattle.std.specs.List.{onto_first, ends_with, join_with_byte}
 use Rattle.std.specs.Cmp.Lexicographic.{bytes_decides}
@@ -7,9 +9,11 @@ use Rattle.std.proofs.lemmas.List.Splits.{join_with_byte-slice_split}
 use Rattle.std.specs.Str.{bytes_eq}
 use Rattle.matchit.specs.Rows.{Rows, Seen, rows_of, empty_node, prepend, ends, param_token, catch_all_token}
 use Rattle.matchit.specs.Level.{IsText, AreSuffixes, AllSegment}
-use Rattle.matchit.specs.Seek.{own, step, or_else, seek, first, param_step, has_slash, segment, cuts, longest_from, longest_suffix, after_param}
+use Rattle.matchit.specs.Seek.{own, step, or_else, seek, first, param_step, has_slash, segment, cuts, longest_from, longest_suffix}
+use Rattle.matchit.specs.Seek.{after_param}
 use Rattle.matchit.specs.Router.{map_key, rename}
-use Rattle.matchit.proofs.SeekLemmas.{own-append, step-append, own-prepend, step-hit, step-miss, step-ends, own-ends, or_else-none, param_step-empty, seek-empty, seek-lit, prepend-nil}
+use Rattle.matchit.proofs.SeekLemmas.{own-append, step-append, own-prepend, step-hit, step-miss, step-ends, own-ends, or_else-none}
+use Rattle.matchit.proofs.SeekLemmas.{param_step-empty, seek-empty, seek-lit, prepend-nil}
 use Rattle.matchit.proofs.ParamLemmas.{after_param-end, after_param-stop, after_param-kid, one_less}
 use Rattle.matchit.proofs.RenameLemmas.{or_else-rename}
 use Rattle.lcm_routes.specs.declared.resources.Resource.{Resource}
@@ -49,7 +53,13 @@ step-plain token ((x ∷ t, k) ∷ r) l h =
 pub seek-plain : (r : Rows) (b : ℕ) (p : List ℕ) → all_start_plain r ≡ true → first r (b ∷ p) ≡ first (step b r) p
 unfolding seek
 seek-plain r b p h =
-    simp (step-plain param_token r (omega arith) h, step-plain catch_all_token r (omega arith) h, param_step-empty (b ∷ p), seek-empty ((param_step {K = ℕ} [] (b ∷ p)).0 - 1) p, or_else-none)
+    simp (
+      step-plain param_token r (omega arith) h,
+      step-plain catch_all_token r (omega arith) h,
+      param_step-empty (b ∷ p),
+      seek-empty ((param_step {K = ℕ} [] (b ∷ p)).0 - 1) p,
+      or_else-none,
+    )
 
 -- ---- rows of texts alone: a look-up
 
@@ -66,7 +76,8 @@ pub all_plain-start : (r : Rows) → all_plain r ≡ true → all_start_plain r 
 all_plain-start [] h = refl
 all_plain-start (([], k) ∷ r) h = all_plain-start r h
 all_plain-start ((x ∷ t, k) ∷ r) h =
-    rw (and-left (ltb x 256) (is_plain t) (and-left (ltb x 256 && is_plain t) (all_plain r) h)) (all_plain-start r (and-right (ltb x 256 && is_plain t) (all_plain r) h))
+    rw (and-left (ltb x 256) (is_plain t) (and-left (ltb x 256 && is_plain t) (all_plain r) h))
+    (all_plain-start r (and-right (ltb x 256 && is_plain t) (all_plain r) h))
 
 pub all_plain-step : (b : ℕ) (r : Rows) → all_plain r ≡ true → all_plain (step b r) ≡ true
 all_plain-step b [] h = refl
@@ -94,7 +105,8 @@ look-step b p [] = refl
 look-step b p (([], k) ∷ r) = look-step b p r
 look-step b p ((x ∷ t, k) ∷ r) = by (x == b) refl (look-step b p r)
   where
-    by : (v : Bool) → (x == b) ≡ v → look (step b r) p ≡ look r (b ∷ p) → look (cond (x == b) ((t, k) ∷ step b r) (step b r)) p ≡ look ((x ∷ t, k) ∷ r) (b ∷ p)
+    by : (v : Bool) → (x == b) ≡ v → look (step b r) p ≡ look r (b ∷ p)
+        → look (cond (x == b) ((t, k) ∷ step b r) (step b r)) p ≡ look ((x ∷ t, k) ∷ r) (b ∷ p)
     by true e ih =
         let f : nat_eq b x ≡ true = grind (arith, nat_tests) in
         rw (e, f) (ap (cond (bytes_eq p t) (Some k)) ih)
@@ -129,7 +141,8 @@ apart-start a [] h = refl
 apart-start a (([], k) ∷ r) h = apart-start a r (and-right (is_apart a []) (all_apart a r) h)
 apart-start [] ((y ∷ t, k) ∷ r) h = cc
 apart-start (x ∷ a) ((y ∷ t, k) ∷ r) h =
-    rw (and-left (ltb y 256) (not (x == y) || is_apart a t) (and-left (is_apart (x ∷ a) (y ∷ t)) (all_apart (x ∷ a) r) h)) (apart-start (x ∷ a) r (and-right (is_apart (x ∷ a) (y ∷ t)) (all_apart (x ∷ a) r) h))
+    rw (and-left (ltb y 256) (not (x == y) || is_apart a t) (and-left (is_apart (x ∷ a) (y ∷ t)) (all_apart (x ∷ a) r) h))
+    (apart-start (x ∷ a) r (and-right (is_apart (x ∷ a) (y ∷ t)) (all_apart (x ∷ a) r) h))
 
 apart-own : (a : List ℕ) (r : Rows) → all_apart a r ≡ true → own r ≡ None
 apart-own a [] h = refl
@@ -165,7 +178,8 @@ append-start ((t, k) ∷ r) s h i =
 pub first-apart : (a : List ℕ) (x y : Rows) (path : List ℕ) → is_plain a ≡ true → all_apart a y ≡ true
     → first (prepend a x ++ y) path ≡ or_else (first (prepend a x) path) (first y path)
 unfolding seek
-first-apart [] x y path h i = rw (apart-none y i, append-nil (prepend [] x), seek-empty 0 path) (sym (or_else-none (first (prepend [] x) path)))
+first-apart [] x y path h i = rw (apart-none y i, append-nil (prepend [] x), seek-empty 0 path)
+    (sym (or_else-none (first (prepend [] x) path)))
 first-apart (c ∷ a) x y [] h i = own-append (prepend (c ∷ a) x) y
 first-apart (c ∷ a) x y (b ∷ p) h i =
     let low = and-left (ltb c 256) (is_plain a) h in
@@ -175,7 +189,8 @@ first-apart (c ∷ a) x y (b ∷ p) h i =
     seek-plain (prepend (c ∷ a) x ++ y) b p (append-start (prepend (c ∷ a) x) y front back)
     ∙ ap (λ r. first r p) (step-append b (prepend (c ∷ a) x) y)
     ∙ by (c == b) refl (first-apart a x (step b y) p (and-right (ltb c 256) (is_plain a) h))
-    ∙ sym (ap (λ v. or_else v (first y (b ∷ p))) (seek-plain (prepend (c ∷ a) x) b p front) ∙ ap (or_else (first (step b (prepend (c ∷ a) x)) p)) (seek-plain y b p back))
+    ∙ sym (ap (λ v. or_else v (first y (b ∷ p))) (seek-plain (prepend (c ∷ a) x) b p front)
+    ∙ ap (or_else (first (step b (prepend (c ∷ a) x)) p)) (seek-plain y b p back))
   where
     by : (v : Bool) → (c == b) ≡ v
         → (all_apart a (step b y) ≡ true → first (prepend a x ++ step b y) p ≡ or_else (first (prepend a x) p) (first (step b y) p))
@@ -205,7 +220,8 @@ segments-some (b ∷ p) = by (is_slash b) (segments p)
 abbrev pub Cut : List ℕ → Type 0
 Cut p =
     ((has_slash p ≡ false) × (segment p ≡ p) × (segments p ≡ p ∷ []))
-    ⊎ ((before : List ℕ) × (after : List ℕ) × (p ≡ before ++ (47 ∷ after)) × (segment p ≡ before ++ (47 ∷ [])) × (has_slash p ≡ true) × (segments p ≡ before ∷ segments after))
+    ⊎ ((before : List ℕ) × (after : List ℕ) × (p ≡ before ++ (47 ∷ after)) × (segment p ≡ before ++ (47 ∷ [])) × (has_slash p ≡ true)
+    × (segments p ≡ before ∷ segments after))
 
 pub cut : (p : List ℕ) → Cut p
 cut [] = inl (refl, refl, refl)
@@ -237,7 +253,8 @@ named-slash ((name, resource) ∷ rest) text h l = by (bytes_eq text name) refl 
     by false e ih = rw e ih
 
 -- what stands under an item is one of its tasks
-pub below-task : (c : Collection) (byte : ℕ) (id after : List ℕ) → Slashless c.tasks → below c ((byte ∷ id) ∷ segments after) ≡ named c.tasks after
+pub below-task : (c : Collection) (byte : ℕ) (id after : List ℕ) → Slashless c.tasks
+    → below c ((byte ∷ id) ∷ segments after) ≡ named c.tasks after
 below-task c byte id after h = by (segments after) refl
   where
     by : (l : List (List ℕ)) → segments after ≡ l → below c ((byte ∷ id) ∷ segments after) ≡ named c.tasks after
@@ -253,7 +270,8 @@ module _ (g : ℕ → Resource) where
   named-look [] text = refl
   named-look ((t, k) ∷ r) text = by (bytes_eq text t) (named-look r text)
     where
-      by : (v : Bool) → map_key g (look r text) ≡ named (rename g r) text → map_key g (cond v (Some k) (look r text)) ≡ cond v (Some (g k)) (named (rename g r) text)
+      by : (v : Bool) → map_key g (look r text) ≡ named (rename g r) text
+          → map_key g (cond v (Some k) (look r text)) ≡ cond v (Some (g k)) (named (rename g r) text)
       by true ih = refl
       by false ih = ih
 
@@ -269,7 +287,13 @@ byte-below x b l e = omega arith
 pub first-param : (r : Rows) (b : ℕ) (p : List ℕ) → b < 256 → first (prepend (256 ∷ []) r) (b ∷ p) ≡ after_param r (b ∷ p)
 unfolding seek
 first-param r b p l =
-    rw (step-miss b 256 [] r (no-byte b 256 l), step-hit 256 [] r, prepend-nil r, step-miss 257 256 [] r (byte-below 256 257 (omega arith)), seek-empty 0 p) (or_else-none _)
+    rw (
+      step-miss b 256 [] r (no-byte b 256 l),
+      step-hit 256 [] r,
+      prepend-nil r,
+      step-miss 257 256 [] r (byte-below 256 257 (omega arith)),
+      seek-empty 0 p,
+    ) (or_else-none _)
 
 -- the suffixes of rows that begin with a slash
 abbrev pub suffixes : Rows → List Seen
@@ -286,7 +310,11 @@ slash-segment ((t, k) ∷ r) = (refl, slash-segment r)
 
 are-suffixes : (r : Rows) → AreSuffixes (suffixes r)
 are-suffixes [] = tt
-are-suffixes ((t, k) ∷ r) = (record { some_prefix = omega arith; some_rows = omega arith; all_segment = slash-segment ((t, k) ∷ r) }, tt, tt)
+are-suffixes ((t, k) ∷ r) = (
+  record { some_prefix = omega arith; some_rows = omega arith; all_segment = slash-segment ((t, k) ∷ r) },
+  tt,
+  tt,
+)
 
 longest-none : (seg : List ℕ) (r : Rows) → cuts seg (47 ∷ []) ≡ false → longest_suffix seg (prepend (47 ∷ []) r) ≡ []
 longest-none seg [] h = refl
@@ -296,7 +324,8 @@ longest-kept : (seg : List ℕ) (r : Rows) → longest_from seg (47 ∷ []) (pre
 longest-kept seg [] = refl
 longest-kept seg ((t, k) ∷ r) = longest-kept seg r
 
-longest-slash : (seg t : List ℕ) (k : ℕ) (r : Rows) → cuts seg (47 ∷ []) ≡ true → longest_suffix seg (prepend (47 ∷ []) ((t, k) ∷ r)) ≡ 47 ∷ []
+longest-slash : (seg t : List ℕ) (k : ℕ) (r : Rows) → cuts seg (47 ∷ []) ≡ true
+    → longest_suffix seg (prepend (47 ∷ []) ((t, k) ∷ r)) ≡ 47 ∷ []
 longest-slash seg t k r h = ap (λ v. longest_from seg (cond v (47 ∷ []) []) (prepend (47 ∷ []) r)) h ∙ longest-kept seg r
 
 ends-cons : (x y : ℕ) (q : List ℕ) → ends_with nat_eq (x ∷ y ∷ q) (47 ∷ []) ≡ ends_with nat_eq (y ∷ q) (47 ∷ [])
@@ -336,28 +365,34 @@ module _ (g : ℕ → Resource) (c : Collection) (v : ℕ) (whole : g v ≡ c.it
   after-cut r b p h names free other (inl cutting) =
       let slashless : has_slash (b ∷ p) ≡ false = rw (other, cutting.0) refl in
       let seg : segment (b ∷ p) ≡ b ∷ p = rw other (ap (λ z. b ∷ z) cutting.1) in
-      let no : cuts (segment (b ∷ p)) (47 ∷ []) ≡ false = ap (λ z. cuts z (47 ∷ [])) seg ∙ ap (λ z. ltb 1 (length (b ∷ p)) && z) (ends-none b p slashless) ∙ and-false (ltb 1 (length (b ∷ p))) in
-      let none : longest_suffix (segment (b ∷ p)) (rows_of (suffixes r)) ≡ [] = ap (longest_suffix (segment (b ∷ p))) (rows-suffixes r) ∙ longest-none (segment (b ∷ p)) r no in
+      let no : cuts (segment (b ∷ p)) (47 ∷ []) ≡ false = ap (λ z. cuts z (47 ∷ [])) seg
+      ∙ ap (λ z. ltb 1 (length (b ∷ p)) && z) (ends-none b p slashless) ∙ and-false (ltb 1 (length (b ∷ p))) in
+      let none : longest_suffix (segment (b ∷ p)) (rows_of (suffixes r)) ≡ [] =
+      ap (longest_suffix (segment (b ∷ p))) (rows-suffixes r) ∙ longest-none (segment (b ∷ p)) r no in
       let parts : segments (b ∷ p) ≡ (b ∷ p) ∷ [] = rw (other, cutting.2) refl in
       ap (map_key g) (after_param-end (suffixes r) (Some v) b p (are-suffixes r) none slashless) ∙ ap Some whole ∙ sym (ap (below c) parts)
   after-cut [] b p h names free other (inr (before, after, is, seg, slashed, cutting)) =
       let slash : has_slash (b ∷ p) ≡ true = rw (other, slashed) refl in
       let parts : segments (b ∷ p) ≡ (b ∷ before) ∷ segments after = rw (other, cutting) refl in
-      ap (map_key g) (after_param-stop [] (Some v) b p refl slash) ∙ ap (λ t. named t after) names ∙ sym (below-task c b before after free) ∙ sym (ap (below c) parts)
+      ap (map_key g) (after_param-stop [] (Some v) b p refl slash) ∙ ap (λ t. named t after) names ∙ sym (below-task c b before after free)
+      ∙ sym (ap (below c) parts)
   after-cut ((t, k) ∷ r) b p h names free other (inr (before, after, is, seg, slashed, cutting)) =
       let full : segment (b ∷ p) ≡ b ∷ (before ++ (47 ∷ [])) = rw other (ap (λ z. b ∷ z) seg) in
       let long : ltb 1 (length (b ∷ (before ++ (47 ∷ [])))) ≡ true = grind (arith, nat_tests, length-append before (47 ∷ [])) in
-      let yes : cuts (segment (b ∷ p)) (47 ∷ []) ≡ true = ap (λ z. cuts z (47 ∷ [])) full ∙ and-true (ltb 1 (length (b ∷ (before ++ (47 ∷ []))))) _ long (ends-slash b before) in
+      let yes : cuts (segment (b ∷ p)) (47 ∷ []) ≡ true = ap (λ z. cuts z (47 ∷ [])) full
+      ∙ and-true (ltb 1 (length (b ∷ (before ++ (47 ∷ []))))) _ long (ends-slash b before) in
       let found : longest_suffix (segment (b ∷ p)) (rows_of (suffixes ((t, k) ∷ r))) ≡ 47 ∷ [] =
       ap (longest_suffix (segment (b ∷ p))) (rows-suffixes ((t, k) ∷ r)) ∙ longest-slash (segment (b ∷ p)) t k r yes in
       let taken : length (segment (b ∷ p)) - 1 ≡ suc (length before) = omega (arith, ap length full, length-append before (47 ∷ [])) in
-      let left : drop (length (segment (b ∷ p)) - 1) (b ∷ p) ≡ 47 ∷ after = ap (λ n. drop n (b ∷ p)) taken ∙ ap (drop (length before)) is ∙ drop-before before (47 ∷ after) in
+      let left : drop (length (segment (b ∷ p)) - 1) (b ∷ p) ≡ 47 ∷ after =
+      ap (λ n. drop n (b ∷ p)) taken ∙ ap (drop (length before)) is ∙ drop-before before (47 ∷ after) in
       let parts : segments (b ∷ p) ≡ (b ∷ before) ∷ segments after = rw (other, cutting) refl in
       let walked : first (prepend (47 ∷ []) ((t, k) ∷ r)) (47 ∷ after) ≡ look ((t, k) ∷ r) after =
       seek-plain (prepend (47 ∷ []) ((t, k) ∷ r)) 47 after (prepend-start 47 [] ((t, k) ∷ r) (omega arith))
       ∙ ap (λ z. first z after) (step-hit 47 [] ((t, k) ∷ r) ∙ prepend-nil ((t, k) ∷ r))
       ∙ first-look ((t, k) ∷ r) after h in
-      ap (map_key g) (after_param-kid (suffixes ((t, k) ∷ r)) 0 empty_node (Some v) b p (are-suffixes ((t, k) ∷ r)) (omega arith) (sym found) ∙ ap (first (prepend (47 ∷ []) ((t, k) ∷ r))) left ∙ walked)
+      ap (map_key g) (after_param-kid (suffixes ((t, k) ∷ r)) 0 empty_node (Some v) b p (are-suffixes ((t, k) ∷ r)) (omega arith)
+      (sym found) ∙ ap (first (prepend (47 ∷ []) ((t, k) ∷ r))) left ∙ walked)
       ∙ named-look g ((t, k) ∷ r) after
       ∙ ap (λ z. named z after) names
       ∙ sym (below-task c b before after free)
@@ -369,15 +404,18 @@ module _ (g : ℕ → Resource) (c : Collection) (v : ℕ) (whole : g v ≡ c.it
   unfolding seek
   first-item r [] h names free text = ap (map_key g) (own-prepend 256 [] (prepend (47 ∷ []) r ++ ends (Some v)))
   first-item r (b ∷ p) h names free text =
-      let shown : rows_of (suffixes r) ++ ends (Some v) ≡ prepend (47 ∷ []) r ++ ends (Some v) = ap (λ z. z ++ ends (Some v)) (rows-suffixes r) in
-      ap (map_key g) (first-param (prepend (47 ∷ []) r ++ ends (Some v)) b p text.0 ∙ sym (ap (λ z. after_param z (b ∷ p)) shown)) ∙ by (b == 47) refl
+      let shown : rows_of (suffixes r) ++ ends (Some v) ≡ prepend (47 ∷ []) r ++ ends (Some v) =
+      ap (λ z. z ++ ends (Some v)) (rows-suffixes r) in
+      ap (map_key g) (first-param (prepend (47 ∷ []) r ++ ends (Some v)) b p text.0 ∙ sym (ap (λ z. after_param z (b ∷ p)) shown))
+      ∙ by (b == 47) refl
     where
       by : (w : Bool) → (b == 47) ≡ w → map_key g (after_param (rows_of (suffixes r) ++ ends (Some v)) (b ∷ p)) ≡ below c (segments (b ∷ p))
       by true e =
           let slash : has_slash (b ∷ p) ≡ true = rw e refl in
           let seg : segment (b ∷ p) ≡ b ∷ [] = rw e refl in
           let no : cuts (segment (b ∷ p)) (47 ∷ []) ≡ false = ap (λ z. cuts z (47 ∷ [])) seg in
-          let none : longest_suffix (segment (b ∷ p)) (rows_of (suffixes r)) ≡ [] = ap (longest_suffix (segment (b ∷ p))) (rows-suffixes r) ∙ longest-none (segment (b ∷ p)) r no in
+          let none : longest_suffix (segment (b ∷ p)) (rows_of (suffixes r)) ≡ [] =
+          ap (longest_suffix (segment (b ∷ p))) (rows-suffixes r) ∙ longest-none (segment (b ∷ p)) r no in
           let parts : segments (b ∷ p) ≡ [] ∷ segments p = rw e refl in
           ap (map_key g) (after_param-stop (suffixes r) (Some v) b p none slash) ∙ sym (ap (below c) parts)
       by false e = after-cut r b p h names free e (cut p)
@@ -402,7 +440,8 @@ onto-empty : (b : ℕ) (l : List (List ℕ)) (f : List (List ℕ) → Option Res
 onto-empty b [] f = refl
 onto-empty b (s ∷ l) f = refl
 
-onto-other : (b x : ℕ) (w : List ℕ) (l : List (List ℕ)) (f : List (List ℕ) → Option Resource) → x ≢ b → at_name (x ∷ w) f (onto_first b l) ≡ None
+onto-other : (b x : ℕ) (w : List ℕ) (l : List (List ℕ)) (f : List (List ℕ) → Option Resource) → x ≢ b
+    → at_name (x ∷ w) f (onto_first b l) ≡ None
 onto-other b x w [] f n =
     let e : nat_eq b x ≡ false = grind (arith, nat_tests) in
     rw e refl
@@ -410,7 +449,8 @@ onto-other b x w (s ∷ l) f n =
     let e : nat_eq b x ≡ false = grind (arith, nat_tests) in
     rw e refl
 
-onto-same : (x : ℕ) (w : List ℕ) (l : List (List ℕ)) (f : List (List ℕ) → Option Resource) → 0 < length l → at_name (x ∷ w) f (onto_first x l) ≡ at_name w f l
+onto-same : (x : ℕ) (w : List ℕ) (l : List (List ℕ)) (f : List (List ℕ) → Option Resource) → 0 < length l
+    → at_name (x ∷ w) f (onto_first x l) ≡ at_name w f l
 onto-same x w [] f n = absurd (omega arith)
 onto-same x w (s ∷ l) f n =
     let e : nat_eq x x ≡ true = grind (arith, nat_tests) in
@@ -422,26 +462,31 @@ module _ (g : ℕ → Resource) (f : List (List ℕ) → Option Resource) (x : R
   own-behind = own-append (prepend (47 ∷ []) x) (ends v) ∙ ap (λ z. or_else z (own (ends v))) (own-prepend 47 [] x) ∙ own-ends v
 
   step-behind : (b : ℕ) → step b (prepend (47 ∷ []) x ++ ends v) ≡ step b (prepend (47 ∷ []) x)
-  step-behind b = step-append b (prepend (47 ∷ []) x) (ends v) ∙ ap (λ z. step b (prepend (47 ∷ []) x) ++ z) (step-ends b v) ∙ append-nil (step b (prepend (47 ∷ []) x))
+  step-behind b = step-append b (prepend (47 ∷ []) x) (ends v) ∙ ap (λ z. step b (prepend (47 ∷ []) x) ++ z) (step-ends b v)
+      ∙ append-nil (step b (prepend (47 ∷ []) x))
 
   -- a walk behind a whole name
   first-behind : (tail : List ℕ) → IsText tail → map_key g (first (prepend (47 ∷ []) x ++ ends v) tail) ≡ at_name [] f (segments tail)
   unfolding seek
   first-behind [] text = ap (map_key g) own-behind ∙ own_end
   first-behind (b ∷ p) text =
-      ap (map_key g) (seek-plain (prepend (47 ∷ []) x ++ ends v) b p (append-start (prepend (47 ∷ []) x) (ends v) (prepend-start 47 [] x (omega arith)) (ends-start v)) ∙ ap (λ z. first z p) (step-behind b))
+      ap (map_key g) (seek-plain (prepend (47 ∷ []) x ++ ends v) b p
+      (append-start (prepend (47 ∷ []) x) (ends v) (prepend-start 47 [] x (omega arith)) (ends-start v))
+      ∙ ap (λ z. first z p) (step-behind b))
       ∙ by (b == 47) refl
     where
       by : (w : Bool) → (b == 47) ≡ w → map_key g (first (step b (prepend (47 ∷ []) x)) p) ≡ at_name [] f (segments (b ∷ p))
       by true e =
           let same : 47 ≡ b = grind (arith, nat_tests) in
-          let hit : step b (prepend (47 ∷ []) x) ≡ x = subst (λ z. step z (prepend (47 ∷ []) x) ≡ x) same (step-hit 47 [] x ∙ prepend-nil x) in
+          let hit : step b (prepend (47 ∷ []) x) ≡ x = subst (λ z. step z (prepend (47 ∷ []) x) ≡ x) same
+          (step-hit 47 [] x ∙ prepend-nil x) in
           let parts : segments (b ∷ p) ≡ [] ∷ segments p = rw e refl in
           ap (λ z. map_key g (first z p)) hit ∙ under_slash p text.1 ∙ sym (ap (at_name [] f) parts)
       by false e =
           let n : 47 ≢ b = λ q. grind (arith, nat_tests) in
           let parts : segments (b ∷ p) ≡ onto_first b (segments p) = rw e refl in
-          ap (λ z. map_key g (first z p)) (step-miss b 47 [] x n) ∙ ap (map_key g) (seek-empty 0 p) ∙ sym (ap (at_name [] f) parts ∙ onto-empty b (segments p) f)
+          ap (λ z. map_key g (first z p)) (step-miss b 47 [] x n) ∙ ap (map_key g) (seek-empty 0 p)
+          ∙ sym (ap (at_name [] f) parts ∙ onto-empty b (segments p) f)
 
   -- a walk over rows behind a name gives what the segments behind it stand for
   pub first-name : (name tail : List ℕ) → is_name name ≡ true → IsText tail
@@ -453,22 +498,27 @@ module _ (g : ℕ → Resource) (f : List (List ℕ) → Option Resource) (x : R
       let low : c < 256 = grind (arith, nat_tests, and-left (ltb c 256) (not (c == 47) && is_name name) h) in
       let later = and-right (ltb c 256) (not (c == 47) && is_name name) h in
       ap (map_key g) (seek-lit c name (prepend (47 ∷ []) x ++ ends v) b p low)
-      ∙ by (c == b) refl (first-name name p (and-right (not (c == 47)) (is_name name) later) text.1) (and-left (not (c == 47)) (is_name name) later)
+      ∙ by (c == b) refl (first-name name p (and-right (not (c == 47)) (is_name name) later) text.1)
+      (and-left (not (c == 47)) (is_name name) later)
     where
-      by : (w : Bool) → (c == b) ≡ w → map_key g (first (prepend name (prepend (47 ∷ []) x ++ ends v)) p) ≡ at_name name f (segments p) → not (c == 47) ≡ true
+      by : (w : Bool) → (c == b) ≡ w → map_key g (first (prepend name (prepend (47 ∷ []) x ++ ends v)) p) ≡ at_name name f (segments p)
+          → not (c == 47) ≡ true
           → map_key g (first (step b (prepend (c ∷ name) (prepend (47 ∷ []) x ++ ends v))) p) ≡ at_name (c ∷ name) f (segments (b ∷ p))
       by true e ih other =
           let same : c ≡ b = grind (arith, nat_tests) in
           let hit : step b (prepend (c ∷ name) (prepend (47 ∷ []) x ++ ends v)) ≡ prepend name (prepend (47 ∷ []) x ++ ends v) =
-          subst (λ z. step z (prepend (c ∷ name) (prepend (47 ∷ []) x ++ ends v)) ≡ prepend name (prepend (47 ∷ []) x ++ ends v)) same (step-hit c name (prepend (47 ∷ []) x ++ ends v)) in
+          subst (λ z. step z (prepend (c ∷ name) (prepend (47 ∷ []) x ++ ends v)) ≡ prepend name (prepend (47 ∷ []) x ++ ends v)) same
+          (step-hit c name (prepend (47 ∷ []) x ++ ends v)) in
           let no : (b == 47) ≡ false = grind (arith, nat_tests) in
           let parts : segments (b ∷ p) ≡ onto_first b (segments p) = rw no refl in
           let more : at_name (c ∷ name) f (onto_first b (segments p)) ≡ at_name name f (segments p) =
-          subst (λ z. at_name (c ∷ name) f (onto_first z (segments p)) ≡ at_name name f (segments p)) same (onto-same c name (segments p) f (segments-some p)) in
+          subst (λ z. at_name (c ∷ name) f (onto_first z (segments p)) ≡ at_name name f (segments p)) same
+          (onto-same c name (segments p) f (segments-some p)) in
           ap (λ z. map_key g (first z p)) hit ∙ ih ∙ sym (ap (at_name (c ∷ name) f) parts ∙ more)
       by false e ih other =
           let n : c ≢ b = λ q. grind (arith, nat_tests) in
-          ap (λ z. map_key g (first z p)) (step-miss b c name (prepend (47 ∷ []) x ++ ends v) n) ∙ ap (map_key g) (seek-empty 0 p) ∙ sym (missed (b == 47) refl)
+          ap (λ z. map_key g (first z p)) (step-miss b c name (prepend (47 ∷ []) x ++ ends v) n) ∙ ap (map_key g) (seek-empty 0 p)
+          ∙ sym (missed (b == 47) refl)
         where
           missed : (w : Bool) → (b == 47) ≡ w → at_name (c ∷ name) f (segments (b ∷ p)) ≡ None
           missed true q = rw q refl
@@ -493,14 +543,16 @@ pick : (c : Collection) (others : List Collection) (l : List (List ℕ)) → ((r
 pick c others [] apart = among-empty others
 pick c others (s ∷ rest) apart = by (bytes_eq s c.name) refl
   where
-    by : (w : Bool) → bytes_eq s c.name ≡ w → or_else (cond (bytes_eq s c.name) (below c rest) None) (among others (s ∷ rest)) ≡ cond (bytes_eq s c.name) (below c rest) (among others (s ∷ rest))
+    by : (w : Bool) → bytes_eq s c.name ≡ w → or_else (cond (bytes_eq s c.name) (below c rest) None) (among others (s ∷ rest))
+        ≡ cond (bytes_eq s c.name) (below c rest) (among others (s ∷ rest))
     by true e =
         let same : s ≡ c.name = (bytes_decides s c.name).0 e in
         let none : among others (s ∷ rest) ≡ None = ap (λ z. among others (z ∷ rest)) same ∙ apart rest in
         rw (e, none) (or-none (below c rest))
     by false e = rw e refl
 
-pub first-among : (g : ℕ → Resource) (c : Collection) (others : List Collection) (x y : Rows) (tail : List ℕ) → is_plain c.name ≡ true → all_apart c.name y ≡ true
+pub first-among : (g : ℕ → Resource) (c : Collection) (others : List Collection) (x y : Rows) (tail : List ℕ) → is_plain c.name ≡ true
+    → all_apart c.name y ≡ true
     → ((rest : List (List ℕ)) → among others (c.name ∷ rest) ≡ None)
     → map_key g (first (prepend c.name x) tail) ≡ at_name c.name (below c) (segments tail)
     → map_key g (first y tail) ≡ among others (segments tail)

@@ -1,10 +1,13 @@
 -- Which resource of the VNF lifecycle management interface a path names (SOL 003 5.3, Resource structure and methods).
 use Rattle.std.specs.Prelude.{ℕ, List, [], ◌∷◌, codes, Option, Some, None, if◌then◌else◌}
 use Rattle.std.specs.Str.{bytes_eq}
-use Rattle.lcm_events.specs.declared.asks.OpKind.TheVariants.{Instantiate, Scale, ScaleToLevel, Heal, Operate, Terminate, ChangeFlavour}
+use Rattle.lcm_events.specs.declared.asks.OpKind.TheVariants.{Instantiate, Scale, ScaleToLevel, Heal, Operate}
+use Rattle.lcm_events.specs.declared.asks.OpKind.TheVariants.{Terminate, ChangeFlavour}
 use Rattle.lcm_events.specs.declared.states.Task.TheVariants.{Retry, Rollback, Fail, Cancel}
 use Rattle.lcm_routes.specs.declared.resources.Resource.{Resource}
-use Rattle.lcm_routes.specs.declared.resources.Resource.TheVariants.{Instances, Instance, InstanceTask, Occurrences, Occurrence, OccurrenceTask, Subscriptions, Subscription}
+use Rattle.lcm_routes.specs.declared.resources.Resource.TheVariants.{Instances, Instance, InstanceTask, Occurrences}
+use Rattle.lcm_routes.specs.declared.resources.Resource.TheVariants.{Occurrence, OccurrenceTask, Subscriptions}
+use Rattle.lcm_routes.specs.declared.resources.Resource.TheVariants.{Subscription}
 use Rattle.lcm_routes.specs.Targets.{segments}
 
 -- names, each with the resource that it stands for
@@ -56,8 +59,8 @@ collections =
     ∷ record { name = codes "vnf_lcm_op_occs"; whole = Occurrences; item = Occurrence; tasks = occurrence_tasks }
     ∷ []
 
--- What these segments behind a collection's name stand for. An identifier is any segment that isn't empty; what stands under
--- it is one of its tasks.
+-- What these segments behind a collection's name stand for. An identifier is any segment that isn't empty; what stands
+-- under it is one of its tasks.
 abbrev pub below : Collection → List (List ℕ) → Option Resource
 below c [] = Some c.whole
 below c ([] ∷ rest) = None
@@ -82,7 +85,7 @@ under [] segments = among collections segments
 under (part ∷ front) [] = None
 under (part ∷ front) (segment ∷ rest) = if bytes_eq segment part then under front rest else None
 
--- The resource that a path names, byte for byte; none where it is no path of the interface, as with a slash at its end, an empty
--- segment or other letters (SOL 003 5.3, RFC 3986 3.3).
+-- The resource that a path names, byte for byte; none where it is no path of the interface, as with a slash at its end,
+-- an empty segment or other letters (SOL 003 5.3, RFC 3986 3.3).
 abbrev pub resource_of : List ℕ → Option Resource
 resource_of path = under root (segments path)

@@ -1,5 +1,5 @@
--- The parts of a request target (RFC 3986 3.3, Path, and 3.4, Query): the path up to the first question mark, and the query
--- behind it. Both are taken as they stand: no byte is decoded.
+-- The parts of a request target (RFC 3986 3.3, Path, and 3.4, Query): the path up to the first question mark, and the
+-- query behind it. Both are taken as they stand: no byte is decoded.
 use Rattle.std.specs.Prelude.{ℕ, Bool, List, [], codes, nat_eq, ◌==◌, slice_get}
 use Rattle.std.specs.Option.{unwrap_or}
 use Rattle.std.specs.List.{slice_split, before_first, after_first, starts_with, list_any}
@@ -40,8 +40,8 @@ is_filter part = starts_with nat_eq part (codes "filter=")
 abbrev pub asks_filter : List ℕ → Bool
 asks_filter target = list_any is_filter (query_parts target)
 
--- The text of the identifier in a path of the interface: its fifth segment, behind the empty one before the first slash, the
--- interface's name, its version and the collection's name; empty where there are fewer (SOL 003 5.3, Resource structure and
--- methods).
+-- The text of the identifier in a path of the interface: its fifth segment, behind the empty one before the first
+-- slash, the interface's name, its version and the collection's name; empty where there are fewer (SOL 003 5.3,
+-- Resource structure and methods).
 abbrev pub identifier_in : List ℕ → List ℕ
 identifier_in path = unwrap_or (slice_get (segments path) 4) []

@@ -44,8 +44,8 @@ fn is_filter(part: &str) -> bool
     part.starts_with("filter=")
 }
 
-/// The text of the identifier in a path: its fifth segment, which stands behind the collection's name and its slash, up to the
-/// next slash or the end. It is empty where there is none.
+/// The text of the identifier in a path: its fifth segment, which stands behind the collection's name and its slash, up
+/// to the next slash or the end. It is empty where there is none.
 ///
 /// Source: SOL 003 5.3 (Resource structure and methods), RFC 3986 3.3 (Path).
 pub fn identifier_in(path: &str) -> &str

@@ -9,7 +9,8 @@ use Rattle.lcm_api.specs.World.{WorldTells, World, world}
 use Rattle.lcm_events.specs.declared.events.Event.{Event}
 use Rattle.lcm_events.specs.declared.states.Role.{Role}
 use Rattle.lcm_sessions.specs.Doing.{Brings, BringsNothing, HearsDescriptor, OnboardingAtDoor, Onboards, OnlyDoorFails}
-use Rattle.lcm_sessions.specs.Onboarding.{Ended, done, starving, breaking, Onboarding, unready, unheard, cut_off, heard, answer_of, ended_by, judged_answer, worked}
+use Rattle.lcm_sessions.specs.Onboarding.{Ended, done, starving, breaking, Onboarding, unready, unheard, cut_off, heard, answer_of}
+use Rattle.lcm_sessions.specs.Onboarding.{ended_by, judged_answer, worked}
 use Rattle.lcm_sessions.specs.Verdict.{Verdict, refused, full, accepted, onboarded, verdict}
 use Rattle.lcm_sessions.specs.declared.answer.Onboarded.{Onboarded}
 use Rattle.lcm_sessions.specs.declared.answer.OnboardFault.{OnboardFault}
@@ -25,13 +26,15 @@ heard_out n true c = refl
 heard_out n false c = refl
 
 -- nothing was written to a connection that came, was read and was ended
-pub brought_out : (n : ℕ) (failed : Bool) (role : Role) (a b c d : DoorState) → Comes role a b → ConnIs (heard_of n failed b.conn) b c → HangsUp c d → d.conn.out ≡ []
+pub brought_out : (n : ℕ) (failed : Bool) (role : Role) (a b c d : DoorState) → Comes role a b → ConnIs (heard_of n failed b.conn) b c
+    → HangsUp c d → d.conn.out ≡ []
 brought_out n failed role a b c d comes hears gone =
     let out : Conn → List ℕ = λ (x : Conn). x.out in
     ap out gone.conn ∙ ap out hears.conn ∙ heard_out n failed b.conn ∙ ap out comes.conn
 
 -- bytes were heard, judged and recorded
-pub onboards_heard : (t : WorldTells) (m : ℕ) (H : List Event) (n : Managed) (count now value : ℕ) (room : List ℕ) (answer : Result Onboarded OnboardFault) (w v : World)
+pub onboards_heard : (t : WorldTells) (m : ℕ) (H : List Event) (n : Managed) (count now value : ℕ) (room : List ℕ)
+    (answer : Result Onboarded OnboardFault) (w v : World)
     → HearsDescriptor t.door (Ok count) room w.mouth v.mouth
     → answer ≡ judged_answer (verdict H now (take count room)) (ended_by answer)
     → Works t.site m H (worked H (onboarded now (verdict H now (take count room))) (ended_by answer)) n w.site v.site
@@ -39,18 +42,30 @@ pub onboards_heard : (t : WorldTells) (m : ℕ) (H : List Event) (n : Managed) (
     → (o : Onboarding) × Onboards t m H o n w v × (answer ≡ answer_of H o)
 onboards_heard t m H n count now value room answer w v hears told works gives moment unnoted = (
   heard (take count room) now (ended_by answer),
-  record { works = works; brings = record { door = hears; clock = λ tells. record { value = value; gives = gives tells; moment_is = moment }; unnoted = unnoted } },
+  record {
+    works = works;
+    brings = record {
+      door = hears;
+      clock =
+          λ tells. record { value = value; gives = gives tells; moment_is = moment };
+      unnoted = unnoted;
+    };
+  },
   told,
 )
 
 -- nothing was heard
-pub onboards_unheard : (t : WorldTells) (m : Managed) (H : List Event) (why : Unheard) (room : List ℕ) (s : SiteState) (c d : MouthState) (ks : List ℕ)
+pub onboards_unheard : (t : WorldTells) (m : Managed) (H : List Event) (why : Unheard) (room : List ℕ) (s : SiteState) (c d : MouthState)
+    (ks : List ℕ)
     → HearsDescriptor t.door (Err why) room c d → d.told ≡ c.told → Idles t.site s → IsReady t.site m H s
     → (o : Onboarding) × Onboards t m.ledger.manager H o m (world s c ks) (world s d ks) × (Err fault.Door ≡ answer_of H o)
 onboards_unheard t m H Waiting room s c d ks hears unnoted idles ready =
     (unheard, record { works = idles m H ready; brings = record { door = hears; clock = λ tells. refl; unnoted = unnoted } }, refl)
-onboards_unheard t m H Reading room s c d ks hears unnoted idles ready =
-    (cut_off hears.0, record { works = idles m H ready; brings = record { door = hears.1; clock = λ tells. refl; unnoted = unnoted } }, refl)
+onboards_unheard t m H Reading room s c d ks hears unnoted idles ready = (
+  cut_off hears.0,
+  record { works = idles m H ready; brings = record { door = hears.1; clock = λ tells. refl; unnoted = unnoted } },
+  refl,
+)
 
 -- a connection that came, was read and was ended leaves one fault more where a read of it failed, and else none
 brought_counts : (tells : Type 0) (bytes : List ℕ) (failed : Bool) (a b : MouthState) → Brings tells bytes failed a b
@@ -69,7 +84,11 @@ never_door v breaking is = cc is
 pub onboarding_fails : (tells : Type 0) (H : List Event) (o : Onboarding) (a b : MouthState) → OnboardingAtDoor tells o a b
     → OnlyDoorFails (answer_of H o ≡ Err fault.Door) a.wire.intake.counts b.wire.intake.counts
 onboarding_fails tells H unready a b at = record { rose = λ is. absurd (cc is); stays = λ never. (rw at refl, rw at refl) }
-onboarding_fails tells H unheard a b at = record { rose = λ is. (rw at.counts refl, inr (rw at.counts refl)); stays = λ never. absurd (never refl) }
+onboarding_fails tells H unheard a b at = record {
+  rose = λ is. (rw at.counts refl, inr (rw at.counts refl));
+  stays =
+      λ never. absurd (never refl);
+}
 onboarding_fails tells H (cut_off bytes) a b at =
     let counts = brought_counts tells bytes true a b at in
     record { rose = λ is. (rw counts refl, inl (rw counts refl)); stays = λ never. absurd (never refl) }

@@ -1,5 +1,6 @@
 -- A talk behind another is one talk.
-use Rattle.std.proofs.Common.{◌≡◌, ◌≤◌, ◌∙◌, ℕ, List, [], ◌∷◌, ◌++◌, Option, Some, None, Result, Ok, Err, take, length, true, sym, subst, refl, ap, append_assoc, append-nil, arith, ◌+◌, ◌<◌, ◌⊎◌, Bool, inl, inr, ⊎_elim}
+use Rattle.std.proofs.Common.{◌≡◌, ◌≤◌, ◌∙◌, ℕ, List, [], ◌∷◌, ◌++◌, Option, Some, None, Result, Ok, Err, take, length, true, sym, subst}
+use Rattle.std.proofs.Common.{refl, ap, append_assoc, append-nil, arith, ◌+◌, ◌<◌, ◌⊎◌, Bool, inl, inr, ⊎_elim}
 use Rattle.executor.specs.Chain.{AreTold, AreWithin, ChainsJoin}
 use Rattle.executor.specs.Managed.{Managed, IsReady}
 use Rattle.executor.proofs.WorkLemmas.{extends_refl, extends_trans}
@@ -8,7 +9,9 @@ use Rattle.http_wire.specs.declared.TheConstants.{CONNECTION_REQUESTS}
 use Rattle.http_wire.specs.Intake.{OnlyReads}
 use Rattle.http_wire.specs.Wire.{WireState}
 use Rattle.lcm_api.specs.Response.{text}
-use Rattle.lcm_sessions.specs.Session.{AreFor, Ask, Last, Closing, Talk, over, unheard, untold, starving, breaking, behind_last, behind_replies, behind_told, counts_behind, life, once_answered, outcome_of, replies, said, asked_by, work_by}
+use Rattle.lcm_sessions.specs.Session.{AreFor, Ask, Last, Closing, Talk, over, unheard, untold, starving, breaking, behind_last}
+use Rattle.lcm_sessions.specs.Session.{behind_replies, behind_told, counts_behind, life, once_answered, outcome_of, replies, said, asked_by}
+use Rattle.lcm_sessions.specs.Session.{work_by}
 use Rattle.lcm_sessions.specs.Step.{answered_one, ended_so}
 use Rattle.lcm_api.specs.World as outside
 use Rattle.lcm_sessions.specs.Talking as talking
@@ -21,16 +24,20 @@ use Rattle.lcm_events.specs.declared.events.Event.{Event}
 use Rattle.lcm_events.specs.declared.states.Role.{Role}
 use Rattle.site_traits.specs.Door.{DoorState, DoorCounts, NoNextFault}
 
-pub life_more : {X : Type 0} (next : List Event → X → List Event) (H : List Event) (ys xs : List X) → life next H (ys ++ xs) ≡ life next (life next H xs) ys
+pub life_more : {X : Type 0} (next : List Event → X → List Event) (H : List Event) (ys xs : List X)
+    → life next H (ys ++ xs) ≡ life next (life next H xs) ys
 life_more next H [] xs = refl
 life_more next H (y ∷ ys) xs = ap (λ (G : List Event). next G y) (life_more next H ys xs)
 
-replies_more : (m : ℕ) (H : List Event) (ys xs : List Ask) → replies m H (ys ++ xs) ≡ replies m (life (once_answered m) H xs) ys ++ replies m H xs
+replies_more : (m : ℕ) (H : List Event) (ys xs : List Ask) → replies m H (ys ++ xs)
+    ≡ replies m (life (once_answered m) H xs) ys ++ replies m H xs
 replies_more m H [] xs = refl
 replies_more m H (y ∷ ys) xs =
-    let one : (outcome_of m (life (once_answered m) H (ys ++ xs)) y).reply ≡ (outcome_of m (life (once_answered m) (life (once_answered m) H xs) ys) y).reply =
+    let one : (outcome_of m (life (once_answered m) H (ys ++ xs)) y).reply
+    ≡ (outcome_of m (life (once_answered m) (life (once_answered m) H xs) ys) y).reply =
     ap (λ (G : List Event). (outcome_of m G y).reply) (life_more (once_answered m) H ys xs) in
-    ap (λ (r : Reply). r ∷ replies m H (ys ++ xs)) one ∙ ap (λ (t : List Reply). (outcome_of m (life (once_answered m) (life (once_answered m) H xs) ys) y).reply ∷ t) (replies_more m H ys xs)
+    ap (λ (r : Reply). r ∷ replies m H (ys ++ xs)) one ∙ ap (λ (t : List Reply).
+    (outcome_of m (life (once_answered m) (life (once_answered m) H xs) ys) y).reply ∷ t) (replies_more m H ys xs)
 
 -- the histories behind replies, of requests behind others
 behind_more : (m : ℕ) (H : List Event) (ys xs : List Ask)
@@ -50,8 +57,11 @@ within_more H G (K ∷ Ks) on within = (extends_trans K H G within.0 on, within_
 pub answered_within : (m : ℕ) (H : List Event) (xs : List Ask) → AreWithin (life (once_answered m) H xs) (behind_replies m H xs)
 answered_within m H [] = tt
 answered_within m H (x ∷ xs) =
-    let G : List Event = life (once_answered m) H xs in
-    (extends_refl (once_answered m G x), within_more G (once_answered m G x) (behind_replies m H xs) (record { more = (outcome_of m G x).after; is = refl }) (answered_within m H xs))
+    let G : List Event = life (once_answered m) H xs in (
+      extends_refl (once_answered m G x),
+      within_more G (once_answered m G x) (behind_replies m H xs)
+          (record { more = (outcome_of m G x).after; is = refl }) (answered_within m H xs),
+    )
 
 said_more : (late early : List Reply) → said (late ++ early) ≡ said early ++ said late
 said_more [] early = sym (append-nil (said early))
@@ -100,7 +110,8 @@ converses_told bytes a b told = record {
   hung_up = ap (λ c. c.hung_up) told.conn;
 }
 
-pub converses_front : (bytes : List ℕ) (failed : DoorFailed) (a b : DoorState) → WorldTells bytes (Err failed) a b → (n : ℕ) × Converses [] (take n bytes) a b
+pub converses_front : (bytes : List ℕ) (failed : DoorFailed) (a b : DoorState) → WorldTells bytes (Err failed) a b
+    → (n : ℕ) × Converses [] (take n bytes) a b
 converses_front bytes failed a b told = (
   told.0,
   record {
@@ -124,7 +135,8 @@ pub counts_then : (a b c : DoorCounts) → NoNextFault a b → NoNextFault b c �
 counts_then a b c first second = let one = first.faults in let two = second.faults in
     record { faults = omega (arith, one, two); next = second.next ∙ first.next; up = second.up ∙ first.up }
 
-asks_since : (tells : Type 0) (answer : _) (lost : Bool) (a b c : WireState) → b.intake.counts ≡ a.intake.counts → AsksLast tells answer lost b c → AsksLast tells answer lost a c
+asks_since : (tells : Type 0) (answer : _) (lost : Bool) (a b c : WireState) → b.intake.counts ≡ a.intake.counts
+    → AsksLast tells answer lost b c → AsksLast tells answer lost a c
 asks_since tells answer lost a b c before asks = record {
   before = asks.before;
   behind = asks.behind;
@@ -138,7 +150,8 @@ asks_since tells answer lost a b c before asks = record {
   ended = asks.ended;
 }
 
-ends_for_since : (tells : Type 0) (last : Last) (told : Result (Unit {0}) DoorFailed) (a b c : WireState) → b.intake.counts ≡ a.intake.counts
+ends_for_since : (tells : Type 0) (last : Last) (told : Result (Unit {0}) DoorFailed) (a b c : WireState)
+    → b.intake.counts ≡ a.intake.counts
     → EndsFor tells last told b c → EndsFor tells last told a c
 ends_for_since tells over told a b c before ends = asks_since tells _ _ a b c before ends
 ends_for_since tells (unheard cause reply) told a b c before ends = (asks_since tells _ _ a b c before ends.0, ends.1)
@@ -147,7 +160,8 @@ ends_for_since tells (starving x) told a b c before ends = ends
 ends_for_since tells (breaking x) told a b c before ends = ends
 
 -- what a talk that began later says of its end
-pub ends_since : (tells : Type 0) (end : Option Closing) (a b c : WireState) → b.intake.counts ≡ a.intake.counts → Ends tells end b c → Ends tells end a c
+pub ends_since : (tells : Type 0) (end : Option Closing) (a b c : WireState) → b.intake.counts ≡ a.intake.counts → Ends tells end b c
+    → Ends tells end a c
 ends_since tells None a b c before ends = tt
 ends_since tells (Some end) a b c before ends = ends_for_since tells end.last end.told a b c before ends
 
@@ -155,28 +169,37 @@ ends_since tells (Some end) a b c before ends = ends_for_since tells end.last en
 pub counts_since : (end : Option Closing) (a b c : DoorCounts) → b ≡ a → c ≡ counts_behind end b → c ≡ counts_behind end a
 counts_since end a b c before behind = behind ∙ ap (counts_behind end) before
 
-speaks_on : (m : ℕ) (H : List Event) (role : Role) (xs ys : List Ask) (end : Option Closing) (a b c : DoorState) → Speaks m H (record { role = role; asks = xs; end = None }) a b
-    → Speaks m (life (once_answered m) H xs) (record { role = role; asks = ys; end = end }) b c → Speaks m H (record { role = role; asks = ys ++ xs; end = end }) a c
+speaks_on : (m : ℕ) (H : List Event) (role : Role) (xs ys : List Ask) (end : Option Closing) (a b c : DoorState)
+    → Speaks m H (record { role = role; asks = xs; end = None }) a b
+    → Speaks m (life (once_answered m) H xs) (record { role = role; asks = ys; end = end }) b c
+    → Speaks m H (record { role = role; asks = ys ++ xs; end = end }) a c
 speaks_on m H role xs ys end a b c first second =
     let G : List Event = life (once_answered m) H xs in
     let P : List Event → Type 0 = λ K. SaysLast m K end second.final in
-    let nothing : said (replies m H xs) ++ first.final ≡ said (replies m H xs) = ap (λ (t : List ℕ). said (replies m H xs) ++ t) first.final_is ∙ append-nil (said (replies m H xs)) in
-    let same : said (replies m H (ys ++ xs)) ≡ said (replies m H xs) ++ said (replies m G ys) = ap said (replies_more m H ys xs) ∙ said_more (replies m G ys) (replies m H xs) in
-    let bytes : (said (replies m H xs) ++ first.final) ++ (said (replies m G ys) ++ second.final) ≡ said (replies m H (ys ++ xs)) ++ second.final =
-    ap (λ (t : List ℕ). t ++ (said (replies m G ys) ++ second.final)) nothing ∙ sym (append_assoc (said (replies m H xs)) (said (replies m G ys)) second.final)
+    let nothing : said (replies m H xs) ++ first.final ≡ said (replies m H xs) =
+    ap (λ (t : List ℕ). said (replies m H xs) ++ t) first.final_is ∙ append-nil (said (replies m H xs)) in
+    let same : said (replies m H (ys ++ xs)) ≡ said (replies m H xs) ++ said (replies m G ys) =
+    ap said (replies_more m H ys xs) ∙ said_more (replies m G ys) (replies m H xs) in
+    let bytes : (said (replies m H xs) ++ first.final) ++ (said (replies m G ys) ++ second.final)
+    ≡ said (replies m H (ys ++ xs)) ++ second.final =
+    ap (λ (t : List ℕ). t ++ (said (replies m G ys) ++ second.final)) nothing
+    ∙ sym (append_assoc (said (replies m H xs)) (said (replies m G ys)) second.final)
     ∙ ap (λ (t : List ℕ). t ++ second.final) (sym same) in
     let Q : List ℕ → Type 0 = λ out. Converses (first.read ++ second.read) out a c in
     record {
       read = first.read ++ second.read;
       final = second.final;
       final_is = subst P (sym (life_more (once_answered m) H ys xs)) second.final_is;
-      door = subst Q bytes (converses_then first.read second.read (said (replies m H xs) ++ first.final) (said (replies m G ys) ++ second.final) a b c first.door second.door);
+      door = subst Q bytes (converses_then first.read second.read (said (replies m H xs) ++ first.final)
+          (said (replies m G ys) ++ second.final) a b c first.door second.door);
     }
 
 -- a talk behind another is the talk of all their requests
-pub talks_on : (t : outside.WorldTells) (m : ℕ) (H : List Event) (role : Role) (xs ys : List Ask) (end : Option Closing) (n o : Managed) (w u v : World) → Joins t.site w.site u.site v.site
+pub talks_on : (t : outside.WorldTells) (m : ℕ) (H : List Event) (role : Role) (xs ys : List Ask) (end : Option Closing) (n o : Managed)
+    (w u v : World) → Joins t.site w.site u.site v.site
     → ChainsJoin t.site w.site u.site v.site
-    → Talks t m H (record { role = role; asks = xs; end = None }) n w u → Talks t m (life (once_answered m) H xs) (record { role = role; asks = ys; end = end }) o u v
+    → Talks t m H (record { role = role; asks = xs; end = None }) n w u
+    → Talks t m (life (once_answered m) H xs) (record { role = role; asks = ys; end = end }) o u v
     → Talks t m H (record { role = role; asks = ys ++ xs; end = end }) o w v
 talks_on t m H role xs ys end n o w u v joins chains first second =
     let G : List Event = life (once_answered m) H xs in
@@ -185,23 +208,32 @@ talks_on t m H role xs ys end n o w u v joins chains first second =
     let Q : List Ask → Type 0 = λ asks. AreRequests asks (talking.remains_of w.mouth.wire) (talking.remains_of v.mouth.wire) in
     let R : List Ask → Type 0 = λ asks. GaveAll asks w.clock v.clock in
     let later : List (List Event) = behind_last m (life (once_answered m) G ys) end in
-    let histories : (later ++ behind_replies m G ys) ++ behind_replies m H xs ≡ behind_told m H (record { role = role; asks = ys ++ xs; end = end }) =
-    append_assoc later (behind_replies m G ys) (behind_replies m H xs) ∙ ap (λ (Ks : List (List Event)). later ++ Ks) (sym (behind_more m H ys xs))
+    let histories : (later ++ behind_replies m G ys) ++ behind_replies m H xs
+    ≡ behind_told m H (record { role = role; asks = ys ++ xs; end = end }) =
+    append_assoc later (behind_replies m G ys) (behind_replies m H xs)
+    ∙ ap (λ (Ks : List (List Event)). later ++ Ks) (sym (behind_more m H ys xs))
     ∙ ap (λ (K : List Event). behind_last m K end ++ behind_replies m H (ys ++ xs)) (sym (life_more (once_answered m) H ys xs)) in
     let A : List (List Event) → Type 0 = λ Ks. AreTold t.site m Ks w.mouth.told v.mouth.told w.site v.site in
     record {
-      works = subst P (sym (life_more (once_answered m) H ys xs)) (joins m H G (work_by m (life (once_answered m) G ys) end) n o first.works second.works);
+      works = subst P (sym (life_more (once_answered m) H ys xs)) (joins m H G
+          (work_by m (life (once_answered m) G ys) end) n o first.works second.works);
       holds = record {
         roles = subst (AreFor role) taken (for_more role xs (asked_by end ++ ys) first.holds.roles second.holds.roles);
-        requests = λ told. subst Q taken (requests_more xs (asked_by end ++ ys) (talking.remains_of w.mouth.wire) (talking.remains_of u.mouth.wire) (talking.remains_of v.mouth.wire) (first.holds.requests told) (second.holds.requests told));
-        speaks = λ told. speaks_on m H role xs ys end w.mouth.wire.intake.door u.mouth.wire.intake.door v.mouth.wire.intake.door (first.holds.speaks told) (second.holds.speaks told);
-        clock = λ told. subst R taken (gave_more xs (asked_by end ++ ys) w.clock u.clock v.clock (first.holds.clock told) (second.holds.clock told));
+        requests = λ told. subst Q taken (requests_more xs (asked_by end ++ ys) (talking.remains_of w.mouth.wire)
+            (talking.remains_of u.mouth.wire) (talking.remains_of v.mouth.wire) (first.holds.requests told) (second.holds.requests told));
+        speaks = λ told. speaks_on m H role xs ys end w.mouth.wire.intake.door u.mouth.wire.intake.door v.mouth.wire.intake.door
+            (first.holds.speaks told) (second.holds.speaks told);
+        clock = λ told. subst R taken (gave_more xs (asked_by end ++ ys) w.clock u.clock v.clock (first.holds.clock told)
+            (second.holds.clock told));
         ends = ends_since t.door end w.mouth.wire u.mouth.wire v.mouth.wire first.holds.faults second.holds.ends;
-        faults = counts_since end w.mouth.wire.intake.counts u.mouth.wire.intake.counts v.mouth.wire.intake.counts first.holds.faults second.holds.faults;
-        counts = counts_then w.mouth.wire.intake.counts u.mouth.wire.intake.counts v.mouth.wire.intake.counts first.holds.counts second.holds.counts;
+        faults = counts_since end w.mouth.wire.intake.counts u.mouth.wire.intake.counts v.mouth.wire.intake.counts first.holds.faults
+            second.holds.faults;
+        counts = counts_then w.mouth.wire.intake.counts u.mouth.wire.intake.counts v.mouth.wire.intake.counts first.holds.counts
+            second.holds.counts;
       };
       told = subst A histories
-          (chains m H G (work_by m (life (once_answered m) G ys) end) n o (later ++ behind_replies m G ys) (behind_replies m H xs) w.mouth.told u.mouth.told v.mouth.told
+          (chains m H G (work_by m (life (once_answered m) G ys) end) n o (later ++ behind_replies m G ys)
+          (behind_replies m H xs) w.mouth.told u.mouth.told v.mouth.told
           first.works.site (answered_within m H xs) first.told second.works.site second.told);
     }
 
@@ -214,7 +246,8 @@ pub record TalksSoFar (t : outside.WorldTells) (role : Role) (m n : Managed) (to
   pub within : (told ≡ 0) ⊎ (v.mouth.wire.taken ≤ CONNECTION_REQUESTS)
 
 -- before the first request
-pub none_so_far : (t : outside.WorldTells) (role : Role) (m : Managed) (w : World) → Idles t.site w.site → w.mouth.wire.intake.counts.up ≡ true → TalksSoFar t role m m 0 w w
+pub none_so_far : (t : outside.WorldTells) (role : Role) (m : Managed) (w : World) → Idles t.site w.site
+    → w.mouth.wire.intake.counts.up ≡ true → TalksSoFar t role m m 0 w w
 none_so_far t role m w idles up = record {
   each = λ H ready. (
     [],
@@ -239,17 +272,24 @@ none_so_far t role m w idles up = record {
 }
 
 -- behind the talk so far the manager is ready
-pub ready_so_far : (t : outside.WorldTells) (role : Role) (m n : Managed) (told : ℕ) (w v : World) → TalksSoFar t role m n told w v → LeadsOn t.site w.site v.site → (H : List Event) × IsReady t.site m H w.site
+pub ready_so_far : (t : outside.WorldTells) (role : Role) (m n : Managed) (told : ℕ) (w v : World) → TalksSoFar t role m n told w v
+    → LeadsOn t.site w.site v.site → (H : List Event) × IsReady t.site m H w.site
     → (H : List Event) × IsReady t.site n H v.site
 ready_so_far t role m n told w v so_far leads ready =
-    let talk = so_far.each ready.0 ready.1 in
-    (life (once_answered m.ledger.manager) ready.0 talk.0, leads m.ledger.manager ready.0 (work_by m.ledger.manager (life (once_answered m.ledger.manager) ready.0 talk.0) None) n talk.1.works refl)
+    let talk = so_far.each ready.0 ready.1 in (
+      life (once_answered m.ledger.manager) ready.0 talk.0,
+      leads m.ledger.manager ready.0
+          (work_by m.ledger.manager (life (once_answered m.ledger.manager) ready.0 talk.0) None) n talk.1.works refl,
+    )
 
 -- one request more
-pub one_more_told : (t : outside.WorldTells) (role : Role) (m n o : Managed) (told : ℕ) (w u v : World) → TalksSoFar t role m n told w u → LeadsOn t.site w.site u.site → Joins t.site w.site u.site v.site
+pub one_more_told : (t : outside.WorldTells) (role : Role) (m n o : Managed) (told : ℕ) (w u v : World) → TalksSoFar t role m n told w u
+    → LeadsOn t.site w.site u.site → Joins t.site w.site u.site v.site
     → ChainsJoin t.site w.site u.site v.site
-    → ((H : List Event) → IsReady t.site n H u.site → (talk : Talk) × Talks t n.ledger.manager H talk o u v × ((x : Ask) × (talk ≡ answered_one role x)))
-    → v.mouth.wire.intake.counts.up ≡ true → u.mouth.wire.taken < v.mouth.wire.taken → v.mouth.wire.taken ≤ CONNECTION_REQUESTS → TalksSoFar t role m o (told + 1) w v
+    → ((H : List Event) → IsReady t.site n H u.site → (talk : Talk) × Talks t n.ledger.manager H talk o u v
+    × ((x : Ask) × (talk ≡ answered_one role x)))
+    → v.mouth.wire.intake.counts.up ≡ true → u.mouth.wire.taken < v.mouth.wire.taken → v.mouth.wire.taken ≤ CONNECTION_REQUESTS
+    → TalksSoFar t role m o (told + 1) w v
 one_more_told t role m n o told w u v so_far leads joins chains step up more few = record {
   each = λ H ready.
       let talk = so_far.each H ready in
@@ -267,11 +307,14 @@ one_more_told t role m n o told w u v so_far leads joins chains step up more few
 }
 
 -- the end behind the talk so far
-pub ended_so_far : (t : outside.WorldTells) (role : Role) (m n o : Managed) (told : ℕ) (P : Closing → Type 0) (w u v : World) → TalksSoFar t role m n told w u → LeadsOn t.site w.site u.site → Joins t.site w.site u.site v.site
+pub ended_so_far : (t : outside.WorldTells) (role : Role) (m n o : Managed) (told : ℕ) (P : Closing → Type 0) (w u v : World)
+    → TalksSoFar t role m n told w u → LeadsOn t.site w.site u.site → Joins t.site w.site u.site v.site
     → ChainsJoin t.site w.site u.site v.site
-    → ((H : List Event) → IsReady t.site n H u.site → (talk : Talk) × Talks t n.ledger.manager H talk o u v × ((end : Closing) × (talk ≡ ended_so role end) × P end))
+    → ((H : List Event) → IsReady t.site n H u.site → (talk : Talk) × Talks t n.ledger.manager H talk o u v
+    × ((end : Closing) × (talk ≡ ended_so role end) × P end))
     → (H : List Event) → IsReady t.site m H w.site
-    → (asks : List Ask) × (end : Closing) × Talks t m.ledger.manager H (record { role = role; asks = asks; end = Some end }) o w v × (told ≡ length asks) × P end
+    → (asks : List Ask) × (end : Closing) × Talks t m.ledger.manager H (record { role = role; asks = asks; end = Some end }) o w v
+    × (told ≡ length asks) × P end
 ended_so_far t role m n o told P w u v so_far leads joins chains step H ready =
     let talk = so_far.each H ready in
     let G : List Event = life (once_answered m.ledger.manager) H talk.0 in
@@ -283,7 +326,9 @@ ended_so_far t role m n o told P w u v so_far leads joins chains step H ready =
     (talk.0, end, talks_on t m.ledger.manager H role talk.0 [] (Some end) n o w u v joins chains talk.1 one, talk.2, next.2.2)
 
 -- no more replies were told than a connection may have requests
-pub told_few : (t : outside.WorldTells) (role : Role) (m n : Managed) (told : ℕ) (w v : World) → TalksSoFar t role m n told w v → told ≤ CONNECTION_REQUESTS
+pub told_few : (t : outside.WorldTells) (role : Role) (m n : Managed) (told : ℕ) (w v : World) → TalksSoFar t role m n told w v
+    → told ≤ CONNECTION_REQUESTS
 told_few t role m n told w v so_far =
     let few = so_far.few in
-    ⊎_elim (λ (none : told ≡ 0). omega (arith, none)) (λ (most : v.mouth.wire.taken ≤ CONNECTION_REQUESTS). omega (arith, most, few)) so_far.within
+    ⊎_elim (λ (none : told ≡ 0). omega (arith, none)) (λ (most : v.mouth.wire.taken ≤ CONNECTION_REQUESTS). omega (arith, most, few))
+    so_far.within

@@ -5,7 +5,8 @@ use Rattle.std.specs.List.{AllByRecursion, list_all}
 use Rattle.std.proofs.lemmas.Bool.{and_from as and_both, and_parts as both, eqb-true, leb-true, ltb-true}
 use Rattle.std.specs.Option.{option_map_or}
 use Rattle.event_codec.specs.Typed.{TypedAspect, TypedEvent, TypedLevel, TypedPort, TypedRow, TypedVdu, TypedVnfd}
-use Rattle.event_codec.specs.Valid.{IsAspect, IsEvent, IsLevel, IsLink, IsPort, IsRow, IsVdu, IsVnfd, in_order, names_entries, optionally_below}
+use Rattle.event_codec.specs.Valid.{IsAspect, IsEvent, IsLevel, IsLink, IsPort, IsRow, IsVdu, IsVnfd, in_order, names_entries}
+use Rattle.event_codec.specs.Valid.{optionally_below}
 use Rattle.lcm_events.specs.Descriptors.{is_name_before, is_rising, is_valid_steps}
 use Rattle.lcm_events.specs.declared.descriptor.Aspect.{Aspect}
 use Rattle.lcm_events.specs.declared.descriptor.Level.{Level}
@@ -14,7 +15,8 @@ use Rattle.lcm_events.specs.declared.descriptor.Row.{Row}
 use Rattle.lcm_events.specs.declared.descriptor.Storage.{Storage}
 use Rattle.lcm_events.specs.declared.descriptor.Vdu.{Vdu}
 use Rattle.lcm_events.specs.declared.descriptor.Vnfd.{Vnfd}
-use Rattle.lcm_model.specs.Descriptors.{IsValid, has_sorted_names, has_valid_counts, is_valid_aspect, is_valid_level, is_valid_port, is_valid_row, is_valid_vdu}
+use Rattle.lcm_model.specs.Descriptors.{IsValid, has_sorted_names, has_valid_counts, is_valid_aspect, is_valid_level, is_valid_port}
+use Rattle.lcm_model.specs.Descriptors.{is_valid_row, is_valid_vdu}
 use Rattle.lcm_sessions.specs.Verdict.{onboarding}
 
 and_front : (a b : Bool) → (a && b) ≡ true → a ≡ true
@@ -24,17 +26,21 @@ and_back : (a b : Bool) → (a && b) ≡ true → b ≡ true
 and_back a b is = (both a b is).1
 
 -- what passes a test passes one that asks less
-list_all_weaker : {A : Type 0} (p q : A → Bool) (xs : List A) → ((x : A) → p x ≡ true → q x ≡ true) → list_all p xs ≡ true → list_all q xs ≡ true
+list_all_weaker : {A : Type 0} (p q : A → Bool) (xs : List A) → ((x : A) → p x ≡ true → q x ≡ true) → list_all p xs ≡ true
+    → list_all q xs ≡ true
 list_all_weaker p q [] less all = refl
-list_all_weaker p q (x ∷ xs) less all = let h = both (p x) (list_all p xs) all in and_both (q x) (list_all q xs) (less x h.0) (list_all_weaker p q xs less h.1)
+list_all_weaker p q (x ∷ xs) less all = let h = both (p x) (list_all p xs) all in
+    and_both (q x) (list_all q xs) (less x h.0) (list_all_weaker p q xs less h.1)
 
 -- a fact that a test and another fact imply
-all_with : {A : Type 0} (T Q : A → Type 0) (p : A → Bool) → ((x : A) → T x → p x ≡ true → Q x) → (xs : List A) → AllByRecursion T xs → list_all p xs ≡ true → AllByRecursion Q xs
+all_with : {A : Type 0} (T Q : A → Type 0) (p : A → Bool) → ((x : A) → T x → p x ≡ true → Q x) → (xs : List A) → AllByRecursion T xs
+    → list_all p xs ≡ true → AllByRecursion Q xs
 all_with T Q p so [] all is = tt
 all_with T Q p so (x ∷ xs) all is = let h = both (p x) (list_all p xs) is in (so x all.0 h.0, all_with T Q p so xs all.1 h.1)
 
 -- a list rises by what its entries have where these rise
-rises_by : {A B : Type 0} (f : A → B) (before : B → B → Bool) (xs : List A) → is_rising before (map f xs) ≡ true → is_rising (λ x y. before (f x) (f y)) xs ≡ true
+rises_by : {A B : Type 0} (f : A → B) (before : B → B → Bool) (xs : List A) → is_rising before (map f xs) ≡ true
+    → is_rising (λ x y. before (f x) (f y)) xs ≡ true
 rises_by f before [] is = refl
 rises_by f before (x ∷ []) is = refl
 rises_by f before (x ∷ y ∷ xs) is =
@@ -58,7 +64,8 @@ few n (x ∷ xs) rise below = let h = few_from x n xs rise below in omega (arith
 
 list_all_map : {A B : Type 0} (f : A → B) (p : B → Bool) (xs : List A) → list_all (λ x. p (f x)) xs ≡ true → list_all p (map f xs) ≡ true
 list_all_map f p [] is = refl
-list_all_map f p (x ∷ xs) is = let h = both (p (f x)) (list_all (λ x. p (f x)) xs) is in and_both (p (f x)) (list_all p (map f xs)) h.0 (list_all_map f p xs h.1)
+list_all_map f p (x ∷ xs) is = let h = both (p (f x)) (list_all (λ x. p (f x)) xs) is in
+    and_both (p (f x)) (list_all p (map f xs)) h.0 (list_all_map f p xs h.1)
 
 length_map : {A B : Type 0} (f : A → B) (xs : List A) → length (map f xs) ≡ length xs
 length_map f [] = refl
@@ -125,7 +132,8 @@ aspect_parts d a is =
 -- each row's VDU exists
 rows_exist : (d : Vnfd) (a : Aspect) → is_valid_aspect d a ≡ true → list_all (λ r. nat_lt r.vdu (length d.vdus)) a.rows ≡ true
 rows_exist d a is =
-    list_all_weaker (is_valid_row d a.steps) (λ r. nat_lt r.vdu (length d.vdus)) a.rows (λ r h. (row_parts d a.steps r h).vdu) (aspect_parts d a is).rows
+    list_all_weaker (is_valid_row d a.steps) (λ r. nat_lt r.vdu (length d.vdus)) a.rows (λ r h. (row_parts d a.steps r h).vdu)
+    (aspect_parts d a is).rows
 
 valid_aspect : (d : Vnfd) → length d.vdus ≤ 64 → (a : Aspect) → TypedAspect a → is_valid_aspect d a ≡ true → IsAspect a
 valid_aspect d most a typed is =
@@ -136,7 +144,11 @@ valid_aspect d most a typed is =
       typed.0,
       typed.1,
       typed.2,
-      (omega (arith, short, count, most), all_with TypedRow (IsRow a.steps) (is_valid_row d a.steps) (valid_row d a.steps) a.rows typed.3 parts.rows),
+      (
+        omega (arith, short, count, most),
+        all_with TypedRow (IsRow a.steps) (is_valid_row d a.steps)
+            (valid_row d a.steps) a.rows typed.3 parts.rows,
+      ),
       parts.steps,
       rises_by (λ (r : Row). r.vdu) nat_lt a.rows parts.rise,
     )
@@ -189,10 +201,12 @@ ordered d is =
 -- each number names an entry
 entries_named : (d : Vnfd) → IsValid d → Counts d → names_entries d ≡ true
 entries_named d valid counts =
-    and_both _ _ (list_all_weaker (is_valid_vdu d) (λ m. list_all (λ s. nat_lt s (length d.storages)) m.storages) d.vdus (λ u h. (vdu_parts d u h).exist) valid.vdus)
+    and_both _ _ (list_all_weaker (is_valid_vdu d) (λ m. list_all (λ s. nat_lt s (length d.storages)) m.storages) d.vdus
+    (λ u h. (vdu_parts d u h).exist) valid.vdus)
     (and_both _ _ (list_all_weaker (is_valid_port d) (λ p. nat_lt p.vdu (length d.vdus) && optionally_below (length d.links) p.link) d.ports
     (λ p h. and_both _ _ (port_parts d p h).vdu (link_below (length d.links) p.link (port_parts d p h).link)) valid.ports)
-    (and_both _ _ (list_all_weaker (is_valid_aspect d) (λ a. list_all (λ r. nat_lt r.vdu (length d.vdus)) a.rows) d.aspects (rows_exist d) valid.aspects) counts.default))
+    (and_both _ _ (list_all_weaker (is_valid_aspect d) (λ a. list_all (λ r. nat_lt r.vdu (length d.vdus)) a.rows) d.aspects
+    (rows_exist d) valid.aspects) counts.default))
 
 -- a valid descriptor, each of whose numbers and names is one of its type, has a spelling
 valid_vnfd : (d : Vnfd) → IsValid d → TypedVnfd d → IsVnfd d
@@ -205,12 +219,28 @@ valid_vnfd d valid typed =
       typed.3,
       typed.4,
       typed.5,
-      (let h = counts.vdus in omega (arith, h), all_with TypedVdu IsVdu (is_valid_vdu d) (valid_vdu d counts.storages) d.vdus lists.0 valid.vdus),
+      (
+        let h = counts.vdus in omega (arith, h),
+        all_with TypedVdu IsVdu (is_valid_vdu d)
+            (valid_vdu d counts.storages) d.vdus lists.0 valid.vdus,
+      ),
       (let h = counts.storages in omega (arith, h), lists.1),
       (let h = counts.links in omega (arith, h), lists.2),
-      (let h = counts.ports in omega (arith, h), all_with TypedPort IsPort (is_valid_port d) (valid_port d counts.links) d.ports lists.3 valid.ports),
-      (let h = counts.aspects in omega (arith, h), all_with TypedAspect IsAspect (is_valid_aspect d) (valid_aspect d counts.vdus) d.aspects lists.4 valid.aspects),
-      (let h = counts.levels in omega (arith, h), all_with TypedLevel (IsLevel (length d.aspects)) (is_valid_level d) (valid_level d) d.levels lists.5 valid.levels),
+      (
+        let h = counts.ports in omega (arith, h),
+        all_with TypedPort IsPort (is_valid_port d)
+            (valid_port d counts.links) d.ports lists.3 valid.ports,
+      ),
+      (
+        let h = counts.aspects in omega (arith, h),
+        all_with TypedAspect IsAspect (is_valid_aspect d)
+            (valid_aspect d counts.vdus) d.aspects lists.4 valid.aspects,
+      ),
+      (
+        let h = counts.levels in omega (arith, h),
+        all_with TypedLevel (IsLevel (length d.aspects)) (is_valid_level d)
+            (valid_level d) d.levels lists.5 valid.levels,
+      ),
       lists.6,
       ordered d valid.sorted,
       entries_named d valid counts,

@@ -29,36 +29,43 @@ none_named None is = refl
 none_named (Some vnfd) is = cc
 
 -- a descriptor that may be onboarded
-pub judges_new : (H : List Event) (vnfd : Vnfd) → is_some (descriptor_named H vnfd.descriptor_id) ≡ false → length (descriptors H) < MAX_DESCRIPTORS → IsValid vnfd → JudgesNew H vnfd (Ok vnfd)
+pub judges_new : (H : List Event) (vnfd : Vnfd) → is_some (descriptor_named H vnfd.descriptor_id) ≡ false
+    → length (descriptors H) < MAX_DESCRIPTORS → IsValid vnfd → JudgesNew H vnfd (Ok vnfd)
 judges_new H vnfd unknown few valid = (
   (λ now. rw (unknown, lt-leb MAX_DESCRIPTORS (length (descriptors H)) few) refl),
   record { valid = valid; unknown = none_named (descriptor_named H vnfd.descriptor_id) unknown; room = few },
 )
 
 -- what becomes of a descriptor whose event was to be recorded, by what that answered
-pub record IsRecorded (H : List Event) (now : ℕ) (event : Event) (v : Verdict) (r : Result (Unit {0}) WorkFault) (answer : Result Onboarded OnboardFault) : Type 0 where
+pub record IsRecorded (H : List Event) (now : ℕ) (event : Event) (v : Verdict) (r : Result (Unit {0}) WorkFault)
+    (answer : Result Onboarded OnboardFault) : Type 0 where
   pub answer_is : answer ≡ judged_answer v (ended_by answer)
   pub work_is : recorded H event r ≡ worked H (onboarded now v) (ended_by answer)
 
-accepted_where : (H : List Event) (now : ℕ) (vnfd : Vnfd) → HasRoomFor MAX_FILE H (onboarding now vnfd) → room_verdict H now vnfd ≡ accepted vnfd
+accepted_where : (H : List Event) (now : ℕ) (vnfd : Vnfd) → HasRoomFor MAX_FILE H (onboarding now vnfd)
+    → room_verdict H now vnfd ≡ accepted vnfd
 accepted_where H now vnfd has = rw (le-ltb MAX_RECORD (length (spelling (onboarding now vnfd))) has.fits, has.room) refl
 
 -- it was recorded
-pub recorded_done : (H : List Event) (now : ℕ) (vnfd : Vnfd) (v : Verdict) → v ≡ room_verdict H now vnfd → TellsRoom MAX_FILE H (onboarding now vnfd) (Ok tt)
+pub recorded_done : (H : List Event) (now : ℕ) (vnfd : Vnfd) (v : Verdict) → v ≡ room_verdict H now vnfd
+    → TellsRoom MAX_FILE H (onboarding now vnfd) (Ok tt)
     → IsRecorded H now (onboarding now vnfd) v (Ok tt) (Ok (said_of vnfd))
 recorded_done H now vnfd v is room = rw (is ∙ accepted_where H now vnfd room) (record { answer_is = refl; work_is = refl })
 
 -- it wasn't
-not_recorded : (H : List Event) (now : ℕ) (vnfd : Vnfd) (v : Verdict) (why : WorkFault) → v ≡ room_verdict H now vnfd → TellsRoom MAX_FILE H (onboarding now vnfd) (Err why)
+not_recorded : (H : List Event) (now : ℕ) (vnfd : Vnfd) (v : Verdict) (why : WorkFault) → v ≡ room_verdict H now vnfd
+    → TellsRoom MAX_FILE H (onboarding now vnfd) (Err why)
     → IsRecorded H now (onboarding now vnfd) v (Err why) (Err (work_fault why))
 not_recorded H now vnfd v (work.TooLong n) is room =
     rw (is, lt-ltb MAX_RECORD (length (spelling (onboarding now vnfd))) room.long, room.is) (record { answer_is = refl; work_is = refl })
 not_recorded H now vnfd v (work.Full end more) is room =
-    rw (is, le-ltb MAX_RECORD (length (spelling (onboarding now vnfd))) room.fits, room.full, room.end_is, room.more_is) (record { answer_is = refl; work_is = refl })
+    rw (is, le-ltb MAX_RECORD (length (spelling (onboarding now vnfd))) room.fits, room.full, room.end_is, room.more_is)
+    (record { answer_is = refl; work_is = refl })
 not_recorded H now vnfd v work.Memory is room = record { answer_is = refl; work_is = refl }
 not_recorded H now vnfd v work.Disk is room = rw (is ∙ accepted_where H now vnfd room) (record { answer_is = refl; work_is = refl })
 
-pub recorded_not : (H : List Event) (now : ℕ) (vnfd : Vnfd) (event : Event) (v : Verdict) (why : WorkFault) → event ≡ onboarding now vnfd → v ≡ room_verdict H now vnfd → TellsRoom MAX_FILE H event (Err why)
+pub recorded_not : (H : List Event) (now : ℕ) (vnfd : Vnfd) (event : Event) (v : Verdict) (why : WorkFault) → event ≡ onboarding now vnfd
+    → v ≡ room_verdict H now vnfd → TellsRoom MAX_FILE H event (Err why)
     → IsRecorded H now event v (Err why) (Err (work_fault why))
 recorded_not H now vnfd event v why same is room =
     let P : Event → Type 0 = λ e. TellsRoom MAX_FILE H e (Err why) in
@@ -66,11 +73,13 @@ recorded_not H now vnfd event v why same is room =
     subst Q (sym same) (not_recorded H now vnfd v why is (subst P same room))
 
 -- its event may be recorded
-pub may_record : (m : ℕ) (H : List Event) (now : ℕ) (vnfd : Vnfd) (event : Event) → event ≡ onboarding now vnfd → MayOnboard H vnfd → MayRecord m H event
+pub may_record : (m : ℕ) (H : List Event) (now : ℕ) (vnfd : Vnfd) (event : Event) → event ≡ onboarding now vnfd → MayOnboard H vnfd
+    → MayRecord m H event
 may_record m H now vnfd event is may = rw is (record { rules = valid_event now vnfd may.valid; allowed = may; unsettled = refl })
 
 -- work, under another name of it
-pub works_as : (tells : Type 0) (m : ℕ) (H : List Event) (w v : Work) (n : Managed) (a b : SiteState) → w ≡ v → Works tells m H w n a b → Works tells m H v n a b
+pub works_as : (tells : Type 0) (m : ℕ) (H : List Event) (w v : Work) (n : Managed) (a b : SiteState) → w ≡ v → Works tells m H w n a b
+    → Works tells m H v n a b
 works_as tells m H w v n a b same works = let P : Work → Type 0 = λ x. Works tells m H x n a b in subst P same works
 
 -- an answer that is this fault

@@ -17,13 +17,14 @@ use Rattle.site_traits.specs.Clock.{Gives}
 use Rattle.site_traits.specs.Counts.{one_more}
 use Rattle.site_traits.specs.Door.{Comes, DoorCounts, HangsUp, closed, opened as has_come}
 
--- Where this holds a call of the door failed, and is counted as one fault, among the failed waits too where it was one; else none did (own rule).
+-- Where this holds a call of the door failed, and is counted as one fault, among the failed waits too where it was one;
+-- else none did (own rule).
 pub record OnlyDoorFails (failed : Type 0) (a b : DoorCounts) : Type 0 where
   pub rose : failed → (b.faults ≡ one_more a.faults) × ((b.next ≡ a.next) ⊎ (b.next ≡ one_more a.next))
   pub stays : ¬ failed → (b.faults ≡ a.faults) × (b.next ≡ a.next)
 
--- A connection came, these bytes of it were read, up to its end or to one byte more than a descriptor may have, or up to where
--- a read failed, and it was ended. Nothing was written to it.
+-- A connection came, these bytes of it were read, up to its end or to one byte more than a descriptor may have, or up
+-- to where a read failed, and it was ended. Nothing was written to it.
 pub record Brings (tells : Type 0) (bytes : List ℕ) (failed : Bool) (a b : MouthState) : Type 0 where
   pub came : Role
   pub between : MouthState
@@ -44,7 +45,8 @@ pub record BringsNothing (tells : Type 0) (bytes : List ℕ) (a b : MouthState) 
 
 -- so many bytes at the front of the room were heard, or why there are none
 abbrev pub HearsDescriptor : Type 0 → Result ℕ Unheard → List ℕ → MouthState → MouthState → Type 0
-HearsDescriptor tells (Ok count) room a b = Brings tells (take count room) false a b ⊎ BringsNothing tells (take count room) a b
+HearsDescriptor tells (Ok count) room a b = Brings tells (take count room) false a b
+    ⊎ BringsNothing tells (take count room) a b
 HearsDescriptor tells (Err Waiting) room a b = IsUnreached tells a b
 HearsDescriptor tells (Err Reading) room a b = (bytes : List ℕ) × Brings tells bytes true a b
 
@@ -73,6 +75,7 @@ pub record BringsIn (t : WorldTells) (o : Onboarding) (a b : Peers) : Type 0 whe
   pub unnoted : b.mouth.told ≡ a.mouth.told
 
 -- what onboarding does to the journal too; the manager is now n
-pub record Onboards (t : WorldTells) (m : ℕ) (H : List Event) (o : Onboarding) (n : Managed) (w v : World) : Type 0 where
+pub record Onboards (t : WorldTells) (m : ℕ) (H : List Event) (o : Onboarding) (n : Managed)
+    (w v : World) : Type 0 where
   pub works : Works t.site m H (onboarding_work H o) n w.site v.site
   pub brings : BringsIn t o (peers_of w) (peers_of v)

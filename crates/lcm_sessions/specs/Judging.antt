@@ -7,7 +7,8 @@ use Rattle.lcm_sessions.specs.Verdict.{refused, new_verdict, room_verdict, verdi
 use Rattle.lcm_sessions.specs.declared.answer.OnboardFault.{OnboardFault}
 use Rattle.lcm_sessions.specs.declared.answer.OnboardFault.TheVariants as fault
 
--- what a descriptor that was read comes to but for its room, whenever it is judged: it is refused, or it may be onboarded
+-- what a descriptor that was read comes to but for its room, whenever it is judged: it is refused, or it may be
+-- onboarded
 abbrev pub JudgesNew : List Event → Vnfd → Result Vnfd OnboardFault → Type 0
 JudgesNew H vnfd (Ok same) = ((now : ℕ) → new_verdict H now vnfd ≡ room_verdict H now same) × MayOnboard H same
 JudgesNew H vnfd (Err (fault.Refused why)) = (now : ℕ) → new_verdict H now vnfd ≡ refused why

@@ -15,8 +15,8 @@ use Rattle.lcm_sessions.specs.declared.answer.OnboardFault.TheVariants as fault
 pub data Ended : Type 0 where
   done starving breaking : Ended
 
--- What came of onboarding: there was no memory to read into, waiting for a connection failed, a read failed behind these bytes, or
--- these bytes were heard and judged at this moment, and the work on the journal ended so.
+-- What came of onboarding: there was no memory to read into, waiting for a connection failed, a read failed behind
+-- these bytes, or these bytes were heard and judged at this moment, and the work on the journal ended so.
 pub data Onboarding : Type 0 where
   unready unheard : Onboarding
   cut_off : List ℕ → Onboarding
@@ -37,7 +37,13 @@ onboarding_work H (heard bytes now ended) = worked H (onboarded now (verdict H n
 
 -- what is said of a descriptor: its identifier, and how many VDUs, aspects and levels it has
 abbrev pub said_of : Vnfd → Onboarded
-said_of vnfd = record { id = vnfd.descriptor_id; vdus = length vnfd.vdus; aspects = length vnfd.aspects; levels = length vnfd.levels }
+said_of vnfd = record {
+  id = vnfd.descriptor_id;
+  vdus = length vnfd.vdus;
+  aspects = length vnfd.aspects;
+  levels =
+      length vnfd.levels;
+}
 
 -- what is answered of a descriptor that was judged so
 abbrev pub verdict_answer : Verdict → Result Onboarded OnboardFault

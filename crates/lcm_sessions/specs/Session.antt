@@ -1,6 +1,7 @@
--- A session: the requests of one connection, answered one after the other, each over the history that those before it left
--- (RFC 9112 9.3, Persistence; 9.6, Tear-down; the order is an own rule).
-use Rattle.std.specs.Prelude.{◌≡◌, ℕ, ◌+◌, Bool, true, false, List, [], ◌∷◌, ◌++◌, length, min, Option, Some, None, is_some, ◌&&◌, if◌then◌else◌, Result, Ok, Err}
+-- A session: the requests of one connection, answered one after the other, each over the history that those before it
+-- left (RFC 9112 9.3, Persistence; 9.6, Tear-down; the order is an own rule).
+use Rattle.std.specs.Prelude.{◌≡◌, ℕ, ◌+◌, Bool, true, false, List, [], ◌∷◌, ◌++◌, length, min, Option, Some, None}
+use Rattle.std.specs.Prelude.{is_some, ◌&&◌, if◌then◌else◌, Result, Ok, Err}
 use Rattle.std.specs.List.{AllByRecursion}
 use Rattle.std.specs.Result.{is_ok, is_err}
 use Rattle.executor.specs.Work.{Work, went, broke, stood}
@@ -24,8 +25,8 @@ pub record Ask : Type 0 where
   pub request : Request
   pub value : ℕ
 
--- Why no more was answered: no request was left; the bytes that are left are none, for this cause, and this is told of it; the reply to
--- this request couldn't be told whole; there was no memory for it; the disk failed.
+-- Why no more was answered: no request was left; the bytes that are left are none, for this cause, and this is told of
+-- it; the reply to this request couldn't be told whole; there was no memory for it; the disk failed.
 pub data Last : Type 0 where
   over : Last
   unheard : WireFault → Option Reply → Last
@@ -38,8 +39,8 @@ pub record Closing : Type 0 where
   pub last : Last
   pub told : Result (Unit {0}) DoorFailed
 
--- what became of a connection: whom it was served for, the requests whose replies were told whole, the latest first, and how it ended,
--- unless it goes on
+-- what became of a connection: whom it was served for, the requests whose replies were told whole, the latest first,
+-- and how it ended, unless it goes on
 pub record Talk : Type 0 where
   pub role : Role
   pub asks : List Ask
@@ -50,7 +51,8 @@ abbrev pub life : {X : Type 0} → (List Event → X → List Event) → List Ev
 life next H [] = H
 life next H (x ∷ before) = next (life next H before) x
 
--- what a request comes to behind history H of manager m, for its role and at the moment of the clock's value, which is the last of the year 9999 at most
+-- what a request comes to behind history H of manager m, for its role and at the moment of the clock's value, which is
+-- the last of the year 9999 at most
 abbrev pub outcome_of : ℕ → List Event → Ask → Outcome
 outcome_of m H x = outcome m H (min x.value 253402300799999) x.role x.request
 
@@ -156,8 +158,8 @@ is_cut other = false
 abbrev pub is_lost : Closing → Bool
 is_lost end = has_reply end.last && is_err end.told
 
--- The door's counts once a session ended so, or as far as it went: one fault more where the read for the next request failed, one where what was
--- to be told wasn't told whole, and else none (own rule).
+-- The door's counts once a session ended so, or as far as it went: one fault more where the read for the next request
+-- failed, one where what was to be told wasn't told whole, and else none (own rule).
 abbrev pub counts_behind : Option Closing → DoorCounts → DoorCounts
 counts_behind None c = c
 counts_behind (Some end) c = counts_by (is_lost end) (counts_by (is_cut end.last) c)

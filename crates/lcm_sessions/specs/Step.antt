@@ -1,5 +1,6 @@
 -- One step of a session: a request is answered and the session goes on, or it ends.
-use Rattle.std.specs.Prelude.{◌≡◌, ◌<◌, ◌≤◌, ℕ, true, false, List, [], ◌∷◌, ◌++◌, Some, None, Result, Ok, Err, if◌then◌else◌}
+use Rattle.std.specs.Prelude.{◌≡◌, ◌<◌, ◌≤◌, ℕ, true, false, List, [], ◌∷◌, ◌++◌, Some, None, Result, Ok, Err}
+use Rattle.std.specs.Prelude.{if◌then◌else◌}
 use Rattle.std.specs.Result.{is_ok, is_err}
 use Rattle.std.specs.declared.alloc.AllocError.{AllocError}
 use Rattle.executor.specs.Chain.{AreTold}
@@ -14,7 +15,8 @@ use Rattle.lcm_api.specs.Failing.{FailsOnce}
 use Rattle.lcm_api.specs.Telling.{WorldTells}
 use Rattle.lcm_api.specs.declared.door.DoorFailed.{DoorFailed}
 use Rattle.lcm_api.specs.declared.reply.Reply.{Reply}
-use Rattle.lcm_sessions.specs.Session.{Ask, Closing, Talk, life, once_answered, replies, said, taken_by, told_last, behind_told, breaks, counts_behind, work_of}
+use Rattle.lcm_sessions.specs.Session.{Ask, Closing, Talk, life, once_answered, replies, said, taken_by, told_last}
+use Rattle.lcm_sessions.specs.Session.{behind_told, breaks, counts_behind, work_of}
 use Rattle.lcm_api.specs.World as outside
 use Rattle.lcm_api.specs.World.{World}
 use Rattle.lcm_sessions.specs.Talking.{Converses, Ends, GaveAll, SaysLast}
@@ -35,8 +37,10 @@ ended_so role end = record { role = role; asks = []; end = Some end }
 -- what a step was, by what it answers
 abbrev pub IsStep : Role → Talk → Step → Type 0
 IsStep role talk step.Told = (x : Ask) × (talk ≡ answered_one role x)
-IsStep role talk step.ToldLast = (end : Closing) × (talk ≡ ended_so role end) × (told_last (Some end) ≡ 1) × (breaks (Some end) ≡ false)
-IsStep role talk step.Over = (end : Closing) × (talk ≡ ended_so role end) × (told_last (Some end) ≡ 0) × (breaks (Some end) ≡ false)
+IsStep role talk step.ToldLast = (end : Closing) × (talk ≡ ended_so role end) × (told_last (Some end) ≡ 1)
+    × (breaks (Some end) ≡ false)
+IsStep role talk step.Over = (end : Closing) × (talk ≡ ended_so role end) × (told_last (Some end) ≡ 0)
+    × (breaks (Some end) ≡ false)
 IsStep role talk step.Broken = (end : Closing) × (talk ≡ ended_so role end) × (breaks (Some end) ≡ true)
 
 -- nothing came in, and what is said went out
@@ -46,7 +50,8 @@ pub record Replies (m : ℕ) (H : List Event) (talk : Talk) (a b : DoorState) : 
   pub door : Converses [] (said (replies m H talk.asks) ++ final) a b
 
 -- what answering the request in hand does
-pub record Responds (t : outside.WorldTells) (m : ℕ) (H : List Event) (talk : Talk) (n : Managed) (w v : World) : Type 0 where
+pub record Responds (t : outside.WorldTells) (m : ℕ) (H : List Event) (talk : Talk) (n : Managed)
+    (w v : World) : Type 0 where
   pub works : Works t.site m H (work_of m H talk) n w.site v.site
   pub replies : t.door → Replies m H talk w.mouth.wire.intake.door v.mouth.wire.intake.door
   pub clock : t.clock → GaveAll (taken_by talk) w.clock v.clock

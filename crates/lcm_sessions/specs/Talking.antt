@@ -1,5 +1,6 @@
 -- What a session does to all that is outside: the journal's file, the connection and the clock.
-use Rattle.std.specs.Prelude.{◌≡◌, ◌+◌, ◌==◌, ◌||◌, ◌⊎◌, ℕ, Bool, false, List, [], ◌∷◌, ◌++◌, take, Option, Some, None, is_some, ◌&&◌, Result, Ok, Err}
+use Rattle.std.specs.Prelude.{◌≡◌, ◌+◌, ◌==◌, ◌||◌, ◌⊎◌, ℕ, Bool, false, List, [], ◌∷◌, ◌++◌, take, Option, Some, None}
+use Rattle.std.specs.Prelude.{is_some, ◌&&◌, Result, Ok, Err}
 use Rattle.std.specs.Result.{is_ok, is_err}
 use Rattle.executor.specs.Chain.{AreTold}
 use Rattle.executor.specs.Managed.{Managed}
@@ -18,15 +19,16 @@ use Rattle.lcm_api.specs.Mouth.{MouthState, Takes}
 use Rattle.lcm_api.specs.World.{WorldTells, Peers, World, peers_of}
 use Rattle.lcm_api.specs.Replies.{malformed, too_large, starved}
 use Rattle.lcm_api.specs.Response.{text}
-use Rattle.lcm_sessions.specs.Session.{AreFor, Ask, Last, Closing, Talk, over, unheard, untold, behind_told, counts_behind, life, once_answered, replies, said, taken_by, reply_last, work_of}
+use Rattle.lcm_sessions.specs.Session.{AreFor, Ask, Last, Closing, Talk, over, unheard, untold, behind_told}
+use Rattle.lcm_sessions.specs.Session.{counts_behind, life, once_answered, replies, said, taken_by, reply_last, work_of}
 use Rattle.lcm_api.specs.declared.door.DoorFailed.{DoorFailed}
 use Rattle.lcm_api.specs.declared.reply.Reply.{Reply}
 use Rattle.lcm_events.specs.declared.events.Event.{Event}
 use Rattle.site_traits.specs.Clock.{Gives}
 use Rattle.site_traits.specs.Door.{DoorState, HangsUp, NoNextFault, closed}
 
--- what is left of a connection: its bytes that belong to no request yet, how many requests were taken, and whether the last of them was
--- the connection's last
+-- what is left of a connection: its bytes that belong to no request yet, how many requests were taken, and whether the
+-- last of them was the connection's last
 pub record Remains : Type 0 where
   pub bytes : List ℕ
   pub taken : ℕ
@@ -35,7 +37,8 @@ pub record Remains : Type 0 where
 abbrev pub remains_of : WireState → Remains
 remains_of w = record { bytes = bytes_of w.intake; taken = w.taken; ended = w.ended }
 
--- the request is the one that the bytes begin with; it is the last where it asks so or stands at the last place (RFC 9112 9.6)
+-- the request is the one that the bytes begin with; it is the last where it asks so or stands at the last place (RFC
+-- 9112 9.6)
 pub record IsNext (r : Request) (a b : Remains) : Type 0 where
   pub goes_on : a.ended ≡ false
   pub message : Message
@@ -58,7 +61,8 @@ abbrev pub GaveAll : List Ask → List ℕ → List ℕ → Type 0
 GaveAll [] old new = new ≡ old
 GaveAll (x ∷ before) old new = (between : List ℕ) × GaveAll before old between × Gives x.value between new
 
--- these bytes came in from the connection at hand, those went out to it, and nothing else happened at the door but that a call may have failed
+-- these bytes came in from the connection at hand, those went out to it, and nothing else happened at the door but that
+-- a call may have failed
 pub record Converses (read written : List ℕ) (a b : DoorState) : Type 0 where
   pub answers : b.answers ≡ a.answers
   pub past : b.past ≡ a.past
@@ -86,8 +90,8 @@ pub record Speaks (m : ℕ) (H : List Event) (talk : Talk) (a b : DoorState) : T
   pub final_is : SaysLast m (life (once_answered m) H talk.asks) talk.end final
   pub door : Converses read (said (replies m H talk.asks) ++ final) a b
 
--- what is told where the bytes that are left are no request: 400 where they are bad, 413 where they are too big, 503 for want of memory, and
--- nothing where they stop short or a read failed
+-- what is told where the bytes that are left are no request: 400 where they are bad, 413 where they are too big, 503
+-- for want of memory, and nothing where they stop short or a read failed
 abbrev pub IsRejection : WireFault → Option Reply → Type 0
 IsRejection fault.Malformed reply = (reply ≡ Some malformed) ⊎ (reply ≡ Some starved)
 IsRejection fault.TooLarge reply = (reply ≡ Some too_large) ⊎ (reply ≡ Some starved)
@@ -95,8 +99,9 @@ IsRejection fault.Unfinished reply = reply ≡ None
 IsRejection fault.Read reply = reply ≡ None
 IsRejection fault.Memory reply = reply ≡ Some starved
 
--- The wire gave this answer when it was asked for the last time, between the session's start and its end. Before that no call of the door
--- failed; behind it nothing is taken, what is held stays, and no call failed but where what was to be told was lost.
+-- The wire gave this answer when it was asked for the last time, between the session's start and its end. Before that
+-- no call of the door failed; behind it nothing is taken, what is held stays, and no call failed but where what was to
+-- be told was lost.
 pub record AsksLast (tells : Type 0) (answer : Result Taken WireFault) (lost : Bool) (a b : WireState) : Type 0 where
   pub before : WireState
   pub behind : WireState
@@ -112,7 +117,8 @@ pub record AsksLast (tells : Type 0) (answer : Result Taken WireFault) (lost : B
 -- why it ended: no request was left; the bytes that are left are none, and that is told; or telling a reply failed
 abbrev pub EndsFor : Type 0 → Last → Result (Unit {0}) DoorFailed → WireState → WireState → Type 0
 EndsFor tells over told a b = AsksLast tells (Ok taken.End) false a b
-EndsFor tells (unheard cause reply) told a b = AsksLast tells (Err cause) (is_some reply && is_err told) a b × IsRejection cause reply
+EndsFor tells (unheard cause reply) told a b = AsksLast tells (Err cause) (is_some reply && is_err told) a b
+    × IsRejection cause reply
 EndsFor tells (untold x) told a b = is_ok told ≡ false
 EndsFor tells other told a b = Unit {0}
 
@@ -120,7 +126,8 @@ abbrev pub Ends : Type 0 → Option Closing → WireState → WireState → Type
 Ends tells None a b = Unit {0}
 Ends tells (Some end) a b = EndsFor tells end.last end.told a b
 
--- What a session does to the connection and the clock, or as much of it as was done so far, over history H of manager m.
+-- What a session does to the connection and the clock, or as much of it as was done so far, over history H of manager
+-- m.
 pub record Holds (t : WorldTells) (m : ℕ) (H : List Event) (talk : Talk) (a b : Peers) : Type 0 where
   pub roles : AreFor talk.role (taken_by talk)
   pub requests : t.door → AreRequests (taken_by talk) (remains_of a.mouth.wire) (remains_of b.mouth.wire)
@@ -130,7 +137,8 @@ pub record Holds (t : WorldTells) (m : ℕ) (H : List Event) (talk : Talk) (a b 
   pub faults : b.mouth.wire.intake.counts ≡ counts_behind talk.end a.mouth.wire.intake.counts
   pub counts : NoNextFault a.mouth.wire.intake.counts b.mouth.wire.intake.counts
 
--- What it does to the journal too; the manager is now n. From the telling of each reply on no stop takes back the history behind it.
+-- What it does to the journal too; the manager is now n. From the telling of each reply on no stop takes back the
+-- history behind it.
 pub record Talks (t : WorldTells) (m : ℕ) (H : List Event) (talk : Talk) (n : Managed) (w v : World) : Type 0 where
   pub works : Works t.site m H (work_of m H talk) n w.site v.site
   pub holds : Holds t m H talk (peers_of w) (peers_of v)

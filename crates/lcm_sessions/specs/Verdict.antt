@@ -17,7 +17,8 @@ use Rattle.vnfd_reader.specs.Answer.{answer}
 abbrev pub onboarding : ℕ → Vnfd → Event
 onboarding now vnfd = record { moment = now; kind = kind.Onboarded vnfd }
 
--- what becomes of a descriptor: it is refused, the journal has no room behind this place for so many bytes, or it is onboarded
+-- what becomes of a descriptor: it is refused, the journal has no room behind this place for so many bytes, or it is
+-- onboarded
 pub data Verdict : Type 0 where
   refused : DescriptorRefusal → Verdict
   full : ℕ → ℕ → Verdict
@@ -26,8 +27,10 @@ pub data Verdict : Type 0 where
 -- a record and the journal of history H have room for the descriptor, or not
 abbrev pub room_verdict : List Event → ℕ → Vnfd → Verdict
 room_verdict H now vnfd =
-    if nat_lt MAX_RECORD (length (spelling (onboarding now vnfd))) then refused (TooLong (length (spelling (onboarding now vnfd))))
-    else (if is_full MAX_FILE (onboarding now vnfd ∷ H) then full (journal_end H) (length (spelling (onboarding now vnfd))) else accepted vnfd)
+    if nat_lt MAX_RECORD (length (spelling (onboarding now vnfd)))
+    then refused (TooLong (length (spelling (onboarding now vnfd))))
+    else (if is_full MAX_FILE (onboarding now vnfd ∷ H) then full (journal_end H)
+    (length (spelling (onboarding now vnfd))) else accepted vnfd)
 
 -- a descriptor that was read, after history H: the first refusal that applies, or whether there is room for it
 abbrev pub new_verdict : List Event → ℕ → Vnfd → Verdict

@@ -46,7 +46,8 @@ pub enum OnboardFault {
     },
     /// There is no memory.
     Memory,
-    /// A disk call failed. The manager is closed: whether the descriptor is onboarded is known once the journal is loaded again.
+    /// A disk call failed. The manager is closed: whether the descriptor is onboarded is known once the journal is
+    /// loaded again.
     Disk,
 }
 

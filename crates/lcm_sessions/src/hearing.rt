@@ -18,9 +18,9 @@ use vnfm_base::Moment;
 
 /// Onboards the descriptor that the door's first connection brings.
 ///
-/// The connection is read to its end or to its 1,048,577th byte, and then ended; where nobody comes the descriptor is empty.
-/// Then the clock is read, the descriptor is judged, and its event is recorded. The first of these that fails gives the answer: `Door`
-/// exactly where a call of the door failed, `Disk` exactly where one of the disk did.
+/// The connection is read to its end or to its 1,048,577th byte, and then ended; where nobody comes the descriptor is
+/// empty. Then the clock is read, the descriptor is judged, and its event is recorded. The first of these that fails
+/// gives the answer: `Door` exactly where a call of the door failed, `Disk` exactly where one of the disk did.
 /// Conditions: the manager isn't closed, and its file has its history.
 /// Source: SOL 001, in the form of docs/DESCRIPTORS.md; the limits are an own rule.
 pub fn onboard<S: Site, D: Door, K: Clock>(
@@ -33,10 +33,12 @@ pub fn onboard<S: Site, D: Door, K: Clock>(
     requires ready { (H : List Event) × IsReady S.tells manager.old H (S.state site.old) }
     ensures onboards { (H : List Event) → IsReady S.tells manager.old H (S.state site.old) → (o : Onboarding)
         × Onboards (telling S.tells D.tells K.tells) manager.old.ledger.manager H o manager.new
-        (world (S.state site.old) mouth.old (K.state clock.old)) (world (S.state site.new) mouth.new (K.state clock.new))
+        (world (S.state site.old) mouth.old (K.state clock.old))
+        (world (S.state site.new) mouth.new (K.state clock.new))
         × (result ≡ answer_of H o) }
     ensures disk { OnlyDiskFails (result ≡ Err OnboardFault.Disk) (S.counts site.old) (S.counts site.new) }
-    ensures door { OnlyDoorFails (result ≡ Err OnboardFault.Door) mouth.old.wire.intake.counts mouth.new.wire.intake.counts }
+    ensures door { OnlyDoorFails (result ≡ Err OnboardFault.Door) mouth.old.wire.intake.counts
+        mouth.new.wire.intake.counts }
 {
     works_add_up::<S>();
     let mut room = vec![in alloc; 0; MAX_READ]?;
@@ -56,7 +58,8 @@ fn onboard_into<S: Site, D: Door, K: Clock>(
     requires ready { (H : List Event) × IsReady S.tells manager.old H (S.state site.old) }
     ensures onboards { (H : List Event) → IsReady S.tells manager.old H (S.state site.old) → (o : Onboarding)
         × Onboards (telling S.tells D.tells K.tells) manager.old.ledger.manager H o manager.new
-        (world (S.state site.old) mouth.old (K.state clock.old)) (world (S.state site.new) mouth.new (K.state clock.new))
+        (world (S.state site.old) mouth.old (K.state clock.old))
+        (world (S.state site.new) mouth.new (K.state clock.new))
         × (result ≡ answer_of H o) }
     ensures disk { OnlyDiskFails (result ≡ Err OnboardFault.Disk) (S.counts site.old) (S.counts site.new) }
 {

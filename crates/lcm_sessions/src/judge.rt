@@ -31,9 +31,12 @@ pub fn take_in<S: Site>(
     now: Moment,
 ) -> Result<Onboarded, OnboardFault>
     requires ready { (H : List Event) × IsReady S.tells manager.old H (S.state site.old) }
-    ensures answer { (H : List Event) → Keeps manager.old H → result ≡ judged_answer (verdict H now bytes.now) (ended_by result) }
-    ensures works { (H : List Event) → IsReady S.tells manager.old H (S.state site.old) → Works S.tells manager.old.ledger.manager H
-        (worked H (onboarded now (verdict H now bytes.now)) (ended_by result)) manager.new (S.state site.old) (S.state site.new) }
+    ensures answer { (H : List Event) → Keeps manager.old H
+        → result ≡ judged_answer (verdict H now bytes.now) (ended_by result) }
+    ensures works { (H : List Event) → IsReady S.tells manager.old H (S.state site.old)
+        → Works S.tells manager.old.ledger.manager H
+        (worked H (onboarded now (verdict H now bytes.now)) (ended_by result)) manager.new (S.state site.old)
+        (S.state site.new) }
     ensures disk { OnlyDiskFails (result ≡ Err OnboardFault.Disk) (S.counts site.old) (S.counts site.new) }
 {
     works_add_up::<S>();
@@ -53,9 +56,12 @@ fn record_event<S: Site>(
     site: &mut S,
     event: &Event,
 ) -> Result<(), WorkFault>
-    requires { (H : List Event) × IsReady S.tells manager.old H (S.state site.old) × MayRecord manager.old.ledger.manager H event.now }
-    ensures works { (H : List Event) → IsReady S.tells manager.old H (S.state site.old) → MayRecord manager.old.ledger.manager H event.now
-        → Works S.tells manager.old.ledger.manager H (recorded H event.now result) manager.new (S.state site.old) (S.state site.new) }
+    requires { (H : List Event) × IsReady S.tells manager.old H (S.state site.old)
+        × MayRecord manager.old.ledger.manager H event.now }
+    ensures works { (H : List Event) → IsReady S.tells manager.old H (S.state site.old)
+        → MayRecord manager.old.ledger.manager H event.now
+        → Works S.tells manager.old.ledger.manager H (recorded H event.now result) manager.new (S.state site.old)
+        (S.state site.new) }
     ensures room { (H : List Event) → Keeps manager.old H → TellsRoom MAX_FILE H event.now result }
     ensures disk { OnlyDiskFails (result ≡ Err WorkFault.Disk) (S.counts site.old) (S.counts site.new) }
 {
@@ -89,7 +95,13 @@ fn judge_new<S: Site>(manager: &Manager<S>, vnfd: Vnfd) -> Result<Vnfd, OnboardF
 
 /// What is said of a descriptor.
 fn said_of(vnfd: &Vnfd) -> Onboarded
-    ensures { result ≡ record { id = vnfd.now.descriptor_id; vdus = length vnfd.now.vdus; aspects = length vnfd.now.aspects; levels = length vnfd.now.levels } }
+    ensures { result ≡ record {
+      id = vnfd.now.descriptor_id;
+      vdus = length vnfd.now.vdus;
+      aspects =
+          length vnfd.now.aspects;
+      levels = length vnfd.now.levels;
+    } }
 {
     Onboarded {
         id: vnfd.descriptor_id,

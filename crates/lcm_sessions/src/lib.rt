@@ -1,5 +1,5 @@
-//! What becomes of a connection: its requests are answered one after the other, or its bytes are read as a descriptor, which is judged by the history
-//! and recorded.
+//! What becomes of a connection: its requests are answered one after the other, or its bytes are read as a descriptor,
+//! which is judged by the history and recorded.
 #![tactic(auto)]
 
 mod answer;

@@ -18,7 +18,8 @@ use site_traits::{Clock, Door, Site};
 use std::alloc::{AllocError, Global};
 use vnfm_base::Moment;
 
-/// The disk failed, and the manager is closed. Whether the last request's event is kept is known once the journal is loaded again.
+/// The disk failed, and the manager is closed. Whether the last request's event is kept is known once the journal is
+/// loaded again.
 #[derive(Clone, Copy)]
 pub struct Closed;
 
@@ -35,14 +36,14 @@ pub enum Step {
     Broken,
 }
 
-/// Serves the connection at hand for this role: answers its requests one by one until its bytes end, its last request was answered, the
-/// bytes that are left are no request, a read or a write fails, or there is no memory; then it ends the connection. The answer is the
-/// number of replies that were told whole.
+/// Serves the connection at hand for this role: answers its requests one by one until its bytes end, its last request
+/// was answered, the bytes that are left are no request, a read or a write fails, or there is no memory; then it ends
+/// the connection. The answer is the number of replies that were told whole.
 ///
-/// Where the bytes that are left are no request, 400 or 413 is told; for want of memory 503; where the disk failed 500. The door counts one
-/// fault where a read failed and one where telling did, each of which ends the session, and else none. From the moment at which a reply was
-/// told on, whenever a stop comes, it leaves the history that the reply tells of, or more.
-/// Conditions: the connection is up; the manager isn't closed, and its file has its history.
+/// Where the bytes that are left are no request, 400 or 413 is told; for want of memory 503; where the disk failed 500.
+/// The door counts one fault where a read failed and one where telling did, each of which ends the session, and else
+/// none. From the moment at which a reply was told on, whenever a stop comes, it leaves the history that the reply
+/// tells of, or more. Conditions: the connection is up; the manager isn't closed, and its file has its history.
 /// Refusal: `Closed` exactly where the disk failed in this call.
 /// Source: SOL 003 4.3 (API structure), 5.4.2; RFC 9112 9.3, 9.6.
 pub fn answer_session<S: Site, D: Door, K: Clock>(
@@ -57,7 +58,8 @@ pub fn answer_session<S: Site, D: Door, K: Clock>(
     requires ready { (H : List Event) × IsReady S.tells manager.old H (S.state site.old) }
     ensures serves { (H : List Event) → IsReady S.tells manager.old H (S.state site.old) → (talk : Talk)
         × Serves (telling S.tells D.tells K.tells) manager.old.ledger.manager H talk manager.new
-        (world (S.state site.old) mouth.old (K.state clock.old)) (world (S.state site.new) mouth.new (K.state clock.new))
+        (world (S.state site.old) mouth.old (K.state clock.old))
+        (world (S.state site.new) mouth.new (K.state clock.new))
         × (talk.role ≡ role) × Answers talk result }
     ensures counts { OnlyDiskFails (is_err result ≡ true) (S.counts site.old) (S.counts site.new) }
 {
@@ -77,9 +79,11 @@ fn talk<S: Site, D: Door, K: Clock>(
 ) -> Result<u32, Closed>
     requires up { mouth.old.wire.intake.counts.up ≡ true }
     requires ready { (H : List Event) × IsReady S.tells manager.old H (S.state site.old) }
-    ensures talks { (H : List Event) → IsReady S.tells manager.old H (S.state site.old) → (talk : Talk) × (end : Closing) × (talk.end ≡ Some end)
+    ensures talks { (H : List Event) → IsReady S.tells manager.old H (S.state site.old)
+        → (talk : Talk) × (end : Closing) × (talk.end ≡ Some end)
         × Talks (telling S.tells D.tells K.tells) manager.old.ledger.manager H talk manager.new
-        (world (S.state site.old) mouth.old (K.state clock.old)) (world (S.state site.new) mouth.new (K.state clock.new))
+        (world (S.state site.old) mouth.old (K.state clock.old))
+        (world (S.state site.new) mouth.new (K.state clock.new))
         × (talk.role ≡ role) × Answers talk result }
     ensures role { mouth.new.role ≡ role }
     ensures up { mouth.new.wire.intake.counts.up ≡ true }
@@ -111,7 +115,8 @@ fn answer_next<S: Site, D: Door, K: Clock>(
     requires ready { (H : List Event) × IsReady S.tells manager.old H (S.state site.old) }
     ensures talks { (H : List Event) → IsReady S.tells manager.old H (S.state site.old) → (talk : Talk)
         × Talks (telling S.tells D.tells K.tells) manager.old.ledger.manager H talk manager.new
-        (world (S.state site.old) mouth.old (K.state clock.old)) (world (S.state site.new) mouth.new (K.state clock.new))
+        (world (S.state site.old) mouth.old (K.state clock.old))
+        (world (S.state site.new) mouth.new (K.state clock.new))
         × IsStep role talk result }
     ensures role { mouth.new.role ≡ role }
     ensures on { GoesOn result mouth.old mouth.new }
@@ -141,9 +146,11 @@ fn respond<S: Site, D: Door, K: Clock>(
     requires up { mouth.old.wire.intake.counts.up ≡ true }
     requires in_hand { is_some mouth.old.hand ≡ true }
     requires ready { (H : List Event) × IsReady S.tells manager.old H (S.state site.old) }
-    ensures responds { (H : List Event) → IsReady S.tells manager.old H (S.state site.old) → (r : Request) → mouth.old.hand ≡ Some r → (talk : Talk)
+    ensures responds { (H : List Event) → IsReady S.tells manager.old H (S.state site.old) → (r : Request)
+        → mouth.old.hand ≡ Some r → (talk : Talk)
         × Responds (telling S.tells D.tells K.tells) manager.old.ledger.manager H talk manager.new
-        (world (S.state site.old) mouth.old (K.state clock.old)) (world (S.state site.new) mouth.new (K.state clock.new))
+        (world (S.state site.old) mouth.old (K.state clock.old))
+        (world (S.state site.new) mouth.new (K.state clock.new))
         × IsAbout r talk × IsStep mouth.old.role talk result }
     ensures kept { OnlyAtDoor mouth.old mouth.new }
     ensures up { mouth.new.wire.intake.counts.up ≡ true }

@@ -1,5 +1,6 @@
 -- An ask is judged after a history as it is judged over what stands of its instance.
-use Rattle.std.proofs.Common.{◌≡◌, ◌&&◌, ◌+◌, ◌∙◌, ◌↔◌, IsTrue, ℕ, List, [], ◌∷◌, Bool, true, Option, None, Some, is_some, refl, ap, sym, subst}
+use Rattle.std.proofs.Common.{◌≡◌, ◌&&◌, ◌+◌, ◌∙◌, ◌↔◌, IsTrue, ℕ, List, [], ◌∷◌, Bool, true, Option, None, Some, is_some, refl, ap, sym}
+use Rattle.std.proofs.Common.{subst}
 use Rattle.std.specs.Prelude.{option_and_then}
 use Rattle.lcm_events.specs.declared.descriptor.Vnfd.{Vnfd}
 use Rattle.lcm_events.specs.declared.events.Event.{Event}
@@ -27,13 +28,18 @@ passed None xs e = refl
 passed (Some y) xs e = cc
 
 -- an ask is accepted with its plan over its instance's holding exactly where it is after the history
-pub plan_over : (d : Vnfd) (H : List Event) (a : Operation) (h : Holding) (busy : Bool) → CanBeAsked d H a.instance → h ≡ holding d H a.instance
+pub plan_over : (d : Vnfd) (H : List Event) (a : Operation) (h : Holding) (busy : Bool) → CanBeAsked d H a.instance
+    → h ≡ holding d H a.instance
     → busy ≡ is_some (first (ongoing H a.instance)) → IsPlanOver d h busy a.ask a.changes ↔ IsPlanOf H a (Some d)
 plan_over d H a h busy can is goes =
     let now = situation d H a.instance in
     let rest = standing_same d H a.instance h busy a.ask can is goes in
     let plans = planned_same d H a.instance h a.ask can is in (
-      λ over. (passed (content_refusal d a.ask) (state_refusal d now a.ask ∷ plan_refusal d now a.ask ∷ []) over.content ∙ (sym rest ∙ over.standing), over.planned ∙ plans),
+      λ over. (
+        passed (content_refusal d a.ask) (state_refusal d now a.ask ∷ plan_refusal d now a.ask ∷ []) over.content
+            ∙ (sym rest ∙ over.standing),
+        over.planned ∙ plans,
+      ),
       λ of. record {
         content = none_of-front (content_refusal d a.ask) _ of.0;
         standing = rest ∙ none_of-rest (content_refusal d a.ask) _ of.0;
@@ -41,16 +47,20 @@ plan_over d H a h busy can is goes =
       },
     )
 
--- an operation may be asked for exactly where its number is the next and it is accepted with its plan, of a live instance of this descriptor
-pub asked_judged : (H : List Event) (a : Operation) (d : Vnfd) (made : ℕ) (next planned : Bool) → made ≡ occurrences_made H → is_live H a.instance ≡ true
-    → descriptor H a.instance ≡ Some d → IsTrue next ↔ (a.occ ≡ made + 1) → IsTrue planned ↔ IsPlanOf H a (Some d) → IsTrue (next && planned) ↔ MayAsk H a
+-- an operation may be asked for exactly where its number is the next and it is accepted with its plan, of a live instance of this
+-- descriptor
+pub asked_judged : (H : List Event) (a : Operation) (d : Vnfd) (made : ℕ) (next planned : Bool) → made ≡ occurrences_made H
+    → is_live H a.instance ≡ true
+    → descriptor H a.instance ≡ Some d → IsTrue next ↔ (a.occ ≡ made + 1) → IsTrue planned ↔ IsPlanOf H a (Some d)
+    → IsTrue (next && planned) ↔ MayAsk H a
 asked_judged H a d made next planned is live described n p = (
   λ h. record {
     number = n.0 (and_left next planned h) ∙ ap (λ (k : ℕ). k + 1) is;
     live = live;
     planned = subst (λ (o : Option Vnfd). IsPlanOf H a o) (sym described) (p.0 (and_right next planned h));
   },
-  λ may. and_true next planned (n.1 (may.number ∙ ap (λ (k : ℕ). k + 1) (sym is))) (p.1 (subst (λ (o : Option Vnfd). IsPlanOf H a o) described may.planned)),
+  λ may. and_true next planned (n.1 (may.number ∙ ap (λ (k : ℕ). k + 1) (sym is)))
+      (p.1 (subst (λ (o : Option Vnfd). IsPlanOf H a o) described may.planned)),
 )
 
 -- the descriptor of an instance is the one that its row names
@@ -64,7 +74,8 @@ some_same : {A : Type 0} → {x y : A} → Some x ≡ Some y → x ≡ y
 some_same e = cc
 
 -- an ask of the instance of this row is of this descriptor and of what the row says stands
-pub row_asked : (H : List Event) (i : ℕ) (r : InstanceRow) (v d : Vnfd) → instance H i ≡ Some r → Some v ≡ descriptor_named H r.vnfd → descriptor H i ≡ Some d
+pub row_asked : (H : List Event) (i : ℕ) (r : InstanceRow) (v d : Vnfd) → instance H i ≡ Some r → Some v ≡ descriptor_named H r.vnfd
+    → descriptor H i ≡ Some d
     → r.holding ≡ holding d H i → IsAskedOf H i v r.holding
 row_asked H i r v d e found described held =
     let is : v ≡ d = some_same (found ∙ (sym (row_described H i r e) ∙ described)) in
@@ -76,10 +87,18 @@ row_asked H i r v d e found described held =
 
 -- an instance can be asked after a small legal history
 pub can_ask : (m : ℕ) (H : List Event) (i : ℕ) (v : Vnfd) (h : Holding) → IsLegal m H → IsSmall H → IsAskedOf H i v h → CanBeAsked v H i
-can_ask m H i v h legal small asked = record { width = window; manager = m; legal = legal; described = asked.described; small = λ n. small.serials i n }
+can_ask m H i v h legal small asked = record {
+  width = window;
+  manager = m;
+  legal = legal;
+  described = asked.described;
+  small =
+      λ n. small.serials i n;
+}
 
 -- its descriptor is valid, and what stands is of it
-pub can_plan : (m : ℕ) (H : List Event) (i : ℕ) (v : Vnfd) (h : Holding) → IsLegal m H → IsSmall H → IsAskedOf H i v h → IsValid v × IsHoldingOf v h
+pub can_plan : (m : ℕ) (H : List Event) (i : ℕ) (v : Vnfd) (h : Holding) → IsLegal m H → IsSmall H → IsAskedOf H i v h
+    → IsValid v × IsHoldingOf v h
 can_plan m H i v h legal small asked =
     let can = can_ask m H i v h legal small asked in
     (asked_valid v H i can, asked_held v H i h can asked.held)

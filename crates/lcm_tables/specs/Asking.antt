@@ -19,8 +19,8 @@ pub record IsAskedOf (H : List Event) (i : ℕ) (d : Vnfd) (h : Holding) : Type 
   pub described : descriptor H i ≡ Some d
   pub held : h ≡ holding d H i
 
--- an ask isn't refused over what stands of its instance, and these are the changes of its plan; busy where an operation of the
--- instance goes on (SOL 003 5.4.4 to 5.4.10)
+-- an ask isn't refused over what stands of its instance, and these are the changes of its plan; busy where an operation
+-- of the instance goes on (SOL 003 5.4.4 to 5.4.10)
 pub record IsPlanOver (d : Vnfd) (h : Holding) (busy : Bool) (ask : Ask) (xs : List Change) : Type 0 where
   pub content : content_refusal d ask ≡ None
   pub standing : standing_refusal d h busy ask ≡ None

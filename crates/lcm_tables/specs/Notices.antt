@@ -9,4 +9,11 @@ use Rattle.lcm_model.specs.Notices.{NoticeFacts}
 
 -- what a notice of this kind tells of an instance that was created, with the operation and the state that it tells of
 abbrev pub instance_facts : NoticeKind → Option OpKind → Option OpState → List Event → ℕ → Option NoticeFacts
-instance_facts which op state H i = option_map (λ x. record { which = which; vnfd = x.vnfd; instance = i; name = x.name; op = op; state = state }) (creation H i)
+instance_facts which op state H i = option_map (λ x. record {
+  which = which;
+  vnfd = x.vnfd;
+  instance = i;
+  name = x.name;
+  op = op;
+  state = state;
+}) (creation H i)

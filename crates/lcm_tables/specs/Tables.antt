@@ -21,7 +21,8 @@ pub record AreTablesOf (m : ℕ) (t : Tables) (H : List Event) : Type 0 where
   pub occurrences : IsTableOf t.occurrences H
   pub notices : queues.StandsFor m t.notices.queues H
 
--- the history is small: its serials are within those of a holding, and an identifier can carry the number of each event (own limit)
+-- the history is small: its serials are within those of a holding, and an identifier can carry the number of each event
+-- (own limit)
 pub record IsSmall (H : List Event) : Type 0 where
   pub serials : (i v : ℕ) → top H i v < 2147483648
   pub events : length H < 4611686018427387903
@@ -34,9 +35,11 @@ pub record HasSmallHistory (t : Tables) : Type 0 where
   pub small : IsSmall history
   pub tables : AreTablesOf manager t history
 
--- what is laid aside is the notice of the event, after each legal history of these tables after which the event is allowed
+-- what is laid aside is the notice of the event, after each legal history of these tables after which the event is
+-- allowed
 abbrev pub IsNoticeLaid : EventKind → Tables → Type 0
-IsNoticeLaid k t = (m : ℕ) (H : List Event) → IsLegal m H → AreTablesOf m t H → length H < 4611686018427387903 → IsAllowed m H k → IsNoticeOf m H k t.notice
+IsNoticeLaid k t = (m : ℕ) (H : List Event) → IsLegal m H → AreTablesOf m t H → length H < 4611686018427387903
+    → IsAllowed m H k → IsNoticeOf m H k t.notice
 
 -- what the event needs is reserved in all tables, and its notice is laid aside
 pub record HasRoom (e : Event) (t : Tables) : Type 0 where
@@ -52,7 +55,8 @@ StandForSame old new = (m : ℕ) (H : List Event) → AreTablesOf m old H → Ar
 
 -- tables of a small legal history are those of it with the event that was allowed after it
 abbrev pub Applies : Event → Tables → Tables → Type 0
-Applies e old new = (m : ℕ) (H : List Event) → length H < 4611686018427387903 → IsLegal m H → IsAllowed m H e.kind → AreTablesOf m old H → AreTablesOf m new (e ∷ H)
+Applies e old new = (m : ℕ) (H : List Event) → length H < 4611686018427387903 → IsLegal m H → IsAllowed m H e.kind
+    → AreTablesOf m old H → AreTablesOf m new (e ∷ H)
 
 -- this holds of each legal history whose tables these are
 abbrev pub Says : (List Event → Type 0) → Tables → Type 0
@@ -64,4 +68,5 @@ Judges k answer t = (m : ℕ) (H : List Event) → IsLegal m H → AreTablesOf m
 
 -- the answer is whether the event is allowed after each small legal history whose tables these are
 abbrev pub JudgesSmall : EventKind → Bool → Tables → Type 0
-JudgesSmall k answer t = (m : ℕ) (H : List Event) → IsSmall H → IsLegal m H → AreTablesOf m t H → IsTrue answer ↔ IsAllowed m H k
+JudgesSmall k answer t = (m : ℕ) (H : List Event) → IsSmall H → IsLegal m H → AreTablesOf m t H
+    → IsTrue answer ↔ IsAllowed m H k

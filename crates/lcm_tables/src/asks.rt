@@ -13,8 +13,8 @@ use lcm_events::{EventKind, Holding, Operation, Vnfd};
 use lcm_plans::{are_same, content_refusal_in, plan_standing};
 use std::alloc::{AllocError, Global};
 
-/// Whether an ask isn't refused over what stands of its instance, and the operation's changes are its plan; `busy` where an operation of the
-/// instance goes on.
+/// Whether an ask isn't refused over what stands of its instance, and the operation's changes are its plan; `busy`
+/// where an operation of the instance goes on.
 fn is_plan_of(
     alloc: Global,
     vnfd: &Vnfd,
@@ -24,7 +24,8 @@ fn is_plan_of(
 ) -> Result<bool, AllocError>
     requires valid { IsValid vnfd.now }
     requires held { IsHoldingOf vnfd.now holding.now }
-    ensures { IfOk result (λ yes. IsTrue yes ↔ IsPlanOver vnfd.now holding.now busy operation.now.ask operation.now.changes) }
+    ensures { IfOk result (λ yes. IsTrue yes ↔ IsPlanOver vnfd.now holding.now busy operation.now.ask
+        operation.now.changes) }
 {
     if content_refusal_in(vnfd, &operation.ask).is_some() {
         return Ok(false);
@@ -80,7 +81,8 @@ impl Tables {
         }
     }
 
-    /// Whether an operation may be asked for: its number is the next, its instance is live, and it is accepted with its plan.
+    /// Whether an operation may be asked for: its number is the next, its instance is live, and it is accepted with its
+    /// plan.
     ///
     /// Source: SOL 003 5.4.4 to 5.4.10 (the tasks of an individual VNF instance).
     pub fn may_ask(&self, alloc: Global, operation: &Operation) -> Result<bool, AllocError>

@@ -1,8 +1,10 @@
 //! Whether an event may follow the history that the tables stand for, by the tables alone.
 
-ghost use Rattle.std.specs.Prelude.{Option, Some, List, ◌≡◌, ◌+◌, ◌<◌, ◌↔◌, IfOk, IsTrue, false, is_some, length, true, ℕ};
+ghost use Rattle.std.specs.Prelude.{Option, Some, List, ◌≡◌, ◌+◌, ◌<◌, ◌↔◌, IfOk, IsTrue, false, is_some, length, true};
+ghost use Rattle.std.specs.Prelude.{ℕ};
 ghost use Rattle.instance_table.specs.Rows.{instance};
-ghost use Rattle.lcm_events.specs.declared.events.EventKind.TheVariants.{Created, Deleted, Onboarded, Posted, Subscribed, Unsubscribed};
+ghost use Rattle.lcm_events.specs.declared.events.EventKind.TheVariants.{Created, Deleted, Onboarded, Posted};
+ghost use Rattle.lcm_events.specs.declared.events.EventKind.TheVariants.{Subscribed, Unsubscribed};
 ghost use Rattle.lcm_events.specs.declared.events.PostOutcome.{PostOutcome};
 ghost use Rattle.lcm_model.specs.Instances.{is_instantiated};
 ghost use Rattle.lcm_model.specs.Lives.{descriptor_named, is_live, is_subscribed};
@@ -61,7 +63,8 @@ impl Tables {
 
     /// Whether the instance of this number is live and NOT_INSTANTIATED.
     fn is_idle(&self, instance: u64) -> bool
-        ensures { Says (λ H. IsTrue result ↔ (is_live H instance ≡ true) × (is_instantiated H instance ≡ false)) self.now }
+        ensures { Says (λ H. IsTrue result ↔ (is_live H instance ≡ true) × (is_instantiated H instance ≡ false))
+            self.now }
     {
         rows_have_holdings();
         match self.instances.instance(instance) {
@@ -96,8 +99,8 @@ impl Tables {
         valid && !known && onboarded < MAX_DESCRIPTORS
     }
 
-    /// Whether an instance of this number and this descriptor may be created: the number is the next, the descriptor was onboarded, and there
-    /// is room.
+    /// Whether an instance of this number and this descriptor may be created: the number is the next, the descriptor
+    /// was onboarded, and there is room.
     ///
     /// Source: SOL 003 5.4.2 (VNF instances); the limit is an own rule.
     pub fn may_create(&self, instance: u64, vnfd: &Name) -> bool
@@ -120,12 +123,13 @@ impl Tables {
         idle && !busy
     }
 
-    /// Why the deletion of the live instance of this row is refused, where it is: it is INSTANTIATED, or one of its operations goes on, in
-    /// this order.
+    /// Why the deletion of the live instance of this row is refused, where it is: it is INSTANTIATED, or one of its
+    /// operations goes on, in this order.
     ///
     /// Source: SOL 003 5.4.3.3.5 (DELETE of an individual VNF instance).
     pub fn delete_refusal(&self, row: &InstanceRow) -> Option<Refusal>
-        ensures { Says (λ H. instance H row.now.number ≡ Some row.now → result ≡ delete_refusal H row.now.number) self.now }
+        ensures { Says (λ H. instance H row.now.number ≡ Some row.now → result ≡ delete_refusal H row.now.number)
+            self.now }
     {
         rows_have_holdings();
         let busy = self.is_busy(row.number);
@@ -138,11 +142,13 @@ impl Tables {
         }
     }
 
-    /// Whether a subscription of this number may be made: the number is the next, its role has room, and its filter is small.
+    /// Whether a subscription of this number may be made: the number is the next, its role has room, and its filter is
+    /// small.
     ///
     /// Source: SOL 003 5.4.18 (Subscriptions); the limits are own rules.
     pub fn may_subscribe(&self, subscription: u64, role: Role, filter: &Filter) -> bool
-        ensures judged { (callback : List ℕ) → Judges (Subscribed subscription role callback filter.now) result self.now }
+        ensures judged { (callback : List ℕ) → Judges (Subscribed subscription role callback filter.now) result
+            self.now }
     {
         let made = self.instances.made(Kind::Subscription);
         let small = is_small(filter);
@@ -150,8 +156,8 @@ impl Tables {
         may_be_made(made, subscription, small, live, MAX_SUBSCRIPTIONS)
     }
 
-    /// Whether the post of the notice at this place may be recorded: the subscription is live, and the place is that of the first notice
-    /// that waits for it.
+    /// Whether the post of the notice at this place may be recorded: the subscription is live, and the place is that of
+    /// the first notice that waits for it.
     ///
     /// Source: own rule over SOL 003 5.4.20 (Notification endpoint).
     pub fn may_post(&self, subscription: u64, place: u64) -> bool

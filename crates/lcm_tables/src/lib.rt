@@ -1,4 +1,5 @@
-//! Both tables of a history as one: whether an event may follow, room for it, and the tables after it. Nothing asks a list of events.
+//! Both tables of a history as one: whether an event may follow, room for it, and the tables after it. Nothing asks a
+//! list of events.
 #![tactic(auto)]
 
 mod asks;

@@ -41,7 +41,9 @@ impl Tables {
         op: Option<OpKind>,
         state: Option<OpState>,
     ) -> Option<NoticeFacts>
-        ensures facts { (m : ℕ) (H : List Event) → IsLegal m H → AreTablesOf m self.now H → length H < 4611686018427387903 → is_live H instance ≡ true → option_map facts_in result ≡ instance_facts which op state H instance }
+        ensures facts { (m : ℕ) (H : List Event) → IsLegal m H → AreTablesOf m self.now H
+            → length H < 4611686018427387903 → is_live H instance ≡ true
+            → option_map facts_in result ≡ instance_facts which op state H instance }
         ensures number { IfSome result (λ n. IsIdentNumber n.instance) }
         ensures manager { IfSome result (λ n. n.manager ≡ self.now.manager) }
     {
@@ -66,7 +68,17 @@ impl Tables {
         vnfd: Name,
         name: Option<Name>,
     ) -> Option<NoticeFacts>
-        ensures value { IsIdentNumber instance → result ≡ Some (record { which = NoticeKind.Creation; vnfd = vnfd; instance = instance; name = name; op = None; state = None; manager = self.now.manager }) }
+        ensures value { IsIdentNumber instance → result ≡ Some
+            (record {
+              which = NoticeKind.Creation;
+              vnfd = vnfd;
+              instance = instance;
+              name = name;
+              op = None;
+              state =
+                  None;
+              manager = self.now.manager;
+            }) }
         ensures number { IfSome result (λ n. IsIdentNumber n.instance) }
         ensures manager { IfSome result (λ n. n.manager ≡ self.now.manager) }
     {
@@ -83,7 +95,9 @@ impl Tables {
 
     /// The notice of a move of an occurrence.
     fn notice_of_move(&self, occ: u64, to: OpState) -> Option<NoticeFacts>
-        ensures facts { (m : ℕ) (H : List Event) → IsLegal m H → AreTablesOf m self.now H → length H < 4611686018427387903 → IsAllowed m H (EventKind.Moved occ to) → option_map facts_in result ≡ facts_of H (EventKind.Moved occ to) }
+        ensures facts { (m : ℕ) (H : List Event) → IsLegal m H → AreTablesOf m self.now H
+            → length H < 4611686018427387903 → IsAllowed m H (EventKind.Moved occ to)
+            → option_map facts_in result ≡ facts_of H (EventKind.Moved occ to) }
         ensures number { IfSome result (λ n. IsIdentNumber n.instance) }
         ensures manager { IfSome result (λ n. n.manager ≡ self.now.manager) }
     {
@@ -102,7 +116,9 @@ impl Tables {
     ///
     /// Source: SOL 003 5.5.2.17 to 5.5.2.19 (the notifications).
     pub fn notice_of(&self, kind: &EventKind) -> Option<NoticeFacts>
-        ensures facts { (m : ℕ) (H : List Event) → IsLegal m H → AreTablesOf m self.now H → length H < 4611686018427387903 → IsAllowed m H kind.now → option_map facts_in result ≡ facts_of H kind.now }
+        ensures facts { (m : ℕ) (H : List Event) → IsLegal m H → AreTablesOf m self.now H
+            → length H < 4611686018427387903 → IsAllowed m H kind.now
+            → option_map facts_in result ≡ facts_of H kind.now }
         ensures number { IfSome result (λ n. IsIdentNumber n.instance) }
         ensures manager { IfSome result (λ n. n.manager ≡ self.now.manager) }
     {

@@ -51,8 +51,8 @@ impl Tables {
         }
     }
 
-    /// Reserves the memory that an event needs in all tables, so that `apply` takes none, and lays the notice aside that it makes. The rows
-    /// stay, also after an error.
+    /// Reserves the memory that an event needs in all tables, so that `apply` takes none, and lays the notice aside
+    /// that it makes. The rows stay, also after an error.
     ///
     /// Source: own rule.
     pub fn reserve_for(&mut self, alloc: Global, e: &Event) -> Result<(), AllocError>

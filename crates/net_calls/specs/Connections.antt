@@ -1,5 +1,6 @@
 -- What calls of std on connections leave beside their bytes (std, `TcpStream`).
-use Rattle.std.specs.Prelude.{◌≡◌, ◌≢◌, ◌+◌, ◌^◌, ◌-◌, min, max, if◌then◌else◌, nat_lt, ℕ, Bool, true, false, List, length, drop, Option, Some, None, Result, Ok, Err, OnOk, OnErr, IfErr}
+use Rattle.std.specs.Prelude.{◌≡◌, ◌≢◌, ◌+◌, ◌^◌, ◌-◌, min, max, if◌then◌else◌, nat_lt, ℕ, Bool, true, false, List}
+use Rattle.std.specs.Prelude.{length, drop, Option, Some, None, Result, Ok, Err, OnOk, OnErr, IfErr}
 use Rattle.std.specs.IoError.{error_kind}
 use Rattle.std.specs.declared.io.ErrorKind.{ErrorKind}
 use Rattle.std.specs.declared.io.Error.{Error}

@@ -1,5 +1,6 @@
 -- What calls of std on addresses give (std, `TcpListener` and `TcpStream`; POSIX, `accept` and `poll`).
-use Rattle.std.specs.Prelude.{◌≡◌, ◌≢◌, ◌==◌, if◌then◌else◌, ℕ, Bool, List, [], ◌∷◌, Option, Some, None, Result, Err, IfOk, OnOk, OnErr}
+use Rattle.std.specs.Prelude.{◌≡◌, ◌≢◌, ◌==◌, if◌then◌else◌, ℕ, Bool, List, [], ◌∷◌, Option, Some, None, Result, Err}
+use Rattle.std.specs.Prelude.{IfOk, OnOk, OnErr}
 use Rattle.std.specs.List.{list_any}
 use Rattle.site_traits.specs.Counts.{one_more}
 use Rattle.net_calls.specs.declared.network.NoConnection.{NoConnection}

@@ -1,7 +1,8 @@
 //! Connections in memory, whose bytes come in pieces and with silences.
 ghost use Rattle.std.specs.Prelude.{◌≡◌, ◌≤◌, ◌++◌, ◌-◌, [], IfOk, false, length, min, take, drop, slice_get};
 ghost use Rattle.host_calls.specs.Streams.{Incoming, Gives, Takes};
-ghost use Rattle.net_calls.specs.Connections.{CountsCall, FailedWith, Meets, Vain, in_vain, or_all, place_after, read_to};
+ghost use Rattle.net_calls.specs.Connections.{CountsCall, FailedWith, Meets, Vain, in_vain, or_all, place_after};
+ghost use Rattle.net_calls.specs.Connections.{read_to};
 ghost use Rattle.site_traits.specs.Counts.{one_more};
 
 use crate::connections::Connection;
@@ -124,7 +125,8 @@ pub(crate) fn count_one(count: &mut u64)
 impl Connection for MemConnection {
     ghost use Rattle.std.specs.Prelude.{◌≡◌, ◌≤◌, IfOk, drop, false, length, slice_get};
     ghost use Rattle.host_calls.specs.Streams.{Gives, Takes};
-    ghost use Rattle.net_calls.specs.Connections.{CountsCall, FailedWith, Meets, in_vain, is_silence, or_all, place_after, read_to};
+    ghost use Rattle.net_calls.specs.Connections.{CountsCall, FailedWith, Meets, in_vain, is_silence, or_all};
+    ghost use Rattle.net_calls.specs.Connections.{place_after, read_to};
 
     ghost tells = { Unit {0} };
 

@@ -19,7 +19,8 @@ waits quiet (Ok taken) lets answer = λ heard. absurd (let e : one.Waits ≡ one
 waits quiet (Err why) lets answer = absurd (let e : one.Waits ≡ one.None why = lets in cc)
 
 -- one that is heard is the one that comes
-pub hears : {C : Type 0} (quiet : C → Bool) (coming : Result (Taken C) NoConnection) (heard : Taken C) → LetsInOne quiet coming (one.Heard heard)
+pub hears : {C : Type 0} (quiet : C → Bool) (coming : Result (Taken C) NoConnection) (heard : Taken C)
+    → LetsInOne quiet coming (one.Heard heard)
     → LetsIn quiet coming (Ok (is.Heard heard))
 hears quiet (Ok taken) heard lets = λ isnt. let e : one.Heard heard ≡ one.Heard taken = lets.0 isnt in grind arith
 hears quiet (Err why) heard lets = absurd (let e : one.Heard heard ≡ one.None why = lets in cc)
@@ -31,7 +32,8 @@ ended Spent = Ok is.Spent
 ended Failed = Err (record {})
 
 -- where none was let in, that is what comes
-pub none : {C : Type 0} (quiet : C → Bool) (coming : Result (Taken C) NoConnection) (why : NoConnection) → LetsInOne quiet coming (one.None why)
+pub none : {C : Type 0} (quiet : C → Bool) (coming : Result (Taken C) NoConnection) (why : NoConnection)
+    → LetsInOne quiet coming (one.None why)
     → LetsIn quiet coming (ended why)
 none quiet (Ok taken) why lets = λ isnt. absurd (let e : one.None why ≡ one.Heard taken = lets.0 isnt in cc)
 none quiet (Err Nobody) Nobody lets = refl
@@ -48,7 +50,8 @@ from_first quiet first now answer zero same later lets = rw (same refl) at lets
 from_first quiet first now answer (suc n) same later lets = later (omega arith)
 
 -- one of those that wait is heard
-pub heard : {C : Type 0} (quiet : C → Bool) (turn : Side) (waiting : List (Taken C)) (coming : Result (Taken C) NoConnection) (taken : Taken C)
+pub heard : {C : Type 0} (quiet : C → Bool) (turn : Side) (waiting : List (Taken C)) (coming : Result (Taken C) NoConnection)
+    (taken : Taken C)
     → IsHeardInTurn quiet turn waiting taken → Looks quiet turn waiting coming (Ok (is.Heard taken))
 heard quiet turn waiting coming taken (inl here) = inl (taken, here, refl)
 heard quiet turn waiting coming taken (inr there) = inr (there.0, inl (taken, there.1, refl))

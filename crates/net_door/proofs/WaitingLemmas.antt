@@ -1,5 +1,6 @@
 -- The last 64 of a list.
-use Rattle.std.proofs.Common.{◌≡◌, ◌+◌, ◌-◌, ℕ, List, [], ◌∷◌, ◌++◌, length, drop, arith, sym, ap, ◌∙◌, append_assoc, length-append, length-drop}
+use Rattle.std.proofs.Common.{◌≡◌, ◌+◌, ◌-◌, ℕ, List, [], ◌∷◌, ◌++◌, length, drop, arith, sym, ap, ◌∙◌, append_assoc, length-append}
+use Rattle.std.proofs.Common.{length-drop}
 use Rattle.std.proofs.lemmas.List.{drop-append-le, drop-drop}
 use Rattle.net_door.specs.Waiting.{WithMore, last_64, with_one}
 
@@ -11,7 +12,8 @@ place n = omega arith
 last_of_last : {T : Type 0} (list : List T) (one : T) → last_64 (last_64 list ++ one ∷ []) ≡ last_64 (list ++ one ∷ [])
 last_of_last list one =
     let n = length list in
-    let joined : drop (n - 64) list ++ one ∷ [] ≡ drop (n - 64) (list ++ one ∷ []) = sym (drop-append-le (n - 64) list (one ∷ []) (omega arith)) in
+    let joined : drop (n - 64) list ++ one ∷ [] ≡ drop (n - 64) (list ++ one ∷ []) =
+    sym (drop-append-le (n - 64) list (one ∷ []) (omega arith)) in
     let long : length (list ++ one ∷ []) ≡ n + 1 = length-append list (one ∷ []) in
     let all = list ++ one ∷ [] in
     let from : (n - 64) + (length (drop (n - 64) all) - 64) ≡ length all - 64 = rw (length-drop, long) (place n) in

@@ -1,5 +1,6 @@
 -- The next connection of two addresses (own rules).
-use Rattle.std.specs.Prelude.{◌≡◌, ◌≤◌, ◌+◌, ◌⊎◌, ℕ, Bool, true, false, List, length, min, Option, Some, None, Result, Ok, Err, IsErr}
+use Rattle.std.specs.Prelude.{◌≡◌, ◌≤◌, ◌+◌, ◌⊎◌, ℕ, Bool, true, false, List, length, min, Option, Some, None, Result}
+use Rattle.std.specs.Prelude.{Ok, Err, IsErr}
 use Rattle.net_calls.specs.Network.{Waits, first_of, waited, waited_in_vain}
 use Rattle.net_calls.specs.declared.network.Side.{Side}
 use Rattle.net_calls.specs.declared.network.Side.TheVariants.{First, Second}

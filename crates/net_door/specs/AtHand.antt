@@ -48,7 +48,8 @@ Finds (Err shut) answer old new = (answer ≡ next.Failed) × (new ≡ old)
 
 -- What `next` does: for some time that it may wait at most, it is that of the two addresses.
 pub record NextAtHand {C : Type 0} (quiet : C → Bool) (turn : Side) (waiting : List (Taken C))
-    (coming : Result (Taken C) NoConnection) (answer : NextAnswer) (old new : Option (Conversation C)) (was now : Waits) : Type 0 where
+    (coming : Result (Taken C) NoConnection) (answer : NextAnswer) (old new : Option (Conversation C))
+    (was now : Waits) : Type 0 where
   pub limit : ℕ
   pub found : Result (Option (Taken C)) Shut
   pub at_addresses : IsNext quiet limit turn waiting coming found was now
@@ -58,7 +59,8 @@ pub record NextAtHand {C : Type 0} (quiet : C → Bool) (turn : Side) (waiting :
 abbrev pub ReadsAtHand : {C : Type 0} → (C → Incoming) → (C → Vain) → (C → ℕ) → ℕ → List ℕ → List ℕ → ReadAnswer
     → Option (Conversation C) → Option (Conversation C) → Type 0
 ReadsAtHand incoming vain allowed now before after answer (Some old) (Some new) =
-    ReadsFor (reading (at_read old.stage now) old.came now) (allowed new.connection) (at_read old.stage now) before after answer
+    ReadsFor (reading (at_read old.stage now) old.came now) (allowed new.connection)
+    (at_read old.stage now) before after answer
     (incoming old.connection) (incoming new.connection) (vain old.connection) (vain new.connection)
     × (new.stage ≡ behind_read answer old.stage now) × (new.came ≡ old.came)
 ReadsAtHand incoming vain allowed now before after answer None new = Unit {0}

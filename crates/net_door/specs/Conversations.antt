@@ -1,5 +1,6 @@
 -- What is done on the connection at hand by the time that is left (own rules).
-use Rattle.std.specs.Prelude.{◌≡◌, ◌≤◌, ◌⊎◌, ℕ, ◌+◌, ◌-◌, ◌^◌, Bool, true, List, [], ◌++◌, length, take, Option, Some, None}
+use Rattle.std.specs.Prelude.{◌≡◌, ◌≤◌, ◌⊎◌, ℕ, ◌+◌, ◌-◌, ◌^◌, Bool, true, List, [], ◌++◌, length, take, Option, Some}
+use Rattle.std.specs.Prelude.{None}
 use Rattle.host_calls.specs.Streams.{Got, GotNothing, Incoming}
 use Rattle.net_calls.specs.Connections.{Vain, silent, faulted}
 use Rattle.edge_limits.specs.Waits.{lingering}

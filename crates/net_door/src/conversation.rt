@@ -4,7 +4,8 @@ ghost use Rattle.edge_limits.specs.Waits.{reading, writing};
 ghost use Rattle.edge_limits.specs.declared.limits.Stage.{Stage};
 ghost use Rattle.edge_limits.specs.declared.limits.Stage.TheVariants.{Replying};
 ghost use Rattle.site_traits.specs.Door.{IsAmount, IsTaken};
-ghost use Rattle.net_door.specs.Conversations.{IsDropped, IsInTime, Lingers, ReadsFor, WritesFor, at_bytes, at_read, behind_read, moment_of, reply_began, silence};
+ghost use Rattle.net_door.specs.Conversations.{IsDropped, IsInTime, Lingers, ReadsFor, WritesFor, at_bytes, at_read};
+ghost use Rattle.net_door.specs.Conversations.{behind_read, moment_of, reply_began, silence};
 
 use edge_limits::{PIECE, Stage, lingering_limit, reading_limit, writing_limit};
 use net_calls::{Connection, Stopwatch};
@@ -129,7 +130,8 @@ impl<C: Connection + Drop> Conversation<C> {
         requires { 1 ≤ length bytes.now }
         ensures amount { IsTaken result (length bytes.now) }
         ensures told { C.tells → T.tells → let now = moment_of (T.shows watch.old) in WritesFor
-            (writing (reply_began self.old.stage now) now) (C.allowed self.new.connection) bytes.now result (C.outgoing self.old.connection)
+            (writing (reply_began self.old.stage now) now) (C.allowed self.new.connection) bytes.now result
+            (C.outgoing self.old.connection)
             (C.outgoing self.new.connection) (C.vain self.old.connection) (C.vain self.new.connection) }
         ensures stage { T.tells → self.new.stage ≡ Stage.Replying
             (reply_began self.old.stage (moment_of (T.shows watch.old))) }
@@ -160,7 +162,8 @@ impl<C: Connection + Drop> Conversation<C> {
     pub fn end<T: Stopwatch>(&mut self, watch: &mut T)
         ensures replied { (began : ℕ) → self.old.stage ≡ Stage.Replying began → C.tells → T.tells → Lingers
             (C.finished self.new.connection) (C.finished self.old.connection) (C.allowed self.new.connection)
-            (C.incoming self.old.connection) (C.incoming self.new.connection) (C.vain self.old.connection) (C.vain self.new.connection)
+            (C.incoming self.old.connection) (C.incoming self.new.connection) (C.vain self.old.connection)
+            (C.vain self.new.connection)
             (moment_of (T.shows watch.old)) (moment_of (T.shown watch.new)) }
         ensures read { self.old.stage ≡ at_read self.old.stage 0 → self.new ≡ self.old }
         ensures out { C.tells → C.outgoing self.new.connection ≡ C.outgoing self.old.connection }
@@ -174,7 +177,8 @@ impl<C: Connection + Drop> Conversation<C> {
 /// Ends this side, and drops what still comes.
 fn linger<C: Connection, T: Stopwatch>(connection: &mut C, watch: &mut T)
     ensures told { C.tells → T.tells → Lingers (C.finished connection.new) (C.finished connection.old)
-        (C.allowed connection.new) (C.incoming connection.old) (C.incoming connection.new) (C.vain connection.old) (C.vain connection.new)
+        (C.allowed connection.new) (C.incoming connection.old) (C.incoming connection.new) (C.vain connection.old)
+        (C.vain connection.new)
         (moment_of (T.shows watch.old)) (moment_of (T.shown watch.new)) }
     ensures out { C.tells → C.outgoing connection.new ≡ C.outgoing connection.old }
 {

@@ -1,7 +1,8 @@
 //! Two addresses as a door.
 ghost use Rattle.std.specs.Prelude.{◌≡◌, ◌≤◌, ◌⊎◌, ◌&&◌, [], IfOk, is_some, false, length, true};
 ghost use Rattle.site_traits.specs.Counts.{one_more};
-ghost use Rattle.site_traits.specs.Door.{IsAmount, IsTaken, NextCause, Nexts, ReadCause, ReadsIn, WriteCause, WritesOut, asked_for, write_counts};
+ghost use Rattle.site_traits.specs.Door.{IsAmount, IsTaken, NextCause, Nexts, ReadCause, ReadsIn, WriteCause};
+ghost use Rattle.site_traits.specs.Door.{WritesOut, asked_for, write_counts};
 ghost use Rattle.net_calls.specs.Network.{IsAt, IsNotAt, offer_of, offers_after};
 ghost use Rattle.net_door.specs.Addresses.{comes, given_by};
 ghost use Rattle.net_door.specs.AtHand.{NextAtHand, ReadsAtHand, WritesAtHand, counts_of, nothing_told, role_at};
@@ -163,7 +164,8 @@ impl<'a, N: HostNet + Drop, T: Stopwatch + Drop> Door for RealDoor<'a, N, T> {
         ensures no_write { write_counts self.new.writes self.new.short_writes ≡ write_counts self.old.writes
             self.old.short_writes }
         ensures reads { N.Connection.tells → T.tells → ReadsAtHand N.Connection.incoming N.Connection.vain
-            N.Connection.allowed (moment_of (T.shows self.old.watch)) into.old into.new result self.old.at_hand self.new.at_hand }
+            N.Connection.allowed (moment_of (T.shows self.old.watch)) into.old into.new result self.old.at_hand
+            self.new.at_hand }
     {
         let answer = match &mut self.at_hand {
             Some(conversation) => conversation.read(&mut self.watch, into),
@@ -185,7 +187,8 @@ impl<'a, N: HostNet + Drop, T: Stopwatch + Drop> Door for RealDoor<'a, N, T> {
         ensures one { write_counts self.new.writes self.new.short_writes ≡ asked_for (length bytes.now) result
             (write_counts self.old.writes self.old.short_writes) }
         ensures writes { N.Connection.tells → T.tells → WritesAtHand N.Connection.outgoing N.Connection.vain
-            N.Connection.allowed (moment_of (T.shows self.old.watch)) bytes.now result self.old.at_hand self.new.at_hand }
+            N.Connection.allowed (moment_of (T.shows self.old.watch)) bytes.now result self.old.at_hand
+            self.new.at_hand }
     {
         let answer = match &mut self.at_hand {
             Some(conversation) => conversation.write(&mut self.watch, bytes),

@@ -1,7 +1,10 @@
 //! Two addresses at which connections come, asked in turn.
-ghost use Rattle.std.specs.Prelude.{◌+◌, ◌≡◌, ◌⊎◌, ◌≤◌, ◌&&◌, [], if◌then◌else◌, IfOk, IfSome, IsNone, IsErr, false, true, is_some, length, min};
+ghost use Rattle.std.specs.Prelude.{◌+◌, ◌≡◌, ◌⊎◌, ◌≤◌, ◌&&◌, [], if◌then◌else◌, IfOk, IfSome, IsNone, IsErr, false};
+ghost use Rattle.std.specs.Prelude.{true, is_some, length, min};
 ghost use Rattle.net_calls.specs.Network.{IsAt, IsNotAt, WaitsFor, offer_of, offers_after};
-ghost use Rattle.net_door.specs.Addresses.{AddsOne, KeepsFound, KeepsWaiting, IsNext, LetsIn, LetsInOne, Looks, TurnsFrom, TurnsFromOne, IsHeard, IsHeardInTurn, IsOneHeard, comes, given_by, taken_at};
+ghost use Rattle.net_door.specs.Addresses.{AddsOne, KeepsFound, KeepsWaiting, IsNext, LetsIn, LetsInOne, Looks};
+ghost use Rattle.net_door.specs.Addresses.{TurnsFrom, TurnsFromOne, IsHeard, IsHeardInTurn, IsOneHeard, comes};
+ghost use Rattle.net_door.specs.Addresses.{given_by, taken_at};
 ghost use Rattle.net_door.specs.Waiting.{WithMore, AreQuiet, IsFirstHeard, other_side};
 
 use crate::waiting::Waiting;

@@ -1,5 +1,6 @@
 //! The connections that have sent nothing yet: they hold up nobody while they wait.
-ghost use Rattle.std.specs.Prelude.{◌≡◌, ◌≤◌, ◌<◌, ◌+◌, [], IfOk, IfSome, IsNone, false, length, map, vec_len, vec_capacity, remove};
+ghost use Rattle.std.specs.Prelude.{◌≡◌, ◌≤◌, ◌<◌, ◌+◌, [], IfOk, IfSome, IsNone, false, length, map, vec_len};
+ghost use Rattle.std.specs.Prelude.{vec_capacity, remove};
 ghost use Rattle.net_door.specs.Waiting.{AreQuiet, IsFirstHeard, IsHeardAt, IsOfSide, LooksAt, with_one};
 
 use edge_limits::WAITING;

@@ -1,5 +1,7 @@
 -- Lists with an entry written, in another order, or of some entries alone.
-use Rattle.std.proofs.Common.{◌≡◌, ◌≤◌, ◌<◌, ◌+◌, ◌++◌, ◌==◌, ◌∙◌, ℕ, List, [], ◌∷◌, zero, suc, Bool, true, false, cond, Option, None, Some, refl, ap, sym, subst, length, map, filter, find, reverse, take, drop, set, get_or, arith, nat_lt, lt-ltb, ltb-true, le-ltb, eqb-true, eq-eqb, inl, inr, is_some}
+use Rattle.std.proofs.Common.{◌≡◌, ◌≤◌, ◌<◌, ◌+◌, ◌++◌, ◌==◌, ◌∙◌, ℕ, List, [], ◌∷◌, zero, suc, Bool, true, false, cond, Option, None, Some}
+use Rattle.std.proofs.Common.{refl, ap, sym, subst, length, map, filter, find, reverse, take, drop, set, get_or, arith, nat_lt, lt-ltb}
+use Rattle.std.proofs.Common.{ltb-true, le-ltb, eqb-true, eq-eqb, inl, inr, is_some}
 use Rattle.std.specs.List.{All, AllWithin}
 use Rattle.std.specs.List.Sorted.{IsPartitionPoint}
 use Rattle.std.specs.Prelude.{IfSome, slice_get, slice_index_or, unwrap_or}
@@ -14,7 +16,8 @@ use Rattle.instance_table.specs.Steps.{Over, Rises, update, with_key}
 use Rattle.instance_table.proofs.Sorted.{Falls, Under, falls-filter, rises-reverse}
 
 -- what is seen of a list stays, where what is written looks as what stood there
-pub same_written : {A B : Type 0} → (f : A → B) (n : ℕ) (xs : List A) (x d : A) → n < length xs → f x ≡ f (get_or xs n d) → map f (set xs n x) ≡ map f xs
+pub same_written : {A B : Type 0} → (f : A → B) (n : ℕ) (xs : List A) (x d : A) → n < length xs → f x ≡ f (get_or xs n d)
+    → map f (set xs n x) ≡ map f xs
 same_written f n [] x d h is = absurd (omega (arith, h))
 same_written f zero (z ∷ zs) x d h is = ap (λ b. b ∷ map f zs) is
 same_written f (suc n) (z ∷ zs) x d h is = ap (λ bs. f z ∷ bs) (same_written f n zs x d (omega (arith, h)) is)
@@ -33,7 +36,8 @@ mapped_step f g n xs x d h is =
     ap (λ (k : ℕ). take k (map f (set xs n x)) ++ map g (drop k (map f (set xs n x)))) more ∙ mapped_more f g n xs x d h is
 
 -- at the end all is changed
-pub mapped_end : {A B : Type 0} → (f : A → B) (g : B → B) (n : ℕ) (xs : List A) → length xs ≤ n → take n (map f xs) ++ map g (drop n (map f xs)) ≡ map f xs
+pub mapped_end : {A B : Type 0} → (f : A → B) (g : B → B) (n : ℕ) (xs : List A) → length xs ≤ n
+    → take n (map f xs) ++ map g (drop n (map f xs)) ≡ map f xs
 mapped_end f g zero [] h = refl
 mapped_end f g (suc n) [] h = refl
 mapped_end f g zero (x ∷ xs) h = absurd (omega (arith, h))
@@ -83,7 +87,8 @@ map_end f (x ∷ xs) y = ap (λ ys. f x ∷ ys) (map_end f xs y)
 pub map_reverse : {A B : Type 0} → (f : A → B) (xs : List A) → reverse (map f xs) ≡ map f (reverse xs)
 map_reverse f [] = refl
 map_reverse f (x ∷ xs) =
-    reverse-cons (f x) (map f xs) ∙ (ap (λ ys. ys ++ f x ∷ []) (map_reverse f xs) ∙ (sym (map_end f (reverse xs) x) ∙ ap (map f) (sym (reverse-cons x xs))))
+    reverse-cons (f x) (map f xs) ∙ (ap (λ ys. ys ++ f x ∷ []) (map_reverse f xs)
+    ∙ (sym (map_end f (reverse xs) x) ∙ ap (map f) (sym (reverse-cons x xs))))
 
 -- what is the same of each entry is the same of all
 pub map_in : {A B : Type 0} → (f g : A → B) (xs : List A) → ((x : A) → IsIn x xs → f x ≡ g x) → map f xs ≡ map g xs
@@ -111,7 +116,8 @@ first_reverse (x ∷ xs) =
 pub some_same : {A : Type 0} → {a b : A} → Some a ≡ Some b → a ≡ b
 some_same e = cc
 
-last_either : {A : Type 0} → (x y : A) (z : Option A) (xs : List A) → Some (unwrap_or z x) ≡ Some y → (z ≡ Some y → IsIn y xs) → IsIn y (x ∷ xs)
+last_either : {A : Type 0} → (x y : A) (z : Option A) (xs : List A) → Some (unwrap_or z x) ≡ Some y → (z ≡ Some y → IsIn y xs)
+    → IsIn y (x ∷ xs)
 last_either x y None xs e f = inl (some_same e)
 last_either x y (Some z) xs e f = inr (f e)
 
@@ -188,22 +194,26 @@ number_found f n (y ∷ ys) x e = by_test (f y == n)
     (λ other. number_found f n ys x (subst (λ (b : Bool). cond b (Some y) (find (λ z. f z == n) ys) ≡ Some x) other e))
 
 -- what is seen of a list with an entry written, where that is what a change makes of what stood there
-pub changed_written : {A B : Type 0} → (f : A → B) (g : B → B) (n : ℕ) (xs : List A) (x y : A) → n < length xs → y ≡ get_or xs n y → f x ≡ g (f y) → map f (set xs n x) ≡ update g n (map f xs)
+pub changed_written : {A B : Type 0} → (f : A → B) (g : B → B) (n : ℕ) (xs : List A) (x y : A) → n < length xs → y ≡ get_or xs n y
+    → f x ≡ g (f y) → map f (set xs n x) ≡ update g n (map f xs)
 changed_written f g n [] x y h e is = absurd (omega (arith, h))
 changed_written f g zero (z ∷ zs) x y h e is = ap (λ b. b ∷ map f zs) (is ∙ ap (λ a. g (f a)) e)
 changed_written f g (suc n) (z ∷ zs) x y h e is = ap (λ bs. f z ∷ bs) (changed_written f g n zs x y (omega (arith, h)) e is)
 
-seen_at : {A B : Type 0} → (f : A → B) (P : B → Type 0) (ys : List A) (j : ℕ) (d : B) → j < length ys → ((a : A) → P (f (slice_index_or ys j a))) → P (slice_index_or (map f ys) j d)
+seen_at : {A B : Type 0} → (f : A → B) (P : B → Type 0) (ys : List A) (j : ℕ) (d : B) → j < length ys
+    → ((a : A) → P (f (slice_index_or ys j a))) → P (slice_index_or (map f ys) j d)
 seen_at f P [] j d h e = absurd (omega (arith, h))
 seen_at f P (y ∷ ys) zero d h e = e y
 seen_at f P (y ∷ ys) (suc j) d h e = seen_at f P ys j d (omega (arith, h)) e
 
 -- where what is seen of a list is parted
-pub seen_point : {A B : Type 0} → (f : A → B) (p : B → Bool) (ys : List A) (k : ℕ) → k ≤ length ys → IsPartitionPoint (λ y. p (f y) ≡ true) (λ y. p (f y) ≡ false) ys k
+pub seen_point : {A B : Type 0} → (f : A → B) (p : B → Bool) (ys : List A) (k : ℕ) → k ≤ length ys
+    → IsPartitionPoint (λ y. p (f y) ≡ true) (λ y. p (f y) ≡ false) ys k
     → IsPartitionPoint (λ b. p b ≡ true) (λ b. p b ≡ false) (map f ys) k
 seen_point f p ys k h point = (
   λ j d low high. seen_at f (λ b. p b ≡ true) ys j d (omega (arith, high, h)) (λ a. point.0 j a low high),
-  λ j d low high. let same = length-map ys f in seen_at f (λ b. p b ≡ false) ys j d (omega (arith, high, same)) (λ a. point.1 j a low (omega (arith, high, same))),
+  λ j d low high. let same = length-map ys f in seen_at f (λ b. p b ≡ false) ys j d (omega (arith, high, same))
+      (λ a. point.1 j a low (omega (arith, high, same))),
 )
 
 -- what holds of all that is seen of a list
@@ -224,7 +234,8 @@ set_length (y ∷ ys) zero x = refl
 set_length (y ∷ ys) (suc i) x = ap suc (set_length ys i x)
 
 -- what holds of the rest holds of it behind an entry that is written
-pub past_written : {A : Type 0} → (P : A → Type 0) (xs : List A) (i : ℕ) (x : A) → AllWithin P xs i (length xs) → AllWithin P (set xs i x) (i + 1) (length (set xs i x))
+pub past_written : {A : Type 0} → (P : A → Type 0) (xs : List A) (i : ℕ) (x : A) → AllWithin P xs i (length xs)
+    → AllWithin P (set xs i x) (i + 1) (length (set xs i x))
 past_written P xs i x all = λ k d low high.
     let same = set_length xs i x in
     subst P (sym (index_past xs i x k d (omega (arith, low)))) (all k d (omega (arith, low)) (omega (arith, high, same)))
@@ -260,15 +271,19 @@ holds_keyed P f n None h = tt
 holds_keyed P f n (Some x) h = by_test (f x == n) (λ own. rw own h) (λ other. rw other tt)
 
 -- what a change keeps holds of all after the change of one
-pub all_updated : {A : Type 0} → (P : A → Type 0) (g : A → A) → ((x : A) → P x → P (g x)) → (i : ℕ) (xs : List A) → All P xs → All P (update g i xs)
+pub all_updated : {A : Type 0} → (P : A → Type 0) (g : A → A) → ((x : A) → P x → P (g x)) → (i : ℕ) (xs : List A) → All P xs
+    → All P (update g i xs)
 all_updated P g keeps i [] all = All-nil P
 all_updated P g keeps zero (x ∷ xs) all = All-cons P (g x) xs (keeps x (All-head P x xs all)) (All-tail P x xs all)
-all_updated P g keeps (suc i) (x ∷ xs) all = All-cons P x (update g i xs) (All-head P x xs all) (all_updated P g keeps i xs (All-tail P x xs all))
+all_updated P g keeps (suc i) (x ∷ xs) all = All-cons P x (update g i xs) (All-head P x xs all)
+    (all_updated P g keeps i xs (All-tail P x xs all))
 
 -- what is seen of the entries up to one that is written
-pub seen_step : {A B : Type 0} → (f : A → B) (n : ℕ) (xs : List A) (x : A) → n < length xs → take (n + 1) (map f (set xs n x)) ≡ take n (map f xs) ++ f x ∷ []
+pub seen_step : {A B : Type 0} → (f : A → B) (n : ℕ) (xs : List A) (x : A) → n < length xs
+    → take (n + 1) (map f (set xs n x)) ≡ take n (map f xs) ++ f x ∷ []
 seen_step f n xs x h = let more : n + 1 ≡ suc n = omega arith in ap (λ (k : ℕ). take k (map f (set xs n x))) more ∙ step f n xs x h where
-  step : {A B : Type 0} → (f : A → B) (n : ℕ) (xs : List A) (x : A) → n < length xs → take (suc n) (map f (set xs n x)) ≡ take n (map f xs) ++ f x ∷ []
+  step : {A B : Type 0} → (f : A → B) (n : ℕ) (xs : List A) (x : A) → n < length xs
+      → take (suc n) (map f (set xs n x)) ≡ take n (map f xs) ++ f x ∷ []
   step f n [] x h = absurd (omega (arith, h))
   step f zero (y ∷ ys) x h = refl
   step f (suc n) (y ∷ ys) x h = ap (λ bs. f y ∷ bs) (step f n ys x (omega (arith, h)))

@@ -1,5 +1,6 @@
 -- Marks in words: one more behind them, and without the oldest.
-use Rattle.std.proofs.Common.{◌≡◌, ◌<◌, ◌+◌, ◌-◌, ◌*◌, ◌/◌, ◌%◌, ◌^◌, ◌++◌, ◌==◌, ◌∙◌, ℕ, zero, suc, List, [], ◌∷◌, Bool, true, false, cond, Option, None, Some, refl, ap, sym, length, drop, arith, append_assoc, length-append, length-drop, slice_get}
+use Rattle.std.proofs.Common.{◌≡◌, ◌<◌, ◌+◌, ◌-◌, ◌*◌, ◌/◌, ◌%◌, ◌^◌, ◌++◌, ◌==◌, ◌∙◌, ℕ, zero, suc, List, [], ◌∷◌, Bool, true, false, cond}
+use Rattle.std.proofs.Common.{Option, None, Some, refl, ap, sym, length, drop, arith, append_assoc, length-append, length-drop, slice_get}
 use Rattle.std.specs.Option.{option_eq}
 use Rattle.std.proofs.Math.Nat.{mod-eq_of_lt}
 use Rattle.std.proofs.Math.Pow.{pow-lt}
@@ -49,20 +50,24 @@ mark_above (suc n) word mark h =
       others false n word = ap (λ (k : ℕ). k / 2) (unset_low word (2 ^ suc n)) ∙ sym (unset_low (word / 2) (2 ^ n))
 
 -- a mark where there was none
-pub put_first : (left front : ℕ) (words : List ℕ) (filled back word : ℕ) (mark : Bool) → left ≡ 0 → (words ≡ []) × (filled ≡ 0) → marks_in 1 word ≡ marks_in 0 0 ++ mark ∷ []
-    → marks_in 1 word ++ (in_words words ++ marks_in filled back) ≡ (marks_in left front ++ (in_words words ++ marks_in filled back)) ++ mark ∷ []
+pub put_first : (left front : ℕ) (words : List ℕ) (filled back word : ℕ) (mark : Bool) → left ≡ 0 → (words ≡ []) × (filled ≡ 0)
+    → marks_in 1 word ≡ marks_in 0 0 ++ mark ∷ []
+    → marks_in 1 word ++ (in_words words ++ marks_in filled back) ≡ (marks_in left front ++ (in_words words ++ marks_in filled back))
+    ++ mark ∷ []
 unfolding marks_in
 put_first left front words filled back word mark none rest e = rw (none, rest.0, rest.1, e) refl
 
 -- a mark in the back word
-pub put_back : (front words back new : List Bool) (mark : Bool) → new ≡ back ++ mark ∷ [] → front ++ (words ++ new) ≡ (front ++ (words ++ back)) ++ mark ∷ []
+pub put_back : (front words back new : List Bool) (mark : Bool) → new ≡ back ++ mark ∷ []
+    → front ++ (words ++ new) ≡ (front ++ (words ++ back)) ++ mark ∷ []
 put_back front words back new mark e =
     ap (λ (ms : List Bool). front ++ (words ++ ms)) e
     ∙ (ap (λ (ms : List Bool). front ++ ms) (sym (append_assoc words back (mark ∷ [])))
     ∙ sym (append_assoc front (words ++ back) (mark ∷ [])))
 
 -- a mark that fills the back word
-pub put_last : (front : List Bool) (words after : List ℕ) (n back word low : ℕ) (mark : Bool) → after ≡ words ++ word ∷ [] → n + 1 ≡ 64 → marks_in (n + 1) word ≡ marks_in n back ++ mark ∷ []
+pub put_last : (front : List Bool) (words after : List ℕ) (n back word low : ℕ) (mark : Bool) → after ≡ words ++ word ∷ [] → n + 1 ≡ 64
+    → marks_in (n + 1) word ≡ marks_in n back ++ mark ∷ []
     → front ++ (in_words after ++ marks_in 0 low) ≡ (front ++ (in_words words ++ marks_in n back)) ++ mark ∷ []
 unfolding marks_in
 put_last front words after n back word low mark is full e =
@@ -79,7 +84,8 @@ first_in zero front rest h = absurd (omega (arith, h))
 first_in (suc n) front rest h = refl
 
 -- the others of a word's marks
-pub drop_in : (left front : ℕ) (rest : List Bool) → 0 < left → marks_in (left - 1) (front / 2) ++ rest ≡ drop 1 (marks_in left front ++ rest)
+pub drop_in : (left front : ℕ) (rest : List Bool) → 0 < left → marks_in (left - 1) (front / 2) ++ rest
+    ≡ drop 1 (marks_in left front ++ rest)
 unfolding marks_in
 drop_in zero front rest h = absurd (omega (arith, h))
 drop_in (suc n) front rest h = let less : suc n - 1 ≡ n = omega arith in rw less refl
@@ -97,12 +103,15 @@ unfolding marks_in
 last_word left front n back words rest one e f = rw (one, e, f) (nil_right (marks_in n back))
 
 -- where the front word has no mark there is none
-pub none_at_all : (left front : ℕ) (words : List ℕ) (filled back : ℕ) → left ≡ 0 → (words ≡ []) × (filled ≡ 0) → marks_in left front ++ (in_words words ++ marks_in filled back) ≡ []
+pub none_at_all : (left front : ℕ) (words : List ℕ) (filled back : ℕ) → left ≡ 0 → (words ≡ []) × (filled ≡ 0)
+    → marks_in left front ++ (in_words words ++ marks_in filled back) ≡ []
 unfolding marks_in
 none_at_all left front words filled back none rest = rw (none, rest.0, rest.1) refl
 
-pub none_left : (left front : ℕ) (words : List ℕ) (filled back : ℕ) → left ≡ 0 → (words ≡ []) × (filled ≡ 0) → None ≡ slice_get (marks_in left front ++ (in_words words ++ marks_in filled back)) 0
-none_left left front words filled back none rest = ap (λ (ms : List Bool). slice_get ms 0) (sym (none_at_all left front words filled back none rest))
+pub none_left : (left front : ℕ) (words : List ℕ) (filled back : ℕ) → left ≡ 0 → (words ≡ []) × (filled ≡ 0)
+    → None ≡ slice_get (marks_in left front ++ (in_words words ++ marks_in filled back)) 0
+none_left left front words filled back none rest = ap (λ (ms : List Bool). slice_get ms 0)
+    (sym (none_at_all left front words filled back none rest))
 
 -- the worth of a bit of a word
 bit_of : (n : ℕ) → n < 64 → 1 * 2 ^ n % 18446744073709551616 ≡ 2 ^ n
@@ -111,7 +120,8 @@ bit_of n h = let low : 2 ^ n < 2 ^ 64 = pow-lt h in ap (λ (k : ℕ). k % 184467
   one = omega arith
 
 -- a word with one mark more
-pub marked_word : (n word : ℕ) (mark : Bool) → n < 64 → word < 2 ^ n → marks_in (n + 1) (word + cond mark (1 * 2 ^ n % 18446744073709551616) 0) ≡ marks_in n word ++ mark ∷ []
+pub marked_word : (n word : ℕ) (mark : Bool) → n < 64 → word < 2 ^ n
+    → marks_in (n + 1) (word + cond mark (1 * 2 ^ n % 18446744073709551616) 0) ≡ marks_in n word ++ mark ∷ []
 marked_word n word mark low h =
     let more : n + 1 ≡ suc n = omega arith in
     ap (λ (k : ℕ). marks_in k (word + cond mark (1 * 2 ^ n % 18446744073709551616) 0)) more
@@ -132,7 +142,9 @@ some_left zero front rest h = absurd (omega (arith, h))
 some_left (suc n) front rest h = omega arith
 
 -- marks of which the first isn't unset
-pub starts_set : (same : Bool → Bool → Bool) (marks : List Bool) (x : Option Bool) → same false false ≡ true → x ≡ slice_get marks 0 → false ≡ option_eq same x (Some false) → from_set marks ≡ marks
+pub starts_set : (same : Bool → Bool → Bool) (marks : List Bool) (x : Option Bool) → same false false ≡ true → x ≡ slice_get marks 0
+    → false ≡ option_eq same x (Some false) → from_set marks ≡ marks
 starts_set same [] x s e f = refl
 starts_set same (true ∷ marks) x s e f = refl
-starts_set same (false ∷ marks) x s e f = let clash : false ≡ true = f ∙ (ap (λ (y : Option Bool). option_eq same y (Some false)) e ∙ s) in cc
+starts_set same (false ∷ marks) x s e f = let clash : false ≡ true = f ∙ (ap (λ (y : Option Bool). option_eq same y (Some false)) e ∙ s) in
+    cc

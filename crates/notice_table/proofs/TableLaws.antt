@@ -1,5 +1,6 @@
 -- What is seen of the table's rows, and what is reserved beside them.
-use Rattle.std.proofs.Common.{Err, Ok, OnOk, Result, ◌≡◌, ◌≤◌, ◌<◌, ◌==◌, ◌∙◌, ◌↔◌, ℕ, List, [], ◌∷◌, false, Option, None, Some, refl, ap, sym, subst, map, find, option_map, arith, eqb-true, eq-eqb}
+use Rattle.std.proofs.Common.{Err, Ok, OnOk, Result, ◌≡◌, ◌≤◌, ◌<◌, ◌==◌, ◌∙◌, ◌↔◌, ℕ, List, [], ◌∷◌, false, Option, None, Some, refl, ap}
+use Rattle.std.proofs.Common.{sym, subst, map, find, option_map, arith, eqb-true, eq-eqb}
 use Rattle.std.specs.List.{All}
 use Rattle.std.specs.Prelude.{IsTrue, option_and_then}
 use Rattle.std.proofs.lemmas.List.Elements.{All-map}
@@ -17,28 +18,43 @@ use Rattle.notice_table.proofs.Lists.{all_of_map, map_twice, rises_of_map, some_
 
 -- what a contract sees of these rows
 abbrev pub shown : List ℕ → ℕ → List QueueRow → ℕ → Option QueueRow → Shown
-shown places ahead rows spare next = record { queues = map (plain places) (map row rows); ahead = ahead; rooms = map room rows; spare = spare; next = option_map (λ r. plain [] (row r)) next }
+shown places ahead rows spare next = record {
+  queues = map (plain places) (map row rows);
+  ahead = ahead;
+  rooms = map room rows;
+  spare =
+      spare;
+  next = option_map (λ r. plain [] (row r)) next;
+}
 
 -- what was reserved stays, where the rows have at least as much room
-pub kept : (now : Shown) (places : List ℕ) (ahead : ℕ) (rows after : List QueueRow) (spare more : ℕ) (next : Option QueueRow) → shown places ahead rows spare next ≡ now → spare ≤ more
+pub kept : (now : Shown) (places : List ℕ) (ahead : ℕ) (rows after : List QueueRow) (spare more : ℕ) (next : Option QueueRow)
+    → shown places ahead rows spare next ≡ now → spare ≤ more
     → (All (λ r. 0 < room r) rows → All (λ r. 0 < room r) after) → IsKept now (shown places ahead after more next)
 kept now places ahead rows after spare more next e h f =
     subst (λ (s : Shown). IsKept s (shown places ahead after more next)) e (record {
       next = refl;
       spare = h;
-      places = λ had. record { place = had.place; marks = All-map (λ (n : ℕ). 0 < n) room after (f (all_of_map (λ (n : ℕ). 0 < n) room rows had.marks)) };
+      places = λ had. record {
+        place = had.place;
+        marks = All-map (λ (n : ℕ). 0 < n) room after
+            (f (all_of_map (λ (n : ℕ). 0 < n) room rows had.marks));
+      };
     })
 
 -- rows whose queues rise do so
-pub rises_rows : (places : List ℕ) (rows : List QueueRow) (qs : List Queue) → map (plain places) (map row rows) ≡ qs → Rises (λ q. q.number) qs → Rises (λ r. r.number) rows
+pub rises_rows : (places : List ℕ) (rows : List QueueRow) (qs : List Queue) → map (plain places) (map row rows) ≡ qs
+    → Rises (λ q. q.number) qs → Rises (λ r. r.number) rows
 rises_rows places rows qs seen rises =
     rises_of_map (λ (q : Queue). q.number) (λ r. plain places (row r)) rows
     (subst (λ (zs : List Queue). Rises (λ q. q.number) zs) (sym (map_twice row (plain places) rows ∙ seen)) rises)
 
 -- a queue's first notice, by the row that is found
-pub first_seen : (places : List ℕ) (rows ys : List QueueRow) (qs : List Queue) (n : ℕ) (x : Option QueueRow) → ys ≡ rows → map (plain places) (map row rows) ≡ qs
+pub first_seen : (places : List ℕ) (rows ys : List QueueRow) (qs : List Queue) (n : ℕ) (x : Option QueueRow) → ys ≡ rows
+    → map (plain places) (map row rows) ≡ qs
     → (Rises (λ r. r.number) ys → x ≡ find (λ r. r.number == n) ys) → Rises (λ q. q.number) qs
-    → option_and_then (λ q. first q.waiting) (option_map (λ r. plain places (row r)) x) ≡ option_and_then (λ q. first q.waiting) (find (λ q. q.number == n) qs)
+    → option_and_then (λ q. first q.waiting) (option_map (λ r. plain places (row r)) x)
+    ≡ option_and_then (λ q. first q.waiting) (find (λ q. q.number == n) qs)
 first_seen places rows ys qs n x is seen found rises =
     let g : QueueRow → Queue = λ r. plain places (row r) in
     let f : Queue → ℕ = λ q. q.number in
@@ -54,13 +70,19 @@ same_place a b = (λ yes. let is : a ≡ b = eqb-true a b yes in ap Some is, λ 
 pub no_place : (b : ℕ) → IsTrue false ↔ (None ≡ Some b)
 no_place b = (λ yes. cc, λ e. cc)
 
-pub queue_room_same : (k : EventKind) (old new : Shown) → new.next ≡ old.next → new.spare ≡ old.spare → HasRoomForQueue k old → HasRoomForQueue k new
+pub queue_room_same : (k : EventKind) (old new : Shown) → new.next ≡ old.next → new.spare ≡ old.spare → HasRoomForQueue k old
+    → HasRoomForQueue k new
 queue_room_same (Subscribed s role callback f) old new e h room = let more = room.1 in (e ∙ room.0, omega (arith, h, more))
 queue_room_same _ old new e h room = room
 
-pub notice_room_same : (n : Option NoticeFacts) (old new : Shown) → new.ahead ≡ old.ahead → new.rooms ≡ old.rooms → HasRoomForNotice n old → HasRoomForNotice n new
+pub notice_room_same : (n : Option NoticeFacts) (old new : Shown) → new.ahead ≡ old.ahead → new.rooms ≡ old.rooms → HasRoomForNotice n old
+    → HasRoomForNotice n new
 notice_room_same None old new a e room = room
-notice_room_same (Some n) old new a e room = record { place = subst (λ (k : ℕ). 0 < k) (sym a) room.place; marks = subst (λ (ns : List ℕ). All (λ k. 0 < k) ns) (sym e) room.marks }
+notice_room_same (Some n) old new a e room = record {
+  place = subst (λ (k : ℕ). 0 < k) (sym a) room.place;
+  marks =
+      subst (λ (ns : List ℕ). All (λ k. 0 < k) ns) (sym e) room.marks;
+}
 
 over_seen : (n : ℕ) (rows : List QueueRow) → Over (λ r. r.number) n rows → Over (λ q. q.number) n (map row rows)
 over_seen n [] o = tt

@@ -12,7 +12,8 @@ in_words words = flat_map (marks_in 64) words
 abbrev pub marks_of : Inside → List Bool
 marks_of t = marks_in t.left t.front ++ (in_words t.words.items ++ marks_in t.filled t.back)
 
--- the marks are counted, the back word has no bit beyond its marks and isn't full, and where the front word is empty all is
+-- the marks are counted, the back word has no bit beyond its marks and isn't full, and where the front word is empty
+-- all is
 pub record IsPacked (t : Inside) : Type 0 where
   pub count : t.count ≡ length (marks_of t)
   pub filled : t.filled < 64

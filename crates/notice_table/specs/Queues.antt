@@ -6,8 +6,8 @@ use Rattle.lcm_model.specs.Lives.{Subscription, is_subscribed}
 use Rattle.lcm_model.specs.Notices.{cursor, next_notice, notices}
 use Rattle.instance_table.specs.Rows.{continued, tries_past}
 
--- what waits for a subscription: which it is, what it asks to be told, how often the first notice that waits was posted and not
--- taken, and the places of the notices that wait, the first one first
+-- what waits for a subscription: which it is, what it asks to be told, how often the first notice that waits was posted
+-- and not taken, and the places of the notices that wait, the first one first
 pub record Queue : Type 0 where
   pub number : ℕ
   pub filter : Filter
@@ -20,7 +20,13 @@ waiting m H s = reverse (filter (nat_lt (cursor H s)) (notices m H s))
 
 -- what waits for a subscription (SOL 003 5.4.20)
 abbrev pub queue : ℕ → List Event → Subscription → Queue
-queue m H x = record { number = x.number; filter = x.filter; tries = tries_past H x.number; waiting = waiting m H x.number }
+queue m H x = record {
+  number = x.number;
+  filter = x.filter;
+  tries = tries_past H x.number;
+  waiting =
+      waiting m H x.number;
+}
 
 -- what waits for each live subscription, in the order of their numbers (SOL 003 5.4.20)
 abbrev pub queues : ℕ → List Event → List Queue

@@ -1,6 +1,7 @@
--- How what waits is kept: the place of each notice stands once, and each subscription has a mark for each of the last places, which
--- tells whether the notice waits for it (own format).
-use Rattle.std.specs.Prelude.{Bool, List, drop, false, if◌then◌else◌, length, max, nat_le, true, ℕ, [], ◌+◌, ◌++◌, ◌-◌, ◌==◌, ◌||◌, ◌∷◌, ◌≡◌, ◌≤◌}
+-- How what waits is kept: the place of each notice stands once, and each subscription has a mark for each of the last
+-- places, which tells whether the notice waits for it (own format).
+use Rattle.std.specs.Prelude.{Bool, List, drop, false, if◌then◌else◌, length, max, nat_le, true, ℕ, [], ◌+◌, ◌++◌, ◌-◌}
+use Rattle.std.specs.Prelude.{◌==◌, ◌||◌, ◌∷◌, ◌≡◌, ◌≤◌}
 use Rattle.lcm_events.specs.declared.events.PostOutcome.{PostOutcome}
 use Rattle.lcm_events.specs.declared.filters.Filter.{Filter}
 use Rattle.lcm_model.specs.Notices.{is_delivered, matches}
@@ -9,8 +10,8 @@ use Rattle.notice_table.specs.Marks.{from_set}
 use Rattle.notice_table.specs.Queues.{Queue}
 use Rattle.notice_table.specs.declared.queues.QueueRow.{QueueRow}
 
--- a subscription's row but for its room: which it is, what it asks to be told, how often the first notice that waits was posted and
--- not taken, whether it hears the notice at hand, and the marks of the last places, the oldest first
+-- a subscription's row but for its room: which it is, what it asks to be told, how often the first notice that waits
+-- was posted and not taken, whether it hears the notice at hand, and the marks of the last places, the oldest first
 pub record Row : Type 0 where
   pub number : ℕ
   pub filter : Filter
@@ -38,7 +39,13 @@ marked (mark ∷ marks) (place ∷ places) = if mark then place ∷ marked marks
 
 -- what waits for a row's subscription: its marks stand for the last places
 abbrev pub plain : List ℕ → Row → Queue
-plain places r = record { number = r.number; filter = r.filter; tries = r.tries; waiting = marked r.marks (last_of (length r.marks) places) }
+plain places r = record {
+  number = r.number;
+  filter = r.filter;
+  tries = r.tries;
+  waiting =
+      marked r.marks (last_of (length r.marks) places);
+}
 
 -- the oldest mark is set: nothing is kept in front of the first notice that waits
 abbrev pub StartsSet : List Bool → Type 0
@@ -74,7 +81,8 @@ longest (r ∷ rows) = max (length r.marks) (longest rows)
 
 -- a row after its first notice was posted: it is passed where it was taken, or not taken for the fifth time
 abbrev pub after_row_post : PostOutcome → Row → Row
-after_row_post outcome r = if is_delivered outcome || nat_le 4 r.tries then record r { marks = from_set (drop 1 r.marks); tries = 0 } else record r { tries = r.tries + 1 }
+after_row_post outcome r = if is_delivered outcome || nat_le 4 r.tries
+    then record r { marks = from_set (drop 1 r.marks); tries = 0 } else record r { tries = r.tries + 1 }
 
 -- a row after the first notice of the subscription of this number was posted
 abbrev pub row_posted : ℕ → PostOutcome → Row → Row

@@ -1,5 +1,6 @@
 -- What each event makes of the queues.
-use Rattle.std.specs.Prelude.{List, None, Option, Some, drop, filter, if◌then◌else◌, map, nat_le, not, ℕ, [], ◌+◌, ◌++◌, ◌==◌, ◌||◌, ◌∷◌}
+use Rattle.std.specs.Prelude.{List, None, Option, Some, drop, filter, if◌then◌else◌, map, nat_le, not, ℕ, [], ◌+◌, ◌++◌}
+use Rattle.std.specs.Prelude.{◌==◌, ◌||◌, ◌∷◌}
 use Rattle.lcm_events.specs.declared.events.EventKind.{EventKind}
 use Rattle.lcm_events.specs.declared.events.EventKind.TheVariants.{Posted, Subscribed, Unsubscribed}
 use Rattle.lcm_events.specs.declared.events.PostOutcome.{PostOutcome}
@@ -23,7 +24,8 @@ heard_by m place (Some n) qs = map (heard m place n) qs
 
 -- a queue after its first notice was posted: it is passed where it was taken, or not taken for the fifth time
 abbrev pub after_post : PostOutcome → Queue → Queue
-after_post outcome q = if is_delivered outcome || nat_le 4 q.tries then record q { waiting = drop 1 q.waiting; tries = 0 } else record q { tries = q.tries + 1 }
+after_post outcome q = if is_delivered outcome || nat_le 4 q.tries
+    then record q { waiting = drop 1 q.waiting; tries = 0 } else record q { tries = q.tries + 1 }
 
 -- a queue after the first notice of the subscription of this number was posted
 abbrev pub posted : ℕ → PostOutcome → Queue → Queue

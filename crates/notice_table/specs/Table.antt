@@ -1,6 +1,7 @@
 -- What the table shows, what is reserved beside its queues, and what its calls do (own rule).
 use Rattle.std.specs.List.{All}
-use Rattle.std.specs.Prelude.{Bool, IfSome, IsTrue, List, None, Option, Some, false, length, map, option_map, true, ℕ, ◌+◌, ◌<◌, ◌∷◌, ◌↔◌, ◌≡◌, ◌≤◌}
+use Rattle.std.specs.Prelude.{Bool, IfSome, IsTrue, List, None, Option, Some, false, length, map, option_map, true, ℕ}
+use Rattle.std.specs.Prelude.{◌+◌, ◌<◌, ◌∷◌, ◌↔◌, ◌≡◌, ◌≤◌}
 use Rattle.lcm_events.specs.declared.events.Event.{Event}
 use Rattle.lcm_events.specs.declared.events.EventKind.{EventKind}
 use Rattle.lcm_events.specs.declared.events.EventKind.TheVariants.{Posted, Subscribed}
@@ -12,8 +13,8 @@ use Rattle.subscription_filter.specs.declared.filters.NoticeFacts.{NoticeFacts}
 use Rattle.notice_table.specs.Queues.{Queue, StandsFor, first_waiting}
 use Rattle.notice_table.specs.Steps.{first_queue, heard}
 
--- what a contract sees of the table: its queues, for how many more places there is room, for how many more words of marks each queue
--- has room, for how many more queues there is room, and the queue that is to come
+-- what a contract sees of the table: its queues, for how many more places there is room, for how many more words of
+-- marks each queue has room, for how many more queues there is room, and the queue that is to come
 pub record Shown : Type 0 where
   pub queues : List Queue
   pub ahead : ℕ
@@ -46,8 +47,8 @@ abbrev pub makes_queue : EventKind → Bool
 makes_queue (Subscribed s role callback f) = true
 makes_queue _ = false
 
--- what was reserved is reserved: the queue that is to come as it was, at least as much room for queues, and room for a notice where
--- there was room for one
+-- what was reserved is reserved: the queue that is to come as it was, at least as much room for queues, and room for a
+-- notice where there was room for one
 pub record IsKept (old new : Shown) : Type 0 where
   pub next : new.next ≡ old.next
   pub spare : old.spare ≤ new.spare
@@ -66,14 +67,17 @@ heard_of place (Some n) qs = map (heard n.manager place (facts_in n)) qs
 -- queues of a legal history are those of it with the event that was allowed after it, at its place and with its notice
 abbrev pub Applies : Event → ℕ → Option NoticeFacts → List Queue → List Queue → Type 0
 Applies e place n old new =
-    (width m : ℕ) (H : List Event) → IsLegalWithin width m H → IsAllowedWithin width m H e.kind → place ≡ length H + 1 → IsNoticeOf m H e.kind n → StandsFor m old H → StandsFor m new (e ∷ H)
+    (width m : ℕ) (H : List Event) → IsLegalWithin width m H → IsAllowedWithin width m H e.kind → place ≡ length H + 1
+    → IsNoticeOf m H e.kind n → StandsFor m old H → StandsFor m new (e ∷ H)
 
--- what is found is the place of the first notice that waits for the live subscription of this number in each legal history of
--- these queues
+-- what is found is the place of the first notice that waits for the live subscription of this number in each legal
+-- history of these queues
 abbrev pub FindsFirst : ℕ → Option ℕ → List Queue → Type 0
-FindsFirst s x qs = (width m : ℕ) (H : List Event) → IsLegalWithin width m H → StandsFor m qs H → x ≡ first_waiting m H s
+FindsFirst s x qs = (width m : ℕ) (H : List Event) → IsLegalWithin width m H → StandsFor m qs H
+    → x ≡ first_waiting m H s
 
 -- the answer is whether a post of the notice at this place may be recorded after each legal history of these queues
 abbrev pub Judges : ℕ → ℕ → Bool → List Queue → Type 0
 Judges s place answer qs =
-    (outcome : PostOutcome) (width m : ℕ) (H : List Event) → IsLegalWithin width m H → StandsFor m qs H → IsTrue answer ↔ IsAllowedWithin width m H (Posted s place outcome)
+    (outcome : PostOutcome) (width m : ℕ) (H : List Event) → IsLegalWithin width m H → StandsFor m qs H
+    → IsTrue answer ↔ IsAllowedWithin width m H (Posted s place outcome)

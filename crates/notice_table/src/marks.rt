@@ -1,6 +1,7 @@
 //! A queue of marks, packed 64 to a word: a mark takes a bit.
 
-ghost use Rattle.std.specs.Prelude.{Bool, IsOk, List, OnOk, [], drop, length, slice_get, ◌++◌, ◌<◌, ◌^◌, ◌+◌, ◌∷◌, ◌≡◌, ◌≤◌};
+ghost use Rattle.std.specs.Prelude.{Bool, IsOk, List, OnOk, [], drop, length, slice_get, ◌++◌, ◌<◌, ◌^◌, ◌+◌, ◌∷◌, ◌≡◌};
+ghost use Rattle.std.specs.Prelude.{◌≤◌};
 ghost use Rattle.notice_table.specs.Marks.{from_set, marks_in};
 
 use std::alloc::{AllocError, Global};

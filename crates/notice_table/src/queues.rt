@@ -2,12 +2,15 @@
 
 ghost use Rattle.std.specs.List.{All, list_any};
 ghost use Rattle.std.specs.List.Sorted.{IsPartitionPoint, IsPartitionedBy};
-ghost use Rattle.std.specs.Prelude.{ℕ, IfOk, IfSome, OnOk, filter, find, length, map, nat_lt, not, option_copied, slice_get, vec_capacity, vec_len, true, false, [], ◌++◌, ◌<◌, ◌==◌, ◌^◌, ◌∷◌, ◌≡◌, ◌≤◌};
+ghost use Rattle.std.specs.Prelude.{ℕ, IfOk, IfSome, OnOk, filter, find, length, map, nat_lt, not, option_copied};
+ghost use Rattle.std.specs.Prelude.{slice_get, vec_capacity, vec_len, true, false, [], ◌++◌, ◌<◌, ◌==◌, ◌^◌, ◌∷◌, ◌≡◌};
+ghost use Rattle.std.specs.Prelude.{◌≤◌};
 ghost use Rattle.std.specs.VecDeque.{deque_capacity, deque_len};
 ghost use Rattle.instance_table.specs.Steps.{Rises, update, with_key};
 ghost use Rattle.lcm_model.specs.Notices.{is_delivered, matches};
 ghost use Rattle.lcm_model.specs.Words.{first};
-ghost use Rattle.notice_table.specs.Rows.{IsWithin, after_row_post, asked, first_row, last_of, longest, plain, room, row, row_posted, with_place};
+ghost use Rattle.notice_table.specs.Rows.{IsWithin, after_row_post, asked, first_row, last_of, longest, plain, room};
+ghost use Rattle.notice_table.specs.Rows.{row, row_posted, with_place};
 ghost use Rattle.subscription_filter.specs.Facts.{facts_in};
 ghost use Rattle.vnfm_base.specs.Ident.{IsIdentNumber};
 
@@ -79,8 +82,8 @@ impl QueueRow {
         self.hears
     }
 
-    /// Marks the place of the notice at hand, and tells how many marks there are then. Where nothing waits, a place that isn't waited
-    /// for gets no mark.
+    /// Marks the place of the notice at hand, and tells how many marks there are then. Where nothing waits, a place
+    /// that isn't waited for gets no mark.
     fn mark(&mut self) -> usize
         requires room { 0 < room self.old }
         requires bound { length self.old.marks.marks < 2 ^ 63 }
@@ -172,7 +175,8 @@ fn keep_last(places: &mut VecDeque<u64>, count: usize)
     }
 }
 
-/// Puts the place of the notice at hand, which some row hears, with its mark in each row, and drops the places that no row has a mark for.
+/// Puts the place of the notice at hand, which some row hears, with its mark in each row, and drops the places that no
+/// row has a mark for.
 pub fn put_place(places: &mut VecDeque<u64>, queues: &mut [QueueRow], place: u64)
     requires place { deque_len places.old < deque_capacity places.old }
     requires room { All (λ q. 0 < room q) queues.old }
@@ -188,7 +192,9 @@ pub fn put_place(places: &mut VecDeque<u64>, queues: &mut [QueueRow], place: u64
 /// How many queues come before this number, where their numbers rise.
 fn queue_place(queues: &[QueueRow], number: u64) -> usize
     ensures bound { result ≤ length queues.now }
-    ensures place { IsPartitionedBy (λ q. nat_lt q.number number) queues.now → IsPartitionPoint (λ q. nat_lt q.number number ≡ true) (λ q. nat_lt q.number number ≡ false) queues.now result }
+    ensures place { IsPartitionedBy (λ q. nat_lt q.number number) queues.now
+        → IsPartitionPoint (λ q. nat_lt q.number number ≡ true)
+        (λ q. nat_lt q.number number ≡ false) queues.now result }
 {
     queues.partition_point(
         |queue: &QueueRow| -> bool
@@ -215,8 +221,10 @@ fn queue_at(queues: &[QueueRow], at: usize, number: u64) -> Option<&QueueRow>
 
 /// The queue of this number, where their numbers rise.
 pub fn queue_in(queues: &[QueueRow], number: u64) -> Option<&QueueRow>
-    ensures found { Rises (λ q. q.number) queues.now → option_copied result ≡ find (λ q. q.number == number) queues.now }
-    ensures within { (count : ℕ) → All (IsWithin count) (map row queues.now) → IfSome (option_copied result) (λ q. IsWithin count (row q)) }
+    ensures found { Rises (λ q. q.number) queues.now → option_copied result
+        ≡ find (λ q. q.number == number) queues.now }
+    ensures within { (count : ℕ) → All (IsWithin count) (map row queues.now)
+        → IfSome (option_copied result) (λ q. IsWithin count (row q)) }
 {
     let at = queue_place(queues, number);
     queue_at(queues, at, number)
@@ -237,8 +245,10 @@ fn post_at(queues: &mut Vec<QueueRow>, at: usize, number: u64, outcome: PostOutc
 
 /// Lets the queue of this number follow a post, where the numbers rise.
 pub fn post_in(queues: &mut Vec<QueueRow>, number: u64, outcome: PostOutcome)
-    ensures within { (count : ℕ) → All (IsWithin count) (map row queues.old.items) → All (IsWithin count) (map row queues.new.items) }
-    ensures rows { Rises (λ q. q.number) queues.old.items → map row queues.new.items ≡ map (row_posted number outcome) (map row queues.old.items) }
+    ensures within { (count : ℕ) → All (IsWithin count) (map row queues.old.items)
+        → All (IsWithin count) (map row queues.new.items) }
+    ensures rows { Rises (λ q. q.number) queues.old.items
+        → map row queues.new.items ≡ map (row_posted number outcome) (map row queues.old.items) }
     ensures room { All (λ q. 0 < room q) queues.old.items → All (λ q. 0 < room q) queues.new.items }
     ensures length { vec_len queues.new ≡ vec_len queues.old }
     ensures capacity { vec_capacity queues.new ≡ vec_capacity queues.old }

@@ -1,11 +1,14 @@
-//! The table: a queue for each live subscription, in the order of their numbers. The places that wait stand once, for all queues.
+//! The table: a queue for each live subscription, in the order of their numbers. The places that wait stand once, for
+//! all queues.
 
-ghost use Rattle.std.specs.Prelude.{IfSome, IsOk, OnOk, Some, None, ℕ, [], false, find, map, option_and_then, option_copied, ◌++◌, ◌<◌, ◌==◌, ◌∷◌, ◌≡◌, ◌≤◌};
+ghost use Rattle.std.specs.Prelude.{IfSome, IsOk, OnOk, Some, None, ℕ, [], false, find, map, option_and_then};
+ghost use Rattle.std.specs.Prelude.{option_copied, ◌++◌, ◌<◌, ◌==◌, ◌∷◌, ◌≡◌, ◌≤◌};
 ghost use Rattle.instance_table.specs.Steps.{Rises};
 ghost use Rattle.lcm_model.specs.Words.{first};
 ghost use Rattle.notice_table.specs.Queues.{Queue, StandsFor};
 ghost use Rattle.notice_table.specs.Steps.{changed, first_queue, posted, without};
-ghost use Rattle.notice_table.specs.Table.{Applies, FindsFirst, HasPlaces, HasRoom, HasRoomForNotice, HasRoomForQueue, IsKept, Judges, heard_of, makes_queue};
+ghost use Rattle.notice_table.specs.Table.{Applies, FindsFirst, HasPlaces, HasRoom, HasRoomForNotice, HasRoomForQueue};
+ghost use Rattle.notice_table.specs.Table.{IsKept, Judges, heard_of, makes_queue};
 ghost use Rattle.vnfm_base.specs.Ident.{IsIdentNumber};
 
 use crate::queues::{QueueRow, ask_all, post_in, put_place, queue_in, remove, reserve_all};
@@ -15,13 +18,14 @@ use std::collections::VecDeque;
 use std::marker::Model;
 use subscription_filter::NoticeFacts;
 
-/// The notices that wait for each live subscription: their places in the journal, each once, and for each subscription a mark for each of
-/// the last of them.
+/// The notices that wait for each live subscription: their places in the journal, each once, and for each subscription
+/// a mark for each of the last of them.
 ///
 /// A contract sees for each subscription the queue of its places, and beside the queues what is reserved for an event.
 
 pub struct NoticeTable {
-    /// The places, the oldest first. When a notice is heard, those that no queue waits for any more are dropped from the front.
+    /// The places, the oldest first. When a notice is heard, those that no queue waits for any more are dropped from
+    /// the front.
     places: VecDeque<u64>,
     queues: Vec<QueueRow>,
     next: Option<QueueRow>,
@@ -48,7 +52,15 @@ impl Model for NoticeTable {
 
     ghost use Rattle.notice_table.specs.Holding.{IsHeld};
 
-    ghost view = { λ t. record { queues = map (plain t.places.items) (map row t.queues.items); ahead = deque_capacity t.places - deque_len t.places; rooms = map room t.queues.items; spare = vec_capacity t.queues - vec_len t.queues; next = option_map (λ r. plain [] (row r)) t.next } };
+    ghost view = { λ t. record {
+      queues = map (plain t.places.items) (map row t.queues.items);
+      ahead =
+          deque_capacity t.places - deque_len t.places;
+      rooms = map room t.queues.items;
+      spare =
+          vec_capacity t.queues - vec_len t.queues;
+      next = option_map (λ r. plain [] (row r)) t.next;
+    } };
 
     ghost invariant = { IsHeld };
 }
@@ -126,9 +138,10 @@ impl NoticeTable {
         }
     }
 
-    /// Reserves the memory that an event with this notice needs, so that `apply` takes none: the queue of a subscription that is made, and
-    /// room for the notice's place and for a mark of it in each queue. The queues stay, also after an error, which comes for want of memory alone, and never where the event
-    /// makes no subscription and has no notice.
+    /// Reserves the memory that an event with this notice needs, so that `apply` takes none: the queue of a
+    /// subscription that is made, and room for the notice's place and for a mark of it in each queue. The queues stay,
+    /// also after an error, which comes for want of memory alone, and never where the event makes no subscription and
+    /// has no notice.
     ///
     /// Source: own rule.
     pub fn reserve_for(
@@ -195,7 +208,8 @@ impl NoticeTable {
 
     /// Lets the queue of this number follow a post.
     fn post(&mut self, number: u64, outcome: PostOutcome)
-        ensures queues { Rises (λ q. q.number) self.old.queues → self.new.queues ≡ map (posted number outcome) self.old.queues }
+        ensures queues { Rises (λ q. q.number) self.old.queues
+            → self.new.queues ≡ map (posted number outcome) self.old.queues }
         ensures reserved { IsKept self.old self.new }
     {
         post_in(&mut self.queues, number, outcome);
@@ -219,7 +233,8 @@ impl NoticeTable {
         }
     }
 
-    /// Lets the queues follow the event at this place with its notice, from what is reserved for it: no memory is taken.
+    /// Lets the queues follow the event at this place with its notice, from what is reserved for it: no memory is
+    /// taken.
     ///
     /// Condition: the number of the notice's instance is from 1 to 2^62 - 1.
     /// Source: own rule.
@@ -233,7 +248,8 @@ impl NoticeTable {
         self.follow(&e.kind);
     }
 
-    /// The place of the first notice that waits for the subscription of this number; none where it isn't live, and where none waits.
+    /// The place of the first notice that waits for the subscription of this number; none where it isn't live, and
+    /// where none waits.
     ///
     /// Source: SOL 003 5.4.20 (Notification endpoint).
     pub fn first(&self, subscription: u64) -> Option<u64>
@@ -244,7 +260,8 @@ impl NoticeTable {
 
     /// The place of the first notice that waits for the subscription of this number, where the numbers rise.
     fn first_of(&self, subscription: u64) -> Option<u64>
-        ensures { Rises (λ q. q.number) self.now.queues → result ≡ option_and_then (λ q. first q.waiting) (find (λ q. q.number == subscription) self.now.queues) }
+        ensures { Rises (λ q. q.number) self.now.queues → result
+            ≡ option_and_then (λ q. first q.waiting) (find (λ q. q.number == subscription) self.now.queues) }
     {
         match queue_in(self.queues.as_slice(), subscription) {
             Some(queue) => queue.first(&self.places),
@@ -252,8 +269,8 @@ impl NoticeTable {
         }
     }
 
-    /// Whether a post of the notice at this place to the subscription of this number may be recorded: the subscription is live, and the
-    /// place is that of the first notice that waits for it.
+    /// Whether a post of the notice at this place to the subscription of this number may be recorded: the subscription
+    /// is live, and the place is that of the first notice that waits for it.
     ///
     /// Source: own rule.
     pub fn may_post(&self, subscription: u64, place: u64) -> bool

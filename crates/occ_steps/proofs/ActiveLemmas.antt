@@ -2,7 +2,8 @@
 use Rattle.std.proofs.Common.{◌≡◌, ℕ, List, true, false, Option, None, Some, is_some, option_map, refl}
 use Rattle.lcm_events.specs.declared.events.Event.{Event}
 use Rattle.lcm_events.specs.declared.states.OpState.{OpState}
-use Rattle.lcm_events.specs.declared.states.OpState.TheVariants.{Completed, Failed, FailedTemp, Processing, RolledBack, RollingBack, Starting}
+use Rattle.lcm_events.specs.declared.states.OpState.TheVariants.{Completed, Failed, FailedTemp, Processing, RolledBack, RollingBack}
+use Rattle.lcm_events.specs.declared.states.OpState.TheVariants.{Starting}
 use Rattle.lcm_laws.proofs.Lists.{and_left, and_right}
 use Rattle.lcm_model.specs.Moves.{is_active, is_final, state}
 use Rattle.lcm_model.specs.Operations.{operation}

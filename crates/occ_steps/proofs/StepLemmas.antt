@@ -1,5 +1,7 @@
 -- The next action of an active occurrence, by its row.
-use Rattle.std.proofs.Common.{◌≡◌, ◌<◌, ◌≤◌, ◌+◌, ◌||◌, ◌&&◌, ◌==◌, ◌++◌, ◌∙◌, ℕ, zero, suc, List, [], ◌∷◌, Bool, true, false, not, Option, None, Some, is_some, refl, ap, sym, subst, arith, length, map, filter, reverse, slice_get, option_map, eqb-true, eq-eqb}
+use Rattle.std.proofs.Common.{◌≡◌, ◌<◌, ◌≤◌, ◌+◌, ◌||◌, ◌&&◌, ◌==◌, ◌++◌, ◌∙◌, ℕ, zero, suc, List, [], ◌∷◌, Bool, true, false, not, Option}
+use Rattle.std.proofs.Common.{None, Some, is_some, refl, ap, sym, subst, arith, length, map, filter, reverse, slice_get, option_map}
+use Rattle.std.proofs.Common.{eqb-true, eq-eqb}
 use Rattle.std.specs.List.{range_with_len}
 use Rattle.std.specs.Option.{option_map_or}
 use Rattle.std.specs.Prelude.{IfSome, if◌then◌else◌, option_and_then, unwrap_or}
@@ -13,7 +15,8 @@ use Rattle.lcm_events.specs.declared.events.Event.{Event}
 use Rattle.lcm_events.specs.declared.events.EventKind.{EventKind}
 use Rattle.lcm_events.specs.declared.events.EventKind.TheVariants.{Intent}
 use Rattle.lcm_events.specs.declared.events.Operation.{Operation}
-use Rattle.lcm_events.specs.declared.states.OpState.TheVariants.{Completed, Failed, FailedTemp, Processing, RolledBack, RollingBack, Starting}
+use Rattle.lcm_events.specs.declared.states.OpState.TheVariants.{Completed, Failed, FailedTemp, Processing, RolledBack, RollingBack}
+use Rattle.lcm_events.specs.declared.states.OpState.TheVariants.{Starting}
 use Rattle.lcm_laws.specs.Planning.{PlansAreSmall}
 use Rattle.lcm_laws.proofs.GrantLaws.{granted_grant}
 use Rattle.lcm_laws.proofs.HoldLaws.{changes_of}
@@ -38,7 +41,8 @@ use Rattle.occ_table.proofs.JudgeLaws.{found_in, found_row}
 use Rattle.occ_table.proofs.MoveLaws.{cancelled_row, forced_row}
 use Rattle.occ_table.proofs.PhaseLaws.{get-range}
 use Rattle.occ_steps.specs.Active.{IsActive}
-use Rattle.occ_steps.specs.Steps.{FitsTags, asking_by_row, beginning_by_row, end_of, is_at_row, next_at, next_by_row, next_in_state, next_tag, with_net_in, working_by_row}
+use Rattle.occ_steps.specs.Steps.{FitsTags, asking_by_row, beginning_by_row, end_of, is_at_row, next_at, next_by_row, next_in_state}
+use Rattle.occ_steps.specs.Steps.{next_tag, with_net_in, working_by_row}
 use Rattle.rollback_plan.proofs.NetLaws.{last-is}
 use Rattle.occ_steps.proofs.ActiveLemmas.{active_on, active_state, has_row}
 
@@ -51,15 +55,18 @@ granted_row H a = some_map (kept_grant (is_over H a.occ)) (grant H a.occ) ∙ sy
 
 gives_up_same : (H : List Event) (a : Operation) → gives_up_row (row H a) ≡ gives_up H a.occ
 gives_up_same H a =
-    ap (λ (f : Bool). f || (has_ended H a.occ && not (is_some (row H a).grant)) || (is_some (row H a).grant && is_some (cancel H a.occ))) (forced_row H a.occ)
+    ap (λ (f : Bool). f || (has_ended H a.occ && not (is_some (row H a).grant)) || (is_some (row H a).grant && is_some (cancel H a.occ)))
+    (forced_row H a.occ)
     ∙ (ap (λ (g : Bool). is_forced H a.occ || (has_ended H a.occ && not g) || (g && is_some (cancel H a.occ))) (granted_row H a)
-    ∙ ap (λ (c : Bool). is_forced H a.occ || (has_ended H a.occ && not (is_granted H a.occ)) || (is_granted H a.occ && c)) (cancelled_row H a.occ))
+    ∙ ap (λ (c : Bool). is_forced H a.occ || (has_ended H a.occ && not (is_granted H a.occ)) || (is_granted H a.occ && c))
+    (cancelled_row H a.occ))
 
 -- the action by three tests: it is given up, it was granted, a location is known
 abbrev by_tests : Bool → Bool → Bool → Action
 by_tests up granted told = if up then MoveTo RolledBack else (if granted then MoveTo Processing else (if told then Poll else AskForGrant))
 
-tabled : (up granted told : Bool) → first_some (when up (MoveTo RolledBack) ∷ when granted (MoveTo Processing) ∷ when told Poll ∷ Some AskForGrant ∷ []) ≡ Some (by_tests up granted told)
+tabled : (up granted told : Bool) → first_some (when up (MoveTo RolledBack) ∷ when granted (MoveTo Processing) ∷ when told Poll
+    ∷ Some AskForGrant ∷ []) ≡ Some (by_tests up granted told)
 tabled true granted told = refl
 tabled false true told = refl
 tabled false false true = refl
@@ -75,13 +82,15 @@ asking_row H a starting =
     tabled (gives_up H a.occ) (is_granted H a.occ) told
     ∙ (ap (λ (up : Bool). Some (by_tests up (is_granted H a.occ) told)) (sym (gives_up_same H a))
     ∙ (ap (λ (granted : Bool). Some (by_tests (gives_up_row (row H a)) granted told)) (sym (granted_row H a))
-    ∙ ap (λ (at : Option (List ℕ)). Some (by_tests (gives_up_row (row H a)) (is_some (row H a).grant) (is_some at))) (sym (kept_location H a (ap is_final starting)))))
+    ∙ ap (λ (at : Option (List ℕ)). Some (by_tests (gives_up_row (row H a)) (is_some (row H a).grant) (is_some at)))
+    (sym (kept_location H a (ap is_final starting)))))
 
 first_end : {A : Type 0} → (xs : List A) (y : A) → first (xs ++ y ∷ []) ≡ Some (unwrap_or (first xs) y)
 first_end [] y = refl
 first_end (x ∷ xs) y = refl
 
-mapped_or : {A B : Type 0} → (f : A → B) (x : Option A) (y : A) → Some (unwrap_or (option_map f x) (f y)) ≡ option_map f (Some (unwrap_or x y))
+mapped_or : {A B : Type 0} → (f : A → B) (x : Option A) (y : A)
+    → Some (unwrap_or (option_map f x) (f y)) ≡ option_map f (Some (unwrap_or x y))
 mapped_or f None y = refl
 mapped_or f (Some x) y = refl
 
@@ -96,11 +105,13 @@ first_mapped f (x ∷ xs) =
 first_pending : (H : List Event) (o : ℕ) → first (pendings H o) ≡ option_map (pending_of H) (first_open H o)
 first_pending H o = first_mapped (pending_of H) (open_of H o)
 
-same_from : (p q : ℕ → Bool) (k n : ℕ) → ((c : ℕ) → k ≤ c → c < k + n → p c ≡ q c) → filter p (range_with_len k n) ≡ filter q (range_with_len k n)
+same_from : (p q : ℕ → Bool) (k n : ℕ) → ((c : ℕ) → k ≤ c → c < k + n → p c ≡ q c)
+    → filter p (range_with_len k n) ≡ filter q (range_with_len k n)
 same_from p q k zero f = refl
 same_from p q k (suc n) f =
     let here : p k ≡ q k = f k (omega arith) (omega arith) in
-    let rest : filter p (range_with_len (k + 1) n) ≡ filter q (range_with_len (k + 1) n) = same_from p q (k + 1) n (λ c low high. f c (omega (arith, low)) (omega (arith, high))) in
+    let rest : filter p (range_with_len (k + 1) n) ≡ filter q (range_with_len (k + 1) n) =
+    same_from p q (k + 1) n (λ c low high. f c (omega (arith, low)) (omega (arith, high))) in
     by_test (q k)
     (λ holds. let too : p k ≡ true = here ∙ holds in rw (too, holds) (ap (λ (ns : List ℕ). k ∷ ns) rest))
     (λ fails. let too : p k ≡ false = here ∙ fails in rw (too, fails) rest)
@@ -123,7 +134,8 @@ last_within : (p : ℕ → Bool) (k n c : ℕ) → last (filter p (range_with_le
 last_within p k zero c e = cc
 last_within p k (suc n) c e = by_test (p k)
     (λ holds.
-    last_of (k + suc n) k c (last (filter p (range_with_len (k + 1) n))) (λ d is. let rest = last_within p (k + 1) n d is in omega (arith, rest)) (omega arith)
+    last_of (k + suc n) k c (last (filter p (range_with_len (k + 1) n)))
+    (λ d is. let rest = last_within p (k + 1) n d is in omega (arith, rest)) (omega arith)
     (sym (rw holds refl) ∙ e))
     (λ fails. let rest = last_within p (k + 1) n c (sym (rw fails refl) ∙ e) in omega (arith, rest))
 
@@ -137,7 +149,8 @@ has_net_row : (H : List Event) (a : Operation) (n c : ℕ) → c < length a.chan
 unfolding is_at_net
 has_net_row H a n c within =
     let zeroth : 0 + c ≡ c = omega arith in
-    ap (λ (x : Option ℕ). option_map_or (λ m. m == n) x false) (get-range (net H a.occ) 0 (length a.changes) c within ∙ ap (λ (m : ℕ). Some (net H a.occ m)) zeroth)
+    ap (λ (x : Option ℕ). option_map_or (λ m. m == n) x false) (get-range (net H a.occ) 0 (length a.changes) c within
+    ∙ ap (λ (m : ℕ). Some (net H a.occ m)) zeroth)
 
 -- the changes with a net are those of the row
 with_net_row : (H : List Event) (a : Operation) (n : ℕ) → operation H a.occ ≡ Some a → with_net_in n (row H a) ≡ with_net H a.occ n
@@ -160,15 +173,18 @@ abbrev tried : List Event → ℕ → ℕ → ℕ
 tried H o c = length (attempts H o c)
 
 -- as many attempts were made as the row says, until the occurrence is over
-tries_row : (H : List Event) (a : Operation) (c : ℕ) → is_over H a.occ ≡ false → c < length a.changes → unwrap_or (slice_get (row H a).attempts c) 0 ≡ tried H a.occ c
+tries_row : (H : List Event) (a : Operation) (c : ℕ) → is_over H a.occ ≡ false → c < length a.changes
+    → unwrap_or (slice_get (row H a).attempts c) 0 ≡ tried H a.occ c
 tries_row H a c on within =
     let zeroth : 0 + c ≡ c = omega arith in
     ap (λ (over : Bool). unwrap_or (slice_get (kept over (map (tried H a.occ) (numbers a))) c) 0) on
-    ∙ ap (λ (x : Option ℕ). unwrap_or x 0) (get-range (tried H a.occ) 0 (length a.changes) c within ∙ ap (λ (m : ℕ). Some (tried H a.occ m)) zeroth)
+    ∙ ap (λ (x : Option ℕ). unwrap_or x 0) (get-range (tried H a.occ) 0 (length a.changes) c within
+    ∙ ap (λ (m : ℕ). Some (tried H a.occ m)) zeroth)
 
 begin_row : (H : List Event) (a : Operation) (way : Way) (c : ℕ) → is_over H a.occ ≡ false → c < length a.changes
     → begin_of H a.occ way c ≡ Begin (next_tag a.occ way (row H a) c)
-begin_row H a way c on within = ap (λ (n : ℕ). Begin (record { occ = a.occ; change = c; attempt = n + 1; way = way })) (sym (tries_row H a c on within))
+begin_row H a way c on within = ap (λ (n : ℕ). Begin (record { occ = a.occ; change = c; attempt = n + 1; way = way }))
+    (sym (tries_row H a c on within))
 
 -- the begin of the next change, or that none is left
 begins_row : (H : List Event) (a : Operation) (way : Way) (x : Option ℕ) → is_over H a.occ ≡ false → next_at way (row H a) ≡ x
@@ -178,24 +194,32 @@ begins_row H a way None on is = refl
 begins_row H a way (Some c) on is = ap Some (begin_row H a way c on (next_within way (row H a) c is))
 
 -- the action by an open attempt, what stops the work, and what is done where there is neither
-at_work : (p : Option Tag) (forced : Bool) (failed : Tag → Bool) (stops : Bool) (lines : List (Option Action)) (last_line : Action) → first_some lines ≡ Some last_line
+at_work : (p : Option Tag) (forced : Bool) (failed : Tag → Bool) (stops : Bool) (lines : List (Option Action)) (last_line : Action)
+    → first_some lines ≡ Some last_line
     → first_some (option_map (look_at forced) p ∷ when stops (MoveTo FailedTemp) ∷ lines)
-    ≡ Some (option_map_or (λ (q : Pending). look_at forced q.tag) (option_map (λ (t : Tag). record { tag = t; failed = failed t }) p) (if stops then MoveTo FailedTemp else last_line))
+    ≡ Some (option_map_or (λ (q : Pending). look_at forced q.tag) (option_map (λ (t : Tag). record { tag = t; failed = failed t }) p)
+    (if stops then MoveTo FailedTemp else last_line))
 at_work (Some t) forced failed stops lines last_line e = refl
 at_work None forced failed true lines last_line e = refl
 at_work None forced failed false lines last_line e = e
 
 working_row : (H : List Event) (a : Operation) (way : Way) → operation H a.occ ≡ Some a → is_over H a.occ ≡ false
-    → next_at_work H a.occ (option_map (begin_of H a.occ way) (next_of way H a.occ) ∷ Some (MoveTo (end_of way)) ∷ []) ≡ Some (working_by_row a.occ way (row H a))
+    → next_at_work H a.occ (option_map (begin_of H a.occ way) (next_of way H a.occ) ∷ Some (MoveTo (end_of way)) ∷ [])
+    ≡ Some (working_by_row a.occ way (row H a))
 working_row H a way found on =
     let o : ℕ = a.occ in
     let forced : Bool = is_forced_mode (cancel H o) in
     let lines : Option ℕ → List (Option Action) = λ x. option_map (begin_of H o way) x ∷ Some (MoveTo (end_of way)) ∷ [] in
-    ap (λ (f : Bool). first_some (option_map (look_at f) (first_open H o) ∷ when (has_trouble H o || is_cancelled H o) (MoveTo FailedTemp) ∷ lines (next_of way H o))) (sym (forced_row H o))
-    ∙ (ap (λ (c : Bool). first_some (option_map (look_at forced) (first_open H o) ∷ when (has_trouble H o || c) (MoveTo FailedTemp) ∷ lines (next_of way H o))) (sym (cancelled_row H o))
-    ∙ (ap (λ (x : Option ℕ). first_some (option_map (look_at forced) (first_open H o) ∷ when (has_trouble H o || is_some (cancel H o)) (MoveTo FailedTemp) ∷ lines x)) (sym (next_row H a way found))
-    ∙ (at_work (first_open H o) forced (has_call_failed H) (has_trouble H o || is_some (cancel H o)) (lines (next_at way (row H a))) _ (begins_row H a way (next_at way (row H a)) on refl)
-    ∙ ap (λ (x : Option Pending). Some (option_map_or (λ (q : Pending). look_at forced q.tag) x (beginning_by_row o way (row H a)))) (sym (first_pending H o)))))
+    ap (λ (f : Bool). first_some (option_map (look_at f) (first_open H o) ∷ when (has_trouble H o || is_cancelled H o) (MoveTo FailedTemp)
+    ∷ lines (next_of way H o))) (sym (forced_row H o))
+    ∙ (ap (λ (c : Bool). first_some (option_map (look_at forced) (first_open H o) ∷ when (has_trouble H o || c) (MoveTo FailedTemp)
+    ∷ lines (next_of way H o))) (sym (cancelled_row H o))
+    ∙ (ap (λ (x : Option ℕ). first_some (option_map (look_at forced) (first_open H o)
+    ∷ when (has_trouble H o || is_some (cancel H o)) (MoveTo FailedTemp) ∷ lines x)) (sym (next_row H a way found))
+    ∙ (at_work (first_open H o) forced (has_call_failed H) (has_trouble H o || is_some (cancel H o)) (lines (next_at way (row H a))) _
+    (begins_row H a way (next_at way (row H a)) on refl)
+    ∙ ap (λ (x : Option Pending). Some (option_map_or (λ (q : Pending). look_at forced q.tag) x (beginning_by_row o way (row H a))))
+    (sym (first_pending H o)))))
 
 by_state : (H : List Event) (a : Operation) (s : OpState) → operation H a.occ ≡ Some a → state H a.occ ≡ s → is_active s ≡ true
     → next_in s H a.occ ≡ Some (next_in_state s a.occ (row H a))
@@ -214,20 +238,23 @@ next_of_row H o r is found =
     let a : Operation = mine.0 in
     let here : operation H a.occ ≡ Some a = ap (operation H) mine.2 ∙ mine.1 in
     let on : is_active (state H a.occ) ≡ true = subst (λ (n : ℕ). is_active (state H n) ≡ true) (sym mine.2) (active_state H o is) in
-    let own : next_action H a.occ ≡ next_in (state H a.occ) H a.occ = ap (option_and_then (λ (b : Operation). next_in (state H a.occ) H a.occ)) here in
+    let own : next_action H a.occ ≡ next_in (state H a.occ) H a.occ =
+    ap (option_and_then (λ (b : Operation). next_in (state H a.occ) H a.occ)) here in
     ap (next_action H) (sym mine.2)
     ∙ (own
     ∙ (by_state H a (state H a.occ) here refl on
     ∙ (ap (λ (n : ℕ). Some (next_by_row n (row H a))) mine.2 ∙ ap (λ (x : OccRow). Some (next_by_row o x)) mine.3)))
 
-tried_step : (time : ℕ) (k : EventKind) (H : List Event) (o c : ℕ) → tried H o c ≤ length H → tried (record { moment = time; kind = k } ∷ H) o c ≤ length H + 1
+tried_step : (time : ℕ) (k : EventKind) (H : List Event) (o c : ℕ) → tried H o c ≤ length H
+    → tried (record { moment = time; kind = k } ∷ H) o c ≤ length H + 1
 tried_step time (Intent t) H o c h = by_test (is_of o c t) (λ own. rw own (omega (arith, h))) (λ other. rw other (omega (arith, h)))
 tried_step time _ H o c h = omega (arith, h)
 
 -- no more attempts were made at a change than there are events
 few_tried : (H : List Event) (o c : ℕ) → tried H o c ≤ length H
 few_tried [] o c = omega arith
-few_tried (e ∷ H) o c = let step : tried (e ∷ H) o c ≤ length H + 1 = tried_step e.moment e.kind H o c (few_tried H o c) in omega (arith, step)
+few_tried (e ∷ H) o c = let step : tried (e ∷ H) o c ≤ length H + 1 = tried_step e.moment e.kind H o c (few_tried H o c) in
+    omega (arith, step)
 
 of_kept : (over : Bool) (xs : List ℕ) (c n : ℕ) → slice_get (kept over xs) c ≡ Some n → slice_get xs c ≡ Some n
 of_kept true xs c n e = cc
@@ -239,7 +266,8 @@ of_mapped f (m ∷ ns) zero n e = (m, cc)
 of_mapped f (m ∷ ns) (suc c) n e = of_mapped f ns c n e
 
 -- the numbers of a row of a history of few events fit a tag
-pub row_fits : PlansAreSmall → (m : ℕ) (H : List Event) (o : ℕ) (r : OccRow) → IsLegalWithin window m H → length H < 268435456 → occurrence H o ≡ Some r → FitsTags r
+pub row_fits : PlansAreSmall → (m : ℕ) (H : List Event) (o : ℕ) (r : OccRow) → IsLegalWithin window m H → length H < 268435456
+    → occurrence H o ≡ Some r → FitsTags r
 row_fits small m H o r legal few found =
     let mine = found_row H o r found in
     let a : Operation = mine.0 in
@@ -259,11 +287,13 @@ none_passes p k zero fails = refl
 none_passes p k (suc n) fails = rw (fails k (omega arith)) (none_passes p (k + 1) n (λ c less. fails c (omega (arith, less))))
 
 -- one that passes, above none that does, is first
-least_passes : (p : ℕ → Bool) (k n c : ℕ) → k ≤ c → c < k + n → p c ≡ true → ((j : ℕ) → j < c → p j ≡ false) → first (filter p (range_with_len k n)) ≡ Some c
+least_passes : (p : ℕ → Bool) (k n c : ℕ) → k ≤ c → c < k + n → p c ≡ true → ((j : ℕ) → j < c → p j ≡ false)
+    → first (filter p (range_with_len k n)) ≡ Some c
 least_passes p k zero c low high passes under = absurd (omega (arith, low, high))
 least_passes p k (suc n) c low high passes under = by_test (k == c)
     (λ same. let is : k ≡ c = eqb-true k c same in let holds : p k ≡ true = ap p is ∙ passes in rw holds (ap Some is))
-    (λ other. let less : k < c = below k c low other in rw (under k less) (least_passes p (k + 1) n c (omega (arith, less)) (omega (arith, high)) passes under)) where
+    (λ other. let less : k < c = below k c low other in rw (under k less)
+    (least_passes p (k + 1) n c (omega (arith, less)) (omega (arith, high)) passes under)) where
       below : (k c : ℕ) → k ≤ c → (k == c) ≡ false → k < c
       below k c low other = grind (arith, low, other)
 
@@ -278,11 +308,14 @@ not_net : (n : ℕ) (x : Option ℕ) → ¬ (x ≡ Some n) → is_net n x ≡ fa
 not_net n None apart = refl
 not_net n (Some m) apart = by_test (m == n) (λ same. absurd (apart (ap Some (eqb-true m n same)))) (λ other. other)
 
-first_zero : (n : ℕ) (ns : List ℕ) (x : Option ℕ) → IfSome x (λ c. c < n) → IfSome x (λ c. slice_get ns c ≡ Some 0) → IfSome x (λ c. (j : ℕ) → j < c → ¬ (slice_get ns j ≡ Some 0))
+first_zero : (n : ℕ) (ns : List ℕ) (x : Option ℕ) → IfSome x (λ c. c < n) → IfSome x (λ c. slice_get ns c ≡ Some 0)
+    → IfSome x (λ c. (j : ℕ) → j < c → ¬ (slice_get ns j ≡ Some 0))
     → (x ≡ None → (c : ℕ) → c < n → ¬ (slice_get ns c ≡ Some 0)) → first (filter (λ c. is_net 0 (slice_get ns c)) (range_with_len 0 n)) ≡ x
-first_zero n ns None known zeroth least none = none_passes (λ c. is_net 0 (slice_get ns c)) 0 n (λ c less. not_net 0 (slice_get ns c) (none refl c (omega (arith, less))))
+first_zero n ns None known zeroth least none = none_passes (λ c. is_net 0 (slice_get ns c)) 0 n
+    (λ c less. not_net 0 (slice_get ns c) (none refl c (omega (arith, less))))
 first_zero n ns (Some c) known zeroth least none =
-    least_passes (λ c. is_net 0 (slice_get ns c)) 0 n c (omega arith) (omega (arith, known)) (is_some_net 0 (slice_get ns c) zeroth) (λ j less. not_net 0 (slice_get ns j) (least j less))
+    least_passes (λ c. is_net 0 (slice_get ns c)) 0 n c (omega arith) (omega (arith, known)) (is_some_net 0 (slice_get ns c) zeroth)
+    (λ j less. not_net 0 (slice_get ns j) (least j less))
 
 last_one : (n : ℕ) (ns : List ℕ) (x : Option ℕ) → IfSome x (λ c. c < n) → IfSome x (λ c. slice_get ns c ≡ Some 1)
     → IfSome x (λ c. (j : ℕ) → c < j → j < n → ¬ (slice_get ns j ≡ Some 1)) → (x ≡ None → (c : ℕ) → c < n → ¬ (slice_get ns c ≡ Some 1))
@@ -290,7 +323,8 @@ last_one : (n : ℕ) (ns : List ℕ) (x : Option ℕ) → IfSome x (λ c. c < n)
 last_one n ns None known made greatest none =
     sym (last-is (λ c. is_net 1 (slice_get ns c)) n None tt tt tt (λ e c less. not_net 1 (slice_get ns c) (none refl c less)))
 last_one n ns (Some c) known made greatest none =
-    sym (last-is (λ c. is_net 1 (slice_get ns c)) n (Some c) known (is_some_net 1 (slice_get ns c) made) (λ j up less. not_net 1 (slice_get ns j) (greatest j up less)) (λ e j less. absurd cc))
+    sym (last-is (λ c. is_net 1 (slice_get ns c)) n (Some c) known (is_some_net 1 (slice_get ns c) made)
+    (λ j up less. not_net 1 (slice_get ns j) (greatest j up less)) (λ e j less. absurd cc))
 
 -- the test of nets among the changes of a row
 of_row : (r : OccRow) (xs : List Change) (ns : List ℕ) (n : ℕ) → xs ≡ r.changes → ns ≡ r.nets
@@ -301,15 +335,19 @@ of_row r xs ns n plan made =
 
 -- what is found among the changes of a row and their nets is the first that isn't made
 pub found_first : (r : OccRow) (xs : List Change) (ns : List ℕ) (x : Option ℕ) → xs ≡ r.changes → ns ≡ r.nets
-    → IfSome x (λ c. c < length xs) → IfSome x (λ c. slice_get ns c ≡ Some 0) → IfSome x (λ c. (j : ℕ) → j < c → ¬ (slice_get ns j ≡ Some 0))
+    → IfSome x (λ c. c < length xs) → IfSome x (λ c. slice_get ns c ≡ Some 0)
+    → IfSome x (λ c. (j : ℕ) → j < c → ¬ (slice_get ns j ≡ Some 0))
     → (x ≡ None → (c : ℕ) → c < length xs → ¬ (slice_get ns c ≡ Some 0)) → next_at Forward r ≡ x
-found_first r xs ns x plan made known zeroth least none = ap first (of_row r xs ns 0 plan made) ∙ first_zero (length xs) ns x known zeroth least none
+found_first r xs ns x plan made known zeroth least none = ap first (of_row r xs ns 0 plan made)
+    ∙ first_zero (length xs) ns x known zeroth least none
 
 -- or the last that is made
 pub found_last : (r : OccRow) (xs : List Change) (ns : List ℕ) (x : Option ℕ) → xs ≡ r.changes → ns ≡ r.nets
-    → IfSome x (λ c. c < length xs) → IfSome x (λ c. slice_get ns c ≡ Some 1) → IfSome x (λ c. (j : ℕ) → c < j → j < length xs → ¬ (slice_get ns j ≡ Some 1))
+    → IfSome x (λ c. c < length xs) → IfSome x (λ c. slice_get ns c ≡ Some 1)
+    → IfSome x (λ c. (j : ℕ) → c < j → j < length xs → ¬ (slice_get ns j ≡ Some 1))
     → (x ≡ None → (c : ℕ) → c < length xs → ¬ (slice_get ns c ≡ Some 1)) → next_at Undo r ≡ x
-found_last r xs ns x plan made known ones greatest none = ap last (of_row r xs ns 1 plan made) ∙ last_one (length xs) ns x known ones greatest none
+found_last r xs ns x plan made known ones greatest none = ap last (of_row r xs ns 1 plan made)
+    ∙ last_one (length xs) ns x known ones greatest none
 
 -- the next change is one of the row
 pub next_known : (way : Way) (r : OccRow) (x : Option ℕ) (c : ℕ) → x ≡ next_at way r → x ≡ Some c → c < length r.changes
@@ -325,7 +363,8 @@ pub location_of_row : (H : List Event) (o : ℕ) (r : OccRow) → IsActive H o �
 location_of_row H o r is found =
     let mine = found_row H o r found in
     ap (location H) (sym mine.2)
-    ∙ (sym (kept_location H mine.0 (ap (λ (n : ℕ). is_final (state H n)) mine.2 ∙ active_on H o is)) ∙ ap (λ (x : OccRow). x.location) mine.3)
+    ∙ (sym (kept_location H mine.0 (ap (λ (n : ℕ). is_final (state H n)) mine.2 ∙ active_on H o is))
+    ∙ ap (λ (x : OccRow). x.location) mine.3)
 
 -- a location is known where the next action is to poll it
 polls_known : (o : ℕ) (r : OccRow) → next_by_row o r ≡ Poll → r.location ≡ None → ⊥
@@ -335,7 +374,8 @@ polls_known o r polls none = in_state r.state polls where
   asking false true e = cc
   asking false false e = cc
 
-  beginning : (way : Way) (stops : Bool) (x : Option ℕ) → (if stops then MoveTo FailedTemp else option_map_or (λ c. Begin (next_tag o way r c)) x (MoveTo (end_of way))) ≡ Poll → ⊥
+  beginning : (way : Way) (stops : Bool) (x : Option ℕ) → (if stops then MoveTo FailedTemp
+      else option_map_or (λ c. Begin (next_tag o way r c)) x (MoveTo (end_of way))) ≡ Poll → ⊥
   beginning way true x e = cc
   beginning way false None e = cc
   beginning way false (Some c) e = cc
@@ -344,7 +384,8 @@ polls_known o r polls none = in_state r.state polls where
   looking true t e = cc
   looking false t e = cc
 
-  working : (way : Way) (x : Option Pending) → option_map_or (λ (p : Pending). look_at (is_forced_mode r.cancel) p.tag) x (beginning_by_row o way r) ≡ Poll → ⊥
+  working : (way : Way) (x : Option Pending) → option_map_or (λ (p : Pending). look_at (is_forced_mode r.cancel) p.tag) x
+      (beginning_by_row o way r) ≡ Poll → ⊥
   working way None e = beginning way (r.trouble || is_some r.cancel) (next_at way r) e
   working way (Some p) e = looking (is_forced_mode r.cancel) p.tag e
 
@@ -356,13 +397,15 @@ polls_known o r polls none = in_state r.state polls where
 -- an attempt that begins is of the occurrence
 begins_of : (o : ℕ) (r : OccRow) (t : Tag) → next_by_row o r ≡ Begin t → t.occ ≡ o
 begins_of o r t begins = in_state r.state begins where
-  asking : (up granted told : Bool) → (if up then MoveTo RolledBack else (if granted then MoveTo Processing else (if told then Poll else AskForGrant))) ≡ Begin t → t.occ ≡ o
+  asking : (up granted told : Bool) → (if up then MoveTo RolledBack
+      else (if granted then MoveTo Processing else (if told then Poll else AskForGrant))) ≡ Begin t → t.occ ≡ o
   asking true granted told e = cc
   asking false true told e = cc
   asking false false true e = cc
   asking false false false e = cc
 
-  beginning : (way : Way) (stops : Bool) (x : Option ℕ) → (if stops then MoveTo FailedTemp else option_map_or (λ c. Begin (next_tag o way r c)) x (MoveTo (end_of way))) ≡ Begin t
+  beginning : (way : Way) (stops : Bool) (x : Option ℕ) → (if stops then MoveTo FailedTemp
+      else option_map_or (λ c. Begin (next_tag o way r c)) x (MoveTo (end_of way))) ≡ Begin t
       → t.occ ≡ o
   beginning way true x e = cc
   beginning way false None e = cc
@@ -372,7 +415,8 @@ begins_of o r t begins = in_state r.state begins where
   looking true u e = cc
   looking false u e = cc
 
-  working : (way : Way) (x : Option Pending) → option_map_or (λ (p : Pending). look_at (is_forced_mode r.cancel) p.tag) x (beginning_by_row o way r) ≡ Begin t → t.occ ≡ o
+  working : (way : Way) (x : Option Pending) → option_map_or (λ (p : Pending). look_at (is_forced_mode r.cancel) p.tag) x
+      (beginning_by_row o way r) ≡ Begin t → t.occ ≡ o
   working way None e = beginning way (r.trouble || is_some r.cancel) (next_at way r) e
   working way (Some p) e = looking (is_forced_mode r.cancel) p.tag e
 
@@ -391,13 +435,15 @@ begins_own H o t is next = of (occurrence H o) refl where
       begins_of o r t same
 
 -- so that it is the next action of its own occurrence, which is active
-pub begins_there : (H : List Event) (o : ℕ) (t : Tag) → IsActive H o → next_action H o ≡ Some (Begin t) → IsActive H t.occ × (next_action H t.occ ≡ Some (Begin t))
+pub begins_there : (H : List Event) (o : ℕ) (t : Tag) → IsActive H o → next_action H o ≡ Some (Begin t)
+    → IsActive H t.occ × (next_action H t.occ ≡ Some (Begin t))
 begins_there H o t is next =
     let own = sym (begins_own H o t is next) in
     (subst (λ (n : ℕ). IsActive H n) own is, subst (λ (n : ℕ). next_action H n ≡ Some (Begin t)) own next)
 
 -- and so where it is the next action of an active occurrence
-pub polled_row : (H : List Event) (o : ℕ) (r : OccRow) → IsActive H o → occurrence H o ≡ Some r → next_action H o ≡ Some Poll → r.location ≡ None → ⊥
+pub polled_row : (H : List Event) (o : ℕ) (r : OccRow) → IsActive H o → occurrence H o ≡ Some r → next_action H o ≡ Some Poll
+    → r.location ≡ None → ⊥
 polled_row H o r is found polls none =
     let both : Some (next_by_row o r) ≡ Some Poll = sym (next_of_row H o r is found) ∙ polls in
     let same : next_by_row o r ≡ Poll = cc in

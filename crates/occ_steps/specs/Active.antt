@@ -1,4 +1,5 @@
--- Which occurrences are worked on: their grant is asked for, their changes are made, or they are undone (SOL 003 5.6.2).
+-- Which occurrences are worked on: their grant is asked for, their changes are made, or they are undone (SOL 003
+-- 5.6.2).
 use Rattle.std.specs.Prelude.{Bool, List, is_some, true, ℕ, ◌&&◌, ◌≡◌}
 use Rattle.lcm_events.specs.declared.events.Event.{Event}
 use Rattle.lcm_model.specs.Moves.{is_active, state}

@@ -1,7 +1,8 @@
 //! The next action of an active occurrence, by its row.
 ghost use Rattle.std.specs.Prelude.{◌≡◌, ◌<◌, length};
 ghost use Rattle.occ_table.specs.Steps.{is_forced_mode};
-ghost use Rattle.occ_steps.specs.Steps.{FitsTags, action_of, asking_by_row, beginning_by_row, end_of, next_at, next_by_row, next_tag, working_by_row};
+ghost use Rattle.occ_steps.specs.Steps.{FitsTags, action_of, asking_by_row, beginning_by_row, end_of, next_at};
+ghost use Rattle.occ_steps.specs.Steps.{next_by_row, next_tag, working_by_row};
 
 use change_planner::next_change;
 use lcm_events::{CancelMode, OpState, Tag, Way};

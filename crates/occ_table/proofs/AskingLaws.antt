@@ -1,5 +1,6 @@
 -- What is allowed while the grant of an occurrence is asked for, by its row.
-use Rattle.std.proofs.Common.{◌≡◌, ◌&&◌, ◌∙◌, ◌↔◌, ℕ, List, Bool, true, false, not, Option, None, Some, is_some, refl, ap, sym, subst, length}
+use Rattle.std.proofs.Common.{◌≡◌, ◌&&◌, ◌∙◌, ◌↔◌, ℕ, List, Bool, true, false, not, Option, None, Some, is_some, refl, ap, sym, subst}
+use Rattle.std.proofs.Common.{length}
 use Rattle.std.specs.Prelude.{is_none}
 use Rattle.lcm_events.specs.Same.{same_state}
 use Rattle.lcm_events.proofs.SameLaws.{same_state-true}
@@ -68,7 +69,8 @@ its_location : (H : List Event) (n : ℕ) (r : OccRow) → state H n ≡ Startin
 its_location H n r starts e =
     let mine = found_row H n r e in
     sym (ap (λ (x : OccRow). x.location) mine.3)
-    ∙ (ap (λ (o : ℕ). kept_where (is_over H o) (location H o)) mine.2 ∙ kept_there (is_over H n) (location H n) (starting_not_over H n starts))
+    ∙ (ap (λ (o : ℕ). kept_where (is_over H o) (location H o)) mine.2
+    ∙ kept_there (is_over H n) (location H n) (starting_not_over H n starts))
 
 new_there : (H : List Event) (n : ℕ) (r : OccRow) (answer : GrantTry) → state H n ≡ Starting → occurrence H n ≡ Some r
     → (is_new_try_row answer r ≡ true) ↔ IsNewTry H n answer
@@ -93,7 +95,8 @@ try_there H n r answer judged e is =
 pub try_none : (H : List Event) (n : ℕ) (answer : GrantTry) → occurrence H n ≡ None → (false ≡ true) ↔ IsAsking H n × IsNewTry H n answer
 try_none H n answer e = let none = asking_none H n e in (λ h. cc, λ h. none.1 h.0)
 
-pub deny_there : (H : List Event) (n : ℕ) (r : OccRow) (judged : Bool) → occurrence H n ≡ Some r → judged ≡ is_asking_row r → (judged ≡ true) ↔ IsAsking H n
+pub deny_there : (H : List Event) (n : ℕ) (r : OccRow) (judged : Bool) → occurrence H n ≡ Some r → judged ≡ is_asking_row r
+    → (judged ≡ true) ↔ IsAsking H n
 deny_there H n r judged e is = let asks = asking_there H n r e in (λ h. asks.0 (sym is ∙ h), λ h. is ∙ asks.1 h)
 
 its_changes : (H : List Event) (n : ℕ) (r : OccRow) → occurrence H n ≡ Some r → length r.changes ≡ length (changes H n)
@@ -101,13 +104,24 @@ its_changes H n r e =
     let mine = found_row H n r e in
     sym (ap (λ (x : OccRow). length x.changes) mine.3) ∙ sym (ap length (changes_of H n mine.0 mine.1))
 
-pub grant_there : (H : List Event) (n : ℕ) (r : OccRow) (name : List ℕ) (places : List Place) (spots : List ℕ) (judged : Bool) → occurrence H n ≡ Some r
+pub grant_there : (H : List Event) (n : ℕ) (r : OccRow) (name : List ℕ) (places : List Place) (spots : List ℕ) (judged : Bool)
+    → occurrence H n ≡ Some r
     → (judged ≡ true) ↔ MayTake r name places spots → (judged ≡ true) ↔ MayGrant H n name places spots
 grant_there H n r name places spots judged e is =
     let asks = asking_there H n r e in
     let long : length r.changes ≡ length (changes H n) = its_changes H n r e in (
-      λ h. let may = is.0 h in record { asking = asks.0 may.asking; named = may.named; placed = subst (λ (k : ℕ). IsPlacing places spots k) long may.placed },
-      λ h. is.1 (record { asking = asks.1 h.asking; named = h.named; placed = subst (λ (k : ℕ). IsPlacing places spots k) (sym long) h.placed }),
+      λ h. let may = is.0 h in record {
+        asking = asks.0 may.asking;
+        named = may.named;
+        placed =
+            subst (λ (k : ℕ). IsPlacing places spots k) long may.placed;
+      },
+      λ h. is.1 (record {
+        asking = asks.1 h.asking;
+        named = h.named;
+        placed =
+            subst (λ (k : ℕ). IsPlacing places spots k) (sym long) h.placed;
+      }),
     )
 
 pub grant_none : (H : List Event) (n : ℕ) (name : List ℕ) (places : List Place) (spots : List ℕ) → occurrence H n ≡ None

@@ -1,5 +1,6 @@
 -- What each event makes of the nets and attempts of a row.
-use Rattle.std.proofs.Common.{◌≡◌, ◌<◌, ◌+◌, ◌==◌, ◌∙◌, ◌-◌, ℕ, List, [], ◌∷◌, zero, suc, true, false, refl, ap, sym, subst, length, map, replicate, set, arith, eqb-true, false-eqb}
+use Rattle.std.proofs.Common.{◌≡◌, ◌<◌, ◌+◌, ◌==◌, ◌∙◌, ◌-◌, ℕ, List, [], ◌∷◌, zero, suc, true, false, refl, ap, sym, subst, length, map}
+use Rattle.std.proofs.Common.{replicate, set, arith, eqb-true, false-eqb}
 use Rattle.std.specs.List.{range_with_len}
 use Rattle.lcm_events.specs.declared.attempts.Outcome.{Outcome}
 use Rattle.lcm_events.specs.declared.attempts.Outcome.TheVariants.{Done}
@@ -25,7 +26,8 @@ maps_same {A} f g (n ∷ ns) e = ap (λ (k : A). k ∷ map f ns) (e n) ∙ ap (�
 apart : (a b : ℕ) → (a ≡ b → ⊥) → (a == b) ≡ false
 apart a b f = by_test (a == b) (λ same. absurd (f (eqb-true a b same))) (λ other. other)
 
-above : {A : Type 0} → (f g : ℕ → A) (k n x : ℕ) → x < k → ((c : ℕ) → (x == c) ≡ false → g c ≡ f c) → map g (range_with_len k n) ≡ map f (range_with_len k n)
+above : {A : Type 0} → (f g : ℕ → A) (k n x : ℕ) → x < k → ((c : ℕ) → (x == c) ≡ false → g c ≡ f c)
+    → map g (range_with_len k n) ≡ map f (range_with_len k n)
 above f g k zero x h e = refl
 above {A} f g k (suc n) x h e =
     ap (λ (v : A). v ∷ map g (range_with_len (k + 1) n)) (e k (apart x k (λ is. omega (arith, h, is))))
@@ -66,27 +68,35 @@ own_change t o same = rw same (same_self t.change) where
 pub other_change : (t : Tag) (o c : ℕ) → (t.change == c) ≡ false → is_of o c t ≡ false
 other_change t o c other = by_test (t.occ == o) (λ a. rw (a, other) refl) (λ b. rw b refl)
 
-pub attempts-begun : (width m : ℕ) (H : List Event) (time : ℕ) (t : Tag) (a : Operation) → (t.occ == a.occ) ≡ true → IsAllowedWithin width m H (Intent t)
+pub attempts-begun : (width m : ℕ) (H : List Event) (time : ℕ) (t : Tag) (a : Operation) → (t.occ == a.occ) ≡ true
+    → IsAllowedWithin width m H (Intent t)
     → map (tried (event time (Intent t) ∷ H) a.occ) (numbers a) ≡ set (map (tried H a.occ) (numbers a)) t.change t.attempt
 attempts-begun width m H time t a same allowed =
     let is : t.occ ≡ a.occ = eqb-true t.occ a.occ same in
     let number : t.attempt ≡ tried H a.occ t.change + 1 = subst (λ (o : ℕ). t.attempt ≡ tried H o t.change + 1) is allowed.number in
-    let next : tried (event time (Intent t) ∷ H) a.occ t.change ≡ suc (tried H a.occ t.change) = tried-own H time t a.occ t.change (own_change t a.occ same) in
-    differs (tried H a.occ) (tried (event time (Intent t) ∷ H) a.occ) 0 (length a.changes) t.change t.change t.attempt (omega arith) (omega (arith, number, next))
+    let next : tried (event time (Intent t) ∷ H) a.occ t.change ≡ suc (tried H a.occ t.change) =
+    tried-own H time t a.occ t.change (own_change t a.occ same) in
+    differs (tried H a.occ) (tried (event time (Intent t) ∷ H) a.occ) 0 (length a.changes) t.change t.change t.attempt (omega arith)
+    (omega (arith, number, next))
     (λ c other. tried-other H time t a.occ c (other_change t a.occ c other))
 
 pub attempts-begun_other : (H : List Event) (time : ℕ) (t : Tag) (a : Operation) → (t.occ == a.occ) ≡ false
     → map (tried (event time (Intent t) ∷ H) a.occ) (numbers a) ≡ map (tried H a.occ) (numbers a)
 attempts-begun_other H time t a other =
-    maps_same (tried (event time (Intent t) ∷ H) a.occ) (tried H a.occ) (numbers a) (λ c. let no : is_of a.occ c t ≡ false = rw other refl in tried-other H time t a.occ c no)
+    maps_same (tried (event time (Intent t) ∷ H) a.occ) (tried H a.occ) (numbers a)
+    (λ c. let no : is_of a.occ c t ≡ false = rw other refl in tried-other H time t a.occ c no)
 
-pub nets-ended : (width m : ℕ) (H : List Event) (time : ℕ) (t : Tag) (outcome : Outcome) (a : Operation) → (t.occ == a.occ) ≡ true → IsLegalWithin width m H
-    → is_open H t ≡ true → map (net (event time (Settled t outcome) ∷ H) a.occ) (numbers a) ≡ nets_after t outcome (map (net H a.occ) (numbers a))
+pub nets-ended : (width m : ℕ) (H : List Event) (time : ℕ) (t : Tag) (outcome : Outcome) (a : Operation) → (t.occ == a.occ) ≡ true
+    → IsLegalWithin width m H
+    → is_open H t ≡ true → map (net (event time (Settled t outcome) ∷ H) a.occ) (numbers a)
+    ≡ nets_after t outcome (map (net H a.occ) (numbers a))
 nets-ended width m H time t (Done name) a same legal opened =
     let is : t.occ ≡ a.occ = eqb-true t.occ a.occ same in
     let made : net (event time (Settled t (Done name)) ∷ H) a.occ t.change ≡ net_after t.way =
-    subst (λ (o : ℕ). net (event time (Settled t (Done name)) ∷ H) o t.change ≡ net_after t.way) is (net-done width m H time t name legal opened) in
-    differs (net H a.occ) (net (event time (Settled t (Done name)) ∷ H) a.occ) 0 (length a.changes) t.change t.change (net_after t.way) (omega arith) made
+    subst (λ (o : ℕ). net (event time (Settled t (Done name)) ∷ H) o t.change ≡ net_after t.way) is
+    (net-done width m H time t name legal opened) in
+    differs (net H a.occ) (net (event time (Settled t (Done name)) ∷ H) a.occ) 0 (length a.changes) t.change t.change (net_after t.way)
+    (omega arith) made
     (λ c other. net-other_change H time t (Done name) a.occ c other)
 nets-ended width m H time t _ a same legal opened = refl
 
@@ -98,9 +108,11 @@ nets-ended_other H time t outcome a other =
 pub nets-none : (H : List Event) (a : Operation) → IsUntouched H a.occ → map (net H a.occ) (numbers a) ≡ replicate (length a.changes) 0
 nets-none H a still =
     all_alike (net H a.occ) 0 (length a.changes) 0
-    (λ c. let made = still.none_done Forward c in let undone = still.none_done Undo c in less (done_count Forward H a.occ c) (done_count Undo H a.occ c) made undone) where
+    (λ c. let made = still.none_done Forward c in let undone = still.none_done Undo c in
+    less (done_count Forward H a.occ c) (done_count Undo H a.occ c) made undone) where
       less : (x y : ℕ) → x ≡ 0 → y ≡ 0 → x - y ≡ 0
       less x y e f = omega (arith, e, f)
 
-pub attempts-none : (H : List Event) (a : Operation) → IsUntouched H a.occ → map (tried H a.occ) (numbers a) ≡ replicate (length a.changes) 0
+pub attempts-none : (H : List Event) (a : Operation) → IsUntouched H a.occ
+    → map (tried H a.occ) (numbers a) ≡ replicate (length a.changes) 0
 attempts-none H a still = all_alike (tried H a.occ) 0 (length a.changes) 0 (λ c. ap (λ (ts : List Tag). length ts) (still.attempts c))

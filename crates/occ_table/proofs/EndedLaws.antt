@@ -36,7 +36,8 @@ works_not_over H o t works = ap is_final works ∙ works_on t.way
 pub starting_not_over : (H : List Event) (o : ℕ) → state H o ≡ Starting → is_over H o ≡ false
 starting_not_over H o starts = ap is_final starts
 
-stripped_kept : (over was : Bool) (g : Option GivenGrant) → was ≡ false → option_map (kept_grant over) g ≡ option_map (stripped over) (option_map (kept_grant was) g)
+stripped_kept : (over was : Bool) (g : Option GivenGrant) → was ≡ false
+    → option_map (kept_grant over) g ≡ option_map (stripped over) (option_map (kept_grant was) g)
 stripped_kept over true g e = cc
 stripped_kept over false None e = refl
 stripped_kept over false (Some g) e = refl
@@ -65,15 +66,40 @@ pub moved_on : (r : OccRow) (time : ℕ) (to : OpState) → is_final r.state ≡
 moved_on r time to e = still (is_final r.state) r _ e
 
 -- a row that was whole, after a move
-pub moved_row : (r : OccRow) (time : ℕ) (to : OpState) (was : Bool) (xs : List ℕ) (at : Option (List ℕ)) (g : Option GivenGrant) → was ≡ false → is_final r.state ≡ false
-    → record r { state = to; entered = time; cancel = None; trouble = false; attempts = kept (is_final to) xs; location = kept_where (is_final to) at; grant = option_map (kept_grant (is_final to)) g }
+pub moved_row : (r : OccRow) (time : ℕ) (to : OpState) (was : Bool) (xs : List ℕ) (at : Option (List ℕ)) (g : Option GivenGrant)
+    → was ≡ false → is_final r.state ≡ false
+    → record r {
+      state = to;
+      entered = time;
+      cancel = None;
+      trouble = false;
+      attempts = kept (is_final to) xs;
+      location =
+          kept_where (is_final to) at;
+      grant = option_map (kept_grant (is_final to)) g;
+    }
     ≡ after_move time to (record r { attempts = kept was xs; location = kept_where was at; grant = option_map (kept_grant was) g })
 moved_row r time to was xs at g e on =
     let base : OccRow = record r { state = to; entered = time; cancel = None; trouble = false } in
-    ap (λ (ys : List ℕ). record base { attempts = kept (is_final to) ys; location = kept_where (is_final to) at; grant = option_map (kept_grant (is_final to)) g }) (sym (kept_all was xs e))
-    ∙ (ap (λ (x : Option (List ℕ)). record base { attempts = kept (is_final to) (kept was xs); location = kept_where (is_final to) x; grant = option_map (kept_grant (is_final to)) g }) (sym (kept_there was at e))
-    ∙ ap (λ (h : Option Grant). record base { attempts = kept (is_final to) (kept was xs); location = kept_where (is_final to) (kept_where was at); grant = h }) (stripped_kept (is_final to) was g e)
-    ∙ still (is_final r.state) (record r { attempts = kept was xs; location = kept_where was at; grant = option_map (kept_grant was) g }) _ on)
+    ap (λ (ys : List ℕ). record base {
+      attempts = kept (is_final to) ys;
+      location = kept_where (is_final to) at;
+      grant =
+          option_map (kept_grant (is_final to)) g;
+    }) (sym (kept_all was xs e))
+    ∙ (ap (λ (x : Option (List ℕ)). record base {
+      attempts = kept (is_final to) (kept was xs);
+      location = kept_where (is_final to) x;
+      grant = option_map (kept_grant (is_final to)) g;
+    }) (sym (kept_there was at e))
+    ∙ ap (λ (h : Option Grant). record base {
+      attempts = kept (is_final to) (kept was xs);
+      location =
+          kept_where (is_final to) (kept_where was at);
+      grant = h;
+    }) (stripped_kept (is_final to) was g e)
+    ∙ still (is_final r.state) (record r { attempts = kept was xs; location = kept_where was at; grant = option_map (kept_grant was) g }) _
+    on)
 
 stripped_none : (g : Option Grant) → g ≡ option_map (stripped false) g
 stripped_none None = refl
@@ -85,6 +111,7 @@ forgotten_none r true e = cc
 forgotten_none r false e = ap (λ (g : Option Grant). record r { grant = g }) (stripped_none r.grant)
 
 -- all that goes is forgotten where the occurrence is over
-pub forgotten_all : (r : OccRow) (over : Bool) → over ≡ true → record r { attempts = []; location = None; grant = option_map (stripped true) r.grant } ≡ forgotten over r
+pub forgotten_all : (r : OccRow) (over : Bool) → over ≡ true → record r
+    { attempts = []; location = None; grant = option_map (stripped true) r.grant } ≡ forgotten over r
 forgotten_all r true e = refl
 forgotten_all r false e = cc

@@ -1,5 +1,7 @@
 -- What each event makes of the active numbers, and what is found among them.
-use Rattle.std.proofs.Common.{◌≡◌, ◌≢◌, ◌≤◌, ◌<◌, ◌+◌, ◌++◌, ◌&&◌, ◌==◌, ◌∙◌, ℕ, List, [], ◌∷◌, zero, suc, Bool, true, false, cond, not, Option, None, Some, refl, ap, sym, subst, length, map, filter, find, reverse, slice_get, insert, arith, eqb-true, eq-eqb, false-eqb, nat_lt, lt-ltb, ltb-false, le-ltb}
+use Rattle.std.proofs.Common.{◌≡◌, ◌≢◌, ◌≤◌, ◌<◌, ◌+◌, ◌++◌, ◌&&◌, ◌==◌, ◌∙◌, ℕ, List, [], ◌∷◌, zero, suc, Bool, true, false, cond, not}
+use Rattle.std.proofs.Common.{Option, None, Some, refl, ap, sym, subst, length, map, filter, find, reverse, slice_get, insert, arith}
+use Rattle.std.proofs.Common.{eqb-true, eq-eqb, false-eqb, nat_lt, lt-ltb, ltb-false, le-ltb}
 use Rattle.std.specs.Prelude.{slice_index_or}
 use Rattle.std.specs.List.{AllWithin}
 use Rattle.std.specs.List.Sorted.{IsPartitionPoint, IsPartitionedBy}
@@ -20,7 +22,8 @@ use Rattle.lcm_laws.proofs.OngoingLaws.{state-moved}
 use Rattle.std.proofs.lemmas.List.{length-map, length-reverse}
 use Rattle.occ_table.specs.Rows.{StandsFor, row}
 use Rattle.occ_table.specs.declared.rows.OccRow.{OccRow}
-use Rattle.occ_table.specs.Going.{Rises, active, active_after, active_moved, is_worked_on, first_from, next_active, with_number, without_number}
+use Rattle.occ_table.specs.Going.{Rises, active, active_after, active_moved, is_worked_on, first_from, next_active, with_number}
+use Rattle.occ_table.specs.Going.{without_number}
 use Rattle.occ_table.proofs.PendingSteps.{filter_map_swap, filter_reverse}
 use Rattle.occ_table.proofs.RowsSteps.{none_there}
 
@@ -46,7 +49,8 @@ rises-end n (m ∷ k ∷ ms) r b = (r.0, rises-end n (k ∷ ms) r.1 b.1)
 abbrev numbered : (Operation → Bool) → List Operation → List ℕ
 numbered p xs = reverse (map (λ a. a.occ) (filter p xs))
 
-numbered-cons : (p : Operation → Bool) (x : Operation) (xs : List Operation) → numbered p (x ∷ xs) ≡ cond (p x) (numbered p xs ++ x.occ ∷ []) (numbered p xs)
+numbered-cons : (p : Operation → Bool) (x : Operation) (xs : List Operation)
+    → numbered p (x ∷ xs) ≡ cond (p x) (numbered p xs ++ x.occ ∷ []) (numbered p xs)
 numbered-cons p x xs = by_test (p x)
     (λ passes. rw passes (reverse-cons x.occ (map (λ (a : Operation). a.occ) (filter p xs))))
     (λ fails. rw fails refl)
@@ -55,8 +59,10 @@ below-all : (p : Operation → Bool) (xs : List Operation) → IsCounted (λ a. 
 below-all p [] counted = tt
 below-all p (x ∷ xs) counted =
     let number = counted.0 in
-    let rest : Below (suc (length xs) + 1) (numbered p xs) = below-more (length xs + 1) (suc (length xs) + 1) (numbered p xs) (below-all p xs counted.1) (omega arith) in
-    subst (λ (ns : List ℕ). Below (suc (length xs) + 1) ns) (sym (numbered-cons p x xs)) (by _ _ (suc (length xs) + 1) (p x) rest (below-end (suc (length xs) + 1) x.occ (numbered p xs) rest (omega (arith, number)))) where
+    let rest : Below (suc (length xs) + 1) (numbered p xs) = below-more (length xs + 1) (suc (length xs) + 1) (numbered p xs)
+    (below-all p xs counted.1) (omega arith) in
+    subst (λ (ns : List ℕ). Below (suc (length xs) + 1) ns) (sym (numbered-cons p x xs))
+    (by _ _ (suc (length xs) + 1) (p x) rest (below-end (suc (length xs) + 1) x.occ (numbered p xs) rest (omega (arith, number)))) where
       by : (P Q : List ℕ) (n : ℕ) (b : Bool) → Below n Q → Below n P → Below n (cond b P Q)
       by P Q n true q p = p
       by P Q n false q p = q
@@ -103,7 +109,8 @@ agree : (p q : Operation → Bool) (o : ℕ) (b : Bool) (xs : List Operation) �
 agree p q o b [] counted low e = refl
 agree p q o b (x ∷ xs) counted low e =
     let number = counted.0 in
-    let other : (o == x.occ) ≡ false = by_test (o == x.occ) (λ same. let is : o ≡ x.occ = eqb-true o x.occ same in absurd (omega (arith, low, number, is))) (λ no. no) in
+    let other : (o == x.occ) ≡ false = by_test (o == x.occ) (λ same. let is : o ≡ x.occ = eqb-true o x.occ same in
+    absurd (omega (arith, low, number, is))) (λ no. no) in
     let same : q x ≡ p x = e x ∙ ap (λ (c : Bool). cond c b (p x)) other in
     let rest = agree p q o b xs counted.1 (omega (arith, low)) e in
     by_test (p x)
@@ -120,7 +127,8 @@ with_one p q o (x ∷ xs) counted low high e =
     (λ same.
     let is : o ≡ x.occ = eqb-true o x.occ same in
     let passes : q x ≡ true = e x ∙ ap (λ (c : Bool). cond c true (p x)) same in
-    let front : numbered q xs ≡ numbered p xs = ap (λ (ys : List Operation). reverse (map (λ (a : Operation). a.occ) ys)) (agree p q o true xs counted.1 (omega (arith, is, number)) e) in
+    let front : numbered q xs ≡ numbered p xs = ap (λ (ys : List Operation). reverse (map (λ (a : Operation). a.occ) ys))
+    (agree p q o true xs counted.1 (omega (arith, is, number)) e) in
     let low_all : Below o (numbered p xs) = subst (λ (n : ℕ). Below n (numbered p xs)) (sym (is ∙ number)) (below-all p xs counted.1) in
     let left : numbered q (x ∷ xs) ≡ numbered p xs ++ o ∷ [] =
     numbered-cons q x xs ∙ (ap (λ (c : Bool). cond c (numbered q xs ++ x.occ ∷ []) (numbered q xs)) passes
@@ -133,12 +141,14 @@ with_one p q o (x ∷ xs) counted low high e =
     numbered-cons q x xs
     ∙ (ap (λ (c : Bool). cond c (numbered q xs ++ x.occ ∷ []) (numbered q xs)) same
     ∙ (ap (λ (ys : List ℕ). cond (p x) (ys ++ x.occ ∷ []) ys) rest
-    ∙ (over (p x) o x.occ (numbered p xs) (omega (arith, high, number, differ)) ∙ ap (λ (ys : List ℕ). with_number o ys) (sym (numbered-cons p x xs)))))) where
+    ∙ (over (p x) o x.occ (numbered p xs) (omega (arith, high, number, differ))
+    ∙ ap (λ (ys : List ℕ). with_number o ys) (sym (numbered-cons p x xs)))))) where
       either : (c : Bool) (y : ℕ) (ms : List ℕ) → o ≡ y → Below o ms → with_number o (cond c (ms ++ y ∷ []) ms) ≡ ms ++ o ∷ []
       either true y ms is b = ap (λ (n : ℕ). with_number o (ms ++ n ∷ [])) (sym is) ∙ with-there o ms b
       either false y ms is b = with-end o ms b
 
-      over : (c : Bool) (n y : ℕ) (ms : List ℕ) → n < y → cond c (with_number n ms ++ y ∷ []) (with_number n ms) ≡ with_number n (cond c (ms ++ y ∷ []) ms)
+      over : (c : Bool) (n y : ℕ) (ms : List ℕ) → n < y → cond c (with_number n ms ++ y ∷ []) (with_number n ms)
+          ≡ with_number n (cond c (ms ++ y ∷ []) ms)
       over true n y ms h = sym (with-front n y ms h)
       over false n y ms h = refl
 
@@ -146,7 +156,8 @@ with_one p q o (x ∷ xs) counted low high e =
 without_one : (p q : Operation → Bool) (o : ℕ) (xs : List Operation) → ((a : Operation) → q a ≡ cond (o == a.occ) false (p a))
     → numbered q xs ≡ without_number o (numbered p xs)
 without_one p q o xs e =
-    ap (λ (ys : List Operation). reverse (map (λ (a : Operation). a.occ) ys)) (filter_both (λ a. not (a.occ == o)) p q xs (λ a. e a ∙ turned (o == a.occ) (a.occ == o) (p a) (flip o a.occ)))
+    ap (λ (ys : List Operation). reverse (map (λ (a : Operation). a.occ) ys))
+    (filter_both (λ a. not (a.occ == o)) p q xs (λ a. e a ∙ turned (o == a.occ) (a.occ == o) (p a) (flip o a.occ)))
     ∙ (ap reverse (sym (filter_map_swap (λ n. not (n == o)) (λ (a : Operation). a.occ) (filter p xs)))
     ∙ sym (filter_reverse (λ n. not (n == o)) (map (λ (a : Operation). a.occ) (filter p xs)))) where
       flip : (a b : ℕ) → (a == b) ≡ (b == a)
@@ -182,7 +193,8 @@ active-step width m H time (Moved o to) legal allowed =
     let within = (found_exactly width m H legal o).0 allowed.0 in
     by_test (is_active to)
     (λ works.
-    with_one (is_worked_on H) (is_worked_on (event time (Moved o to) ∷ H)) o (operations H) (operations_counted width m H legal) within.0 within.1
+    with_one (is_worked_on H) (is_worked_on (event time (Moved o to) ∷ H)) o (operations H)
+    (operations_counted width m H legal) within.0 within.1
     (λ a. worked_moved H time o to a true works)
     ∙ ap (λ (c : Bool). cond c (with_number o (active H)) (without_number o (active H))) (sym works))
     (λ rests.
@@ -192,29 +204,38 @@ active-step width m H time _ legal allowed = refl
 
 fewer : {A : Type 0} → (p : A → Bool) (xs : List A) → length (filter p xs) ≤ length xs
 fewer p [] = omega arith
-fewer p (x ∷ xs) = let rest = fewer p xs in by_test (p x) (λ passes. rw passes (omega (arith, rest))) (λ fails. rw fails (omega (arith, rest)))
+fewer p (x ∷ xs) = let rest = fewer p xs in by_test (p x) (λ passes. rw passes (omega (arith, rest)))
+    (λ fails. rw fails (omega (arith, rest)))
 
 -- at most as many occurrences are active as there are
 few_active : (H : List Event) → length (active H) ≤ length (operations H)
 few_active H =
     let worked : List Operation = filter (is_worked_on H) (operations H) in
-    omega (arith, fewer (is_worked_on H) (operations H), length-reverse (map (λ (a : Operation). a.occ) worked), length-map worked (λ (a : Operation). a.occ))
+    omega (
+      arith,
+      fewer (is_worked_on H) (operations H),
+      length-reverse (map (λ (a : Operation). a.occ) worked),
+      length-map worked (λ (a : Operation). a.occ),
+    )
 
 -- there is a row for each operation
 rows_there : (rs : List OccRow) (H : List Event) → StandsFor rs H → length rs ≡ length (operations H)
-rows_there rs H stands = ap (λ (xs : List OccRow). length xs) stands ∙ (length-reverse (map (row H) (operations H)) ∙ length-map (operations H) (row H))
+rows_there rs H stands = ap (λ (xs : List OccRow). length xs) stands
+    ∙ (length-reverse (map (row H) (operations H)) ∙ length-map (operations H) (row H))
 
 -- each active occurrence has a row
 pub active_fit : (rs : List OccRow) (ns : List ℕ) (H : List Event) → StandsFor rs H → ns ≡ active H → length ns ≤ length rs
 active_fit rs ns H stands is = omega (arith, few_active H, rows_there rs H stands, ap length is)
 
 -- each active occurrence has a row, after a move too
-pub moved_fit : (width m : ℕ) (H : List Event) (e : Event) (o : ℕ) (to : OpState) (rs : List OccRow) (ns : List ℕ) → e.kind ≡ Moved o to → IsLegalWithin width m H
+pub moved_fit : (width m : ℕ) (H : List Event) (e : Event) (o : ℕ) (to : OpState) (rs : List OccRow) (ns : List ℕ) → e.kind ≡ Moved o to
+    → IsLegalWithin width m H
     → IsAllowedWithin width m H e.kind → StandsFor rs H → ns ≡ active H → length (active_moved o to ns) ≤ length rs
 moved_fit width m H e o to rs ns is legal allowed stands was =
     let may : IsAllowedWithin width m H (Moved o to) = subst (λ (k : EventKind). IsAllowedWithin width m H k) is allowed in
     let after = active-step width m H e.moment (Moved o to) legal may in
-    let long : length (active (event e.moment (Moved o to) ∷ H)) ≡ length (active_moved o to ns) = ap length after ∙ ap (λ (ks : List ℕ). length (active_moved o to ks)) (sym was) in
+    let long : length (active (event e.moment (Moved o to) ∷ H)) ≡ length (active_moved o to ns) =
+    ap length after ∙ ap (λ (ks : List ℕ). length (active_moved o to ks)) (sym was) in
     omega (arith, few_active (event e.moment (Moved o to) ∷ H), rows_there rs H stands, long)
 
 -- how many stand at the front that pass a test
@@ -222,7 +243,8 @@ abbrev leading : (ℕ → Bool) → List ℕ → ℕ
 leading p [] = 0
 leading p (n ∷ ns) = cond (p n) (suc (leading p ns)) 0
 
-leading-is : (p : ℕ → Bool) (ns : List ℕ) (k : ℕ) → k ≤ length ns → AllWithin (λ n. p n ≡ true) ns 0 k → AllWithin (λ n. p n ≡ false) ns k (length ns) → k ≡ leading p ns
+leading-is : (p : ℕ → Bool) (ns : List ℕ) (k : ℕ) → k ≤ length ns → AllWithin (λ n. p n ≡ true) ns 0 k
+    → AllWithin (λ n. p n ≡ false) ns k (length ns) → k ≡ leading p ns
 leading-is p [] k h front back = omega (arith, h)
 leading-is p (n ∷ ns) zero h front back = let fails : p n ≡ false = back 0 n (omega arith) (omega arith) in rw fails refl
 leading-is p (n ∷ ns) (suc k) h front back =
@@ -260,7 +282,8 @@ parted after ns r = λ i j d h less passes.
       not-true-of false e = refl
 
 -- the first number above one stands where those up to it end
-pub above_found : (after : ℕ) (ns : List ℕ) (k : ℕ) → k ≤ length ns → IsPartitionPoint (λ n. not (nat_lt after n) ≡ true) (λ n. not (nat_lt after n) ≡ false) ns k
+pub above_found : (after : ℕ) (ns : List ℕ) (k : ℕ) → k ≤ length ns
+    → IsPartitionPoint (λ n. not (nat_lt after n) ≡ true) (λ n. not (nat_lt after n) ≡ false) ns k
     → slice_get ns k ≡ find (λ n. nat_lt after n) ns
 above_found after ns k h point =
     ap (slice_get ns) (leading-is (λ n. not (nat_lt after n)) ns k h point.0 point.1)
@@ -280,7 +303,8 @@ insert-with n (m ∷ ms) f = by_test (nat_lt m n)
 pub there-with : (n : ℕ) (ms : List ℕ) → slice_get ms (first_from n ms) ≡ Some n → ms ≡ with_number n ms
 there-with n [] e = cc
 there-with n (m ∷ ms) e = by_test (nat_lt m n)
-    (λ less. rw less (ap (λ (ks : List ℕ). m ∷ ks) (there-with n ms (subst (λ (b : Bool). slice_get (m ∷ ms) (cond b (suc (first_from n ms)) 0) ≡ Some n) less e))))
+    (λ less. rw less (ap (λ (ks : List ℕ). m ∷ ks) (there-with n ms
+    (subst (λ (b : Bool). slice_get (m ∷ ms) (cond b (suc (first_from n ms)) 0) ≡ Some n) less e))))
     (λ more.
     let is : m ≡ n = some_same (subst (λ (b : Bool). slice_get (m ∷ ms) (cond b (suc (first_from n ms)) 0) ≡ Some n) more e) in
     let same : (m == n) ≡ true = eq-eqb m n is in
@@ -295,13 +319,15 @@ first-within n (m ∷ ms) = by_test (nat_lt m n)
     (λ more. rw more (omega arith))
 
 -- active numbers that followed an event
-pub activated : (width m : ℕ) (H : List Event) (e : Event) (old new : List ℕ) → IsLegalWithin width m H → IsAllowedWithin width m H e.kind → old ≡ active H
+pub activated : (width m : ℕ) (H : List Event) (e : Event) (old new : List ℕ) → IsLegalWithin width m H → IsAllowedWithin width m H e.kind
+    → old ≡ active H
     → new ≡ active_after e.kind old → new ≡ active (e ∷ H)
 activated width m H e old new legal allowed was is =
     is ∙ (ap (λ (ns : List ℕ). active_after e.kind ns) was ∙ sym (active-step width m H e.moment e.kind legal allowed))
 
 -- an event that neither asks nor moves leaves the active numbers
-pub unmoved : (k : EventKind) (ns : List ℕ) → ((a : Operation) → k ≡ Asked a → ⊥) → ((o : ℕ) (to : OpState) → k ≡ Moved o to → ⊥) → ns ≡ active_after k ns
+pub unmoved : (k : EventKind) (ns : List ℕ) → ((a : Operation) → k ≡ Asked a → ⊥) → ((o : ℕ) (to : OpState) → k ≡ Moved o to → ⊥)
+    → ns ≡ active_after k ns
 unmoved (Asked a) ns f g = absurd (f a refl)
 unmoved (Moved o to) ns f g = absurd (g o to refl)
 unmoved _ ns f g = refl

@@ -1,5 +1,6 @@
 -- Which instances operations are of, and which descriptors they were made of.
-use Rattle.std.proofs.Common.{◌≡◌, ◌≢◌, ◌≤◌, ◌+◌, ◌-◌, ◌==◌, ◌∙◌, ℕ, List, [], ◌∷◌, Bool, true, false, cond, not, Option, None, is_some, refl, ap, sym, subst, length, map, find, reverse, slice_get, arith, eqb-true, false-eqb, inl, inr, option_map}
+use Rattle.std.proofs.Common.{◌≡◌, ◌≢◌, ◌≤◌, ◌+◌, ◌-◌, ◌==◌, ◌∙◌, ℕ, List, [], ◌∷◌, Bool, true, false, cond, not, Option, None, is_some}
+use Rattle.std.proofs.Common.{refl, ap, sym, subst, length, map, find, reverse, slice_get, arith, eqb-true, false-eqb, inl, inr, option_map}
 use Rattle.std.specs.Prelude.{unwrap_or}
 use Rattle.std.proofs.lemmas.List.{length-map, length-reverse}
 use mathlib.Core.List.{reverse-cons}
@@ -20,7 +21,8 @@ use Rattle.occ_table.proofs.Updates.{get-front, get-last}
 -- the number of a live instance
 pub live_number : (width m : ℕ) (H : List Event) (i : ℕ) → IsLegalWithin width m H → is_live H i ≡ true → (1 ≤ i) × (i ≤ instances_made H)
 live_number width m H i legal live =
-    found_within (λ x. x.instance) (creations H) i (instances_counted width m H legal) (and_left (is_some (creation H i)) (not (is_deleted H i)) live)
+    found_within (λ x. x.instance) (creations H) i (instances_counted width m H legal)
+    (and_left (is_some (creation H i)) (not (is_deleted H i)) live)
 
 abbrev pub AllHomed : List Event → Type 0
 AllHomed H = (a : Operation) → IsIn a (operations H) → (1 ≤ a.instance) × (a.instance ≤ instances_made H)
@@ -28,14 +30,16 @@ AllHomed H = (a : Operation) → IsIn a (operations H) → (1 ≤ a.instance) ×
 homed_step : (width m : ℕ) (H : List Event) (time : ℕ) (k : EventKind) → IsLegalWithin width m H → IsAllowedWithin width m H k → AllHomed H
     → AllHomed (event time k ∷ H)
 homed_step width m H time (Asked b) legal allowed h a (inl is) =
-    subst (λ (i : ℕ). (1 ≤ i) × (i ≤ instances_made H)) (ap (λ (x : Operation). x.instance) is) (live_number width m H b.instance legal allowed.live)
+    subst (λ (i : ℕ). (1 ≤ i) × (i ≤ instances_made H)) (ap (λ (x : Operation). x.instance) is)
+    (live_number width m H b.instance legal allowed.live)
 homed_step width m H time (Asked b) legal allowed h a (inr g) = h a g
 homed_step width m H time (Created i vnfd name text) legal allowed h a g = let from = h a g in (from.0, omega (arith, from.1))
 homed_step width m H time _ legal allowed h a g = h a g
 
 -- an operation's instance is from 1 to how many were created
 pub homed : (width m : ℕ) (H : List Event) → IsLegalWithin width m H → AllHomed H
-homed width m H legal = legal_induction width m AllHomed (λ a h. absurd h) (λ H time k legal allowed h. homed_step width m H time k legal allowed h) H legal
+homed width m H legal = legal_induction width m AllHomed (λ a h. absurd h)
+    (λ H time k legal allowed h. homed_step width m H time k legal allowed h) H legal
 
 pub not_zero : (i : ℕ) → 1 ≤ i → (i == 0) ≡ false
 not_zero i low = by_test (i == 0) (λ same. let is : i ≡ 0 = eqb-true i 0 same in absurd (omega (arith, low, is))) (λ other. other)
@@ -61,7 +65,8 @@ placed {A} {B} number f (x ∷ xs) n counted low =
 pub described_at : (width m : ℕ) (H : List Event) (i : ℕ) → IsLegalWithin width m H → 1 ≤ i → vnfd_in i (vnfds H) ≡ vnfd H i
 described_at width m H i legal low =
     ap (λ (b : Bool). unwrap_or (cond b None (slice_get (vnfds H) (i - 1))) []) (not_zero i low)
-    ∙ ap (λ (x : Option (List ℕ)). unwrap_or x []) (placed (λ (x : CreatedInstance). x.instance) (λ (x : CreatedInstance). x.vnfd) (creations H) i (instances_counted width m H legal) low)
+    ∙ ap (λ (x : Option (List ℕ)). unwrap_or x []) (placed (λ (x : CreatedInstance). x.instance) (λ (x : CreatedInstance). x.vnfd)
+    (creations H) i (instances_counted width m H legal) low)
 
 -- what an event makes of the descriptors
 vnfds-step : (H : List Event) (time : ℕ) (k : EventKind) → vnfds (event time k ∷ H) ≡ vnfds_after k (vnfds H)
@@ -69,10 +74,12 @@ vnfds-step H time (Created i v name text) = reverse-cons v (map (λ (x : Created
 vnfds-step H time _ = refl
 
 -- descriptors that followed an event
-pub redescribed : (H : List Event) (e : Event) (old new : List (List ℕ)) → old ≡ vnfds H → new ≡ vnfds_after e.kind old → new ≡ vnfds (e ∷ H)
+pub redescribed : (H : List Event) (e : Event) (old new : List (List ℕ)) → old ≡ vnfds H → new ≡ vnfds_after e.kind old
+    → new ≡ vnfds (e ∷ H)
 redescribed H e old new was is = is ∙ (ap (λ (vs : List (List ℕ)). vnfds_after e.kind vs) was ∙ sym (vnfds-step H e.moment e.kind))
 
 -- an event that creates no instance leaves the descriptors
-pub undescribed : (k : EventKind) (vs : List (List ℕ)) → ((i : ℕ) (v : List ℕ) (name text : Option (List ℕ)) → k ≡ Created i v name text → ⊥) → vs ≡ vnfds_after k vs
+pub undescribed : (k : EventKind) (vs : List (List ℕ)) → ((i : ℕ) (v : List ℕ) (name text : Option (List ℕ)) → k ≡ Created i v name text
+    → ⊥) → vs ≡ vnfds_after k vs
 undescribed (Created i v name text) vs f = absurd (f i v name text refl)
 undescribed _ vs f = refl

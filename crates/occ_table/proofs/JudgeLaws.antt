@@ -1,5 +1,6 @@
 -- What is allowed of an occurrence, by its row.
-use Rattle.std.proofs.Common.{◌≡◌, ◌||◌, ◌&&◌, ◌∙◌, ◌↔◌, ℕ, List, [], ◌∷◌, Bool, true, false, not, Option, None, Some, is_some, refl, ap, sym, subst, map, option_map, eq-eqb, find, ◌==◌, inl, inr}
+use Rattle.std.proofs.Common.{◌≡◌, ◌||◌, ◌&&◌, ◌∙◌, ◌↔◌, ℕ, List, [], ◌∷◌, Bool, true, false, not, Option, None, Some, is_some, refl, ap}
+use Rattle.std.proofs.Common.{sym, subst, map, option_map, eq-eqb, find, ◌==◌, inl, inr}
 use Rattle.std.specs.List.{list_any}
 use Rattle.lcm_events.specs.Same.{same_tag}
 use Rattle.lcm_events.proofs.SameLaws.{same_tag-true}
@@ -52,7 +53,8 @@ open_own : (H : List Event) (t : Tag) → list_any (same_tag t) (open_of H t.occ
 open_own H t =
     same_from_both _ _ (any_of_filter (same_tag t) (is_of_occurrence t.occ) (open_tags H))
     (any_filter (same_tag t) (is_of_occurrence t.occ) (open_tags H)
-    (λ x same. let is : t ≡ x = same_tag-true t x same in subst (λ (y : Tag). is_of_occurrence t.occ y ≡ true) is (eq-eqb t.occ t.occ refl)))
+    (λ x same. let is : t ≡ x = same_tag-true t x same in subst (λ (y : Tag). is_of_occurrence t.occ y ≡ true) is
+    (eq-eqb t.occ t.occ refl)))
 
 open_pending : (H : List Event) (t : Tag) → has_open_among t (pendings H t.occ) ≡ is_open H t
 open_pending H t =
@@ -60,7 +62,8 @@ open_pending H t =
     ∙ (any_map (λ (p : Pending). same_tag t p.tag) (pending_of H) (open_of H t.occ) ∙ open_own H t)
 
 -- the row of an occurrence that is found
-pub found_row : (H : List Event) (n : ℕ) (r : OccRow) → occurrence H n ≡ Some r → (a : Operation) × (operation H n ≡ Some a) × (a.occ ≡ n) × (row H a ≡ r)
+pub found_row : (H : List Event) (n : ℕ) (r : OccRow) → occurrence H n ≡ Some r
+    → (a : Operation) × (operation H n ≡ Some a) × (a.occ ≡ n) × (row H a ≡ r)
 found_row H n r e =
     let mine = from_map (row H) (operation H n) r e in
     (mine.0, mine.1, found_number (λ x. x.occ) (operations H) n mine.0 mine.1, mine.2)
@@ -78,20 +81,24 @@ open_none width m H t legal e =
     let still = unasked_untouched width m H legal t.occ (none_of (row H) (operation H t.occ) e) in
     sym (open_own H t) ∙ ap (λ (ts : List Tag). list_any (same_tag t) ts) still.none_open
 
-pub settle_there : (H : List Event) (t : Tag) (r : OccRow) (answer : Bool) → occurrence H t.occ ≡ Some r → answer ≡ has_open_among t r.pending
+pub settle_there : (H : List Event) (t : Tag) (r : OccRow) (answer : Bool) → occurrence H t.occ ≡ Some r
+    → answer ≡ has_open_among t r.pending
     → (answer ≡ true) ↔ (is_open H t ≡ true)
 settle_there H t r answer e is =
     let same : answer ≡ is_open H t = is ∙ open_row H t r e in
     (λ h. sym same ∙ h, λ h. same ∙ h)
 
-pub settle_none : (width m : ℕ) (H : List Event) (t : Tag) → IsLegalWithin width m H → occurrence H t.occ ≡ None → (false ≡ true) ↔ (is_open H t ≡ true)
+pub settle_none : (width m : ℕ) (H : List Event) (t : Tag) → IsLegalWithin width m H → occurrence H t.occ ≡ None
+    → (false ≡ true) ↔ (is_open H t ≡ true)
 settle_none width m H t legal e = (λ h. cc, λ h. sym (open_none width m H t legal e) ∙ h)
 
-failed_row : (H : List Event) (t : Tag) (r : OccRow) → occurrence H t.occ ≡ Some r → is_open H t ≡ true → has_call_failed H t ≡ has_failed_among t r.pending
+failed_row : (H : List Event) (t : Tag) (r : OccRow) → occurrence H t.occ ≡ Some r → is_open H t ≡ true
+    → has_call_failed H t ≡ has_failed_among t r.pending
 failed_row H t r e opened =
     known_failed H t t.occ opened (eq-eqb t.occ t.occ refl) ∙ ap (λ (ps : List Pending). has_failed_among t ps) (its_pendings H t.occ r e)
 
-fail_there : (H : List Event) (t : Tag) (r : OccRow) (begun failed : Bool) → occurrence H t.occ ≡ Some r → begun ≡ has_open_among t r.pending
+fail_there : (H : List Event) (t : Tag) (r : OccRow) (begun failed : Bool) → occurrence H t.occ ≡ Some r
+    → begun ≡ has_open_among t r.pending
     → failed ≡ has_failed_among t r.pending → ((begun && not failed) ≡ true) ↔ (is_open H t ≡ true) × (has_call_failed H t ≡ false)
 fail_there H t r begun failed e is was = (
   λ h.
@@ -113,13 +120,15 @@ cancel_there H n r answer e is =
       λ h. (is ∙ ap is_active at) ∙ h.1,
     )
 
-pub cancel_none : (H : List Event) (n : ℕ) → occurrence H n ≡ None → (false ≡ true) ↔ (is_some (operation H n) ≡ true) × (is_active (state H n) ≡ true)
+pub cancel_none : (H : List Event) (n : ℕ) → occurrence H n ≡ None
+    → (false ≡ true) ↔ (is_some (operation H n) ≡ true) × (is_active (state H n) ≡ true)
 cancel_none H n e =
     let none : operation H n ≡ None = none_of (row H) (operation H n) e in
     (λ h. cc, λ h. sym (ap (λ (x : Option Operation). is_some x) none) ∙ h.0)
 
 pub fail_row : (H : List Event) (t : Tag) (r : OccRow) (answer : Bool) → occurrence H t.occ ≡ Some r
-    → answer ≡ (has_open_among t r.pending && not (has_failed_among t r.pending)) → (answer ≡ true) ↔ (is_open H t ≡ true) × (has_call_failed H t ≡ false)
+    → answer ≡ (has_open_among t r.pending && not (has_failed_among t r.pending))
+    → (answer ≡ true) ↔ (is_open H t ≡ true) × (has_call_failed H t ≡ false)
 fail_row H t r answer e is =
     let both = fail_there H t r (has_open_among t r.pending) (has_failed_among t r.pending) e refl refl in
     (λ h. both.0 (sym is ∙ h), λ h. is ∙ both.1 h)

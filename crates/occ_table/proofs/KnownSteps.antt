@@ -1,5 +1,6 @@
 -- What each event makes of what is known of a definition.
-use Rattle.std.proofs.Common.{◌≡◌, ◌≤◌, ◌-◌, ◌==◌, ◌&&◌, ◌∙◌, ℕ, List, [], ◌∷◌, Bool, true, false, cond, Option, None, Some, refl, ap, sym, subst, filter, slice_get, eqb-true, inl, inr}
+use Rattle.std.proofs.Common.{◌≡◌, ◌≤◌, ◌-◌, ◌==◌, ◌&&◌, ◌∙◌, ℕ, List, [], ◌∷◌, Bool, true, false, cond, Option, None, Some, refl, ap, sym}
+use Rattle.std.proofs.Common.{subst, filter, slice_get, eqb-true, inl, inr}
 use Rattle.std.specs.List.{cons_option, list_any}
 use Rattle.std.specs.Prelude.{if◌then◌else◌, nat_le, option_and_then, option_map, ◌||◌}
 use Rattle.lcm_events.specs.Same.{same_def, same_verb, same_way}
@@ -20,7 +21,8 @@ use Rattle.lcm_events.specs.declared.places.Place.{Place}
 use Rattle.lcm_model.specs.declared.holding.Effect.{Effect}
 use Rattle.lcm_model.specs.Allowed.{IsAllowedWithin, IsLegalWithin}
 use Rattle.lcm_model.specs.Attempts.{is_open}
-use Rattle.lcm_model.specs.Grants.{Covering, GivenGrant, GrantAnswer, Refused, Tried, answers, grant, granted_place, has_ended, is_covering, is_granted, is_last, place_at, troubled_tries}
+use Rattle.lcm_model.specs.Grants.{Covering, GivenGrant, GrantAnswer, Refused, Tried, answers, grant, granted_place, has_ended, is_covering}
+use Rattle.lcm_model.specs.Grants.{is_granted, is_last, place_at, troubled_tries}
 use Rattle.lcm_model.specs.Holding.{effect, effect_done, effect_in, effects, is_creation, is_effect_on, is_forward_creation}
 use Rattle.lcm_model.specs.Operations.{operation, operations}
 use Rattle.lcm_model.specs.Words.{IsIn, first, told}
@@ -47,7 +49,8 @@ use Rattle.occ_table.specs.declared.used.Used.{Used}
 abbrev FromGranted : List Event → Type 0
 FromGranted H = (y : Effect) → IsIn y (told effect_in H) → is_granted H y.tag.occ ≡ true
 
-by_change : (H : List Event) (t : Tag) (name : List ℕ) (a : Operation) (y : Effect) (c : Option Change) → option_map (effect t name a) c ≡ Some y → y.tag ≡ t
+by_change : (H : List Event) (t : Tag) (name : List ℕ) (a : Operation) (y : Effect) (c : Option Change)
+    → option_map (effect t name a) c ≡ Some y → y.tag ≡ t
 by_change H t name a y None e = cc
 by_change H t name a y (Some c) e = let same : effect t name a c ≡ y = cc in sym (ap (λ (z : Effect). z.tag) same)
 
@@ -60,7 +63,8 @@ pub of_attempt : (H : List Event) (t : Tag) (outcome : Outcome) (y : Effect) →
 of_attempt H t (Done name) y e = by_operation H t name y (operation H t.occ) e
 of_attempt H t _ y e = cc
 
-new_granted : (width m : ℕ) (H : List Event) (k : EventKind) (y : Effect) → IsLegalWithin width m H → IsAllowedWithin width m H k → effect_in H k ≡ Some y
+new_granted : (width m : ℕ) (H : List Event) (k : EventKind) (y : Effect) → IsLegalWithin width m H → IsAllowedWithin width m H k
+    → effect_in H k ≡ Some y
     → is_granted H y.tag.occ ≡ true
 unfolding effect_in
 new_granted width m H (Settled t outcome) y legal allowed is =
@@ -97,7 +101,8 @@ first_of x [] e = cc
 first_of x (y ∷ xs) e = inl cc
 
 -- a later grant leaves the places of what was made
-place_stays : (width m : ℕ) (H : List Event) (time n : ℕ) (name : List ℕ) (places : List Place) (spots : List ℕ) (i : ℕ) (x : Def) (o : Option Effect) → IsLegalWithin width m H
+place_stays : (width m : ℕ) (H : List Event) (time n : ℕ) (name : List ℕ) (places : List Place) (spots : List ℕ) (i : ℕ) (x : Def)
+    (o : Option Effect) → IsLegalWithin width m H
     → IsAllowedWithin width m H (Granted n name places spots) → first (filter is_forward_creation (effects H i x)) ≡ o
     → option_and_then (λ y. granted_place (event time (Granted n name places spots) ∷ H) y.tag.occ y.tag.change) o
     ≡ option_and_then (λ y. granted_place H y.tag.occ y.tag.change) o
@@ -124,7 +129,8 @@ known_after (Some d) f i x = if is_creation d.effect && is_effect_on i x d.effec
 
 -- the first of what passes a test of all that pass another
 placed_again : (ys : List Effect) (f : Effect → Option Place)
-    → option_map (λ u. u.place) (placed (option_map (λ y. y.resource) (first (filter is_creation ys))) (option_and_then f (first (filter is_forward_creation ys))))
+    → option_map (λ u. u.place) (placed (option_map (λ y. y.resource) (first (filter is_creation ys)))
+    (option_and_then f (first (filter is_forward_creation ys))))
     ≡ option_and_then f (first (filter is_forward_creation ys))
 placed_again [] f = refl
 placed_again (y ∷ ys) f = by_test (same_verb y.verb Create)
@@ -139,25 +145,29 @@ placed_again (y ∷ ys) f = by_test (same_verb y.verb Create)
 -- what is known of a definition once one more effect is there
 one_more : (H : List Event) (y : Effect) (i : ℕ) (x : Def)
     → placed (option_map (λ y. y.resource) (first (filter is_creation (cond (is_effect_on i x y) (y ∷ effects H i x) (effects H i x)))))
-    (option_and_then (λ y. granted_place H y.tag.occ y.tag.change) (first (filter is_forward_creation (cond (is_effect_on i x y) (y ∷ effects H i x) (effects H i x)))))
+    (option_and_then (λ y. granted_place H y.tag.occ y.tag.change)
+    (first (filter is_forward_creation (cond (is_effect_on i x y) (y ∷ effects H i x) (effects H i x)))))
     ≡ known_after (Some (deed_done H y)) (known H) i x
 one_more H y i x = by_test (is_effect_on i x y)
     (λ on. by_test (same_verb y.verb Create)
     (λ creates. by_test (same_way y.tag.way Forward)
     (λ forward. rw (on, creates, forward) refl)
-    (λ undo. rw (on, creates, undo) (ap (λ (p : Option Place). placed (Some y.resource) p) (sym (placed_again (effects H i x) (λ y. granted_place H y.tag.occ y.tag.change))))))
+    (λ undo. rw (on, creates, undo) (ap (λ (p : Option Place). placed (Some y.resource) p)
+    (sym (placed_again (effects H i x) (λ y. granted_place H y.tag.occ y.tag.change))))))
     (λ other. rw (on, other) refl))
     (λ off. by_test (same_verb y.verb Create) (λ creates. rw (off, creates) refl) (λ other. rw (off, other) refl))
 
 by_effect : (H : List Event) (o : Option Effect) (i : ℕ) (x : Def)
     → placed (option_map (λ y. y.resource) (first (filter is_creation (filter (is_effect_on i x) (cons_option o (told effect_in H))))))
-    (option_and_then (λ y. granted_place H y.tag.occ y.tag.change) (first (filter is_forward_creation (filter (is_effect_on i x) (cons_option o (told effect_in H))))))
+    (option_and_then (λ y. granted_place H y.tag.occ y.tag.change)
+    (first (filter is_forward_creation (filter (is_effect_on i x) (cons_option o (told effect_in H))))))
     ≡ known_after (option_map (deed_done H) o) (known H) i x
 by_effect H None i x = refl
 by_effect H (Some y) i x = one_more H y i x
 
 -- what an event makes of what is known of a definition
-pub known-step : (width m : ℕ) (H : List Event) (time : ℕ) (k : EventKind) (i : ℕ) (x : Def) → IsLegalWithin width m H → IsAllowedWithin width m H k
+pub known-step : (width m : ℕ) (H : List Event) (time : ℕ) (k : EventKind) (i : ℕ) (x : Def) → IsLegalWithin width m H
+    → IsAllowedWithin width m H k
     → known (event time k ∷ H) i x ≡ known_after (option_map (deed_done H) (effect_in H k)) (known H) i x
 unfolding effect_in
 known-step width m H time (Settled t outcome) i x legal allowed = by_effect H (effect_done H t outcome) i x
@@ -167,7 +177,8 @@ known-step width m H time (Granted n name places spots) i x legal allowed =
 known-step width m H time _ i x legal allowed = refl
 
 given_place : (over : Bool) (c : ℕ) (g : Option GivenGrant) → over ≡ false
-    → option_and_then (λ g. place_at g.places g.spots c) (option_map (kept_grant over) g) ≡ option_and_then (λ g. place_at g.places g.spots c) g
+    → option_and_then (λ g. place_at g.places g.spots c) (option_map (kept_grant over) g)
+    ≡ option_and_then (λ g. place_at g.places g.spots c) g
 given_place true c g e = cc
 given_place false c None e = refl
 given_place false c (Some g) e = refl
@@ -176,19 +187,23 @@ given_place false c (Some g) e = refl
 row_place : (H : List Event) (a : Operation) (c : ℕ) → is_over H a.occ ≡ false → place_by c (row H a) ≡ granted_place H a.occ c
 row_place H a c going = given_place (is_over H a.occ) c (grant H a.occ) going ∙ sym (place_grant H a.occ c)
 
-by_row : (H : List Event) (t : Tag) (name : List ℕ) (a : Operation) (c : Option Change) → place_by t.change (row H a) ≡ granted_place H t.occ t.change
-    → option_map (λ c. record { effect = effect t name a c; place = place_by t.change (row H a) }) c ≡ option_map (deed_done H) (option_map (effect t name a) c)
+by_row : (H : List Event) (t : Tag) (name : List ℕ) (a : Operation) (c : Option Change)
+    → place_by t.change (row H a) ≡ granted_place H t.occ t.change
+    → option_map (λ c. record { effect = effect t name a c; place = place_by t.change (row H a) }) c
+    ≡ option_map (deed_done H) (option_map (effect t name a) c)
 by_row H t name a None is = refl
 by_row H t name a (Some c) is = ap (λ (p : Option Place). Some (record { effect = effect t name a c; place = p })) is
 
 -- the row of an operation is found under its number
-pub row_numbered : (width m : ℕ) (H : List Event) (rs : List OccRow) (o : ℕ) (a : Operation) → IsLegalWithin width m H → StandsFor rs H → 1 ≤ o → operation H o ≡ Some a
+pub row_numbered : (width m : ℕ) (H : List Event) (rs : List OccRow) (o : ℕ) (a : Operation) → IsLegalWithin width m H → StandsFor rs H
+    → 1 ≤ o → operation H o ≡ Some a
     → numbered o rs ≡ Some (row H a)
 row_numbered width m H rs o a legal stands from is =
     ap (λ (b : Bool). cond b None (slice_get rs (o - 1))) (not_zero o from)
     ∙ (looked width m H rs o legal stands from ∙ ap (λ (x : Option Operation). option_map (row H) x) is)
 
-done_deed : (width m : ℕ) (H : List Event) (rs : List OccRow) (t : Tag) (name : List ℕ) → IsLegalWithin width m H → is_open H t ≡ true → StandsFor rs H
+done_deed : (width m : ℕ) (H : List Event) (rs : List OccRow) (t : Tag) (name : List ℕ) → IsLegalWithin width m H → is_open H t ≡ true
+    → StandsFor rs H
     → deed_of t (Done name) rs ≡ option_map (deed_done H) (effect_done H t (Done name))
 done_deed width m H rs t name legal opened stands =
     let mine = open_operation width m H t legal opened in
@@ -200,10 +215,12 @@ done_deed width m H rs t name legal opened stands =
     row_place H mine.0 t.change going ∙ ap (λ (o : ℕ). granted_place H o t.change) number in
     ap (λ (r : Option OccRow). option_and_then (deed_by t name) r) (row_numbered width m H rs t.occ mine.0 legal stands from mine.1)
     ∙ (by_row H t name mine.0 (slice_get mine.0.changes t.change) place
-    ∙ ap (λ (a : Option Operation). option_map (deed_done H) (option_and_then (λ a. option_map (effect t name a) (slice_get a.changes t.change)) a)) (sym mine.1))
+    ∙ ap (λ (a : Option Operation). option_map (deed_done H) (option_and_then
+    (λ a. option_map (effect t name a) (slice_get a.changes t.change)) a)) (sym mine.1))
 
 -- what an event says that an attempt did, by the rows of its past
-pub deeds : (width m : ℕ) (H : List Event) (rs : List OccRow) (k : EventKind) → IsLegalWithin width m H → IsAllowedWithin width m H k → StandsFor rs H
+pub deeds : (width m : ℕ) (H : List Event) (rs : List OccRow) (k : EventKind) → IsLegalWithin width m H → IsAllowedWithin width m H k
+    → StandsFor rs H
     → deed_in k rs ≡ option_map (deed_done H) (effect_in H k)
 unfolding effect_in
 deeds width m H rs (Settled t (Done name)) legal allowed stands = done_deed width m H rs t name legal allowed stands
@@ -215,7 +232,8 @@ pub on_own : (y : Effect) → is_effect_on y.instance y.def y ≡ true
 on_own y = and_true (y.instance == y.instance) (same_def y.def y.def) (eq-refl y.instance) (same_def-refl y.def)
 
 -- what is known of the definition of an effect after it is what that used, where it wasn't an undo
-pub own_use : (H : List Event) (y : Effect) → same_way y.tag.way Forward ≡ true → known_after (Some (deed_done H y)) (known H) y.instance y.def ≡ used_by H y
+pub own_use : (H : List Event) (y : Effect) → same_way y.tag.way Forward ≡ true
+    → known_after (Some (deed_done H y)) (known H) y.instance y.def ≡ used_by H y
 own_use H y forward =
     let own : is_effect_on y.instance y.def y ≡ true = on_own y in
     by_test (same_verb y.verb Create) (λ creates. rw (creates, own, forward) refl) (λ other. rw other refl)

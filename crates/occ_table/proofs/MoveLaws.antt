@@ -1,5 +1,6 @@
 -- How an occurrence may move, by its row.
-use Rattle.std.proofs.Common.{◌≡◌, ◌||◌, ◌&&◌, ◌==◌, ◌∙◌, ◌↔◌, ◌+◌, ℕ, List, [], ◌∷◌, Bool, true, false, cond, not, Option, None, Some, is_some, refl, ap, sym, subst, length, map, option_map, arith}
+use Rattle.std.proofs.Common.{◌≡◌, ◌||◌, ◌&&◌, ◌==◌, ◌∙◌, ◌↔◌, ◌+◌, ℕ, List, [], ◌∷◌, Bool, true, false, cond, not, Option, None, Some}
+use Rattle.std.proofs.Common.{is_some, refl, ap, sym, subst, length, map, option_map, arith}
 use Rattle.std.specs.Prelude.{is_none}
 use Rattle.std.specs.List.{enumerate_from, list_all, list_any, range_with_len}
 use Rattle.std.proofs.lemmas.List.{length-map, length-reverse}
@@ -10,7 +11,8 @@ use Rattle.lcm_events.specs.declared.events.Operation.{Operation}
 use Rattle.lcm_events.specs.declared.states.CancelMode.{CancelMode}
 use Rattle.lcm_events.specs.declared.states.CancelMode.TheVariants.{Forceful, Graceful}
 use Rattle.lcm_events.specs.declared.states.OpState.{OpState}
-use Rattle.lcm_events.specs.declared.states.OpState.TheVariants.{Completed, Failed, FailedTemp, Processing, RolledBack, RollingBack, Starting}
+use Rattle.lcm_events.specs.declared.states.OpState.TheVariants.{Completed, Failed, FailedTemp, Processing, RolledBack, RollingBack}
+use Rattle.lcm_events.specs.declared.states.OpState.TheVariants.{Starting}
 use Rattle.lcm_model.specs.Attempts.{net, open_of}
 use Rattle.lcm_model.specs.Grants.{grant, has_ended, is_granted}
 use Rattle.lcm_model.specs.Moves.{state}
@@ -40,7 +42,8 @@ some_map f (Some a) = refl
 granted_row : (H : List Event) (a : Operation) → is_some (row H a).grant ≡ is_granted H a.occ
 granted_row H a = some_map (kept_grant (is_over H a.occ)) (grant H a.occ) ∙ sym (granted_grant H a.occ)
 
-mode_there : (cs : List CancelMode) → is_some (cond (list_any is_forceful cs) (Some Forceful) (cond (is_some (first cs)) (Some Graceful) None)) ≡ is_some (first cs)
+mode_there : (cs : List CancelMode) → is_some (cond (list_any is_forceful cs) (Some Forceful)
+    (cond (is_some (first cs)) (Some Graceful) None)) ≡ is_some (first cs)
 mode_there [] = refl
 mode_there (c ∷ cs) = either (list_any is_forceful (c ∷ cs)) where
   either : (b : Bool) → is_some (cond b (Some Forceful) (Some Graceful)) ≡ true
@@ -68,24 +71,30 @@ none_long (p ∷ ps) [] e = absurd (omega (arith, e))
 none_long (p ∷ ps) (t ∷ ts) e = (λ h. cc, λ h. cc)
 
 pub none_row : (H : List Event) (o : ℕ) → (none_open (pendings H o) ≡ true) ↔ (open_of H o ≡ [])
-none_row H o = none_long (pendings H o) (open_of H o) (length-reverse (map (pending_of H) (open_of H o)) ∙ length-map (open_of H o) (pending_of H))
+none_row H o = none_long (pendings H o) (open_of H o) (length-reverse (map (pending_of H) (open_of H o))
+    ∙ length-map (open_of H o) (pending_of H))
 
 nets_all : (H : List Event) (o k j : ℕ) (xs : List Change)
-    → list_all (through (λ p. true) k) (zip xs (map (net H o) (range_with_len j (length xs)))) ≡ list_all (has_net H o k) (enumerate_from j xs)
+    → list_all (through (λ p. true) k) (zip xs (map (net H o) (range_with_len j (length xs))))
+    ≡ list_all (has_net H o k) (enumerate_from j xs)
 unfolding has_net
 nets_all H o k j [] = refl
 nets_all H o k j (x ∷ xs) = ap (λ (b : Bool). (net H o j == k) && b) (nets_all H o k (j + 1) xs)
 
-nets_row : (H : List Event) (a : Operation) (k : ℕ) → operation H a.occ ≡ Some a → list_all (through (λ p. true) k) (zip a.changes (nets H a)) ≡ all_have_net H a.occ k
+nets_row : (H : List Event) (a : Operation) (k : ℕ) → operation H a.occ ≡ Some a
+    → list_all (through (λ p. true) k) (zip a.changes (nets H a)) ≡ all_have_net H a.occ k
 nets_row H a k e = nets_all H a.occ k 0 a.changes ∙ sym (rw e refl)
 
-all_made : (width m : ℕ) (H : List Event) (a : Operation) → IsLegalWithin width m H → operation H a.occ ≡ Some a → none_counted (row H a).waiting ≡ all_have_net H a.occ 1
+all_made : (width m : ℕ) (H : List Event) (a : Operation) → IsLegalWithin width m H → operation H a.occ ≡ Some a
+    → none_counted (row H a).waiting ≡ all_have_net H a.occ 1
 all_made width m H a legal e =
     none-counts 1 0 a.changes (nets H a) (sound_made width m H a legal (found_in (λ x. x.occ) (operations H) a.occ a e)) ∙ nets_row H a 1 e
 
-all_undone : (width m : ℕ) (H : List Event) (a : Operation) → IsLegalWithin width m H → operation H a.occ ≡ Some a → none_counted (row H a).made ≡ all_have_net H a.occ 0
+all_undone : (width m : ℕ) (H : List Event) (a : Operation) → IsLegalWithin width m H → operation H a.occ ≡ Some a
+    → none_counted (row H a).made ≡ all_have_net H a.occ 0
 all_undone width m H a legal e =
-    none-counts 0 1 a.changes (nets H a) (sound_undone width m H a legal (found_in (λ x. x.occ) (operations H) a.occ a e)) ∙ nets_row H a 0 e
+    none-counts 0 1 a.changes (nets H a) (sound_undone width m H a legal (found_in (λ x. x.occ) (operations H) a.occ a e))
+    ∙ nets_row H a 0 e
 
 quiet_row : (H : List Event) (a : Operation) → (is_quiet_row (row H a) ≡ true) ↔ IsQuiet H a.occ
 quiet_row H a =
@@ -116,9 +125,11 @@ stopped_row H a =
 
 gives_up_same : (H : List Event) (a : Operation) → gives_up_row (row H a) ≡ gives_up H a.occ
 gives_up_same H a =
-    ap (λ (f : Bool). f || (has_ended H a.occ && not (is_some (row H a).grant)) || (is_some (row H a).grant && is_some (cancel H a.occ))) (forced_row H a.occ)
+    ap (λ (f : Bool). f || (has_ended H a.occ && not (is_some (row H a).grant)) || (is_some (row H a).grant && is_some (cancel H a.occ)))
+    (forced_row H a.occ)
     ∙ (ap (λ (g : Bool). is_forced H a.occ || (has_ended H a.occ && not g) || (g && is_some (cancel H a.occ))) (granted_row H a)
-    ∙ ap (λ (c : Bool). is_forced H a.occ || (has_ended H a.occ && not (is_granted H a.occ)) || (is_granted H a.occ && c)) (cancelled_row H a.occ))
+    ∙ ap (λ (c : Bool). is_forced H a.occ || (has_ended H a.occ && not (is_granted H a.occ)) || (is_granted H a.occ && c))
+    (cancelled_row H a.occ))
 
 by_same : (x y : Bool) → x ≡ y → (x ≡ true) ↔ (y ≡ true)
 by_same x y e = (λ h. sym e ∙ h, λ h. e ∙ h)
@@ -132,7 +143,11 @@ not_same b c e = (λ h. sym e ∙ not-true b h, λ h. not-false b (e ∙ h))
 moves_same : (width m : ℕ) (H : List Event) (a : Operation) → IsLegalWithin width m H → operation H a.occ ≡ Some a → (from to : OpState)
     → (may_move_from from to (row H a) ≡ true) ↔ MayMove H a.occ from to
 moves_same width m H a legal e Starting Processing = (
-  λ h. (sym (granted_row H a) ∙ and_left _ _ h, not-true _ (ap not (sym (cancelled_row H a.occ)) ∙ (sym (none-some (cancel H a.occ)) ∙ and_right (is_some (row H a).grant) _ h))),
+  λ h. (
+    sym (granted_row H a) ∙ and_left _ _ h,
+    not-true _ (ap not (sym (cancelled_row H a.occ))
+        ∙ (sym (none-some (cancel H a.occ)) ∙ and_right (is_some (row H a).grant) _ h)),
+  ),
   λ h. and_true _ _ (granted_row H a ∙ h.0) (none-some (cancel H a.occ) ∙ not-false _ (cancelled_row H a.occ ∙ h.1)),
 )
 moves_same width m H a legal e Starting RolledBack = by_same _ _ (gives_up_same H a)
@@ -145,7 +160,8 @@ moves_same width m H a legal e FailedTemp Processing = (λ h. tt, λ h. refl)
 moves_same width m H a legal e FailedTemp Failed = (λ h. tt, λ h. refl)
 moves_same width m H a legal e _ _ = (λ h. cc, λ h. absurd h)
 
-pub move_there : (width m : ℕ) (H : List Event) (n : ℕ) (to : OpState) (r : OccRow) (answer : Bool) → IsLegalWithin width m H → occurrence H n ≡ Some r → answer ≡ may_move_from r.state to r
+pub move_there : (width m : ℕ) (H : List Event) (n : ℕ) (to : OpState) (r : OccRow) (answer : Bool) → IsLegalWithin width m H
+    → occurrence H n ≡ Some r → answer ≡ may_move_from r.state to r
     → (answer ≡ true) ↔ (is_some (operation H n) ≡ true) × MayMove H n (state H n) to
 move_there width m H n to r answer legal e is =
     let mine = found_row H n r e in
@@ -157,7 +173,8 @@ move_there width m H n to r answer legal e is =
       λ h. same ∙ by.1 (subst (λ (o : ℕ). MayMove H o (state H o) to) (sym mine.2) h.1),
     )
 
-pub move_none : (H : List Event) (n : ℕ) (to : OpState) → occurrence H n ≡ None → (false ≡ true) ↔ (is_some (operation H n) ≡ true) × MayMove H n (state H n) to
+pub move_none : (H : List Event) (n : ℕ) (to : OpState) → occurrence H n ≡ None
+    → (false ≡ true) ↔ (is_some (operation H n) ≡ true) × MayMove H n (state H n) to
 move_none H n to e =
     let none : operation H n ≡ None = none_of (row H) (operation H n) e in
     (λ h. cc, λ h. sym (ap (λ (x : Option Operation). is_some x) none) ∙ h.0)

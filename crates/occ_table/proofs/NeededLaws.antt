@@ -1,5 +1,6 @@
 -- What is needed, event by event, and that what an attempt is on is.
-use Rattle.std.proofs.Common.{◌≡◌, ◌||◌, ◌==◌, ◌-◌, ◌∙◌, ◌⊎◌, ℕ, List, ◌∷◌, Bool, true, false, cond, not, Option, None, Some, refl, ap, sym, subst, arith, inl, inr, slice_get, eqb-true, eq-eqb}
+use Rattle.std.proofs.Common.{◌≡◌, ◌||◌, ◌==◌, ◌-◌, ◌∙◌, ◌⊎◌, ℕ, List, ◌∷◌, Bool, true, false, cond, not, Option, None, Some, refl, ap, sym}
+use Rattle.std.proofs.Common.{subst, arith, inl, inr, slice_get, eqb-true, eq-eqb}
 use Rattle.std.specs.Option.{option_map_or}
 use Rattle.std.specs.Prelude.{option_and_then, option_map}
 use Rattle.lcm_events.specs.Same.{same_def}
@@ -74,7 +75,8 @@ unfolding effect_in
 of_kind H (Settled t out) y e = of_outcome H t out y e
 of_kind H _ y e = cc
 
-source-next : (width m : ℕ) (H : List Event) (time : ℕ) (k : EventKind) (y : Effect) → IsLegalWithin width m H → IsAllowedWithin width m H k → Source H y
+source-next : (width m : ℕ) (H : List Event) (time : ℕ) (k : EventKind) (y : Effect) → IsLegalWithin width m H → IsAllowedWithin width m H k
+    → Source H y
     → Source (event time k ∷ H) y
 source-next width m H time k y legal allowed h =
     record {
@@ -91,7 +93,8 @@ source-next width m H time k y legal allowed h =
 source : (width m : ℕ) (H : List Event) → IsLegalWithin width m H → (y : Effect) → IsIn y (told effect_in H) → Source H y
 source width m H legal =
     legal_induction width m (λ H. (y : Effect) → IsIn y (told effect_in H) → Source H y) (λ y among. absurd among)
-    (λ H time k legal allowed h y among. source-next width m H time k y legal allowed (elim (of_cons y (effect_in H k) (told effect_in H) among) [
+    (λ H time k legal allowed h y among. source-next width m H time k y legal allowed
+    (elim (of_cons y (effect_in H k) (told effect_in H) among) [
       | inl is ↦ of_kind H k y is
       | inr before ↦ h y before
     ])) H legal
@@ -107,7 +110,8 @@ last_source width m H i x y legal is =
     )
 
 -- whether a definition is needed, by its last effect
-pub by_last : (H : List Event) (i : ℕ) (x : Def) (y : Effect) → first (effects H i x) ≡ Some y → is_needed H i x ≡ (leaves_it y.verb || is_going_on H y)
+pub by_last : (H : List Event) (i : ℕ) (x : Def) (y : Effect) → first (effects H i x) ≡ Some y
+    → is_needed H i x ≡ (leaves_it y.verb || is_going_on H y)
 by_last H i x y e = rw e refl
 
 pub by_none : (H : List Event) (i : ℕ) (x : Def) → first (effects H i x) ≡ None → is_needed H i x ≡ false
@@ -139,7 +143,8 @@ effects-done : (H : List Event) (time : ℕ) (u : Tag) (out : Outcome) (i : ℕ)
     → effects (event time (Settled u out) ∷ H) i x ≡ cond (is_effect_on i x y) (y ∷ effects H i x) (effects H i x)
 effects-done H time u out i x y e = rw e refl
 
-pub needed-done : (H : List Event) (time : ℕ) (u : Tag) (out : Outcome) (i : ℕ) (x : Def) (y : Effect) → effect_in H (Settled u out) ≡ Some y
+pub needed-done : (H : List Event) (time : ℕ) (u : Tag) (out : Outcome) (i : ℕ) (x : Def) (y : Effect)
+    → effect_in H (Settled u out) ≡ Some y
     → is_going_on H y ≡ true → is_needed (event time (Settled u out) ∷ H) i x ≡ cond (is_effect_on i x y) true (is_needed H i x)
 needed-done H time u out i x y e goes =
     ap (needed_by H) (effects-done H time u out i x y e) ∙ by_test (is_effect_on i x y)
@@ -147,10 +152,12 @@ needed-done H time u out i x y e goes =
     (λ off. rw off refl)
 
 -- whether the occurrence of an effect goes on after a move
-pub going-moved : (H : List Event) (time o : ℕ) (to : OpState) (y : Effect) → (o == y.tag.occ) ≡ true → is_going_on (event time (Moved o to) ∷ H) y ≡ not (is_final to)
+pub going-moved : (H : List Event) (time o : ℕ) (to : OpState) (y : Effect) → (o == y.tag.occ) ≡ true
+    → is_going_on (event time (Moved o to) ∷ H) y ≡ not (is_final to)
 going-moved H time o to y same = ap (λ (s : OpState). not (is_final s)) (state-moved H time y.tag.occ o to true same)
 
-pub going-away : (H : List Event) (time o : ℕ) (to : OpState) (y : Effect) → (o == y.tag.occ) ≡ false → is_going_on (event time (Moved o to) ∷ H) y ≡ is_going_on H y
+pub going-away : (H : List Event) (time o : ℕ) (to : OpState) (y : Effect) → (o == y.tag.occ) ≡ false
+    → is_going_on (event time (Moved o to) ∷ H) y ≡ is_going_on H y
 going-away H time o to y other = ap (λ (s : OpState). not (is_final s)) (state-moved H time y.tag.occ o to false other)
 
 going_before : (H : List Event) (o : ℕ) (y : Effect) → (o == y.tag.occ) ≡ true → is_final (state H o) ≡ false → is_going_on H y ≡ true
@@ -158,21 +165,26 @@ going_before H o y same goes =
     not-false (is_final (state H y.tag.occ)) (subst (λ (n : ℕ). is_final (state H n) ≡ false) (eqb-true o y.tag.occ same) goes)
 
 -- what an occurrence that moves had an effect on last is needed before
-pub needed_before : (H : List Event) (o : ℕ) (i : ℕ) (x : Def) (y : Effect) → first (effects H i x) ≡ Some y → (o == y.tag.occ) ≡ true → is_final (state H o) ≡ false
+pub needed_before : (H : List Event) (o : ℕ) (i : ℕ) (x : Def) (y : Effect) → first (effects H i x) ≡ Some y → (o == y.tag.occ) ≡ true
+    → is_final (state H o) ≡ false
     → is_needed H i x ≡ true
 needed_before H o i x y is same goes = by_last H i x y is ∙ or_right (leaves_it y.verb) (is_going_on H y) (going_before H o y same goes)
 
 -- two occurrences of one instance that go on are one
-pub sole_going : (width m : ℕ) (H : List Event) (i o : ℕ) (a : Operation) (x : Def) (y : Effect) → IsLegalWithin width m H → operation H o ≡ Some a → a.instance ≡ i
+pub sole_going : (width m : ℕ) (H : List Event) (i o : ℕ) (a : Operation) (x : Def) (y : Effect) → IsLegalWithin width m H
+    → operation H o ≡ Some a → a.instance ≡ i
     → is_final (state H o) ≡ false → first (effects H i x) ≡ Some y → is_final (state H y.tag.occ) ≡ false → (o == y.tag.occ) ≡ true
 sole_going width m H i o a x y legal found at goes is still =
     let from = last_source width m H i x y legal is in
-    let one : y.tag.occ ≡ o = one_going width m H i o y.tag.occ a from.0.a legal found at goes from.0.found (from.0.instance ∙ from.1) still in
+    let one : y.tag.occ ≡ o = one_going width m H i o y.tag.occ a from.0.a legal found at goes from.0.found
+    (from.0.instance ∙ from.1) still in
     eq-eqb o y.tag.occ (sym one)
 
 -- a move leaves needed what is needed of an instance with an operation that goes on after it
-moved_needed : (width m : ℕ) (H : List Event) (time occ : ℕ) (to : OpState) (i o : ℕ) (a : Operation) (x : Def) (last : Option Effect) → IsLegalWithin width m H
-    → IsAllowedWithin width m H (Moved occ to) → operation H o ≡ Some a → a.instance ≡ i → is_final (state (event time (Moved occ to) ∷ H) o) ≡ false
+moved_needed : (width m : ℕ) (H : List Event) (time occ : ℕ) (to : OpState) (i o : ℕ) (a : Operation) (x : Def) (last : Option Effect)
+    → IsLegalWithin width m H
+    → IsAllowedWithin width m H (Moved occ to) → operation H o ≡ Some a → a.instance ≡ i
+    → is_final (state (event time (Moved occ to) ∷ H) o) ≡ false
     → first (effects H i x) ≡ last → is_needed H i x ≡ true → is_needed (event time (Moved occ to) ∷ H) i x ≡ true
 unfolding effect_in
 moved_needed width m H time occ to i o a x None legal allowed found at goes is need =
@@ -195,17 +207,20 @@ IsOnNeeded H =
     (o : ℕ) (a : Operation) → operation H o ≡ Some a → is_final (state H o) ≡ false → (c : ℕ) (k : Change) → slice_get a.changes c ≡ Some k
     → (k.verb ≡ Create → ⊥) ⊎ (net H o c ≡ 1) → is_needed H a.instance k.def ≡ true
 
-why_before : (H : List Event) (o c n : ℕ) (k : Change) → n ≡ net H o c → (k.verb ≡ Create → ⊥) ⊎ (n ≡ 1) → (k.verb ≡ Create → ⊥) ⊎ (net H o c ≡ 1)
+why_before : (H : List Event) (o c n : ℕ) (k : Change) → n ≡ net H o c → (k.verb ≡ Create → ⊥) ⊎ (n ≡ 1)
+    → (k.verb ≡ Create → ⊥) ⊎ (net H o c ≡ 1)
 why_before H o c n k same (inl other) = inl other
 why_before H o c n k same (inr made) = inr (sym same ∙ made)
 
 -- a change of the operation of an attempt, where the attempt did something to it
-own_effect : (u : Tag) (name : List ℕ) (a b : Operation) (j k : Change) → a ≡ b → j ≡ k → is_effect_on a.instance k.def (effect u name b j) ≡ true
+own_effect : (u : Tag) (name : List ℕ) (a b : Operation) (j k : Change) → a ≡ b → j ≡ k
+    → is_effect_on a.instance k.def (effect u name b j) ≡ true
 own_effect u name a b j k one same =
     subst (λ (z : Operation). is_effect_on z.instance k.def (effect u name b j) ≡ true) (sym one)
     (subst (λ (z : Change). is_effect_on b.instance z.def (effect u name b j) ≡ true) same (on_own (effect u name b j)))
 
-settled_on : (width m : ℕ) (H : List Event) (time : ℕ) (u : Tag) (out : Outcome) → IsLegalWithin width m H → is_open H u ≡ true → IsOnNeeded H
+settled_on : (width m : ℕ) (H : List Event) (time : ℕ) (u : Tag) (out : Outcome) → IsLegalWithin width m H → is_open H u ≡ true
+    → IsOnNeeded H
     → IsOnNeeded (event time (Settled u out) ∷ H)
 settled_on width m H time u out legal opened h o a found goes c k at why =
     let mine = open_operation width m H u legal opened in
@@ -230,16 +245,19 @@ settled_on width m H time u out legal opened h o a found goes c k at why =
           (λ same. by_test (u.change == c)
           (λ one.
           let there : slice_get mine.0.changes u.change ≡ Some k =
-          subst (λ (z : Operation). slice_get z.changes u.change ≡ Some k) (sym (own same)) (subst (λ (n : ℕ). slice_get a.changes n ≡ Some k) (sym (eqb-true u.change c one)) at) in
+          subst (λ (z : Operation). slice_get z.changes u.change ≡ Some k) (sym (own same))
+          (subst (λ (n : ℕ). slice_get a.changes n ≡ Some k) (sym (eqb-true u.change c one)) at) in
           let on : is_effect_on a.instance k.def y ≡ true =
-          own_effect u change.0 a mine.0 change.1 k (sym (own same)) (one_value (slice_get mine.0.changes u.change) change.1 k change.3 there) in
+          own_effect u change.0 a mine.0 change.1 k (sym (own same)) (one_value
+          (slice_get mine.0.changes u.change) change.1 k change.3 there) in
           let clash : true ≡ false = sym on ∙ off in cc)
           (λ other. net-other_change H time u out o c other))
           (λ other. net-other_occ H time u out o c other) in
           rw off (h o a found goes c k at (why_before H o c (net (event time (Settled u out) ∷ H) o c) k nets why))))
     ]
 
-asked_on : (width m : ℕ) (H : List Event) (time : ℕ) (b : Operation) → IsLegalWithin width m H → IsAllowedWithin width m H (Asked b) → IsOnNeeded H
+asked_on : (width m : ℕ) (H : List Event) (time : ℕ) (b : Operation) → IsLegalWithin width m H → IsAllowedWithin width m H (Asked b)
+    → IsOnNeeded H
     → IsOnNeeded (event time (Asked b) ∷ H)
 unfolding effect_in
 asked_on width m H time b legal allowed h o a found goes c k at why = by_test (b.occ == o)
@@ -264,13 +282,15 @@ asked_on width m H time b legal allowed h o a found goes c k at why = by_test (b
     let before : operation H o ≡ Some a = subst (λ (t : Bool). cond t (Some b) (operation H o) ≡ Some a) other found in
     h o a before goes c k at why)
 
-moved_on : (width m : ℕ) (H : List Event) (time occ : ℕ) (to : OpState) → IsLegalWithin width m H → IsAllowedWithin width m H (Moved occ to) → IsOnNeeded H
+moved_on : (width m : ℕ) (H : List Event) (time occ : ℕ) (to : OpState) → IsLegalWithin width m H → IsAllowedWithin width m H (Moved occ to)
+    → IsOnNeeded H
     → IsOnNeeded (event time (Moved occ to) ∷ H)
 moved_on width m H time occ to legal allowed h o a found goes c k at why =
     moved_needed width m H time occ to a.instance o a k.def (first (effects H a.instance k.def)) legal allowed found refl goes refl
     (h o a found (moved_touched H time occ to o (moved_from H occ to allowed.1) goes) c k at why)
 
-on_step : (width m : ℕ) (H : List Event) (time : ℕ) (k : EventKind) → IsLegalWithin width m H → IsAllowedWithin width m H k → IsOnNeeded H → IsOnNeeded (event time k ∷ H)
+on_step : (width m : ℕ) (H : List Event) (time : ℕ) (k : EventKind) → IsLegalWithin width m H → IsAllowedWithin width m H k → IsOnNeeded H
+    → IsOnNeeded (event time k ∷ H)
 unfolding effect_in
 on_step width m H time (Settled u out) legal allowed h = settled_on width m H time u out legal allowed h
 on_step width m H time (Asked b) legal allowed h = asked_on width m H time b legal allowed h
@@ -282,21 +302,25 @@ on_needed width m H legal =
     legal_induction width m IsOnNeeded (λ o a found. cc) (λ H time k legal allowed h. on_step width m H time k legal allowed h) H legal
 
 -- why the change of an attempt is on what is needed
-why_on : (H : List Event) (t : Tag) (k : Change) (way : Way) → t.way ≡ way → net H t.occ t.change ≡ net_before t.way → (t.way ≡ Forward → k.verb ≡ Create → ⊥)
+why_on : (H : List Event) (t : Tag) (k : Change) (way : Way) → t.way ≡ way → net H t.occ t.change ≡ net_before t.way
+    → (t.way ≡ Forward → k.verb ≡ Create → ⊥)
     → (k.verb ≡ Create → ⊥) ⊎ (net H t.occ t.change ≡ 1)
 why_on H t k Forward is net other = inl (other is)
 why_on H t k Undo is net other = inr (net ∙ ap net_before is)
 
 -- what an open attempt is on is needed, unless it is to be made
-pub open_on_needed : (width m : ℕ) (H : List Event) (t : Tag) → IsLegalWithin width m H → is_open H t ≡ true → (a : Operation) (k : Change) → operation H t.occ ≡ Some a
+pub open_on_needed : (width m : ℕ) (H : List Event) (t : Tag) → IsLegalWithin width m H → is_open H t ≡ true → (a : Operation) (k : Change)
+    → operation H t.occ ≡ Some a
     → slice_get a.changes t.change ≡ Some k → (t.way ≡ Forward → k.verb ≡ Create → ⊥) → is_needed H a.instance k.def ≡ true
 open_on_needed width m H t legal opened a k found at other =
     on_needed width m H legal t.occ a found (open_operation width m H t legal opened).2 t.change k at
     (why_on H t k t.way refl (open_fits width m H legal t opened) other)
 
 -- and so is what an attempt is on that may begin
-pub work_on_needed : (width m : ℕ) (H : List Event) (t : Tag) → IsLegalWithin width m H → IsAllowedWithin width m H (Intent t) → (a : Operation) (k : Change)
-    → operation H t.occ ≡ Some a → slice_get a.changes t.change ≡ Some k → (t.way ≡ Forward → k.verb ≡ Create → ⊥) → is_needed H a.instance k.def ≡ true
+pub work_on_needed : (width m : ℕ) (H : List Event) (t : Tag) → IsLegalWithin width m H → IsAllowedWithin width m H (Intent t)
+    → (a : Operation) (k : Change)
+    → operation H t.occ ≡ Some a → slice_get a.changes t.change ≡ Some k → (t.way ≡ Forward → k.verb ≡ Create → ⊥)
+    → is_needed H a.instance k.def ≡ true
 work_on_needed width m H t legal allowed a k found at other =
     on_needed width m H legal t.occ a found (subst (λ (s : OpState). is_final s ≡ false) (sym allowed.works) (works_on t.way)) t.change k at
     (why_on H t k t.way refl (turn_at width m H t a k allowed found at).0 other)

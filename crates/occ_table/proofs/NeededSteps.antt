@@ -1,5 +1,6 @@
 -- What each event makes of what is kept of a definition, and what a change used by it.
-use Rattle.std.proofs.Common.{◌≡◌, ◌&&◌, ◌||◌, ◌==◌, ◌∙◌, ℕ, List, ◌∷◌, Bool, true, false, cond, not, Option, None, Some, refl, ap, sym, subst, eqb-true, eq-eqb}
+use Rattle.std.proofs.Common.{◌≡◌, ◌&&◌, ◌||◌, ◌==◌, ◌∙◌, ℕ, List, ◌∷◌, Bool, true, false, cond, not, Option, None, Some, refl, ap, sym}
+use Rattle.std.proofs.Common.{subst, eqb-true, eq-eqb}
 use Rattle.std.specs.List.{list_any}
 use Rattle.std.specs.Prelude.{option_and_then, option_map}
 use Rattle.lcm_events.specs.Same.{same_def, same_verb, same_way}
@@ -30,11 +31,13 @@ use Rattle.lcm_laws.proofs.Lists.{and_left, and_right, and_true, by_test, not-fa
 use Rattle.lcm_laws.proofs.Members.{any_in, get_in}
 use Rattle.lcm_laws.proofs.SettledLaws.{open_operation, stands-done, stands-nothing}
 use Rattle.occ_table.proofs.KnownSteps.{deed_done, deeds, known-step, known_after, of_attempt, on_own, own_use, row_numbered}
-use Rattle.occ_table.proofs.NeededLaws.{Source, by_last, by_none, going-away, going-moved, last_source, needed-done, needed-nothing, needed_before, of_outcome, open_on_needed, sole_going}
+use Rattle.occ_table.proofs.NeededLaws.{Source, by_last, by_none, going-away, going-moved, last_source, needed-done, needed-nothing}
+use Rattle.occ_table.proofs.NeededLaws.{needed_before, of_outcome, open_on_needed, sole_going}
 use Rattle.occ_table.proofs.RowsSteps.{low}
 use Rattle.occ_table.proofs.UsedSteps.{used_told}
 use Rattle.occ_table.specs.Needed.{entry, is_going_on, is_needed}
-use Rattle.occ_table.specs.Resources.{deed_of, is_of_row, kept_after, kept_moved, learned, left, outlasting, remade, touched, used_after, used_of, where_it_stands}
+use Rattle.occ_table.specs.Resources.{deed_of, is_of_row, kept_after, kept_moved, learned, left, outlasting, remade, touched, used_after}
+use Rattle.occ_table.specs.Resources.{used_of, where_it_stands}
 use Rattle.occ_table.specs.Rows.{row, rows}
 use Rattle.occ_table.specs.Descriptors.{numbered}
 use Rattle.occ_table.specs.Used.{known, placed, used_by}
@@ -75,19 +78,23 @@ touched_kept d true s n k needs = by_test (is_creation d.effect)
     (λ undo.
     let need : n ≡ true = needs refl (rw (makes, undo) refl) in
     rw (makes, leaves, undo, need)
-    (ap (λ (old : Option Used). kept_so true true (placed (Some d.effect.resource) (option_map (λ u. u.place) old))) (sym (used_kept s k)))))
+    (ap (λ (old : Option Used). kept_so true true (placed (Some d.effect.resource) (option_map (λ u. u.place) old)))
+    (sym (used_kept s k)))))
     (λ other. let need : n ≡ true = needs refl (rw other refl) in rw (other, need) (left_kept (leaves_it d.effect.verb) s k))
 
 -- what an attempt did to its definition goes on
-attempt_goes_on : (width m : ℕ) (H : List Event) (t : Tag) (out : Outcome) (y : Effect) → IsLegalWithin width m H → is_open H t ≡ true → effect_done H t out ≡ Some y
+attempt_goes_on : (width m : ℕ) (H : List Event) (t : Tag) (out : Outcome) (y : Effect) → IsLegalWithin width m H → is_open H t ≡ true
+    → effect_done H t out ≡ Some y
     → is_going_on H y ≡ true
 attempt_goes_on width m H t out y legal opened is =
     not-false (is_final (state H y.tag.occ))
     (subst (λ (u : Tag). is_final (state H u.occ) ≡ false) (sym (of_attempt H t out y is)) (open_operation width m H t legal opened).2)
 
 -- what an attempt that ends is on is needed, unless it made it
-ended_needed : (width m : ℕ) (H : List Event) (t : Tag) (out : Outcome) (i : ℕ) (x : Def) (y : Effect) → IsLegalWithin width m H → is_open H t ≡ true
-    → effect_done H t out ≡ Some y → is_effect_on i x y ≡ true → (is_creation y && same_way y.tag.way Forward) ≡ false → is_needed H i x ≡ true
+ended_needed : (width m : ℕ) (H : List Event) (t : Tag) (out : Outcome) (i : ℕ) (x : Def) (y : Effect) → IsLegalWithin width m H
+    → is_open H t ≡ true
+    → effect_done H t out ≡ Some y → is_effect_on i x y ≡ true → (is_creation y && same_way y.tag.way Forward) ≡ false
+    → is_needed H i x ≡ true
 ended_needed width m H t out i x y legal opened is on other =
     let from : Source H y = of_outcome H t out y is in
     let own : is_open H y.tag ≡ true = subst (λ (u : Tag). is_open H u ≡ true) (sym (of_attempt H t out y is)) opened in
@@ -98,22 +105,30 @@ ended_needed width m H t out i x y legal opened is on other =
     let clash : true ≡ false = sym made ∙ other in cc) in
     let at : y.instance ≡ i = eqb-true y.instance i (and_left (y.instance == i) (same_def y.def x) on) in
     let def : y.def ≡ x = same_def-true y.def x (and_right (y.instance == i) (same_def y.def x) on) in
-    subst (λ (z : Def). is_needed H i z ≡ true) (from.def ∙ def) (subst (λ (n : ℕ). is_needed H n from.c.def ≡ true) (from.instance ∙ at) need)
+    subst (λ (z : Def). is_needed H i z ≡ true) (from.def ∙ def) (subst (λ (n : ℕ). is_needed H n from.c.def ≡ true)
+    (from.instance ∙ at) need)
 
-done_kept : (width m : ℕ) (H : List Event) (time : ℕ) (t : Tag) (out : Outcome) (i : ℕ) (x : Def) (y : Option Effect) → IsLegalWithin width m H → is_open H t ≡ true
+done_kept : (width m : ℕ) (H : List Event) (time : ℕ) (t : Tag) (out : Outcome) (i : ℕ) (x : Def) (y : Option Effect)
+    → IsLegalWithin width m H → is_open H t ≡ true
     → effect_done H t out ≡ y → entry (event time (Settled t out) ∷ H) i x ≡ learned (option_map (deed_done H) y) (entry H) i x
 unfolding effect_in
 done_kept width m H time t out i x None legal opened is =
-    ap (λ (s : Bool). kept_so s (is_needed (event time (Settled t out) ∷ H) i x) (known (event time (Settled t out) ∷ H) i x)) (stands-nothing H time t out i x is)
+    ap (λ (s : Bool). kept_so s (is_needed (event time (Settled t out) ∷ H) i x) (known (event time (Settled t out) ∷ H) i x))
+    (stands-nothing H time t out i x is)
     ∙ (ap (λ (n : Bool). kept_so (stands H i x) n (known (event time (Settled t out) ∷ H) i x)) (needed-nothing H time t out i x is)
     ∙ ap (λ (u : Option Used). kept_so (stands H i x) (is_needed H i x) u)
-    (known-step width m H time (Settled t out) i x legal opened ∙ ap (λ (y : Option Effect). known_after (option_map (deed_done H) y) (known H) i x) is))
+    (known-step width m H time (Settled t out) i x legal opened ∙ ap
+    (λ (y : Option Effect). known_after (option_map (deed_done H) y) (known H) i x) is))
 done_kept width m H time t out i x (Some y) legal opened is =
-    ap (λ (s : Bool). kept_so s (is_needed (event time (Settled t out) ∷ H) i x) (known (event time (Settled t out) ∷ H) i x)) (stands-done H time t out i x y is)
-    ∙ (ap (λ (n : Bool). kept_so (cond (is_effect_on i x y) (leaves_it y.verb) (stands H i x)) n (known (event time (Settled t out) ∷ H) i x))
+    ap (λ (s : Bool). kept_so s (is_needed (event time (Settled t out) ∷ H) i x) (known (event time (Settled t out) ∷ H) i x))
+    (stands-done H time t out i x y is)
+    ∙ (ap (λ (n : Bool). kept_so (cond (is_effect_on i x y) (leaves_it y.verb) (stands H i x)) n
+    (known (event time (Settled t out) ∷ H) i x))
     (needed-done H time t out i x y is (attempt_goes_on width m H t out y legal opened is))
-    ∙ (ap (λ (u : Option Used). kept_so (cond (is_effect_on i x y) (leaves_it y.verb) (stands H i x)) (cond (is_effect_on i x y) true (is_needed H i x)) u)
-    (known-step width m H time (Settled t out) i x legal opened ∙ ap (λ (y : Option Effect). known_after (option_map (deed_done H) y) (known H) i x) is)
+    ∙ (ap (λ (u : Option Used). kept_so (cond (is_effect_on i x y) (leaves_it y.verb) (stands H i x))
+    (cond (is_effect_on i x y) true (is_needed H i x)) u)
+    (known-step width m H time (Settled t out) i x legal opened ∙ ap
+    (λ (y : Option Effect). known_after (option_map (deed_done H) y) (known H) i x) is)
     ∙ touched_kept (deed_done H y) (is_effect_on i x y) (stands H i x) (is_needed H i x) (known H i x)
     (λ on other. ended_needed width m H t out i x y legal opened is on other)))
 
@@ -137,7 +152,8 @@ or_true true b e = refl
 or_true false b e = e
 
 -- the definition of an effect is of the row of its operation
-of_own_row : (H : List Event) (i : ℕ) (x : Def) (y : Effect) (a : Operation) → (s : Source H y) → y.instance ≡ i → y.def ≡ x → s.a ≡ a → is_of_row i x (row H a) ≡ true
+of_own_row : (H : List Event) (i : ℕ) (x : Def) (y : Effect) (a : Operation) → (s : Source H y) → y.instance ≡ i → y.def ≡ x → s.a ≡ a
+    → is_of_row i x (row H a) ≡ true
 of_own_row H i x y a s at on is =
     let has : list_any (λ (c : Change). same_def c.def x) s.a.changes ≡ true =
     any_in (λ (c : Change). same_def c.def x) s.c s.a.changes (get_in s.c s.a.changes y.tag.change s.at)
@@ -146,7 +162,8 @@ of_own_row H i x y a s at on is =
     (and_true (s.a.instance == i) (list_any (λ (c : Change). same_def c.def x) s.a.changes) (eq-eqb s.a.instance i (s.instance ∙ at)) has)
 
 -- what was kept is kept after a move where it is needed as before
-moved_same : (width m : ℕ) (H : List Event) (time o : ℕ) (to : OpState) (i : ℕ) (x : Def) → IsLegalWithin width m H → IsAllowedWithin width m H (Moved o to)
+moved_same : (width m : ℕ) (H : List Event) (time o : ℕ) (to : OpState) (i : ℕ) (x : Def) → IsLegalWithin width m H
+    → IsAllowedWithin width m H (Moved o to)
     → is_needed (event time (Moved o to) ∷ H) i x ≡ is_needed H i x → entry (event time (Moved o to) ∷ H) i x ≡ entry H i x
 unfolding effect_in
 moved_same width m H time o to i x legal allowed same =
@@ -154,14 +171,17 @@ moved_same width m H time o to i x legal allowed same =
     ∙ ap (λ (u : Option Used). kept_so (stands H i x) (is_needed H i x) u) (known-step width m H time (Moved o to) i x legal allowed)
 
 -- whether a definition is needed after the move of another occurrence than that of its last effect
-needed-away : (H : List Event) (time o : ℕ) (to : OpState) (i : ℕ) (x : Def) (y : Effect) → first (effects H i x) ≡ Some y → (o == y.tag.occ) ≡ false
+needed-away : (H : List Event) (time o : ℕ) (to : OpState) (i : ℕ) (x : Def) (y : Effect) → first (effects H i x) ≡ Some y
+    → (o == y.tag.occ) ≡ false
     → is_needed (event time (Moved o to) ∷ H) i x ≡ is_needed H i x
 unfolding effect_in
 needed-away H time o to i x y is other =
-    by_last (event time (Moved o to) ∷ H) i x y is ∙ (ap (λ (b : Bool). leaves_it y.verb || b) (going-away H time o to y other) ∙ sym (by_last H i x y is))
+    by_last (event time (Moved o to) ∷ H) i x y is ∙ (ap (λ (b : Bool). leaves_it y.verb || b) (going-away H time o to y other)
+    ∙ sym (by_last H i x y is))
 
 -- and after the move of the occurrence of that effect
-needed-own : (H : List Event) (time o : ℕ) (to : OpState) (i : ℕ) (x : Def) (y : Effect) → first (effects H i x) ≡ Some y → (o == y.tag.occ) ≡ true
+needed-own : (H : List Event) (time o : ℕ) (to : OpState) (i : ℕ) (x : Def) (y : Effect) → first (effects H i x) ≡ Some y
+    → (o == y.tag.occ) ≡ true
     → is_needed (event time (Moved o to) ∷ H) i x ≡ (leaves_it y.verb || not (is_final to))
 unfolding effect_in
 needed-own H time o to i x y is same =
@@ -175,26 +195,32 @@ none_out true e is = rw is refl
 none_out false e is = refl
 
 -- what is kept of a definition that the row of an occurrence that ends is of, or isn't, where its last effect is another occurrence's
-away_kept : (width m : ℕ) (H : List Event) (o : ℕ) (i : ℕ) (x : Def) (a : Operation) (y : Effect) → IsLegalWithin width m H → is_final (state H o) ≡ false
-    → operation H o ≡ Some a → first (effects H i x) ≡ Some y → (o == y.tag.occ) ≡ false → entry H i x ≡ outlasting (Some (row H a)) (entry H) i x
+away_kept : (width m : ℕ) (H : List Event) (o : ℕ) (i : ℕ) (x : Def) (a : Operation) (y : Effect) → IsLegalWithin width m H
+    → is_final (state H o) ≡ false
+    → operation H o ≡ Some a → first (effects H i x) ≡ Some y → (o == y.tag.occ) ≡ false
+    → entry H i x ≡ outlasting (Some (row H a)) (entry H) i x
 away_kept width m H o i x a y legal goes found is other = by_test (is_of_row i x (row H a))
     (λ on.
-    let at : a.instance ≡ i = eqb-true a.instance i (and_left (a.instance == i) (list_any (λ (c : Change). same_def c.def x) a.changes) on) in
+    let at : a.instance ≡ i = eqb-true a.instance i (and_left (a.instance == i) (list_any (λ (c : Change). same_def c.def x) a.changes) on)
+    in
     let over : is_going_on H y ≡ false = by_test (is_going_on H y)
     (λ still.
-    let one : (o == y.tag.occ) ≡ true = sole_going width m H i o a x y legal found at goes is (not-true (is_final (state H y.tag.occ)) still) in
+    let one : (o == y.tag.occ) ≡ true = sole_going width m H i o a x y legal found at goes is
+    (not-true (is_final (state H y.tag.occ)) still) in
     let clash : true ≡ false = sym one ∙ other in cc)
     (λ no. no) in
     let same : is_needed H i x ≡ stands H i x =
     by_last H i x y is ∙ (or_false (leaves_it y.verb) (is_going_on H y) over ∙ sym (stands_by_last H i x y is)) in
-    let kept : entry H i x ≡ kept_so (stands H i x) (stands H i x) (known H i x) = ap (λ (n : Bool). kept_so (stands H i x) n (known H i x)) same in
+    let kept : entry H i x ≡ kept_so (stands H i x) (stands H i x) (known H i x) =
+    ap (λ (n : Bool). kept_so (stands H i x) n (known H i x)) same in
     kept ∙ (stands_kept (stands H i x) (known H i x)
     ∙ (ap (λ (e : Option Entry). option_and_then where_it_stands e) (sym kept)
     ∙ ap (λ (b : Bool). cond b (option_and_then where_it_stands (entry H i x)) (entry H i x)) (sym on))))
     (λ off. ap (λ (b : Bool). cond b (option_and_then where_it_stands (entry H i x)) (entry H i x)) (sym off))
 
 -- what is kept after a move to a final state
-ended_kept : (width m : ℕ) (H : List Event) (time o : ℕ) (to : OpState) (i : ℕ) (x : Def) (a : Operation) (last : Option Effect) → IsLegalWithin width m H
+ended_kept : (width m : ℕ) (H : List Event) (time o : ℕ) (to : OpState) (i : ℕ) (x : Def) (a : Operation) (last : Option Effect)
+    → IsLegalWithin width m H
     → IsAllowedWithin width m H (Moved o to) → operation H o ≡ Some a → is_final to ≡ true → first (effects H i x) ≡ last
     → entry (event time (Moved o to) ∷ H) i x ≡ outlasting (Some (row H a)) (entry H) i x
 unfolding effect_in
@@ -205,11 +231,13 @@ ended_kept width m H time o to i x a (Some y) legal allowed found ends is = by_t
     (λ same.
     let from = last_source width m H i x y legal is in
     let number : o ≡ y.tag.occ = eqb-true o y.tag.occ same in
-    let one : from.0.a ≡ a = one_value (operation H y.tag.occ) from.0.a a from.0.found (subst (λ (n : ℕ). operation H n ≡ Some a) number found) in
+    let one : from.0.a ≡ a = one_value (operation H y.tag.occ) from.0.a a from.0.found
+    (subst (λ (n : ℕ). operation H n ≡ Some a) number found) in
     let on : is_of_row i x (row H a) ≡ true = of_own_row H i x y a from.0 from.1 from.2 one in
     let before : is_needed H i x ≡ true = needed_before H o i x y is same (moved_from H o to allowed.1) in
     let after : is_needed (event time (Moved o to) ∷ H) i x ≡ stands H i x =
-    needed-own H time o to i x y is same ∙ (or_false (leaves_it y.verb) (not (is_final to)) (ap not ends) ∙ sym (stands_by_last H i x y is)) in
+    needed-own H time o to i x y is same ∙ (or_false (leaves_it y.verb) (not (is_final to)) (ap not ends) ∙ sym (stands_by_last H i x y is))
+    in
     ap (λ (n : Bool). kept_so (stands H i x) n (known (event time (Moved o to) ∷ H) i x)) after
     ∙ (ap (λ (u : Option Used). kept_so (stands H i x) (stands H i x) u) (known-step width m H time (Moved o to) i x legal allowed)
     ∙ (stays_kept (stands H i x) (known H i x)
@@ -221,7 +249,8 @@ ended_kept width m H time o to i x a (Some y) legal allowed found ends is = by_t
 
 -- what is kept after a move to a state that isn't final
 rested_kept : (width m : ℕ) (H : List Event) (time o : ℕ) (to : OpState) (i : ℕ) (x : Def) (last : Option Effect) → IsLegalWithin width m H
-    → IsAllowedWithin width m H (Moved o to) → is_final to ≡ false → first (effects H i x) ≡ last → entry (event time (Moved o to) ∷ H) i x ≡ entry H i x
+    → IsAllowedWithin width m H (Moved o to) → is_final to ≡ false → first (effects H i x) ≡ last
+    → entry (event time (Moved o to) ∷ H) i x ≡ entry H i x
 unfolding effect_in
 rested_kept width m H time o to i x None legal allowed rests is =
     moved_same width m H time o to i x legal allowed (by_none (event time (Moved o to) ∷ H) i x is ∙ sym (by_none H i x is))
@@ -232,11 +261,13 @@ rested_kept width m H time o to i x (Some y) legal allowed rests is =
     ∙ (or_true (leaves_it y.verb) (not (is_final to)) (ap not rests) ∙ sym (needed_before H o i x y is same (moved_from H o to allowed.1))))
     (λ other. needed-away H time o to i x y is other))
 
-moved_kept : (width m : ℕ) (H : List Event) (time o : ℕ) (to : OpState) (i : ℕ) (x : Def) → IsLegalWithin width m H → IsAllowedWithin width m H (Moved o to)
+moved_kept : (width m : ℕ) (H : List Event) (time o : ℕ) (to : OpState) (i : ℕ) (x : Def) → IsLegalWithin width m H
+    → IsAllowedWithin width m H (Moved o to)
     → entry (event time (Moved o to) ∷ H) i x ≡ kept_moved to (numbered o (rows H)) (entry H) i x
 moved_kept width m H time o to i x legal allowed =
     let found = some_value (operation H o) allowed.0 in
-    let there : numbered o (rows H) ≡ Some (row H found.0) = row_numbered width m H (rows H) o found.0 legal refl (low width m H (Moved o to) o refl legal allowed) found.1 in
+    let there : numbered o (rows H) ≡ Some (row H found.0) = row_numbered width m H (rows H) o found.0 legal refl
+    (low width m H (Moved o to) o refl legal allowed) found.1 in
     by_test (is_final to)
     (λ ends.
     ended_kept width m H time o to i x found.0 (first (effects H i x)) legal allowed found.1 ends refl
@@ -247,21 +278,25 @@ moved_kept width m H time o to i x legal allowed =
     ∙ ap (λ (b : Bool). cond b (outlasting (numbered o (rows H)) (entry H) i x) (entry H i x)) (sym rests))
 
 -- what an event makes of what is kept of a definition
-pub entry-step : (width m : ℕ) (H : List Event) (time : ℕ) (k : EventKind) (i : ℕ) (x : Def) → IsLegalWithin width m H → IsAllowedWithin width m H k
+pub entry-step : (width m : ℕ) (H : List Event) (time : ℕ) (k : EventKind) (i : ℕ) (x : Def) → IsLegalWithin width m H
+    → IsAllowedWithin width m H k
     → entry (event time k ∷ H) i x ≡ kept_after (rows H) k (entry H) i x
 unfolding effect_in
 entry-step width m H time (Settled t out) i x legal allowed =
     done_kept width m H time t out i x (effect_done H t out) legal allowed refl
     ∙ ap (λ (d : Option DoneAttempt). learned d (entry H) i x) (sym (deeds width m H (rows H) (Settled t out) legal allowed refl))
 entry-step width m H time (Moved o to) i x legal allowed = moved_kept width m H time o to i x legal allowed
-entry-step width m H time k i x legal allowed = ap (λ (u : Option Used). kept_so (stands H i x) (is_needed H i x) u) (known-step width m H time k i x legal allowed)
+entry-step width m H time k i x legal allowed = ap (λ (u : Option Used). kept_so (stands H i x) (is_needed H i x) u)
+    (known-step width m H time k i x legal allowed)
 
 -- what is kept after an event goes by what was kept before
-learned-same : (d : Option DoneAttempt) (f g : ℕ → Def → Option Entry) → ((i : ℕ) (x : Def) → f i x ≡ g i x) → (i : ℕ) (x : Def) → learned d f i x ≡ learned d g i x
+learned-same : (d : Option DoneAttempt) (f g : ℕ → Def → Option Entry) → ((i : ℕ) (x : Def) → f i x ≡ g i x) → (i : ℕ) (x : Def)
+    → learned d f i x ≡ learned d g i x
 learned-same None f g same i x = same i x
 learned-same (Some d) f g same i x = ap (λ (e : Option Entry). cond (is_effect_on i x d.effect) (touched d e) e) (same i x)
 
-outlasting-same : (r : Option OccRow) (f g : ℕ → Def → Option Entry) → ((i : ℕ) (x : Def) → f i x ≡ g i x) → (i : ℕ) (x : Def) → outlasting r f i x ≡ outlasting r g i x
+outlasting-same : (r : Option OccRow) (f g : ℕ → Def → Option Entry) → ((i : ℕ) (x : Def) → f i x ≡ g i x) → (i : ℕ) (x : Def)
+    → outlasting r f i x ≡ outlasting r g i x
 outlasting-same None f g same i x = same i x
 outlasting-same (Some r) f g same i x = ap (λ (e : Option Entry). cond (is_of_row i x r) (option_and_then where_it_stands e) e) (same i x)
 
@@ -274,7 +309,8 @@ kept-same rs (Moved o to) f g same i x = by_test (is_final to)
 kept-same rs _ f g same i x = same i x
 
 -- what the change of an attempt used that did this
-own_used : (width m : ℕ) (H : List Event) (f : ℕ → Def → Option Entry) (t : Tag) (out : Outcome) (y : Effect) → IsLegalWithin width m H → is_open H t ≡ true
+own_used : (width m : ℕ) (H : List Event) (f : ℕ → Def → Option Entry) (t : Tag) (out : Outcome) (y : Effect) → IsLegalWithin width m H
+    → is_open H t ≡ true
     → effect_done H t out ≡ Some y → ((i : ℕ) (x : Def) → f i x ≡ entry H i x) → same_way y.tag.way Forward ≡ true
     → used_of (learned (Some (deed_done H y)) f y.instance y.def) ≡ used_by H y
 unfolding effect_in
@@ -283,14 +319,16 @@ own_used width m H f t out y legal opened is same forward =
     let x : Def = y.def in
     let after : List Event = event 0 (Settled t out) ∷ H in
     let needed : is_needed after i x ≡ true =
-    needed-done H 0 t out i x y is (attempt_goes_on width m H t out y legal opened is) ∙ ap (λ (b : Bool). cond b true (is_needed H i x)) (on_own y) in
+    needed-done H 0 t out i x y is (attempt_goes_on width m H t out y legal opened is)
+    ∙ ap (λ (b : Bool). cond b true (is_needed H i x)) (on_own y) in
     ap used_of (learned-same (Some (deed_done H y)) f (entry H) same i x ∙ sym (done_kept width m H 0 t out i x (Some y) legal opened is))
     ∙ (ap (λ (n : Bool). used_of (kept_so (stands after i x) n (known after i x))) needed
     ∙ (used_kept (stands after i x) (known after i x)
     ∙ (known-step width m H 0 (Settled t out) i x legal opened
     ∙ (ap (λ (z : Option Effect). known_after (option_map (deed_done H) z) (known H) i x) is ∙ own_use H y forward))))
 
-by_way : (width m : ℕ) (H : List Event) (f : ℕ → Def → Option Entry) (t : Tag) (out : Outcome) (o : Option Effect) → IsLegalWithin width m H → is_open H t ≡ true
+by_way : (width m : ℕ) (H : List Event) (f : ℕ → Def → Option Entry) (t : Tag) (out : Outcome) (o : Option Effect) → IsLegalWithin width m H
+    → is_open H t ≡ true
     → effect_done H t out ≡ o → ((i : ℕ) (x : Def) → f i x ≡ entry H i x)
     → used_after (option_map (deed_done H) o) f ≡ cond (same_way t.way Forward) (option_and_then (used_by H) o) None
 by_way width m H f t out None legal opened is same = by_test (same_way t.way Forward) (λ yes. rw yes refl) (λ no. rw no refl)
@@ -306,14 +344,16 @@ by_way width m H f t out (Some y) legal opened is same =
     ∙ sym (ap (λ (b : Bool). cond b (used_by H y) None) undo)))
 
 -- what a change used by an event, by what was kept of definitions before it
-pub used-step : (width m : ℕ) (H : List Event) (f : ℕ → Def → Option Entry) (k : EventKind) → IsLegalWithin width m H → IsAllowedWithin width m H k
+pub used-step : (width m : ℕ) (H : List Event) (f : ℕ → Def → Option Entry) (k : EventKind) → IsLegalWithin width m H
+    → IsAllowedWithin width m H k
     → ((i : ℕ) (x : Def) → f i x ≡ entry H i x) → used_after (option_map (deed_done H) (effect_in H k)) f ≡ used_told H k
 unfolding effect_in
 used-step width m H f (Settled t out) legal allowed same = by_way width m H f t out (effect_done H t out) legal allowed refl same
 used-step width m H f _ legal allowed same = refl
 
 -- an event that neither ends an attempt nor moves leaves what is kept
-pub kept_as_before : (k : EventKind) (rs : List OccRow) (f : ℕ → Def → Option Entry) (i : ℕ) (x : Def) → ((t : Tag) (out : Outcome) → k ≡ Settled t out → ⊥)
+pub kept_as_before : (k : EventKind) (rs : List OccRow) (f : ℕ → Def → Option Entry) (i : ℕ) (x : Def)
+    → ((t : Tag) (out : Outcome) → k ≡ Settled t out → ⊥)
     → ((o : ℕ) (to : OpState) → k ≡ Moved o to → ⊥) → f i x ≡ kept_after rs k f i x
 kept_as_before (Settled t out) rs f i x not_ended not_moved = absurd (not_ended t out refl)
 kept_as_before (Moved o to) rs f i x not_ended not_moved = absurd (not_moved o to refl)

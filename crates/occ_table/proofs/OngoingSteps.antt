@@ -1,5 +1,7 @@
 -- What each event makes of the ongoing operations, and what is found among them.
-use Rattle.std.proofs.Common.{◌≡◌, ◌≢◌, ◌≤◌, ◌+◌, ◌-◌, ◌++◌, ◌&&◌, ◌==◌, ◌∙◌, ℕ, List, [], ◌∷◌, zero, suc, Bool, true, false, cond, not, Option, None, Some, is_some, refl, ap, sym, subst, length, map, filter, find, slice_get, arith, eqb-true, eq-eqb, false-eqb, inl, inr, option_map}
+use Rattle.std.proofs.Common.{◌≡◌, ◌≢◌, ◌≤◌, ◌+◌, ◌-◌, ◌++◌, ◌&&◌, ◌==◌, ◌∙◌, ℕ, List, [], ◌∷◌, zero, suc, Bool, true, false, cond, not}
+use Rattle.std.proofs.Common.{Option, None, Some, is_some, refl, ap, sym, subst, length, map, filter, find, slice_get, arith, eqb-true}
+use Rattle.std.proofs.Common.{eq-eqb, false-eqb, inl, inr, option_map}
 use Rattle.std.specs.List.{range_with_len}
 use Rattle.std.specs.Prelude.{option_and_then, slice_set}
 use Rattle.std.proofs.lemmas.List.FromFn.{map-range_with_len_more}
@@ -67,7 +69,8 @@ one_number (y ∷ xs) x counted (inr h) = find-skips (λ (a : Operation). a.occ)
 
 same_number : (xs : List Operation) (x y : Operation) → IsCounted (λ a. a.occ) xs → IsIn x xs → IsIn y xs → x.occ ≡ y.occ → x ≡ y
 same_number xs x y counted hx hy e =
-    let both : Some x ≡ Some y = sym (one_number xs x counted hx) ∙ (ap (λ (n : ℕ). find (λ (a : Operation). a.occ == n) xs) e ∙ one_number xs y counted hy) in cc
+    let both : Some x ≡ Some y = sym (one_number xs x counted hx) ∙ (ap (λ (n : ℕ). find (λ (a : Operation). a.occ == n) xs) e
+    ∙ one_number xs y counted hy) in cc
 
 -- what is found by its number has it
 has_number : (xs : List Operation) (o : ℕ) (x : Operation) → find (λ a. a.occ == o) xs ≡ Some x → x.occ ≡ o
@@ -89,7 +92,8 @@ nowhere width m H legal i f = none_pass (is_ongoing H i) (operations H) (λ a am
     (λ other. rw other refl))
 
 nowhere_of : (width m : ℕ) (H : List Event) → IsLegalWithin width m H → (i : ℕ) → (1 ≤ i → i ≤ instances_made H → ⊥) → ongoing_of H i ≡ None
-nowhere_of width m H legal i f = ap (λ (xs : List Operation). option_map (λ (a : Operation). a.occ) (first xs)) (nowhere width m H legal i f)
+nowhere_of width m H legal i f = ap (λ (xs : List Operation). option_map (λ (a : Operation). a.occ) (first xs))
+    (nowhere width m H legal i f)
 
 -- the operation that is asked for goes on
 begins : (width m : ℕ) (H : List Event) (time : ℕ) (a : Operation) → IsLegalWithin width m H → IsAllowedWithin width m H (Asked a)
@@ -102,7 +106,8 @@ begins width m H time a legal allowed =
     rw still.moves refl
 
 -- the operations of an instance that go on, once one more is asked for
-asked_front : (H : List Event) (time : ℕ) (a : Operation) (i : ℕ) → ongoing (event time (Asked a) ∷ H) i ≡ cond (is_ongoing (event time (Asked a) ∷ H) i a) (a ∷ ongoing H i) (ongoing H i)
+asked_front : (H : List Event) (time : ℕ) (a : Operation) (i : ℕ)
+    → ongoing (event time (Asked a) ∷ H) i ≡ cond (is_ongoing (event time (Asked a) ∷ H) i a) (a ∷ ongoing H i) (ongoing H i)
 unfolding goes_on
 asked_front H time a i = refl
 
@@ -110,23 +115,27 @@ asked_own : (width m : ℕ) (H : List Event) (time : ℕ) (a : Operation) → Is
     → ongoing_of (event time (Asked a) ∷ H) a.instance ≡ Some a.occ
 asked_own width m H time a legal allowed =
     let on : is_ongoing (event time (Asked a) ∷ H) a.instance a ≡ true =
-    and_true (a.instance == a.instance) (goes_on (event time (Asked a) ∷ H) a) (eq-refl a.instance) (begins width m H time a legal allowed) in
+    and_true (a.instance == a.instance) (goes_on (event time (Asked a) ∷ H) a) (eq-refl a.instance)
+    (begins width m H time a legal allowed) in
     ap (λ (xs : List Operation). option_map (λ (x : Operation). x.occ) (first xs))
     (asked_front H time a a.instance ∙ ap (λ (b : Bool). cond b (a ∷ ongoing H a.instance) (ongoing H a.instance)) on)
 
-asked_other : (H : List Event) (time : ℕ) (a : Operation) (i : ℕ) → (a.instance == i) ≡ false → ongoing_of (event time (Asked a) ∷ H) i ≡ ongoing_of H i
+asked_other : (H : List Event) (time : ℕ) (a : Operation) (i : ℕ) → (a.instance == i) ≡ false
+    → ongoing_of (event time (Asked a) ∷ H) i ≡ ongoing_of H i
 asked_other H time a i other =
     let no : is_ongoing (event time (Asked a) ∷ H) i a ≡ false = rw other refl in
     ap (λ (xs : List Operation). option_map (λ (x : Operation). x.occ) (first xs))
     (asked_front H time a i ∙ ap (λ (b : Bool). cond b (a ∷ ongoing H i) (ongoing H i)) no)
 
 -- whether an operation goes on after a move of another
-moved_away : (H : List Event) (time o : ℕ) (to : OpState) (a : Operation) → (o == a.occ) ≡ false → goes_on (event time (Moved o to) ∷ H) a ≡ goes_on H a
+moved_away : (H : List Event) (time o : ℕ) (to : OpState) (a : Operation) → (o == a.occ) ≡ false
+    → goes_on (event time (Moved o to) ∷ H) a ≡ goes_on H a
 unfolding goes_on
 moved_away H time o to a other = ap (λ (s : OpState). not (is_final s)) (state-moved H time a.occ o to false other)
 
 -- whether an operation goes on after a move of its own
-moved_there : (H : List Event) (time o : ℕ) (to : OpState) (a : Operation) → (o == a.occ) ≡ true → goes_on (event time (Moved o to) ∷ H) a ≡ not (is_final to)
+moved_there : (H : List Event) (time o : ℕ) (to : OpState) (a : Operation) → (o == a.occ) ≡ true
+    → goes_on (event time (Moved o to) ∷ H) a ≡ not (is_final to)
 unfolding goes_on
 moved_there H time o to a same = ap (λ (s : OpState). not (is_final s)) (state-moved H time a.occ o to true same)
 
@@ -134,7 +143,8 @@ moved_there H time o to a same = ap (λ (s : OpState). not (is_final s)) (state-
 went_on : (H : List Event) (o : ℕ) (to : OpState) (a : Operation) → MayMove H o (state H o) to → a.occ ≡ o → goes_on H a ≡ true
 unfolding goes_on
 went_on H o to a may is =
-    subst (λ (n : ℕ). not (is_final (state H n)) ≡ true) (sym is) (not-false (is_final (state H o)) (edge-goes_on (state H o) to (may_move-edge H o (state H o) to may)))
+    subst (λ (n : ℕ). not (is_final (state H n)) ≡ true) (sym is) (not-false (is_final (state H o))
+    (edge-goes_on (state H o) to (may_move-edge H o (state H o) to may)))
 
 goes_same : (H : List Event) (time o : ℕ) (to : OpState) (a : Operation) → MayMove H o (state H o) to → is_final to ≡ false
     → goes_on (event time (Moved o to) ∷ H) a ≡ goes_on H a
@@ -151,7 +161,8 @@ moved_on H time o to i may rests =
     (λ a among. ap (λ (b : Bool). (a.instance == i) && b) (goes_same H time o to a may rests)))
 
 -- the operations of other instances go on after a move
-moved_other : (width m : ℕ) (H : List Event) (time o : ℕ) (to : OpState) (a : Operation) (i : ℕ) → IsLegalWithin width m H → IsIn a (operations H) → a.occ ≡ o
+moved_other : (width m : ℕ) (H : List Event) (time o : ℕ) (to : OpState) (a : Operation) (i : ℕ) → IsLegalWithin width m H
+    → IsIn a (operations H) → a.occ ≡ o
     → (a.instance == i) ≡ false → ongoing_of (event time (Moved o to) ∷ H) i ≡ ongoing_of H i
 moved_other width m H time o to a i legal mine is other =
     ap (λ (xs : List Operation). option_map (λ (x : Operation). x.occ) (first xs))
@@ -164,7 +175,8 @@ moved_other width m H time o to a i legal mine is other =
     (λ differs. ap (λ (b : Bool). (x.instance == i) && b) (moved_away H time o to x differs))))
 
 -- after a move to a final state no operation of the instance goes on
-moved_own : (width m : ℕ) (H : List Event) (time o : ℕ) (to : OpState) (a : Operation) → IsLegalWithin width m H → MayMove H o (state H o) to
+moved_own : (width m : ℕ) (H : List Event) (time o : ℕ) (to : OpState) (a : Operation) → IsLegalWithin width m H
+    → MayMove H o (state H o) to
     → IsIn a (operations H) → a.occ ≡ o → is_final to ≡ true → ongoing_of (event time (Moved o to) ∷ H) a.instance ≡ None
 moved_own width m H time o to a legal may mine is ends =
     ap (λ (xs : List Operation). option_map (λ (x : Operation). x.occ) (first xs))
@@ -172,10 +184,13 @@ moved_own width m H time o to a legal may mine is ends =
     by_test (is_ongoing (event time (Moved o to) ∷ H) a.instance x)
     (λ on.
     let home : (x.instance == a.instance) ≡ true = and_left (x.instance == a.instance) (goes_on (event time (Moved o to) ∷ H) x) on in
-    let goes : goes_on (event time (Moved o to) ∷ H) x ≡ true = and_right (x.instance == a.instance) (goes_on (event time (Moved o to) ∷ H) x) on in
+    let goes : goes_on (event time (Moved o to) ∷ H) x ≡ true = and_right (x.instance == a.instance)
+    (goes_on (event time (Moved o to) ∷ H) x) on in
     let went : goes_on H x ≡ true = goes_on-before H time o to x may goes in
-    let here : IsIn x (ongoing H a.instance) = in_filter (is_ongoing H a.instance) x (operations H) among (and_true (x.instance == a.instance) (goes_on H x) home went) in
-    let own : IsIn a (ongoing H a.instance) = in_filter (is_ongoing H a.instance) a (operations H) mine (and_true (a.instance == a.instance) (goes_on H a) (eq-refl a.instance) (went_on H o to a may is)) in
+    let here : IsIn x (ongoing H a.instance) = in_filter (is_ongoing H a.instance) x (operations H) among
+    (and_true (x.instance == a.instance) (goes_on H x) home went) in
+    let own : IsIn a (ongoing H a.instance) = in_filter (is_ongoing H a.instance) a (operations H) mine
+    (and_true (a.instance == a.instance) (goes_on H a) (eq-refl a.instance) (went_on H o to a may is)) in
     let one : a ≡ x = only (ongoing H a.instance) a x (one_ongoing width m H legal a.instance) own here in
     let number : o ≡ x.occ = sym is ∙ ap (λ (y : Operation). y.occ) one in
     let same : (o == x.occ) ≡ true = eq-eqb o x.occ number in
@@ -204,7 +219,8 @@ created_step width m H time i vnfd name text legal =
     (nowhere_of width m H legal (1 + n) (λ low high. omega (arith, high))))
 
 -- the instance of an occurrence that was asked for
-home_of : (width m : ℕ) (H : List Event) (o : ℕ) (a : Operation) → IsLegalWithin width m H → operation H o ≡ Some a → 1 ≤ o → instance_in o (rows H) ≡ Some a.instance
+home_of : (width m : ℕ) (H : List Event) (o : ℕ) (a : Operation) → IsLegalWithin width m H → operation H o ≡ Some a → 1 ≤ o
+    → instance_in o (rows H) ≡ Some a.instance
 home_of width m H o a legal found low =
     ap (λ (b : Bool). option_map (λ (r : OccRow). r.instance) (cond b None (slice_get (rows H) (o - 1)))) (not_zero o low)
     ∙ (ap (λ (r : Option OccRow). option_map (λ (r : OccRow). r.instance) r) (looked width m H (rows H) o legal refl low)
@@ -217,7 +233,8 @@ moved_step width m H time o to legal allowed =
     let a : Operation = found.0 in
     let mine : IsIn a (operations H) = found_in (λ (x : Operation). x.occ == o) (operations H) a found.1 in
     let is : a.occ ≡ o = has_number (operations H) o a found.1 in
-    let home : instance_in o (rows H) ≡ Some a.instance = home_of width m H o a legal found.1 ((found_exactly width m H legal o).0 allowed.0).0 in
+    let home : instance_in o (rows H) ≡ Some a.instance = home_of width m H o a legal found.1
+    ((found_exactly width m H legal o).0 allowed.0).0 in
     by_test (is_final to)
     (λ ends.
     set_one (ongoing_of H) (ongoing_of (event time (Moved o to) ∷ H)) (instances_made H) a.instance None (homed width m H legal a mine).0
@@ -226,7 +243,8 @@ moved_step width m H time o to legal allowed =
     ∙ (ap (λ (b : Bool). cond b (with_ongoing a.instance None (ongoings H)) (ongoings H)) (sym ends)
     ∙ ap (λ (i : Option ℕ). ongoing_moved i to (ongoings H)) (sym home)))
     (λ rests.
-    maps_same (ongoing_of (event time (Moved o to) ∷ H)) (ongoing_of H) (range_with_len 1 (instances_made H)) (λ c. moved_on H time o to c allowed.1 rests)
+    maps_same (ongoing_of (event time (Moved o to) ∷ H)) (ongoing_of H) (range_with_len 1 (instances_made H))
+    (λ c. moved_on H time o to c allowed.1 rests)
     ∙ (ap (λ (b : Bool). cond b (with_ongoing a.instance None (ongoings H)) (ongoings H)) (sym rests)
     ∙ ap (λ (i : Option ℕ). ongoing_moved i to (ongoings H)) (sym home)))
 
@@ -236,13 +254,15 @@ pub ongoings-step : (width m : ℕ) (H : List Event) (time : ℕ) (k : EventKind
 unfolding goes_on
 ongoings-step width m H time (Created i vnfd name text) legal allowed = created_step width m H time i vnfd name text legal
 ongoings-step width m H time (Asked a) legal allowed =
-    set_one (ongoing_of H) (ongoing_of (event time (Asked a) ∷ H)) (instances_made H) a.instance (Some a.occ) (live_number width m H a.instance legal allowed.live).0
+    set_one (ongoing_of H) (ongoing_of (event time (Asked a) ∷ H)) (instances_made H) a.instance (Some a.occ)
+    (live_number width m H a.instance legal allowed.live).0
     (asked_own width m H time a legal allowed) (λ c other. asked_other H time a c other)
 ongoings-step width m H time (Moved o to) legal allowed = moved_step width m H time o to legal allowed
 ongoings-step width m H time _ legal allowed = refl
 
 -- ongoing operations that followed an event
-pub engaged : (width m : ℕ) (H : List Event) (e : Event) (rs : List OccRow) (old new : List (Option ℕ)) → IsLegalWithin width m H → IsAllowedWithin width m H e.kind
+pub engaged : (width m : ℕ) (H : List Event) (e : Event) (rs : List OccRow) (old new : List (Option ℕ)) → IsLegalWithin width m H
+    → IsAllowedWithin width m H e.kind
     → StandsFor rs H → old ≡ ongoings H → new ≡ ongoings_after rs e.kind old → new ≡ ongoings (e ∷ H)
 engaged width m H e rs old new legal allowed stands was is =
     is
@@ -251,7 +271,8 @@ engaged width m H e rs old new legal allowed stands was is =
     ∙ sym (ongoings-step width m H e.moment e.kind legal allowed)))
 
 -- an event that neither creates an instance, nor asks, nor moves leaves the ongoing operations
-pub unengaged : (k : EventKind) (rs : List OccRow) (xs : List (Option ℕ)) → ((i : ℕ) (vnfd : List ℕ) (name text : Option (List ℕ)) → k ≡ Created i vnfd name text → ⊥)
+pub unengaged : (k : EventKind) (rs : List OccRow) (xs : List (Option ℕ))
+    → ((i : ℕ) (vnfd : List ℕ) (name text : Option (List ℕ)) → k ≡ Created i vnfd name text → ⊥)
     → ((a : Operation) → k ≡ Asked a → ⊥) → ((o : ℕ) (to : OpState) → k ≡ Moved o to → ⊥) → xs ≡ ongoings_after rs k xs
 unengaged (Created i vnfd name text) rs xs f g h = absurd (f i vnfd name text refl)
 unengaged (Asked a) rs xs f g h = absurd (g a refl)
@@ -259,13 +280,15 @@ unengaged (Moved o to) rs xs f g h = absurd (h o to refl)
 unengaged _ rs xs f g h = refl
 
 -- what is found at a place of a list of options, or nothing beyond the end
-entry : (f : ℕ → Option ℕ) (k n j i : ℕ) → k + j ≡ i → (n ≤ j → f i ≡ None) → option_and_then (λ x. x) (slice_get (map f (range_with_len k n)) j) ≡ f i
+entry : (f : ℕ → Option ℕ) (k n j i : ℕ) → k + j ≡ i → (n ≤ j → f i ≡ None)
+    → option_and_then (λ x. x) (slice_get (map f (range_with_len k n)) j) ≡ f i
 entry f k zero j i at none = sym (none (omega arith))
 entry f k (suc n) zero i at none = let is : k ≡ i = omega (arith, at) in ap f is
 entry f k (suc n) (suc j) i at none = entry f (k + 1) n j i (omega (arith, at)) (λ h. none (omega (arith, h)))
 
 -- the ongoing operation of an instance is found at its place
-pub engaged_at : (width m : ℕ) (H : List Event) (xs : List (Option ℕ)) (i : ℕ) → IsLegalWithin width m H → xs ≡ ongoings H → ongoing_in i xs ≡ ongoing_of H i
+pub engaged_at : (width m : ℕ) (H : List Event) (xs : List (Option ℕ)) (i : ℕ) → IsLegalWithin width m H → xs ≡ ongoings H
+    → ongoing_in i xs ≡ ongoing_of H i
 engaged_at width m H xs i legal is = by_test (i == 0)
     (λ same.
     let none : i ≡ 0 = eqb-true i 0 same in
@@ -275,4 +298,5 @@ engaged_at width m H xs i legal is = by_test (i == 0)
     let some : i ≢ 0 = false-eqb i 0 (sym other) in
     ap (λ (b : Bool). option_and_then (λ (x : Option ℕ). x) (cond b None (slice_get xs (i - 1)))) other
     ∙ (ap (λ (ys : List (Option ℕ)). option_and_then (λ (x : Option ℕ). x) (slice_get ys (i - 1))) is
-    ∙ entry (ongoing_of H) 1 (instances_made H) (i - 1) i (omega (arith, some)) (λ h. nowhere_of width m H legal i (λ low high. omega (arith, h, low, high)))))
+    ∙ entry (ongoing_of H) 1 (instances_made H) (i - 1) i (omega (arith, some))
+    (λ h. nowhere_of width m H legal i (λ low high. omega (arith, h, low, high)))))

@@ -17,5 +17,6 @@ joined a b c ha hb hc =
     }
 
 -- a text that is three names
-pub holds_names : (names a b c : List ℕ) (r v : ℕ) → names ≡ a ++ (b ++ c) → r ≡ length a → v ≡ length b → IsName a → IsName b → IsName c → HoldsNames names r v
+pub holds_names : (names a b c : List ℕ) (r v : ℕ) → names ≡ a ++ (b ++ c) → r ≡ length a → v ≡ length b → IsName a → IsName b → IsName c
+    → HoldsNames names r v
 holds_names names a b c r v is er ev ha hb hc = rw (is, er, ev) (joined a b c ha hb hc)

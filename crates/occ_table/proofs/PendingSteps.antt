@@ -1,5 +1,6 @@
 -- What each event makes of the open attempts of a row, and of its trouble.
-use Rattle.std.proofs.Common.{◌≡◌, ◌≤◌, ◌<◌, ◌||◌, ◌&&◌, ◌==◌, ◌∙◌, ◌++◌, ℕ, List, [], ◌∷◌, Bool, true, false, cond, not, refl, ap, sym, subst, length, map, filter, reverse, arith, eqb-true, lt-ltb}
+use Rattle.std.proofs.Common.{◌≡◌, ◌≤◌, ◌<◌, ◌||◌, ◌&&◌, ◌==◌, ◌∙◌, ◌++◌, ℕ, List, [], ◌∷◌, Bool, true, false, cond, not, refl, ap, sym}
+use Rattle.std.proofs.Common.{subst, length, map, filter, reverse, arith, eqb-true, lt-ltb}
 use Rattle.std.specs.List.{list_any}
 use Rattle.std.proofs.lemmas.List.{length-map, length-reverse, map-append}
 use Rattle.std.proofs.lemmas.List.Elements.{filter-append}
@@ -64,7 +65,8 @@ filter_map_swap p f (x ∷ xs) = by_test (p (f x))
     (λ yes. rw yes (ap (λ ys. f x ∷ ys) (filter_map_swap p f xs)))
     (λ no. rw no (filter_map_swap p f xs))
 
-map_passing : {A B : Type 0} → (f g : A → B) (p : A → Bool) (xs : List A) → ((x : A) → p x ≡ true → f x ≡ g x) → map f (filter p xs) ≡ map g (filter p xs)
+map_passing : {A B : Type 0} → (f g : A → B) (p : A → Bool) (xs : List A) → ((x : A) → p x ≡ true → f x ≡ g x)
+    → map f (filter p xs) ≡ map g (filter p xs)
 map_passing f g p [] e = refl
 map_passing f g p (x ∷ xs) e = by_test (p x)
     (λ yes. rw yes (ap (λ y. y ∷ map f (filter p xs)) (e x yes) ∙ ap (λ ys. g x ∷ ys) (map_passing f g p xs e)))
@@ -73,7 +75,8 @@ map_passing f g p (x ∷ xs) e = by_test (p x)
 -- attempts of different occurrences aren't the same
 apart : (t x : Tag) (o : ℕ) → (t.occ == o) ≡ false → is_of_occurrence o x ≡ true → same_tag x t ≡ false
 apart t x o other own = by_test (same_tag x t)
-    (λ same. let is : x ≡ t = same_tag-true x t same in let both : (t.occ == o) ≡ true = subst (λ (y : Tag). (y.occ == o) ≡ true) is own in cc)
+    (λ same. let is : x ≡ t = same_tag-true x t same in let both : (t.occ == o) ≡ true = subst (λ (y : Tag). (y.occ == o) ≡ true) is own in
+    cc)
     (λ no. no)
 
 room_for : (b : Bool) (ps qs : List Pending) → b ≡ true → ps ≡ cond b ps qs
@@ -85,7 +88,8 @@ pub pendings-begun : (width m : ℕ) (H : List Event) (time : ℕ) (t : Tag) (o 
 pendings-begun width m H time t o same wide legal allowed =
     let is : t.occ ≡ o = eqb-true t.occ o same in
     let few : length (open_of H o) < width = subst (λ (n : ℕ). length (open_of H n) < width) is allowed.room in
-    let long : length (pendings H o) ≡ length (open_of H o) = length-reverse (map (pending_of H) (open_of H o)) ∙ length-map (open_of H o) (pending_of H) in
+    let long : length (pendings H o) ≡ length (open_of H o) = length-reverse (map (pending_of H) (open_of H o))
+    ∙ length-map (open_of H o) (pending_of H) in
     let opened : open_of (event time (Intent t) ∷ H) o ≡ t ∷ open_of H o =
     open_of-begun width m H time t legal allowed o ∙ ap (λ (b : Bool). cond b (t ∷ open_of H o) (open_of H o)) same in
     let fresh : has_call_failed H t ≡ false = fresh_unfailed width m H legal t allowed.number in
@@ -100,12 +104,15 @@ pendings-begun_other width m H time t o other legal allowed =
     ap (λ (ts : List Tag). reverse (map (pending_of H) ts))
     (open_of-begun width m H time t legal allowed o ∙ ap (λ (b : Bool). cond b (t ∷ open_of H o) (open_of H o)) other)
 
-pub pendings-failed : (H : List Event) (time : ℕ) (t : Tag) (o : ℕ) → pendings (event time (CallFailed t) ∷ H) o ≡ map (failed_by t) (pendings H o)
+pub pendings-failed : (H : List Event) (time : ℕ) (t : Tag) (o : ℕ)
+    → pendings (event time (CallFailed t) ∷ H) o ≡ map (failed_by t) (pendings H o)
 unfolding is_unsettled
 pendings-failed H time t o =
-    ap reverse (sym (map_map (failed_by t) (pending_of H) (open_of H o))) ∙ sym (map_reverse (failed_by t) (map (pending_of H) (open_of H o)))
+    ap reverse (sym (map_map (failed_by t) (pending_of H) (open_of H o)))
+    ∙ sym (map_reverse (failed_by t) (map (pending_of H) (open_of H o)))
 
-pub pendings-failed_other : (H : List Event) (time : ℕ) (t : Tag) (o : ℕ) → (t.occ == o) ≡ false → pendings (event time (CallFailed t) ∷ H) o ≡ pendings H o
+pub pendings-failed_other : (H : List Event) (time : ℕ) (t : Tag) (o : ℕ) → (t.occ == o) ≡ false
+    → pendings (event time (CallFailed t) ∷ H) o ≡ pendings H o
 unfolding is_unsettled
 pendings-failed_other H time t o other =
     ap reverse (map_passing (pending_of (event time (CallFailed t) ∷ H)) (pending_of H) (is_of_occurrence o) (open_tags H)
@@ -138,11 +145,13 @@ any_failed H t (x ∷ ts) = by_test (same_tag t x)
     let is : t ≡ x = same_tag-true t x same in
     let own : has_call_failed H x ≡ has_call_failed H t = ap (has_call_failed H) (sym is) in
     rw same (ap (λ (b : Bool). has_call_failed H x || b) (any_failed H t ts)
-    ∙ (ap (λ (b : Bool). b || (list_any (same_tag t) ts && has_call_failed H t)) own ∙ absorbed (has_call_failed H t) (list_any (same_tag t) ts))))
+    ∙ (ap (λ (b : Bool). b || (list_any (same_tag t) ts && has_call_failed H t)) own
+    ∙ absorbed (has_call_failed H t) (list_any (same_tag t) ts))))
     (λ other. rw other (any_failed H t ts))
 
 -- an open attempt is among those of its row, with what is known of its call
-pub known_failed : (H : List Event) (t : Tag) (o : ℕ) → is_open H t ≡ true → (t.occ == o) ≡ true → has_call_failed H t ≡ has_failed_among t (pendings H o)
+pub known_failed : (H : List Event) (t : Tag) (o : ℕ) → is_open H t ≡ true → (t.occ == o) ≡ true
+    → has_call_failed H t ≡ has_failed_among t (pendings H o)
 known_failed H t o opened own =
     let among : list_any (same_tag t) (open_of H o) ≡ true =
     any_filter (same_tag t) (is_of_occurrence o) (open_tags H)

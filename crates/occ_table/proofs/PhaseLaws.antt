@@ -1,5 +1,7 @@
 -- Counts of changes by phase and net.
-use Rattle.std.proofs.Common.{◌≡◌, ◌≢◌, ◌≤◌, ◌<◌, ◌+◌, ◌-◌, ◌&&◌, ◌||◌, ◌==◌, ◌∙◌, ℕ, List, [], ◌∷◌, zero, suc, Bool, true, false, cond, not, Option, None, Some, refl, ap, sym, subst, length, map, filter, replicate, set, slice_get, take, get_or, arith, min, eqb-true, eq-eqb, false-eqb, option_map}
+use Rattle.std.proofs.Common.{◌≡◌, ◌≢◌, ◌≤◌, ◌<◌, ◌+◌, ◌-◌, ◌&&◌, ◌||◌, ◌==◌, ◌∙◌, ℕ, List, [], ◌∷◌, zero, suc, Bool, true, false, cond}
+use Rattle.std.proofs.Common.{not, Option, None, Some, refl, ap, sym, subst, length, map, filter, replicate, set, slice_get, take, get_or}
+use Rattle.std.proofs.Common.{arith, min, eqb-true, eq-eqb, false-eqb, option_map}
 use Rattle.std.specs.Prelude.{slice_index_or, zip}
 use Rattle.std.proofs.lemmas.List.Filters.{length-filter_more}
 use Rattle.std.specs.List.{enumerate_from, list_all, range_with_len}
@@ -40,7 +42,8 @@ tally-set n p zero v (y ∷ xs) (k ∷ ns) x old ex eo =
     let a = tally-cons n p (y, v) (zip xs ns) in
     let b = tally-cons n p (y, k) (zip xs ns) in
     let f : one (hits n p (y, v)) ≡ one (hits n p (x, v)) = ap (λ (z : Change). one (hits n p (z, v))) is in
-    let g : one (hits n p (y, k)) ≡ one (hits n p (x, old)) = ap (λ (z : Change). one (hits n p (z, k))) is ∙ ap (λ (m : ℕ). one (hits n p (x, m))) was in
+    let g : one (hits n p (y, k)) ≡ one (hits n p (x, old)) = ap (λ (z : Change). one (hits n p (z, k))) is
+    ∙ ap (λ (m : ℕ). one (hits n p (x, m))) was in
     omega (arith, a, b, f, g)
 tally-set n p (suc c) v (y ∷ xs) (k ∷ ns) x old ex eo =
     let rest = tally-set n p c v xs ns x old ex eo in
@@ -102,7 +105,8 @@ shift-set n c v old xs ns x ex eo turned few =
     let next : g x.phase ≡ f x.phase + 1 = omega (arith, now, a, b) in
     differs f g 0 9 x.phase x.phase (f x.phase + 1) (omega arith) next others
     ∙ (set-any (map f (range_with_len 0 9)) x.phase _ _ (λ less.
-    let at : slice_index_or (map f (range_with_len 0 9)) x.phase 0 ≡ f x.phase = index-range f 0 9 x.phase 0 less ∙ ap f (from_zero x.phase) in
+    let at : slice_index_or (map f (range_with_len 0 9)) x.phase 0 ≡ f x.phase =
+    index-range f 0 9 x.phase 0 less ∙ ap f (from_zero x.phase) in
     least (f x.phase) (slice_index_or (map f (range_with_len 0 9)) x.phase 0) at bound)
     ∙ ap (λ (b : Bool). shifted b (Some x.phase) (tallies n xs ns)) (sym up)))
     (λ down.
@@ -113,7 +117,8 @@ shift-set n c v old xs ns x ex eo turned few =
     let next : g x.phase ≡ f x.phase - 1 = omega (arith, now, a, b) in
     differs f g 0 9 x.phase x.phase (f x.phase - 1) (omega arith) next others
     ∙ (set-any (map f (range_with_len 0 9)) x.phase _ _ (λ less.
-    let at : slice_index_or (map f (range_with_len 0 9)) x.phase 0 ≡ f x.phase = index-range f 0 9 x.phase 0 less ∙ ap f (from_zero x.phase) in
+    let at : slice_index_or (map f (range_with_len 0 9)) x.phase 0 ≡ f x.phase =
+    index-range f 0 9 x.phase 0 less ∙ ap f (from_zero x.phase) in
     ap (λ (k : ℕ). k - 1) (sym at))
     ∙ ap (λ (b : Bool). shifted b (Some x.phase) (tallies n xs ns)) (sym down))) where
       from_zero : (p : ℕ) → 0 + p ≡ p
@@ -156,13 +161,15 @@ turned Undo zero h = refl
 turned Undo (suc zero) h = refl
 turned Undo (suc (suc n)) h = absurd (omega (arith, h))
 
-tally_done : (n : ℕ) (t : Tag) (xs : List Change) (f : ℕ → ℕ) (x : Option Change) → n ≤ 1 → length xs ≤ 5000 → f t.change ≡ net_before t.way → slice_get xs t.change ≡ x
+tally_done : (n : ℕ) (t : Tag) (xs : List Change) (f : ℕ → ℕ) (x : Option Change) → n ≤ 1 → length xs ≤ 5000 → f t.change ≡ net_before t.way
+    → slice_get xs t.change ≡ x
     → tallies n xs (set (map f (range_with_len 0 (length xs))) t.change (net_after t.way))
     ≡ shifted (net_after t.way == n) (option_map (λ (y : Change). y.phase) x) (tallies n xs (map f (range_with_len 0 (length xs))))
 tally_done n t xs f None low few was e =
     let past = none_past xs t.change e in
     let long = length_range f 0 (length xs) in
-    ap (λ (ns : List ℕ). tallies n xs ns) (set_past (map f (range_with_len 0 (length xs))) t.change (net_after t.way) (omega (arith, past, long))) where
+    ap (λ (ns : List ℕ). tallies n xs ns) (set_past (map f (range_with_len 0 (length xs))) t.change (net_after t.way)
+    (omega (arith, past, long))) where
       length_range : (f : ℕ → ℕ) (k n : ℕ) → length (map f (range_with_len k n)) ≡ n
       length_range f k zero = refl
       length_range f k (suc n) = ap suc (length_range f (k + 1) n)
@@ -172,12 +179,15 @@ tally_done n t xs f (Some x) low few was e =
     shift-set n t.change (net_after t.way) (net_before t.way) xs (map f (range_with_len 0 (length xs))) x e held (turned t.way n low) few
 
 -- the counts after an attempt has ended
-pub tally-ended : (n : ℕ) (t : Tag) (outcome : Outcome) (xs : List Change) (f : ℕ → ℕ) → n ≤ 1 → length xs ≤ 5000 → f t.change ≡ net_before t.way
-    → tallies n xs (nets_after t outcome (map f (range_with_len 0 (length xs)))) ≡ tally_after n t outcome xs (tallies n xs (map f (range_with_len 0 (length xs))))
+pub tally-ended : (n : ℕ) (t : Tag) (outcome : Outcome) (xs : List Change) (f : ℕ → ℕ) → n ≤ 1 → length xs ≤ 5000
+    → f t.change ≡ net_before t.way
+    → tallies n xs (nets_after t outcome (map f (range_with_len 0 (length xs))))
+    ≡ tally_after n t outcome xs (tallies n xs (map f (range_with_len 0 (length xs))))
 tally-ended n t (Done name) xs f low few was = tally_done n t xs f (slice_get xs t.change) low few was refl
 tally-ended n t _ xs f low few was = refl
 
-fresh_waiting : (p : ℕ) (xs : List Change) → tally 0 (zip xs (replicate (length xs) 0)) p ≡ length (filter (λ (x : Change). x.phase == p) xs)
+fresh_waiting : (p : ℕ) (xs : List Change) → tally 0 (zip xs (replicate (length xs) 0)) p
+    ≡ length (filter (λ (x : Change). x.phase == p) xs)
 fresh_waiting p [] = refl
 fresh_waiting p (x ∷ xs) = by_test (x.phase == p)
     (λ yes. rw yes (ap suc (fresh_waiting p xs)))
@@ -192,7 +202,8 @@ fresh_made p (x ∷ xs) = by_test (x.phase == p)
 -- all changes of a plan wait when it is asked for
 pub waiting-fresh : (xs : List Change) → length xs ≤ 5000 → tallies 0 xs (replicate (length xs) 0) ≡ in_phases xs
 waiting-fresh xs few =
-    maps_same (tally 0 (zip xs (replicate (length xs) 0))) (λ p. min (length (filter (λ (x : Change). x.phase == p) xs)) 65535) (range_with_len 0 9) (λ p.
+    maps_same (tally 0 (zip xs (replicate (length xs) 0))) (λ p. min (length (filter (λ (x : Change). x.phase == p) xs)) 65535)
+    (range_with_len 0 9) (λ p.
     let is = fresh_waiting p xs in
     let most = tally-few 0 p xs (replicate (length xs) 0) in
     omega (arith, is, most, few))
@@ -255,7 +266,8 @@ all_range-to : (g : ℕ → Bool) (k n p : ℕ) → list_all g (range_with_len k
 all_range-to g k zero p h low high = absurd (omega (arith, low, high))
 all_range-to g k (suc n) p h low high = by_test (k == p)
     (λ same. subst (λ (q : ℕ). g q ≡ true) (eqb-true k p same) (and_left (g k) (list_all g (range_with_len (k + 1) n)) h))
-    (λ other. all_range-to g (k + 1) n p (and_right (g k) (list_all g (range_with_len (k + 1) n)) h) (above k p low other) (omega (arith, high))) where
+    (λ other. all_range-to g (k + 1) n p (and_right (g k) (list_all g (range_with_len (k + 1) n)) h) (above k p low other)
+    (omega (arith, high))) where
       above : (a b : ℕ) → a ≤ b → (a == b) ≡ false → a + 1 ≤ b
       above a b le ne = let differ : a ≢ b = false-eqb a b (sym ne) in omega (arith, le, differ)
 
@@ -266,7 +278,8 @@ all_range-from g k (suc n) f =
     (all_range-from g (k + 1) n (λ p low high. f p (omega (arith, low)) (omega (arith, high))))
 
 -- a test of counts with their phases
-counts_all : (test : ℕ × ℕ → Bool) (f : ℕ → ℕ) (k n : ℕ) → list_all test (enumerate_from k (map f (range_with_len k n))) ≡ list_all (λ p. test (p, f p)) (range_with_len k n)
+counts_all : (test : ℕ × ℕ → Bool) (f : ℕ → ℕ) (k n : ℕ) → list_all test (enumerate_from k (map f (range_with_len k n)))
+    ≡ list_all (λ p. test (p, f p)) (range_with_len k n)
 counts_all test f k zero = refl
 counts_all test f k (suc n) = ap (λ (b : Bool). test (k, f k) && b) (counts_all test f (k + 1) n)
 
@@ -288,7 +301,8 @@ same_from_both false true f g = g refl
 same_from_both false false f g = refl
 
 -- one change more is counted in its phase
-phases-more : (xs : List Change) (i : ℕ) (d : Change) → i < length xs → raised (get_or xs i d).phase (in_phases (take i xs)) ≡ in_phases (take (i + 1) xs)
+phases-more : (xs : List Change) (i : ℕ) (d : Change) → i < length xs
+    → raised (get_or xs i d).phase (in_phases (take i xs)) ≡ in_phases (take (i + 1) xs)
 phases-more xs i d less =
     let x : Change = get_or xs i d in
     let f : ℕ → ℕ = λ p. length (filter (λ (y : Change). y.phase == p) (take i xs)) in
@@ -304,9 +318,11 @@ phases-more xs i d less =
     let own : one (x.phase == x.phase) ≡ 1 = ap one (eq-eqb x.phase x.phase refl) in
     let now = more x.phase in
     let next : g x.phase ≡ f x.phase + 1 = omega (arith, now, own) in
-    sym (differs counts (λ p. min (g p) 65535) 0 9 x.phase x.phase (min (f x.phase + 1) 65535) (omega arith) (ap (λ (k : ℕ). min k 65535) next) others
+    sym (differs counts (λ p. min (g p) 65535) 0 9 x.phase x.phase (min (f x.phase + 1) 65535) (omega arith)
+    (ap (λ (k : ℕ). min k 65535) next) others
     ∙ set-any (map counts (range_with_len 0 9)) x.phase _ _ (λ small.
-    let at : slice_index_or (map counts (range_with_len 0 9)) x.phase 0 ≡ min (f x.phase) 65535 = index-range counts 0 9 x.phase 0 small ∙ ap counts (from_zero x.phase) in
+    let at : slice_index_or (map counts (range_with_len 0 9)) x.phase 0 ≡ min (f x.phase) 65535 =
+    index-range counts 0 9 x.phase 0 small ∙ ap counts (from_zero x.phase) in
     least (f x.phase) (slice_index_or (map counts (range_with_len 0 9)) x.phase 0) at)) where
       from_zero : (p : ℕ) → 0 + p ≡ p
       from_zero p = omega arith
@@ -314,7 +330,8 @@ phases-more xs i d less =
       least : (a b : ℕ) → b ≡ min a 65535 → min (a + 1) 65535 ≡ min (b + 1) 65535
       least a b e = omega (arith, e)
 
-pub phases-next : (xs : List Change) (i : ℕ) (d : Change) (old new : List ℕ) → new ≡ raised (get_or xs i d).phase old → old ≡ in_phases (take i xs)
+pub phases-next : (xs : List Change) (i : ℕ) (d : Change) (old new : List ℕ) → new ≡ raised (get_or xs i d).phase old
+    → old ≡ in_phases (take i xs)
     → i < length xs → new ≡ in_phases (take (i + 1) xs)
 phases-next xs i d old new e is less = e ∙ (ap (λ (ns : List ℕ). raised (get_or xs i d).phase ns) is ∙ phases-more xs i d less)
 
@@ -322,7 +339,8 @@ phases-next xs i d old new e is less = e ∙ (ap (λ (ns : List ℕ). raised (ge
 pub through_by_counts : (goes : ℕ → Bool) (m n : ℕ) (zs : List (Change × ℕ)) → Sound m n zs
     → list_all (clear_at goes n zs) (range_with_len 0 9) ≡ list_all (through goes m) zs
 through_by_counts goes m n zs s = same_from_both _ _
-    (λ h. clear-to goes m n zs s (at-to goes n zs (λ p small. all_range-to (clear_at goes n zs) 0 9 p h (omega arith) (omega (arith, small)))))
+    (λ h. clear-to goes m n zs s (at-to goes n zs (λ p small. all_range-to (clear_at goes n zs) 0 9 p h (omega arith)
+    (omega (arith, small)))))
     (λ h. all_range-from (clear_at goes n zs) 0 9 (λ p low high. at-from goes n zs (clear-from goes m n zs s h) p (omega (arith, high))))
 
 -- every change that goes before a phase is through exactly where the counts are clear
@@ -337,5 +355,6 @@ none_all f k zero = refl
 none_all f k (suc n) = ap (λ (b : Bool). (f k == 0) && b) (none_all f (k + 1) n)
 
 -- every change has one of the nets exactly where none is counted with the other
-pub none-counts : (m n : ℕ) (xs : List Change) (ns : List ℕ) → Sound m n (zip xs ns) → none_counted (tallies n xs ns) ≡ list_all (through (λ p. true) m) (zip xs ns)
+pub none-counts : (m n : ℕ) (xs : List Change) (ns : List ℕ) → Sound m n (zip xs ns)
+    → none_counted (tallies n xs ns) ≡ list_all (through (λ p. true) m) (zip xs ns)
 none-counts m n xs ns s = none_all (tally n (zip xs ns)) 0 9 ∙ through_by_counts (λ p. true) m n (zip xs ns) s

@@ -1,5 +1,6 @@
 -- The changes of an operation are of nine phases, and each has net 0 or 1.
-use Rattle.std.proofs.Common.{◌≡◌, ◌≤◌, ◌<◌, ◌+◌, ◌==◌, ℕ, List, [], ◌∷◌, zero, suc, Bool, true, not, Option, None, Some, refl, subst, length, map, arith, nat_lt, lt-ltb, ltb-true, inl, inr}
+use Rattle.std.proofs.Common.{◌≡◌, ◌≤◌, ◌<◌, ◌+◌, ◌==◌, ℕ, List, [], ◌∷◌, zero, suc, Bool, true, not, Option, None, Some, refl, subst}
+use Rattle.std.proofs.Common.{length, map, arith, nat_lt, lt-ltb, ltb-true, inl, inr}
 use Rattle.std.specs.Prelude.{zip}
 use Rattle.std.specs.List.{list_all, range_with_len}
 use Rattle.lcm_events.specs.declared.changes.Change.{Change}
@@ -40,7 +41,8 @@ in_nine xs = list_all (λ x. nat_lt x.phase 9) xs
 
 each_in_nine : (xs : List Change) → ((x : Change) → IsIn x xs → x.phase < 9) → in_nine xs ≡ true
 each_in_nine [] f = refl
-each_in_nine (x ∷ xs) f = and_true (nat_lt x.phase 9) (in_nine xs) (lt-ltb x.phase 9 (f x (inl refl))) (each_in_nine xs (λ y h. f y (inr h)))
+each_in_nine (x ∷ xs) f = and_true (nat_lt x.phase 9) (in_nine xs) (lt-ltb x.phase 9 (f x (inl refl)))
+    (each_in_nine xs (λ y h. f y (inr h)))
 
 planned_in_nine : (H : List Event) (a : Operation) (d : Option Vnfd) → IsPlanOf H a d → in_nine a.changes ≡ true
 planned_in_nine H a None h = absurd h
@@ -53,19 +55,27 @@ planned_in_nine H a (Some d) h =
 abbrev AllInNine : List Event → Type 0
 AllInNine H = (a : Operation) → IsIn a (operations H) → in_nine a.changes ≡ true
 
-nine_step : (width m : ℕ) (H : List Event) (time : ℕ) (k : EventKind) → IsAllowedWithin width m H k → AllInNine H → AllInNine (event time k ∷ H)
-nine_step width m H time (Asked b) allowed h a (inl e) = subst (λ (z : Operation). in_nine z.changes ≡ true) e (planned_in_nine H b (descriptor H b.instance) allowed.planned)
+nine_step : (width m : ℕ) (H : List Event) (time : ℕ) (k : EventKind) → IsAllowedWithin width m H k → AllInNine H
+    → AllInNine (event time k ∷ H)
+nine_step width m H time (Asked b) allowed h a (inl e) = subst (λ (z : Operation). in_nine z.changes ≡ true) e
+    (planned_in_nine H b (descriptor H b.instance) allowed.planned)
 nine_step width m H time (Asked b) allowed h a (inr g) = h a g
 nine_step width m H time _ allowed h a g = h a g
 
 -- the changes of every operation are of nine phases
-pub phases_are_nine : (width m : ℕ) (H : List Event) → IsLegalWithin width m H → (a : Operation) → IsIn a (operations H) → in_nine a.changes ≡ true
-phases_are_nine width m H legal = legal_induction width m AllInNine (λ a h. absurd h) (λ H time k legal allowed h. nine_step width m H time k allowed h) H legal
+pub phases_are_nine : (width m : ℕ) (H : List Event) → IsLegalWithin width m H → (a : Operation) → IsIn a (operations H)
+    → in_nine a.changes ≡ true
+phases_are_nine width m H legal = legal_induction width m AllInNine (λ a h. absurd h)
+    (λ H time k legal allowed h. nine_step width m H time k allowed h) H legal
 
-sound_zip : (f : ℕ → ℕ) (m n k : ℕ) (xs : List Change) → in_nine xs ≡ true → ((c : ℕ) → (f c == m) ≡ not (f c == n)) → Sound m n (zip xs (map f (range_with_len k (length xs))))
+sound_zip : (f : ℕ → ℕ) (m n k : ℕ) (xs : List Change) → in_nine xs ≡ true → ((c : ℕ) → (f c == m) ≡ not (f c == n))
+    → Sound m n (zip xs (map f (range_with_len k (length xs))))
 sound_zip f m n k [] few turns = tt
-sound_zip f m n k (x ∷ xs) few turns =
-    (ltb-true x.phase 9 (and_left (nat_lt x.phase 9) (in_nine xs) few), turns k, sound_zip f m n (k + 1) xs (and_right (nat_lt x.phase 9) (in_nine xs) few) turns)
+sound_zip f m n k (x ∷ xs) few turns = (
+  ltb-true x.phase 9 (and_left (nat_lt x.phase 9) (in_nine xs) few),
+  turns k,
+  sound_zip f m n (k + 1) xs (and_right (nat_lt x.phase 9) (in_nine xs) few) turns,
+)
 
 made_or_not : (n : ℕ) → n ≤ 1 → (n == 1) ≡ not (n == 0)
 made_or_not zero h = refl

@@ -5,13 +5,16 @@ use Rattle.occ_table.proofs.UsedSteps.{used_told}
 use Rattle.occ_table.specs.Used.{used, used_in}
 use Rattle.occ_table.specs.declared.used.Used.{Used}
 use Rattle.lcm_model.specs.Attempts.{is_unsettled}
-use Rattle.std.proofs.Common.{◌≡◌, ◌≢◌, ◌≤◌, ◌<◌, ◌+◌, ◌-◌, ◌++◌, ◌==◌, ◌∙◌, ℕ, List, [], ◌∷◌, zero, suc, Bool, true, false, cond, Option, None, Some, is_some, refl, ap, sym, subst, length, map, reverse, arith, eqb-true, false-eqb, slice_get, replicate, inl, inr}
+use Rattle.std.proofs.Common.{◌≡◌, ◌≢◌, ◌≤◌, ◌<◌, ◌+◌, ◌-◌, ◌++◌, ◌==◌, ◌∙◌, ℕ, List, [], ◌∷◌, zero, suc, Bool, true, false, cond, Option}
+use Rattle.std.proofs.Common.{None, Some, is_some, refl, ap, sym, subst, length, map, reverse, arith, eqb-true, false-eqb, slice_get}
+use Rattle.std.proofs.Common.{replicate, inl, inr}
 use Rattle.std.specs.Option.{option_map_or}
 use Rattle.std.proofs.lemmas.List.{length-map, length-reverse}
 use mathlib.Core.List.{reverse-cons}
 use Rattle.lcm_events.specs.declared.events.Event.{Event}
 use Rattle.lcm_events.specs.declared.events.EventKind.{EventKind}
-use Rattle.lcm_events.specs.declared.events.EventKind.TheVariants.{Asked, CallFailed, CancelAsked, Created, Denied, GrantTried, Granted, Intent, Moved, Settled}
+use Rattle.lcm_events.specs.declared.events.EventKind.TheVariants.{Asked, CallFailed, CancelAsked, Created, Denied, GrantTried, Granted}
+use Rattle.lcm_events.specs.declared.events.EventKind.TheVariants.{Intent, Moved, Settled}
 use Rattle.lcm_events.specs.declared.events.Operation.{Operation}
 use Rattle.lcm_model.specs.Allowed.{IsAllowedWithin, IsLegalWithin}
 use Rattle.lcm_model.specs.Operations.{occurrence_of, operation, operations}
@@ -62,7 +65,8 @@ changed f g h (x ∷ xs) n counted low e =
     ∙ ap (λ (zs : List OccRow). update h (n - 1) zs) (sym (reverse-cons (f x) (map f xs)))))
 
 -- an event about an occurrence changes its row alone
-about-step : (width m : ℕ) (H : List Event) (time : ℕ) (k : EventKind) (n : ℕ) → occurrence_of k ≡ Some n → width ≤ 4 → IsLegalWithin width m H → IsAllowedWithin width m H k
+about-step : (width m : ℕ) (H : List Event) (time : ℕ) (k : EventKind) (n : ℕ) → occurrence_of k ≡ Some n → width ≤ 4
+    → IsLegalWithin width m H → IsAllowedWithin width m H k
     → reverse (map (row (event time k ∷ H)) (operations H)) ≡ update (row_after time (used_told H k) k) (n - 1) (rows H)
 about-step width m H time k n e wide legal allowed =
     changed (row H) (row (event time k ∷ H)) (row_after time (used_told H k) k) (operations H) n (operations_counted width m H legal)
@@ -74,7 +78,8 @@ pub none_there : {A : Type 0} → (x : Option A) → (is_some x ≡ true → ⊥
 none_there None f = refl
 none_there (Some x) f = absurd (f refl)
 
-with_lists : (r : OccRow) {n k v w : List ℕ} {u : List (Option Used)} → r.nets ≡ n → r.attempts ≡ k → r.waiting ≡ v → r.made ≡ w → r.used ≡ u
+with_lists : (r : OccRow) {n k v w : List ℕ} {u : List (Option Used)} → r.nets ≡ n → r.attempts ≡ k → r.waiting ≡ v → r.made ≡ w
+    → r.used ≡ u
     → r ≡ record r { nets = n; attempts = k; waiting = v; made = w; used = u }
 with_lists r {n} {k} {v} {w} {u} e f g h l =
     ap (λ (x : List ℕ). record r { nets = x }) e
@@ -135,7 +140,8 @@ unused width m H legal o c none =
     legal_induction width m (λ H. operation H o ≡ None → used H o c ≡ None) (λ e. refl)
     (λ H time k legal allowed h. unused_step width m H time k o c legal allowed h) H legal none
 
-asked_row : (H : List Event) (time : ℕ) (a : Operation) → row (event time (Asked a) ∷ H) a ≡ record (row H a) { asked = time; entered = time }
+asked_row : (H : List Event) (time : ℕ) (a : Operation) → row (event time (Asked a) ∷ H) a
+    ≡ record (row H a) { asked = time; entered = time }
 unfolding is_unsettled
 asked_row H time a = let own : (a.occ == a.occ) ≡ true = eq-refl a.occ in rw own refl
 
@@ -150,7 +156,8 @@ first width m H time a legal allowed =
     let fresh : is_over H a.occ ≡ false = rw still.moves refl in
     let none_made : nets H a ≡ replicate (length a.changes) 0 = nets-none H a still in
     asked_row H time a
-    ∙ (with_lists (record (row H a) { asked = time; entered = time }) none_made (kept_all (is_over H a.occ) _ fresh ∙ attempts-none H a still)
+    ∙ (with_lists (record (row H a) { asked = time; entered = time }) none_made
+    (kept_all (is_over H a.occ) _ fresh ∙ attempts-none H a still)
     (ap (λ (ns : List ℕ). tallies 0 a.changes ns) none_made ∙ waiting-fresh a.changes (few_changes width m H a legal allowed))
     (ap (λ (ns : List ℕ). tallies 1 a.changes ns) none_made ∙ made-fresh a.changes)
     (all_alike (used H a.occ) 0 (length a.changes) None (λ c. unused width m H legal a.occ c none))
@@ -177,10 +184,12 @@ same_rows f g (x ∷ xs) e =
     ap (λ (r : OccRow). r ∷ map f xs) (e x (inl refl)) ∙ ap (λ (rs : List OccRow). g x ∷ rs) (same_rows f g xs (λ a among. e a (inr among)))
 
 -- an instance that is created is another than those of the operations
-newer : (width m : ℕ) (H : List Event) (i : ℕ) (a : Operation) → IsLegalWithin width m H → i ≡ instances_made H + 1 → IsIn a (operations H) → (i == a.instance) ≡ false
+newer : (width m : ℕ) (H : List Event) (i : ℕ) (a : Operation) → IsLegalWithin width m H → i ≡ instances_made H + 1 → IsIn a (operations H)
+    → (i == a.instance) ≡ false
 newer width m H i a legal number among =
     let from = homed width m H legal a among in
-    by_test (i == a.instance) (λ same. let is : i ≡ a.instance = eqb-true i a.instance same in absurd (omega (arith, from.1, is, number))) (λ other. other)
+    by_test (i == a.instance) (λ same. let is : i ≡ a.instance = eqb-true i a.instance same in absurd (omega (arith, from.1, is, number)))
+    (λ other. other)
 
 created_row : (H : List Event) (time i : ℕ) (v : List ℕ) (name text : Option (List ℕ)) (a : Operation) → (i == a.instance) ≡ false
     → row (event time (Created i v name text) ∷ H) a ≡ row H a
@@ -188,7 +197,8 @@ unfolding is_unsettled
 created_row H time i v name text a other = rw other refl
 
 -- what an event makes of the rows
-pub rows-step : (width m : ℕ) (H : List Event) (time : ℕ) (k : EventKind) → width ≤ 4 → IsLegalWithin width m H → IsAllowedWithin width m H k
+pub rows-step : (width m : ℕ) (H : List Event) (time : ℕ) (k : EventKind) → width ≤ 4 → IsLegalWithin width m H
+    → IsAllowedWithin width m H k
     → rows (event time k ∷ H) ≡ rows_after (vnfds H) time (used_told H k) k (rows H)
 unfolding is_unsettled
 rows-step width m H time (Asked a) wide legal allowed =
@@ -197,37 +207,46 @@ rows-step width m H time (Asked a) wide legal allowed =
     reverse-cons (new a) (map new (operations H))
     ∙ (ap (λ (rs : List OccRow). reverse rs ++ new a ∷ []) (older H time a (operations H) (operations_counted width m H legal) long)
     ∙ (ap (λ (r : OccRow). rows H ++ r ∷ []) (first width m H time a legal allowed)
-    ∙ ap (λ (v : List ℕ). rows H ++ described v (first_row time a) ∷ []) (sym (described_at width m H a.instance legal (live_number width m H a.instance legal allowed.live).0))))
+    ∙ ap (λ (v : List ℕ). rows H ++ described v (first_row time a) ∷ [])
+    (sym (described_at width m H a.instance legal (live_number width m H a.instance legal allowed.live).0))))
 rows-step width m H time (Created i v name text) wide legal allowed =
     ap (λ (rs : List OccRow). reverse rs) (same_rows (row (event time (Created i v name text) ∷ H)) (row H) (operations H)
     (λ a among. created_row H time i v name text a (newer width m H i a legal allowed.number among)))
-rows-step width m H time (GrantTried n answer) wide legal allowed = about-step width m H time (GrantTried n answer) n refl wide legal allowed
-rows-step width m H time (Granted n grant places spots) wide legal allowed = about-step width m H time (Granted n grant places spots) n refl wide legal allowed
+rows-step width m H time (GrantTried n answer) wide legal allowed =
+    about-step width m H time (GrantTried n answer) n refl wide legal allowed
+rows-step width m H time (Granted n grant places spots) wide legal allowed =
+    about-step width m H time (Granted n grant places spots) n refl wide legal allowed
 rows-step width m H time (Denied n) wide legal allowed = about-step width m H time (Denied n) n refl wide legal allowed
 rows-step width m H time (Intent t) wide legal allowed = about-step width m H time (Intent t) t.occ refl wide legal allowed
 rows-step width m H time (CallFailed t) wide legal allowed = about-step width m H time (CallFailed t) t.occ refl wide legal allowed
-rows-step width m H time (Settled t outcome) wide legal allowed = about-step width m H time (Settled t outcome) t.occ refl wide legal allowed
+rows-step width m H time (Settled t outcome) wide legal allowed =
+    about-step width m H time (Settled t outcome) t.occ refl wide legal allowed
 rows-step width m H time (Moved n to) wide legal allowed = about-step width m H time (Moved n to) n refl wide legal allowed
 rows-step width m H time (CancelAsked n mode) wide legal allowed = about-step width m H time (CancelAsked n mode) n refl wide legal allowed
 rows-step width m H time _ wide legal allowed = refl
 
 -- rows that stood for a history stand for it with one event more
-pub applied : (width m : ℕ) (H : List Event) (e : Event) (old : List OccRow) (vs : List (List ℕ)) (x : Option Used) → width ≤ 4 → IsLegalWithin width m H
-    → IsAllowedWithin width m H e.kind → StandsFor old H → vs ≡ vnfds H → x ≡ used_told H e.kind → StandsFor (rows_after vs e.moment x e.kind old) (e ∷ H)
+pub applied : (width m : ℕ) (H : List Event) (e : Event) (old : List OccRow) (vs : List (List ℕ)) (x : Option Used) → width ≤ 4
+    → IsLegalWithin width m H
+    → IsAllowedWithin width m H e.kind → StandsFor old H → vs ≡ vnfds H → x ≡ used_told H e.kind
+    → StandsFor (rows_after vs e.moment x e.kind old) (e ∷ H)
 applied width m H e old vs x wide legal allowed stands are told =
     ap (λ (rs : List OccRow). rows_after vs e.moment x e.kind rs) stands
     ∙ (ap (λ (us : List (List ℕ)). rows_after us e.moment x e.kind (rows H)) are
-    ∙ (ap (λ (y : Option Used). rows_after (vnfds H) e.moment y e.kind (rows H)) told ∙ sym (rows-step width m H e.moment e.kind wide legal allowed)))
+    ∙ (ap (λ (y : Option Used). rows_after (vnfds H) e.moment y e.kind (rows H)) told
+    ∙ sym (rows-step width m H e.moment e.kind wide legal allowed)))
 
 -- an event is about a number from 1
-pub low : (width m : ℕ) (H : List Event) (k : EventKind) (n : ℕ) → occurrence_of k ≡ Some n → IsLegalWithin width m H → IsAllowedWithin width m H k → 1 ≤ n
+pub low : (width m : ℕ) (H : List Event) (k : EventKind) (n : ℕ) → occurrence_of k ≡ Some n → IsLegalWithin width m H
+    → IsAllowedWithin width m H k → 1 ≤ n
 low width m H k n e legal allowed = ((found_exactly width m H legal n).0 (about_asked width m H k legal allowed n e)).0
 
 -- the row of an occurrence is found at its place
 pub looked : (width m : ℕ) (H : List Event) (rs : List OccRow) (n : ℕ) → IsLegalWithin width m H → StandsFor rs H → 1 ≤ n
     → slice_get rs (n - 1) ≡ occurrence H n
 looked width m H rs n legal stands low =
-    ap (λ (rs : List OccRow). slice_get rs (n - 1)) stands ∙ placed (λ (a : Operation). a.occ) (row H) (operations H) n (operations_counted width m H legal) low
+    ap (λ (rs : List OccRow). slice_get rs (n - 1)) stands ∙ placed (λ (a : Operation). a.occ) (row H) (operations H) n
+    (operations_counted width m H legal) low
 
 -- no occurrence has number 0
 pub none-zero : (width m : ℕ) (H : List Event) → IsLegalWithin width m H → operation H 0 ≡ None
@@ -235,18 +254,25 @@ none-zero width m H legal =
     none_there (operation H 0) (λ there. let low = ((found_exactly width m H legal 0).0 there).0 in omega (arith, low))
 
 -- rows that followed an event that asks for no operation
-pub followed : (width m : ℕ) (H : List Event) (time : ℕ) (vs : List (List ℕ)) (k : EventKind) (old new : List OccRow) → ((a : Operation) → k ≡ Asked a → ⊥)
-    → ((n : ℕ) → occurrence_of k ≡ Some n → 1 ≤ n → new ≡ rows_about (occurrence_of k) time None k old) → (occurrence_of k ≡ None → new ≡ old)
+pub followed : (width m : ℕ) (H : List Event) (time : ℕ) (vs : List (List ℕ)) (k : EventKind) (old new : List OccRow)
+    → ((a : Operation) → k ≡ Asked a → ⊥)
+    → ((n : ℕ) → occurrence_of k ≡ Some n → 1 ≤ n → new ≡ rows_about (occurrence_of k) time None k old)
+    → (occurrence_of k ≡ None → new ≡ old)
     → IsLegalWithin width m H → IsAllowedWithin width m H k → new ≡ rows_after vs time None k old
 followed width m H time vs (Asked a) old new not g h legal allowed = absurd (not a refl)
-followed width m H time vs (GrantTried n answer) old new not g h legal allowed = g n refl (low width m H (GrantTried n answer) n refl legal allowed)
-followed width m H time vs (Granted n grant places spots) old new not g h legal allowed = g n refl (low width m H (Granted n grant places spots) n refl legal allowed)
+followed width m H time vs (GrantTried n answer) old new not g h legal allowed =
+    g n refl (low width m H (GrantTried n answer) n refl legal allowed)
+followed width m H time vs (Granted n grant places spots) old new not g h legal allowed =
+    g n refl (low width m H (Granted n grant places spots) n refl legal allowed)
 followed width m H time vs (Denied n) old new not g h legal allowed = g n refl (low width m H (Denied n) n refl legal allowed)
 followed width m H time vs (Intent t) old new not g h legal allowed = g t.occ refl (low width m H (Intent t) t.occ refl legal allowed)
-followed width m H time vs (CallFailed t) old new not g h legal allowed = g t.occ refl (low width m H (CallFailed t) t.occ refl legal allowed)
-followed width m H time vs (Settled t outcome) old new not g h legal allowed = g t.occ refl (low width m H (Settled t outcome) t.occ refl legal allowed)
+followed width m H time vs (CallFailed t) old new not g h legal allowed =
+    g t.occ refl (low width m H (CallFailed t) t.occ refl legal allowed)
+followed width m H time vs (Settled t outcome) old new not g h legal allowed =
+    g t.occ refl (low width m H (Settled t outcome) t.occ refl legal allowed)
 followed width m H time vs (Moved n to) old new not g h legal allowed = g n refl (low width m H (Moved n to) n refl legal allowed)
-followed width m H time vs (CancelAsked n mode) old new not g h legal allowed = g n refl (low width m H (CancelAsked n mode) n refl legal allowed)
+followed width m H time vs (CancelAsked n mode) old new not g h legal allowed =
+    g n refl (low width m H (CancelAsked n mode) n refl legal allowed)
 followed width m H time vs _ old new not g h legal allowed = h refl
 
 -- a number that isn't 0
@@ -263,7 +289,8 @@ not_bringing _ f g = refl
 
 -- what a try with a location makes of the rows
 pub told_rows : (time n : ℕ) (answer : GrantTry) (location : Option (List ℕ)) (old new : List OccRow) → is_later answer ≡ true
-    → ((at : List ℕ) → answer ≡ Later at → location ≡ Some at) → ((at : List ℕ) → location ≡ Some at → new ≡ update (after_told at) (n - 1) old)
+    → ((at : List ℕ) → answer ≡ Later at → location ≡ Some at) → ((at : List ℕ) → location ≡ Some at
+    → new ≡ update (after_told at) (n - 1) old)
     → new ≡ update (row_after time None (GrantTried n answer)) (n - 1) old
 told_rows time n (Later at) location old new later room put = put at (room at refl)
 told_rows time n Trouble location old new later room put = cc

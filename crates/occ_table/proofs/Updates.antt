@@ -1,5 +1,6 @@
 -- A list with one entry changed.
-use Rattle.std.proofs.Common.{◌+◌, ◌∙◌, Bool, cond, map, take, drop, true, false, Some, slice_get, ◌≡◌, ◌≢◌, ◌≤◌, ◌<◌, ◌++◌, ℕ, List, [], ◌∷◌, zero, suc, refl, ap, length, get_or, set, arith}
+use Rattle.std.proofs.Common.{◌+◌, ◌∙◌, Bool, cond, map, take, drop, true, false, Some, slice_get, ◌≡◌, ◌≢◌, ◌≤◌, ◌<◌, ◌++◌, ℕ, List, []}
+use Rattle.std.proofs.Common.{◌∷◌, zero, suc, refl, ap, length, get_or, set, arith}
 use Rattle.occ_table.specs.Steps.{update}
 
 -- nothing changes beyond the end
@@ -9,7 +10,8 @@ update-past f zero (x ∷ xs) h = absurd (omega (arith, h))
 update-past f (suc n) (x ∷ xs) h = ap (λ ys. x ∷ ys) (update-past f n xs (omega (arith, h)))
 
 -- what is written at a place is what the change makes of the entry there
-pub update-set : {A : Type 0} → (f : A → A) (n : ℕ) (xs : List A) (x : A) → n < length xs → x ≡ get_or xs n x → set xs n (f x) ≡ update f n xs
+pub update-set : {A : Type 0} → (f : A → A) (n : ℕ) (xs : List A) (x : A) → n < length xs → x ≡ get_or xs n x
+    → set xs n (f x) ≡ update f n xs
 update-set f n [] x h e = absurd (omega (arith, h))
 update-set f zero (y ∷ ys) x h e = ap (λ z. f z ∷ ys) e
 update-set f (suc n) (y ∷ ys) x h e = ap (λ zs. y ∷ zs) (update-set f n ys x (omega (arith, h)) e)
@@ -22,7 +24,8 @@ update-last f zero (y ∷ ys) x e = absurd (omega (arith, e))
 update-last f (suc n) (y ∷ ys) x e = ap (λ zs. y ∷ zs) (update-last f n ys x (omega (arith, e)))
 
 -- another entry than the last changes
-pub update-front : {A : Type 0} → (f : A → A) (n : ℕ) (xs : List A) (x : A) → n ≢ length xs → update f n (xs ++ x ∷ []) ≡ update f n xs ++ x ∷ []
+pub update-front : {A : Type 0} → (f : A → A) (n : ℕ) (xs : List A) (x : A) → n ≢ length xs
+    → update f n (xs ++ x ∷ []) ≡ update f n xs ++ x ∷ []
 update-front f zero [] x e = absurd (e refl)
 update-front f (suc n) [] x e = refl
 update-front f zero (y ∷ ys) x e = refl

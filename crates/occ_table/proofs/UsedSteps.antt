@@ -40,7 +40,8 @@ used-other H time t outcome o c other =
     first_cons (used_in o c H (Settled t outcome)) (told (used_in o c) H) ∙ ap (λ (x : Option Used). otherwise x (used H o c)) none
 
 -- what the changes used after an attempt has used this, or nothing
-by_use : (H : List Event) (time : ℕ) (t : Tag) (outcome : Outcome) (a : Operation) (x : Option Used) → (t.occ == a.occ) ≡ true → used_at H t outcome ≡ x
+by_use : (H : List Event) (time : ℕ) (t : Tag) (outcome : Outcome) (a : Operation) (x : Option Used) → (t.occ == a.occ) ≡ true
+    → used_at H t outcome ≡ x
     → map (used (event time (Settled t outcome) ∷ H) a.occ) (numbers a) ≡ put_used t.change x (map (used H a.occ) (numbers a))
 by_use H time t outcome a None same is =
     maps_same (used (event time (Settled t outcome) ∷ H) a.occ) (used H a.occ) (numbers a)
@@ -53,7 +54,8 @@ by_use H time t outcome a (Some u) same is =
     (λ c other. used-other H time t outcome a.occ c (other_change t a.occ c other))
 
 pub uses-ended : (H : List Event) (time : ℕ) (t : Tag) (outcome : Outcome) (a : Operation) → (t.occ == a.occ) ≡ true
-    → map (used (event time (Settled t outcome) ∷ H) a.occ) (numbers a) ≡ put_used t.change (used_at H t outcome) (map (used H a.occ) (numbers a))
+    → map (used (event time (Settled t outcome) ∷ H) a.occ) (numbers a)
+    ≡ put_used t.change (used_at H t outcome) (map (used H a.occ) (numbers a))
 uses-ended H time t outcome a same = by_use H time t outcome a (used_at H t outcome) same refl
 
 pub uses-ended_other : (H : List Event) (time : ℕ) (t : Tag) (outcome : Outcome) (a : Operation) → (t.occ == a.occ) ≡ false

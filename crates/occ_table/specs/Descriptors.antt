@@ -1,16 +1,19 @@
 -- Which descriptor each instance was made of (SOL 003 5.5.2.2, VnfInstance, vnfdId).
 use Rattle.std.specs.List.{AllByRecursion}
-use Rattle.std.specs.Prelude.{List, None, Option, [], if◌then◌else◌, length, map, option_map, reverse, slice_get, unwrap_or, ℕ, ◌++◌, ◌-◌, ◌<◌, ◌==◌, ◌∷◌}
+use Rattle.std.specs.Prelude.{List, None, Option, [], if◌then◌else◌, length, map, option_map, reverse, slice_get}
+use Rattle.std.specs.Prelude.{unwrap_or, ℕ, ◌++◌, ◌-◌, ◌<◌, ◌==◌, ◌∷◌}
 use Rattle.lcm_events.specs.declared.events.Event.{Event}
 use Rattle.lcm_events.specs.declared.events.EventKind.{EventKind}
 use Rattle.lcm_events.specs.declared.events.EventKind.TheVariants.{Created}
 use Rattle.lcm_model.specs.Lives.{creation, creations}
 
--- the identifier of the descriptor of the instance of this number, or no bytes where there is no such instance (SOL 003 5.5.2.2, vnfdId)
+-- the identifier of the descriptor of the instance of this number, or no bytes where there is no such instance (SOL 003
+-- 5.5.2.2, vnfdId)
 abbrev pub vnfd : List Event → ℕ → List ℕ
 vnfd H i = unwrap_or (option_map (λ x. x.vnfd) (creation H i)) []
 
--- the identifier of the descriptor of each instance that was ever created, in the order of the instances' numbers (SOL 003 5.5.2.2, vnfdId)
+-- the identifier of the descriptor of each instance that was ever created, in the order of the instances' numbers (SOL
+-- 003 5.5.2.2, vnfdId)
 abbrev pub vnfds : List Event → List (List ℕ)
 vnfds H = reverse (map (λ x. x.vnfd) (creations H))
 

@@ -1,5 +1,5 @@
--- What a row forgets once its occurrence is over: what no view of it shows (own rule; SOL 003 5.5.2.13 has neither attempts nor places nor
--- the location of a grant).
+-- What a row forgets once its occurrence is over: what no view of it shows (own rule; SOL 003 5.5.2.13 has neither
+-- attempts nor places nor the location of a grant).
 use Rattle.std.specs.Prelude.{Bool, List, None, Option, [], if◌then◌else◌, ℕ}
 use Rattle.lcm_events.specs.declared.events.Event.{Event}
 use Rattle.lcm_model.specs.Grants.{GivenGrant}

@@ -1,5 +1,6 @@
 -- Which occurrences the manager works on, in the order of their numbers (SOL 003 5.6.2).
-use Rattle.std.specs.Prelude.{Bool, List, Option, [], filter, find, if◌then◌else◌, map, nat_lt, not, reverse, suc, ℕ, ◌<◌, ◌++◌, ◌==◌, ◌∷◌}
+use Rattle.std.specs.Prelude.{Bool, List, Option, [], filter, find, if◌then◌else◌, map, nat_lt, not, reverse, suc, ℕ}
+use Rattle.std.specs.Prelude.{◌<◌, ◌++◌, ◌==◌, ◌∷◌}
 use Rattle.lcm_events.specs.declared.events.Event.{Event}
 use Rattle.lcm_events.specs.declared.events.EventKind.{EventKind}
 use Rattle.lcm_events.specs.declared.events.EventKind.TheVariants.{Asked, Moved}

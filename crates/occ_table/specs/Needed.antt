@@ -1,6 +1,7 @@
 -- Of which definitions the table keeps the resource: of those that an attempt can still ask for (own rule).
 use Rattle.std.specs.Option.{option_map_or}
-use Rattle.std.specs.Prelude.{Bool, List, None, Option, Some, false, if◌then◌else◌, not, option_map, slice_get, true, ℕ, ◌||◌, ◌≡◌}
+use Rattle.std.specs.Prelude.{Bool, List, None, Option, Some, false, if◌then◌else◌, not, option_map, slice_get, true, ℕ}
+use Rattle.std.specs.Prelude.{◌||◌, ◌≡◌}
 use Rattle.lcm_events.specs.declared.attempts.Tag.{Tag}
 use Rattle.lcm_events.specs.declared.attempts.Way.TheVariants.{Forward}
 use Rattle.lcm_events.specs.declared.changes.Change.{Change}
@@ -23,7 +24,8 @@ use Rattle.occ_table.specs.declared.used.Used.{Used}
 abbrev pub is_going_on : List Event → Effect → Bool
 is_going_on H y = not (is_over H y.tag.occ)
 
--- the occurrence that had an effect on the definition of the instance last isn't over, so that it can still undo it (own rule)
+-- the occurrence that had an effect on the definition of the instance last isn't over, so that it can still undo it
+-- (own rule)
 abbrev pub is_in_work : List Event → ℕ → Def → Bool
 is_in_work H i x = option_map_or (is_going_on H) (first (effects H i x)) false
 

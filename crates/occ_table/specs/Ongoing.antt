@@ -1,6 +1,7 @@
 -- Which operation of each instance goes on (SOL 003 5.4.4 to 5.4.10).
 use Rattle.std.specs.List.{range_with_len}
-use Rattle.std.specs.Prelude.{List, None, Option, Some, [], if◌then◌else◌, map, option_and_then, option_map, slice_set, ℕ, ◌++◌, ◌-◌, ◌==◌, ◌∷◌}
+use Rattle.std.specs.Prelude.{List, None, Option, Some, [], if◌then◌else◌, map, option_and_then, option_map, slice_set}
+use Rattle.std.specs.Prelude.{ℕ, ◌++◌, ◌-◌, ◌==◌, ◌∷◌}
 use Rattle.lcm_events.specs.declared.events.Event.{Event}
 use Rattle.lcm_events.specs.declared.events.EventKind.{EventKind}
 use Rattle.lcm_events.specs.declared.events.EventKind.TheVariants.{Asked, Created, Moved}
@@ -16,7 +17,8 @@ use Rattle.occ_table.specs.declared.rows.OccRow.{OccRow}
 abbrev pub ongoing_of : List Event → ℕ → Option ℕ
 ongoing_of H i = option_map (λ a. a.occ) (first (ongoing H i))
 
--- the number of the ongoing operation of each instance that was ever created, in the order of the instances' numbers (SOL 003 5.6.2)
+-- the number of the ongoing operation of each instance that was ever created, in the order of the instances' numbers
+-- (SOL 003 5.6.2)
 abbrev pub ongoings : List Event → List (Option ℕ)
 ongoings H = map (ongoing_of H) (range_with_len 1 (instances_made H))
 

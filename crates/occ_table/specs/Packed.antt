@@ -6,7 +6,11 @@ use Rattle.occ_table.specs.declared.used.Used.{Used}
 
 -- the resource with its place that a text tells, whose first two names have these lengths (own format)
 abbrev pub unpacked : List ℕ → ℕ → ℕ → Used
-unpacked names r v = record { resource = take r names; place = record { vim = take v (drop r names); zone = drop v (drop r names) } }
+unpacked names r v = record {
+  resource = take r names;
+  place =
+      record { vim = take v (drop r names); zone = drop v (drop r names) };
+}
 
 -- for how many bytes there is room (own rule)
 abbrev pub room_in : Option (Vec ℕ Global) → ℕ

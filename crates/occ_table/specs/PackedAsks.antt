@@ -6,7 +6,8 @@ use Rattle.lcm_events.specs.declared.asks.Ask.TheVariants as asks
 use Rattle.occ_table.specs.declared.asks.PackedAim.{PackedAim}
 use Rattle.occ_table.specs.declared.asks.PackedAim.TheVariants.{Aspects, Level}
 use Rattle.occ_table.specs.declared.asks.PackedParts.{PackedParts}
-use Rattle.occ_table.specs.declared.asks.PackedParts.TheVariants.{Heal, Instantiate, Operate, Scale, ScaleToLevel, Terminate}
+use Rattle.occ_table.specs.declared.asks.PackedParts.TheVariants.{Heal, Instantiate, Operate, Scale, ScaleToLevel}
+use Rattle.occ_table.specs.declared.asks.PackedParts.TheVariants.{Terminate}
 
 -- what is kept of what SCALE_TO_LEVEL aims at tells this (SOL 003 5.5.2.6, ScaleVnfToLevelRequest)
 abbrev pub aimed_at : PackedAim → Aim

@@ -1,6 +1,8 @@
--- How many changes of each phase wait and how many are made, so that no question goes through a plan (phases are an own rule).
+-- How many changes of each phase wait and how many are made, so that no question goes through a plan (phases are an own
+-- rule).
 use Rattle.std.specs.List.{enumerate_from, list_all, range_with_len}
-use Rattle.std.specs.Prelude.{Bool, List, None, Option, Some, false, filter, length, map, min, nat_lt, not, option_map, slice_get, slice_index_or, slice_set, true, zip, ℕ, ◌&&◌, ◌||◌, ◌+◌, ◌-◌, ◌==◌}
+use Rattle.std.specs.Prelude.{Bool, List, None, Option, Some, false, filter, length, map, min, nat_lt, not, option_map}
+use Rattle.std.specs.Prelude.{slice_get, slice_index_or, slice_set, true, zip, ℕ, ◌&&◌, ◌||◌, ◌+◌, ◌-◌, ◌==◌}
 use Rattle.lcm_events.specs.declared.attempts.Outcome.{Outcome}
 use Rattle.lcm_events.specs.declared.attempts.Outcome.TheVariants.{Done}
 use Rattle.lcm_events.specs.declared.attempts.Tag.{Tag}

@@ -1,7 +1,9 @@
--- What the table keeps beside its rows of definitions, so that an attempt at one is told its resource, and what each event makes of it (own rule).
+-- What the table keeps beside its rows of definitions, so that an attempt at one is told its resource, and what each
+-- event makes of it (own rule).
 use Rattle.std.specs.List.{list_any}
 use Rattle.std.specs.Map.{lookup}
-use Rattle.std.specs.Prelude.{Bool, List, None, Option, Some, true, if◌then◌else◌, option_and_then, option_map, slice_get, ℕ, ◌&&◌, ◌==◌}
+use Rattle.std.specs.Prelude.{Bool, List, None, Option, Some, true, if◌then◌else◌, option_and_then, option_map}
+use Rattle.std.specs.Prelude.{slice_get, ℕ, ◌&&◌, ◌==◌}
 use Rattle.lcm_events.specs.Same.{kind_number, same_def, same_way}
 use Rattle.lcm_events.specs.declared.attempts.Outcome.{Outcome}
 use Rattle.lcm_events.specs.declared.attempts.Outcome.TheVariants.{Done}
@@ -32,7 +34,8 @@ key_of i x = record { instance = i; kind = kind_number x.kind; item = x.item; vd
 
 -- two keys are the same (own rule)
 abbrev pub same_key : Key → Key → Bool
-same_key a b = (a.instance == b.instance) && ((a.kind == b.kind) && ((a.item == b.item) && ((a.vdu == b.vdu) && (a.serial == b.serial))))
+same_key a b = (a.instance == b.instance) && ((a.kind == b.kind)
+    && ((a.item == b.item) && ((a.vdu == b.vdu) && (a.serial == b.serial))))
 
 -- what is kept by a key (own rule)
 abbrev pub kept_by : List (Key × Entry) → Key → Option Entry
@@ -46,7 +49,8 @@ kept_of es i x = kept_by es (key_of i x)
 abbrev pub used_of : Option Entry → Option Used
 used_of e = option_map (λ e. e.used) e
 
--- what is kept of resources: what each key has, for how many more keys there is room, and how many bytes for names (own rule)
+-- what is kept of resources: what each key has, for how many more keys there is room, and how many bytes for names (own
+-- rule)
 pub record KeptResources : Type 0 where
   pub entries : List (Key × Entry)
   pub spare : ℕ
@@ -54,7 +58,14 @@ pub record KeptResources : Type 0 where
 
 -- the effect of an attempt at a change of a row, that was done with this name (own rule)
 abbrev pub effect_by : Tag → List ℕ → OccRow → Change → Effect
-effect_by t name r c = record { tag = t; instance = r.instance; def = c.def; verb = verb_done t.way c.verb; resource = name }
+effect_by t name r c = record {
+  tag = t;
+  instance = r.instance;
+  def = c.def;
+  verb = verb_done t.way c.verb;
+  resource =
+      name;
+}
 
 -- the place that the row's grant gave to a change (SOL 003 9.5.2.3)
 abbrev pub place_by : ℕ → OccRow → Option Place
@@ -62,7 +73,8 @@ place_by c r = option_and_then (λ g. place_at g.places g.spots c) r.grant
 
 -- what an attempt did that was done with this name, by its row (own rule)
 abbrev pub deed_by : Tag → List ℕ → OccRow → Option DoneAttempt
-deed_by t name r = option_map (λ c. record { effect = effect_by t name r c; place = place_by t.change r }) (slice_get r.changes t.change)
+deed_by t name r = option_map (λ c. record { effect = effect_by t name r c; place = place_by t.change r })
+    (slice_get r.changes t.change)
 
 -- what an attempt did that ended so, by the rows (own rule)
 abbrev pub deed_of : Tag → Outcome → List OccRow → Option DoneAttempt
@@ -76,7 +88,8 @@ deed_in _ rs = None
 
 -- what is known of a definition once it is made: an undo puts it where it was (own rule)
 abbrev pub remade : DoneAttempt → Option Used → Option Used
-remade d old = placed (Some d.effect.resource) (if same_way d.effect.tag.way Forward then d.place else option_map (λ u. u.place) old)
+remade d old = placed (Some d.effect.resource) (if same_way d.effect.tag.way Forward then d.place
+    else option_map (λ u. u.place) old)
 
 -- what is kept of a definition that stands (own rule)
 abbrev pub standing : Option Used → Option Entry
@@ -86,9 +99,11 @@ standing used = option_map (λ u. record { used = u; stands = true }) used
 abbrev pub left : Bool → Entry → Entry
 left stands e = record e { stands = stands }
 
--- what is kept of a definition once something was done to it: what was made anew, or what was kept, and whether that leaves it standing (own rule)
+-- what is kept of a definition once something was done to it: what was made anew, or what was kept, and whether that
+-- leaves it standing (own rule)
 abbrev pub touched : DoneAttempt → Option Entry → Option Entry
-touched d old = if is_creation d.effect then standing (remade d (used_of old)) else option_map (left (leaves_it d.effect.verb)) old
+touched d old = if is_creation d.effect then standing (remade d (used_of old))
+    else option_map (left (leaves_it d.effect.verb)) old
 
 -- what is kept of definitions after an attempt did something, or nothing (own rule)
 abbrev pub learned : Option DoneAttempt → (ℕ → Def → Option Entry) → ℕ → Def → Option Entry
@@ -98,7 +113,8 @@ learned (Some d) f i x = if is_effect_on i x d.effect then touched d (f i x) els
 -- what the change of an attempt used that did something, or nothing (own rule)
 abbrev pub used_after : Option DoneAttempt → (ℕ → Def → Option Entry) → Option Used
 used_after None f = None
-used_after (Some d) f = if same_way d.effect.tag.way Forward then used_of (learned (Some d) f d.effect.instance d.effect.def) else None
+used_after (Some d) f = if same_way d.effect.tag.way Forward
+    then used_of (learned (Some d) f d.effect.instance d.effect.def) else None
 
 -- a change of the row is of this definition of the instance (own rule)
 abbrev pub is_of_row : ℕ → Def → OccRow → Bool

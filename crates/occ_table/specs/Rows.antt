@@ -1,6 +1,7 @@
 -- What the rows of the table are: a function of the history (SOL 003 5.5.2.13, VnfLcmOpOcc).
 use Rattle.std.specs.List.{range_with_len}
-use Rattle.std.specs.Prelude.{List, None, Option, Some, filter_map, if◌then◌else◌, map, option_map, reverse, unwrap_or, ℕ, ◌≡◌, ◌==◌, length}
+use Rattle.std.specs.Prelude.{List, None, Option, Some, filter_map, if◌then◌else◌, map, option_map, reverse, unwrap_or}
+use Rattle.std.specs.Prelude.{ℕ, ◌≡◌, ◌==◌, length}
 use Rattle.lcm_events.specs.declared.events.Event.{Event}
 use Rattle.lcm_events.specs.declared.events.Operation.{Operation}
 use Rattle.lcm_events.specs.declared.states.CancelMode.{CancelMode}
@@ -9,7 +10,8 @@ use Rattle.lcm_events.specs.declared.attempts.Outcome.{Outcome}
 use Rattle.lcm_events.specs.declared.attempts.Outcome.TheVariants.{Aborted, Broken, Done, NotBegun}
 use Rattle.lcm_events.specs.declared.attempts.Tag.{Tag}
 use Rattle.lcm_events.specs.declared.events.EventKind.{EventKind}
-use Rattle.lcm_events.specs.declared.events.EventKind.TheVariants.{Asked, CancelAsked, Denied, GrantTried, Moved, Settled}
+use Rattle.lcm_events.specs.declared.events.EventKind.TheVariants.{Asked, CancelAsked, Denied, GrantTried, Moved}
+use Rattle.lcm_events.specs.declared.events.EventKind.TheVariants.{Settled}
 use Rattle.lcm_events.specs.declared.events.GrantTry.{GrantTry}
 use Rattle.lcm_events.specs.declared.events.GrantTry.TheVariants.{Later, NotCovering, Trouble}
 use Rattle.lcm_model.specs.Attempts.{open_of, attempts, net}
@@ -91,8 +93,8 @@ numbers a = range_with_len 0 (length a.changes)
 abbrev pub nets : List Event → Operation → List ℕ
 nets H a = map (net H a.occ) (numbers a)
 
--- what the history says of an operation that was asked for; once it is over, without attempts, places and the location of its grant
--- (SOL 003 5.5.2.13)
+-- what the history says of an operation that was asked for; once it is over, without attempts, places and the location
+-- of its grant (SOL 003 5.5.2.13)
 abbrev pub row : List Event → Operation → OccRow
 row H a = record {
   instance = a.instance;

@@ -1,5 +1,5 @@
--- What an event makes of a row, and of the rows. Of these words the table's contracts use those for what is reserved, a first row and
--- a grant; what rows are after an event they say by the history.
+-- What an event makes of a row, and of the rows. Of these words the table's contracts use those for what is reserved, a
+-- first row and a grant; what rows are after an event they say by the history.
 use Rattle.lcm_events.specs.declared.states.OpState.{OpState}
 use Rattle.lcm_model.specs.Refusals.{is_terminate}
 use Rattle.occ_table.specs.declared.rows.Grant.{Grant}
@@ -14,15 +14,19 @@ use Rattle.lcm_events.specs.declared.attempts.Way.{Way}
 use Rattle.lcm_events.specs.declared.attempts.Way.TheVariants.{Forward, Undo}
 use Rattle.std.specs.Option.{option_map_or}
 use Rattle.std.specs.List.{list_any}
-use Rattle.std.specs.Prelude.{List, None, Option, Some, [], false, min, nat_le, true, ℕ, ◌≤◌, ◌||◌, ◌+◌, ◌-◌, ◌++◌, ◌∷◌, zero, suc, Bool, filter, map, if◌then◌else◌, length, nat_lt, not, ◌&&◌, replicate, slice_get, slice_set, is_none, is_some, option_map, ◌==◌, ◌≡◌, ◌<◌}
+use Rattle.std.specs.Prelude.{List, None, Option, Some, [], false, min, nat_le, true, ℕ, ◌≤◌, ◌||◌, ◌+◌, ◌-◌, ◌++◌, ◌∷◌}
+use Rattle.std.specs.Prelude.{zero, suc, Bool, filter, map, if◌then◌else◌, length, nat_lt, not, ◌&&◌, replicate}
+use Rattle.std.specs.Prelude.{slice_get, slice_set, is_none, is_some, option_map, ◌==◌, ◌≡◌, ◌<◌}
 use Rattle.lcm_events.specs.declared.events.EventKind.{EventKind}
-use Rattle.lcm_events.specs.declared.events.EventKind.TheVariants.{Asked, CallFailed, CancelAsked, Denied, GrantTried, Granted, Intent, Moved, Settled}
+use Rattle.lcm_events.specs.declared.events.EventKind.TheVariants.{Asked, CallFailed, CancelAsked, Denied, GrantTried}
+use Rattle.lcm_events.specs.declared.events.EventKind.TheVariants.{Granted, Intent, Moved, Settled}
 use Rattle.lcm_events.specs.declared.events.GrantTry.{GrantTry}
 use Rattle.lcm_events.specs.declared.events.GrantTry.TheVariants.{Later, NotCovering, Trouble}
 use Rattle.lcm_events.specs.declared.events.Operation.{Operation}
 use Rattle.lcm_events.specs.declared.states.CancelMode.{CancelMode}
 use Rattle.lcm_events.specs.declared.states.CancelMode.TheVariants.{Forceful, Graceful}
-use Rattle.lcm_events.specs.declared.states.OpState.TheVariants.{Starting, Completed, Failed, FailedTemp, Processing, RolledBack, RollingBack}
+use Rattle.lcm_events.specs.declared.states.OpState.TheVariants.{Starting, Completed, Failed, FailedTemp, Processing}
+use Rattle.lcm_events.specs.declared.states.OpState.TheVariants.{RolledBack, RollingBack}
 use Rattle.lcm_model.specs.Operations.{occurrence_of}
 use Rattle.lcm_events.specs.Same.{same_tag}
 use Rattle.lcm_events.specs.declared.attempts.Outcome.{Outcome}
@@ -119,7 +123,8 @@ cause_among t NotBegun ps = when (has_failed_among t ps) (causes.CallFailed t.ch
 
 -- the row after an attempt has begun, which never happens where its occurrence is over
 abbrev pub after_begun : Tag → OccRow → OccRow
-after_begun t r = if is_final r.state then r else record r { pending = begun t r.pending; attempts = slice_set r.attempts t.change t.attempt }
+after_begun t r = if is_final r.state then r else record r
+    { pending = begun t r.pending; attempts = slice_set r.attempts t.change t.attempt }
 
 -- the nets after an attempt has ended so
 abbrev pub nets_after : Tag → Outcome → List ℕ → List ℕ
@@ -156,7 +161,8 @@ forgotten over r = record r {
 -- the row after a move to this state at this time, which never happens where its occurrence is over
 abbrev pub after_move : ℕ → OpState → OccRow → OccRow
 after_move time to r =
-    if is_final r.state then r else forgotten (is_final to) (record r { state = to; entered = time; cancel = None; trouble = false })
+    if is_final r.state then r else forgotten (is_final to)
+    (record r { state = to; entered = time; cancel = None; trouble = false })
 
 -- beside a row whose occurrence isn't over there is room for four open attempts where none is open
 abbrev pub HasRoomBeside : OccRow → ℕ → Type 0
@@ -182,13 +188,19 @@ put_used c (Some u) us = slice_set us c (Some u)
 abbrev pub noted : ℕ → Option Used → OccRow → OccRow
 noted c x r = record r { used = put_used c x r.used }
 
--- the row after an event of this moment that is about its occurrence, by which its change has used something, or nothing
+-- the row after an event of this moment that is about its occurrence, by which its change has used something, or
+-- nothing
 abbrev pub row_after : ℕ → Option Used → EventKind → OccRow → OccRow
 row_after time x (GrantTried o answer) r = after_answer answer r
-row_after time x (Granted o name places spots) r = after_granted (record { name = name; places = places; spots = spots }) r
+row_after time x (Granted o name places spots) r = after_granted
+    (record { name = name; places = places; spots = spots }) r
 row_after time x (Denied o) r = record r { ended = true; cause = Some causes.Denied }
 row_after time x (Moved o to) r = after_move time to r
-row_after time x (CancelAsked o mode) r = record r { cancel = after_cancel mode r.cancel; cause = Some causes.Cancelled }
+row_after time x (CancelAsked o mode) r = record r {
+  cancel = after_cancel mode r.cancel;
+  cause =
+      Some causes.Cancelled;
+}
 row_after time x (Intent t) r = after_begun t r
 row_after time x (CallFailed t) r = record r { pending = map (failed_by t) r.pending }
 row_after time x (Settled t outcome) r = noted t.change x (after_settled t outcome r)
@@ -209,7 +221,8 @@ rows_about (Some o) time x k rs = update (row_after time x k) (o - 1) rs
 abbrev pub described : List ℕ → OccRow → OccRow
 described v r = record r { vnfd = v }
 
--- the rows after an event of this moment, where the instances have these descriptors, and by which a change has used something, or nothing
+-- the rows after an event of this moment, where the instances have these descriptors, and by which a change has used
+-- something, or nothing
 abbrev pub rows_after : List (List ℕ) → ℕ → Option Used → EventKind → List OccRow → List OccRow
 rows_after vs time x (Asked a) rs = rs ++ described (vnfd_in a.instance vs) (first_row time a) ∷ []
 rows_after vs time x k rs = rows_about (occurrence_of k) time x k rs
@@ -265,11 +278,13 @@ abbrev pub counts_for : Way → OccRow → List ℕ
 counts_for Forward r = r.waiting
 counts_for Undo r = r.made
 
--- it is the turn of a change: it has the net that the way begins with, and no such change is left in a phase that goes before
+-- it is the turn of a change: it has the net that the way begins with, and no such change is left in a phase that goes
+-- before
 abbrev pub is_turn : Tag → OccRow → Option Change → Bool
 is_turn t r None = false
 is_turn t r (Some x) =
-    option_map_or (λ n. n == net_before t.way) (slice_get r.nets t.change) false && is_clear t.way x.phase (counts_for t.way r)
+    option_map_or (λ n. n == net_before t.way) (slice_get r.nets t.change) false
+    && is_clear t.way x.phase (counts_for t.way r)
 
 -- the attempt may begin at the row's occurrence, where at most so many may be open
 pub record MayBeginRow (width : ℕ) (t : Tag) (r : OccRow) : Type 0 where

@@ -20,16 +20,19 @@ use Rattle.occ_table.specs.declared.used.Used.{Used}
 abbrev pub placed : Option (List ℕ) → Option Place → Option Used
 placed name at = option_and_then (λ n. option_map (λ p. record { resource = n; place = p }) at) name
 
--- the resource of a definition of the instance, with its place, where it was ever made (SOL 003 5.5.3, the resource infos of an instance)
+-- the resource of a definition of the instance, with its place, where it was ever made (SOL 003 5.5.3, the resource
+-- infos of an instance)
 abbrev pub known : List Event → ℕ → Def → Option Used
 known H i x = placed (resource H i x) (place H i x)
 
--- what an effect of a change, after its past, used: what it made, where that was granted to stand, or else the resource of its definition,
--- where that stands (SOL 003 5.5.2.13, resourceChanges)
+-- what an effect of a change, after its past, used: what it made, where that was granted to stand, or else the resource
+-- of its definition, where that stands (SOL 003 5.5.2.13, resourceChanges)
 abbrev pub used_by : List Event → Effect → Option Used
-used_by H y = if is_creation y then placed (Some y.resource) (granted_place H y.tag.occ y.tag.change) else known H y.instance y.def
+used_by H y = if is_creation y then placed (Some y.resource) (granted_place H y.tag.occ y.tag.change)
+    else known H y.instance y.def
 
--- what an attempt that ended so, after its past, used: nothing where it was an undo or isn't done (SOL 003 5.5.2.13, resourceChanges)
+-- what an attempt that ended so, after its past, used: nothing where it was an undo or isn't done (SOL 003 5.5.2.13,
+-- resourceChanges)
 abbrev pub used_at : List Event → Tag → Outcome → Option Used
 used_at H t outcome = if same_way t.way Forward then option_and_then (used_by H) (effect_done H t outcome) else None
 
@@ -38,7 +41,7 @@ abbrev pub used_in : ℕ → ℕ → List Event → EventKind → Option Used
 used_in o c H (Settled t outcome) = if is_of o c t then used_at H t outcome else None
 used_in o c H _ = None
 
--- what a change of an occurrence used last: the resource that its last attempt that was done and no undo made, removed or powered, with
--- its place (SOL 003 5.5.2.13, resourceChanges)
+-- what a change of an occurrence used last: the resource that its last attempt that was done and no undo made, removed
+-- or powered, with its place (SOL 003 5.5.2.13, resourceChanges)
 abbrev pub used : List Event → ℕ → ℕ → Option Used
 used H o c = first (told (used_in o c) H)

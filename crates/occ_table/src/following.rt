@@ -8,7 +8,10 @@ ghost use Rattle.lcm_model.specs.Words.{otherwise};
 ghost use Rattle.occ_table.specs.declared.causes.Cause.TheVariants as causes;
 ghost use Rattle.occ_table.specs.Ended.{stripped};
 ghost use Rattle.occ_table.specs.Resources.{deed_by, place_by};
-ghost use Rattle.occ_table.specs.Steps.{HasRoomBeside, after_answer, after_cancel, after_move, forgotten, after_settled, after_told, after_trouble, cause_among, described, failed_by, is_trouble_among, row_after, after_begun, nets_after, noted, after_granted, is_bringing, is_later};
+ghost use Rattle.occ_table.specs.Steps.{HasRoomBeside, after_answer, after_cancel, after_move, forgotten};
+ghost use Rattle.occ_table.specs.Steps.{after_settled, after_told, after_trouble, cause_among, described, failed_by};
+ghost use Rattle.occ_table.specs.Steps.{is_trouble_among, row_after, after_begun, nets_after, noted, after_granted};
+ghost use Rattle.occ_table.specs.Steps.{is_bringing, is_later};
 
 use crate::causes::Cause;
 use crate::names::PackedName;
@@ -79,7 +82,11 @@ impl OccRow {
 
     /// A cancel was asked for.
     fn record_cancel(&mut self, mode: CancelMode)
-        ensures { self.new ≡ record self.old { cancel = after_cancel mode self.old.cancel; cause = Some causes.Cancelled } }
+        ensures { self.new ≡ record self.old {
+          cancel = after_cancel mode self.old.cancel;
+          cause =
+              Some causes.Cancelled;
+        } }
     {
         self.cause = Some(Cause::Cancelled);
         self.cancel = match (mode, self.cancel) {
@@ -99,7 +106,8 @@ impl OccRow {
         }
     }
 
-    /// The occurrence moved to a state at this moment. In a final one its row forgets what no view shows, and nothing happens from then on.
+    /// The occurrence moved to a state at this moment. In a final one its row forgets what no view shows, and nothing
+    /// happens from then on.
     ///
     /// Source: SOL 003 5.6.2 (States and state transitions of a VNF LCM operation occurrence).
     pub fn move_to(&mut self, moment: Moment, to: OpState)
@@ -168,7 +176,13 @@ impl OccRow {
 
     /// A change has this net from now on, which is not the one that it had.
     fn set_net(&mut self, change: u16, net: u8)
-        ensures { self.new ≡ record self.old { nets = slice_set self.old.nets change net; waiting = shifted (net == 0) (phase_at change self.old.changes) self.old.waiting; made = shifted (net == 1) (phase_at change self.old.changes) self.old.made } }
+        ensures { self.new ≡ record self.old {
+          nets = slice_set self.old.nets change net;
+          waiting =
+              shifted (net == 0) (phase_at change self.old.changes) self.old.waiting;
+          made =
+              shifted (net == 1) (phase_at change self.old.changes) self.old.made;
+        } }
     {
         let phase = self.phase_at(change);
         shift(&mut self.waiting, net == 0, phase);
@@ -178,7 +192,13 @@ impl OccRow {
 
     /// A change was made or undone, where the attempt did its work.
     fn record_outcome(&mut self, tag: &Tag, outcome: &Outcome)
-        ensures { self.new ≡ record self.old { nets = nets_after tag.now outcome.now self.old.nets; waiting = tally_after 0 tag.now outcome.now self.old.changes self.old.waiting; made = tally_after 1 tag.now outcome.now self.old.changes self.old.made } }
+        ensures { self.new ≡ record self.old {
+          nets = nets_after tag.now outcome.now self.old.nets;
+          waiting =
+              tally_after 0 tag.now outcome.now self.old.changes self.old.waiting;
+          made =
+              tally_after 1 tag.now outcome.now self.old.changes self.old.made;
+        } }
     {
         if let Outcome::Done(_) = outcome {
             self.set_net(tag.change, net_when_through(tag.way));
@@ -240,7 +260,8 @@ impl OccRow {
         self.location = Some(location);
     }
 
-    /// An event of this moment about the occurrence came, for which nothing is laid aside but the room for its open attempts.
+    /// An event of this moment about the occurrence came, for which nothing is laid aside but the room for its open
+    /// attempts.
     pub(crate) fn follow(&mut self, moment: Moment, kind: &EventKind, room: &mut AttemptRoom)
         requires nothing_brought { is_bringing kind.now ≡ false }
         requires room { HasRoomBeside self.old room.old }

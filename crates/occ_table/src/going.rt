@@ -1,6 +1,7 @@
 //! The numbers of the occurrences that the manager works on, the least first.
 
-ghost use Rattle.std.specs.Prelude.{◌≡◌, ◌<◌, ◌≤◌, ◌↔◌, ◌++◌, ◌∷◌, [], OnOk, find, insert, length, nat_lt, not, slice_get, vec_capacity, vec_len, IsTrue, Some};
+ghost use Rattle.std.specs.Prelude.{◌≡◌, ◌<◌, ◌≤◌, ◌↔◌, ◌++◌, ◌∷◌, [], OnOk, find, insert, length, nat_lt, not};
+ghost use Rattle.std.specs.Prelude.{slice_get, vec_capacity, vec_len, IsTrue, Some};
 ghost use Rattle.occ_table.specs.Going.{active_moved, first_from, with_number, without_number, Rises};
 
 use lcm_events::OpState;
@@ -43,7 +44,8 @@ pub fn reserve_places(numbers: &mut Vec<u64>, wanted: usize) -> Result<(), Alloc
 
 /// Puts a number last, where there is a place for it.
 pub fn append(numbers: &mut Vec<u64>, number: u64)
-    ensures items { vec_len numbers.old < vec_capacity numbers.old → numbers.new.items ≡ numbers.old.items ++ number ∷ [] }
+    ensures items { vec_len numbers.old < vec_capacity numbers.old
+        → numbers.new.items ≡ numbers.old.items ++ number ∷ [] }
     ensures capacity { vec_capacity numbers.new ≡ vec_capacity numbers.old }
 {
     if numbers.len() < numbers.capacity() {
@@ -67,7 +69,8 @@ fn insert_reserved(numbers: &mut Vec<u64>, at: usize, number: u64)
 /// Puts a number where it belongs, where there is a place for it.
 fn insert_at(numbers: &mut Vec<u64>, at: usize, number: u64)
     requires { at ≤ length numbers.old.items }
-    ensures items { vec_len numbers.old < vec_capacity numbers.old → numbers.new.items ≡ insert numbers.old.items at number }
+    ensures items { vec_len numbers.old < vec_capacity numbers.old
+        → numbers.new.items ≡ insert numbers.old.items at number }
     ensures capacity { vec_capacity numbers.new ≡ vec_capacity numbers.old }
 {
     if numbers.len() < numbers.capacity() {
@@ -77,7 +80,8 @@ fn insert_at(numbers: &mut Vec<u64>, at: usize, number: u64)
 
 /// Puts a number among rising ones, where it isn't there and there is a place for it.
 fn enter(numbers: &mut Vec<u64>, number: u64)
-    ensures items { length (with_number number numbers.old.items) ≤ vec_capacity numbers.old → numbers.new.items ≡ with_number number numbers.old.items }
+    ensures items { length (with_number number numbers.old.items) ≤ vec_capacity numbers.old
+        → numbers.new.items ≡ with_number number numbers.old.items }
     ensures capacity { vec_capacity numbers.new ≡ vec_capacity numbers.old }
 {
     let at = place_of(numbers.as_slice(), number);
@@ -96,7 +100,8 @@ fn leave(numbers: &mut Vec<u64>, number: u64)
 
 /// Lets the active numbers follow a move of an occurrence to a state, where there is a place for each.
 pub fn move_active(numbers: &mut Vec<u64>, occ: u64, to: OpState)
-    ensures items { length (active_moved occ to numbers.old.items) ≤ vec_capacity numbers.old → numbers.new.items ≡ active_moved occ to numbers.old.items }
+    ensures items { length (active_moved occ to numbers.old.items) ≤ vec_capacity numbers.old
+        → numbers.new.items ≡ active_moved occ to numbers.old.items }
     ensures capacity { vec_capacity numbers.new ≡ vec_capacity numbers.old }
 {
     if works(to) {

@@ -2,7 +2,8 @@
 
 ghost use Rattle.lcm_events.specs.declared.attempts.Outcome.{Outcome};
 ghost use Rattle.std.specs.Prelude.{IfOk};
-ghost use Rattle.lcm_events.specs.declared.events.EventKind.TheVariants.{CallFailed, CancelAsked, Denied, GrantTried, Granted, Intent, Moved, Settled};
+ghost use Rattle.lcm_events.specs.declared.events.EventKind.TheVariants.{CallFailed, CancelAsked, Denied, GrantTried};
+ghost use Rattle.lcm_events.specs.declared.events.EventKind.TheVariants.{Granted, Intent, Moved, Settled};
 ghost use Rattle.lcm_events.specs.declared.states.CancelMode.{CancelMode};
 ghost use Rattle.occ_table.specs.Table.{Judges, JudgesWithin};
 
@@ -13,8 +14,8 @@ use std::alloc::{AllocError, Global};
 use vnfm_base::Name;
 
 impl OccTable {
-    /// Whether it may be recorded of an occurrence that a grant request didn't lead to a grant: the exchange goes on, and a location is told
-    /// only where none is known.
+    /// Whether it may be recorded of an occurrence that a grant request didn't lead to a grant: the exchange goes on,
+    /// and a location is told only where none is known.
     ///
     /// Source: SOL 003 9.4.2 (Grants).
     pub fn may_try(&self, occ: u64, answer: &GrantTry) -> bool
@@ -38,8 +39,8 @@ impl OccTable {
         }
     }
 
-    /// Whether a grant of an occurrence may be recorded: the exchange goes on, the grant has an identifier, and each change one of its places,
-    /// which stand in the order of the first change that has them.
+    /// Whether a grant of an occurrence may be recorded: the exchange goes on, the grant has an identifier, and each
+    /// change one of its places, which stand in the order of the first change that has them.
     ///
     /// Source: SOL 003 9.5.2.3 (Grant).
     pub fn may_grant(
@@ -58,11 +59,12 @@ impl OccTable {
         }
     }
 
-    /// Whether an attempt may begin, where at most so many attempts of an occurrence may be open: the occurrence is at such work, with neither
-    /// trouble nor a cancel since its last move; there is room for one more attempt, and none at this change is open; the attempt has the next
-    /// number; and it is the turn of its change.
+    /// Whether an attempt may begin, where at most so many attempts of an occurrence may be open: the occurrence is at
+    /// such work, with neither trouble nor a cancel since its last move; there is room for one more attempt, and none
+    /// at this change is open; the attempt has the next number; and it is the turn of its change.
     ///
-    /// Source: SOL 003 5.6.2 (States and state transitions of a VNF LCM operation occurrence); phases and windows are own rules.
+    /// Source: SOL 003 5.6.2 (States and state transitions of a VNF LCM operation occurrence); phases and windows are
+    /// own rules.
     pub fn may_begin(&self, width: usize, tag: &Tag) -> bool
         ensures judged { JudgesWithin width (Intent tag.now) result self.now.rows }
     {
@@ -84,7 +86,8 @@ impl OccTable {
         }
     }
 
-    /// Whether it may be recorded that the call that was to begin an attempt failed: it is open, and no such call failed.
+    /// Whether it may be recorded that the call that was to begin an attempt failed: it is open, and no such call
+    /// failed.
     ///
     /// Source: own rule.
     pub fn may_fail_call(&self, tag: &Tag) -> bool

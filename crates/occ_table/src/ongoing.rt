@@ -30,7 +30,8 @@ pub fn ongoing_at(ongoing: &[Option<u64>], instance: u64) -> Option<u64>
     *occ
 }
 
-/// The instance of this number has this ongoing operation from now on, or none. Nothing happens where there is no such instance.
+/// The instance of this number has this ongoing operation from now on, or none. Nothing happens where there is no such
+/// instance.
 pub fn set_ongoing(ongoing: &mut Vec<Option<u64>>, instance: u64, occ: Option<u64>)
     ensures items { ongoing.new.items ≡ with_ongoing instance occ ongoing.old.items }
     ensures length { vec_len ongoing.new ≡ vec_len ongoing.old }

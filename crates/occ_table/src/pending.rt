@@ -3,7 +3,8 @@
 ghost use Rattle.std.specs.Prelude.{◌≡◌, ◌≤◌, ◌<◌, ◌&&◌, [], filter, length, map, not, vec_capacity, vec_len, IfOk};
 ghost use Rattle.std.specs.List.{list_any};
 ghost use Rattle.lcm_events.specs.Same.{same_tag};
-ghost use Rattle.occ_table.specs.Steps.{begun, ended, failed_by, has_failed_among, has_open_among, has_open_at, none_open};
+ghost use Rattle.occ_table.specs.Steps.{begun, ended, failed_by, has_failed_among, has_open_among, has_open_at};
+ghost use Rattle.occ_table.specs.Steps.{none_open};
 
 use lcm_events::Tag;
 use std::alloc::{AllocError, Global};
@@ -72,7 +73,8 @@ impl AttemptRoom {
     }
 }
 
-/// Open attempts in the order in which they began. Where one is open, there is room for 4; where none is, no memory is held.
+/// Open attempts in the order in which they began. Where one is open, there is room for 4; where none is, no memory is
+/// held.
 #[derive(Drop)]
 pub struct Pendings {
     entries: Vec<Pending>,
@@ -86,7 +88,8 @@ impl Model for Pendings {
 
     ghost view = { λ p. p.entries.items };
 
-    ghost invariant = { λ p. (0 < length p.entries.items → 4 ≤ vec_capacity p.entries) × (length p.entries.items ≡ 0 → vec_capacity p.entries ≡ 0) };
+    ghost invariant = { λ p. (0 < length p.entries.items → 4 ≤ vec_capacity p.entries)
+        × (length p.entries.items ≡ 0 → vec_capacity p.entries ≡ 0) };
 }
 
 /// Marks the attempt whose call failed.

@@ -2,13 +2,15 @@
 
 ghost use Rattle.std.specs.List.{list_any};
 ghost use Rattle.std.specs.Option.{option_map_or};
-ghost use Rattle.std.specs.Prelude.{◌≡◌, ◌&&◌, ◌==◌, ◌<◌, ◌≤◌, ℕ, None, Some, false, not, true, OnOk, cond, if◌then◌else◌, option_and_then, option_map};
+ghost use Rattle.std.specs.Prelude.{◌≡◌, ◌&&◌, ◌==◌, ◌<◌, ◌≤◌, ℕ, None, Some, false, not, true, OnOk, cond};
+ghost use Rattle.std.specs.Prelude.{if◌then◌else◌, option_and_then, option_map};
 ghost use Rattle.std.specs.HashMap.{spare};
 ghost use Rattle.lcm_events.specs.Same.{same_def, same_way};
 ghost use Rattle.lcm_events.specs.declared.attempts.Way.TheVariants.{Forward};
 ghost use Rattle.lcm_events.specs.declared.changes.Def.{Def};
 ghost use Rattle.lcm_model.specs.Holding.{leaves_it};
-ghost use Rattle.occ_table.specs.Resources.{kept_by, kept_of, key_of, learned, left, outlasting, same_key, standing, touched, used_after, used_of, where_it_stands};
+ghost use Rattle.occ_table.specs.Resources.{kept_by, kept_of, key_of, learned, left, outlasting, same_key, standing};
+ghost use Rattle.occ_table.specs.Resources.{touched, used_after, used_of, where_it_stands};
 ghost use Rattle.occ_table.specs.Used.{placed};
 ghost use Rattle.occ_table.specs.declared.resources.Key.{Key};
 
@@ -91,7 +93,8 @@ impl Model for Resources {
 /// Puts what is kept by a key, for which there is room.
 fn insert(entries: &mut HashMap<Key, Entry>, key: Key, entry: Entry)
     requires { 0 < spare entries.old }
-    ensures { (q : Key) → kept_by entries.new.entries q ≡ cond (same_key key q) (Some entry) (kept_by entries.old.entries q) }
+    ensures { (q : Key) → kept_by entries.new.entries q ≡ cond (same_key key q) (Some entry)
+        (kept_by entries.old.entries q) }
 {
     match entries.insert(key, entry) {
         Ok(_) => {}
@@ -101,7 +104,8 @@ fn insert(entries: &mut HashMap<Key, Entry>, key: Key, entry: Entry)
 
 /// What is kept by a key stands from now on, or doesn't. Nothing happens where nothing is kept.
 fn leave_in(entries: &mut HashMap<Key, Entry>, key: &Key, stands: bool)
-    ensures { (q : Key) → kept_by entries.new.entries q ≡ cond (same_key key.now q) (option_map (left stands) (kept_by entries.old.entries q)) (kept_by entries.old.entries q) }
+    ensures { (q : Key) → kept_by entries.new.entries q ≡ cond (same_key key.now q)
+        (option_map (left stands) (kept_by entries.old.entries q)) (kept_by entries.old.entries q) }
 {
     match entries.get_mut(key) {
         Some(entry) => entry.stands = stands,
@@ -161,7 +165,8 @@ impl Resources {
     fn put(&mut self, key: Key, used: &Used)
         requires room { 765 ≤ self.old.room }
         requires spare { 0 < self.old.spare }
-        ensures { (q : Key) → kept_by self.new.entries q ≡ cond (same_key key q) (standing (Some used.now)) (kept_by self.old.entries q) }
+        ensures { (q : Key) → kept_by self.new.entries q ≡ cond (same_key key q) (standing (Some used.now))
+            (kept_by self.old.entries q) }
     {
         if let Some(names) = self.names.take(used.names_len()) {
             let used = PackedUsed::of(names, used);
@@ -171,7 +176,8 @@ impl Resources {
 
     /// From now on nothing is kept by a key, and its memory is given back.
     fn forget(&mut self, key: &Key)
-        ensures entries { (q : Key) → kept_by self.new.entries q ≡ cond (same_key key.now q) None (kept_by self.old.entries q) }
+        ensures entries { (q : Key) → kept_by self.new.entries q
+            ≡ cond (same_key key.now q) None (kept_by self.old.entries q) }
         ensures spare { self.old.spare ≤ self.new.spare }
         ensures room { self.new.room ≡ self.old.room }
     {
@@ -182,7 +188,8 @@ impl Resources {
     fn set(&mut self, key: Key, resource: Name, place: Option<Place>)
         requires room { 765 ≤ self.old.room }
         requires spare { 0 < self.old.spare }
-        ensures { (q : Key) → kept_by self.new.entries q ≡ cond (same_key key q) (standing (placed (Some resource) place)) (kept_by self.old.entries q) }
+        ensures { (q : Key) → kept_by self.new.entries q ≡ cond (same_key key q)
+            (standing (placed (Some resource) place)) (kept_by self.old.entries q) }
     {
         match place {
             Some(place) => self.put(key, &Used { resource, place }),
@@ -200,7 +207,8 @@ impl Resources {
 
     /// The place of a definition that an attempt made: that which was granted, or for an undo the one that it had.
     fn place_of(&self, key: &Key, deed: &DoneAttempt) -> Option<Place>
-        ensures { result ≡ (if same_way deed.now.effect.tag.way Forward then deed.now.place else option_map (λ u. u.place) (used_of (kept_by self.now.entries key.now))) }
+        ensures { result ≡ (if same_way deed.now.effect.tag.way Forward then deed.now.place
+            else option_map (λ u. u.place) (used_of (kept_by self.now.entries key.now))) }
     {
         match deed.effect.tag.way {
             Way::Forward => deed.place,
@@ -212,7 +220,8 @@ impl Resources {
     fn learn(&mut self, deed: &DoneAttempt)
         requires room { 765 ≤ self.old.room }
         requires spare { 0 < self.old.spare }
-        ensures { (i : ℕ) (x : Def) → kept_of self.new.entries i x ≡ learned (Some deed.now) (kept_of self.old.entries) i x }
+        ensures { (i : ℕ) (x : Def) → kept_of self.new.entries i x
+            ≡ learned (Some deed.now) (kept_of self.old.entries) i x }
     {
         let effect = &deed.effect;
         let key = Key::of(effect.instance, &effect.def);
@@ -228,7 +237,8 @@ impl Resources {
     pub fn take(&mut self, deed: &Option<DoneAttempt>) -> Option<Used>
         requires room { 765 ≤ self.old.room }
         requires spare { 0 < self.old.spare }
-        ensures kept { (i : ℕ) (x : Def) → kept_of self.new.entries i x ≡ learned deed.now (kept_of self.old.entries) i x }
+        ensures kept { (i : ℕ) (x : Def) → kept_of self.new.entries i x
+            ≡ learned deed.now (kept_of self.old.entries) i x }
         ensures used { result ≡ used_after deed.now (kept_of self.old.entries) }
     {
         match deed {
@@ -242,7 +252,8 @@ impl Resources {
 
     /// What the change of an attempt used, after what it did was learned.
     fn used_by(&self, deed: &DoneAttempt) -> Option<Used>
-        ensures { result ≡ (if same_way deed.now.effect.tag.way Forward then used_of (kept_of self.now.entries deed.now.effect.instance deed.now.effect.def) else None) }
+        ensures { result ≡ (if same_way deed.now.effect.tag.way Forward
+            then used_of (kept_of self.now.entries deed.now.effect.instance deed.now.effect.def) else None) }
     {
         match deed.effect.tag.way {
             Way::Forward => self.of(deed.effect.instance, &deed.effect.def),
@@ -252,7 +263,9 @@ impl Resources {
 
     /// Forgets a definition of an instance, where it doesn't stand.
     fn forget_gone(&mut self, instance: u64, def: &Def)
-        ensures entries { (i : ℕ) (x : Def) → kept_of self.new.entries i x ≡ cond ((instance == i) && same_def def.now x) (option_and_then where_it_stands (kept_of self.old.entries i x)) (kept_of self.old.entries i x) }
+        ensures entries { (i : ℕ) (x : Def) → kept_of self.new.entries i x
+            ≡ cond ((instance == i) && same_def def.now x) (option_and_then where_it_stands
+            (kept_of self.old.entries i x)) (kept_of self.old.entries i x) }
         ensures spare { self.old.spare ≤ self.new.spare }
         ensures room { self.new.room ≡ self.old.room }
     {
@@ -264,7 +277,9 @@ impl Resources {
 
     /// Forgets the definitions of these changes of an instance that don't stand.
     fn forget_gone_among(&mut self, instance: u64, changes: &[Change])
-        ensures entries { (i : ℕ) (x : Def) → kept_of self.new.entries i x ≡ cond ((instance == i) && list_any (λ c. same_def c.def x) changes.now) (option_and_then where_it_stands (kept_of self.old.entries i x)) (kept_of self.old.entries i x) }
+        ensures entries { (i : ℕ) (x : Def) → kept_of self.new.entries i x
+            ≡ cond ((instance == i) && list_any (λ c. same_def c.def x) changes.now)
+            (option_and_then where_it_stands (kept_of self.old.entries i x)) (kept_of self.old.entries i x) }
         ensures spare { self.old.spare ≤ self.new.spare }
         ensures room { self.new.room ≡ self.old.room }
     {
@@ -273,10 +288,11 @@ impl Resources {
         }
     }
 
-    /// Forgets, once the occurrence of a row is over, the definitions of its changes that don't stand, since nothing asks for them any more. Each
-    /// change is looked at once, and the memory is given back.
+    /// Forgets, once the occurrence of a row is over, the definitions of its changes that don't stand, since nothing
+    /// asks for them any more. Each change is looked at once, and the memory is given back.
     pub fn forget_gone_of(&mut self, row: &OccRow)
-        ensures entries { (i : ℕ) (x : Def) → kept_of self.new.entries i x ≡ outlasting (Some row.now) (kept_of self.old.entries) i x }
+        ensures entries { (i : ℕ) (x : Def) → kept_of self.new.entries i x
+            ≡ outlasting (Some row.now) (kept_of self.old.entries) i x }
         ensures spare { self.old.spare ≤ self.new.spare }
         ensures room { self.new.room ≡ self.old.room }
     {

@@ -11,8 +11,8 @@ use vnfm_base::Name;
 /// Bytes of three of the longest names.
 const LONGEST: usize = 765;
 
-/// Room in four sizes, so that names take no more than they need and leave no holes in memory: a name is mostly a short text or an identifier of
-/// 36 bytes.
+/// Room in four sizes, so that names take no more than they need and leave no holes in memory: a name is mostly a short
+/// text or an identifier of 36 bytes.
 ///
 /// A contract sees how many bytes there is room for at least.
 #[derive(Drop)]

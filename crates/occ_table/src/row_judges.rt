@@ -4,7 +4,8 @@ ghost use Rattle.std.specs.Option.{option_map_or};
 ghost use Rattle.occ_table.specs.Phases.{is_clear};
 ghost use Rattle.lcm_model.specs.Work.{net_before, works_in};
 ghost use Rattle.std.specs.Prelude.{◌≡◌, ◌&&◌, ◌↔◌, IfOk, IsTrue, false, ◌==◌, slice_get};
-ghost use Rattle.occ_table.specs.Steps.{gives_up_row, has_stopped_row, is_asking_row, is_new_try_row, MayTake, MayBeginRow, counts_for, is_next, is_turn, is_quiet_row, may_move_from};
+ghost use Rattle.occ_table.specs.Steps.{gives_up_row, has_stopped_row, is_asking_row, is_new_try_row, MayTake};
+ghost use Rattle.occ_table.specs.Steps.{MayBeginRow, counts_for, is_next, is_turn, is_quiet_row, may_move_from};
 
 use crate::phases::{are_clear, are_none};
 use crate::rows::OccRow;

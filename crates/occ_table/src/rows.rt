@@ -97,7 +97,8 @@ pub struct OccRow {
     pub made: [u16; PHASES],
     /// How many attempts there were at each change; none is listed once the occurrence is over.
     pub attempts: Cells<u32>,
-    /// What each change used last: the resource that its last attempt that was done and no undo made, removed or powered, with its place.
+    /// What each change used last: the resource that its last attempt that was done and no undo made, removed or
+    /// powered, with its place.
     pub used: Uses,
     /// The state that it is in.
     pub state: OpState,
@@ -173,7 +174,13 @@ impl OccRow {
         ask: PackedAsk,
         used: Uses,
     ) -> OccRow
-        ensures { result ≡ record (first_row moment operation.now) { ask = ask; used = used; changes = []; nets = []; attempts = [] } }
+        ensures { result ≡ record (first_row moment operation.now) {
+          ask = ask;
+          used = used;
+          changes = [];
+          nets = [];
+          attempts = [];
+        } }
     {
         OccRow {
             instance: operation.instance,
@@ -202,7 +209,12 @@ impl OccRow {
 
     /// Puts the changes of the plan, none of which is made or was attempted.
     fn put_changes(&mut self, alloc: Global, changes: &[Change]) -> Result<(), AllocError>
-        ensures { OnOk result (self.new ≡ record self.old { changes = changes.now; nets = replicate (length changes.now) 0; attempts = replicate (length changes.now) 0 }) }
+        ensures { OnOk result (self.new ≡ record self.old {
+          changes = changes.now;
+          nets =
+              replicate (length changes.now) 0;
+          attempts = replicate (length changes.now) 0;
+        }) }
     {
         self.changes = Listed::of(changes.to_vec(alloc)?);
         self.nets = Cells::of(vec![in alloc; 0u8; changes.len()]?);
@@ -226,7 +238,17 @@ impl OccRow {
 
     /// An equal row but for this ask and these uses, and without what takes memory besides.
     fn bare(&self, alloc: Global, ask: PackedAsk, used: Uses) -> OccRow
-        ensures { result ≡ record self.now { vnfd = []; ask = ask; changes = []; nets = []; attempts = []; used = used; location = None; pending = []; grant = None } }
+        ensures { result ≡ record self.now {
+          vnfd = [];
+          ask = ask;
+          changes = [];
+          nets = [];
+          attempts = [];
+          used = used;
+          location = None;
+          pending = [];
+          grant = None;
+        } }
     {
         OccRow {
             instance: self.instance,
@@ -255,7 +277,13 @@ impl OccRow {
 
     /// Puts the descriptor, the changes and what each has come to, as another row has them.
     fn copy_plan(&mut self, alloc: Global, from: &OccRow) -> Result<(), AllocError>
-        ensures { OnOk result (self.new ≡ record self.old { vnfd = from.now.vnfd; changes = from.now.changes; nets = from.now.nets; attempts = from.now.attempts }) }
+        ensures { OnOk result (self.new ≡ record self.old {
+          vnfd = from.now.vnfd;
+          changes = from.now.changes;
+          nets =
+              from.now.nets;
+          attempts = from.now.attempts;
+        }) }
     {
         self.vnfd = from.vnfd.copy(alloc)?;
         self.changes = Listed::of(from.changes.as_slice().to_vec(alloc)?);
@@ -266,7 +294,11 @@ impl OccRow {
 
     /// Puts the location, the open attempts and the grant, as another row has them.
     fn copy_work(&mut self, alloc: Global, from: &OccRow) -> Result<(), AllocError>
-        ensures { OnOk result (self.new ≡ record self.old { location = from.now.location; pending = from.now.pending; grant = from.now.grant }) }
+        ensures { OnOk result (self.new ≡ record self.old {
+          location = from.now.location;
+          pending = from.now.pending;
+          grant = from.now.grant;
+        }) }
     {
         self.location = copied_line(&from.location)?;
         self.pending = from.pending.copy(alloc)?;

@@ -35,7 +35,8 @@ impl Model for Slot {
 }
 
 impl Slot {
-    /// The row of an operation that is asked for at this moment, which names no descriptor yet, with room for its open attempts.
+    /// The row of an operation that is asked for at this moment, which names no descriptor yet, with room for its open
+    /// attempts.
     pub fn first(alloc: Global, moment: Moment, operation: &Operation) -> Result<Slot, AllocError>
         ensures { IfOk result (λ s. s ≡ first_row moment operation.now) }
     {

@@ -1,7 +1,8 @@
 //! The table: a row for each occurrence, in the order of their numbers.
 
 ghost use Rattle.occ_table.specs.declared.rows.Grant.{Grant};
-ghost use Rattle.std.specs.Prelude.{◌≡◌, ◌-◌, ◌<◌, ◌≤◌, ℕ, List, [], ◌++◌, ◌∷◌, Some, None, true, false, find, nat_lt, length, option_copied, slice_get, IsOk, OnOk, vec_len, vec_capacity};
+ghost use Rattle.std.specs.Prelude.{◌≡◌, ◌-◌, ◌<◌, ◌≤◌, ℕ, List, [], ◌++◌, ◌∷◌, Some, None, true, false, find, nat_lt};
+ghost use Rattle.std.specs.Prelude.{length, option_copied, slice_get, IsOk, OnOk, vec_len, vec_capacity};
 ghost use Rattle.lcm_events.specs.declared.attempts.Outcome.TheVariants.{Done};
 ghost use Rattle.lcm_events.specs.declared.changes.Def.{Def};
 ghost use Rattle.lcm_events.specs.declared.events.EventKind.TheVariants.{GrantTried, Settled};
@@ -10,10 +11,12 @@ ghost use Rattle.lcm_model.specs.Operations.{occurrence_of};
 ghost use Rattle.occ_table.specs.Descriptors.{numbered, vnfd_in};
 ghost use Rattle.occ_table.specs.Going.{Rises, active_moved};
 ghost use Rattle.occ_table.specs.Ongoing.{instance_in, ongoing_in, ongoing_moved, with_ongoing};
-ghost use Rattle.occ_table.specs.Steps.{described, first_row, noted, row_after, rows_about, update, after_granted, after_told, is_bringing, is_later};
+ghost use Rattle.occ_table.specs.Steps.{described, first_row, noted, row_after, rows_about, update, after_granted};
+ghost use Rattle.occ_table.specs.Steps.{after_told, is_bringing, is_later};
 ghost use Rattle.occ_table.specs.Resources.{deed_of, kept_moved, kept_of, learned, used_after};
 ghost use Rattle.occ_table.specs.Rows.{StandsFor};
-ghost use Rattle.occ_table.specs.Table.{Applies, Counts, Follows, GoesOn, HasNames, HasRoom, HasRoomFor, IsKept, IsTableOf, Knows, Looks, Occurrences, Reserved, needs_room};
+ghost use Rattle.occ_table.specs.Table.{Applies, Counts, Follows, GoesOn, HasNames, HasRoom, HasRoomFor, IsKept};
+ghost use Rattle.occ_table.specs.Table.{IsTableOf, Knows, Looks, Occurrences, Reserved, needs_room};
 
 use crate::going::{append, first_above, move_active, reserve_places};
 use crate::ongoing::{instance_of, move_ongoing, ongoing_at, set_ongoing};
@@ -33,10 +36,10 @@ use vnfm_base::{Line, Moment, Name};
 
 /// The table of occurrences.
 ///
-/// A contract sees its rows, which occurrences are active, which operation of each instance goes on, which resource each definition has that
-/// stands or is in work, and what is reserved for an event.
-/// Each row has a place among the active numbers, so that a move needs no memory, and until its occurrence is over room for four open attempts,
-/// so that an attempt needs none to begin.
+/// A contract sees its rows, which occurrences are active, which operation of each instance goes on, which resource
+/// each definition has that stands or is in work, and what is reserved for an event.
+/// Each row has a place among the active numbers, so that a move needs no memory, and until its occurrence is over room
+/// for four open attempts, so that an attempt needs none to begin.
 
 pub struct OccTable {
     rows: Vec<Slot>,
@@ -73,7 +76,28 @@ impl Model for OccTable {
 
     ghost Value = { Occurrences };
 
-    ghost view = { λ t. record { rows = t.rows.items; active = t.active.items; ongoing = t.ongoing.items; vnfds = t.vnfds.vnfds; resources = t.resources.entries; reserved = record { row = t.row; grant = t.grant; location = t.location; spare = vec_capacity t.rows - vec_len t.rows; places = vec_capacity t.active - vec_len t.rows; instances = vec_capacity t.ongoing - vec_len t.ongoing; names = t.vnfds.spare; resources = t.resources.spare; made_names = t.resources.room; used_names = t.names } } };
+    ghost view = { λ t. record {
+      rows = t.rows.items;
+      active = t.active.items;
+      ongoing = t.ongoing.items;
+      vnfds =
+          t.vnfds.vnfds;
+      resources = t.resources.entries;
+      reserved =
+          record {
+            row = t.row;
+            grant = t.grant;
+            location = t.location;
+            spare = vec_capacity t.rows - vec_len t.rows;
+            places = vec_capacity t.active - vec_len t.rows;
+            instances = vec_capacity t.ongoing - vec_len t.ongoing;
+            names =
+                t.vnfds.spare;
+            resources = t.resources.spare;
+            made_names = t.resources.room;
+            used_names = t.names;
+          };
+    } };
 
     ghost invariant = { λ t. vec_len t.rows ≤ vec_capacity t.active };
 }
@@ -239,7 +263,8 @@ impl OccTable {
         spots: &Listed<u8>,
     ) -> Result<(), AllocError>
         ensures kept { self.new ≡ record self.old { reserved = self.new.reserved } }
-        ensures grant { OnOk result (self.new.reserved.grant ≡ Some (record { name = name; places = places.now; spots = spots.now })) }
+        ensures grant { OnOk result (self.new.reserved.grant
+            ≡ Some (record { name = name; places = places.now; spots = spots.now })) }
     {
         let grant = Grant::copied(alloc, name, places.as_slice(), spots.as_slice())?;
         self.grant = Some(grant);
@@ -276,8 +301,8 @@ impl OccTable {
         self.names.reserve(alloc)
     }
 
-    /// Reserves the memory that an event needs, so that `apply` takes none. All else stays, also after an error, which never comes for an event
-    /// that needs no memory.
+    /// Reserves the memory that an event needs, so that `apply` takes none. All else stays, also after an error, which
+    /// never comes for an event that needs no memory.
     ///
     /// Source: own rule.
     pub fn reserve_for(&mut self, alloc: Global, e: &Event) -> Result<(), AllocError>
@@ -314,7 +339,8 @@ impl OccTable {
         ensures ongoing { self.new.ongoing ≡ self.old.ongoing }
         ensures vnfds { self.new.vnfds ≡ self.old.vnfds }
         ensures resources { self.new.resources ≡ self.old.resources }
-        ensures rows { (g : Grant) → self.old.reserved.grant ≡ Some g → 1 ≤ occ → self.new.rows ≡ update (after_granted g) (occ - 1) self.old.rows }
+        ensures rows { (g : Grant) → self.old.reserved.grant ≡ Some g → 1 ≤ occ
+            → self.new.rows ≡ update (after_granted g) (occ - 1) self.old.rows }
     {
         if let Some(grant) = self.grant.take() {
             if occ > 0 {
@@ -329,7 +355,8 @@ impl OccTable {
         ensures ongoing { self.new.ongoing ≡ self.old.ongoing }
         ensures vnfds { self.new.vnfds ≡ self.old.vnfds }
         ensures resources { self.new.resources ≡ self.old.resources }
-        ensures rows { (at : List ℕ) → self.old.reserved.location ≡ Some at → 1 ≤ occ → self.new.rows ≡ update (after_told at) (occ - 1) self.old.rows }
+        ensures rows { (at : List ℕ) → self.old.reserved.location ≡ Some at → 1 ≤ occ
+            → self.new.rows ≡ update (after_told at) (occ - 1) self.old.rows }
     {
         if let Some(location) = self.location.take() {
             if occ > 0 {
@@ -352,12 +379,14 @@ impl OccTable {
         self.vnfds.push(vnfd);
     }
 
-    /// Puts the reserved row last, and its number last among the active ones: it is the ongoing operation of its instance.
+    /// Puts the reserved row last, and its number last among the active ones: it is the ongoing operation of its
+    /// instance.
     fn put_row(&mut self, occ: u64, instance: u64)
         requires spare { 0 < self.old.reserved.spare }
         requires places { 0 < self.old.reserved.places }
         requires names { 765 ≤ self.old.reserved.used_names }
-        ensures rows { (r : OccRow) → self.old.reserved.row ≡ Some r → self.new.rows ≡ self.old.rows ++ described (vnfd_in instance self.old.vnfds) r ∷ [] }
+        ensures rows { (r : OccRow) → self.old.reserved.row ≡ Some r
+            → self.new.rows ≡ self.old.rows ++ described (vnfd_in instance self.old.vnfds) r ∷ [] }
         ensures active { length self.old.active ≤ length self.old.rows → self.new.active ≡ self.old.active ++ occ ∷ [] }
         ensures ongoing { self.new.ongoing ≡ with_ongoing instance (Some occ) self.old.ongoing }
         ensures vnfds { self.new.vnfds ≡ self.old.vnfds }
@@ -376,10 +405,12 @@ impl OccTable {
     fn follow_move(&mut self, moment: Moment, occ: u64, to: OpState, kind: &EventKind)
         requires { is_bringing kind.now ≡ false }
         ensures numbered { 1 ≤ occ → self.new.rows ≡ update (row_after moment None kind.now) (occ - 1) self.old.rows }
-        ensures active { length (active_moved occ to self.old.active) ≤ length self.old.rows → self.new.active ≡ active_moved occ to self.old.active }
+        ensures active { length (active_moved occ to self.old.active) ≤ length self.old.rows
+            → self.new.active ≡ active_moved occ to self.old.active }
         ensures ongoing { self.new.ongoing ≡ ongoing_moved (instance_in occ self.old.rows) to self.old.ongoing }
         ensures vnfds { self.new.vnfds ≡ self.old.vnfds }
-        ensures resources { (i : ℕ) (x : Def) → kept_of self.new.resources i x ≡ kept_moved to (numbered occ self.old.rows) (kept_of self.old.resources) i x }
+        ensures resources { (i : ℕ) (x : Def) → kept_of self.new.resources i x
+            ≡ kept_moved to (numbered occ self.old.rows) (kept_of self.old.resources) i x }
         ensures reserved { IsKept self.old.reserved self.new.reserved }
     {
         self.forget_where_over(occ, to);
@@ -391,10 +422,12 @@ impl OccTable {
         move_ongoing(&mut self.ongoing, instance, to);
     }
 
-    /// Forgets what was kept for an occurrence alone, where it moves to a final state: the definitions of its changes that don't stand.
+    /// Forgets what was kept for an occurrence alone, where it moves to a final state: the definitions of its changes
+    /// that don't stand.
     fn forget_where_over(&mut self, occ: u64, to: OpState)
         ensures kept { self.new ≡ record self.old { resources = self.new.resources; reserved = self.new.reserved } }
-        ensures resources { (i : ℕ) (x : Def) → kept_of self.new.resources i x ≡ kept_moved to (numbered occ self.old.rows) (kept_of self.old.resources) i x }
+        ensures resources { (i : ℕ) (x : Def) → kept_of self.new.resources i x
+            ≡ kept_moved to (numbered occ self.old.rows) (kept_of self.old.resources) i x }
         ensures reserved { IsKept self.old.reserved self.new.reserved }
     {
         if ends(to) {
@@ -421,7 +454,8 @@ impl OccTable {
     /// Lets the row of the occurrence that an event of this moment is about follow it.
     fn follow_about(&mut self, moment: Moment, kind: &EventKind)
         requires { is_bringing kind.now ≡ false }
-        ensures numbered { (n : ℕ) → occurrence_of kind.now ≡ Some n → 1 ≤ n → self.new.rows ≡ rows_about (occurrence_of kind.now) moment None kind.now self.old.rows }
+        ensures numbered { (n : ℕ) → occurrence_of kind.now ≡ Some n → 1 ≤ n
+            → self.new.rows ≡ rows_about (occurrence_of kind.now) moment None kind.now self.old.rows }
         ensures none { occurrence_of kind.now ≡ None → self.new.rows ≡ self.old.rows }
         ensures active { self.new.active ≡ self.old.active }
         ensures ongoing { self.new.ongoing ≡ self.old.ongoing }
@@ -442,7 +476,8 @@ impl OccTable {
     /// Lets the row of an occurrence follow a try of its grant exchange.
     fn follow_try(&mut self, moment: Moment, occ: u64, answer: &GrantTry, kind: &EventKind)
         requires { kind.now ≡ GrantTried occ answer.now }
-        ensures numbered { HasRoomFor moment kind.now self.old.reserved → 1 ≤ occ → self.new.rows ≡ update (row_after moment None kind.now) (occ - 1) self.old.rows }
+        ensures numbered { HasRoomFor moment kind.now self.old.reserved → 1 ≤ occ
+            → self.new.rows ≡ update (row_after moment None kind.now) (occ - 1) self.old.rows }
         ensures active { self.new.active ≡ self.old.active }
         ensures ongoing { self.new.ongoing ≡ self.old.ongoing }
         ensures vnfds { self.new.vnfds ≡ self.old.vnfds }
@@ -471,7 +506,8 @@ impl OccTable {
         }
     }
 
-    /// Puts what the change of this number of an occurrence has used last into the reserved text, and that into its row.
+    /// Puts what the change of this number of an occurrence has used last into the reserved text, and that into its
+    /// row.
     fn put_used(&mut self, occ: u64, change: u16, used: &Used)
         requires { 765 ≤ self.old.reserved.used_names }
         ensures rows { 1 ≤ occ → self.new.rows ≡ update (noted change (Some used.now)) (occ - 1) self.old.rows }
@@ -491,12 +527,14 @@ impl OccTable {
     /// Learns what an attempt did that was done with this name, and tells what its change used.
     fn take_deed(&mut self, tag: &Tag, resource: Name) -> Option<Used>
         requires { HasNames (Done resource) self.old.reserved }
-        ensures used { result ≡ used_after (deed_of tag.now (Done resource) self.old.rows) (kept_of self.old.resources) }
+        ensures used { result ≡ used_after (deed_of tag.now (Done resource) self.old.rows)
+            (kept_of self.old.resources) }
         ensures rows { self.new.rows ≡ self.old.rows }
         ensures active { self.new.active ≡ self.old.active }
         ensures ongoing { self.new.ongoing ≡ self.old.ongoing }
         ensures vnfds { self.new.vnfds ≡ self.old.vnfds }
-        ensures resources { (i : ℕ) (x : Def) → kept_of self.new.resources i x ≡ learned (deed_of tag.now (Done resource) self.old.rows) (kept_of self.old.resources) i x }
+        ensures resources { (i : ℕ) (x : Def) → kept_of self.new.resources i x
+            ≡ learned (deed_of tag.now (Done resource) self.old.rows) (kept_of self.old.resources) i x }
         ensures names { self.new.reserved.used_names ≡ self.old.reserved.used_names }
     {
         let deed = deed_of(self.rows.as_slice(), tag, resource);
@@ -507,11 +545,14 @@ impl OccTable {
     fn follow_done(&mut self, moment: Moment, tag: &Tag, resource: Name, kind: &EventKind)
         requires kind { kind.now ≡ Settled tag.now (Done resource) }
         requires room { HasNames (Done resource) self.old.reserved }
-        ensures rows { 1 ≤ tag.now.occ → self.new.rows ≡ update (row_after moment (used_after (deed_of tag.now (Done resource) self.old.rows) (kept_of self.old.resources)) kind.now) (tag.now.occ - 1) self.old.rows }
+        ensures rows { 1 ≤ tag.now.occ → self.new.rows ≡ update
+            (row_after moment (used_after (deed_of tag.now (Done resource) self.old.rows) (kept_of self.old.resources))
+            kind.now) (tag.now.occ - 1) self.old.rows }
         ensures active { self.new.active ≡ self.old.active }
         ensures ongoing { self.new.ongoing ≡ self.old.ongoing }
         ensures vnfds { self.new.vnfds ≡ self.old.vnfds }
-        ensures resources { (i : ℕ) (x : Def) → kept_of self.new.resources i x ≡ learned (deed_of tag.now (Done resource) self.old.rows) (kept_of self.old.resources) i x }
+        ensures resources { (i : ℕ) (x : Def) → kept_of self.new.resources i x
+            ≡ learned (deed_of tag.now (Done resource) self.old.rows) (kept_of self.old.resources) i x }
     {
         let used = self.take_deed(tag, resource);
         self.follow_about(moment, kind);
@@ -522,11 +563,14 @@ impl OccTable {
     fn follow_end(&mut self, moment: Moment, tag: &Tag, outcome: &Outcome, kind: &EventKind)
         requires kind { kind.now ≡ Settled tag.now outcome.now }
         requires room { HasNames outcome.now self.old.reserved }
-        ensures rows { 1 ≤ tag.now.occ → self.new.rows ≡ update (row_after moment (used_after (deed_of tag.now outcome.now self.old.rows) (kept_of self.old.resources)) kind.now) (tag.now.occ - 1) self.old.rows }
+        ensures rows { 1 ≤ tag.now.occ → self.new.rows ≡ update
+            (row_after moment (used_after (deed_of tag.now outcome.now self.old.rows) (kept_of self.old.resources))
+            kind.now) (tag.now.occ - 1) self.old.rows }
         ensures active { self.new.active ≡ self.old.active }
         ensures ongoing { self.new.ongoing ≡ self.old.ongoing }
         ensures vnfds { self.new.vnfds ≡ self.old.vnfds }
-        ensures resources { (i : ℕ) (x : Def) → kept_of self.new.resources i x ≡ learned (deed_of tag.now outcome.now self.old.rows) (kept_of self.old.resources) i x }
+        ensures resources { (i : ℕ) (x : Def) → kept_of self.new.resources i x
+            ≡ learned (deed_of tag.now outcome.now self.old.rows) (kept_of self.old.resources) i x }
         ensures reserved { is_done outcome.now ≡ false → self.new.reserved ≡ self.old.reserved }
     {
         match outcome {
@@ -612,8 +656,8 @@ impl OccTable {
         ongoing_at(self.ongoing.as_slice(), instance)
     }
 
-    /// The resource that a definition of an instance has, with its place, or had before the operation removed it that goes on; none where
-    /// it doesn't stand and no operation that goes on did anything to it.
+    /// The resource that a definition of an instance has, with its place, or had before the operation removed it that
+    /// goes on; none where it doesn't stand and no operation that goes on did anything to it.
     ///
     /// Source: SOL 003 5.5.3 (the resource infos of an instance).
     pub fn resource(&self, instance: u64, def: &Def) -> Option<Used>

@@ -1,7 +1,8 @@
-//! What the changes of an occurrence used: for each the resource that it made, removed or powered, with its place, in as many bytes as
-//! their names have.
+//! What the changes of an occurrence used: for each the resource that it made, removed or powered, with its place, in
+//! as many bytes as their names have.
 
-ghost use Rattle.std.specs.Prelude.{◌≡◌, ◌≤◌, ◌+◌, ◌++◌, None, Some, IfOk, option_and_then, replicate, slice_get, slice_set, vec_capacity, vec_len};
+ghost use Rattle.std.specs.Prelude.{◌≡◌, ◌≤◌, ◌+◌, ◌++◌, None, Some, IfOk, option_and_then, replicate, slice_get};
+ghost use Rattle.std.specs.Prelude.{slice_set, vec_capacity, vec_len};
 ghost use Rattle.vnfm_base.specs.Text.{IsName};
 ghost use Rattle.occ_table.specs.Packed.{names_length};
 ghost use Rattle.occ_table.specs.declared.used.Used.{Used};

@@ -1,6 +1,8 @@
-//! Which descriptor each instance was made of, by the numbers of the instances: a number an instance, and each name once.
+//! Which descriptor each instance was made of, by the numbers of the instances: a number an instance, and each name
+//! once.
 
-ghost use Rattle.std.specs.Prelude.{◌≡◌, ◌≤◌, ◌<◌, ◌++◌, ◌∷◌, [], List, ℕ, Some, OnOk, length, slice_get, vec_capacity, vec_len};
+ghost use Rattle.std.specs.Prelude.{◌≡◌, ◌≤◌, ◌<◌, ◌++◌, ◌∷◌, [], List, ℕ, Some, OnOk, length, slice_get, vec_capacity};
+ghost use Rattle.std.specs.Prelude.{vec_len};
 ghost use Rattle.occ_table.specs.Descriptors.{NamesEach, name_at, named_by, numbered, vnfd_in};
 
 use std::alloc::{AllocError, Global};
@@ -54,7 +56,8 @@ fn place_among(names: &[Name], name: &Name) -> usize
 fn put_among(names: &mut Vec<Name>, name: Name) -> usize
     requires { vec_len names.old < vec_capacity names.old }
     ensures each { (ns : List ℕ) → NamesEach names.old.items ns → NamesEach names.new.items (ns ++ result ∷ []) }
-    ensures named { (ns : List ℕ) → NamesEach names.old.items ns → named_by names.new.items (ns ++ result ∷ []) ≡ named_by names.old.items ns ++ name ∷ [] }
+    ensures named { (ns : List ℕ) → NamesEach names.old.items ns
+        → named_by names.new.items (ns ++ result ∷ []) ≡ named_by names.old.items ns ++ name ∷ [] }
 {
     let at = place_among(names.as_slice(), &name);
     if at == names.len() {
@@ -65,7 +68,8 @@ fn put_among(names: &mut Vec<Name>, name: Name) -> usize
 
 /// Which descriptor each instance was made of.
 ///
-/// A contract sees the identifier of each instance's descriptor, in the order of the instances' numbers, and for how many more there is room.
+/// A contract sees the identifier of each instance's descriptor, in the order of the instances' numbers, and for how
+/// many more there is room.
 #[derive(Drop)]
 pub struct Vnfds {
     names: Vec<Name>,
@@ -78,7 +82,11 @@ impl Model for Vnfds {
 
     ghost Value = { KeptDescriptors };
 
-    ghost view = { λ v. record { vnfds = named_by v.names.items v.numbers.items; spare = min (vec_capacity v.names - vec_len v.names) (vec_capacity v.numbers - vec_len v.numbers) } };
+    ghost view = { λ v. record {
+      vnfds = named_by v.names.items v.numbers.items;
+      spare =
+          min (vec_capacity v.names - vec_len v.names) (vec_capacity v.numbers - vec_len v.numbers);
+    } };
 
     ghost invariant = { λ v. NamesEach v.names.items v.numbers.items };
 }

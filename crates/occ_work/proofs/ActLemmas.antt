@@ -48,15 +48,22 @@ disk_last P a b c none last =
     record { rose = λ is. last.rose is ∙ ap one_more same; stays = λ never. last.stays never ∙ same }
 
 -- there was no memory for what it exchanges
-pub starved_act : (t : ReachTells) (m : Managed) (now : ℕ) (H : List Event) (o : ℕ) (asking : Bool) (s : SiteState) (i : SiteCounts) (told : OrchestratorState) (counts : CallCounts)
+pub starved_act : (t : ReachTells) (m : Managed) (now : ℕ) (H : List Event) (o : ℕ) (asking : Bool) (s : SiteState) (i : SiteCounts)
+    (told : OrchestratorState) (counts : CallCounts)
     → Idles t.site s → IsReady t.site m H s → next_action H o ≡ Some (exchanging asking)
-    → (d : Deed) × (d.occ ≡ o) × Acts t (point m.ledger.manager now H) d (Err fault.Memory) m (reach s i told counts) (reach s i told counts)
+    → (d : Deed) × (d.occ ≡ o) × Acts t (point m.ledger.manager now H) d (Err fault.Memory) m (reach s i told counts)
+    (reach s i told counts)
 starved_act t m now H o true s i told counts idles ready next = (
   record { occ = o; action = AskForGrant; exchange = nothing },
   refl,
   record {
     tried = record { next = next; exchange = inr tt; ended = tt };
-    exchanged = record { told = λ tells. refl; counts = refl; handled = record { jobs = λ tells. advances-refl s.jobs; answers = λ tells. refl; counts = alike_refl i } };
+    exchanged = record {
+      told = λ tells. refl;
+      counts = refl;
+      handled =
+          record { jobs = λ tells. advances-refl s.jobs; answers = λ tells. refl; counts = alike_refl i };
+    };
     records = record { works = with_jobs t.site m.ledger.manager H (went H) m s s (idles m H ready); room = tt };
     ended = tt;
   },
@@ -66,15 +73,22 @@ starved_act t m now H o false s i told counts idles ready next = (
   refl,
   record {
     tried = record { next = next; exchange = inr tt; ended = tt };
-    exchanged = record { told = λ tells. refl; counts = refl; handled = record { jobs = λ tells. advances-refl s.jobs; answers = λ tells. refl; counts = alike_refl i } };
+    exchanged = record {
+      told = λ tells. refl;
+      counts = refl;
+      handled =
+          record { jobs = λ tells. advances-refl s.jobs; answers = λ tells. refl; counts = alike_refl i };
+    };
     records = record { works = with_jobs t.site m.ledger.manager H (went H) m s s (idles m H ready); room = tt };
     ended = tt;
   },
 )
 
 -- the grant was asked for, and what was answered taken
-pub asking_act : (t : ReachTells) (m now : ℕ) (H : List Event) (o : ℕ) (body : List ℕ) (ended : Call) (heard : Heard) (result : Result Acted WorkFault) (n : Managed)
-    (a b : SiteState) (i j : SiteCounts) (failed : Type 0) (x y : OrchestratorState) (c k : CallCounts) → next_action H o ≡ Some AskForGrant → grant_request m H o ≡ Some body
+pub asking_act : (t : ReachTells) (m now : ℕ) (H : List Event) (o : ℕ) (body : List ℕ) (ended : Call) (heard : Heard)
+    (result : Result Acted WorkFault) (n : Managed)
+    (a b : SiteState) (i j : SiteCounts) (failed : Type 0) (x y : OrchestratorState) (c k : CallCounts) → next_action H o ≡ Some AskForGrant
+    → grant_request m H o ≡ Some body
     → (t.orchestrator → Asks body heard ended x y) → CallCause ended c k → (t.site → KeepsJobs a b) → OnlyDiskFails failed i j
     → Records t.site (point m now H) (kinds_for true o (answer_heard true (changes H o) ended heard)) result n a b
     → IfOk result (λ done. done ≡ ending AskForGrant (answer_heard true (changes H o) ended heard))
@@ -87,7 +101,12 @@ asking_act t m now H o body ended heard result n a b i j failed x y c k next req
     exchanged = record {
       told = told;
       counts = counts;
-      handled = record { jobs = λ tells. kept_jobs a b (alone tells); answers = λ tells. (alone tells).answers; counts = alike_disk failed i j only };
+      handled = record {
+        jobs = λ tells. kept_jobs a b (alone tells);
+        answers = λ tells. (alone tells).answers;
+        counts =
+            alike_disk failed i j only;
+      };
     };
     records = records;
     ended = ends;
@@ -95,8 +114,10 @@ asking_act t m now H o body ended heard result n a b i j failed x y c k next req
 )
 
 -- the location was polled, and what was answered taken
-pub polling_act : (t : ReachTells) (m now : ℕ) (H : List Event) (o : ℕ) (at : List ℕ) (ended : Call) (heard : Heard) (result : Result Acted WorkFault) (n : Managed)
-    (a b : SiteState) (i j : SiteCounts) (failed : Type 0) (x y : OrchestratorState) (c k : CallCounts) → next_action H o ≡ Some Poll → location H o ≡ Some at
+pub polling_act : (t : ReachTells) (m now : ℕ) (H : List Event) (o : ℕ) (at : List ℕ) (ended : Call) (heard : Heard)
+    (result : Result Acted WorkFault) (n : Managed)
+    (a b : SiteState) (i j : SiteCounts) (failed : Type 0) (x y : OrchestratorState) (c k : CallCounts) → next_action H o ≡ Some Poll
+    → location H o ≡ Some at
     → (t.orchestrator → Polls at heard ended x y) → CallCause ended c k → (t.site → KeepsJobs a b) → OnlyDiskFails failed i j
     → Records t.site (point m now H) (kinds_for false o (answer_heard false (changes H o) ended heard)) result n a b
     → IfOk result (λ done. done ≡ ending Poll (answer_heard false (changes H o) ended heard))
@@ -109,7 +130,12 @@ polling_act t m now H o at ended heard result n a b i j failed x y c k next know
     exchanged = record {
       told = told;
       counts = counts;
-      handled = record { jobs = λ tells. kept_jobs a b (alone tells); answers = λ tells. (alone tells).answers; counts = alike_disk failed i j only };
+      handled = record {
+        jobs = λ tells. kept_jobs a b (alone tells);
+        answers = λ tells. (alone tells).answers;
+        counts =
+            alike_disk failed i j only;
+      };
     };
     records = records;
     ended = ends;
@@ -117,10 +143,13 @@ polling_act t m now H o at ended heard result n a b i j failed x y c k next know
 )
 
 -- the occurrence was moved on
-pub moving_act : (t : ReachTells) (m now : ℕ) (H : List Event) (o : ℕ) (to : OpState) (result : Result Acted WorkFault) (n : Managed) (a b : SiteState) (i j : SiteCounts) (failed : Type 0)
-    (told : OrchestratorState) (counts : CallCounts) → next_action H o ≡ Some (MoveTo to) → (t.site → KeepsJobs a b) → OnlyDiskFails failed i j
+pub moving_act : (t : ReachTells) (m now : ℕ) (H : List Event) (o : ℕ) (to : OpState) (result : Result Acted WorkFault) (n : Managed)
+    (a b : SiteState) (i j : SiteCounts) (failed : Type 0)
+    (told : OrchestratorState) (counts : CallCounts) → next_action H o ≡ Some (MoveTo to) → (t.site → KeepsJobs a b)
+    → OnlyDiskFails failed i j
     → Records t.site (point m now H) (Moved o to ∷ []) result n a b
-    → IfOk result (λ done. done ≡ Recorded) → (d : Deed) × (d.occ ≡ o) × Acts t (point m now H) d result n (reach a i told counts) (reach b j told counts)
+    → IfOk result (λ done. done ≡ Recorded) → (d : Deed) × (d.occ ≡ o)
+    × Acts t (point m now H) d result n (reach a i told counts) (reach b j told counts)
 moving_act t m now H o to result n a b i j failed told counts next alone only records ends = (
   record { occ = o; action = MoveTo to; exchange = nothing },
   refl,
@@ -129,7 +158,12 @@ moving_act t m now H o to result n a b i j failed told counts next alone only re
     exchanged = record {
       told = λ tells. refl;
       counts = refl;
-      handled = record { jobs = λ tells. kept_jobs a b (alone tells); answers = λ tells. (alone tells).answers; counts = alike_disk failed i j only };
+      handled = record {
+        jobs = λ tells. kept_jobs a b (alone tells);
+        answers = λ tells. (alone tells).answers;
+        counts =
+            alike_disk failed i j only;
+      };
     };
     records = records;
     ended = ends;
@@ -154,7 +188,8 @@ uncounted (looked t answer) c alone = refl
 uncounted (aborted aborts t answer) c alone = refl
 
 -- an attempt was made
-pub attempting_act : (t : ReachTells) (m now : ℕ) (H : List Event) (o : ℕ) (result : Result Acted WorkFault) (n : Managed) (a b : SiteState) (i j : SiteCounts) (told : OrchestratorState) (counts : CallCounts)
+pub attempting_act : (t : ReachTells) (m now : ℕ) (H : List Event) (o : ℕ) (result : Result Acted WorkFault) (n : Managed) (a b : SiteState)
+    (i j : SiteCounts) (told : OrchestratorState) (counts : CallCounts)
     → (d : Deed) × (d.occ ≡ o) × Attempts t.site (point m now H) d result n (shows a i) (shows b j)
     → (d : Deed) × (d.occ ≡ o) × Acts t (point m now H) d result n (reach a i told counts) (reach b j told counts)
 attempting_act t m now H o result n a b i j told counts it = (
@@ -162,7 +197,11 @@ attempting_act t m now H o result n a b i j told counts it = (
   it.1,
   record {
     tried = it.2.tried;
-    exchanged = record { told = λ tells. unasked it.0.exchange told it.2.alone; counts = uncounted it.0.exchange counts it.2.alone; handled = it.2.handled };
+    exchanged = record {
+      told = λ tells. unasked it.0.exchange told it.2.alone;
+      counts = uncounted it.0.exchange counts it.2.alone;
+      handled = it.2.handled;
+    };
     records = it.2.records;
     ended = it.2.ended;
   },

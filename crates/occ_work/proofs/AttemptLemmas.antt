@@ -1,5 +1,6 @@
 -- An attempt that was begun or looked at, by what was recorded and called in turn.
-use Rattle.std.proofs.Common.{◌≡◌, ◌≢◌, ◌∙◌, ℕ, List, [], ◌∷◌, Bool, false, true, Option, None, Some, ap, sym, subst, refl, inl, inr, Result, Ok, Err, IfOk, IsOk, OnOk, ⊎_elim, arith}
+use Rattle.std.proofs.Common.{◌≡◌, ◌≢◌, ◌∙◌, ℕ, List, [], ◌∷◌, Bool, false, true, Option, None, Some, ap, sym, subst, refl, inl, inr}
+use Rattle.std.proofs.Common.{Result, Ok, Err, IfOk, IsOk, OnOk, ⊎_elim, arith}
 use Rattle.change_planner.specs.Tags.{act_of}
 use Rattle.executor.specs.Managed.{IsReady, KeepsOn, Managed}
 use Rattle.journal_core.specs.Journal.{Ledger, Stands}
@@ -11,7 +12,8 @@ use Rattle.executor.specs.Work.{Extends, StaysSound, Work, Works, WorksAtFile, W
 use Rattle.executor.specs.declared.manager.WorkFault.{WorkFault}
 use Rattle.executor.specs.declared.manager.WorkFault.TheVariants as fault
 use Rattle.executor.proofs.CommitLemmas.{between_one}
-use Rattle.executor.proofs.WorkLemmas.{extends_back, extends_one, extends_refl, extends_trans, file_of, idle, joined_at_file, kept_sound, stays_joined, with_jobs}
+use Rattle.executor.proofs.WorkLemmas.{extends_back, extends_one, extends_refl, extends_trans, file_of, idle, joined_at_file, kept_sound}
+use Rattle.executor.proofs.WorkLemmas.{stays_joined, with_jobs}
 use Rattle.executor.specs.Room.{TellsRoom}
 use Rattle.journal_records.specs.declared.limits.TheConstants.{MAX_FILE}
 use Rattle.lcm_events.specs.declared.acts.Act.{Act}
@@ -73,8 +75,10 @@ reaches_none now G (Ok done) = refl
 reaches_none now G (Err why) = refl
 
 -- what putting none or one event that fits the jobs leaves of sound ones
-pub puts_sound : (tells : Type 0) (m now : ℕ) (kinds : List EventKind) (G : List Event) (result : Result Acted WorkFault) (p : Managed) (c d : SiteState) → tells
-    → WorksAtFile tells m G (recording now kinds G result) p c d → KeepsJobs c d → AreFew kinds → IsLegal m (with_events now kinds G) → IsSound m G c.jobs → FitAll kinds c.jobs
+pub puts_sound : (tells : Type 0) (m now : ℕ) (kinds : List EventKind) (G : List Event) (result : Result Acted WorkFault) (p : Managed)
+    (c d : SiteState) → tells
+    → WorksAtFile tells m G (recording now kinds G result) p c d → KeepsJobs c d → AreFew kinds → IsLegal m (with_events now kinds G)
+    → IsSound m G c.jobs → FitAll kinds c.jobs
     → StaysSound m G (recording now kinds G result) c d
 puts_sound tells m now [] G result p c d told works alone few legal sound fits =
     kept_sound tells m G (recording now [] G result) p c d told works alone
@@ -99,13 +103,15 @@ alike_then a b c one two = record { vim = two.vim ∙ one.vim; look = two.look �
 pub alike_disk : (failed : Type 0) (a b : SiteCounts) → OnlyDiskFails failed a b → CountJobsAlike a b
 alike_disk failed a b only = record { vim = only.vim; look = only.look; refusals = only.refusals }
 
-alike_begin : (answer : BeginAnswer) (a b : SiteCounts) → CountJobsAlike a b → CountJobsAlike (begin_counts answer a) (begin_counts answer b)
+alike_begin : (answer : BeginAnswer) (a b : SiteCounts) → CountJobsAlike a b
+    → CountJobsAlike (begin_counts answer a) (begin_counts answer b)
 alike_begin begin.Begun a b alike = alike
 alike_begin (begin.Refused code) a b alike = record { vim = alike.vim; look = alike.look; refusals = ap one_more alike.refusals }
 alike_begin begin.Failed a b alike = record { vim = ap one_more alike.vim; look = alike.look; refusals = alike.refusals }
 
 -- the counts of a begin between two recordings
-counts_begun : (answer : BeginAnswer) (one two : Type 0) (a b c d : SiteCounts) → OnlyDiskFails one a b → c ≡ begin_counts answer b → OnlyDiskFails two c d
+counts_begun : (answer : BeginAnswer) (one two : Type 0) (a b c d : SiteCounts) → OnlyDiskFails one a b → c ≡ begin_counts answer b
+    → OnlyDiskFails two c d
     → CountJobsAlike (begin_counts answer a) d
 counts_begun answer one two a b c d before called behind =
     alike_then (begin_counts answer a) c d
@@ -119,13 +125,15 @@ few_following t (begin.Refused code) = tt
 few_following t begin.Failed = tt
 
 -- and it fits the jobs behind the begin
-fits_following : (t : Tag) (work : Act) (answer : BeginAnswer) (ws xs ys : List Job) → phase_of t ws ≡ None → Advances ws xs → BeginsAs t work answer xs ys → FitAll (following t answer) ys
+fits_following : (t : Tag) (work : Act) (answer : BeginAnswer) (ws xs ys : List Job) → phase_of t ws ≡ None → Advances ws xs
+    → BeginsAs t work answer xs ys → FitAll (following t answer) ys
 fits_following t work begin.Begun ws xs ys none before begins = tt
 fits_following t work (begin.Refused code) ws xs ys none before begins = (refused_broken t work code ws xs ys none before begins, tt)
 fits_following t work begin.Failed ws xs ys none before begins = (tt, tt)
 
 -- the events of a begin are its intent and what follows
-pub legal_following : (m now : ℕ) (H : List Event) (t : Tag) (answer : BeginAnswer) → IsLegal m (with_events now (beginning t (answer_begun answer)) H)
+pub legal_following : (m now : ℕ) (H : List Event) (t : Tag) (answer : BeginAnswer)
+    → IsLegal m (with_events now (beginning t (answer_begun answer)) H)
     → IsLegal m (with_events now (following t answer) (record { moment = now; kind = Intent t } ∷ H))
 legal_following m now H t begin.Begun legal = legal
 legal_following m now H t (begin.Refused code) legal = legal
@@ -135,8 +143,10 @@ never_ok : (why : WorkFault) → IsOk {T = Acted} (Err why) → ⊥
 never_ok why is = cc
 
 -- and so is their work
-same_work : (now : ℕ) (H : List Event) (t : Tag) (answer : BeginAnswer) (result : Result Acted WorkFault) → (answer ≡ begin.Begun → IsOk result)
-    → recording now (following t answer) (record { moment = now; kind = Intent t } ∷ H) result ≡ recording now (beginning t (answer_begun answer)) H result
+same_work : (now : ℕ) (H : List Event) (t : Tag) (answer : BeginAnswer) (result : Result Acted WorkFault)
+    → (answer ≡ begin.Begun → IsOk result)
+    → recording now (following t answer) (record { moment = now; kind = Intent t } ∷ H) result
+    ≡ recording now (beginning t (answer_begun answer)) H result
 same_work now H t begin.Begun (Ok done) taken = refl
 same_work now H t begin.Begun (Err why) taken = absurd (never_ok why (taken refl))
 same_work now H t (begin.Refused code) (Ok done) taken = refl
@@ -151,9 +161,11 @@ same_work now H t begin.Failed (Err fault.Memory) taken = refl
 same_work now H t begin.Failed (Err fault.Disk) taken = refl
 
 -- and the room that is told of it
-same_room : (now : ℕ) (H : List Event) (t : Tag) (answer : BeginAnswer) (result : Result Acted WorkFault) → (answer ≡ begin.Begun → IsOk result)
+same_room : (now : ℕ) (H : List Event) (t : Tag) (answer : BeginAnswer) (result : Result Acted WorkFault)
+    → (answer ≡ begin.Begun → IsOk result)
     → TellsRoom MAX_FILE H (record { moment = now; kind = Intent t }) (Ok tt)
-    → TellsRoomFor now (following t answer) (record { moment = now; kind = Intent t } ∷ H) result → TellsRoomFor now (beginning t (answer_begun answer)) H result
+    → TellsRoomFor now (following t answer) (record { moment = now; kind = Intent t } ∷ H) result
+    → TellsRoomFor now (beginning t (answer_begun answer)) H result
 same_room now H t begin.Begun (Ok done) taken first then = first
 same_room now H t begin.Begun (Err why) taken first then = absurd (never_ok why (taken refl))
 same_room now H t (begin.Refused code) (Ok done) taken first then = then
@@ -168,7 +180,8 @@ same_room now H t begin.Failed (Err fault.Memory) taken first then = then
 same_room now H t begin.Failed (Err fault.Disk) taken first then = then
 
 -- how a begin may end
-begun_ends : (t : Tag) (work : Act) (answer : BeginAnswer) (result : Result Acted WorkFault) → (answer ≡ begin.Begun → IsOk result) → (result ≡ Err fault.Memory → ⊥)
+begun_ends : (t : Tag) (work : Act) (answer : BeginAnswer) (result : Result Acted WorkFault) → (answer ≡ begin.Begun → IsOk result)
+    → (result ≡ Err fault.Memory → ⊥)
     → MayEnd (began t work answer) result
 begun_ends t work begin.Begun (Ok done) taken memory = tt
 begun_ends t work begin.Begun (Err why) taken memory = never_ok why (taken refl)
@@ -184,34 +197,45 @@ begun_ends t work begin.Failed (Err fault.Memory) taken memory = memory refl
 begun_ends t work begin.Failed (Err fault.Disk) taken memory = tt
 
 -- behind work that went well the manager is ready for what it led to
-pub ready_behind : (tells : Type 0) (m : ℕ) (H G : List Event) (n : Managed) (a b : SiteState) → Works tells m H (went G) n a b → IsReady tells n G b
+pub ready_behind : (tells : Type 0) (m : ℕ) (H G : List Event) (n : Managed) (a b : SiteState) → Works tells m H (went G) n a b
+    → IsReady tells n G b
 ready_behind tells m H G n a b works = record { usable = works.closed; keeps = works.keeps; stands = λ told. (works.site told).stands refl }
 
 -- an attempt whose job was begun behind its intent, and what followed
-pub begun_attempt : (tells : Type 0) (m now : ℕ) (H : List Event) (t : Tag) (work : Act) (answer : BeginAnswer) (result : Result Acted WorkFault) (n p : Managed) (a b c d : SiteState)
-    (one two : Type 0) (i j k l : SiteCounts) → next_action H t.occ ≡ Some (Begin t) → IsLegal m (with_events now (beginning t (answer_begun answer)) H) → IsAllowed m H (Intent t)
-    → act_of H t ≡ Some work → Works tells m H (went (record { moment = now; kind = Intent t } ∷ H)) n a b → TellsRoom MAX_FILE H (record { moment = now; kind = Intent t }) (Ok tt)
-    → (tells → Begins t work answer b c) → Puts tells (point m now (record { moment = now; kind = Intent t } ∷ H)) (following t answer) result p c d → (tells → KeepsJobs c d)
+pub begun_attempt : (tells : Type 0) (m now : ℕ) (H : List Event) (t : Tag) (work : Act) (answer : BeginAnswer)
+    (result : Result Acted WorkFault) (n p : Managed) (a b c d : SiteState)
+    (one two : Type 0) (i j k l : SiteCounts) → next_action H t.occ ≡ Some (Begin t)
+    → IsLegal m (with_events now (beginning t (answer_begun answer)) H) → IsAllowed m H (Intent t)
+    → act_of H t ≡ Some work → Works tells m H (went (record { moment = now; kind = Intent t } ∷ H)) n a b
+    → TellsRoom MAX_FILE H (record { moment = now; kind = Intent t }) (Ok tt)
+    → (tells → Begins t work answer b c) → Puts tells (point m now (record { moment = now; kind = Intent t } ∷ H))
+    (following t answer) result p c d → (tells → KeepsJobs c d)
     → (answer ≡ begin.Begun → IsOk result) → (result ≡ Err fault.Memory → ⊥) → IfOk result (λ done. done ≡ Recorded)
     → OnlyDiskFails one i j → k ≡ begin_counts answer j → OnlyDiskFails two k l
     → (x : Deed) × (x.occ ≡ t.occ) × Attempts tells (point m now H) x result p (shows a i) (shows d l)
-begun_attempt tells m now H t work answer result n p a b c d one two i j k l next legal allowed does works room begins puts alone taken memory ends before called behind =
+begun_attempt tells m now H t work answer result n p a b c d one two i j k l next legal allowed does works room begins puts alone taken
+    memory ends before called behind =
     let G : List Event = record { moment = now; kind = Intent t } ∷ H in
     let w : Work = recording now (following t answer) G result in
     let number = works.number in
     let ready : IsReady tells n G b = ready_behind tells m H G n a b works in
     let mid : WorksAtFile tells m G (went G) n b c =
-    subst (λ (x : ℕ). WorksAtFile tells x G (went G) n b c) number (jobs_alone tells (MayArrive t work) n G b c ready (λ told. (begins told).on_jobs)) in
+    subst (λ (x : ℕ). WorksAtFile tells x G (went G) n b c) number
+    (jobs_alone tells (MayArrive t work) n G b c ready (λ told. (begins told).on_jobs)) in
     let file : WorksAtFile tells m H w p a d =
-    joined_at_file tells m H G w n p a c d (joined_at_file tells m H G (went G) n n a b c (file_of tells m H (went G) n a b works) mid) puts.at_file in
+    joined_at_file tells m H G w n p a c d (joined_at_file tells m H G (went G) n n a b c (file_of tells m H (went G) n a b works) mid)
+    puts.at_file in
     let all : WorksWithJobs tells m H w p a d = record {
       at_file = file;
       sound = λ told sound.
-          let first : StaysSound m H (went G) a c = begun_sound tells m now H t work n a b c told works (begins told).on_jobs allowed does sound in
+          let first : StaysSound m H (went G) a c = begun_sound tells m now H t work n a b c told works
+          (begins told).on_jobs allowed does sound in
           let none = fresh_job window m H t a.jobs sound allowed in
           let on = kept_jobs a b (works.jobs told) in
-          stays_joined m H G w a c d (extends_one _ H) (extends_trans G (stood w) (aimed w) puts.at_file.grows.to_stood puts.at_file.grows.to_aimed) first
-          (λ behind. puts_sound tells m now (following t answer) G result p c d told puts.at_file (alone told) (few_following t answer) (legal_following m now H t answer legal) behind
+          stays_joined m H G w a c d (extends_one _ H) (extends_trans G (stood w)
+          (aimed w) puts.at_file.grows.to_stood puts.at_file.grows.to_aimed) first
+          (λ behind. puts_sound tells m now (following t answer) G result p c d told puts.at_file (alone told) (few_following t answer)
+          (legal_following m now H t answer legal) behind
           (fits_following t work answer a.jobs b.jobs c.jobs none on (begins told).begins));
     } in (
       record { occ = t.occ; action = Begin t; exchange = began t work answer },
@@ -220,7 +244,8 @@ begun_attempt tells m now H t work answer result n p a b c d one two i j k l nex
         tried = record { next = next; exchange = inl (refl, does); ended = begun_ends t work answer result taken memory };
         alone = tt;
         handled = record {
-          jobs = λ told. begins_on t work answer a.jobs b.jobs c.jobs d.jobs (kept_jobs a b (works.jobs told)) (begins told).begins (kept_jobs c d (alone told));
+          jobs = λ told. begins_on t work answer a.jobs b.jobs c.jobs d.jobs (kept_jobs a b (works.jobs told)) (begins told).begins
+              (kept_jobs c d (alone told));
           answers = λ told. (alone told).answers ∙ ((begins told).answers ∙ ap (begin_answered answer) (works.jobs told).answers);
           counts = counts_begun answer one two i j k l before called behind;
         };
@@ -231,7 +256,8 @@ begun_attempt tells m now H t work answer result n p a b c d one two i j k l nex
         ended = ends_begun answer result ends;
       },
     ) where
-      ends_begun : (answer : BeginAnswer) (result : Result Acted WorkFault) → IfOk result (λ done. done ≡ Recorded) → IfOk result (λ done. done ≡ ending (Begin t) (answer_begun answer))
+      ends_begun : (answer : BeginAnswer) (result : Result Acted WorkFault) → IfOk result (λ done. done ≡ Recorded)
+          → IfOk result (λ done. done ≡ ending (Begin t) (answer_begun answer))
       ends_begun begin.Begun result ends = ends
       ends_begun (begin.Refused code) result ends = ends
       ends_begun begin.Failed result ends = ends
@@ -254,7 +280,8 @@ unbegun_work now H t fault.Memory = refl
 unbegun_work now H t fault.Disk = refl
 
 -- an attempt whose intent wasn't recorded, so that its job wasn't begun
-pub unbegun_attempt : (tells : Type 0) (m now : ℕ) (H : List Event) (t : Tag) (why : WorkFault) (n : Managed) (a b : SiteState) (failed : Type 0) (i j : SiteCounts)
+pub unbegun_attempt : (tells : Type 0) (m now : ℕ) (H : List Event) (t : Tag) (why : WorkFault) (n : Managed) (a b : SiteState)
+    (failed : Type 0) (i j : SiteCounts)
     → next_action H t.occ ≡ Some (Begin t) → Works tells m H (recorded H (record { moment = now; kind = Intent t }) (Err why)) n a b
     → (why ≢ fault.Memory → TellsRoom MAX_FILE H (record { moment = now; kind = Intent t }) (Err why)) → OnlyDiskFails failed i j
     → (x : Deed) × (x.occ ≡ t.occ) × Attempts tells (point m now H) x (Err why) n (shows a i) (shows b j)
@@ -285,7 +312,8 @@ IsStarving (AbortAndLook t) = Unit {0}
 IsStarving _ = ⊥
 
 -- an attempt for which there was no memory: nothing was done
-pub starved_attempt : (tells : Type 0) (m : Managed) (now : ℕ) (H : List Event) (o : ℕ) (action : Action) (n : Managed) (s : SiteState) (i : SiteCounts) → next_action H o ≡ Some action
+pub starved_attempt : (tells : Type 0) (m : Managed) (now : ℕ) (H : List Event) (o : ℕ) (action : Action) (n : Managed) (s : SiteState)
+    (i : SiteCounts) → next_action H o ≡ Some action
     → IsStarving action → Works tells m.ledger.manager H (went H) n s s
     → (x : Deed) × (x.occ ≡ o) × Attempts tells (point m.ledger.manager now H) x (Err fault.Memory) n (shows s i) (shows s i)
 starved_attempt tells m now H o action n s i next starves works = (
@@ -305,7 +333,8 @@ starved_attempt tells m now H o action n s i next starves works = (
   unexchanged (AbortAndLook t) is = tt
   unexchanged _ is = absurd is
 
-  starved_records : (x : Action) → IsStarving x → WorksWithJobs tells m.ledger.manager H (recording now (appended o x BeginTaken) H (Err fault.Memory)) n s s
+  starved_records : (x : Action) → IsStarving x → WorksWithJobs tells m.ledger.manager H
+      (recording now (appended o x BeginTaken) H (Err fault.Memory)) n s s
   starved_records (Begin t) is = with_jobs tells m.ledger.manager H (went H) n s s works
   starved_records (Look t) is = with_jobs tells m.ledger.manager H (went H) n s s works
   starved_records (AbortAndLook t) is = with_jobs tells m.ledger.manager H (went H) n s s works
@@ -335,7 +364,8 @@ few_looked t look.Aborted = tt
 few_looked t look.Failed = tt
 
 -- how a look may end
-looked_ends : (t : Tag) (answer : LookAnswer) (result : Result Acted WorkFault) → (result ≡ Err fault.Memory → ⊥) → MayEnd (looked t answer) result
+looked_ends : (t : Tag) (answer : LookAnswer) (result : Result Acted WorkFault) → (result ≡ Err fault.Memory → ⊥)
+    → MayEnd (looked t answer) result
 looked_ends t answer (Ok done) memory = tt
 looked_ends t answer (Err (fault.TooLong n)) memory = tt
 looked_ends t answer (Err (fault.Full end more)) memory = tt
@@ -343,7 +373,8 @@ looked_ends t answer (Err fault.Memory) memory = memory refl
 looked_ends t answer (Err fault.Disk) memory = tt
 
 -- and so may one behind aborts
-aborted_ends : (aborts : List (Tag × AbortAnswer)) (t : Tag) (answer : LookAnswer) (result : Result Acted WorkFault) → (result ≡ Err fault.Memory → ⊥)
+aborted_ends : (aborts : List (Tag × AbortAnswer)) (t : Tag) (answer : LookAnswer) (result : Result Acted WorkFault)
+    → (result ≡ Err fault.Memory → ⊥)
     → MayEnd (aborted aborts t answer) result
 aborted_ends aborts t answer (Ok done) memory = tt
 aborted_ends aborts t answer (Err (fault.TooLong n)) memory = tt
@@ -352,9 +383,12 @@ aborted_ends aborts t answer (Err fault.Memory) memory = memory refl
 aborted_ends aborts t answer (Err fault.Disk) memory = tt
 
 -- what is recorded of a job that was looked at, where running jobs may have ended before
-looked_records : (tells : Type 0) (m now : ℕ) (H : List Event) (t : Tag) (answer : LookAnswer) (result : Result Acted WorkFault) (n p : Managed) (a b d : SiteState)
-    → IsLegal m (with_events now (looking t (answer_looked answer)) H) → n.ledger.manager ≡ m → IsReady tells n H a → (tells → OnJobs Advances a b)
-    → (tells → LooksAs t answer a.jobs b.jobs) → Puts tells (point m now H) (looking t (answer_looked answer)) result p b d → (tells → KeepsJobs b d)
+looked_records : (tells : Type 0) (m now : ℕ) (H : List Event) (t : Tag) (answer : LookAnswer) (result : Result Acted WorkFault)
+    (n p : Managed) (a b d : SiteState)
+    → IsLegal m (with_events now (looking t (answer_looked answer)) H) → n.ledger.manager ≡ m → IsReady tells n H a
+    → (tells → OnJobs Advances a b)
+    → (tells → LooksAs t answer a.jobs b.jobs) → Puts tells (point m now H) (looking t (answer_looked answer)) result p b d
+    → (tells → KeepsJobs b d)
     → Records tells (point m now H) (looking t (answer_looked answer)) result p a d
 looked_records tells m now H t answer result n p a b d legal number ready calls looks puts alone =
     let w : Work = recording now (looking t (answer_looked answer)) H result in
@@ -365,16 +399,20 @@ looked_records tells m now H t answer result n p a b d legal number ready calls 
         at_file = joined_at_file tells m H H w n p a b d mid puts.at_file;
         sound = λ told sound.
             let first : StaysSound m H (went H) a b =
-            subst (λ (x : ℕ). IsSound x H a.jobs → StaysSound x H (went H) a b) number (looked_sound tells n H a b told ready (calls told)) sound in
-            stays_joined m H H w a b d (extends_refl H) (extends_trans H (stood w) (aimed w) puts.at_file.grows.to_stood puts.at_file.grows.to_aimed) first
-            (λ behind. puts_sound tells m now (looking t (answer_looked answer)) H result p b d told puts.at_file (alone told) (few_looked t answer) legal behind
+            subst (λ (x : ℕ). IsSound x H a.jobs → StaysSound x H (went H) a b) number
+            (looked_sound tells n H a b told ready (calls told)) sound in
+            stays_joined m H H w a b d (extends_refl H) (extends_trans H (stood w)
+            (aimed w) puts.at_file.grows.to_stood puts.at_file.grows.to_aimed) first
+            (λ behind. puts_sound tells m now (looking t (answer_looked answer)) H result p b d told puts.at_file (alone told)
+            (few_looked t answer) legal behind
             (fits_looked t answer a.jobs b.jobs (looks told)));
       };
       room = puts.room;
     }
 
 -- and what is told of the jobs
-looked_jobs : (tells : Type 0) (t : Tag) (answer : LookAnswer) (a b d : SiteState) → (tells → OnJobs Advances a b) → (tells → LooksAs t answer a.jobs b.jobs) → (tells → KeepsJobs b d)
+looked_jobs : (tells : Type 0) (t : Tag) (answer : LookAnswer) (a b d : SiteState) → (tells → OnJobs Advances a b)
+    → (tells → LooksAs t answer a.jobs b.jobs) → (tells → KeepsJobs b d)
     → tells → Advances a.jobs d.jobs × LooksAs t answer a.jobs d.jobs
 looked_jobs tells t answer a b d calls looks alone told = (
   advances-then a.jobs b.jobs d.jobs (jobs_on Advances a b (calls told)) (kept_jobs b d (alone told)),
@@ -382,10 +420,14 @@ looked_jobs tells t answer a b d calls looks alone told = (
 )
 
 -- an attempt whose job was looked at
-pub looked_attempt : (tells : Type 0) (m now : ℕ) (H : List Event) (o : ℕ) (t : Tag) (answer : LookAnswer) (result : Result Acted WorkFault) (n p : Managed) (a b d : SiteState)
-    (two : Type 0) (i j k : SiteCounts) → next_action H o ≡ Some (Look t) → IsLegal m (with_events now (looking t (answer_looked answer)) H) → n.ledger.manager ≡ m
-    → IsReady tells n H a → (tells → Looks t answer a b) → Puts tells (point m now H) (looking t (answer_looked answer)) result p b d → (tells → KeepsJobs b d)
-    → (result ≡ Err fault.Memory → ⊥) → IfOk result (λ done. done ≡ ending (Look t) (answer_looked answer)) → j ≡ look_counts answer i → OnlyDiskFails two j k
+pub looked_attempt : (tells : Type 0) (m now : ℕ) (H : List Event) (o : ℕ) (t : Tag) (answer : LookAnswer) (result : Result Acted WorkFault)
+    (n p : Managed) (a b d : SiteState)
+    (two : Type 0) (i j k : SiteCounts) → next_action H o ≡ Some (Look t) → IsLegal m (with_events now (looking t (answer_looked answer)) H)
+    → n.ledger.manager ≡ m
+    → IsReady tells n H a → (tells → Looks t answer a b) → Puts tells (point m now H) (looking t (answer_looked answer)) result p b d
+    → (tells → KeepsJobs b d)
+    → (result ≡ Err fault.Memory → ⊥) → IfOk result (λ done. done ≡ ending (Look t) (answer_looked answer)) → j ≡ look_counts answer i
+    → OnlyDiskFails two j k
     → (x : Deed) × (x.occ ≡ o) × Attempts tells (point m now H) x result p (shows a i) (shows d k)
 looked_attempt tells m now H o t answer result n p a b d two i j k next legal number ready looks puts alone memory ends called behind = (
   record { occ = o; action = Look t; exchange = looked t answer },
@@ -398,13 +440,15 @@ looked_attempt tells m now H o t answer result n p a b d two i j k next legal nu
       answers = λ told. (alone told).answers ∙ (looks told).answers;
       counts = subst (λ (x : SiteCounts). CountJobsAlike x k) called (alike_disk two j k behind);
     };
-    records = looked_records tells m now H t answer result n p a b d legal number ready (λ told. (looks told).on_jobs) (λ told. (looks told).looks) puts alone;
+    records = looked_records tells m now H t answer result n p a b d legal number ready (λ told. (looks told).on_jobs)
+        (λ told. (looks told).looks) puts alone;
     ended = ends;
   },
 )
 
 -- an abort and then a look are one run over the jobs
-pub aborted_on : (t : Tag) (how : AbortAnswer) (answer : LookAnswer) (a b c : SiteState) → Aborts t how a b → Looks t answer b c → OnJobs Advances a c
+pub aborted_on : (t : Tag) (how : AbortAnswer) (answer : LookAnswer) (a b c : SiteState) → Aborts t how a b → Looks t answer b c
+    → OnJobs Advances a c
 aborted_on t how answer a b c aborts looks = record {
   passes = passes-then (JobStep Advances) (JobStep Advances) (JobStep Advances) a b c aborts.on_jobs.passes looks.on_jobs.passes
       (λ p. record { image = refl; jobs = advances-refl p.jobs }) (λ p. record { image = refl; jobs = advances-refl p.jobs })
@@ -412,7 +456,8 @@ aborted_on t how answer a b c aborts looks = record {
   same = looks.on_jobs.same ∙ aborts.on_jobs.same;
 }
 
-aborted_looks : (t : Tag) (how : AbortAnswer) (answer : LookAnswer) (a b c : SiteState) → Aborts t how a b → Looks t answer b c → LooksAs t answer a.jobs c.jobs
+aborted_looks : (t : Tag) (how : AbortAnswer) (answer : LookAnswer) (a b c : SiteState) → Aborts t how a b → Looks t answer b c
+    → LooksAs t answer a.jobs c.jobs
 aborted_looks t how answer a b c aborts looks = looks_before t answer a.jobs b.jobs c.jobs (jobs_on Advances a b aborts.on_jobs) looks.looks
 
 same_ending : (t : Tag) (answer : LookAnswer) → ending (Look t) (answer_looked answer) ≡ ending (AbortAndLook t) (answer_looked answer)
@@ -423,18 +468,23 @@ same_ending t (look.Broken code) = refl
 same_ending t look.Aborted = refl
 same_ending t look.Failed = refl
 
-ends_alike : (result : Result Acted WorkFault) (one two : Acted) → one ≡ two → IfOk result (λ done. done ≡ one) → IfOk result (λ done. done ≡ two)
+ends_alike : (result : Result Acted WorkFault) (one two : Acted) → one ≡ two → IfOk result (λ done. done ≡ one)
+    → IfOk result (λ done. done ≡ two)
 ends_alike (Ok done) one two same ends = ends ∙ same
 ends_alike (Err why) one two same ends = tt
 
 -- the attempt whose job was aborted and then looked at, which is the one that is open
-pub aborted_attempt : (tells : Type 0) (m now : ℕ) (H : List Event) (o : ℕ) (t : Tag) (how : AbortAnswer) (answer : LookAnswer) (result : Result Acted WorkFault) (n p : Managed)
+pub aborted_attempt : (tells : Type 0) (m now : ℕ) (H : List Event) (o : ℕ) (t : Tag) (how : AbortAnswer) (answer : LookAnswer)
+    (result : Result Acted WorkFault) (n p : Managed)
     (a b c d : SiteState) (two : Type 0) (h i j k : SiteCounts) → next_action H o ≡ Some (AbortAndLook t) → open_of H o ≡ t ∷ []
-    → IsLegal m (with_events now (looking t (answer_looked answer)) H) → n.ledger.manager ≡ m → IsReady tells n H a → (tells → Aborts t how a b) → (tells → Looks t answer b c)
+    → IsLegal m (with_events now (looking t (answer_looked answer)) H) → n.ledger.manager ≡ m → IsReady tells n H a
+    → (tells → Aborts t how a b) → (tells → Looks t answer b c)
     → Puts tells (point m now H) (looking t (answer_looked answer)) result p c d → (tells → KeepsJobs c d) → (result ≡ Err fault.Memory → ⊥)
-    → IfOk result (λ done. done ≡ ending (Look t) (answer_looked answer)) → i ≡ abort_counts how h → j ≡ look_counts answer i → OnlyDiskFails two j k
+    → IfOk result (λ done. done ≡ ending (Look t) (answer_looked answer)) → i ≡ abort_counts how h → j ≡ look_counts answer i
+    → OnlyDiskFails two j k
     → (x : Deed) × (x.occ ≡ o) × Attempts tells (point m now H) x result p (shows a h) (shows d k)
-aborted_attempt tells m now H o t how answer result n p a b c d two h i j k next single legal number ready aborts looks puts alone memory ends called then behind =
+aborted_attempt tells m now H o t how answer result n p a b c d two h i j k next single legal number ready aborts looks puts alone memory
+    ends called then behind =
     let calls : tells → OnJobs Advances a c = λ told. aborted_on t how answer a b c (aborts told) (looks told) in
     let seen : tells → LooksAs t answer a.jobs c.jobs = λ told. aborted_looks t how answer a b c (aborts told) (looks told) in
     let both : j ≡ look_counts answer (abort_counts how h) = then ∙ ap (look_counts answer) called in (
@@ -449,12 +499,14 @@ aborted_attempt tells m now H o t how answer result n p a b c d two h i j k next
           counts = subst (λ (x : SiteCounts). CountJobsAlike x k) both (alike_disk two j k behind);
         };
         records = looked_records tells m now H t answer result n p a c d legal number ready calls seen puts alone;
-        ended = ends_alike result (ending (Look t) (answer_looked answer)) (ending (AbortAndLook t) (answer_looked answer)) (same_ending t answer) ends;
+        ended = ends_alike result (ending (Look t) (answer_looked answer)) (ending (AbortAndLook t) (answer_looked answer))
+            (same_ending t answer) ends;
       },
     )
 
 -- behind a reservation the manager is as ready as before
-pub ready_kept : (tells : Type 0) (m n : Managed) (H : List Event) (a : SiteState) → IsReady tells m H a → n.ledger ≡ m.ledger → KeepsOn m n → IsReady tells n H a
+pub ready_kept : (tells : Type 0) (m n : Managed) (H : List Event) (a : SiteState) → IsReady tells m H a → n.ledger ≡ m.ledger → KeepsOn m n
+    → IsReady tells n H a
 ready_kept tells m n H a ready same keeps = record {
   usable = subst (λ (l : Ledger). l.closed ≡ false) (sym same) ready.usable;
   keeps = keeps H ready.keeps;
@@ -470,8 +522,10 @@ kept_idle tells m n H a ready same keeps =
     subst (λ (l : Ledger). Works tells l.manager H (went H) n a a) same (idle tells n H a (ready_kept tells m n H a ready same keeps))
 
 -- an attempt that is the next action may begin
-pub begin_allowed : NextActionsAreAllowed → (m : ℕ) (H : List Event) (t : Tag) → IsLegal m H → IsActive H t.occ → next_action H t.occ ≡ Some (Begin t) → IsAllowed m H (Intent t)
-begin_allowed allows m H t legal is next = (allows window m H (omega arith) legal t.occ 0 (Begin t) BeginTaken (active_asked H t.occ is) next tt).0
+pub begin_allowed : NextActionsAreAllowed → (m : ℕ) (H : List Event) (t : Tag) → IsLegal m H → IsActive H t.occ
+    → next_action H t.occ ≡ Some (Begin t) → IsAllowed m H (Intent t)
+begin_allowed allows m H t legal is next = (allows window m H (omega arith) legal t.occ 0 (Begin t) BeginTaken
+    (active_asked H t.occ is) next tt).0
 
 is_answer_begun : (H : List Event) (o : ℕ) (answer : BeginAnswer) → IsAnswer H o (answer_begun answer)
 is_answer_begun H o begin.Begun = tt
@@ -479,10 +533,12 @@ is_answer_begun H o (begin.Refused code) = tt
 is_answer_begun H o begin.Failed = tt
 
 -- and what it appends for each answer is allowed
-pub begin_legal : NextActionsAreAllowed → (m now : ℕ) (H : List Event) (t : Tag) (answer : BeginAnswer) → IsLegal m H → IsActive H t.occ → next_action H t.occ ≡ Some (Begin t)
+pub begin_legal : NextActionsAreAllowed → (m now : ℕ) (H : List Event) (t : Tag) (answer : BeginAnswer) → IsLegal m H → IsActive H t.occ
+    → next_action H t.occ ≡ Some (Begin t)
     → IsLegal m (with_events now (beginning t (answer_begun answer)) H)
 begin_legal allows m now H t answer legal is next =
-    allows window m H (omega arith) legal t.occ now (Begin t) (answer_begun answer) (active_asked H t.occ is) next (is_answer_begun H t.occ answer)
+    allows window m H (omega arith) legal t.occ now (Begin t) (answer_begun answer) (active_asked H t.occ is) next
+    (is_answer_begun H t.occ answer)
 
 is_answer_looked : (H : List Event) (o : ℕ) (answer : LookAnswer) → IsAnswer H o (answer_looked answer)
 is_answer_looked H o look.Absent = tt
@@ -493,15 +549,18 @@ is_answer_looked H o look.Aborted = tt
 is_answer_looked H o look.Failed = tt
 
 -- so it is for a look, behind an abort too
-pub look_legal : NextActionsAreAllowed → (forced : Bool) (m now : ℕ) (H : List Event) (o : ℕ) (t : Tag) (answer : LookAnswer) → IsLegal m H → IsActive H o
+pub look_legal : NextActionsAreAllowed → (forced : Bool) (m now : ℕ) (H : List Event) (o : ℕ) (t : Tag) (answer : LookAnswer) → IsLegal m H
+    → IsActive H o
     → next_action H o ≡ Some (look_at forced t) → IsLegal m (with_events now (looking t (answer_looked answer)) H)
 look_legal allows true m now H o t answer legal is next =
-    allows window m H (omega arith) legal o now (AbortAndLook t) (answer_looked answer) (active_asked H o is) next (is_answer_looked H o answer)
+    allows window m H (omega arith) legal o now (AbortAndLook t) (answer_looked answer) (active_asked H o is) next
+    (is_answer_looked H o answer)
 look_legal allows false m now H o t answer legal is next =
     allows window m H (omega arith) legal o now (Look t) (answer_looked answer) (active_asked H o is) next (is_answer_looked H o answer)
 
 -- and the attempt that is looked at is open
-pub look_open : NextActionsAreAllowed → (forced : Bool) (m : ℕ) (H : List Event) (o : ℕ) (t : Tag) → IsLegal m H → IsActive H o → next_action H o ≡ Some (look_at forced t)
+pub look_open : NextActionsAreAllowed → (forced : Bool) (m : ℕ) (H : List Event) (o : ℕ) (t : Tag) → IsLegal m H → IsActive H o
+    → next_action H o ≡ Some (look_at forced t)
     → is_open H t ≡ true
 look_open allows forced m H o t legal is next = (look_legal allows forced m 0 H o t look.Absent legal is next).0
 

@@ -22,7 +22,8 @@ use Rattle.site_traits.specs.Moments.{followed, goes_on, is_since, kept_jobs, se
 use Rattle.site_traits.specs.Site.{JobStep, LeavesOnly, OnJobs, Pair, SiteState, pair_of}
 
 -- the manager stands for the file behind a call on the jobs as before it
-pub stands_on : (step : List Job → List Job → Type 0) (m : Managed) (H : List Event) (a b : SiteState) → OnJobs step a b → StandsFor m H a → StandsFor m H b
+pub stands_on : (step : List Job → List Job → Type 0) (m : Managed) (H : List Event) (a b : SiteState) → OnJobs step a b → StandsFor m H a
+    → StandsFor m H b
 stands_on step m H a b call stands =
     let back = sym call.same in
     record {
@@ -45,7 +46,8 @@ leaves_file step m H a b call stands p left =
     subst (λ (i : List ℕ). HasHistory m.ledger.manager H i) (sym from.2.image) ((everywhere m H a stands).left from.0 from.1)
 
 -- what a call on the jobs does to the file is nothing
-pub jobs_alone : (tells : Type 0) (step : List Job → List Job → Type 0) (m : Managed) (H : List Event) (a b : SiteState) → IsReady tells m H a → (tells → OnJobs step a b)
+pub jobs_alone : (tells : Type 0) (step : List Job → List Job → Type 0) (m : Managed) (H : List Event) (a b : SiteState)
+    → IsReady tells m H a → (tells → OnJobs step a b)
     → WorksAtFile tells m.ledger.manager H (went H) m a b
 jobs_alone tells step m H a b ready calls = record {
   number = refl;
@@ -57,7 +59,8 @@ jobs_alone tells step m H a b ready calls = record {
       let stands = ready.stands told in
       let some : (p : Pair) → b.since a.moment p → HasSome m.ledger.manager H H p =
       λ p left. record { history = H; from = extends_refl H; to = extends_refl H; file = leaves_file step m H a b call stands p left } in
-      let run = goes_on (HasSome m.ledger.manager H H) (JobStep step) a a b (started (HasSome m.ledger.manager H H) a (some_everywhere m H a stands)) call.passes
+      let run = goes_on (HasSome m.ledger.manager H H) (JobStep step) a a b
+      (started (HasSome m.ledger.manager H H) a (some_everywhere m H a stands)) call.passes
       (λ q p left on. record {
         history = H;
         from = extends_refl H;
@@ -79,7 +82,8 @@ jobs_on step a b call =
     subst (λ (js : List Job). step js b.jobs) (a.stay from.0 from.1) from.2.jobs
 
 -- the manager is ready behind a call on the jobs
-pub ready_on : (tells : Type 0) (step : List Job → List Job → Type 0) (m : Managed) (H : List Event) (a b : SiteState) → IsReady tells m H a → (tells → OnJobs step a b)
+pub ready_on : (tells : Type 0) (step : List Job → List Job → Type 0) (m : Managed) (H : List Event) (a b : SiteState) → IsReady tells m H a
+    → (tells → OnJobs step a b)
     → IsReady tells m H b
 ready_on tells step m H a b ready calls = record {
   usable = ready.usable;
@@ -88,7 +92,8 @@ ready_on tells step m H a b ready calls = record {
 }
 
 -- jobs that were sound before the intent are sound behind it, whether the job came or not
-came_sound : (m now : ℕ) (H : List Event) (t : Tag) (work : Act) (before between after : List Job) → IsSound m H before → IsAllowed m H (Intent t) → act_of H t ≡ Some work
+came_sound : (m now : ℕ) (H : List Event) (t : Tag) (work : Act) (before between after : List Job) → IsSound m H before
+    → IsAllowed m H (Intent t) → act_of H t ≡ Some work
     → Advances before between → IsSound m (record { moment = now; kind = Intent t } ∷ H) between → MayArrive t work between after
     → IsSound m (record { moment = now; kind = Intent t } ∷ H) after
 came_sound m now H t work before between after sound allowed does on behind (inl ended) =
@@ -99,7 +104,8 @@ came_sound m now H t work before between after sound allowed does on behind (inr
 
 -- what the begin of an attempt's job behind its intent leaves of sound jobs
 pub begun_sound : (tells : Type 0) (m now : ℕ) (H : List Event) (t : Tag) (work : Act) (n : Managed) (a b c : SiteState) → tells
-    → Works tells m H (went (record { moment = now; kind = Intent t } ∷ H)) n a b → OnJobs (MayArrive t work) b c → IsAllowed m H (Intent t) → act_of H t ≡ Some work
+    → Works tells m H (went (record { moment = now; kind = Intent t } ∷ H)) n a b → OnJobs (MayArrive t work) b c → IsAllowed m H (Intent t)
+    → act_of H t ≡ Some work
     → IsSound m H a.jobs → StaysSound m H (went (record { moment = now; kind = Intent t } ∷ H)) a c
 begun_sound tells m now H t work n a b c told works call allowed does sound =
     let G : List Event = record { moment = now; kind = Intent t } ∷ H in
@@ -116,28 +122,40 @@ begun_sound tells m now H t work n a b c told works call allowed does sound =
       from = extends_refl G;
       to = extends_refl G;
       file = subst (λ (i : List ℕ). HasHistory m G i) (sym step.image) (held q left);
-      sound = came_sound m now H t work a.jobs b.jobs p.jobs sound allowed does on behind (subst (λ (js : List Job). MayArrive t work js p.jobs) (b.stay q left) step.jobs);
+      sound = came_sound m now H t work a.jobs b.jobs p.jobs sound allowed does on behind
+          (subst (λ (js : List Job). MayArrive t work js p.jobs) (b.stay q left) step.jobs);
     } in
     let here : (p : Pair) → b.since b.moment p → HasSomeSound m G G p = first.at_exit in
-    let run : LeavesOnly (HasSomeSound m G G) b c = goes_on (HasSomeSound m G G) (JobStep (MayArrive t work)) b b c (started (HasSomeSound m G G) b here) call.passes leads in
+    let run : LeavesOnly (HasSomeSound m G G) b c = goes_on (HasSomeSound m G G) (JobStep (MayArrive t work)) b b c
+    (started (HasSomeSound m G G) b here) call.passes leads in
     record {
       any_moment = followed (HasSomeSound m H G) (HasSomeSound m G G) a b c first.any_moment run
-          (λ p some. record { history = some.history; from = extends_trans H G some.history (extends_one (record { moment = now; kind = Intent t }) H) some.from; to = some.to; file = some.file; sound = some.sound });
+          (λ p some. record {
+            history = some.history;
+            from = extends_trans H G some.history
+                (extends_one (record { moment = now; kind = Intent t }) H) some.from;
+            to = some.to;
+            file = some.file;
+            sound = some.sound;
+          });
       at_exit = is_since (HasSomeSound m G G) b c run;
     }
 
 -- what a look at a job leaves of sound jobs
-pub looked_sound : (tells : Type 0) (m : Managed) (H : List Event) (a b : SiteState) → tells → IsReady tells m H a → OnJobs Advances a b → IsSound m.ledger.manager H a.jobs
+pub looked_sound : (tells : Type 0) (m : Managed) (H : List Event) (a b : SiteState) → tells → IsReady tells m H a → OnJobs Advances a b
+    → IsSound m.ledger.manager H a.jobs
     → StaysSound m.ledger.manager H (went H) a b
 looked_sound tells m H a b told ready call sound =
     let stands = ready.stands told in
     let run : LeavesOnly (HasSomeSound m.ledger.manager H H) a b =
-    goes_on (HasSomeSound m.ledger.manager H H) (JobStep Advances) a a b (started (HasSomeSound m.ledger.manager H H) a (sound_everywhere m H a stands sound)) call.passes
+    goes_on (HasSomeSound m.ledger.manager H H) (JobStep Advances) a a b
+    (started (HasSomeSound m.ledger.manager H H) a (sound_everywhere m H a stands sound)) call.passes
     (λ q p left step. record {
       history = H;
       from = extends_refl H;
       to = extends_refl H;
       file = subst (λ (i : List ℕ). HasHistory m.ledger.manager H i) (sym step.image) ((everywhere m H a stands).left q left);
-      sound = sound_on window m.ledger.manager H a.jobs p.jobs sound (subst (λ (js : List Job). Advances js p.jobs) (a.stay q left) step.jobs);
+      sound = sound_on window m.ledger.manager H a.jobs p.jobs sound
+          (subst (λ (js : List Job). Advances js p.jobs) (a.stay q left) step.jobs);
     }) in
     record { any_moment = run; at_exit = is_since (HasSomeSound m.ledger.manager H H) a b run }

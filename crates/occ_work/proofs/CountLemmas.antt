@@ -11,6 +11,7 @@ filter_few p (x ∷ xs) =
     by_test (p x) (λ holds. rw holds (omega (arith, rest))) (λ fails. rw fails (omega (arith, rest)))
 
 -- a count that isn't at its greatest is one more
-pub one_counted : (end : Acted) (ends : List Acted) (a n : ℕ) → n ≡ min (a + 1) 4294967295 → length ends < 4294967295 → a ≡ length (filter (same_end end) ends)
+pub one_counted : (end : Acted) (ends : List Acted) (a n : ℕ) → n ≡ min (a + 1) 4294967295 → length ends < 4294967295
+    → a ≡ length (filter (same_end end) ends)
     → n ≡ suc (length (filter (same_end end) ends))
 one_counted end ends a n is less now = let few = filter_few (same_end end) ends in omega (arith, is, few, less, now)

@@ -1,5 +1,6 @@
 -- The events that acts record fit a record of the journal, whatever was answered.
-use Rattle.std.proofs.Common.{◌≡◌, ◌≤◌, ◌+◌, ◌*◌, ◌++◌, ◌==◌, ℕ, Bool, true, false, cond, List, [], ◌∷◌, Option, None, Some, refl, subst, length, find, flat_map, inl, inr, arith, Result, Err}
+use Rattle.std.proofs.Common.{◌≡◌, ◌≤◌, ◌+◌, ◌*◌, ◌++◌, ◌==◌, ℕ, Bool, true, false, cond, List, [], ◌∷◌, Option, None, Some, refl, subst}
+use Rattle.std.proofs.Common.{length, find, flat_map, inl, inr, arith, Result, Err}
 use Rattle.std.proofs.Math.Nat.{suc-mul}
 use Rattle.std.proofs.lemmas.List.{length-append}
 use Rattle.std.specs.List.{AllByRecursion}
@@ -48,10 +49,12 @@ most_name : (text : List ℕ) → IsName text → length (spell.name text) ≤ 2
 most_name text h = let k : length text ≤ 255 = h.short in omega arith
 
 most_line : (text : List ℕ) → IsLine text → length (spell.line text) ≤ 2050
-most_line text h = let k : length text ≤ 2048 = h.short in omega (arith, length-append (spell.u16 (length text)) text, length-u16 (length text))
+most_line text h = let k : length text ≤ 2048 = h.short in omega
+    (arith, length-append (spell.u16 (length text)) text, length-u16 (length text))
 
 most_place : (p : Place) → IsPlace p → length (spell.place p) ≤ 512
-most_place p h = let a = most_name p.vim h.0 in let b = most_name p.zone h.1 in omega (arith, length-append (spell.name p.vim) (spell.name p.zone), a, b)
+most_place p h = let a = most_name p.vim h.0 in let b = most_name p.zone h.1 in
+    omega (arith, length-append (spell.name p.vim) (spell.name p.zone), a, b)
 
 most_places : (ps : List Place) → AllByRecursion IsPlace ps → length (flat_map spell.place ps) ≤ length ps * 512
 most_places [] h = omega arith
@@ -71,7 +74,8 @@ length-many : (xs : List ℕ) → length (spell.many spell.u8 xs) ≡ 2 + length
 length-many xs = omega (arith, length-append (spell.u16 (length xs)) (flat_map spell.u8 xs), length-u16 (length xs), length-spots xs)
 
 -- a grant of at most 32 places for at most 5,000 changes
-pub granted_fits : (time o : ℕ) (grant : List ℕ) (places : List Place) (spots : List ℕ) → IsName grant → AllByRecursion IsPlace places → length places ≤ 32 → length spots ≤ 5000
+pub granted_fits : (time o : ℕ) (grant : List ℕ) (places : List Place) (spots : List ℕ) → IsName grant → AllByRecursion IsPlace places
+    → length places ≤ 32 → length spots ≤ 5000
     → length (spelling (record { moment = time; kind = Granted o grant places spots })) ≤ 65536
 unfolding spelling
 granted_fits time o grant places spots name all few small =
@@ -96,13 +100,22 @@ granted_fits time o grant places spots name all few small =
     )
 
 -- a try that told a location
-pub tried_fits : (time o : ℕ) (at : List ℕ) → IsLine at → length (spelling (record { moment = time; kind = GrantTried o (Later at) })) ≤ 65536
+pub tried_fits : (time o : ℕ) (at : List ℕ) → IsLine at → length (spelling (record { moment = time; kind = GrantTried o (Later at) }))
+    ≤ 65536
 unfolding spelling
 tried_fits time o at line =
     let a = most_line at line in
-    omega (arith, length-append (spell.u64 time) (spell.u64 o ++ (0 ∷ spell.line at)), length-append (spell.u64 o) (0 ∷ spell.line at), length-u64 time, length-u64 o, a)
+    omega (
+      arith,
+      length-append (spell.u64 time) (spell.u64 o ++ (0 ∷ spell.line at)),
+      length-append (spell.u64 o) (0 ∷ spell.line at),
+      length-u64 time,
+      length-u64 o,
+      a,
+    )
 
-found_by : {A : Type 0} → (p : A → Bool) (y x : A) (xs : List A) (b : Bool) → (find p xs ≡ Some x → IsIn x xs) → p y ≡ b → find p (y ∷ xs) ≡ Some x → IsIn x (y ∷ xs)
+found_by : {A : Type 0} → (p : A → Bool) (y x : A) (xs : List A) (b : Bool) → (find p xs ≡ Some x → IsIn x xs) → p y ≡ b
+    → find p (y ∷ xs) ≡ Some x → IsIn x (y ∷ xs)
 found_by {A} p y x xs true rest passes e =
     let is : Some y ≡ Some x = subst (λ (b : Bool). cond b (Some y) (find p xs) ≡ Some x) passes e in inl cc
 found_by {A} p y x xs false rest fails e = inr (rest (subst (λ (b : Bool). cond b (Some y) (find p xs) ≡ Some x) fails e))
@@ -112,15 +125,29 @@ found_in p [] x e = cc
 found_in p (y ∷ xs) x e = found_by p y x xs (p y) (λ f. found_in p xs x f) refl e
 
 -- an operation of a legal history changes at most 5,000 resources
-few_changes : PlansAreSmall → (m : ℕ) (H : List Event) (o : ℕ) (found : Option Operation) → IsLegal m H → operation H o ≡ found → length (option_map_or (λ a. a.changes) found []) ≤ 5000
+few_changes : PlansAreSmall → (m : ℕ) (H : List Event) (o : ℕ) (found : Option Operation) → IsLegal m H → operation H o ≡ found
+    → length (option_map_or (λ a. a.changes) found []) ≤ 5000
 few_changes small m H o None legal is = omega arith
 few_changes small m H o (Some a) legal is = small window m H legal a (found_in (λ a. a.occ == o) (operations H) a is)
 
-tries_fit : (time o : ℕ) (answer : GrantTry) → IsGrantTry answer → length (spelling (record { moment = time; kind = GrantTried o answer })) ≤ 65536
+tries_fit : (time o : ℕ) (answer : GrantTry) → IsGrantTry answer
+    → length (spelling (record { moment = time; kind = GrantTried o answer })) ≤ 65536
 unfolding spelling
 tries_fit time o (Later at) line = tried_fits time o at line
-tries_fit time o Trouble line = omega (arith, length-append (spell.u64 time) (spell.u64 o ++ (1 ∷ [])), length-append (spell.u64 o) (1 ∷ []), length-u64 time, length-u64 o)
-tries_fit time o NotCovering line = omega (arith, length-append (spell.u64 time) (spell.u64 o ++ (2 ∷ [])), length-append (spell.u64 o) (2 ∷ []), length-u64 time, length-u64 o)
+tries_fit time o Trouble line = omega (
+  arith,
+  length-append (spell.u64 time) (spell.u64 o ++ (1 ∷ [])),
+  length-append (spell.u64 o) (1 ∷ []),
+  length-u64 time,
+  length-u64 o,
+)
+tries_fit time o NotCovering line = omega (
+  arith,
+  length-append (spell.u64 time) (spell.u64 o ++ (2 ∷ [])),
+  length-append (spell.u64 o) (2 ∷ []),
+  length-u64 time,
+  length-u64 o,
+)
 
 denied_fits : (time o : ℕ) → length (spelling (record { moment = time; kind = Denied o })) ≤ 65536
 unfolding spelling
@@ -133,7 +160,8 @@ moved_fits time o to =
     omega (arith, length-append (spell.u64 time) (spell.u64 o ++ last), length-append (spell.u64 o) last, length-u64 time, length-u64 o)
 
 -- what an act records fits a record
-pub acts_fit : PlansAreSmall → (m : ℕ) (H : List Event) (time : ℕ) (kind : EventKind) → IsLegal m H → IsAllowed m H kind → IsEvent (record { moment = time; kind = kind }) → is_of_act kind ≡ true
+pub acts_fit : PlansAreSmall → (m : ℕ) (H : List Event) (time : ℕ) (kind : EventKind) → IsLegal m H → IsAllowed m H kind
+    → IsEvent (record { moment = time; kind = kind }) → is_of_act kind ≡ true
     → length (spelling (record { moment = time; kind = kind })) ≤ 65536
 acts_fit small m H time (GrantTried o answer) legal allowed event is = tries_fit time o answer event.1.1
 acts_fit small m H time (Granted o grant places spots) legal allowed event is =
@@ -171,20 +199,30 @@ attempts_fit time (Intent t) event is = omega (arith, length-append (spell.u64 t
 attempts_fit time (CallFailed t) event is = omega (arith, length-append (spell.u64 time) (spell.tag t), length-u64 time, most_tag t)
 attempts_fit time (Settled t how) event is =
     let a = most_outcome how event.1.1 in
-    omega (arith, length-append (spell.u64 time) (spell.tag t ++ spell.outcome how), length-append (spell.tag t) (spell.outcome how), length-u64 time, most_tag t, a)
+    omega (
+      arith,
+      length-append (spell.u64 time) (spell.tag t ++ spell.outcome how),
+      length-append (spell.tag t) (spell.outcome how),
+      length-u64 time,
+      most_tag t,
+      a,
+    )
 attempts_fit time _ event is = absurd (cc is)
 
 -- an event that fits isn't too long
-pub not_too_long : (H : List Event) (e : Event) (why : WorkFault) (n : ℕ) → length (spelling e) ≤ 65536 → TellsRoom MAX_FILE H e (Err why) → why ≡ fault.TooLong n → ⊥
+pub not_too_long : (H : List Event) (e : Event) (why : WorkFault) (n : ℕ) → length (spelling e) ≤ 65536 → TellsRoom MAX_FILE H e (Err why)
+    → why ≡ fault.TooLong n → ⊥
 not_too_long H e why n fits tells is =
     let told : TellsRoom MAX_FILE H e (Err (fault.TooLong n)) = subst (λ (f : WorkFault). TellsRoom MAX_FILE H e (Err f)) is tells in
     let long = told.long in
     omega (arith, long, fits)
 
 -- the same of an answer
-pub never_long : (H : List Event) (e : Event) (result : Result (Unit {0}) WorkFault) (n : ℕ) → length (spelling e) ≤ 65536 → TellsRoom MAX_FILE H e result
+pub never_long : (H : List Event) (e : Event) (result : Result (Unit {0}) WorkFault) (n : ℕ) → length (spelling e) ≤ 65536
+    → TellsRoom MAX_FILE H e result
     → result ≡ Err (fault.TooLong n) → ⊥
-never_long H e result n fits tells is = not_too_long H e (fault.TooLong n) n fits (subst (λ (r : Result (Unit {0}) WorkFault). TellsRoom MAX_FILE H e r) is tells) refl
+never_long H e result n fits tells is = not_too_long H e (fault.TooLong n) n fits
+    (subst (λ (r : Result (Unit {0}) WorkFault). TellsRoom MAX_FILE H e r) is tells) refl
 
 -- the same of the fault of an answer
 pub fault_of : {T : Type 0} (x y : WorkFault) → ◌≡◌ {A = Result T WorkFault} (Err x) (Err y) → x ≡ y

@@ -20,10 +20,12 @@ job_is : (k : Job) (t : Tag) (work : Act) → k.tag ≡ t → k.act ≡ work →
 job_is k t work tag act = rw (← tag, ← act) refl
 
 -- a job that arrived between two times in which running jobs may have ended
-pub arrives_on : (t : Tag) (work : Act) (phase : Phase) (ws xs ys zs : List Job) → Advances ws xs → Arrives t work phase xs ys → Advances ys zs
+pub arrives_on : (t : Tag) (work : Act) (phase : Phase) (ws xs ys zs : List Job) → Advances ws xs → Arrives t work phase xs ys
+    → Advances ys zs
     → (after : Phase) × Arrives t work after ws zs × GoesOn phase after
 arrives_on t work phase ws xs ys zs before arrives behind = of zs (subst (λ (js : List Job). Advances js zs) arrives.is behind) where
-  of : (ks : List Job) → Advances (record { tag = t; act = work; phase = phase } ∷ arrives.earlier) ks → (after : Phase) × Arrives t work after ws ks × GoesOn phase after
+  of : (ks : List Job) → Advances (record { tag = t; act = work; phase = phase } ∷ arrives.earlier) ks
+      → (after : Phase) × Arrives t work after ws ks × GoesOn phase after
   of [] on = absurd on
   of (k ∷ ks) on = (
     k.phase,
@@ -36,11 +38,13 @@ arrives_on t work phase ws xs ys zs before arrives behind = of zs (subst (λ (js
   )
 
 -- a begin between two such times does what it does alone
-pub begins_on : (t : Tag) (work : Act) (answer : BeginAnswer) (ws xs ys zs : List Job) → Advances ws xs → BeginsAs t work answer xs ys → Advances ys zs
+pub begins_on : (t : Tag) (work : Act) (answer : BeginAnswer) (ws xs ys zs : List Job) → Advances ws xs → BeginsAs t work answer xs ys
+    → Advances ys zs
     → BeginsAs t work answer ws zs
 begins_on t work begin.Begun ws xs ys zs before begins behind =
     let on = arrives_on t work begins.0 ws xs ys zs before begins.1 behind in (on.0, on.1)
-begins_on t work (begin.Refused code) ws xs ys zs before (inl on) behind = inl (advances-then ws ys zs (advances-then ws xs ys before on) behind)
+begins_on t work (begin.Refused code) ws xs ys zs before (inl on) behind =
+    inl (advances-then ws ys zs (advances-then ws xs ys before on) behind)
 begins_on t work (begin.Refused code) ws xs ys zs before (inr put) behind =
     let on = arrives_on t work (Broken put.0) ws xs ys zs before put.1 behind in
     inr (put.0, subst (λ (p : Phase). Arrives t work p ws zs) on.2 on.1)
@@ -88,7 +92,8 @@ looks_before t look.Aborted ws xs ys before told = told
 looks_before t look.Failed ws xs ys before told = tt
 
 -- behind a refusal of an attempt that had no job there is none, or a broken one
-pub refused_broken : (t : Tag) (work : Act) (code : ℕ) (ws xs ys : List Job) → phase_of t ws ≡ None → Advances ws xs → BeginsAs t work (begin.Refused code) xs ys
+pub refused_broken : (t : Tag) (work : Act) (code : ℕ) (ws xs ys : List Job) → phase_of t ws ≡ None → Advances ws xs
+    → BeginsAs t work (begin.Refused code) xs ys
     → IsNoneOrBroken (phase_of t ys)
 refused_broken t work code ws xs ys none before (inl on) =
     let behind = stays_so t ws ys None none (λ is. cc) (advances-then ws xs ys before on) in

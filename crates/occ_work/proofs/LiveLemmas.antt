@@ -25,9 +25,11 @@ Living H = (o : ℕ) (a : Operation) → operation H o ≡ Some a → is_final (
 idle : (width m : ℕ) (H : List Event) (j : ℕ) → IsAllowedWithin width m H (Deleted j) → ongoing H j ≡ []
 idle width m H j allowed =
     first-none (ongoing H j)
-    (when-none (is_some (first (ongoing H j))) refusals.Ongoing (none_of-front _ _ (none_of-rest (when (is_instantiated H j) refusals.Instantiated) _ allowed.accepted)))
+    (when-none (is_some (first (ongoing H j))) refusals.Ongoing (none_of-front _ _
+    (none_of-rest (when (is_instantiated H j) refusals.Instantiated) _ allowed.accepted)))
 
-living_step : (width m : ℕ) (H : List Event) (time : ℕ) (k : EventKind) → IsLegalWithin width m H → IsAllowedWithin width m H k → Living H → Living (event time k ∷ H)
+living_step : (width m : ℕ) (H : List Event) (time : ℕ) (k : EventKind) → IsLegalWithin width m H → IsAllowedWithin width m H k → Living H
+    → Living (event time k ∷ H)
 living_step width m H time (Created i vnfd name text) legal allowed h o a e goes =
     let before : is_live H a.instance ≡ true = h o a e goes in
     let kept : not (is_deleted H a.instance) ≡ true = and_right (is_some (creation H a.instance)) (not (is_deleted H a.instance)) before in
@@ -50,6 +52,8 @@ living_step width m H time (Moved occ to) legal allowed h o a e goes = by_test (
 living_step width m H time _ legal allowed h o a e goes = h o a e goes
 
 -- in a legal history the instance of an operation that goes on is live
-pub living : (width m : ℕ) (H : List Event) → IsLegalWithin width m H → (o : ℕ) (a : Operation) → operation H o ≡ Some a → is_final (state H o) ≡ false
+pub living : (width m : ℕ) (H : List Event) → IsLegalWithin width m H → (o : ℕ) (a : Operation) → operation H o ≡ Some a
+    → is_final (state H o) ≡ false
     → is_live H a.instance ≡ true
-living width m H legal = legal_induction width m Living (λ o a e. cc) (λ H time k legal allowed h. living_step width m H time k legal allowed h) H legal
+living width m H legal = legal_induction width m Living (λ o a e. cc)
+    (λ H time k legal allowed h. living_step width m H time k legal allowed h) H legal

@@ -1,12 +1,14 @@
 -- The attempt whose job is aborted is the one that is open.
-use Rattle.std.proofs.Common.{◌≡◌, ◌≤◌, ℕ, Bool, true, false, ◌||◌, List, [], ◌∷◌, Option, Some, None, is_some, length, option_and_then, option_map, arith}
+use Rattle.std.proofs.Common.{◌≡◌, ◌≤◌, ℕ, Bool, true, false, ◌||◌, List, [], ◌∷◌, Option, Some, None, is_some, length, option_and_then}
+use Rattle.std.proofs.Common.{option_map, arith}
 use Rattle.lcm_events.specs.declared.attempts.Tag.{Tag}
 use Rattle.lcm_events.specs.declared.attempts.Way.{Way}
 use Rattle.lcm_events.specs.declared.attempts.Way.TheVariants.{Forward, Undo}
 use Rattle.lcm_events.specs.declared.events.Event.{Event}
 use Rattle.lcm_events.specs.declared.events.Operation.{Operation}
 use Rattle.lcm_events.specs.declared.states.OpState.{OpState}
-use Rattle.lcm_events.specs.declared.states.OpState.TheVariants.{Completed, Failed, FailedTemp, Processing, RolledBack, RollingBack, Starting}
+use Rattle.lcm_events.specs.declared.states.OpState.TheVariants.{Completed, Failed, FailedTemp, Processing, RolledBack, RollingBack}
+use Rattle.lcm_events.specs.declared.states.OpState.TheVariants.{Starting}
 use Rattle.lcm_model.specs.Attempts.{open_of}
 use Rattle.lcm_model.specs.Grants.{is_granted, location}
 use Rattle.lcm_model.specs.Moves.{state}
@@ -21,7 +23,8 @@ use Rattle.lcm_model.specs.declared.actions.Action.TheVariants.{AbortAndLook, As
 aborts_first : (H : List Event) (o : ℕ) (t : Tag) → next_action H o ≡ Some (AbortAndLook t) → first_open H o ≡ Some t
 aborts_first H o t next = asked (operation H o) next where
   asking : (up granted told : Bool)
-      → first_some (when up (MoveTo RolledBack) ∷ when granted (MoveTo Processing) ∷ when told Poll ∷ Some AskForGrant ∷ []) ≡ Some (AbortAndLook t) → first_open H o ≡ Some t
+      → first_some (when up (MoveTo RolledBack) ∷ when granted (MoveTo Processing) ∷ when told Poll ∷ Some AskForGrant ∷ [])
+      ≡ Some (AbortAndLook t) → first_open H o ≡ Some t
   asking true granted told e = cc
   asking false true told e = cc
   asking false false true e = cc
@@ -32,7 +35,8 @@ aborts_first H o t next = asked (operation H o) next where
   looked false u e = cc
 
   working : (way : Way) (to : OpState) (opened : Option Tag) (stops : Bool) (x : Option ℕ)
-      → first_some (option_map (look_at (is_forced H o)) opened ∷ when stops (MoveTo FailedTemp) ∷ option_map (begin_of H o way) x ∷ Some (MoveTo to) ∷ []) ≡ Some (AbortAndLook t)
+      → first_some (option_map (look_at (is_forced H o)) opened ∷ when stops (MoveTo FailedTemp) ∷ option_map (begin_of H o way) x
+      ∷ Some (MoveTo to) ∷ []) ≡ Some (AbortAndLook t)
       → opened ≡ Some t
   working way to (Some u) stops x e = looked (is_forced H o) u e
   working way to None true x e = cc
@@ -48,12 +52,14 @@ aborts_first H o t next = asked (operation H o) next where
   in_state Failed e = cc
   in_state RolledBack e = cc
 
-  asked : (operation : Option Operation) → option_and_then (λ a. next_in (state H o) H o) operation ≡ Some (AbortAndLook t) → first_open H o ≡ Some t
+  asked : (operation : Option Operation) → option_and_then (λ a. next_in (state H o) H o) operation ≡ Some (AbortAndLook t)
+      → first_open H o ≡ Some t
   asked None e = cc
   asked (Some a) e = in_state (state H o) e
 
 -- and where one alone may be open, it is all of them
-pub opened_alone : (H : List Event) (o : ℕ) (t : Tag) → length (open_of H o) ≤ 1 → next_action H o ≡ Some (AbortAndLook t) → open_of H o ≡ t ∷ []
+pub opened_alone : (H : List Event) (o : ℕ) (t : Tag) → length (open_of H o) ≤ 1 → next_action H o ≡ Some (AbortAndLook t)
+    → open_of H o ≡ t ∷ []
 opened_alone H o t few next = all (open_of H o) few (aborts_first H o t next) where
   all : (ts : List Tag) → length ts ≤ 1 → last ts ≡ Some t → ts ≡ t ∷ []
   all [] few e = cc

@@ -1,6 +1,8 @@
 -- The active occurrences, in the order of their numbers, and what an act leaves of them.
 use Rattle.std.specs.Prelude.{IfSome}
-use Rattle.std.proofs.Common.{◌≡◌, ◌≤◌, ◌<◌, ◌==◌, ◌∙◌, ℕ, List, [], ◌∷◌, Bool, true, false, cond, Option, None, Some, is_some, refl, ap, sym, inl, inr, true≢false, eq-eqb, subst, length, map, filter, find, reverse, arith, eqb-true, nat_lt, lt-ltb, ltb-true, ltb-false, le-ltb}
+use Rattle.std.proofs.Common.{◌≡◌, ◌≤◌, ◌<◌, ◌==◌, ◌∙◌, ℕ, List, [], ◌∷◌, Bool, true, false, cond, Option, None, Some, is_some, refl, ap}
+use Rattle.std.proofs.Common.{sym, inl, inr, true≢false, eq-eqb, subst, length, map, filter, find, reverse, arith, eqb-true, nat_lt, lt-ltb}
+use Rattle.std.proofs.Common.{ltb-true, ltb-false, le-ltb}
 use mathlib.Core.List.{reverse-cons}
 use Rattle.lcm_events.specs.declared.attempts.Tag.{Tag}
 use Rattle.lcm_events.specs.declared.events.Event.{Event}
@@ -14,7 +16,9 @@ use Rattle.lcm_laws.proofs.NumberLaws.{IsCounted, operations_counted}
 use Rattle.lcm_laws.proofs.OngoingLaws.{state-moved}
 use Rattle.lcm_model.specs.Allowed.{IsLegal}
 use Rattle.lcm_model.specs.Moves.{is_active, state}
-use Rattle.lcm_model.specs.Next.{Answer, BeginFailed, BeginRefused, BeginTaken, GrantCame, GrantDenied, GrantLater, GrantMissesSome, GrantTrouble, LookedAborted, LookedAbsent, LookedBroken, LookedDone, appended, beginning, granting, looking, polling}
+use Rattle.lcm_model.specs.Next.{Answer, BeginFailed, BeginRefused, BeginTaken, GrantCame, GrantDenied, GrantLater, GrantMissesSome}
+use Rattle.lcm_model.specs.Next.{GrantTrouble, LookedAborted, LookedAbsent, LookedBroken, LookedDone, appended, beginning, granting}
+use Rattle.lcm_model.specs.Next.{looking, polling}
 use Rattle.lcm_model.specs.Operations.{operation, operations}
 use Rattle.lcm_model.specs.Words.{IsIn}
 use Rattle.lcm_model.specs.Work.{window}
@@ -67,7 +71,8 @@ first-above n (m ∷ ms) k r e = by_test (nat_lt n m)
     let low : nat_lt m m ≡ false = le-ltb m m (omega arith) in
     let up : Above m ms = rises-above m ms r in
     let far : Above n ms = above-more m n ms up (before n m (ltb-true n m less)) in
-    let here : above n (m ∷ ms) ≡ m ∷ above m (m ∷ ms) = rw (less, low) (ap (λ (ks : List ℕ). m ∷ ks) (all-above n ms far ∙ sym (all-above m ms up))) in
+    let here : above n (m ∷ ms) ≡ m ∷ above m (m ∷ ms) = rw (less, low)
+    (ap (λ (ks : List ℕ). m ∷ ks) (all-above n ms far ∙ sym (all-above m ms up))) in
     subst (λ (j : ℕ). above n (m ∷ ms) ≡ j ∷ above j (m ∷ ms)) is here)
     (λ more.
     let behind : find (λ k. nat_lt n k) ms ≡ Some k = sym (rw more refl) ∙ e in
@@ -84,22 +89,26 @@ first-above n (m ∷ ms) k r e = by_test (nat_lt n m)
 -- there is none where none is found
 pub none-above : (n : ℕ) (ms : List ℕ) → find (λ k. nat_lt n k) ms ≡ None → above n ms ≡ []
 none-above n [] e = refl
-none-above n (m ∷ ms) e = by_test (nat_lt n m) (λ less. absurd (some_none m (sym (rw less refl) ∙ e))) (λ more. rw more (none-above n ms (sym (rw more refl) ∙ e))) where
-  some_none : (x : ℕ) → Some x ≡ None → ⊥
-  some_none x e = cc
+none-above n (m ∷ ms) e = by_test (nat_lt n m) (λ less. absurd (some_none m (sym (rw less refl) ∙ e)))
+    (λ more. rw more (none-above n ms (sym (rw more refl) ∙ e))) where
+      some_none : (x : ℕ) → Some x ≡ None → ⊥
+      some_none x e = cc
 
 -- the numbers above one of operations that pass a test
 abbrev tested : ℕ → (Operation → Bool) → List Operation → List ℕ
 tested n w xs = above n (map (λ a. a.occ) (filter w xs))
 
-low_dropped : (n : ℕ) (w : Operation → Bool) (a : Operation) (xs : List Operation) → nat_lt n a.occ ≡ false → tested n w (a ∷ xs) ≡ tested n w xs
+low_dropped : (n : ℕ) (w : Operation → Bool) (a : Operation) (xs : List Operation) → nat_lt n a.occ ≡ false
+    → tested n w (a ∷ xs) ≡ tested n w xs
 low_dropped n w a xs low = by_test (w a) (λ works. rw (works, low) refl) (λ rests. rw rests refl)
 
-high_kept : (n : ℕ) (w : Operation → Bool) (a : Operation) (xs : List Operation) → nat_lt n a.occ ≡ true → tested n w (a ∷ xs) ≡ cond (w a) (a.occ ∷ tested n w xs) (tested n w xs)
+high_kept : (n : ℕ) (w : Operation → Bool) (a : Operation) (xs : List Operation) → nat_lt n a.occ ≡ true
+    → tested n w (a ∷ xs) ≡ cond (w a) (a.occ ∷ tested n w xs) (tested n w xs)
 high_kept n w a xs high = by_test (w a) (λ works. rw (works, high) refl) (λ rests. rw rests refl)
 
 -- tests that agree on the numbers above one let the same of them through
-same_tested : (n : ℕ) (w v : Operation → Bool) (xs : List Operation) → ((a : Operation) → nat_lt n a.occ ≡ true → w a ≡ v a) → tested n w xs ≡ tested n v xs
+same_tested : (n : ℕ) (w v : Operation → Bool) (xs : List Operation) → ((a : Operation) → nat_lt n a.occ ≡ true → w a ≡ v a)
+    → tested n w xs ≡ tested n v xs
 same_tested n w v [] works = refl
 same_tested n w v (a ∷ xs) works =
     let rest : tested n w xs ≡ tested n v xs = same_tested n w v xs works in
@@ -114,7 +123,8 @@ above_active : (n : ℕ) (H : List Event) → above n (active H) ≡ reverse (te
 above_active n H = filter_reverse (λ k. nat_lt n k) (map (λ (a : Operation). a.occ) (filter (is_worked_on H) (operations H)))
 
 -- histories of the same operations, whose states agree above a number, have the same active occurrences above it
-same_above : (n : ℕ) (G H : List Event) → operations G ≡ operations H → ((k : ℕ) → nat_lt n k ≡ true → state G k ≡ state H k) → above n (active G) ≡ above n (active H)
+same_above : (n : ℕ) (G H : List Event) → operations G ≡ operations H → ((k : ℕ) → nat_lt n k ≡ true → state G k ≡ state H k)
+    → above n (active G) ≡ above n (active H)
 same_above n G H asked states =
     above_active n G
     ∙ (ap (λ (xs : List Operation). reverse (tested n (is_worked_on G) xs)) asked
@@ -132,7 +142,8 @@ Spares n (Settled t outcome) = Unit {0}
 Spares n (Moved o to) = o ≡ n
 Spares n _ = ⊥
 
-spared : (n now : ℕ) (kind : EventKind) (H : List Event) → Spares n kind → above n (active (record { moment = now; kind = kind } ∷ H)) ≡ above n (active H)
+spared : (n now : ℕ) (kind : EventKind) (H : List Event) → Spares n kind
+    → above n (active (record { moment = now; kind = kind } ∷ H)) ≡ above n (active H)
 spared n now (Granted o grant places spots) H is = refl
 spared n now (GrantTried o answer) H is = refl
 spared n now (Denied o) H is = refl
@@ -153,7 +164,8 @@ abbrev AllSpare : ℕ → List EventKind → Type 0
 AllSpare n [] = Unit {0}
 AllSpare n (kind ∷ kinds) = Spares n kind × AllSpare n kinds
 
-all_spared : (n now : ℕ) (kinds : List EventKind) (H : List Event) → AllSpare n kinds → above n (active (with_events now kinds H)) ≡ above n (active H)
+all_spared : (n now : ℕ) (kinds : List EventKind) (H : List Event) → AllSpare n kinds
+    → above n (active (with_events now kinds H)) ≡ above n (active H)
 all_spared n now [] H all = refl
 all_spared n now (kind ∷ kinds) H all = spared n now kind (with_events now kinds H) all.0 ∙ all_spared n now kinds H all.1
 
@@ -200,7 +212,8 @@ pub others_stay : (now : ℕ) (H : List Event) (o : ℕ) (action : Action) (answ
     → above o (active (with_events now (appended o action answer) H)) ≡ above o (active H)
 others_stay now H o action answer = all_spared o now (appended o action answer) H (appended_spares o action answer)
 
-positive : (w : Operation → Bool) (xs : List Operation) → IsCounted (λ a. a.occ) xs → above 0 (map (λ a. a.occ) (filter w xs)) ≡ map (λ a. a.occ) (filter w xs)
+positive : (w : Operation → Bool) (xs : List Operation) → IsCounted (λ a. a.occ) xs
+    → above 0 (map (λ a. a.occ) (filter w xs)) ≡ map (λ a. a.occ) (filter w xs)
 positive w [] counted = refl
 positive w (a ∷ xs) counted =
     let number = counted.0 in
@@ -223,7 +236,8 @@ pub few_active : (H : List Event) → length (active H) ≤ length H
 few_active H =
     let numbers : List ℕ = map (λ (a : Operation). a.occ) (filter (is_worked_on H) (operations H)) in
     let two : length (active H) ≡ length numbers = length-reverse numbers in
-    let three : length numbers ≡ length (filter (is_worked_on H) (operations H)) = length-map (filter (is_worked_on H) (operations H)) (λ (a : Operation). a.occ) in
+    let three : length numbers ≡ length (filter (is_worked_on H) (operations H)) =
+    length-map (filter (is_worked_on H) (operations H)) (λ (a : Operation). a.occ) in
     let four = filter_few (is_worked_on H) (operations H) in
     let five : length (operations H) ≤ length H = few_operations H in
     omega (arith, two, three, four, five)
@@ -255,7 +269,8 @@ some_found o a (b ∷ xs) h is = by_test (b.occ == o)
 -- what is found among the active ones is active
 pub found_active : (H : List Event) (n o : ℕ) → find (λ k. nat_lt n k) (active H) ≡ Some o → IsActive H o
 found_active H n o e =
-    let among = of_reverse o (map (λ (a : Operation). a.occ) (filter (is_worked_on H) (operations H))) (found_within_list (λ k. nat_lt n k) o (active H) e) in
+    let among = of_reverse o (map (λ (a : Operation). a.occ) (filter (is_worked_on H) (operations H)))
+    (found_within_list (λ k. nat_lt n k) o (active H) e) in
     let from = of_map (λ (a : Operation). a.occ) o (filter (is_worked_on H) (operations H)) among in
     let both = of_filter (is_worked_on H) from.0 (operations H) from.1 in
     and_true (is_some (operation H o)) (is_active (state H o)) (some_found o from.0 (operations H) both.0 from.2)

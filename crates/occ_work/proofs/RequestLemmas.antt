@@ -1,5 +1,6 @@
 -- The grant request of an occurrence, by the rows of its tables.
-use Rattle.std.proofs.Common.{◌≡◌, ◌≤◌, ◌<◌, ◌+◌, ◌∙◌, ℕ, List, [], ◌∷◌, Bool, true, false, cond, Option, None, Some, is_some, refl, ap, sym, subst, arith, length, option_map, Result, Ok, Err, IfOk}
+use Rattle.std.proofs.Common.{◌≡◌, ◌≤◌, ◌<◌, ◌+◌, ◌∙◌, ℕ, List, [], ◌∷◌, Bool, true, false, cond, Option, None, Some, is_some, refl, ap}
+use Rattle.std.proofs.Common.{sym, subst, arith, length, option_map, Result, Ok, Err, IfOk}
 use Rattle.std.specs.Prelude.{option_and_then}
 use Rattle.grant_desk.specs.Requests.{request_text}
 use Rattle.held_items.specs.Following.{ItemsAreInOrder}
@@ -33,7 +34,8 @@ use Rattle.occ_steps.proofs.ActiveLemmas.{active_asked, active_on}
 use Rattle.occ_work.proofs.LiveLemmas.{living}
 
 -- the instance of an active occurrence is live
-pub its_instance_lives : (m : ℕ) (H : List Event) (o : ℕ) (r : OccRow) → IsLegalWithin window m H → IsActive H o → occurrence H o ≡ Some r → is_live H r.instance ≡ true
+pub its_instance_lives : (m : ℕ) (H : List Event) (o : ℕ) (r : OccRow) → IsLegalWithin window m H → IsActive H o → occurrence H o ≡ Some r
+    → is_live H r.instance ≡ true
 its_instance_lives m H o r legal is found =
     let mine = found_row H o r found in
     let live : is_live H mine.0.instance ≡ true = living window m H legal o mine.0 mine.1 (active_on H o is) in
@@ -67,10 +69,12 @@ row_found H i r e =
 pub descriptor_of_row : (H : List Event) (i : ℕ) (r : InstanceRow) → instance H i ≡ Some r → descriptor H i ≡ descriptor_named H r.vnfd
 descriptor_of_row H i r found =
     let mine = row_found H i r found in
-    ap (option_and_then (λ (x : CreatedInstance). descriptor_named H x.vnfd)) mine.1 ∙ ap (λ (y : InstanceRow). descriptor_named H y.vnfd) mine.3
+    ap (option_and_then (λ (x : CreatedInstance). descriptor_named H x.vnfd)) mine.1
+    ∙ ap (λ (y : InstanceRow). descriptor_named H y.vnfd) mine.3
 
 -- the descriptor of a live instance is there
-pub descriptor_there : (m : ℕ) (H : List Event) (i : ℕ) (r : InstanceRow) → RowsHaveHoldings → IsLegalWithin window m H → instance H i ≡ Some r
+pub descriptor_there : (m : ℕ) (H : List Event) (i : ℕ) (r : InstanceRow) → RowsHaveHoldings → IsLegalWithin window m H
+    → instance H i ≡ Some r
     → descriptor_named H r.vnfd ≡ None → ⊥
 descriptor_there m H i r held legal found none =
     let it = held window m H legal i r found in
@@ -78,7 +82,8 @@ descriptor_there m H i r held legal found none =
     cc
 
 -- what stands of the instance is what its row holds
-pub holding_of_row : (m : ℕ) (H : List Event) (i : ℕ) (r : InstanceRow) (d : Vnfd) → RowsHaveHoldings → IsLegalWithin window m H → instance H i ≡ Some r
+pub holding_of_row : (m : ℕ) (H : List Event) (i : ℕ) (r : InstanceRow) (d : Vnfd) → RowsHaveHoldings → IsLegalWithin window m H
+    → instance H i ≡ Some r
     → descriptor_named H r.vnfd ≡ Some d → r.holding ≡ holding d H i
 holding_of_row m H i r d held legal found named =
     let it = held window m H legal i r found in
@@ -87,36 +92,42 @@ holding_of_row m H i r d held legal found named =
     it.2 ∙ ap (λ (x : Vnfd). holding x H i) same
 
 -- what the row of an instance holds is in order
-pub order_of_row : (m : ℕ) (H : List Event) (i : ℕ) (r : InstanceRow) (d : Vnfd) → RowsHaveHoldings → ItemsAreInOrder → IsLegalWithin window m H → instance H i ≡ Some r
+pub order_of_row : (m : ℕ) (H : List Event) (i : ℕ) (r : InstanceRow) (d : Vnfd) → RowsHaveHoldings → ItemsAreInOrder
+    → IsLegalWithin window m H → instance H i ≡ Some r
     → descriptor_named H r.vnfd ≡ Some d → AreInOrder r.holding.items
 order_of_row m H i r d held ordered legal found named =
     subst (λ (h : Holding). AreInOrder h.items) (sym (holding_of_row m H i r d held legal found named))
     (ordered window m H legal i d (descriptor_of_row H i r found ∙ named)).0
 
-instances_step : (time : ℕ) (k : EventKind) (H : List Event) → instances_made H ≤ length H → instances_made (record { moment = time; kind = k } ∷ H) ≤ length H + 1
+instances_step : (time : ℕ) (k : EventKind) (H : List Event) → instances_made H ≤ length H
+    → instances_made (record { moment = time; kind = k } ∷ H) ≤ length H + 1
 instances_step time (Created i vnfd name text) H h = omega (arith, h)
 instances_step time _ H h = omega (arith, h)
 
 few_instances : (H : List Event) → instances_made H ≤ length H
 few_instances [] = omega arith
-few_instances (e ∷ H) = let step : instances_made (e ∷ H) ≤ length H + 1 = instances_step e.moment e.kind H (few_instances H) in omega (arith, step)
+few_instances (e ∷ H) = let step : instances_made (e ∷ H) ≤ length H + 1 = instances_step e.moment e.kind H (few_instances H) in
+    omega (arith, step)
 
 -- an identifier can carry the number of a live instance of a history of few events
-pub instance_number : (m : ℕ) (H : List Event) (i : ℕ) → IsLegalWithin window m H → length H < 268435456 → is_live H i ≡ true → IsIdentNumber i
+pub instance_number : (m : ℕ) (H : List Event) (i : ℕ) → IsLegalWithin window m H → length H < 268435456 → is_live H i ≡ true
+    → IsIdentNumber i
 instance_number m H i legal few live =
     let there = and_left (is_some (creation H i)) _ live in
     let within = found_within (λ x. x.instance) (creations H) i (instances_counted window m H legal) there in
     let made = few_instances H in
     (within.0, omega (arith, within.1, made, few))
 
-operations_step : (time : ℕ) (k : EventKind) (H : List Event) → occurrences_made H ≤ length H → occurrences_made (record { moment = time; kind = k } ∷ H) ≤ length H + 1
+operations_step : (time : ℕ) (k : EventKind) (H : List Event) → occurrences_made H ≤ length H
+    → occurrences_made (record { moment = time; kind = k } ∷ H) ≤ length H + 1
 operations_step time (Asked a) H h = omega (arith, h)
 operations_step time _ H h = omega (arith, h)
 
 -- no more operations were asked for than there are events
 pub few_operations : (H : List Event) → occurrences_made H ≤ length H
 few_operations [] = omega arith
-few_operations (e ∷ H) = let step : occurrences_made (e ∷ H) ≤ length H + 1 = operations_step e.moment e.kind H (few_operations H) in omega (arith, step)
+few_operations (e ∷ H) = let step : occurrences_made (e ∷ H) ≤ length H + 1 = operations_step e.moment e.kind H (few_operations H) in
+    omega (arith, step)
 
 -- and that of an occurrence
 pub occurrence_number : (m : ℕ) (H : List Event) (o : ℕ) → IsLegalWithin window m H → length H < 268435456 → IsActive H o → IsIdentNumber o
@@ -132,10 +143,12 @@ body m a o d h = request_text d h (record { manager = m; instance = a.instance; 
 asked_for : (m : ℕ) (H : List Event) (o : ℕ) (a : Operation) (d : Vnfd) → operation H o ≡ Some a → descriptor H a.instance ≡ Some d
     → grant_request m H o ≡ Some (body m a a.occ d (holding d H a.instance))
 asked_for m H o a d found whole =
-    ap (option_and_then (λ (a : Operation). option_map (request_over m H a) (descriptor H a.instance))) found ∙ ap (option_map (request_over m H a)) whole
+    ap (option_and_then (λ (a : Operation). option_map (request_over m H a) (descriptor H a.instance))) found
+    ∙ ap (option_map (request_over m H a)) whole
 
 -- the request by the rows is that of the history
-pub requested : (m : ℕ) (H : List Event) (o : ℕ) (r : OccRow) (x : InstanceRow) (d : Vnfd) → RowsHaveHoldings → IsLegalWithin window m H → occurrence H o ≡ Some r
+pub requested : (m : ℕ) (H : List Event) (o : ℕ) (r : OccRow) (x : InstanceRow) (d : Vnfd) → RowsHaveHoldings → IsLegalWithin window m H
+    → occurrence H o ≡ Some r
     → instance H r.instance ≡ Some x → descriptor_named H x.vnfd ≡ Some d
     → grant_request m H o ≡ Some (request_text d x.holding (record { manager = m; instance = r.instance; occ = o }) r.ask r.changes)
 requested m H o r x d held legal found live named =
@@ -143,15 +156,18 @@ requested m H o r x d held legal found live named =
     let a : Operation = mine.0 in
     let same : a.instance ≡ r.instance = ap (λ (y : OccRow). y.instance) mine.3 in
     let whole : descriptor H a.instance ≡ Some d = ap (descriptor H) same ∙ (descriptor_of_row H r.instance x live ∙ named) in
-    let stands : holding d H a.instance ≡ x.holding = ap (holding d H) same ∙ sym (holding_of_row m H r.instance x d held legal live named) in
+    let stands : holding d H a.instance ≡ x.holding = ap (holding d H) same
+    ∙ sym (holding_of_row m H r.instance x d held legal live named) in
     asked_for m H o a d mine.1 whole
     ∙ (ap (λ (h : Holding). Some (body m a a.occ d h)) stands
     ∙ (ap (λ (n : ℕ). Some (body m a n d x.holding)) mine.2
     ∙ ap (λ (y : OccRow). Some (request_text d x.holding (record { manager = m; instance = y.instance; occ = o }) y.ask y.changes)) mine.3))
 
 -- and so is the body that was made of them
-pub request_made : {E : Type 0} → (m k : ℕ) (H : List Event) (o : ℕ) (r : OccRow) (x : InstanceRow) (d : Vnfd) (ask : Ask) (xs : List Change) (result : Result (List ℕ) E) → RowsHaveHoldings
-    → IsLegalWithin window m H → occurrence H o ≡ Some r → instance H r.instance ≡ Some x → descriptor_named H x.vnfd ≡ Some d → k ≡ m → ask ≡ r.ask → xs ≡ r.changes
+pub request_made : {E : Type 0} → (m k : ℕ) (H : List Event) (o : ℕ) (r : OccRow) (x : InstanceRow) (d : Vnfd) (ask : Ask)
+    (xs : List Change) (result : Result (List ℕ) E) → RowsHaveHoldings
+    → IsLegalWithin window m H → occurrence H o ≡ Some r → instance H r.instance ≡ Some x → descriptor_named H x.vnfd ≡ Some d → k ≡ m
+    → ask ≡ r.ask → xs ≡ r.changes
     → IfOk result (λ body. body ≡ request_text d x.holding (record { manager = k; instance = r.instance; occ = o }) ask xs)
     → IfOk result (λ body. grant_request m H o ≡ Some body)
 request_made m k H o r x d ask xs (Err why) held legal found live named number same plan made = tt
@@ -159,4 +175,5 @@ request_made m k H o r x d ask xs (Ok bytes) held legal found live named number 
     requested m H o r x d held legal found live named
     ∙ (ap (λ (n : ℕ). Some (request_text d x.holding (record { manager = n; instance = r.instance; occ = o }) r.ask r.changes)) (sym number)
     ∙ (ap (λ (a : Ask). Some (request_text d x.holding (record { manager = k; instance = r.instance; occ = o }) a r.changes)) (sym same)
-    ∙ (ap (λ (ys : List Change). Some (request_text d x.holding (record { manager = k; instance = r.instance; occ = o }) ask ys)) (sym plan) ∙ ap Some (sym made))))
+    ∙ (ap (λ (ys : List Change). Some (request_text d x.holding (record { manager = k; instance = r.instance; occ = o }) ask ys)) (sym plan)
+    ∙ ap Some (sym made))))

@@ -31,7 +31,8 @@ begun_tag (e ∷ H) t events known = tag_in H e.moment e.kind t events.0.1 (begu
 pub open_tag : (H : List Event) (t : Tag) → AllByRecursion IsEvent H → is_open H t ≡ true → IsTag t
 open_tag H t events is = begun_tag H t events (any_of_filter (same_tag t) (is_unsettled H) (intents H) is)
 
-attempt_rules : (m : ℕ) (H : List Event) (now : ℕ) (kind : EventKind) → AllByRecursion IsEvent H → IsAllowed m H kind → is_of_attempt kind ≡ true
+attempt_rules : (m : ℕ) (H : List Event) (now : ℕ) (kind : EventKind) → AllByRecursion IsEvent H → IsAllowed m H kind
+    → is_of_attempt kind ≡ true
     → TypedEvent (record { moment = now; kind = kind }) → IsEvent (record { moment = now; kind = kind })
 attempt_rules m H now (Intent t) events allowed is typed =
     let number = allowed.number in
@@ -41,5 +42,6 @@ attempt_rules m H now (Settled t how) events allowed is typed = (typed.0, (open_
 attempt_rules m H now _ events allowed is typed = absurd (cc is)
 
 -- an event about an attempt that is allowed may be put
-pub attempt_put : (m : ℕ) (H : List Event) (e : Event) → AllByRecursion IsEvent H → IsAllowed m H e.kind → is_of_attempt e.kind ≡ true → MayPut m H e
+pub attempt_put : (m : ℕ) (H : List Event) (e : Event) → AllByRecursion IsEvent H → IsAllowed m H e.kind → is_of_attempt e.kind ≡ true
+    → MayPut m H e
 attempt_put m H e events allowed is = record { rules = attempt_rules m H e.moment e.kind events allowed is; allowed = allowed }

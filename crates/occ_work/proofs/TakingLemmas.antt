@@ -1,5 +1,6 @@
 -- What an answer appends may be recorded.
-use Rattle.std.proofs.Common.{◌≡◌, ◌≤◌, ◌==◌, ◌||◌, ◌∙◌, ℕ, List, [], ◌∷◌, Bool, true, false, Option, None, Some, refl, ap, sym, subst, arith, length, option_map, codes, Result, Ok, Err, IfOk}
+use Rattle.std.proofs.Common.{◌≡◌, ◌≤◌, ◌==◌, ◌||◌, ◌∙◌, ℕ, List, [], ◌∷◌, Bool, true, false, Option, None, Some, refl, ap, sym, subst}
+use Rattle.std.proofs.Common.{arith, length, option_map, codes, Result, Ok, Err, IfOk}
 use Rattle.std.specs.Prelude.{nat_le, option_and_then}
 use Rattle.serde_json.specs.Data.{Data}
 use Rattle.serde_json.specs.Find.{as_str, get}
@@ -26,7 +27,8 @@ use Rattle.lcm_events.specs.declared.events.EventKind.{EventKind}
 use Rattle.lcm_events.specs.declared.events.EventKind.TheVariants.{Denied, GrantTried, Granted, Moved}
 use Rattle.lcm_events.specs.declared.events.Operation.{Operation}
 use Rattle.lcm_events.specs.declared.states.OpState.{OpState}
-use Rattle.lcm_events.specs.declared.states.OpState.TheVariants.{Completed, Failed, FailedTemp, Processing, RolledBack, RollingBack, Starting}
+use Rattle.lcm_events.specs.declared.states.OpState.TheVariants.{Completed, Failed, FailedTemp, Processing, RolledBack, RollingBack}
+use Rattle.lcm_events.specs.declared.states.OpState.TheVariants.{Starting}
 use Rattle.lcm_laws.specs.Acting.{IsAnswer, NextActionsAreAllowed, with_events}
 use Rattle.lcm_laws.specs.Granting.{CoveringRowsPlaceChanges}
 use Rattle.lcm_laws.proofs.BoundLaws.{plans_small}
@@ -35,7 +37,8 @@ use Rattle.lcm_model.specs.Allowed.{IsAllowed, IsLegal}
 use Rattle.lcm_model.specs.Descriptors.{is_given}
 use Rattle.lcm_model.specs.Grants.{covers}
 use Rattle.lcm_model.specs.Moves.{state}
-use Rattle.lcm_model.specs.Next.{Answer, GrantCame, GrantDenied, GrantLater, GrantMissesSome, GrantTrouble, appended, granting, next_action, polling}
+use Rattle.lcm_model.specs.Next.{Answer, GrantCame, GrantDenied, GrantLater, GrantMissesSome, GrantTrouble, appended, granting, next_action}
+use Rattle.lcm_model.specs.Next.{polling}
 use Rattle.lcm_model.specs.Operations.{changes, operation, operations}
 use Rattle.lcm_model.specs.Work.{MayMove, window}
 use Rattle.lcm_model.specs.declared.actions.Action.TheVariants.{MoveTo, Poll}
@@ -109,7 +112,8 @@ never_later false None rows e = cc
 never_later false (Some at) rows e = cc
 
 -- the identifier of a grant that was heard isn't empty
-pub heard_given : (asking : Bool) (heard : Heard) (rows : GrantRows) → answer_of asking heard ≡ says.Granted rows → is_given rows.grant ≡ true
+pub heard_given : (asking : Bool) (heard : Heard) (rows : GrantRows) → answer_of asking heard ≡ says.Granted rows
+    → is_given rows.grant ≡ true
 heard_given asking heard rows e = by_test ((heard.status == 200) || (heard.status == 201))
     (λ came. read_given heard.body rows (granted_given (grant_of heard.body) rows (sym (rw came refl) ∙ e)))
     (λ other. by_test (heard.status == 202)
@@ -124,7 +128,8 @@ heard_given asking heard rows e = by_test ((heard.status == 200) || (heard.statu
       is_trouble h = cc
 
 -- an answer has what is asked of it: a grant has an identifier, and a place for each change
-answers_to : (H : List Event) (o : ℕ) (x : GrantAnswer) → CoveringRowsPlaceChanges → ((rows : GrantRows) → x ≡ says.Granted rows → is_given rows.grant ≡ true)
+answers_to : (H : List Event) (o : ℕ) (x : GrantAnswer) → CoveringRowsPlaceChanges
+    → ((rows : GrantRows) → x ≡ says.Granted rows → is_given rows.grant ≡ true)
     → IsAnswer H o (answer_with (changes H o) x)
 answers_to H o (says.Granted rows) placed given = by_test (covers (changes H o) rows.add rows.remove rows.update)
     (λ all. rw all (given rows refl, placed (changes H o) rows.add rows.remove rows.update all))
@@ -199,7 +204,8 @@ appended_for true o answer = refl
 appended_for false o answer = refl
 
 -- what an answer appends may be recorded
-pub may_take : (m now : ℕ) (H : List Event) (o : ℕ) (asking : Bool) (ended : Call) (heard : Heard) (kind : EventKind) → NextActionsAreAllowed → CoveringRowsPlaceChanges
+pub may_take : (m now : ℕ) (H : List Event) (o : ℕ) (asking : Bool) (ended : Call) (heard : Heard) (kind : EventKind)
+    → NextActionsAreAllowed → CoveringRowsPlaceChanges
     → IsLegal m H → IsActive H o → next_action H o ≡ Some (exchanging asking)
     → kinds_for asking o (answer_heard asking (changes H o) ended heard) ≡ kind ∷ [] → MayRecord m H (record { moment = now; kind = kind })
 may_take m now H o asking ended heard kind allows placed legal is next one =
@@ -231,47 +237,66 @@ is_moved H o from RolledBack h = refl
 is_moved H o from Failed h = refl
 
 -- a move may be recorded
-pub may_move_on : (m now : ℕ) (H : List Event) (o : ℕ) (to : OpState) → NextActionsAreAllowed → IsLegal m H → IsActive H o → next_action H o ≡ Some (MoveTo to)
+pub may_move_on : (m now : ℕ) (H : List Event) (o : ℕ) (to : OpState) → NextActionsAreAllowed → IsLegal m H → IsActive H o
+    → next_action H o ≡ Some (MoveTo to)
     → MayRecord m H (record { moment = now; kind = Moved o to })
 may_move_on m now H o to allows legal is next =
     let onward = allows window m H (omega arith) legal o now (MoveTo to) GrantTrouble (active_asked H o is) next tt in
     record { rules = λ typed. (typed.0, (typed.1, is_moved H o (state H o) to onward.0.1)); allowed = onward.0; unsettled = refl }
 
 -- and so may the event of it
-pub may_take_event : (m now : ℕ) (H : List Event) (o : ℕ) (asking : Bool) (ended : Call) (heard : Heard) (kind : EventKind) (e : Event) → NextActionsAreAllowed → CoveringRowsPlaceChanges
+pub may_take_event : (m now : ℕ) (H : List Event) (o : ℕ) (asking : Bool) (ended : Call) (heard : Heard) (kind : EventKind) (e : Event)
+    → NextActionsAreAllowed → CoveringRowsPlaceChanges
     → IsLegal m H → IsActive H o → next_action H o ≡ Some (exchanging asking)
-    → kinds_for asking o (answer_heard asking (changes H o) ended heard) ≡ kind ∷ [] → e ≡ record { moment = now; kind = kind } → MayRecord m H e
+    → kinds_for asking o (answer_heard asking (changes H o) ended heard) ≡ kind ∷ [] → e ≡ record { moment = now; kind = kind }
+    → MayRecord m H e
 may_take_event m now H o asking ended heard kind e allows placed legal is next one same =
     subst (λ (x : Event). MayRecord m H x) (sym same) (may_take m now H o asking ended heard kind allows placed legal is next one)
 
-pub may_move_event : (m now : ℕ) (H : List Event) (o : ℕ) (to : OpState) (e : Event) → NextActionsAreAllowed → IsLegal m H → IsActive H o → next_action H o ≡ Some (MoveTo to)
+pub may_move_event : (m now : ℕ) (H : List Event) (o : ℕ) (to : OpState) (e : Event) → NextActionsAreAllowed → IsLegal m H → IsActive H o
+    → next_action H o ≡ Some (MoveTo to)
     → e ≡ record { moment = now; kind = Moved o to } → MayRecord m H e
 may_move_event m now H o to e allows legal is next same =
     subst (λ (x : Event). MayRecord m H x) (sym same) (may_move_on m now H o to allows legal is next)
 
 -- what an answer appends, by the changes of the row
-pub kinds_by_row : (H : List Event) (o : ℕ) (r : OccRow) (xs : List Change) (asking : Bool) (ended : Call) (heard : Heard) (kinds : List EventKind) → occurrence H o ≡ Some r → xs ≡ r.changes
-    → kinds_for asking o (answer_heard asking xs ended heard) ≡ kinds → kinds_for asking o (answer_heard asking (changes H o) ended heard) ≡ kinds
+pub kinds_by_row : (H : List Event) (o : ℕ) (r : OccRow) (xs : List Change) (asking : Bool) (ended : Call) (heard : Heard)
+    (kinds : List EventKind) → occurrence H o ≡ Some r → xs ≡ r.changes
+    → kinds_for asking o (answer_heard asking xs ended heard) ≡ kinds
+    → kinds_for asking o (answer_heard asking (changes H o) ended heard) ≡ kinds
 kinds_by_row H o r xs asking ended heard kinds found same is =
     ap (λ (ys : List Change). kinds_for asking o (answer_heard asking ys ended heard)) (changes_of_row H o r found ∙ sym same) ∙ is
 
 -- what was recorded of one event was recorded of its kind
-pub records_as : (tells : Type 0) (m now : ℕ) (kinds : List EventKind) (H : List Event) (result : Result Acted WorkFault) (n : Managed) (a b : SiteState) (e : Event) (kind : EventKind)
-    → e ≡ record { moment = now; kind = kind } → kinds ≡ kind ∷ [] → Records tells (point m e.moment H) (e.kind ∷ []) result n a b → Records tells (point m now H) kinds result n a b
+pub records_as : (tells : Type 0) (m now : ℕ) (kinds : List EventKind) (H : List Event) (result : Result Acted WorkFault) (n : Managed)
+    (a b : SiteState) (e : Event) (kind : EventKind)
+    → e ≡ record { moment = now; kind = kind } → kinds ≡ kind ∷ [] → Records tells (point m e.moment H) (e.kind ∷ []) result n a b
+    → Records tells (point m now H) kinds result n a b
 records_as tells m now kinds H result n a b e kind same one records =
-    subst (λ (ks : List EventKind). Records tells (point m now H) ks result n a b) (sym one) (subst (λ (x : Event). Records tells (point m x.moment H) (x.kind ∷ []) result n a b) same records)
+    subst (λ (ks : List EventKind). Records tells (point m now H) ks result n a b) (sym one)
+    (subst (λ (x : Event). Records tells (point m x.moment H) (x.kind ∷ []) result n a b) same records)
 
 -- nothing was recorded
-pub records_none : (tells : Type 0) (m : Managed) (now : ℕ) (kinds : List EventKind) (H : List Event) (done : Acted) (s : SiteState) → Idles tells s → IsReady tells m H s → kinds ≡ []
+pub records_none : (tells : Type 0) (m : Managed) (now : ℕ) (kinds : List EventKind) (H : List Event) (done : Acted) (s : SiteState)
+    → Idles tells s → IsReady tells m H s → kinds ≡ []
     → Records tells (point m.ledger.manager now H) kinds (Ok done) m s s
 records_none tells m now kinds H done s idles ready none =
-    subst (λ (ks : List EventKind). Records tells (point m.ledger.manager now H) ks (Ok done) m s s) (sym none) (record { works = with_jobs tells m.ledger.manager H (went H) m s s (idles m H ready); room = tt })
+    subst (λ (ks : List EventKind). Records tells (point m.ledger.manager now H) ks (Ok done) m s s) (sym none)
+    (record { works = with_jobs tells m.ledger.manager H (went H) m s s (idles m H ready); room = tt })
 
 -- there was no memory for it
-pub records_starved : (tells : Type 0) (m : Managed) (now : ℕ) (kinds : List EventKind) (H : List Event) (s : SiteState) → AreFew kinds → Idles tells s → IsReady tells m H s
+pub records_starved : (tells : Type 0) (m : Managed) (now : ℕ) (kinds : List EventKind) (H : List Event) (s : SiteState) → AreFew kinds
+    → Idles tells s → IsReady tells m H s
     → Records tells (point m.ledger.manager now H) kinds (Err fault.Memory) m s s
-records_starved tells m now [] H s few idles ready = record { works = with_jobs tells m.ledger.manager H (went H) m s s (idles m H ready); room = tt }
-records_starved tells m now (k ∷ []) H s few idles ready = record { works = with_jobs tells m.ledger.manager H (went H) m s s (idles m H ready); room = tt }
+records_starved tells m now [] H s few idles ready = record {
+  works = with_jobs tells m.ledger.manager H (went H) m s s (idles m H ready);
+  room = tt;
+}
+records_starved tells m now (k ∷ []) H s few idles ready = record {
+  works =
+      with_jobs tells m.ledger.manager H (went H) m s s (idles m H ready);
+  room = tt;
+}
 records_starved tells m now (k ∷ l ∷ more) H s few idles ready = absurd few
 
 few_granting : (o : ℕ) (answer : Answer) → AreFew (granting o answer)
@@ -303,16 +328,19 @@ one_recorded H e (fault.Full end more) = refl
 one_recorded H e fault.Memory = refl
 one_recorded H e fault.Disk = refl
 
-pub recorded_works : (tells : Type 0) (m : ℕ) (H : List Event) (e : Event) (why : WorkFault) (n : Managed) (a b : SiteState) → WorksWithJobs tells m H (recorded H e (Err why)) n a b
+pub recorded_works : (tells : Type 0) (m : ℕ) (H : List Event) (e : Event) (why : WorkFault) (n : Managed) (a b : SiteState)
+    → WorksWithJobs tells m H (recorded H e (Err why)) n a b
     → WorksWithJobs tells m H (recording e.moment (e.kind ∷ []) H (Err why)) n a b
 recorded_works tells m H e why n a b works = subst (λ (w : Work). WorksWithJobs tells m H w n a b) (one_recorded H e why) works
 
-pub recorded_at_file : (tells : Type 0) (m : ℕ) (H : List Event) (e : Event) (why : WorkFault) (n : Managed) (a b : SiteState) → WorksAtFile tells m H (recorded H e (Err why)) n a b
+pub recorded_at_file : (tells : Type 0) (m : ℕ) (H : List Event) (e : Event) (why : WorkFault) (n : Managed) (a b : SiteState)
+    → WorksAtFile tells m H (recorded H e (Err why)) n a b
     → WorksAtFile tells m H (recording e.moment (e.kind ∷ []) H (Err why)) n a b
 recorded_at_file tells m H e why n a b works = subst (λ (w : Work). WorksAtFile tells m H w n a b) (one_recorded H e why) works
 
 -- and what is told of its room is told of that of its kind
-pub one_room : (H : List Event) (e : Event) (why : WorkFault) → TellsRoom MAX_FILE H e (Err why) → TellsRoomFor e.moment (e.kind ∷ []) H (Err why)
+pub one_room : (H : List Event) (e : Event) (why : WorkFault) → TellsRoom MAX_FILE H e (Err why)
+    → TellsRoomFor e.moment (e.kind ∷ []) H (Err why)
 one_room H e (fault.TooLong n) room = room
 one_room H e (fault.Full end more) room = room
 one_room H e fault.Memory room = tt
@@ -327,15 +355,18 @@ ends_poll o GrantTrouble kind e = refl
 ends_poll o _ kind e = refl
 
 -- where an event is appended the act ends so
-pub ends_recorded : (asking : Bool) (o : ℕ) (answer : Answer) (kind : EventKind) → kinds_for asking o answer ≡ kind ∷ [] → ending (exchanging asking) answer ≡ Recorded
+pub ends_recorded : (asking : Bool) (o : ℕ) (answer : Answer) (kind : EventKind) → kinds_for asking o answer ≡ kind ∷ []
+    → ending (exchanging asking) answer ≡ Recorded
 ends_recorded true o answer kind e = refl
 ends_recorded false o answer kind e = ends_poll o answer kind e
 
-waits_with : (asking : Bool) (o : ℕ) (xs : List Change) (x : GrantAnswer) → kinds_for asking o (answer_with xs x) ≡ [] → Waiting ≡ ending (exchanging asking) (answer_with xs x)
+waits_with : (asking : Bool) (o : ℕ) (xs : List Change) (x : GrantAnswer) → kinds_for asking o (answer_with xs x) ≡ []
+    → Waiting ≡ ending (exchanging asking) (answer_with xs x)
 waits_with asking o xs (says.Granted rows) e = by_test (covers xs rows.add rows.remove rows.update)
     (λ all. absurd (came asking _ _ _ (rw all at e)))
     (λ misses. absurd (missed asking (rw misses at e))) where
-      came : (asking : Bool) (grant : List ℕ) (places : List Place) (spots : List ℕ) → kinds_for asking o (GrantCame grant places spots) ≡ [] → ⊥
+      came : (asking : Bool) (grant : List ℕ) (places : List Place) (spots : List ℕ)
+          → kinds_for asking o (GrantCame grant places spots) ≡ [] → ⊥
       came true grant places spots h = cc
       came false grant places spots h = cc
 
@@ -351,7 +382,8 @@ waits_with true o xs says.Trouble e = cc
 waits_with false o xs says.Trouble e = cc
 
 -- where none is it waits
-pub ends_waiting : (asking : Bool) (o : ℕ) (xs : List Change) (ended : Call) (heard : Heard) → kinds_for asking o (answer_heard asking xs ended heard) ≡ []
+pub ends_waiting : (asking : Bool) (o : ℕ) (xs : List Change) (ended : Call) (heard : Heard)
+    → kinds_for asking o (answer_heard asking xs ended heard) ≡ []
     → Waiting ≡ ending (exchanging asking) (answer_heard asking xs ended heard)
 ends_waiting asking o xs call.Came heard e = waits_with asking o xs (answer_of asking heard) e
 ends_waiting true o xs call.Failed heard e = cc

@@ -1,5 +1,6 @@
 -- The turn so far, one act more, and how it ends.
-use Rattle.std.proofs.Common.{◌≡◌, ◌≤◌, ◌<◌, ◌+◌, ◌++◌, ◌∙◌, ℕ, List, [], ◌∷◌, None, Some, Ok, Err, refl, ap, sym, subst, length, map, find, reverse, arith, nat_lt, suc, inl, inr, ◌⊎◌, append_assoc, length-append}
+use Rattle.std.proofs.Common.{◌≡◌, ◌≤◌, ◌<◌, ◌+◌, ◌++◌, ◌∙◌, ℕ, List, [], ◌∷◌, None, Some, Ok, Err, refl, ap, sym, subst, length, map, find}
+use Rattle.std.proofs.Common.{reverse, arith, nat_lt, suc, inl, inr, ◌⊎◌, append_assoc, length-append}
 use mathlib.Core.List.{reverse-cons}
 use Rattle.std.proofs.lemmas.List.{length-map, length-reverse}
 use Rattle.executor.specs.Managed.{IsReady, Managed}
@@ -12,7 +13,8 @@ use Rattle.occ_work.specs.Acting.{Acts, recording}
 use Rattle.occ_work.specs.Around.{Reach, ReachTells, around}
 use Rattle.occ_table.specs.Going.{active}
 use Rattle.occ_table.proofs.GoingLaws.{active-rises}
-use Rattle.occ_work.specs.Deeds.{Deed, Exchange, IsDeed, aborted, asked, began, looked, nothing, polled, IsExchangeOf, IsTried, IsUnexchanged, answered, ending, kinds_of, once_done, point}
+use Rattle.occ_work.specs.Deeds.{Deed, Exchange, IsDeed, aborted, asked, began, looked, nothing, polled, IsExchangeOf, IsTried}
+use Rattle.occ_work.specs.Deeds.{IsUnexchanged, answered, ending, kinds_of, once_done, point}
 use Rattle.lcm_model.specs.declared.actions.Action.{Action}
 use Rattle.lcm_model.specs.declared.actions.Action.TheVariants.{AbortAndLook, AskForGrant, Begin, Look, MoveTo, Poll}
 use Rattle.occ_work.specs.Counting.{CountsEndings}
@@ -48,7 +50,8 @@ none_yet t m now w idles = λ H ready. record {
 }
 
 -- the manager is ready for one more
-pub ready_so_far : (t : ReachTells) (m n : Managed) (now after : ℕ) (turn : Turn) (w v : Reach) → TurnSoFar t m n now after turn w v → WorksWithJobsLeadOn t.site w.site v.site
+pub ready_so_far : (t : ReachTells) (m n : Managed) (now after : ℕ) (turn : Turn) (w v : Reach) → TurnSoFar t m n now after turn w v
+    → WorksWithJobsLeadOn t.site w.site v.site
     → (H : List Event) × IsReady t.site m H w.site → (G : List Event) × IsReady t.site n G v.site
 ready_so_far t m n now after turn w v so_far leads ready =
     let it = so_far ready.0 ready.1 in
@@ -84,7 +87,8 @@ counted_ends now H [] = refl
 counted_ends now H (d ∷ before) = ap suc (counted_ends now H before)
 
 -- one number more behind those before
-numbers_on : (d : Deed) (deeds : List Deed) (o : ℕ) (rest all : List ℕ) → d.occ ≡ o → numbers_of deeds ++ o ∷ rest ≡ all → numbers_of (d ∷ deeds) ++ rest ≡ all
+numbers_on : (d : Deed) (deeds : List Deed) (o : ℕ) (rest all : List ℕ) → d.occ ≡ o → numbers_of deeds ++ o ∷ rest ≡ all
+    → numbers_of (d ∷ deeds) ++ rest ≡ all
 numbers_on d deeds o rest all own before =
     ap (λ (ns : List ℕ). ns ++ rest) (reverse-cons d.occ (map (λ d. d.occ) deeds))
     ∙ (append_assoc (numbers_of deeds) (d.occ ∷ []) rest
@@ -92,14 +96,16 @@ numbers_on d deeds o rest all own before =
 
 -- the occurrence whose turn it is stands behind those before
 its_turn : (m now after : ℕ) (H : List Event) (deeds : List Deed) (o : ℕ) → IsLegal m (once_all_done now H deeds)
-    → find (λ k. nat_lt after k) (active (once_all_done now H deeds)) ≡ Some o → numbers_of deeds ++ above after (active (once_all_done now H deeds)) ≡ active H
+    → find (λ k. nat_lt after k) (active (once_all_done now H deeds)) ≡ Some o
+    → numbers_of deeds ++ above after (active (once_all_done now H deeds)) ≡ active H
     → numbers_of deeds ++ o ∷ above o (active (once_all_done now H deeds)) ≡ active H
 its_turn m now after H deeds o legal next order =
     let G : List Event = once_all_done now H deeds in
     ap (λ (ns : List ℕ). numbers_of deeds ++ ns) (sym (first-above after (active G) o (active-rises window m G legal) next)) ∙ order
 
 -- there are few acts
-few_deeds : (now : ℕ) (H : List Event) (deeds : List Deed) (rest : List ℕ) → numbers_of deeds ++ rest ≡ active H → length (endings now H deeds) ≤ length H
+few_deeds : (now : ℕ) (H : List Event) (deeds : List Deed) (rest : List ℕ) → numbers_of deeds ++ rest ≡ active H
+    → length (endings now H deeds) ≤ length H
 few_deeds now H deeds rest order =
     let one = few_active H in
     let two : length (numbers_of deeds ++ rest) ≡ length (active H) = ap length order in
@@ -116,7 +122,8 @@ grown_long H G more is =
     omega (arith, one, two)
 
 -- one act more
-pub one_act_more : (t : ReachTells) (m n p : Managed) (now after o : ℕ) (turn counted : Turn) (done : Acted) (w u v : Reach) → TurnSoFar t m n now after turn w u
+pub one_act_more : (t : ReachTells) (m n p : Managed) (now after o : ℕ) (turn counted : Turn) (done : Acted) (w u v : Reach)
+    → TurnSoFar t m n now after turn w u
     → WorksWithJobsLeadOn t.site w.site u.site → WorksWithJobsJoin t.site w.site u.site v.site
     → ((G : List Event) → IsReady t.site n G u.site → (find (λ k. nat_lt after k) (active G) ≡ Some o) × (length G < 268435456))
     → ((G : List Event) → IsReady t.site n G u.site → (d : Deed) × (d.occ ≡ o) × Acts t (point n.ledger.manager now G) d (Ok done) p u v)
@@ -130,8 +137,10 @@ one_act_more t m n p now after o turn counted done w u v so_far leads joins next
     let did = act G upon in
     let d : Deed = did.0 in
     let number : n.ledger.manager ≡ m.ledger.manager = it.works.at_file.number in
-    let acts : Acts t (point m.ledger.manager now G) d (Ok done) p u v = subst (λ (k : ℕ). Acts t (point k now G) d (Ok done) p u v) number did.2 in
-    let order = its_turn m.ledger.manager now after H it.deeds o (subst (λ (k : ℕ). IsLegal k G) number upon.keeps.kept.legal) which.0 it.order in
+    let acts : Acts t (point m.ledger.manager now G) d (Ok done) p u v =
+    subst (λ (k : ℕ). Acts t (point k now G) d (Ok done) p u v) number did.2 in
+    let order = its_turn m.ledger.manager now after H it.deeds o (subst (λ (k : ℕ). IsLegal k G) number upon.keeps.kept.legal) which.0
+    it.order in
     let few = few_deeds now H it.deeds (o ∷ above o (active G)) order in
     let long = grown_long H G it.works.at_file.grows.to_stood.more it.works.at_file.grows.to_stood.is in
     let small = which.1 in
@@ -142,16 +151,20 @@ one_act_more t m n p now after o turn counted done w u v so_far leads joins next
       deeds_do = (around u, it.deeds_do, was_done m.ledger.manager G d done acts.tried, acts.exchanged);
       order =
           ap (λ (ns : List ℕ). numbers_of (d ∷ it.deeds) ++ ns)
-          (subst (λ (k : ℕ). above k (active (once_done now G d)) ≡ above k (active G)) did.1 (others_stay now G d.occ d.action (answered G d)))
+          (subst (λ (k : ℕ). above k (active (once_done now G d)) ≡ above k (active G)) did.1
+          (others_stay now G d.occ d.action (answered G d)))
           ∙ numbers_on d it.deeds o (above o (active G)) (active H) did.1 order;
-      counts = subst (λ (e : Acted). CountsEndings counted (e ∷ endings now H it.deeds)) end_is (counts (endings now H it.deeds) (omega (arith, few, long, small)) it.counts);
+      counts = subst (λ (e : Acted). CountsEndings counted (e ∷ endings now H it.deeds)) end_is
+          (counts (endings now H it.deeds) (omega (arith, few, long, small)) it.counts);
     }
 
 -- all acts were made
-pub went_through : (t : ReachTells) (m n : Managed) (now after : ℕ) (turn : Turn) (w v : Reach) → TurnSoFar t m n now after turn w v → WorksWithJobsLeadOn t.site w.site v.site
+pub went_through : (t : ReachTells) (m n : Managed) (now after : ℕ) (turn : Turn) (w v : Reach) → TurnSoFar t m n now after turn w v
+    → WorksWithJobsLeadOn t.site w.site v.site
     → ((G : List Event) → IsReady t.site n G v.site → find (λ k. nat_lt after k) (active G) ≡ None)
     → (H : List Event) → IsReady t.site m H w.site
-    → (deeds : List Deed) × (end : TurnEnd) × Turns t (point m.ledger.manager now H) deeds end n w v × EndsTurn (Ok turn) (endings now H deeds) end
+    → (deeds : List Deed) × (end : TurnEnd) × Turns t (point m.ledger.manager now H) deeds end n w v
+    × EndsTurn (Ok turn) (endings now H deeds) end
 went_through t m n now after turn w v so_far leads none H ready =
     let it = so_far H ready in
     let G : List Event = once_all_done now H it.deeds in
@@ -172,12 +185,14 @@ went_through t m n now after turn w v so_far leads none H ready =
       nil_right (n ∷ ns) = ap (λ (ks : List ℕ). n ∷ ks) (nil_right ns)
 
 -- an act ended in a fault
-pub was_stopped : (t : ReachTells) (m n p : Managed) (now after o : ℕ) (turn : Turn) (why : WorkFault) (w u v : Reach) → TurnSoFar t m n now after turn w u
+pub was_stopped : (t : ReachTells) (m n p : Managed) (now after o : ℕ) (turn : Turn) (why : WorkFault) (w u v : Reach)
+    → TurnSoFar t m n now after turn w u
     → WorksWithJobsLeadOn t.site w.site u.site → WorksWithJobsJoin t.site w.site u.site v.site
     → ((G : List Event) → IsReady t.site n G u.site → find (λ k. nat_lt after k) (active G) ≡ Some o)
     → ((G : List Event) → IsReady t.site n G u.site → (d : Deed) × (d.occ ≡ o) × Acts t (point n.ledger.manager now G) d (Err why) p u v)
     → (H : List Event) → IsReady t.site m H w.site
-    → (deeds : List Deed) × (end : TurnEnd) × Turns t (point m.ledger.manager now H) deeds end p w v × EndsTurn (Err why) (endings now H deeds) end
+    → (deeds : List Deed) × (end : TurnEnd) × Turns t (point m.ledger.manager now H) deeds end p w v
+    × EndsTurn (Err why) (endings now H deeds) end
 was_stopped t m n p now after o turn why w u v so_far leads joins next act H ready =
     let it = so_far H ready in
     let G : List Event = once_all_done now H it.deeds in
@@ -185,8 +200,10 @@ was_stopped t m n p now after o turn why w u v so_far leads joins next act H rea
     let did = act G upon in
     let d : Deed = did.0 in
     let number : n.ledger.manager ≡ m.ledger.manager = it.works.at_file.number in
-    let acts : Acts t (point m.ledger.manager now G) d (Err why) p u v = subst (λ (k : ℕ). Acts t (point k now G) d (Err why) p u v) number did.2 in
-    let order = its_turn m.ledger.manager now after H it.deeds o (subst (λ (k : ℕ). IsLegal k G) number upon.keeps.kept.legal) (next G upon) it.order in (
+    let acts : Acts t (point m.ledger.manager now G) d (Err why) p u v =
+    subst (λ (k : ℕ). Acts t (point k now G) d (Err why) p u v) number did.2 in
+    let order = its_turn m.ledger.manager now after H it.deeds o (subst (λ (k : ℕ). IsLegal k G) number upon.keeps.kept.legal)
+    (next G upon) it.order in (
       it.deeds,
       stopped d why,
       record {

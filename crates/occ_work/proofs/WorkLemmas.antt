@@ -1,5 +1,6 @@
 -- The work of the attempt that an occurrence begins next, by its row.
-use Rattle.std.proofs.Common.{◌≡◌, ◌∙◌, ℕ, List, [], Bool, true, false, cond, Option, None, Some, is_some, refl, ap, sym, subst, arith, length, filter, option_map, slice_get, ◌∷◌}
+use Rattle.std.proofs.Common.{◌≡◌, ◌∙◌, ℕ, List, [], Bool, true, false, cond, Option, None, Some, is_some, refl, ap, sym, subst, arith}
+use Rattle.std.proofs.Common.{length, filter, option_map, slice_get, ◌∷◌}
 use Rattle.std.specs.Prelude.{option_and_then}
 use Rattle.change_planner.specs.Tags.{IsOfAttempt}
 use Rattle.instance_table.specs.Rows.{instance}
@@ -64,7 +65,8 @@ pub record Begins (m : ℕ) (H : List Event) (t : Tag) : Type 0 where
   pub opened : is_open (record { moment = 0; kind = Intent t } ∷ H) t ≡ true
 
 -- an attempt that is the next action begins
-pub begins_next : NextActionsAreAllowed → AttemptsStandBehindGrants → (m : ℕ) (H : List Event) (t : Tag) → IsLegalWithin window m H → IsActive H t.occ
+pub begins_next : NextActionsAreAllowed → AttemptsStandBehindGrants → (m : ℕ) (H : List Event) (t : Tag) → IsLegalWithin window m H
+    → IsActive H t.occ
     → next_action H t.occ ≡ Some (Begin t) → Begins m H t
 begins_next allows behind m H t legal is next =
     let onward = allows window m H (omega arith) legal t.occ 0 (Begin t) BeginTaken (active_asked H t.occ is) next tt in
@@ -76,21 +78,25 @@ turned H t None turn = absurd turn
 turned H t (Some x) turn = refl
 
 -- its change is in the row
-pub begun_change : (m : ℕ) (H : List Event) (t : Tag) (r : OccRow) → Begins m H t → occurrence H t.occ ≡ Some r → slice_get r.changes t.change ≡ None → ⊥
+pub begun_change : (m : ℕ) (H : List Event) (t : Tag) (r : OccRow) → Begins m H t → occurrence H t.occ ≡ Some r
+    → slice_get r.changes t.change ≡ None → ⊥
 begun_change m H t r begins found none =
     let there : is_some (slice_get (changes H t.occ) t.change) ≡ true = turned H t (change_of H t) begins.allowed.turn in
-    let here : is_some (slice_get r.changes t.change) ≡ true = subst (λ (xs : List Change). is_some (slice_get xs t.change) ≡ true) (changes_of_row H t.occ r found) there in
+    let here : is_some (slice_get r.changes t.change) ≡ true = subst (λ (xs : List Change). is_some (slice_get xs t.change) ≡ true)
+    (changes_of_row H t.occ r found) there in
     let clash : true ≡ false = sym here ∙ ap is_some none in
     cc
 
 -- a place of a grant is kept until the occurrence is over
 place_kept : (g : Option GivenGrant) (over : Bool) (c : ℕ) → over ≡ false
-    → option_and_then (λ (k : Grant). place_at k.places k.spots c) (option_map (kept_grant over) g) ≡ option_and_then (λ (k : GivenGrant). place_at k.places k.spots c) g
+    → option_and_then (λ (k : Grant). place_at k.places k.spots c) (option_map (kept_grant over) g)
+    ≡ option_and_then (λ (k : GivenGrant). place_at k.places k.spots c) g
 place_kept None over c on = refl
 place_kept (Some g) over c on = rw on refl
 
 -- the place by the row is the one that was granted
-pub granted_by_row : (H : List Event) (o : ℕ) (r : OccRow) (c : ℕ) → IsActive H o → occurrence H o ≡ Some r → place_by c r ≡ granted_place H o c
+pub granted_by_row : (H : List Event) (o : ℕ) (r : OccRow) (c : ℕ) → IsActive H o → occurrence H o ≡ Some r
+    → place_by c r ≡ granted_place H o c
 granted_by_row H o r c is found =
     let mine = found_row H o r found in
     let on : is_over H mine.0.occ ≡ false = ap (λ (n : ℕ). is_final (state H n)) mine.2 ∙ active_on H o is in
@@ -99,7 +105,8 @@ granted_by_row H o r c is found =
     ∙ (sym (place_grant H mine.0.occ c) ∙ ap (λ (n : ℕ). granted_place H n c) mine.2))
 
 -- the change has a place
-pub begun_place : GrantedChangesHavePlaces → (m : ℕ) (H : List Event) (t : Tag) (r : OccRow) (k : Change) → Begins m H t → occurrence H t.occ ≡ Some r → slice_get r.changes t.change ≡ Some k
+pub begun_place : GrantedChangesHavePlaces → (m : ℕ) (H : List Event) (t : Tag) (r : OccRow) (k : Change) → Begins m H t
+    → occurrence H t.occ ≡ Some r → slice_get r.changes t.change ≡ Some k
     → place_by t.change r ≡ None → ⊥
 begun_place placed m H t r k begins found at none =
     let within = some_within r.changes t.change k at in
@@ -111,8 +118,10 @@ begun_place placed m H t r k begins found at none =
       lost (Some x) some e = cc
 
 -- and an attempt at that change may begin over the descriptor and the holding of the row
-pub of_attempt : RowsHaveHoldings → (m : ℕ) (H : List Event) (t : Tag) (r : OccRow) (x : InstanceRow) (d : Vnfd) (k : Change) → Begins m H t → occurrence H t.occ ≡ Some r
-    → instance H r.instance ≡ Some x → descriptor_named H x.vnfd ≡ Some d → slice_get r.changes t.change ≡ Some k → IsOfAttempt d x.holding k H t
+pub of_attempt : RowsHaveHoldings → (m : ℕ) (H : List Event) (t : Tag) (r : OccRow) (x : InstanceRow) (d : Vnfd) (k : Change) → Begins m H t
+    → occurrence H t.occ ≡ Some r
+    → instance H r.instance ≡ Some x → descriptor_named H x.vnfd ≡ Some d → slice_get r.changes t.change ≡ Some k
+    → IsOfAttempt d x.holding k H t
 of_attempt held m H t r x d k begins found live named at =
     let mine = found_row H t.occ r found in
     let a : Operation = mine.0 in
@@ -145,7 +154,8 @@ placed_known (Some name) None some = refl
 placed_known (Some name) (Some at) some = refl
 
 -- what an undo is about has a place
-undone_place : WorkFitsWhatStands → WhatStandsHasAPlace → ItemsFollowWhatIsDone → OtherEventsLeavePlaces → (m : ℕ) (H : List Event) (t : Tag) (a : Operation) (k : Change) (d : Vnfd)
+undone_place : WorkFitsWhatStands → WhatStandsHasAPlace → ItemsFollowWhatIsDone → OtherEventsLeavePlaces
+    → (m : ℕ) (H : List Event) (t : Tag) (a : Operation) (k : Change) (d : Vnfd)
     → Begins m H t → t.way ≡ Undo → operation H t.occ ≡ Some a → slice_get a.changes t.change ≡ Some k → descriptor H a.instance ≡ Some d
     → is_some (place H a.instance k.def) ≡ true
 undone_place fits stand follows leaves m H t a k d begins back found at described = by (verb_done t.way k.verb) refl where
@@ -161,8 +171,10 @@ undone_place fits stand follows leaves m H t a k d begins back found at describe
   made_anew : verb_done t.way k.verb ≡ Create → is_some (place H a.instance k.def) ≡ true
   made_anew makes =
       let followed = follows window m G 0 t [] a k d (begins.allowed, begins.legal) begins.opened found at described in
-      let there : is_some (place_made G t Undo a.instance k.def) ≡ true = subst (λ (w : Way). is_some (place_made G t w a.instance k.def) ≡ true) back (followed.placed makes) in
-      subst (λ (p : Option Place). is_some p ≡ true) (leaves window m H 0 (Intent t) a.instance k.def begins.legal begins.allowed refl) there
+      let there : is_some (place_made G t Undo a.instance k.def) ≡ true =
+      subst (λ (w : Way). is_some (place_made G t w a.instance k.def) ≡ true) back (followed.placed makes) in
+      subst (λ (p : Option Place). is_some p ≡ true) (leaves window m H 0 (Intent t) a.instance k.def begins.legal begins.allowed refl)
+      there
 
   by : (v : Verb) → verb_done t.way k.verb ≡ v → is_some (place H a.instance k.def) ≡ true
   by Create is = made_anew is
@@ -171,9 +183,11 @@ undone_place fits stand follows leaves m H t a k d begins back found at describe
   by Stop is = standing Stop is (λ e. cc)
 
 -- and what is known of it tells that place
-pub undone_known : WorkFitsWhatStands → WhatStandsHasAPlace → ItemsFollowWhatIsDone → OtherEventsLeavePlaces → (m : ℕ) (H : List Event) (t : Tag) (d : Vnfd) (h : Holding) (k : Change)
+pub undone_known : WorkFitsWhatStands → WhatStandsHasAPlace → ItemsFollowWhatIsDone → OtherEventsLeavePlaces
+    → (m : ℕ) (H : List Event) (t : Tag) (d : Vnfd) (h : Holding) (k : Change)
     → Begins m H t → t.way ≡ Undo → (s : IsOfAttempt d h k H t)
-    → (option_map (λ (u : Used). u.place) (known H s.asked.instance k.def) ≡ place H s.asked.instance k.def) × (is_some (place H s.asked.instance k.def) ≡ true)
+    → (option_map (λ (u : Used). u.place) (known H s.asked.instance k.def) ≡ place H s.asked.instance k.def)
+    × (is_some (place H s.asked.instance k.def) ≡ true)
 undone_known fits stand follows leaves m H t d h k begins back s =
     let there = undone_place fits stand follows leaves m H t s.asked k d begins back s.found s.change s.described in (
       placed_known (resource H s.asked.instance k.def) (place H s.asked.instance k.def)
@@ -182,7 +196,8 @@ undone_known fits stand follows leaves m H t d h k begins back s =
     )
 
 -- the instance of an attempt that begins is that of the row
-pub its_instance : (H : List Event) (t : Tag) (r : OccRow) (d : Vnfd) (h : Holding) (k : Change) → occurrence H t.occ ≡ Some r → (s : IsOfAttempt d h k H t) → s.asked.instance ≡ r.instance
+pub its_instance : (H : List Event) (t : Tag) (r : OccRow) (d : Vnfd) (h : Holding) (k : Change) → occurrence H t.occ ≡ Some r
+    → (s : IsOfAttempt d h k H t) → s.asked.instance ≡ r.instance
 its_instance H t r d h k found s =
     let mine = found_row H t.occ r found in
     let both : Some s.asked ≡ Some mine.0 = sym s.found ∙ mine.1 in
@@ -194,13 +209,15 @@ needed_known : (H : List Event) (i : ℕ) (x : Def) → is_needed H i x ≡ true
 needed_known H i x need = ap (λ (n : Bool). cond n (known H i x) None) need
 
 -- so that what the table keeps of the definition is where it stands, or stood last
-pub undone_at : WorkFitsWhatStands → WorkIsOnWhatIsNeeded → WhatStandsHasAPlace → ItemsFollowWhatIsDone → OtherEventsLeavePlaces → (m : ℕ) (H : List Event) (t : Tag) (r : OccRow) (d : Vnfd)
+pub undone_at : WorkFitsWhatStands → WorkIsOnWhatIsNeeded → WhatStandsHasAPlace → ItemsFollowWhatIsDone → OtherEventsLeavePlaces
+    → (m : ℕ) (H : List Event) (t : Tag) (r : OccRow) (d : Vnfd)
     (h : Holding) (k : Change) (x : Option Place) → Begins m H t → t.way ≡ Undo → occurrence H t.occ ≡ Some r → (s : IsOfAttempt d h k H t)
     → x ≡ option_map (λ (u : Used). u.place) (needed H r.instance k.def) → (x ≡ place H s.asked.instance k.def) × (is_some x ≡ true)
 undone_at fits needs stand follows leaves m H t r d h k x begins back found s is =
     let own = undone_known fits stand follows leaves m H t d h k begins back s in
     let need : is_needed H s.asked.instance k.def ≡ true =
-    needs window m H t begins.legal begins.allowed s.asked k s.found s.change (λ forward makes. let clash : Undo ≡ Forward = sym back ∙ forward in cc) in
+    needs window m H t begins.legal begins.allowed s.asked k s.found s.change
+    (λ forward makes. let clash : Undo ≡ Forward = sym back ∙ forward in cc) in
     let same : x ≡ place H s.asked.instance k.def =
     is ∙ (ap (λ (i : ℕ). option_map (λ (u : Used). u.place) (needed H i k.def)) (sym (its_instance H t r d h k found s))
     ∙ (ap (λ (u : Option Used). option_map (λ (v : Used). v.place) u) (needed_known H s.asked.instance k.def need) ∙ own.0)) in

@@ -2,7 +2,8 @@
 use Rattle.std.specs.Prelude.{List, [], ◌∷◌, ◌≡◌}
 use Rattle.lcm_events.specs.declared.attempts.Tag.{Tag}
 use Rattle.site_traits.specs.Counts.{CallCounts, SiteCounts, abort_counts, begin_counts, look_counts, one_more}
-use Rattle.site_traits.specs.Jobs.{Advances, Answered, BeginsAs, Job, LooksAs, abort_answered, begin_answered, look_answered}
+use Rattle.site_traits.specs.Jobs.{Advances, Answered, BeginsAs, Job, LooksAs, abort_answered, begin_answered}
+use Rattle.site_traits.specs.Jobs.{look_answered}
 use Rattle.site_traits.specs.Peers.{Asks, CallCause, OrchestratorState, Polls}
 use Rattle.site_traits.specs.Site.{SiteState}
 use Rattle.site_traits.specs.declared.jobs.AbortAnswer.{AbortAnswer}
@@ -41,13 +42,23 @@ telling site orchestrator = record { site = site; orchestrator = orchestrator }
 
 -- these objects outside
 abbrev pub reach : SiteState → SiteCounts → OrchestratorState → CallCounts → Reach
-reach site counts state calls = record { site = site; counts = counts; orchestrator = record { state = state; counts = calls } }
+reach site counts state calls = record {
+  site = site;
+  counts = counts;
+  orchestrator =
+      record { state = state; counts = calls };
+}
 
 -- what is beside the journal of it
 abbrev pub around : Reach → Around
-around w = record { orchestrator = w.orchestrator; infrastructure = record { jobs = w.site.jobs; answers = w.site.answers; counts = w.counts } }
+around w = record {
+  orchestrator = w.orchestrator;
+  infrastructure =
+      record { jobs = w.site.jobs; answers = w.site.answers; counts = w.counts };
+}
 
--- what an exchange does to what the orchestrator tells: nothing, or what a call does that ended so (SOL 003 9.4.2, 9.4.3)
+-- what an exchange does to what the orchestrator tells: nothing, or what a call does that ended so (SOL 003 9.4.2,
+-- 9.4.3)
 abbrev pub Exchanges : Exchange → OrchestratorState → OrchestratorState → Type 0
 Exchanges (asked body ended heard) a b = Asks body heard ended a b
 Exchanges (polled at ended heard) a b = Polls at heard ended a b
@@ -59,8 +70,8 @@ Counts (asked body ended heard) a b = CallCause ended a b
 Counts (polled at ended heard) a b = CallCause ended a b
 Counts other a b = b ≡ a
 
--- What an exchange does to the jobs: a begin puts its job, or doesn't, by the answer; a look tells how its job stands; beside that running jobs
--- may end by themselves (own rule).
+-- What an exchange does to the jobs: a begin puts its job, or doesn't, by the answer; a look tells how its job stands;
+-- beside that running jobs may end by themselves (own rule).
 abbrev pub JobsDo : Exchange → List Job → List Job → Type 0
 JobsDo (began t work answer) before after = BeginsAs t work answer before after
 JobsDo (looked t answer) before after = Advances before after × LooksAs t answer before after

@@ -35,9 +35,10 @@ IsWithoutPeer (asked body ended heard) = ⊥
 IsWithoutPeer (polled at ended heard) = ⊥
 IsWithoutPeer x = Unit {0}
 
--- The deed was tried at this point of a manager, which is now n, with the infrastructure alone: its exchange was made and no
--- other, what that appends was recorded, and the answer says so.
-pub record Attempts (tells : Type 0) (p : Point) (d : Deed) (result : Result Acted WorkFault) (n : Managed) (a b : SiteShown) : Type 0 where
+-- The deed was tried at this point of a manager, which is now n, with the infrastructure alone: its exchange was made
+-- and no other, what that appends was recorded, and the answer says so.
+pub record Attempts (tells : Type 0) (p : Point) (d : Deed) (result : Result Acted WorkFault) (n : Managed)
+    (a b : SiteShown) : Type 0 where
   pub tried : IsTried p.manager p.history d result
   pub alone : IsWithoutPeer d.exchange
   pub handled : Handles tells d.exchange (infrastructure a.state a.counts) (infrastructure b.state b.counts)
@@ -57,7 +58,9 @@ is_of_attempt (CallFailed t) = true
 is_of_attempt (Settled t outcome) = true
 is_of_attempt _ = false
 
--- Events of these kinds, one or none, were to be put at this point of a manager, which is now n, without memory, and that ended so.
-pub record Puts (tells : Type 0) (p : Point) (kinds : List EventKind) (result : Result Acted WorkFault) (n : Managed) (a b : SiteState) : Type 0 where
+-- Events of these kinds, one or none, were to be put at this point of a manager, which is now n, without memory, and
+-- that ended so.
+pub record Puts (tells : Type 0) (p : Point) (kinds : List EventKind) (result : Result Acted WorkFault) (n : Managed)
+    (a b : SiteState) : Type 0 where
   pub at_file : WorksAtFile tells p.manager p.history (recording p.moment kinds p.history result) n a b
   pub room : TellsRoomFor p.moment kinds p.history result

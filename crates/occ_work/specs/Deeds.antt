@@ -1,5 +1,5 @@
--- What is done for an occurrence at one time: its next action, what is exchanged with the orchestrator or the infrastructure, and what that
--- appends (own rule over SOL 003 5.6.2, 9.4.2, Grants, and 9.4.3, Individual grant).
+-- What is done for an occurrence at one time: its next action, what is exchanged with the orchestrator or the
+-- infrastructure, and what that appends (own rule over SOL 003 5.6.2, 9.4.2, Grants, and 9.4.3, Individual grant).
 use Rattle.std.specs.Prelude.{Bool, List, map, Some, false, if◌then◌else◌, true, ℕ, ◌≡◌, ◌⊎◌, Result, Err}
 use Rattle.change_planner.specs.Tags.{act_of}
 use Rattle.executor.specs.declared.manager.WorkFault.{WorkFault}
@@ -15,7 +15,9 @@ use Rattle.lcm_events.specs.declared.events.EventKind.{EventKind}
 use Rattle.lcm_laws.specs.Acting.{with_events}
 use Rattle.lcm_model.specs.Attempts.{open_of}
 use Rattle.lcm_model.specs.Grants.{covers, granted_places, granted_spots, location}
-use Rattle.lcm_model.specs.Next.{Answer, BeginFailed, BeginRefused, BeginTaken, GrantCame, GrantDenied, GrantLater, GrantMissesSome, GrantTrouble, LookFailed, LookedAbsent, LookedAborted, LookedBroken, LookedDone, LookedRunning, appended, next_action}
+use Rattle.lcm_model.specs.Next.{Answer, BeginFailed, BeginRefused, BeginTaken, GrantCame, GrantDenied, GrantLater}
+use Rattle.lcm_model.specs.Next.{GrantMissesSome, GrantTrouble, LookFailed, LookedAbsent, LookedAborted, LookedBroken}
+use Rattle.lcm_model.specs.Next.{LookedDone, LookedRunning, appended, next_action}
 use Rattle.lcm_model.specs.Operations.{changes}
 use Rattle.lcm_model.specs.declared.actions.Action.{Action}
 use Rattle.lcm_model.specs.declared.actions.Action.TheVariants.{AbortAndLook, AskForGrant, Begin, Look, MoveTo, Poll}
@@ -40,9 +42,9 @@ pub record Point : Type 0 where
 abbrev pub point : ℕ → ℕ → List Event → Point
 point m now H = record { manager = m; moment = now; history = H }
 
--- What was exchanged: nothing; with the orchestrator, a grant request with this body, or a poll of this location, how the call ended and what
--- was heard; with the infrastructure, the begin of an attempt's job with this work, a look at an attempt's job, or aborts of attempts' jobs,
--- the latest first, and then a look at one, and what was answered.
+-- What was exchanged: nothing; with the orchestrator, a grant request with this body, or a poll of this location, how
+-- the call ended and what was heard; with the infrastructure, the begin of an attempt's job with this work, a look at
+-- an attempt's job, or aborts of attempts' jobs, the latest first, and then a look at one, and what was answered.
 pub data Exchange : Type 0 where
   nothing : Exchange
   asked : List ℕ → Call → Heard → Exchange
@@ -61,13 +63,15 @@ pub record Deed : Type 0 where
 abbrev pub answer_with : List Change → GrantAnswer → Answer
 answer_with xs (says.Granted rows) =
     if covers xs rows.add rows.remove rows.update
-    then GrantCame rows.grant (granted_places xs rows.add rows.remove rows.update) (granted_spots xs rows.add rows.remove rows.update)
+    then GrantCame rows.grant (granted_places xs rows.add rows.remove rows.update)
+    (granted_spots xs rows.add rows.remove rows.update)
     else GrantMissesSome
 answer_with xs (says.Later at) = GrantLater at
 answer_with xs says.Denied = GrantDenied
 answer_with xs says.Trouble = GrantTrouble
 
--- what was answered to an ask, or else to a poll, for these changes: a call that failed is trouble (SOL 003 9.4.2, 9.4.3)
+-- what was answered to an ask, or else to a poll, for these changes: a call that failed is trouble (SOL 003 9.4.2,
+-- 9.4.3)
 abbrev pub answer_heard : Bool → List Change → Call → Heard → Answer
 answer_heard asking xs call.Came heard = answer_with xs (answer_of asking heard)
 answer_heard asking xs call.Failed heard = GrantTrouble
@@ -87,8 +91,8 @@ answer_looked (look.Broken code) = LookedBroken code
 answer_looked look.Aborted = LookedAborted
 answer_looked look.Failed = LookFailed
 
--- What was answered in an exchange, for these changes. Where there was none, all that there is to record is that an attempt is to begin, which is
--- recorded before the infrastructure is asked.
+-- What was answered in an exchange, for these changes. Where there was none, all that there is to record is that an
+-- attempt is to begin, which is recorded before the infrastructure is asked.
 abbrev pub answer_in : List Change → Exchange → Answer
 answer_in xs nothing = BeginTaken
 answer_in xs (asked body ended heard) = answer_heard true xs ended heard
@@ -97,10 +101,10 @@ answer_in xs (began t work answer) = answer_begun answer
 answer_in xs (looked t answer) = answer_looked answer
 answer_in xs (aborted aborts t answer) = answer_looked answer
 
--- The exchange is that of the action of occurrence o, over history H of manager m: an ask has the body of its grant request, a poll the
--- location that was told, a begin its attempt with the work that the history gives it, a look the attempt; and aborts are of all attempts of
--- the occurrence that are open, one each, in the order of their intents, behind which the first of them is looked at (SOL 003 9.4.2, 9.4.3;
--- own rule).
+-- The exchange is that of the action of occurrence o, over history H of manager m: an ask has the body of its grant
+-- request, a poll the location that was told, a begin its attempt with the work that the history gives it, a look the
+-- attempt; and aborts are of all attempts of the occurrence that are open, one each, in the order of their intents,
+-- behind which the first of them is looked at (SOL 003 9.4.2, 9.4.3; own rule).
 abbrev pub IsExchangeOf : ℕ → List Event → ℕ → Action → Exchange → Type 0
 IsExchangeOf m H o AskForGrant (asked body ended heard) = grant_request m H o ≡ Some body
 IsExchangeOf m H o Poll (polled at ended heard) = location H o ≡ Some at
@@ -122,8 +126,8 @@ kinds_of H d = appended d.occ d.action (answered H d)
 abbrev pub once_done : ℕ → List Event → Deed → List Event
 once_done now H d = with_events now (kinds_of H d) H
 
--- how an act ends by what was answered: it waits where a poll is told that the grant comes later still or a look that the attempt runs, and
--- nobody was reached where a look failed; else events were recorded (own rule)
+-- how an act ends by what was answered: it waits where a poll is told that the grant comes later still or a look that
+-- the attempt runs, and nobody was reached where a look failed; else events were recorded (own rule)
 abbrev pub ending : Action → Answer → Acted
 ending Poll (GrantLater at) = Waiting
 ending (Look t) LookedRunning = Waiting
@@ -137,14 +141,15 @@ pub record IsDeed (m : ℕ) (H : List Event) (d : Deed) : Type 0 where
   pub next : next_action H d.occ ≡ Some d.action
   pub exchange : IsExchangeOf m H d.occ d.action d.exchange
 
--- why nothing was exchanged for an action: a begin wasn't asked for, since its intent isn't safe; or there was no memory
+-- why nothing was exchanged for an action: a begin wasn't asked for, since its intent isn't safe; or there was no
+-- memory
 abbrev pub IsUnexchanged : Action → Exchange → Result Acted WorkFault → Type 0
 IsUnexchanged (Begin t) nothing (Err why) = Unit {0}
 IsUnexchanged action nothing (Err fault.Memory) = Unit {0}
 IsUnexchanged action x result = ⊥
 
--- How an act may end behind its exchange: a begin that was taken has nothing left to record, and no memory is taken behind a call of the
--- infrastructure.
+-- How an act may end behind its exchange: a begin that was taken has nothing left to record, and no memory is taken
+-- behind a call of the infrastructure.
 abbrev pub MayEnd : Exchange → Result Acted WorkFault → Type 0
 MayEnd (began t work begin.Begun) (Err why) = ⊥
 MayEnd (began t work answer) (Err fault.Memory) = ⊥

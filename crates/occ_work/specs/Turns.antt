@@ -1,4 +1,5 @@
--- What a turn does: one act for each occurrence that is active when it begins, in the order of their numbers (own rule over SOL 003 5.6.2).
+-- What a turn does: one act for each occurrence that is active when it begins, in the order of their numbers (own rule
+-- over SOL 003 5.6.2).
 use Rattle.std.specs.Prelude.{List, [], filter, map, nat_lt, reverse, ℕ, ◌++◌, ◌∷◌, ◌≡◌, Result, Ok, Err}
 use Rattle.executor.specs.Managed.{Managed}
 use Rattle.executor.specs.Work.{Work, WorksWithJobs, went}
@@ -21,8 +22,8 @@ abbrev pub once_all_done : ℕ → List Event → List Deed → List Event
 once_all_done now H [] = H
 once_all_done now H (d ∷ before) = once_done now (once_all_done now H before) d
 
--- the deeds were done with the orchestrator and the infrastructure, the latest first, each over the history that those before it left, and
--- from where they ended
+-- the deeds were done with the orchestrator and the infrastructure, the latest first, each over the history that those
+-- before it left, and from where they ended
 abbrev pub DeedsDo : ReachTells → ℕ → ℕ → List Event → List Deed → Around → Around → Type 0
 DeedsDo t m now H [] a b = b ≡ a
 DeedsDo t m now H (d ∷ before) a c =
@@ -50,7 +51,8 @@ turn_work now H deeds end = end_work now (once_all_done now H deeds) end
 -- what the end of a turn does with the orchestrator and the infrastructure, and tells of the room in the journal
 abbrev pub EndDoes : ReachTells → ℕ → ℕ → List Event → TurnEnd → Around → Around → Type 0
 EndDoes t m now H through a b = b ≡ a
-EndDoes t m now H (stopped d why) a b = IsTried m H d (Err why) × Exchanged t d.exchange a b × TellsRoomFor now (kinds_of H d) H (Err why)
+EndDoes t m now H (stopped d why) a b = IsTried m H d (Err why) × Exchanged t d.exchange a b
+    × TellsRoomFor now (kinds_of H d) H (Err why)
 
 -- these are the numbers of occurrences for which acts were made, the least first
 abbrev pub numbers_tried : List Deed → TurnEnd → List ℕ
@@ -68,9 +70,10 @@ EndsTurn (Ok turn) ends through = CountsEndings turn ends
 EndsTurn (Err why) ends (stopped d cause) = why ≡ cause
 EndsTurn _ ends _ = ⊥
 
--- These deeds were done from this point of a manager on, which is now n, the latest first, and the turn ended so: for the occurrences that are
--- active there, in order, each behind what those before it left.
-pub record Turns (t : ReachTells) (p : Point) (deeds : List Deed) (end : TurnEnd) (n : Managed) (w v : Reach) : Type 0 where
+-- These deeds were done from this point of a manager on, which is now n, the latest first, and the turn ended so: for
+-- the occurrences that are active there, in order, each behind what those before it left.
+pub record Turns (t : ReachTells) (p : Point) (deeds : List Deed) (end : TurnEnd) (n : Managed)
+    (w v : Reach) : Type 0 where
   pub works : WorksWithJobs t.site p.manager p.history (turn_work p.moment p.history deeds end) n w.site v.site
   pub between : Around
   pub deeds_do : DeedsDo t p.manager p.moment p.history deeds (around w) between

@@ -1,5 +1,5 @@
-//! The next action of an occurrence: an event, or a call of the orchestrator or the infrastructure and the events that its answer appends. A
-//! grant is asked for before anything is moved on, and is on the disk before the move.
+//! The next action of an occurrence: an event, or a call of the orchestrator or the infrastructure and the events that
+//! its answer appends. A grant is asked for before anything is moved on, and is on the disk before the move.
 ghost use Rattle.std.specs.Prelude.{◌≡◌, ◌≢◌, ℕ, List, Err, Some};
 ghost use Rattle.executor.specs.Managed.{IsReady};
 ghost use Rattle.lcm_events.specs.declared.events.Event.{Event};
@@ -21,18 +21,20 @@ use site_traits::{Heard, Orchestrator, Site};
 use std::alloc::Global;
 use vnfm_base::Moment;
 
-/// Does the next action of an occurrence, and no other call: the occurrence is moved on, its grant is asked for, the location is polled that was
-/// told for it, an attempt at a change is begun, which makes or undoes it, or the job of one is looked at, after a FORCEFUL cancel once it was
-/// aborted.
+/// Does the next action of an occurrence, and no other call: the occurrence is moved on, its grant is asked for, the
+/// location is polled that was told for it, an attempt at a change is begun, which makes or undoes it, or the job of
+/// one is looked at, after a FORCEFUL cancel once it was aborted.
 ///
 /// State: needs STARTING, PROCESSING or ROLLING_BACK, and a manager that isn't closed and whose file has its history.
-/// Refusals: `Memory`; `Full {end, more}` (bytes), exactly where the spelling of the event that is recorded next and the file's end say so;
-/// `Disk`; never `TooLong`. After `Memory` nothing was recorded, and the infrastructure wasn't called, but the grant may have been asked for or
-/// polled, and is again by the next act. After `Full` an intent that was recorded stands, and so does the call behind it; an answer that was
-/// heard and not recorded is lost. After `Disk` the manager is closed: load the journal again.
-/// At each moment a stop leaves a history that begins with that at the start, and where the jobs were sound with it, sound ones.
-/// Source: SOL 003 5.6.2 (States and state transitions of a VNF LCM operation occurrence), 5.4.17 (Cancel operation task), 9.4.2 (Grants),
-/// 9.4.3 (Individual grant); the order of actions is an own rule.
+/// Refusals: `Memory`; `Full {end, more}` (bytes), exactly where the spelling of the event that is recorded next and
+/// the file's end say so;
+/// `Disk`; never `TooLong`. After `Memory` nothing was recorded, and the infrastructure wasn't called, but the grant
+/// may have been asked for or polled, and is again by the next act. After `Full` an intent that was recorded stands,
+/// and so does the call behind it; an answer that was heard and not recorded is lost. After `Disk` the manager is
+/// closed: load the journal again. At each moment a stop leaves a history that begins with that at the start, and where
+/// the jobs were sound with it, sound ones. Source: SOL 003 5.6.2 (States and state transitions of a VNF LCM operation
+/// occurrence), 5.4.17 (Cancel operation task), 9.4.2 (Grants), 9.4.3 (Individual grant); the order of actions is an
+/// own rule.
 pub fn act<S: Site, O: Orchestrator>(
     alloc: Global,
     manager: &mut Manager<S>,
@@ -43,8 +45,10 @@ pub fn act<S: Site, O: Orchestrator>(
 ) -> Result<Acted, WorkFault>
     requires ready { (H : List Event) × IsReady S.tells manager.old H (S.state site.old) × IsActive H occ }
     ensures acts { (H : List Event) → IsReady S.tells manager.old H (S.state site.old) → IsActive H occ
-        → (d : Deed) × (d.occ ≡ occ) × Acts (telling S.tells O.tells) (point manager.old.ledger.manager now H) d result manager.new
-        (reach (S.state site.old) (S.counts site.old) (O.state orchestrator.old) (O.counts orchestrator.old)) (reach (S.state site.new) (S.counts site.new) (O.state orchestrator.new) (O.counts orchestrator.new)) }
+        → (d : Deed) × (d.occ ≡ occ) × Acts (telling S.tells O.tells)
+        (point manager.old.ledger.manager now H) d result manager.new
+        (reach (S.state site.old) (S.counts site.old) (O.state orchestrator.old) (O.counts orchestrator.old))
+        (reach (S.state site.new) (S.counts site.new) (O.state orchestrator.new) (O.counts orchestrator.new)) }
     ensures short { (n : ℕ) → result ≢ Err (WorkFault.TooLong n) }
     ensures disk { DiskFails (result ≡ Err WorkFault.Disk) (S.counts site.old) (S.counts site.new) }
 {
@@ -67,10 +71,14 @@ fn ask<S: Site, O: Orchestrator>(
     orchestrator: &mut O,
     now: Moment,
 ) -> Result<Acted, WorkFault>
-    requires ready { (H : List Event) × IsReady S.tells manager.old H (S.state site.old) × IsActive H occ × (next_action H occ ≡ Some actions.AskForGrant) }
-    ensures acts { (H : List Event) → IsReady S.tells manager.old H (S.state site.old) → IsActive H occ → next_action H occ ≡ Some actions.AskForGrant
-        → (d : Deed) × (d.occ ≡ occ) × Acts (telling S.tells O.tells) (point manager.old.ledger.manager now H) d result manager.new
-        (reach (S.state site.old) (S.counts site.old) (O.state orchestrator.old) (O.counts orchestrator.old)) (reach (S.state site.new) (S.counts site.new) (O.state orchestrator.new) (O.counts orchestrator.new)) }
+    requires ready { (H : List Event) × IsReady S.tells manager.old H (S.state site.old) × IsActive H occ
+        × (next_action H occ ≡ Some actions.AskForGrant) }
+    ensures acts { (H : List Event) → IsReady S.tells manager.old H (S.state site.old) → IsActive H occ
+        → next_action H occ ≡ Some actions.AskForGrant
+        → (d : Deed) × (d.occ ≡ occ) × Acts (telling S.tells O.tells)
+        (point manager.old.ledger.manager now H) d result manager.new
+        (reach (S.state site.old) (S.counts site.old) (O.state orchestrator.old) (O.counts orchestrator.old))
+        (reach (S.state site.new) (S.counts site.new) (O.state orchestrator.new) (O.counts orchestrator.new)) }
     ensures short { (n : ℕ) → result ≢ Err (WorkFault.TooLong n) }
     ensures disk { DiskFails (result ≡ Err WorkFault.Disk) (S.counts site.old) (S.counts site.new) }
 {
@@ -91,10 +99,14 @@ fn poll<S: Site, O: Orchestrator>(
     orchestrator: &mut O,
     now: Moment,
 ) -> Result<Acted, WorkFault>
-    requires ready { (H : List Event) × IsReady S.tells manager.old H (S.state site.old) × IsActive H occ × (next_action H occ ≡ Some actions.Poll) }
-    ensures acts { (H : List Event) → IsReady S.tells manager.old H (S.state site.old) → IsActive H occ → next_action H occ ≡ Some actions.Poll
-        → (d : Deed) × (d.occ ≡ occ) × Acts (telling S.tells O.tells) (point manager.old.ledger.manager now H) d result manager.new
-        (reach (S.state site.old) (S.counts site.old) (O.state orchestrator.old) (O.counts orchestrator.old)) (reach (S.state site.new) (S.counts site.new) (O.state orchestrator.new) (O.counts orchestrator.new)) }
+    requires ready { (H : List Event) × IsReady S.tells manager.old H (S.state site.old) × IsActive H occ
+        × (next_action H occ ≡ Some actions.Poll) }
+    ensures acts { (H : List Event) → IsReady S.tells manager.old H (S.state site.old) → IsActive H occ
+        → next_action H occ ≡ Some actions.Poll
+        → (d : Deed) × (d.occ ≡ occ) × Acts (telling S.tells O.tells)
+        (point manager.old.ledger.manager now H) d result manager.new
+        (reach (S.state site.old) (S.counts site.old) (O.state orchestrator.old) (O.counts orchestrator.old))
+        (reach (S.state site.new) (S.counts site.new) (O.state orchestrator.new) (O.counts orchestrator.new)) }
     ensures short { (n : ℕ) → result ≢ Err (WorkFault.TooLong n) }
     ensures disk { DiskFails (result ≡ Err WorkFault.Disk) (S.counts site.old) (S.counts site.new) }
 {

@@ -36,11 +36,11 @@ pub fn event_of(moment: Moment, kind: EventKind) -> Event
     Event { moment, kind }
 }
 
-/// Begins an attempt, which is the next action of its occurrence: its intent is recorded, then its job is begun, and then it is recorded where
-/// that was refused or failed. All memory is taken before.
+/// Begins an attempt, which is the next action of its occurrence: its intent is recorded, then its job is begun, and
+/// then it is recorded where that was refused or failed. All memory is taken before.
 ///
-/// Refusals: `Memory`, after which nothing was recorded or begun; `Full` and `Disk` as of recording an event. Where the intent was recorded
-/// it stands, and so does the job.
+/// Refusals: `Memory`, after which nothing was recorded or begun; `Full` and `Disk` as of recording an event. Where the
+/// intent was recorded it stands, and so does the job.
 pub fn begin<S: Site>(
     alloc: Global,
     manager: &mut Manager<S>,
@@ -48,9 +48,12 @@ pub fn begin<S: Site>(
     tag: &Tag,
     now: Moment,
 ) -> Result<Acted, WorkFault>
-    requires ready { (H : List Event) × IsReady S.tells manager.old H (S.state site.old) × IsActive H tag.now.occ × (next_action H tag.now.occ ≡ Some (actions.Begin tag.now)) }
-    ensures attempts { (H : List Event) → IsReady S.tells manager.old H (S.state site.old) → IsActive H tag.now.occ → next_action H tag.now.occ ≡ Some (actions.Begin tag.now)
-        → (d : Deed) × (d.occ ≡ tag.now.occ) × Attempts S.tells (point manager.old.ledger.manager now H) d result manager.new
+    requires ready { (H : List Event) × IsReady S.tells manager.old H (S.state site.old) × IsActive H tag.now.occ
+        × (next_action H tag.now.occ ≡ Some (actions.Begin tag.now)) }
+    ensures attempts { (H : List Event) → IsReady S.tells manager.old H (S.state site.old) → IsActive H tag.now.occ
+        → next_action H tag.now.occ ≡ Some (actions.Begin tag.now)
+        → (d : Deed) × (d.occ ≡ tag.now.occ) × Attempts S.tells
+        (point manager.old.ledger.manager now H) d result manager.new
         (shows (S.state site.old) (S.counts site.old)) (shows (S.state site.new) (S.counts site.new)) }
     ensures short { (n : ℕ) → result ≢ Err (WorkFault.TooLong n) }
     ensures disk { DiskFails (result ≡ Err WorkFault.Disk) (S.counts site.old) (S.counts site.new) }
@@ -75,10 +78,15 @@ fn intend<S: Site>(
     tag: &Tag,
     now: Moment,
 ) -> Result<(), WorkFault>
-    requires may { (H : List Event) × IsReady S.tells manager.old H (S.state site.old) × IsAllowed manager.old.ledger.manager H (events.Intent tag.now) }
-    ensures works { (H : List Event) → IsReady S.tells manager.old H (S.state site.old) → IsAllowed manager.old.ledger.manager H (events.Intent tag.now)
-        → Works S.tells manager.old.ledger.manager H (recorded H (record { moment = now; kind = events.Intent tag.now }) result) manager.new (S.state site.old) (S.state site.new) }
-    ensures room { (H : List Event) → Keeps manager.old H → result ≢ Err WorkFault.Memory → TellsRoom MAX_FILE H (record { moment = now; kind = events.Intent tag.now }) result }
+    requires may { (H : List Event) × IsReady S.tells manager.old H (S.state site.old)
+        × IsAllowed manager.old.ledger.manager H (events.Intent tag.now) }
+    ensures works { (H : List Event) → IsReady S.tells manager.old H (S.state site.old)
+        → IsAllowed manager.old.ledger.manager H (events.Intent tag.now)
+        → Works S.tells manager.old.ledger.manager H (recorded H
+        (record { moment = now; kind = events.Intent tag.now }) result) manager.new (S.state site.old)
+        (S.state site.new) }
+    ensures room { (H : List Event) → Keeps manager.old H → result ≢ Err WorkFault.Memory
+        → TellsRoom MAX_FILE H (record { moment = now; kind = events.Intent tag.now }) result }
     ensures quiet { OnOk result (HasNoNotice manager.new) }
     ensures short { (n : ℕ) → result ≢ Err (WorkFault.TooLong n) }
     ensures disk { OnlyDiskFails (result ≡ Err WorkFault.Disk) (S.counts site.old) (S.counts site.new) }
@@ -90,8 +98,8 @@ fn intend<S: Site>(
     manager.put(site, &intent, MAX_FILE)
 }
 
-/// Records what the begin of an attempt's job was answered, where there is something to record: a refusal ends the attempt, and a call that
-/// failed is noted. No memory is taken.
+/// Records what the begin of an attempt's job was answered, where there is something to record: a refusal ends the
+/// attempt, and a call that failed is noted. No memory is taken.
 fn follow<S: Site>(
     manager: &mut Manager<S>,
     site: &mut S,
@@ -99,10 +107,13 @@ fn follow<S: Site>(
     answer: BeginAnswer,
     now: Moment,
 ) -> Result<Acted, WorkFault>
-    requires may { (H : List Event) × IsReady S.tells manager.old H (S.state site.old) × IsLegal manager.old.ledger.manager (with_events now (following tag.now answer) H) }
+    requires may { (H : List Event) × IsReady S.tells manager.old H (S.state site.old)
+        × IsLegal manager.old.ledger.manager (with_events now (following tag.now answer) H) }
     requires quiet { HasNoNotice manager.old }
-    ensures puts { (H : List Event) → IsReady S.tells manager.old H (S.state site.old) → IsLegal manager.old.ledger.manager (with_events now (following tag.now answer) H)
-        → Puts S.tells (point manager.old.ledger.manager now H) (following tag.now answer) result manager.new (S.state site.old) (S.state site.new) }
+    ensures puts { (H : List Event) → IsReady S.tells manager.old H (S.state site.old)
+        → IsLegal manager.old.ledger.manager (with_events now (following tag.now answer) H)
+        → Puts S.tells (point manager.old.ledger.manager now H) (following tag.now answer) result manager.new
+        (S.state site.old) (S.state site.new) }
     ensures jobs { S.tells → KeepsJobs (S.state site.old) (S.state site.new) }
     ensures ended { IfOk result (λ done. done ≡ Acted.Recorded) }
     ensures taken { answer ≡ BeginAnswer.Begun → IsOk result }
@@ -132,11 +143,14 @@ fn ended(tag: Tag, outcome: Outcome) -> EventKind
 
 /// Puts an event about an attempt that has begun, in a journal that may fill its file. No memory is taken.
 fn put<S: Site>(manager: &mut Manager<S>, site: &mut S, event: &Event) -> Result<Acted, WorkFault>
-    requires may { (H : List Event) × IsReady S.tells manager.old H (S.state site.old) × IsAllowed manager.old.ledger.manager H event.now.kind }
+    requires may { (H : List Event) × IsReady S.tells manager.old H (S.state site.old)
+        × IsAllowed manager.old.ledger.manager H event.now.kind }
     requires kind { is_of_attempt event.now.kind ≡ true }
     requires room { HasRoom event.now manager.old.tables }
-    ensures puts { (H : List Event) → IsReady S.tells manager.old H (S.state site.old) → IsAllowed manager.old.ledger.manager H event.now.kind
-        → Puts S.tells (point manager.old.ledger.manager event.now.moment H) (event.now.kind ∷ []) result manager.new (S.state site.old) (S.state site.new) }
+    ensures puts { (H : List Event) → IsReady S.tells manager.old H (S.state site.old)
+        → IsAllowed manager.old.ledger.manager H event.now.kind
+        → Puts S.tells (point manager.old.ledger.manager event.now.moment H) (event.now.kind ∷ []) result manager.new
+        (S.state site.old) (S.state site.new) }
     ensures jobs { S.tells → KeepsJobs (S.state site.old) (S.state site.new) }
     ensures ended { IfOk result (λ done. done ≡ Acted.Recorded) }
     ensures memory { result ≢ Err WorkFault.Memory }
@@ -156,9 +170,11 @@ fn no_name() -> Name
     Name::of(b"").unwrap()
 }
 
-/// Looks at the job of an open attempt, which is the next action of its occurrence, and records where it has ended. All memory is taken before.
+/// Looks at the job of an open attempt, which is the next action of its occurrence, and records where it has ended. All
+/// memory is taken before.
 ///
-/// Refusals: `Memory`, after which nothing was recorded or asked; `Full` and `Disk` as of recording an event: the look was made.
+/// Refusals: `Memory`, after which nothing was recorded or asked; `Full` and `Disk` as of recording an event: the look
+/// was made.
 pub fn look<S: Site>(
     alloc: Global,
     manager: &mut Manager<S>,
@@ -167,8 +183,10 @@ pub fn look<S: Site>(
     tag: &Tag,
     now: Moment,
 ) -> Result<Acted, WorkFault>
-    requires ready { (H : List Event) × IsReady S.tells manager.old H (S.state site.old) × IsActive H occ × (next_action H occ ≡ Some (actions.Look tag.now)) }
-    ensures attempts { (H : List Event) → IsReady S.tells manager.old H (S.state site.old) → IsActive H occ → next_action H occ ≡ Some (actions.Look tag.now)
+    requires ready { (H : List Event) × IsReady S.tells manager.old H (S.state site.old) × IsActive H occ
+        × (next_action H occ ≡ Some (actions.Look tag.now)) }
+    ensures attempts { (H : List Event) → IsReady S.tells manager.old H (S.state site.old) → IsActive H occ
+        → next_action H occ ≡ Some (actions.Look tag.now)
         → (d : Deed) × (d.occ ≡ occ) × Attempts S.tells (point manager.old.ledger.manager now H) d result manager.new
         (shows (S.state site.old) (S.counts site.old)) (shows (S.state site.new) (S.counts site.new)) }
     ensures short { (n : ℕ) → result ≢ Err (WorkFault.TooLong n) }
@@ -182,11 +200,12 @@ pub fn look<S: Site>(
     settle(manager, site, tag, answer, now)
 }
 
-/// Aborts the job of the occurrence's open attempt, of which the window lets it have one, and looks at it, which is the next action of its
-/// occurrence, and records where it has ended. All memory is taken before. An abort that failed or came too late is no end: the look says how
-/// the job stands.
+/// Aborts the job of the occurrence's open attempt, of which the window lets it have one, and looks at it, which is the
+/// next action of its occurrence, and records where it has ended. All memory is taken before. An abort that failed or
+/// came too late is no end: the look says how the job stands.
 ///
-/// Refusals: `Memory`, after which nothing was recorded or asked; `Full` and `Disk` as of recording an event: the abort and the look were made.
+/// Refusals: `Memory`, after which nothing was recorded or asked; `Full` and `Disk` as of recording an event: the abort
+/// and the look were made.
 pub fn abort_and_look<S: Site>(
     alloc: Global,
     manager: &mut Manager<S>,
@@ -195,8 +214,10 @@ pub fn abort_and_look<S: Site>(
     tag: &Tag,
     now: Moment,
 ) -> Result<Acted, WorkFault>
-    requires ready { (H : List Event) × IsReady S.tells manager.old H (S.state site.old) × IsActive H occ × (next_action H occ ≡ Some (actions.AbortAndLook tag.now)) }
-    ensures attempts { (H : List Event) → IsReady S.tells manager.old H (S.state site.old) → IsActive H occ → next_action H occ ≡ Some (actions.AbortAndLook tag.now)
+    requires ready { (H : List Event) × IsReady S.tells manager.old H (S.state site.old) × IsActive H occ
+        × (next_action H occ ≡ Some (actions.AbortAndLook tag.now)) }
+    ensures attempts { (H : List Event) → IsReady S.tells manager.old H (S.state site.old) → IsActive H occ
+        → next_action H occ ≡ Some (actions.AbortAndLook tag.now)
         → (d : Deed) × (d.occ ≡ occ) × Attempts S.tells (point manager.old.ledger.manager now H) d result manager.new
         (shows (S.state site.old) (S.counts site.old)) (shows (S.state site.new) (S.counts site.new)) }
     ensures short { (n : ℕ) → result ≢ Err (WorkFault.TooLong n) }
@@ -221,9 +242,11 @@ fn settle<S: Site>(
     now: Moment,
 ) -> Result<Acted, WorkFault>
     requires may { (H : List Event) × IsReady S.tells manager.old H (S.state site.old) × (is_open H tag.now ≡ true) }
-    requires room { HasRoom (record { moment = now; kind = events.Settled tag.now (Outcome.Done []) }) manager.old.tables }
+    requires room { HasRoom (record { moment = now; kind = events.Settled tag.now (Outcome.Done []) })
+        manager.old.tables }
     ensures puts { (H : List Event) → IsReady S.tells manager.old H (S.state site.old) → is_open H tag.now ≡ true
-        → Puts S.tells (point manager.old.ledger.manager now H) (looking tag.now (answer_looked answer)) result manager.new (S.state site.old) (S.state site.new) }
+        → Puts S.tells (point manager.old.ledger.manager now H)
+        (looking tag.now (answer_looked answer)) result manager.new (S.state site.old) (S.state site.new) }
     ensures jobs { S.tells → KeepsJobs (S.state site.old) (S.state site.new) }
     ensures ended { IfOk result (λ done. done ≡ ending (actions.Look tag.now) (answer_looked answer)) }
     ensures memory { result ≢ Err WorkFault.Memory }
@@ -249,9 +272,11 @@ fn end<S: Site>(
     now: Moment,
 ) -> Result<Acted, WorkFault>
     requires may { (H : List Event) × IsReady S.tells manager.old H (S.state site.old) × (is_open H tag.now ≡ true) }
-    requires room { HasRoom (record { moment = now; kind = events.Settled tag.now (Outcome.Done []) }) manager.old.tables }
+    requires room { HasRoom (record { moment = now; kind = events.Settled tag.now (Outcome.Done []) })
+        manager.old.tables }
     ensures puts { (H : List Event) → IsReady S.tells manager.old H (S.state site.old) → is_open H tag.now ≡ true
-        → Puts S.tells (point manager.old.ledger.manager now H) (events.Settled tag.now outcome ∷ []) result manager.new (S.state site.old) (S.state site.new) }
+        → Puts S.tells (point manager.old.ledger.manager now H) (events.Settled tag.now outcome ∷ []) result manager.new
+        (S.state site.old) (S.state site.new) }
     ensures jobs { S.tells → KeepsJobs (S.state site.old) (S.state site.new) }
     ensures ended { IfOk result (λ done. done ≡ Acted.Recorded) }
     ensures memory { result ≢ Err WorkFault.Memory }

@@ -9,9 +9,11 @@ ghost use Rattle.occ_work.specs.Counting.{CountsEndings};
 pub enum Acted {
     /// What it did is in the journal.
     Recorded,
-    /// The outside answered that it isn't done yet, and nothing was recorded: the grant comes later still, or the job goes on.
+    /// The outside answered that it isn't done yet, and nothing was recorded: the grant comes later still, or the job
+    /// goes on.
     Waiting,
-    /// A look failed, so that nothing is known of the job, and nothing was recorded. It is looked at again by the next act.
+    /// A look failed, so that nothing is known of the job, and nothing was recorded. It is looked at again by the next
+    /// act.
     Unreached,
 }
 
@@ -31,7 +33,8 @@ pub struct Turn {
 impl Turn {
     /// Counts how one act more ended, as far as a count goes.
     pub fn count(&mut self, done: Acted)
-        ensures { (ends : List Acted) → length ends < 4294967295 → CountsEndings self.old ends → CountsEndings self.new (done ∷ ends) }
+        ensures { (ends : List Acted) → length ends < 4294967295 → CountsEndings self.old ends
+            → CountsEndings self.new (done ∷ ends) }
     {
         match done {
             Acted::Recorded => self.acted = self.acted.saturating_add(1),

@@ -16,8 +16,10 @@ use site_traits::Site;
 /// The row of the instance of an active occurrence, which is live.
 pub fn instance_of<'a, S: Site>(manager: &'a Manager<S>, row: &OccRow) -> &'a InstanceRow
     requires usable { manager.now.ledger.closed ≡ false }
-    requires active { (H : List Event) × (occ : ℕ) × Keeps manager.now H × IsActive H occ × (occurrence H occ ≡ Some row.now) }
-    ensures { (H : List Event) → Keeps manager.now H → (occ : ℕ) → IsActive H occ → occurrence H occ ≡ Some row.now → instance H row.now.instance ≡ Some result.now }
+    requires active { (H : List Event) × (occ : ℕ) × Keeps manager.now H × IsActive H occ
+        × (occurrence H occ ≡ Some row.now) }
+    ensures { (H : List Event) → Keeps manager.now H → (occ : ℕ) → IsActive H occ → occurrence H occ ≡ Some row.now
+        → instance H row.now.instance ≡ Some result.now }
 {
     match manager.instances().instance(row.instance) {
         Some(instance) => instance,

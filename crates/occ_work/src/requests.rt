@@ -21,7 +21,8 @@ use vnfm_base::Bytes;
 pub fn request<S: Site>(alloc: Global, manager: &Manager<S>, occ: u64) -> Result<Bytes, AllocError>
     requires usable { manager.now.ledger.closed ≡ false }
     requires active { (H : List Event) × Keeps manager.now H × IsActive H occ }
-    ensures { (H : List Event) → Keeps manager.now H → IsActive H occ → IfOk result (λ body. grant_request manager.now.ledger.manager H occ ≡ Some body) }
+    ensures { (H : List Event) → Keeps manager.now H → IsActive H occ
+        → IfOk result (λ body. grant_request manager.now.ledger.manager H occ ≡ Some body) }
 {
     items_are_in_order();
     rows_have_holdings();

@@ -41,7 +41,8 @@ fn granted(
     changes: &[Change],
     rows: &GrantRows,
 ) -> Result<EventKind, AllocError>
-    ensures kinds { (asking : Bool) → IfOk result (λ kind. kinds_for asking occ (answer_with changes.now (says.Granted rows.now)) ≡ kind ∷ []) }
+    ensures kinds { (asking : Bool) → IfOk result (λ kind.
+        kinds_for asking occ (answer_with changes.now (says.Granted rows.now)) ≡ kind ∷ []) }
     ensures acts { IfOk result (λ kind. is_of_act kind ≡ true) }
 {
     if !covers(changes, rows) {
@@ -56,7 +57,8 @@ fn granted(
     })
 }
 
-/// What an answer appends that the grant comes later: its location where it was asked for, and nothing where that was polled.
+/// What an answer appends that the grant comes later: its location where it was asked for, and nothing where that was
+/// polled.
 fn later(asking: bool, occ: u64, at: Option<Line>) -> Option<EventKind>
     ensures kinds { kinds_for asking occ (GrantLater at) ≡ listed result }
     ensures acts { IfSome result (λ kind. is_of_act kind ≡ true) }
@@ -79,7 +81,8 @@ fn kind_of(
     call: Call,
     heard: &Heard,
 ) -> Result<Option<EventKind>, AllocError>
-    ensures kinds { IfOk result (λ kind. kinds_for asking occ (answer_heard asking changes.now call heard.now) ≡ listed kind) }
+    ensures kinds { IfOk result (λ kind. kinds_for asking occ (answer_heard asking changes.now call heard.now)
+        ≡ listed kind) }
     ensures acts { IfOk result (λ kind. IfSome kind (λ k. is_of_act k ≡ true)) }
 {
     if call == Call::Failed {
@@ -100,10 +103,13 @@ fn record<S: Site>(
     site: &mut S,
     event: &Event,
 ) -> Result<Acted, WorkFault>
-    requires may { (H : List Event) × IsReady S.tells manager.old H (S.state site.old) × MayRecord manager.old.ledger.manager H event.now }
+    requires may { (H : List Event) × IsReady S.tells manager.old H (S.state site.old)
+        × MayRecord manager.old.ledger.manager H event.now }
     requires kind { is_of_act event.now.kind ≡ true }
-    ensures records { (H : List Event) → IsReady S.tells manager.old H (S.state site.old) → MayRecord manager.old.ledger.manager H event.now
-        → Records S.tells (point manager.old.ledger.manager event.now.moment H) (event.now.kind ∷ []) result manager.new (S.state site.old) (S.state site.new) }
+    ensures records { (H : List Event) → IsReady S.tells manager.old H (S.state site.old)
+        → MayRecord manager.old.ledger.manager H event.now
+        → Records S.tells (point manager.old.ledger.manager event.now.moment H) (event.now.kind ∷ []) result manager.new
+        (S.state site.old) (S.state site.new) }
     ensures ended { IfOk result (λ done. done ≡ Acted.Recorded) }
     ensures jobs { S.tells → KeepsJobs (S.state site.old) (S.state site.new) }
     ensures short { (n : ℕ) → result ≢ Err (WorkFault.TooLong n) }
@@ -130,11 +136,16 @@ pub fn take<S: Site>(
     heard: &Heard,
     now: Moment,
 ) -> Result<Acted, WorkFault>
-    requires ready { (H : List Event) × IsReady S.tells manager.old H (S.state site.old) × IsActive H occ × (next_action H occ ≡ Some (exchanging asking)) }
-    ensures records { (H : List Event) → IsReady S.tells manager.old H (S.state site.old) → IsActive H occ → next_action H occ ≡ Some (exchanging asking)
-        → Records S.tells (point manager.old.ledger.manager now H) (kinds_for asking occ (answer_heard asking (changes_of H occ) call heard.now)) result manager.new (S.state site.old) (S.state site.new) }
+    requires ready { (H : List Event) × IsReady S.tells manager.old H (S.state site.old) × IsActive H occ
+        × (next_action H occ ≡ Some (exchanging asking)) }
+    ensures records { (H : List Event) → IsReady S.tells manager.old H (S.state site.old) → IsActive H occ
+        → next_action H occ ≡ Some (exchanging asking)
+        → Records S.tells (point manager.old.ledger.manager now H)
+        (kinds_for asking occ (answer_heard asking (changes_of H occ) call heard.now)) result manager.new
+        (S.state site.old) (S.state site.new) }
     ensures ended { (H : List Event) → IsReady S.tells manager.old H (S.state site.old) → IsActive H occ
-        → IfOk result (λ done. done ≡ ending (exchanging asking) (answer_heard asking (changes_of H occ) call heard.now)) }
+        → IfOk result (λ done. done ≡ ending (exchanging asking)
+        (answer_heard asking (changes_of H occ) call heard.now)) }
     ensures jobs { S.tells → KeepsJobs (S.state site.old) (S.state site.new) }
     ensures short { (n : ℕ) → result ≢ Err (WorkFault.TooLong n) }
     ensures disk { OnlyDiskFails (result ≡ Err WorkFault.Disk) (S.counts site.old) (S.counts site.new) }
@@ -165,9 +176,12 @@ pub fn move_to<S: Site>(
     to: OpState,
     now: Moment,
 ) -> Result<Acted, WorkFault>
-    requires ready { (H : List Event) × IsReady S.tells manager.old H (S.state site.old) × IsActive H occ × (next_action H occ ≡ Some (actions.MoveTo to)) }
-    ensures records { (H : List Event) → IsReady S.tells manager.old H (S.state site.old) → IsActive H occ → next_action H occ ≡ Some (actions.MoveTo to)
-        → Records S.tells (point manager.old.ledger.manager now H) (events.Moved occ to ∷ []) result manager.new (S.state site.old) (S.state site.new) }
+    requires ready { (H : List Event) × IsReady S.tells manager.old H (S.state site.old) × IsActive H occ
+        × (next_action H occ ≡ Some (actions.MoveTo to)) }
+    ensures records { (H : List Event) → IsReady S.tells manager.old H (S.state site.old) → IsActive H occ
+        → next_action H occ ≡ Some (actions.MoveTo to)
+        → Records S.tells (point manager.old.ledger.manager now H) (events.Moved occ to ∷ []) result manager.new
+        (S.state site.old) (S.state site.new) }
     ensures ended { IfOk result (λ done. done ≡ Acted.Recorded) }
     ensures jobs { S.tells → KeepsJobs (S.state site.old) (S.state site.new) }
     ensures short { (n : ℕ) → result ≢ Err (WorkFault.TooLong n) }

@@ -15,11 +15,13 @@ use site_traits::{Orchestrator, Site};
 use std::alloc::Global;
 use vnfm_base::Moment;
 
-/// Acts once for each occurrence that is in STARTING, PROCESSING or ROLLING_BACK when the turn begins, in the order of their numbers.
+/// Acts once for each occurrence that is in STARTING, PROCESSING or ROLLING_BACK when the turn begins, in the order of
+/// their numbers.
 ///
 /// State: needs a manager that isn't closed and whose file has its history.
-/// Refusals: those of `act`. The first ends the turn, and the acts before it stand. After `Disk` the manager is closed: load the journal again.
-/// Source: own rule over SOL 003 5.6.2 (States and state transitions of a VNF LCM operation occurrence).
+/// Refusals: those of `act`. The first ends the turn, and the acts before it stand. After `Disk` the manager is closed:
+/// load the journal again. Source: own rule over SOL 003 5.6.2 (States and state transitions of a VNF LCM operation
+/// occurrence).
 pub fn turn<S: Site, O: Orchestrator>(
     alloc: Global,
     manager: &mut Manager<S>,
@@ -28,9 +30,11 @@ pub fn turn<S: Site, O: Orchestrator>(
     now: Moment,
 ) -> Result<Turn, WorkFault>
     requires ready { (H : List Event) × IsReady S.tells manager.old H (S.state site.old) }
-    ensures turns { (H : List Event) → IsReady S.tells manager.old H (S.state site.old) → (deeds : List Deed) × (end : TurnEnd)
+    ensures turns { (H : List Event) → IsReady S.tells manager.old H (S.state site.old)
+        → (deeds : List Deed) × (end : TurnEnd)
         × Turns (telling S.tells O.tells) (point manager.old.ledger.manager now H) deeds end manager.new
-        (reach (S.state site.old) (S.counts site.old) (O.state orchestrator.old) (O.counts orchestrator.old)) (reach (S.state site.new) (S.counts site.new) (O.state orchestrator.new) (O.counts orchestrator.new))
+        (reach (S.state site.old) (S.counts site.old) (O.state orchestrator.old) (O.counts orchestrator.old))
+        (reach (S.state site.new) (S.counts site.new) (O.state orchestrator.new) (O.counts orchestrator.new))
         × EndsTurn result (endings now H deeds) end }
     ensures short { (n : ℕ) → result ≢ Err (WorkFault.TooLong n) }
     ensures disk { DiskFails (result ≡ Err WorkFault.Disk) (S.counts site.old) (S.counts site.new) }

@@ -52,14 +52,17 @@ fn place_known<S: Site>(manager: &Manager<S>, instance: u64, def: &Def) -> Optio
     Some(used.place)
 }
 
-/// The work of the attempt that an occurrence begins next: at the place that was granted to what it makes, and for an undo where its
-/// definition stands or last stood. `AllocError` is want of memory.
+/// The work of the attempt that an occurrence begins next: at the place that was granted to what it makes, and for an
+/// undo where its definition stands or last stood. `AllocError` is want of memory.
 ///
 /// Source: SOL 003 9.5.2.3 (Grant), 5.4.15 (Rollback operation task); own rule.
 pub fn work_of<S: Site>(alloc: Global, manager: &Manager<S>, tag: &Tag) -> Result<Act, AllocError>
     requires usable { manager.now.ledger.closed ≡ false }
-    requires begins { (H : List Event) × Keeps manager.now H × IsActive H tag.now.occ × (next_action H tag.now.occ ≡ Some (actions.Begin tag.now)) }
-    ensures { (H : List Event) → Keeps manager.now H → IsActive H tag.now.occ → next_action H tag.now.occ ≡ Some (actions.Begin tag.now) → IfOk result (λ work. act_of H tag.now ≡ Some work) }
+    requires begins { (H : List Event) × Keeps manager.now H × IsActive H tag.now.occ
+        × (next_action H tag.now.occ ≡ Some (actions.Begin tag.now)) }
+    ensures { (H : List Event) → Keeps manager.now H → IsActive H tag.now.occ
+        → next_action H tag.now.occ ≡ Some (actions.Begin tag.now)
+        → IfOk result (λ work. act_of H tag.now ≡ Some work) }
 {
     rows_have_holdings();
     next_actions_are_allowed();

@@ -1,5 +1,6 @@
 -- The next action takes the step of the cancel that is in force.
-use Rattle.std.proofs.Common.{◌≡◌, ◌∷◌, ℕ, List, [], Bool, true, false, not, Option, None, Some, is_some, refl, subst, ◌&&◌, ◌||◌, inl, inr, ◌⊎◌}
+use Rattle.std.proofs.Common.{◌≡◌, ◌∷◌, ℕ, List, [], Bool, true, false, not, Option, None, Some, is_some, refl, subst, ◌&&◌, ◌||◌, inl, inr}
+use Rattle.std.proofs.Common.{◌⊎◌}
 use Rattle.std.specs.List.{list_any}
 use Rattle.std.specs.Prelude.{if◌then◌else◌, option_and_then, option_map}
 use Rattle.lcm_events.specs.declared.attempts.Tag.{Tag}
@@ -39,7 +40,8 @@ asking forced ended granted cancelled located = first_some (
 abbrev mode_of : Bool → CancelMode
 mode_of forced = if forced then Forceful else Graceful
 
-asking_leaves : (forced ended granted located : Bool) → Leaves Starting (mode_of forced) (not ended) → asking forced ended granted true located ≡ Some (MoveTo RolledBack)
+asking_leaves : (forced ended granted located : Bool) → Leaves Starting (mode_of forced) (not ended)
+    → asking forced ended granted true located ≡ Some (MoveTo RolledBack)
 asking_leaves true ended granted located step = refl
 asking_leaves false true true located step = refl
 asking_leaves false true false located step = refl
@@ -60,18 +62,21 @@ working forced opened trouble cancelled lines = first_some (
     ∷ when (trouble || cancelled) (MoveTo FailedTemp)
     ∷ lines)
 
-working_leaves : (forced : Bool) (opened : Option Tag) (trouble : Bool) (lines : List (Option Action)) → is_some opened ≡ false → working forced opened trouble true lines ≡ Some (MoveTo FailedTemp)
+working_leaves : (forced : Bool) (opened : Option Tag) (trouble : Bool) (lines : List (Option Action)) → is_some opened ≡ false
+    → working forced opened trouble true lines ≡ Some (MoveTo FailedTemp)
 working_leaves forced (Some t) trouble lines e = cc
 working_leaves forced None true lines e = refl
 working_leaves forced None false lines e = refl
 
-working_halts : (forced : Bool) (opened : Option Tag) (trouble : Bool) (lines : List (Option Action)) → is_some opened ≡ true → mode_of forced ≡ Forceful
+working_halts : (forced : Bool) (opened : Option Tag) (trouble : Bool) (lines : List (Option Action)) → is_some opened ≡ true
+    → mode_of forced ≡ Forceful
     → working forced opened trouble true lines ≡ option_map AbortAndLook opened
 working_halts forced None trouble lines e is = cc
 working_halts true (Some t) trouble lines e is = refl
 working_halts false (Some t) trouble lines e is = cc
 
-working_waits : (forced : Bool) (opened : Option Tag) (trouble : Bool) (lines : List (Option Action)) → is_some opened ≡ true → mode_of forced ≡ Graceful
+working_waits : (forced : Bool) (opened : Option Tag) (trouble : Bool) (lines : List (Option Action)) → is_some opened ≡ true
+    → mode_of forced ≡ Graceful
     → working forced opened trouble true lines ≡ option_map Look opened
 working_waits forced None trouble lines e is = cc
 working_waits true (Some t) trouble lines e is = cc
@@ -85,19 +90,22 @@ takes_asking : (H : List Event) (o : ℕ) → is_cancelled H o ≡ true → Take
 takes_asking H o e = record {
   leaves = λ step. rw e (asking_leaves (is_forced H o) (has_ended H o) (is_granted H o) (is_some (location H o)) step);
   halts = λ step. absurd (step.2 refl);
-  waits = λ step. rw e (asking_waits (is_forced H o) (has_ended H o) (is_granted H o) (is_some (location H o)) (covering_ends (answers H o) _) step);
+  waits = λ step. rw e (asking_waits (is_forced H o) (has_ended H o) (is_granted H o) (is_some (location H o))
+      (covering_ends (answers H o) _) step);
 }
 
 takes_processing : (H : List Event) (o : ℕ) → is_cancelled H o ≡ true → TakesStep Processing H o (next_in Processing H o)
 takes_processing H o e = record {
-  leaves = λ step. rw e (working_leaves (is_forced H o) (first_open H o) (has_trouble H o) _ (not_starting Processing _ _ (λ never. cc) step));
+  leaves = λ step. rw e (working_leaves (is_forced H o) (first_open H o) (has_trouble H o) _
+      (not_starting Processing _ _ (λ never. cc) step));
   halts = λ step. rw e (working_halts (is_forced H o) (first_open H o) (has_trouble H o) _ (step.0) (step.1));
   waits = λ step. rw e (working_waits (is_forced H o) (first_open H o) (has_trouble H o) _ (step.0) (step.1));
 }
 
 takes_rolling_back : (H : List Event) (o : ℕ) → is_cancelled H o ≡ true → TakesStep RollingBack H o (next_in RollingBack H o)
 takes_rolling_back H o e = record {
-  leaves = λ step. rw e (working_leaves (is_forced H o) (first_open H o) (has_trouble H o) _ (not_starting RollingBack _ _ (λ never. cc) step));
+  leaves = λ step. rw e (working_leaves (is_forced H o) (first_open H o) (has_trouble H o) _
+      (not_starting RollingBack _ _ (λ never. cc) step));
   halts = λ step. rw e (working_halts (is_forced H o) (first_open H o) (has_trouble H o) _ (step.0) (step.1));
   waits = λ step. rw e (working_waits (is_forced H o) (first_open H o) (has_trouble H o) _ (step.0) (step.1));
 }
@@ -114,4 +122,5 @@ found (Some x) next e = refl
 
 pub cancels_taken : CancelsAreTaken
 cancels_taken H o asked active e =
-    subst (λ next. TakesStep (state H o) H o next) (found (operation H o) (next_in (state H o) H o) asked) (takes_in (state H o) H o active e)
+    subst (λ next. TakesStep (state H o) H o next) (found (operation H o) (next_in (state H o) H o) asked)
+    (takes_in (state H o) H o active e)

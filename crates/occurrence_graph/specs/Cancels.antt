@@ -1,5 +1,6 @@
 -- What a cancel does to the work of an active occurrence (SOL 003 5.4.17, Cancel operation task; 5.6.2).
-use Rattle.std.specs.Prelude.{Bool, List, Option, Some, false, if◌then◌else◌, is_some, not, option_map, true, ℕ, ◌≡◌, ◌⊎◌}
+use Rattle.std.specs.Prelude.{Bool, List, Option, Some, false, if◌then◌else◌, is_some, not, option_map, true, ℕ, ◌≡◌}
+use Rattle.std.specs.Prelude.{◌⊎◌}
 use Rattle.lcm_events.specs.declared.events.Event.{Event}
 use Rattle.lcm_events.specs.declared.states.CancelMode.{CancelMode}
 use Rattle.lcm_events.specs.declared.states.CancelMode.TheVariants.{Forceful, Graceful}
@@ -13,7 +14,8 @@ use Rattle.lcm_model.specs.Next.{first_open, next_action}
 use Rattle.lcm_model.specs.Operations.{operation}
 use Rattle.lcm_model.specs.Since.{is_cancelled, is_forced}
 
--- the occurrence leaves its state at once: nothing is waited for, or nothing but the grant and the cancel is FORCEFUL (SOL 003 5.4.17)
+-- the occurrence leaves its state at once: nothing is waited for, or nothing but the grant and the cancel is FORCEFUL
+-- (SOL 003 5.4.17)
 abbrev pub Leaves : OpState → CancelMode → Bool → Type 0
 Leaves state mode waiting = (waiting ≡ false) ⊎ ((state ≡ Starting) × (mode ≡ Forceful))
 
@@ -52,4 +54,5 @@ pub record TakesStep (at : OpState) (H : List Event) (o : ℕ) (next : Option Ac
 
 -- after every history the next action of an active occurrence takes the step of the cancel that is in force (own rule)
 abbrev pub CancelsAreTaken : Type 0
-CancelsAreTaken = (H : List Event) (o : ℕ) → is_some (operation H o) ≡ true → is_active (state H o) ≡ true → is_cancelled H o ≡ true → TakesStep (state H o) H o (next_action H o)
+CancelsAreTaken = (H : List Event) (o : ℕ) → is_some (operation H o) ≡ true → is_active (state H o) ≡ true
+    → is_cancelled H o ≡ true → TakesStep (state H o) H o (next_action H o)

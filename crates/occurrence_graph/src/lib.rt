@@ -1,4 +1,5 @@
-//! Which state of an operation occurrence may follow which, which task may be asked of it, and what a cancel does first.
+//! Which state of an operation occurrence may follow which, which task may be asked of it, and what a cancel does
+//! first.
 #![tactic(auto)]
 
 ghost use Rattle.std.specs.Prelude.{◌≡◌, ◌↔◌, true};
@@ -42,10 +43,10 @@ fn is_served(task: Task, state: OpState) -> bool
 /// Whether a task may be asked of an occurrence of this operation in this state.
 ///
 /// Refusals, in this order: `NotSupported` exactly for rollback of TERMINATE; `WrongState`, with the state, exactly
-/// where cancel is asked and the state isn't STARTING, PROCESSING or ROLLING_BACK, or another task is asked and it isn't
-/// FAILED_TEMP.
-/// Source: SOL 003 5.4.14 to 5.4.17 (Retry, Rollback, Fail, Cancel operation task); that TERMINATE has no rollback is an
-/// own rule.
+/// where cancel is asked and the state isn't STARTING, PROCESSING or ROLLING_BACK, or another task is asked and it
+/// isn't FAILED_TEMP.
+/// Source: SOL 003 5.4.14 to 5.4.17 (Retry, Rollback, Fail, Cancel operation task); that TERMINATE has no rollback is
+/// an own rule.
 pub fn task_allowed(op: OpKind, state: OpState, task: Task) -> Result<(), TaskRefusal>
     ensures not_supported { (result ≡ Err TaskRefusal.NotSupported) ↔ (op ≡ Terminate) × (task ≡ Rollback) }
     ensures refused { (why : Why) → (result ≡ Err why) ↔ (task_refusal op state task ≡ Some why) }

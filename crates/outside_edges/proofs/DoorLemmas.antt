@@ -16,10 +16,12 @@ pub comes : (I O : Type 0) (came up rf wf : Bool) (role : Role) (ends : ℕ) (in
     → IsDoor I O came up ends rf wf input output → I → O
     → Comes role (state_of came role ends up rf wf input output) (state_of true role ends true rf wf input output)
 comes I O came up rf wf role ends input output e door i o =
-    let P : Bool → Type 0 = λ b. Comes role (state_of b role ends up rf wf input output) (state_of true role ends true rf wf input output) in
+    let P : Bool → Type 0 = λ b. Comes role (state_of b role ends up rf wf input output)
+    (state_of true role ends true rf wf input output) in
     subst P (sym e) (record {
       answers = ap (λ n. Came role ∷ replicate n Ended) (door.not_ended e);
       bytes = input.bytes;
-      conn = is_fresh rf wf input.bytes input.left output (door.unread e i) (door.unwritten e o) (door.no_read_failed e) (door.no_write_failed e);
+      conn = is_fresh rf wf input.bytes input.left output (door.unread e i) (door.unwritten e o) (door.no_read_failed e)
+          (door.no_write_failed e);
       past = refl;
     })

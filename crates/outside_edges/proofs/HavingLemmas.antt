@@ -16,7 +16,8 @@ no_is_not_yes is = grind arith
 
 -- a call with such an answer is the last
 stops_at : (call : FileCall) (rest : List FileCall) (answer : Answer) (cause : WhyLost) (before : FileCalls) (new : FilesState)
-    → answer ≢ Answer.yes → new.calls ≡ made_once call before → new.last ≡ answer → cause ≡ why_answered answer → StopsIn (call ∷ rest) cause before new
+    → answer ≢ Answer.yes → new.calls ≡ made_once call before → new.last ≡ answer → cause ≡ why_answered answer
+    → StopsIn (call ∷ rest) cause before new
 stops_at call rest answer cause before new failed counts last cause_is = record {
   made = call ∷ [];
   rest = rest;
@@ -29,7 +30,8 @@ stops_at call rest answer cause before new failed counts last cause_is = record 
 
 pub stops_by_fault : (call : FileCall) (rest : List FileCall) (kind : ErrorKind) (cause : WhyLost) (before : FileCalls) (new : FilesState)
     → new.calls ≡ made_once call before → new.last ≡ Answer.fault kind → cause ≡ why_by kind → StopsIn (call ∷ rest) cause before new
-stops_by_fault call rest kind cause before new counts last cause_is = stops_at call rest (Answer.fault kind) cause before new (is_not_yes kind) counts last cause_is
+stops_by_fault call rest kind cause before new counts last cause_is =
+    stops_at call rest (Answer.fault kind) cause before new (is_not_yes kind) counts last cause_is
 
 pub stops_by_no : (call : FileCall) (rest : List FileCall) (before : FileCalls) (new : FilesState)
     → new.calls ≡ made_once call before → new.last ≡ Answer.no → StopsIn (call ∷ rest) why.NotAFile before new

@@ -13,7 +13,11 @@ lost_write r at bytes a err = record {
 }
 
 pub lost_cut : {T E : Type 0} (r : Result T E) (to : ℕ) (a : SiteState) → IsErr r → Cuts to r a a
-lost_cut r to a err = record { on_file = on_file-refl (Cut to) a (λ i. inl refl); cut = IfOk-from_err r (λ _. a.image ≡ take to a.image) err }
+lost_cut r to a err = record {
+  on_file = on_file-refl (Cut to) a (λ i. inl refl);
+  cut =
+      IfOk-from_err r (λ _. a.image ≡ take to a.image) err;
+}
 
 pub lost_sync : {T E : Type 0} (r : Result T E) (a : SiteState) → IsErr r → Syncs r a a
 lost_sync r a err = record { on_file = on_file-refl Same a (λ i. refl); same = refl; settled = IfOk-from_err r (λ _. IsSettled a) err }

@@ -19,7 +19,15 @@ answers_of true role ends = Came role ∷ replicate ends Ended
 abbrev pub conn_of : Bool → Bool → Bool → Bool → Incoming → List ℕ → Conn
 conn_of false up read_failed write_failed input output = nobody
 conn_of true up read_failed write_failed input output =
-    record { bytes = input.bytes; left = input.left; out = output; read_failed = read_failed; write_failed = write_failed; hung_up = not up }
+    record {
+      bytes = input.bytes;
+      left = input.left;
+      out = output;
+      read_failed = read_failed;
+      write_failed =
+          write_failed;
+      hung_up = not up;
+    }
 
 -- the connections before it
 abbrev pub past_of : Bool → List Conn
@@ -29,10 +37,16 @@ past_of true = nobody ∷ []
 -- what it tells
 abbrev pub state_of : Bool → Role → ℕ → Bool → Bool → Bool → Incoming → List ℕ → DoorState
 state_of came role ends up read_failed write_failed input output =
-    record { answers = answers_of came role ends; conn = conn_of came up read_failed write_failed input output; past = past_of came }
+    record {
+      answers = answers_of came role ends;
+      conn = conn_of came up read_failed write_failed input output;
+      past =
+          past_of came;
+    }
 
 -- until its connection has come nothing was read, written or ended, nothing failed, and no connection is up
-pub record IsDoor (reads writes : Type 0) (came up : Bool) (ends : ℕ) (read_failed write_failed : Bool) (input : Incoming) (output : List ℕ) : Type 0 where
+pub record IsDoor (reads writes : Type 0) (came up : Bool) (ends : ℕ) (read_failed write_failed : Bool)
+    (input : Incoming) (output : List ℕ) : Type 0 where
   pub unread : came ≡ false → reads → input.left ≡ input.bytes
   pub unwritten : came ≡ false → writes → output ≡ []
   pub not_ended : came ≡ false → ends ≡ 0

@@ -3,7 +3,8 @@ use Rattle.std.specs.Prelude.{◌≡◌, ◌≢◌, ◌≤◌, ◌⊎◌, ℕ, L
 use Rattle.std.specs.declared.alloc.AllocError.{AllocError}
 use Rattle.std.specs.declared.io.ErrorKind.{ErrorKind}
 use Rattle.std.specs.declared.io.ErrorKind.TheVariants as kind
-use Rattle.host_calls.specs.Files.{Answer, FileCall, FileCalls, FilesState, Hold, Standing, called, made_once, new_file, whole}
+use Rattle.host_calls.specs.Files.{Answer, FileCall, FileCalls, FilesState, Hold, Standing, called, made_once, new_file}
+use Rattle.host_calls.specs.Files.{whole}
 use Rattle.site_traits.specs.Site.{SiteState}
 use Rattle.outside_edges.specs.Site.{why_by}
 use Rattle.outside_edges.specs.declared.real_site.FolderSync.{FolderSync}

@@ -1,5 +1,6 @@
 -- The journal's real file.
-use Rattle.std.specs.Prelude.{◌≡◌, ◌≢◌, ◌⊎◌, ℕ, ◌+◌, ◌-◌, nat_le, List, [], length, take, drop, true, Option, Some, None, IfSome, IsSomeAnd, if◌then◌else◌}
+use Rattle.std.specs.Prelude.{◌≡◌, ◌≢◌, ◌⊎◌, ℕ, ◌+◌, ◌-◌, nat_le, List, [], length, take, drop, true, Option, Some}
+use Rattle.std.specs.Prelude.{None, IfSome, IsSomeAnd, if◌then◌else◌}
 use Rattle.std.specs.Int.{w32, from_be_bytes}
 use Rattle.std.specs.declared.io.ErrorKind.{ErrorKind}
 use Rattle.std.specs.declared.io.ErrorKind.TheVariants as kind
@@ -12,15 +13,27 @@ use Rattle.outside_edges.specs.declared.real_site.RealSite.{RealSite}
 use Rattle.outside_edges.specs.declared.real_site.WhyLost.{WhyLost}
 use Rattle.outside_edges.specs.declared.real_site.WhyLost.TheVariants as why
 
--- how often its disk calls, its calls on jobs and the looks among these failed, how often a begin was refused, and what was asked of its file
+-- how often its disk calls, its calls on jobs and the looks among these failed, how often a begin was refused, and what
+-- was asked of its file
 abbrev pub counts_of : {F J : Type 0} → RealSite F J → SiteCounts
 counts_of site =
-    record { disk = site.faults; vim = site.vim_faults; look = site.look_faults; refusals = site.refusals; writes = site.writes; cuts = site.cuts; syncs = site.syncs }
+    record {
+      disk = site.faults;
+      vim = site.vim_faults;
+      look = site.look_faults;
+      refusals = site.refusals;
+      writes =
+          site.writes;
+      cuts = site.cuts;
+      syncs = site.syncs;
+    }
 
--- the manager's number, which are bytes 9 to 12 of a journal's file, where these bytes of it, from this place on, hold all of them
+-- the manager's number, which are bytes 9 to 12 of a journal's file, where these bytes of it, from this place on, hold
+-- all of them
 abbrev pub number_in : ℕ → List ℕ → Option ℕ
 number_in at bytes =
-    if nat_le at 9 then (if nat_le 13 (at + length bytes) then Some (from_be_bytes w32 (take 4 (drop (9 - at) bytes))) else None) else None
+    if nat_le at 9 then (if nat_le 13 (at + length bytes) then Some (from_be_bytes w32 (take 4 (drop (9 - at) bytes)))
+    else None) else None
 
 -- the number that is known behind a read: the one that was read, else the one from before
 abbrev pub manager_by : Option ℕ → ℕ → ℕ
@@ -48,13 +61,15 @@ content_of (Some standing) = standing.content
 
 -- it is what stood at the path, or an empty file where nothing did; it is a regular file, is locked, and reads what the
 -- disk has
-pub record IsHad {F : Type 0} (state : F → SiteState) (hold : F → Hold) (path : List ℕ) (folder : FolderSync) (file : F) (old new : FilesState) : Type 0 where
+pub record IsHad {F : Type 0} (state : F → SiteState) (hold : F → Hold) (path : List ℕ) (folder : FolderSync) (file : F)
+    (old new : FilesState) : Type 0 where
   pub image : (state file).image ≡ content_of (old.at path)
   pub hold_is : hold file ≡ whole
   pub named : IsNamed path folder old new
 
 -- where a file was opened, it is the one that is to be had
-abbrev pub IsHeld : {F : Type 0} → (F → SiteState) → (F → Hold) → List ℕ → FolderSync → Option F → FilesState → FilesState → Type 0
+abbrev pub IsHeld : {F : Type 0} → (F → SiteState) → (F → Hold) → List ℕ → FolderSync → Option F → FilesState
+    → FilesState → Type 0
 IsHeld state hold path folder file old new = IfSome file (λ f. IsHad state hold path folder f old new)
 
 -- why a file couldn't be had, by the kind of the fault of the call that failed

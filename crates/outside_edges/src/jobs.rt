@@ -7,11 +7,11 @@ use host_calls::HostFile;
 use lcm_events::{Act, Tag};
 use site_traits::{AbortAnswer, BeginAnswer, LookAnswer};
 
-/// The jobs that an infrastructure does for a manager whose journal is in a file of this kind. The site that has both counts the calls that
-/// fail.
+/// The jobs that an infrastructure does for a manager whose journal is in a file of this kind. The site that has both
+/// counts the calls that fail.
 ///
-/// Nothing tells what a real infrastructure does. So files that tell what they do stand beside jobs of which each call fails. What was
-/// asked, and what it answered, is told of all.
+/// Nothing tells what a real infrastructure does. So files that tell what they do stand beside jobs of which each call
+/// fails. What was asked, and what it answered, is told of all.
 /// Source: own rule, docs/VIM.md.
 pub trait Jobs<F: HostFile> {
     ghost use Rattle.std.specs.Prelude.{ℕ, List};

@@ -1,5 +1,6 @@
-//! The outside as it is: the journal's file under its lock, a connection over a reader and a writer, the machine's clock, a stream,
-//! and what stands in for peers that can't be reached. Each is over calls of std that host_calls states, tells what they tell, and counts its failures.
+//! The outside as it is: the journal's file under its lock, a connection over a reader and a writer, the machine's
+//! clock, a stream, and what stands in for peers that can't be reached. Each is over calls of std that host_calls
+//! states, tells what they tell, and counts its failures.
 #![tactic(auto)]
 
 mod counted;

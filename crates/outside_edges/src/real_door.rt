@@ -1,7 +1,8 @@
 //! Standard input and output as a door with one connection.
 ghost use Rattle.std.specs.Prelude.{◌≡◌, ◌≢◌, ◌≤◌, ◌<◌, ◌-◌, ◌^◌, [], IfOk, IfErr, false, true, length};
 ghost use Rattle.std.specs.IoError.{error_kind};
-ghost use Rattle.site_traits.specs.Door.{HangsUp, IsAmount, IsTaken, NextCause, Nexts, ReadCause, ReadsIn, WriteCause, WritesOut, asked_for, closed, write_counts};
+ghost use Rattle.site_traits.specs.Door.{HangsUp, IsAmount, IsTaken, NextCause, Nexts, ReadCause, ReadsIn, WriteCause};
+ghost use Rattle.site_traits.specs.Door.{WritesOut, asked_for, closed, write_counts};
 ghost use Rattle.host_calls.specs.Streams.{Gives, Takes, fault_of};
 ghost use Rattle.outside_edges.specs.Again.{MadeAgain, ReadsAgain, WritesAgain};
 ghost use Rattle.outside_edges.specs.Door.{counted, state_of, IsDoor};
@@ -72,7 +73,8 @@ impl<I: InStream, O: OutStream> Door for RealDoor<I, O> {
 
     ghost tells = { I.tells × O.tells };
 
-    ghost state = { λ d. state_of d.came d.role d.ends d.up d.read_failed d.write_failed (I.state d.input) (O.state d.output) };
+    ghost state = { λ d. state_of d.came d.role d.ends d.up d.read_failed d.write_failed (I.state d.input)
+        (O.state d.output) };
 
     ghost counts = { λ d. counted d.faults d.next_faults d.up };
 
@@ -81,9 +83,14 @@ impl<I: InStream, O: OutStream> Door for RealDoor<I, O> {
     fn next(&mut self) -> NextAnswer
         ensures first { self.old.came ≡ false → result ≡ NextAnswer.Came self.old.role }
         ensures later { self.old.came ≡ true → self.old.ends < 2 ^ 64 - 1 → result ≡ NextAnswer.Ended }
-        ensures told { I.tells × O.tells → Nexts result (state_of self.old.came self.old.role self.old.ends self.old.up self.old.read_failed self.old.write_failed (I.state self.old.input) (O.state self.old.output)) (state_of self.new.came self.new.role self.new.ends self.new.up self.new.read_failed self.new.write_failed (I.state self.new.input) (O.state self.new.output)) }
-        ensures cause { NextCause result (counted self.old.faults self.old.next_faults self.old.up) (counted self.new.faults self.new.next_faults self.new.up) }
-        ensures no_write { write_counts self.new.writes self.new.short_writes ≡ write_counts self.old.writes self.old.short_writes }
+        ensures told { I.tells × O.tells → Nexts result (state_of self.old.came self.old.role self.old.ends self.old.up
+            self.old.read_failed self.old.write_failed (I.state self.old.input) (O.state self.old.output))
+            (state_of self.new.came self.new.role self.new.ends self.new.up self.new.read_failed self.new.write_failed
+            (I.state self.new.input) (O.state self.new.output)) }
+        ensures cause { NextCause result (counted self.old.faults self.old.next_faults self.old.up)
+            (counted self.new.faults self.new.next_faults self.new.up) }
+        ensures no_write { write_counts self.new.writes self.new.short_writes
+            ≡ write_counts self.old.writes self.old.short_writes }
         ensures uncalled { (self.new.input ≡ self.old.input) × (self.new.output ≡ self.old.output) }
     {
         if !self.came {
@@ -104,10 +111,17 @@ impl<I: InStream, O: OutStream> Door for RealDoor<I, O> {
         requires some { 1 ≤ length into.old }
         requires up { self.old.up ≡ true }
         ensures amount { IsAmount result (length into.old) }
-        ensures told { I.tells × O.tells → ReadsIn into.old into.new result (state_of self.old.came self.old.role self.old.ends self.old.up self.old.read_failed self.old.write_failed (I.state self.old.input) (O.state self.old.output)) (state_of self.new.came self.new.role self.new.ends self.new.up self.new.read_failed self.new.write_failed (I.state self.new.input) (O.state self.new.output)) }
-        ensures cause { ReadCause result (counted self.old.faults self.old.next_faults self.old.up) (counted self.new.faults self.new.next_faults self.new.up) }
-        ensures no_write { write_counts self.new.writes self.new.short_writes ≡ write_counts self.old.writes self.old.short_writes }
-        ensures again { I.tells → ReadsAgain (length into.old) result (I.calls self.old.input) (I.calls self.new.input) }
+        ensures told { I.tells × O.tells → ReadsIn into.old into.new result
+            (state_of self.old.came self.old.role self.old.ends self.old.up self.old.read_failed self.old.write_failed
+            (I.state self.old.input) (O.state self.old.output))
+            (state_of self.new.came self.new.role self.new.ends self.new.up self.new.read_failed self.new.write_failed
+            (I.state self.new.input) (O.state self.new.output)) }
+        ensures cause { ReadCause result (counted self.old.faults self.old.next_faults self.old.up)
+            (counted self.new.faults self.new.next_faults self.new.up) }
+        ensures no_write { write_counts self.new.writes self.new.short_writes
+            ≡ write_counts self.old.writes self.old.short_writes }
+        ensures again { I.tells → ReadsAgain (length into.old) result (I.calls self.old.input)
+            (I.calls self.new.input) }
         ensures unwritten { self.new.output ≡ self.old.output }
     {
         match read_some(&mut self.input, into) {
@@ -125,10 +139,17 @@ impl<I: InStream, O: OutStream> Door for RealDoor<I, O> {
         requires some { 1 ≤ length bytes.now }
         requires up { self.old.up ≡ true }
         ensures amount { IsTaken result (length bytes.now) }
-        ensures told { I.tells × O.tells → WritesOut bytes.now result (state_of self.old.came self.old.role self.old.ends self.old.up self.old.read_failed self.old.write_failed (I.state self.old.input) (O.state self.old.output)) (state_of self.new.came self.new.role self.new.ends self.new.up self.new.read_failed self.new.write_failed (I.state self.new.input) (O.state self.new.output)) }
-        ensures cause { WriteCause result (counted self.old.faults self.old.next_faults self.old.up) (counted self.new.faults self.new.next_faults self.new.up) }
-        ensures one { write_counts self.new.writes self.new.short_writes ≡ asked_for (length bytes.now) result (write_counts self.old.writes self.old.short_writes) }
-        ensures again { O.tells → WritesAgain (length bytes.now) result (O.calls self.old.output) (O.calls self.new.output) }
+        ensures told { I.tells × O.tells → WritesOut bytes.now result
+            (state_of self.old.came self.old.role self.old.ends self.old.up self.old.read_failed self.old.write_failed
+            (I.state self.old.input) (O.state self.old.output))
+            (state_of self.new.came self.new.role self.new.ends self.new.up self.new.read_failed self.new.write_failed
+            (I.state self.new.input) (O.state self.new.output)) }
+        ensures cause { WriteCause result (counted self.old.faults self.old.next_faults self.old.up)
+            (counted self.new.faults self.new.next_faults self.new.up) }
+        ensures one { write_counts self.new.writes self.new.short_writes
+            ≡ asked_for (length bytes.now) result (write_counts self.old.writes self.old.short_writes) }
+        ensures again { O.tells → WritesAgain (length bytes.now) result (O.calls self.old.output)
+            (O.calls self.new.output) }
         ensures unread { self.new.input ≡ self.old.input }
     {
         count_call(&mut self.writes);
@@ -149,9 +170,14 @@ impl<I: InStream, O: OutStream> Door for RealDoor<I, O> {
 
     fn hang_up(&mut self)
         requires up { self.old.up ≡ true }
-        ensures told { I.tells × O.tells → HangsUp (state_of self.old.came self.old.role self.old.ends self.old.up self.old.read_failed self.old.write_failed (I.state self.old.input) (O.state self.old.output)) (state_of self.new.came self.new.role self.new.ends self.new.up self.new.read_failed self.new.write_failed (I.state self.new.input) (O.state self.new.output)) }
-        ensures cause { counted self.new.faults self.new.next_faults self.new.up ≡ closed (counted self.old.faults self.old.next_faults self.old.up) }
-        ensures no_write { write_counts self.new.writes self.new.short_writes ≡ write_counts self.old.writes self.old.short_writes }
+        ensures told { I.tells × O.tells → HangsUp (state_of self.old.came self.old.role self.old.ends self.old.up
+            self.old.read_failed self.old.write_failed (I.state self.old.input) (O.state self.old.output))
+            (state_of self.new.came self.new.role self.new.ends self.new.up self.new.read_failed self.new.write_failed
+            (I.state self.new.input) (O.state self.new.output)) }
+        ensures cause { counted self.new.faults self.new.next_faults self.new.up
+            ≡ closed (counted self.old.faults self.old.next_faults self.old.up) }
+        ensures no_write { write_counts self.new.writes self.new.short_writes
+            ≡ write_counts self.old.writes self.old.short_writes }
         ensures uncalled { (self.new.input ≡ self.old.input) × (self.new.output ≡ self.old.output) }
     {
         self.up = false;

@@ -7,8 +7,8 @@ use crate::counted::{count_call, count_fault};
 use host_calls::OutStream;
 use site_traits::{Sink, SinkFailed};
 
-/// A stream that takes the program's lines. A put that failed may have written a front of its bytes, so it tells nothing as a
-/// sink; what its stream tells stands in the clause `out`.
+/// A stream that takes the program's lines. A put that failed may have written a front of its bytes, so it tells
+/// nothing as a sink; what its stream tells stands in the clause `out`.
 #[derive(Drop)]
 pub struct RealSink<O: OutStream> {
     stream: O,
@@ -42,8 +42,10 @@ impl<O: OutStream> Sink for RealSink<O> {
 
     fn put(&mut self, bytes: &[u8]) -> Result<(), SinkFailed>
         ensures out { O.tells → TakesAll bytes.now result (O.state self.old.stream) (O.state self.new.stream) }
-        ensures one { O.tells → (fault : Option ErrorKind) × (O.calls self.new.stream ≡ called (length bytes.now) fault (O.calls self.old.stream)) }
-        ensures cause { SinkCause (record { calls = self.old.puts; faults = self.old.faults }) (record { calls = self.new.puts; faults = self.new.faults }) result }
+        ensures one { O.tells → (fault : Option ErrorKind) × (O.calls self.new.stream
+            ≡ called (length bytes.now) fault (O.calls self.old.stream)) }
+        ensures cause { SinkCause (record { calls = self.old.puts; faults = self.old.faults })
+            (record { calls = self.new.puts; faults = self.new.faults }) result }
         ensures counted { CountsOne result self.old.faults self.new.faults }
     {
         count_call(&mut self.puts);

@@ -1,14 +1,17 @@
 //! The journal's real file, under its exclusive lock.
-ghost use Rattle.std.specs.Prelude.{◌≡◌, ◌≤◌, ◌+◌, ◌∷◌, IfOk, OnErr, OnOk, IsErr, None, length, take, drop, true, if◌then◌else◌};
+ghost use Rattle.std.specs.Prelude.{◌≡◌, ◌≤◌, ◌+◌, ◌∷◌, IfOk, OnErr, OnOk, IsErr, None, length, take, drop, true};
+ghost use Rattle.std.specs.Prelude.{if◌then◌else◌};
 ghost use Rattle.std.specs.Int.{w32, from_be_bytes};
 ghost use Rattle.std.specs.IoError.{error_kind};
 ghost use Rattle.site_traits.specs.Counts.{Ask, asked, DiskCause, abort_counts, begin_counts, look_counts, one_more};
 ghost use Rattle.site_traits.specs.Site.{Aborts, Begins, Cuts, Looks, Reads, Syncs, Writes};
 ghost use Rattle.outside_edges.specs.Faults.{CountsOne};
 ghost use Rattle.host_calls.specs.Files.{free, new_file};
-ghost use Rattle.outside_edges.specs.Having.{Goes, IsLent, LeavesAll, MakesAtAll, Seeks, lost_by, lost_in, to_lend, to_name};
+ghost use Rattle.outside_edges.specs.Having.{Goes, IsLent, LeavesAll, MakesAtAll, Seeks, lost_by, lost_in, to_lend};
+ghost use Rattle.outside_edges.specs.Having.{to_name};
 ghost use Rattle.outside_edges.specs.Jobs.{JobCall};
-ghost use Rattle.outside_edges.specs.Site.{counts_of, manager_by, number_in, state_in, IsHad, IsExplained, IsHeld, OneCall, why_by};
+ghost use Rattle.outside_edges.specs.Site.{counts_of, manager_by, number_in, state_in, IsHad, IsExplained, IsHeld};
+ghost use Rattle.outside_edges.specs.Site.{OneCall, why_by};
 
 use crate::counted::{count_call, count_fault};
 use crate::jobs::Jobs;
@@ -49,10 +52,11 @@ pub enum WhyLost {
     Other,
 }
 
-/// The journal's file, and the jobs of an infrastructure. Until the file is opened, and where it couldn't be had, every call on it fails. Each
-/// call that fails is counted, and each begin that is refused.
+/// The journal's file, and the jobs of an infrastructure. Until the file is opened, and where it couldn't be had, every
+/// call on it fails. Each call that fails is counted, and each begin that is refused.
 ///
-/// It holds the file's exclusive lock until it is dropped, so that no second manager writes to it. It tells what its file tells.
+/// It holds the file's exclusive lock until it is dropped, so that no second manager writes to it. It tells what its
+/// file tells.
 #[derive(Drop)]
 pub struct RealSite<F: HostFile, J: Jobs<F>> {
     file: Option<F>,
@@ -70,7 +74,18 @@ pub struct RealSite<F: HostFile, J: Jobs<F>> {
 impl<F: HostFile + Drop, J: Jobs<F> + Drop> RealSite<F, J> {
     /// A site of which no file was opened yet, with these jobs.
     pub fn made(jobs: J) -> RealSite<F, J>
-        ensures { result ≡ record { file = None; why = None; jobs = jobs; faults = 0; vim_faults = 0; look_faults = 0; refusals = 0; writes = 0; cuts = 0; syncs = 0 } }
+        ensures { result ≡ record {
+          file = None;
+          why = None;
+          jobs = jobs;
+          faults = 0;
+          vim_faults = 0;
+          look_faults = 0;
+          refusals = 0;
+          writes = 0;
+          cuts = 0;
+          syncs = 0;
+        } }
     {
         RealSite {
             file: None,
@@ -123,8 +138,10 @@ impl<F: HostFile + Drop, J: Jobs<F> + Drop> RealSite<F, J> {
         path: &str,
         folder: FolderSync,
     ) -> Result<(), AllocError>
-        ensures had { H.tells → F.tells → OnOk result (IsHeld F.state F.hold path.now folder self.new.file (H.state host.old) (H.state host.new)) }
-        ensures seeks { H.tells → Seeks path.now folder (lost_by result self.new.why) (H.state host.old) (H.state host.new) }
+        ensures had { H.tells → F.tells → OnOk result (IsHeld F.state F.hold path.now folder self.new.file
+            (H.state host.old) (H.state host.new)) }
+        ensures seeks { H.tells → Seeks path.now folder (lost_by result self.new.why) (H.state host.old)
+            (H.state host.new) }
         ensures stands { H.tells → LeavesAll path.now (H.state host.old) (H.state host.new) }
         ensures why { OnOk result (IsExplained self.new.file self.new.why) }
         ensures refused { OnErr result (self.new ≡ self.old) }
@@ -161,7 +178,8 @@ fn found<H: HostFiles>(
     path: &str,
     folder: FolderSync,
 ) -> Result<H::File, WhyLost>
-    ensures had { H.tells → IfOk result (λ file. IsHad H.File.state H.File.hold path.now folder file (H.state host.old) (H.state host.new)) }
+    ensures had { H.tells → IfOk result (λ file. IsHad H.File.state H.File.hold path.now folder file (H.state host.old)
+        (H.state host.new)) }
     ensures seeks { H.tells → Seeks path.now folder (lost_in result) (H.state host.old) (H.state host.new) }
 {
     match host.open(streams, path) {
@@ -270,10 +288,12 @@ impl<F: HostFile, J: Jobs<F>> Site for RealSite<F, J> {
         requires { F.tells → at + length into.old ≤ length (state_in F.state self.old.file).image }
         ensures lost { self.old.file ≡ None → IsErr result }
         ensures one { F.tells → OneCall F.calls self.old.file self.new.file }
-        ensures bytes { F.tells → OnOk result (into.new ≡ take (length into.old) (drop at (state_in F.state self.old.file).image)) }
+        ensures bytes { F.tells → OnOk result (into.new ≡ take (length into.old)
+            (drop at (state_in F.state self.old.file).image)) }
         ensures told { F.tells → Reads (state_in F.state self.old.file) (state_in F.state self.new.file) }
         ensures cause { DiskCause (counts_of self.old) (counts_of self.new) result }
-        ensures noted { OnOk result (J.manager self.new.jobs ≡ manager_by (number_in at into.new) (J.manager self.old.jobs)) }
+        ensures noted { OnOk result (J.manager self.new.jobs
+            ≡ manager_by (number_in at into.new) (J.manager self.old.jobs)) }
         ensures unnoted { OnErr result (self.new.jobs ≡ self.old.jobs) }
         ensures unasked { J.calls self.new.jobs ≡ J.calls self.old.jobs }
     {
@@ -292,7 +312,8 @@ impl<F: HostFile, J: Jobs<F>> Site for RealSite<F, J> {
         requires { F.tells → at ≤ length (state_in F.state self.old.file).image }
         ensures lost { self.old.file ≡ None → IsErr result }
         ensures one { F.tells → OneCall F.calls self.old.file self.new.file }
-        ensures told { F.tells → Writes at bytes.now result (state_in F.state self.old.file) (state_in F.state self.new.file) }
+        ensures told { F.tells → Writes at bytes.now result (state_in F.state self.old.file)
+            (state_in F.state self.new.file) }
         ensures cause { DiskCause (asked Ask.write (counts_of self.old)) (counts_of self.new) result }
         ensures jobs { self.new.jobs ≡ self.old.jobs }
     {
@@ -324,7 +345,8 @@ impl<F: HostFile, J: Jobs<F>> Site for RealSite<F, J> {
     }
 
     fn begin(&mut self, tag: &Tag, act: &Act) -> BeginAnswer
-        ensures told { F.tells → Begins tag.now act.now result (state_in F.state self.old.file) (state_in F.state self.new.file) }
+        ensures told { F.tells → Begins tag.now act.now result (state_in F.state self.old.file)
+            (state_in F.state self.new.file) }
         ensures cause { counts_of self.new ≡ begin_counts result (counts_of self.old) }
         ensures asks { J.calls self.new.jobs ≡ JobCall.beginning tag.now act.now result ∷ J.calls self.old.jobs }
         ensures manager { J.manager self.new.jobs ≡ J.manager self.old.jobs }
@@ -344,7 +366,8 @@ impl<F: HostFile, J: Jobs<F>> Site for RealSite<F, J> {
     }
 
     fn look(&mut self, tag: &Tag) -> LookAnswer
-        ensures told { F.tells → Looks tag.now result (state_in F.state self.old.file) (state_in F.state self.new.file) }
+        ensures told { F.tells → Looks tag.now result (state_in F.state self.old.file)
+            (state_in F.state self.new.file) }
         ensures cause { counts_of self.new ≡ look_counts result (counts_of self.old) }
         ensures asks { J.calls self.new.jobs ≡ JobCall.looking tag.now result ∷ J.calls self.old.jobs }
         ensures manager { J.manager self.new.jobs ≡ J.manager self.old.jobs }
@@ -361,7 +384,8 @@ impl<F: HostFile, J: Jobs<F>> Site for RealSite<F, J> {
     }
 
     fn abort(&mut self, tag: &Tag) -> AbortAnswer
-        ensures told { F.tells → Aborts tag.now result (state_in F.state self.old.file) (state_in F.state self.new.file) }
+        ensures told { F.tells → Aborts tag.now result (state_in F.state self.old.file)
+            (state_in F.state self.new.file) }
         ensures cause { counts_of self.new ≡ abort_counts result (counts_of self.old) }
         ensures asks { J.calls self.new.jobs ≡ JobCall.aborting tag.now result ∷ J.calls self.old.jobs }
         ensures manager { J.manager self.new.jobs ≡ J.manager self.old.jobs }
@@ -423,7 +447,8 @@ fn read_from<F: HostFile>(
     ensures lost { file.old ≡ None → IsErr result }
     ensures counted { CountsOne result faults.old faults.new }
     ensures one { F.tells → OneCall F.calls file.old file.new }
-    ensures bytes { F.tells → OnOk result (into.new ≡ take (length into.old) (drop at (state_in F.state file.old).image)) }
+    ensures bytes { F.tells → OnOk result (into.new ≡ take (length into.old)
+        (drop at (state_in F.state file.old).image)) }
     ensures told { F.tells → Reads (state_in F.state file.old) (state_in F.state file.new) }
 {
     match file {

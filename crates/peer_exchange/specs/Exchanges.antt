@@ -1,5 +1,6 @@
 -- One exchange on a connection: a request goes out, its reply comes in (own rules).
-use Rattle.std.specs.Prelude.{◌≡◌, ◌⊎◌, ℕ, ◌+◌, ◌-◌, ◌<◌, ◌≤◌, Bool, true, false, List, [], ◌++◌, length, take, Result, Ok, Err, Option, Some, None, OnErr, IfOk, option_map}
+use Rattle.std.specs.Prelude.{◌≡◌, ◌⊎◌, ℕ, ◌+◌, ◌-◌, ◌<◌, ◌≤◌, Bool, true, false, List, [], ◌++◌, length, take, Result}
+use Rattle.std.specs.Prelude.{Ok, Err, Option, Some, None, OnErr, IfOk, option_map}
 use Rattle.edge_limits.specs.declared.limits.Exchange.{Exchange}
 use Rattle.edge_limits.specs.Waits.{left, shorter}
 use Rattle.host_calls.specs.Streams.{Incoming, Got, GotNothing}
@@ -27,7 +28,8 @@ pub record IsInTime (limits : Exchange) (began : ℕ) (look : Look) : Type 0 whe
 -- nothing, there is none
 abbrev pub look_at : Exchange → ℕ → Option ℕ → Option Look
 look_at limits began None = None
-look_at limits began (Some now) = option_map (λ wait. record { wait = wait; now = now }) (shorter limits.silence (left limits.whole began now))
+look_at limits began (Some now) = option_map (λ wait. record { wait = wait; now = now })
+    (shorter limits.silence (left limits.whole began now))
 
 -- a call that was made behind a look was allowed to wait just as long as the look says
 abbrev pub WaitsBy : Exchange → ℕ → Option ℕ → ℕ → Type 0
@@ -43,7 +45,8 @@ pub record HasRead (some : List ℕ) (old new : Incoming) : Type 0 where
   pub bytes : new.bytes ≡ old.bytes
 
 -- what came is a whole reply: it was judged so, of a connection that has ended or not, and no byte more was read
-pub record IsReplied (is : Bool → List ℕ → Judged → Type 0) (tells : Type 0) (bytes : List ℕ) (old new : Incoming) : Type 0 where
+pub record IsReplied (is : Bool → List ℕ → Judged → Type 0) (tells : Type 0) (bytes : List ℕ)
+    (old new : Incoming) : Type 0 where
   pub ended : Bool
   pub whole : is ended bytes judged.Whole
   pub read : tells → HasRead bytes old new
@@ -67,8 +70,10 @@ IsLost is most bytes lost.TooLong = (most ≤ length bytes) × IsPartYet is byte
 IsLost is most bytes lost.Memory = IsPartYet is bytes ⊎ ((ended : Bool) × is ended bytes judged.Unknown)
 
 -- what came in, by the answer
-abbrev pub Receives : (Bool → List ℕ → Judged → Type 0) → Type 0 → ℕ → Exchange → ℕ → List ℕ → Incoming → Incoming → Result ℕ Lost → Type 0
-Receives is tells most limits began bytes old new (Ok last) = IsReplied is tells bytes old new × EndsInTime limits began last
+abbrev pub Receives : (Bool → List ℕ → Judged → Type 0) → Type 0 → ℕ → Exchange → ℕ → List ℕ → Incoming → Incoming
+    → Result ℕ Lost → Type 0
+Receives is tells most limits began bytes old new (Ok last) =
+    IsReplied is tells bytes old new × EndsInTime limits began last
 Receives is tells most limits began bytes old new (Err why) = IsLost is most bytes why
 
 -- the request went out: all of it, once, or, where the exchange failed, a front of it

@@ -71,7 +71,8 @@ impl Room {
 /// Sends this request once, and reads its reply until that is whole. Each byte that comes belongs to the reply: what
 /// goes on behind it is refused. What came stands in the room.
 ///
-/// Each call waits as long as the look at the stopwatch before it says, and isn't made where nothing of its time is left.
+/// Each call waits as long as the look at the stopwatch before it says, and isn't made where nothing of its time is
+/// left.
 ///
 /// Condition: nothing was judged of a reply before.
 /// Where it failed, the connection is of no use: a reply may still come on it.
@@ -86,9 +87,11 @@ pub fn exchange<R: Reply, C: Connection, T: Stopwatch>(
     requires limits { limits.silence < 2 ^ 32 }
     requires fresh { R.judged reply.old [] }
     ensures sends { C.tells → Sends request.now (C.outgoing connection.old) (C.outgoing connection.new) result }
-    ensures replied { IfOk result (λ spent. IsReplied (R.is reply.new) C.tells room.new.bytes.items (C.incoming connection.old) (C.incoming connection.new)) }
+    ensures replied { IfOk result (λ spent. IsReplied (R.is reply.new) C.tells room.new.bytes.items
+        (C.incoming connection.old) (C.incoming connection.new)) }
     ensures in_time { IfOk result (λ spent. EndsInTime limits spent.began spent.last) }
-    ensures waits { C.tells → T.tells → IfOk result (λ spent. WaitsBy limits spent.began (T.shown watch.new) (C.allowed connection.new)) }
+    ensures waits { C.tells → T.tells → IfOk result (λ spent.
+        WaitsBy limits spent.began (T.shown watch.new) (C.allowed connection.new)) }
     ensures began { T.tells → IfOk result (λ spent. T.shows watch.old ≡ Some spent.began) }
     ensures lost { IfErr result (IsLost (R.is reply.new) room.new.most room.new.bytes.items) }
     ensures room { room.new.most ≡ room.old.most }
@@ -144,7 +147,8 @@ fn write_some<C: Connection, T: Stopwatch>(
     ensures told { C.tells → Takes bytes.now result (C.outgoing connection.old) (C.outgoing connection.new) }
     ensures kept { C.tells → C.incoming connection.new ≡ C.incoming connection.old }
     ensures why { IfErr result (λ lost. (lost ≡ Lost.Unsent) ⊎ (lost ≡ Lost.Late)) }
-    ensures waits { C.tells → T.tells → IfOk result (λ n. WaitsBy limits began (T.shown watch.new) (C.allowed connection.new)) }
+    ensures waits { C.tells → T.tells → IfOk result (λ n.
+        WaitsBy limits began (T.shown watch.new) (C.allowed connection.new)) }
 {
     'tries: for _ in 0..TRIES {
         let Some(look) = look_now(watch, limits, began) else {
@@ -172,8 +176,10 @@ fn receive<R: Reply, C: Connection, T: Stopwatch>(
     requires fresh { R.judged reply.old [] }
     requires nothing { room.old.bytes.items ≡ [] }
     ensures kept { C.tells → C.outgoing connection.new ≡ C.outgoing connection.old }
-    ensures waits { C.tells → T.tells → IfOk result (λ last. WaitsBy limits began (T.shown watch.new) (C.allowed connection.new)) }
-    ensures receives { Receives (R.is reply.new) C.tells room.new.most limits began room.new.bytes.items (C.incoming connection.old) (C.incoming connection.new) result }
+    ensures waits { C.tells → T.tells → IfOk result (λ last.
+        WaitsBy limits began (T.shown watch.new) (C.allowed connection.new)) }
+    ensures receives { Receives (R.is reply.new) C.tells room.new.most limits began room.new.bytes.items
+        (C.incoming connection.old) (C.incoming connection.new) result }
     ensures room { room.new.most ≡ room.old.most }
 {
     'reads: while room.bytes.len() < room.most {
@@ -210,7 +216,8 @@ fn read_some<C: Connection, T: Stopwatch>(
     ensures kept { C.tells → C.outgoing connection.new ≡ C.outgoing connection.old }
     ensures in_time { IfOk result (λ x. EndsInTime limits began x.1) }
     ensures why { IfErr result (λ lost. (lost ≡ Lost.Unread) ⊎ (lost ≡ Lost.Late)) }
-    ensures waits { C.tells → T.tells → IfOk result (λ x. WaitsBy limits began (T.shown watch.new) (C.allowed connection.new)) }
+    ensures waits { C.tells → T.tells → IfOk result (λ x.
+        WaitsBy limits began (T.shown watch.new) (C.allowed connection.new)) }
 {
     'tries: for _ in 0..TRIES {
         let Some(look) = look_now(watch, limits, began) else {

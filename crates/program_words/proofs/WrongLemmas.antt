@@ -1,5 +1,6 @@
 -- What is wrong first, word by word.
-use Rattle.std.proofs.Common.{◌≡◌, ◌≤◌, ◌+◌, ◌-◌, ℕ, List, [], ◌∷◌, ◌++◌, true, ap, ap₂, refl, subst, sym, ◌∙◌, length, drop, take, zero, suc, arith}
+use Rattle.std.proofs.Common.{◌≡◌, ◌≤◌, ◌+◌, ◌-◌, ℕ, List, [], ◌∷◌, ◌++◌, true, ap, ap₂, refl, subst, sym, ◌∙◌, length, drop, take, zero}
+use Rattle.std.proofs.Common.{suc, arith}
 use Rattle.std.specs.List.{slice_index_or}
 use Rattle.std.proofs.lemmas.List.{length-drop, take_all}
 use Rattle.command_line.specs.Words.{Word as Bytes, takes}
@@ -7,7 +8,8 @@ use Rattle.command_line.specs.declared.options.Command.{Command}
 use Rattle.program_words.specs.Wrong.{is_new, wrong_behind}
 
 -- two words more
-two_more : (ws : List Bytes) (at : ℕ) (o v : Bytes) (rest : List Bytes) → drop at ws ≡ o ∷ v ∷ rest → (take (at + 2) ws ≡ take at ws ++ o ∷ v ∷ []) × (drop (at + 2) ws ≡ rest)
+two_more : (ws : List Bytes) (at : ℕ) (o v : Bytes) (rest : List Bytes) → drop at ws ≡ o ∷ v ∷ rest
+    → (take (at + 2) ws ≡ take at ws ++ o ∷ v ∷ []) × (drop (at + 2) ws ≡ rest)
 two_more [] zero o v rest is = cc
 two_more [] (suc n) o v rest is = cc
 two_more (x ∷ xs) zero o v rest is = first xs (tail_is is) where
@@ -43,14 +45,17 @@ pair_right c before o v rest new taken = rw (new, taken) refl
 rest_is : (ws : List Bytes) (at : ℕ) → take (length ws - at) (drop at ws) ≡ drop at ws
 rest_is ws at = take_all (length ws - at) (drop at ws) (subst (λ n. n ≤ length ws - at) (sym (length-drop at ws)) (omega arith))
 
-pub one_more : (c : Command) (ws : List Bytes) (at : ℕ) (o v : Bytes) → at ≤ length ws → 2 ≤ length (take (length ws - at) (drop at ws)) → o ≡ slice_index_or (take (length ws - at) (drop at ws)) 0 o
+pub one_more : (c : Command) (ws : List Bytes) (at : ℕ) (o v : Bytes) → at ≤ length ws → 2 ≤ length (take (length ws - at) (drop at ws))
+    → o ≡ slice_index_or (take (length ws - at) (drop at ws)) 0 o
     → v ≡ slice_index_or (take (length ws - at) (drop at ws)) 1 v → is_new c (take at ws) o ≡ true → takes c (o, v) ≡ true
-    → (1 ≤ at + 2) × (at + 2 ≤ length ws) × (wrong_behind c (take at ws) (drop at ws) ≡ wrong_behind c (take (at + 2) ws) (drop (at + 2) ws))
+    → (1 ≤ at + 2) × (at + 2 ≤ length ws) × (wrong_behind c (take at ws) (drop at ws)
+    ≡ wrong_behind c (take (at + 2) ws) (drop (at + 2) ws))
 one_more c ws at o v most two first second new taken =
     let same = rest_is ws at in
     let some : 2 ≤ length (drop at ws) = subst (λ ys. 2 ≤ length ys) same two in
     let is : drop at ws ≡ o ∷ v ∷ drop 2 (drop at ws) =
-    front (drop at ws) o v some (subst (λ ys. o ≡ slice_index_or ys 0 o) same first) (subst (λ ys. v ≡ slice_index_or ys 1 v) same second) in
+    front (drop at ws) o v some (subst (λ ys. o ≡ slice_index_or ys 0 o) same first)
+    (subst (λ ys. v ≡ slice_index_or ys 1 v) same second) in
     let more = two_more ws at o v (drop 2 (drop at ws)) is in
     let count = left ws at most in (
       omega arith,

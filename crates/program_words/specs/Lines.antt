@@ -5,7 +5,8 @@ use Rattle.program_words.specs.Wrong.{wrong_of}
 use Rattle.program_words.specs.declared.reason.Reason.{Reason}
 use Rattle.program_words.specs.declared.reason.Reason.TheVariants as say
 use Rattle.program_words.specs.declared.wrong.Wrong.{Wrong}
-use Rattle.program_words.specs.declared.wrong.Wrong.TheVariants.{Word, NoCommand, NoValue, NoJournal, NoManager, Nothing}
+use Rattle.program_words.specs.declared.wrong.Wrong.TheVariants.{Word, NoCommand, NoValue, NoJournal, NoManager}
+use Rattle.program_words.specs.declared.wrong.Wrong.TheVariants.{Nothing}
 
 -- a line that says this
 abbrev pub plain_line : List ℕ → List ℕ
@@ -31,8 +32,10 @@ IsAboutWord text None line = line ≡ plain_line (codes "the words are no comman
 
 -- a line that says what is wrong first with the words
 abbrev pub IsWrongLine : List (List ℕ) → Wrong → List ℕ → Type 0
-IsWrongLine words (Word place) line = IsAboutWord (codes "isn't understood; vnfm --help says more") (slice_get words place) line
-IsWrongLine words (NoValue place) line = IsAboutWord (codes "has no value; vnfm --help says more") (slice_get words place) line
+IsWrongLine words (Word place) line = IsAboutWord (codes "isn't understood; vnfm --help says more")
+    (slice_get words place) line
+IsWrongLine words (NoValue place) line = IsAboutWord (codes "has no value; vnfm --help says more")
+    (slice_get words place) line
 IsWrongLine words NoCommand line = line ≡ plain_line (codes "a command is missing; vnfm --help says more")
 IsWrongLine words NoJournal line = line ≡ plain_line (codes "--journal PATH is missing; vnfm --help says more")
 IsWrongLine words NoManager line = line ≡ plain_line (codes "--manager N is missing; vnfm --help says more")
@@ -50,8 +53,11 @@ IsLineOf say.Input words line = line ≡ plain_line (codes "standard input could
 IsLineOf say.NoJournal words line = IsAboutJournal words (codes "it is not a journal that init has finished") line
 IsLineOf say.NoMemory words line = line ≡ plain_line (codes "there was no memory")
 IsLineOf say.Output words line = line ≡ plain_line (codes "the last line couldn't be written")
-IsLineOf say.Record words line = IsAboutJournal words (codes "it has a record that is broken or isn't allowed there") line
+IsLineOf say.Record words line = IsAboutJournal words (codes "it has a record that is broken or isn't allowed there")
+    line
 IsLineOf say.Room words line = IsAboutJournal words (codes "it has no room for the descriptor") line
 IsLineOf say.Descriptor words line = line ≡ plain_line (codes "the descriptor is not taken")
-IsLineOf say.Taken words line = IsAboutJournal words (codes "it is a journal already, or no file of this program's; give another path, or move it away") line
-IsLineOf say.Undelivered words line = line ≡ plain_line (codes "the answer couldn't be delivered; what it says is recorded")
+IsLineOf say.Taken words line = IsAboutJournal words (codes
+    "it is a journal already, or no file of this program's; give another path, or move it away") line
+IsLineOf say.Undelivered words line = line ≡ plain_line
+    (codes "the answer couldn't be delivered; what it says is recorded")

@@ -7,13 +7,15 @@ use Rattle.program_words.specs.declared.page.TheConstants.{HELP, INIT, ONBOARD, 
 
 -- the text that one word asks for
 abbrev pub sole_page : List ℕ → Option Page
-sole_page word = if bytes_eq word (codes "--help") then Some Help else (if bytes_eq word (codes "--version") then Some Version else None)
+sole_page word = if bytes_eq word (codes "--help") then Some Help
+    else (if bytes_eq word (codes "--version") then Some Version else None)
 
 -- the text on a command
 abbrev pub command_page : List ℕ → Option Page
 command_page command =
     if bytes_eq command (codes "init") then Some Init
-    else (if bytes_eq command (codes "onboard") then Some Onboard else (if bytes_eq command (codes "once") then Some Once else None))
+    else (if bytes_eq command (codes "onboard") then Some Onboard
+    else (if bytes_eq command (codes "once") then Some Once else None))
 
 -- the text that the words ask for
 abbrev pub page_of : List (List ℕ) → Option Page

@@ -1,12 +1,14 @@
 -- What is wrong first with words that are no command (own rule, docs/FORMATS.md).
-use Rattle.std.specs.Prelude.{◌+◌, ◌&&◌, not, List, [], ◌∷◌, ◌++◌, codes, length, if◌then◌else◌, Bool, true, false, Option, Some, None}
+use Rattle.std.specs.Prelude.{◌+◌, ◌&&◌, not, List, [], ◌∷◌, ◌++◌, codes, length, if◌then◌else◌, Bool, true, false}
+use Rattle.std.specs.Prelude.{Option, Some, None}
 use Rattle.std.specs.List.{list_any}
 use Rattle.std.specs.Str.{bytes_eq}
 use Rattle.command_line.specs.Words.{Word as Bytes, command_named, options_of, takes}
 use Rattle.command_line.specs.declared.options.Command.{Command}
 use Rattle.command_line.specs.declared.options.Command.TheVariants.{Init, Onboard, Once}
 use Rattle.program_words.specs.declared.wrong.Wrong.{Wrong}
-use Rattle.program_words.specs.declared.wrong.Wrong.TheVariants.{Word, NoCommand, NoValue, NoJournal, NoManager, Nothing}
+use Rattle.program_words.specs.declared.wrong.Wrong.TheVariants.{Word, NoCommand, NoValue, NoJournal, NoManager}
+use Rattle.program_words.specs.declared.wrong.Wrong.TheVariants.{Nothing}
 
 -- the word is among these
 abbrev pub is_among : List Bytes → Bytes → Bool
@@ -28,14 +30,16 @@ wrong_at_end command words =
     if not (is_among words (codes "--journal")) then NoJournal
     else (if needs_manager command && not (is_among words (codes "--manager")) then NoManager else Nothing)
 
--- what is wrong first behind these words: a word that is no option or stands before, an option without a value, or with one that it doesn't
--- take; or what is wrong where the words end
+-- what is wrong first behind these words: a word that is no option or stands before, an option without a value, or with
+-- one that it doesn't take; or what is wrong where the words end
 abbrev pub wrong_behind : Command → List Bytes → List Bytes → Wrong
 wrong_behind command before [] = wrong_at_end command before
-wrong_behind command before (option ∷ []) = if is_new command before option then NoValue (length before) else Word (length before)
+wrong_behind command before (option ∷ []) = if is_new command before option then NoValue (length before)
+    else Word (length before)
 wrong_behind command before (option ∷ value ∷ rest) =
     if is_new command before option
-    then (if takes command (option, value) then wrong_behind command (before ++ option ∷ value ∷ []) rest else Word (length before + 1))
+    then (if takes command (option, value) then wrong_behind command (before ++ option ∷ value ∷ []) rest
+    else Word (length before + 1))
     else Word (length before)
 
 -- what is wrong first behind the name of a command, if it is one

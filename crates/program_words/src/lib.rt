@@ -1,4 +1,5 @@
-//! What a person sees of the program beside its own lines: the texts of `--help` and `--version`, and why a run ended as it did.
+//! What a person sees of the program beside its own lines: the texts of `--help` and `--version`, and why a run ended
+//! as it did.
 #![tactic(auto)]
 
 mod page;

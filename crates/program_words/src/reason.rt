@@ -158,7 +158,8 @@ fn line_on(alloc: Global, word: &Text, joint: &str, text: &str) -> Result<String
 
 /// A line of these three.
 fn joined(alloc: Global, quoted: &str, joint: &str, text: &str) -> Result<String, AllocError>
-    ensures { IfOk result (λ line. string_bytes line ≡ codes "vnfm: " ++ (quoted.now ++ (joint.now ++ (text.now ++ codes "\n")))) }
+    ensures { IfOk result (λ line. string_bytes line ≡ codes "vnfm: "
+        ++ (quoted.now ++ (joint.now ++ (text.now ++ codes "\n")))) }
 {
     format!(in alloc; "vnfm: {quoted}{joint}{text}\n")
 }

@@ -25,17 +25,21 @@ use std::alloc::{AllocError, Global};
 pub fn next_undo(changes: &[Change], nets: &[u8]) -> Option<usize>
     ensures known { IfSome result (λ number. number < length changes.now) }
     ensures made { IfSome result (λ number. slice_get nets.now number ≡ Some 1) }
-    ensures greatest { IfSome result (λ number. (higher : ℕ) → number < higher → higher < length changes.now → ¬ (slice_get nets.now higher ≡ Some 1)) }
+    ensures greatest { IfSome result (λ number. (higher : ℕ) → number < higher → higher < length changes.now
+        → ¬ (slice_get nets.now higher ≡ Some 1)) }
     ensures none { result ≡ None → (number : ℕ) → number < length changes.now → ¬ (slice_get nets.now number ≡ Some 1) }
-    ensures in_history { (H : List Event) (o : ℕ) → changes.now ≡ changes_of H o → ((number : ℕ) → number < length changes.now → slice_get nets.now number ≡ Some (net H o number)) → result ≡ last (with_net H o 1) }
+    ensures in_history { (H : List Event) (o : ℕ) → changes.now ≡ changes_of H o
+        → ((number : ℕ) → number < length changes.now → slice_get nets.now number ≡ Some (net H o number))
+        → result ≡ last (with_net H o 1) }
 {
     let count = changes.len().min(nets.len());
     nets[..count].iter().rposition(|net| *net == 1)
 }
 
-/// The work that undoes a change of the descriptor's plan, over what stands, at the place where its resource last stood:
-/// what was made is removed, what was removed is made again, what was started is stopped, what was stopped is started.
-/// Where an attempt that undoes the change may begin, it is the attempt's work. `AllocError` is want of memory.
+/// The work that undoes a change of the descriptor's plan, over what stands, at the place where its resource last
+/// stood: what was made is removed, what was removed is made again, what was started is stopped, what was stopped is
+/// started. Where an attempt that undoes the change may begin, it is the attempt's work. `AllocError` is want of
+/// memory.
 ///
 /// Source: SOL 003 5.4.15 (Rollback operation task); SOL 001, Vdu.Compute, Vdu.VirtualBlockStorage, VduCp,
 /// VnfVirtualLink; that a removal is undone by making anew is an own rule.
@@ -46,8 +50,11 @@ pub fn undo_act(
     change: &Change,
     place: &Place,
 ) -> Result<Act, AllocError>
-    ensures work { IfOk result (λ work. work ≡ act vnfd.now holding.now (undo change.now.verb) change.now.def place.now) }
-    ensures of_attempt { (H : List Event) (t : Tag) → (s : IsOfAttempt vnfd.now holding.now change.now H t) → t.way ≡ Way.Undo → place_held H s.asked.instance change.now.def ≡ Some place.now → IfOk result (λ work. act_of H t ≡ Some work) }
+    ensures work { IfOk result (λ work. work ≡ act vnfd.now holding.now
+        (undo change.now.verb) change.now.def place.now) }
+    ensures of_attempt { (H : List Event) (t : Tag) → (s : IsOfAttempt vnfd.now holding.now change.now H t)
+        → t.way ≡ Way.Undo → place_held H s.asked.instance change.now.def ≡ Some place.now
+        → IfOk result (λ work. act_of H t ≡ Some work) }
 {
     let verb = verb_in_way(Way::Undo, change.verb);
     act_in(alloc, vnfd, holding, verb, &change.def, place)

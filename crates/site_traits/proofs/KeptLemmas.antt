@@ -1,5 +1,7 @@
 -- The jobs of a site in memory, moment by moment.
-use Rattle.std.proofs.Common.{◌≡◌, ◌∙◌, sym, ap, subst, refl, arith, ℕ, suc, zero, ◌+◌, ◌-◌, ◌^◌, ◌<◌, ◌≤◌, Bool, true, false, if◌then◌else◌, ◌&&◌, ◌||◌, ◌==◌, nat_le, Option, Some, None, is_some, is_none, List, [], ◌∷◌, ◌++◌, length, map, reverse, drop, take, set, get_or, append_assoc, All}
+use Rattle.std.proofs.Common.{◌≡◌, ◌∙◌, sym, ap, subst, refl, arith, ℕ, suc, zero, ◌+◌, ◌-◌, ◌^◌, ◌<◌, ◌≤◌, Bool, true, false}
+use Rattle.std.proofs.Common.{if◌then◌else◌, ◌&&◌, ◌||◌, ◌==◌, nat_le, Option, Some, None, is_some, is_none, List, [], ◌∷◌, ◌++◌, length}
+use Rattle.std.proofs.Common.{map, reverse, drop, take, set, get_or, append_assoc, All}
 use Rattle.std.specs.Prelude.{filter, find, decimal, option_map, IfSome, IsAscii}
 use Rattle.std.specs.Str.Parse.{AllDigits}
 use Rattle.std.proofs.lemmas.Bool.{false≢true}
@@ -7,7 +9,8 @@ use Rattle.std.proofs.lemmas.Bool.Decides.{nat_tests}
 use Rattle.std.proofs.lemmas.Fmt.{decimal_is_IsNumeral, length-decimal-le, IsAscii-decimal}
 use Rattle.std.proofs.lemmas.Str.{IsUtf8-from_ascii}
 use Rattle.std.proofs.lemmas.Str.Parse.{digit_from_value}
-use Rattle.std.proofs.lemmas.List.{reverse-reverse, reverse-append, set_split, take-append-drop, drop_more, append-nil, map-append, length-reverse, length-map}
+use Rattle.std.proofs.lemmas.List.{reverse-reverse, reverse-append, set_split, take-append-drop, drop_more, append-nil, map-append}
+use Rattle.std.proofs.lemmas.List.{length-reverse, length-map}
 use Rattle.std.proofs.lemmas.Option.{get_or_from_slice_get}
 use Rattle.std.proofs.lemmas.List.Elements.{All-nil, All-cons, All-push, filter-append}
 use Rattle.vnfm_base.specs.Text.{IsName, IsPlain}
@@ -20,13 +23,16 @@ use Rattle.site_traits.specs.declared.mem_jobs.JobEnd.TheVariants as end
 use Rattle.site_traits.specs.declared.mem_jobs.Found.TheVariants as found
 use Rattle.site_traits.specs.declared.mem_jobs.KeptJob.{KeptJob}
 use Rattle.site_traits.specs.Jobs.{Job, GoesOn, Advances, LooksAs, phase_of}
-use Rattle.site_traits.specs.KeptJobs.{resource_name, planned_end, ended_as, found_of, look_of, phase_found, has_been, phase_at, phase_now, job_of, job_at, is_there, jobs_of, jobs_at, looked, aborted_at, is_of, first_changed, latest_of, latest_changed, EndedBy, IsEarly, HasNone, IsLatest, IsPlaced, stood, kept_at}
+use Rattle.site_traits.specs.KeptJobs.{resource_name, planned_end, ended_as, found_of, look_of, phase_found, has_been, phase_at, phase_now}
+use Rattle.site_traits.specs.KeptJobs.{job_of, job_at, is_there, jobs_of, jobs_at, looked, aborted_at, is_of, first_changed, latest_of}
+use Rattle.site_traits.specs.KeptJobs.{latest_changed, EndedBy, IsEarly, HasNone, IsLatest, IsPlaced, stood, kept_at}
 use Rattle.site_traits.specs.Advancing.{goes_on-refl}
 
 -- digits are no control characters
 digits_plain : (ds : List ℕ) → AllDigits 10 ds → All IsPlain ds
 digits_plain [] d = All-nil IsPlain
-digits_plain (c ∷ cs) d = All-cons IsPlain c cs (let range = digit_from_value c d.0 in (omega (arith, range), λ is. omega (arith, range, is))) (digits_plain cs d.1)
+digits_plain (c ∷ cs) d = All-cons IsPlain c cs (let range = digit_from_value c d.0 in
+    (omega (arith, range), λ is. omega (arith, range, is))) (digits_plain cs d.1)
 
 ascii_behind_r : (ds : List ℕ) → IsAscii ds → IsAscii (114 ∷ ds)
 ascii_behind_r ds h zero = omega arith
@@ -37,7 +43,8 @@ pub resource_named : (place : ℕ) → place < 2 ^ 64 → IsName (resource_name 
 resource_named place small = record {
   short = omega (arith, length-decimal-le 20 place (omega arith) (omega arith) small);
   utf8 = IsUtf8-from_ascii (114 ∷ decimal place) (ascii_behind_r (decimal place) (IsAscii-decimal place small));
-  plain = All-cons IsPlain 114 (decimal place) (omega arith, λ is. omega (arith, is)) (digits_plain (decimal place) (decimal_is_IsNumeral place small).0.1);
+  plain = All-cons IsPlain 114 (decimal place) (omega arith, λ is. omega (arith, is))
+      (digits_plain (decimal place) (decimal_is_IsNumeral place small).0.1);
 }
 
 -- From this moment to the next the job goes on so: no earlier moment sees a change.
@@ -57,11 +64,13 @@ AllGo now (w ∷ ws) (v ∷ vs) = GoesTo now w v × AllGo now ws vs
 AllGo now ws vs = ⊥
 
 -- the jobs with one more in front
-map_kept : {X Y : Type 0} (f : X → Y) (b : Bool) (x : X) (xs : List X) → map f (if b then x ∷ xs else xs) ≡ (if b then f x ∷ map f xs else map f xs)
+map_kept : {X Y : Type 0} (f : X → Y) (b : Bool) (x : X) (xs : List X)
+    → map f (if b then x ∷ xs else xs) ≡ (if b then f x ∷ map f xs else map f xs)
 map_kept f true x xs = refl
 map_kept f false x xs = refl
 
-jobs_cons : (k : ℕ) (w : KeptJob) (ws : List KeptJob) → jobs_of k (w ∷ ws) ≡ (if is_there k w then job_at k w ∷ jobs_of k ws else jobs_of k ws)
+jobs_cons : (k : ℕ) (w : KeptJob) (ws : List KeptJob) → jobs_of k (w ∷ ws)
+    ≡ (if is_there k w then job_at k w ∷ jobs_of k ws else jobs_of k ws)
 jobs_cons k w ws = map_kept (job_at k) (is_there k w) w (filter (is_there k) ws)
 
 -- a test of numbers that holds, and one that doesn't
@@ -132,7 +141,8 @@ ended_by : (e : Option ℕ) (now : ℕ) → IfSome e (λ m. m ≤ now) → Ended
 ended_by e now le = λ m is. let P : Option ℕ → Type 0 = λ v. IfSome v (λ m. m ≤ now) in subst P is le
 
 -- the phase by whether its end has been
-phase_by : (w : KeptJob) (k : ℕ) (b : Bool) → has_been w.ended k ≡ b → phase_at k w ≡ (if b then phase_found (ended_as w) else phase.Running)
+phase_by : (w : KeptJob) (k : ℕ) (b : Bool) → has_been w.ended k ≡ b
+    → phase_at k w ≡ (if b then phase_found (ended_as w) else phase.Running)
 phase_by w k b is = ap (λ (v : Bool). if v then phase_found (ended_as w) else phase.Running) is
 
 from_running : (p q : Phase) → p ≡ phase.Running → GoesOn p q
@@ -156,7 +166,8 @@ pub go_same : (now : ℕ) (w : KeptJob) → IsEarly now w → GoesTo now w w
 go_same now w early = go_fewer now w w.looks early
 
 -- a running job ends
-go_ended : (now : ℕ) (w : KeptJob) (by_abort : Bool) → IsEarly now w → is_some w.ended ≡ false → GoesTo now w (record w { ended = Some (now + 1); aborted = by_abort })
+go_ended : (now : ℕ) (w : KeptJob) (by_abort : Bool) → IsEarly now w → is_some w.ended ≡ false
+    → GoesTo now w (record w { ended = Some (now + 1); aborted = by_abort })
 go_ended now w by_abort early running =
     let v : KeptJob = record w { ended = Some (now + 1); aborted = by_abort } in
     record {
@@ -164,12 +175,18 @@ go_ended now w by_abort early running =
       tag = refl;
       act = refl;
       at = refl;
-      before = λ k le. phase_by v k false (le_fails (now + 1) k (omega (arith, le))) ∙ sym (phase_by w k false (been_never w.ended k running));
+      before = λ k le. phase_by v k false (le_fails (now + 1) k (omega (arith, le)))
+          ∙ sym (phase_by w k false (been_never w.ended k running));
       phase = from_running (phase_at now w) (phase_at (now + 1) v) (phase_by w now false (been_never w.ended now running));
-      early = record { there = (let there = early.there in omega (arith, there)); ended = ended_by (Some (now + 1)) (now + 1) (omega arith) };
+      early = record {
+        there = (let there = early.there in omega (arith, there));
+        ended =
+            ended_by (Some (now + 1)) (now + 1) (omega arith);
+      };
     }
 
-go_if : (now : ℕ) (w : KeptJob) (b : Bool) (x y : KeptJob) → (b ≡ true → GoesTo now w x) → (b ≡ false → GoesTo now w y) → GoesTo now w (if b then x else y)
+go_if : (now : ℕ) (w : KeptJob) (b : Bool) (x y : KeptJob) → (b ≡ true → GoesTo now w x) → (b ≡ false → GoesTo now w y)
+    → GoesTo now w (if b then x else y)
 go_if now w true x y then_so else_so = then_so refl
 go_if now w false x y then_so else_so = else_so refl
 
@@ -210,22 +227,27 @@ all_changed now test change goes [] all = tt
 all_changed now test change goes (w ∷ ws) all =
     let first = early_head now w ws all in
     let rest = early_rest now w ws all in
-    all_if now (test w) w (change w) ws (first_changed test change ws) (goes w first) (go_same now w first) (all_same now ws rest) (all_changed now test change goes ws rest)
+    all_if now (test w) w (change w) ws (first_changed test change ws) (goes w first) (go_same now w first) (all_same now ws rest)
+    (all_changed now test change goes ws rest)
 
 -- the phase of the latest job of a tag is that of the latest one that is kept
-find_mapped : (k : ℕ) (b : Bool) (w : KeptJob) (o : Option Job) (r : Option KeptJob) → option_map (λ (j : Job). j.phase) o ≡ option_map (phase_at k) r
+find_mapped : (k : ℕ) (b : Bool) (w : KeptJob) (o : Option Job) (r : Option KeptJob)
+    → option_map (λ (j : Job). j.phase) o ≡ option_map (phase_at k) r
     → option_map (λ (j : Job). j.phase) (if b then Some (job_at k w) else o) ≡ option_map (phase_at k) (if b then Some w else r)
 find_mapped k true w o r is = refl
 find_mapped k false w o r is = is
 
-pub phase_kept : (tag : Tag) (k : ℕ) (ws : List KeptJob) → All (IsEarly k) ws → phase_of tag (jobs_of k ws) ≡ option_map (phase_at k) (find (is_of tag) ws)
+pub phase_kept : (tag : Tag) (k : ℕ) (ws : List KeptJob) → All (IsEarly k) ws
+    → phase_of tag (jobs_of k ws) ≡ option_map (phase_at k) (find (is_of tag) ws)
 phase_kept tag k [] all = refl
 phase_kept tag k (w ∷ ws) all =
     ap (phase_of tag) (jobs_there k w ws (early_head k w ws all).there)
-    ∙ find_mapped k (is_of tag w) w (find (λ j. same_tag tag j.tag) (jobs_of k ws)) (find (is_of tag) ws) (phase_kept tag k ws (early_rest k w ws all))
+    ∙ find_mapped k (is_of tag w) w (find (λ j. same_tag tag j.tag) (jobs_of k ws)) (find (is_of tag) ws)
+    (phase_kept tag k ws (early_rest k w ws all))
 
 -- the latest job of a tag once it was changed
-find_if : (tag : Tag) (change : KeptJob → KeptJob) (w : KeptJob) (b : Bool) (ws vs : List KeptJob) → is_of tag w ≡ b → is_of tag (change w) ≡ b
+find_if : (tag : Tag) (change : KeptJob → KeptJob) (w : KeptJob) (b : Bool) (ws vs : List KeptJob) → is_of tag w ≡ b
+    → is_of tag (change w) ≡ b
     → find (is_of tag) vs ≡ option_map change (find (is_of tag) ws)
     → find (is_of tag) (if b then change w ∷ ws else w ∷ vs) ≡ option_map change (if b then Some w else find (is_of tag) ws)
 find_if tag change w true ws vs is changed rest = ap (λ (b : Bool). if b then Some (change w) else find (is_of tag) ws) changed
@@ -234,7 +256,8 @@ find_if tag change w false ws vs is changed rest = ap (λ (b : Bool). if b then 
 pub find_changed : (tag : Tag) (change : KeptJob → KeptJob) → ((w : KeptJob) → is_of tag (change w) ≡ is_of tag w) → (ws : List KeptJob)
     → find (is_of tag) (first_changed (is_of tag) change ws) ≡ option_map change (find (is_of tag) ws)
 find_changed tag change keeps [] = refl
-find_changed tag change keeps (w ∷ ws) = find_if tag change w (is_of tag w) ws (first_changed (is_of tag) change ws) refl (keeps w) (find_changed tag change keeps ws)
+find_changed tag change keeps (w ∷ ws) = find_if tag change w (is_of tag w) ws (first_changed (is_of tag) change ws) refl (keeps w)
+    (find_changed tag change keeps ws)
 
 -- what a look finds is among what is kept
 found_early : (now : ℕ) (test : KeptJob → Bool) (ws : List KeptJob) → All (IsEarly now) ws → IfSome (find test ws) (IsEarly now)
@@ -254,15 +277,18 @@ ended_told tag false (end.Broken code) place before after is = is
 
 looked_tag : (tag : Tag) (now : ℕ) (w : KeptJob) → is_of tag (looked now w) ≡ is_of tag w
 looked_tag tag now w = of (is_some w.ended) (w.looks == 0) where
-  of : (a b : Bool) → is_of tag (if a then w else if b then record w { ended = Some now } else record w { looks = w.looks - 1 }) ≡ is_of tag w
+  of : (a b : Bool) → is_of tag (if a then w else if b then record w { ended = Some now } else record w { looks = w.looks - 1 })
+      ≡ is_of tag w
   of true b = refl
   of false true = refl
   of false false = refl
 
-ended_kept : (now : ℕ) (w : KeptJob) → IsEarly now w → (is_some w.ended || (w.looks == 0)) ≡ true → phase_at (now + 1) (looked (now + 1) w) ≡ phase_found (ended_as w)
+ended_kept : (now : ℕ) (w : KeptJob) → IsEarly now w → (is_some w.ended || (w.looks == 0)) ≡ true
+    → phase_at (now + 1) (looked (now + 1) w) ≡ phase_found (ended_as w)
 ended_kept now w early h = of (is_some w.ended) (w.looks == 0) refl h where
   of : (a b : Bool) → is_some w.ended ≡ a → (a || b) ≡ true
-      → phase_at (now + 1) (if a then w else if b then record w { ended = Some (now + 1) } else record w { looks = w.looks - 1 }) ≡ phase_found (ended_as w)
+      → phase_at (now + 1) (if a then w else if b then record w { ended = Some (now + 1) } else record w { looks = w.looks - 1 })
+      ≡ phase_found (ended_as w)
   of true b some h = phase_by w (now + 1) true (been_ended w.ended now (now + 1) some early.ended (omega arith))
   of false true none h = phase_by (record w { ended = Some (now + 1) }) (now + 1) true (le_holds (now + 1) (now + 1) (omega arith))
   of false false none h = absurd (false≢true h)
@@ -271,7 +297,8 @@ not_ended : (a b : Bool) → (a || b) ≡ false → a ≡ false
 not_ended true b h = h
 not_ended false b h = refl
 
-look_told : (tag : Tag) (now : ℕ) (o : Option KeptJob) (before after : List Job) → IfSome o (IsEarly now) → phase_of tag before ≡ option_map (phase_at now) o
+look_told : (tag : Tag) (now : ℕ) (o : Option KeptJob) (before after : List Job) → IfSome o (IsEarly now)
+    → phase_of tag before ≡ option_map (phase_at now) o
     → phase_of tag after ≡ option_map (λ w. phase_at (now + 1) (looked (now + 1) w)) o → LooksAs tag (look_of (found_of o)) before after
 look_told tag now None before after early was is = is
 look_told tag now (Some w) before after early was is = of (is_some w.ended || (w.looks == 0)) refl where
@@ -285,11 +312,13 @@ option_twice f g (Some x) = refl
 
 -- a look answers how the latest job of the tag stands
 pub looks_as : (tag : Tag) (now : ℕ) (ws : List KeptJob) → All (IsEarly now) ws
-    → LooksAs tag (look_of (found_of (find (is_of tag) ws))) (jobs_of now ws) (jobs_of (now + 1) (first_changed (is_of tag) (looked (now + 1)) ws))
+    → LooksAs tag (look_of (found_of (find (is_of tag) ws))) (jobs_of now ws)
+    (jobs_of (now + 1) (first_changed (is_of tag) (looked (now + 1)) ws))
 looks_as tag now ws early =
     let change = looked (now + 1) in
     let after = first_changed (is_of tag) change ws in
-    let on : All (IsEarly (now + 1)) after = early_after now ws after (all_changed now (is_of tag) change (λ w first. go_looked now w first) ws early) in
+    let on : All (IsEarly (now + 1)) after = early_after now ws after
+    (all_changed now (is_of tag) change (λ w first. go_looked now w first) ws early) in
     look_told tag now (find (is_of tag) ws) (jobs_of now ws) (jobs_of (now + 1) after)
     (found_early now (is_of tag) ws early)
     (phase_kept tag now ws early)
@@ -299,7 +328,8 @@ looks_as tag now ws early =
 
 -- the jobs in two parts, the later part first
 jobs_append : (k : ℕ) (ws vs : List KeptJob) → jobs_of k (ws ++ vs) ≡ jobs_of k ws ++ jobs_of k vs
-jobs_append k ws vs = ap (map (job_at k)) (filter-append (is_there k) ws vs) ∙ map-append (job_at k) (filter (is_there k) ws) (filter (is_there k) vs)
+jobs_append k ws vs = ap (map (job_at k)) (filter-append (is_there k) ws vs)
+    ∙ map-append (job_at k) (filter (is_there k) ws) (filter (is_there k) vs)
 
 -- the earliest job stands last where the latest stands first
 jobs_cons_last : (k : ℕ) (w : KeptJob) (ws : List KeptJob) → jobs_at k (w ∷ ws) ≡ jobs_at k ws ++ jobs_of k (w ∷ [])
@@ -317,7 +347,8 @@ phase_stood k w = of (has_been w.ended k) refl where
 pub jobs_stood : (k : ℕ) (kept : List KeptJob) → jobs_at 0 (kept_at k kept) ≡ jobs_at k kept
 jobs_stood k [] = refl
 jobs_stood k (w ∷ ws) = of (jobs_stood k ws) (is_there k w) refl where
-  of : jobs_at 0 (kept_at k ws) ≡ jobs_at k ws → (b : Bool) → is_there k w ≡ b → jobs_at 0 (map (stood k) (if b then w ∷ filter (is_there k) ws else filter (is_there k) ws)) ≡ jobs_at k (w ∷ ws)
+  of : jobs_at 0 (kept_at k ws) ≡ jobs_at k ws → (b : Bool) → is_there k w ≡ b
+      → jobs_at 0 (map (stood k) (if b then w ∷ filter (is_there k) ws else filter (is_there k) ws)) ≡ jobs_at k (w ∷ ws)
   of rest true there =
       let phases = phase_stood k w in
       let job : job_at 0 (stood k w) ≡ job_at k w = λ i. record { tag = w.tag; act = w.act; phase = phases i } in
@@ -349,19 +380,23 @@ pub all_reversed : (now : ℕ) (ws : List KeptJob) → All (IsEarly now) ws → 
 all_reversed now [] all = All-nil (IsEarly now)
 all_reversed now (w ∷ ws) all =
     let P : List KeptJob → Type 0 = λ v. All (IsEarly now) v in
-    subst P (sym (reverse-append (w ∷ []) ws)) (All-push (IsEarly now) (reverse ws) w (all_reversed now ws (early_rest now w ws all)) (early_head now w ws all))
+    subst P (sym (reverse-append (w ∷ []) ws)) (All-push (IsEarly now) (reverse ws) w (all_reversed now ws (early_rest now w ws all))
+    (early_head now w ws all))
 
 -- the jobs around one, in both orders
 reverse_around : (front back : List KeptJob) (w : KeptJob) → reverse (front ++ w ∷ back) ≡ reverse back ++ w ∷ reverse front
 reverse_around front back w =
-    reverse-append front (w ∷ back) ∙ ap (λ v. v ++ reverse front) (reverse-append (w ∷ []) back) ∙ append_assoc (reverse back) (w ∷ []) (reverse front)
+    reverse-append front (w ∷ back) ∙ ap (λ v. v ++ reverse front) (reverse-append (w ∷ []) back)
+    ∙ append_assoc (reverse back) (w ∷ []) (reverse front)
 
 find_past : (test : KeptJob → Bool) (ws vs : List KeptJob) → All (λ w. test w ≡ false) ws → find test (ws ++ vs) ≡ find test vs
 find_past test [] vs fails = refl
 find_past test (w ∷ ws) vs fails =
-    ap (λ (b : Bool). if b then Some w else find test (ws ++ vs)) (fails 0 w (omega arith)) ∙ find_past test ws vs (λ k d lt. fails (suc k) d (omega (arith, lt)))
+    ap (λ (b : Bool). if b then Some w else find test (ws ++ vs)) (fails 0 w (omega arith))
+    ∙ find_past test ws vs (λ k d lt. fails (suc k) d (omega (arith, lt)))
 
-changed_past : (test : KeptJob → Bool) (change : KeptJob → KeptJob) (ws vs : List KeptJob) → All (λ w. test w ≡ false) ws → first_changed test change (ws ++ vs) ≡ ws ++ first_changed test change vs
+changed_past : (test : KeptJob → Bool) (change : KeptJob → KeptJob) (ws vs : List KeptJob) → All (λ w. test w ≡ false) ws
+    → first_changed test change (ws ++ vs) ≡ ws ++ first_changed test change vs
 changed_past test change [] vs fails = refl
 changed_past test change (w ∷ ws) vs fails =
     ap (λ (b : Bool). if b then change w ∷ (ws ++ vs) else w ∷ first_changed test change (ws ++ vs)) (fails 0 w (omega arith))
@@ -372,7 +407,8 @@ none_reversed test [] fails = All-nil (λ w. test w ≡ false)
 none_reversed test (w ∷ ws) fails =
     let P : List KeptJob → Type 0 = λ v. All (λ w. test w ≡ false) v in
     subst P (sym (reverse-append (w ∷ []) ws))
-    (All-push (λ w. test w ≡ false) (reverse ws) w (none_reversed test ws (λ k d lt. fails (suc k) d (omega (arith, lt)))) (fails 0 w (omega arith)))
+    (All-push (λ w. test w ≡ false) (reverse ws) w (none_reversed test ws (λ k d lt. fails (suc k) d (omega (arith, lt))))
+    (fails 0 w (omega arith)))
 
 -- where no job has the tag, none is found and nothing changes
 pub none_latest : (tag : Tag) (js : List KeptJob) → HasNone tag js → latest_of tag js ≡ None
@@ -382,7 +418,8 @@ none_latest tag js none =
 pub none_changed : (tag : Tag) (change : KeptJob → KeptJob) (js : List KeptJob) → HasNone tag js → js ≡ latest_changed tag change js
 none_changed tag change js none =
     let same : first_changed (is_of tag) change (reverse js) ≡ reverse js =
-    ap (first_changed (is_of tag) change) (sym (append-nil (reverse js))) ∙ changed_past (is_of tag) change (reverse js) [] (none_reversed (is_of tag) js none)
+    ap (first_changed (is_of tag) change) (sym (append-nil (reverse js)))
+    ∙ changed_past (is_of tag) change (reverse js) [] (none_reversed (is_of tag) js none)
     ∙ append-nil (reverse js) in
     sym (ap reverse same ∙ reverse-reverse js)
 
@@ -390,7 +427,8 @@ none_changed tag change js none =
 around : (tag : Tag) (js : List KeptJob) (k : ℕ) → (l : IsLatest tag js k) → js ≡ take k js ++ l.job ∷ drop (k + 1) js
 around tag js k l =
     sym (take-append-drop k js)
-    ∙ ap (λ v. take k js ++ v) (drop_more js k l.job l.within ∙ ap (λ v. v ∷ drop (k + 1) js) (get_or_from_slice_get js k l.job l.job l.there))
+    ∙ ap (λ v. take k js ++ v) (drop_more js k l.job l.within ∙ ap (λ v. v ∷ drop (k + 1) js)
+    (get_or_from_slice_get js k l.job l.job l.there))
 
 pub is_latest : (tag : Tag) (js : List KeptJob) (k : ℕ) → (l : IsLatest tag js k) → latest_of tag js ≡ Some l.job
 is_latest tag js k l =
@@ -400,15 +438,18 @@ is_latest tag js k l =
     ∙ find_past (is_of tag) (reverse back) (l.job ∷ reverse front) (none_reversed (is_of tag) back l.last)
     ∙ ap (λ (b : Bool). if b then Some l.job else find (is_of tag) (reverse front)) l.is
 
-pub latest_is : (tag : Tag) (change : KeptJob → KeptJob) (js : List KeptJob) (k : ℕ) → (l : IsLatest tag js k) → set js k (change l.job) ≡ latest_changed tag change js
+pub latest_is : (tag : Tag) (change : KeptJob → KeptJob) (js : List KeptJob) (k : ℕ) → (l : IsLatest tag js k)
+    → set js k (change l.job) ≡ latest_changed tag change js
 latest_is tag change js k l =
     let front = take k js in
     let back = drop (k + 1) js in
     let job = l.job in
     let turned : reverse js ≡ reverse back ++ job ∷ reverse front = ap reverse (around tag js k l) ∙ reverse_around front back job in
     let changed : first_changed (is_of tag) change (reverse js) ≡ reverse back ++ change job ∷ reverse front =
-    ap (first_changed (is_of tag) change) turned ∙ changed_past (is_of tag) change (reverse back) (job ∷ reverse front) (none_reversed (is_of tag) back l.last)
-    ∙ ap (λ (b : Bool). reverse back ++ (if b then change job ∷ reverse front else job ∷ first_changed (is_of tag) change (reverse front))) l.is in
+    ap (first_changed (is_of tag) change) turned ∙ changed_past (is_of tag) change (reverse back) (job ∷ reverse front)
+    (none_reversed (is_of tag) back l.last)
+    ∙ ap (λ (b : Bool). reverse back ++ (if b then change job ∷ reverse front else job ∷ first_changed (is_of tag) change (reverse front)))
+    l.is in
     let again : reverse (reverse back ++ change job ∷ reverse front) ≡ front ++ change job ∷ back =
     reverse_around (reverse back) (reverse front) (change job) ∙ ap (λ v. v ++ change job ∷ reverse (reverse back)) (reverse-reverse front)
     ∙ ap (λ v. front ++ change job ∷ v) (reverse-reverse back) in
@@ -416,11 +457,13 @@ latest_is tag change js k l =
     set_split js k (change job) l.within ∙ ap (λ n. front ++ change job ∷ drop n js) next ∙ sym (ap reverse changed ∙ again)
 
 -- changed jobs are early at the next moment
-pub changed_early : (now : ℕ) (tag : Tag) (change : KeptJob → KeptJob) (js : List KeptJob) → ((w : KeptJob) → IsEarly now w → GoesTo now w (change w)) → All (IsEarly now) js
+pub changed_early : (now : ℕ) (tag : Tag) (change : KeptJob → KeptJob) (js : List KeptJob)
+    → ((w : KeptJob) → IsEarly now w → GoesTo now w (change w)) → All (IsEarly now) js
     → All (IsEarly (now + 1)) (latest_changed tag change js)
 changed_early now tag change js goes early =
     let after = first_changed (is_of tag) change (reverse js) in
-    all_reversed (now + 1) after (early_after now (reverse js) after (all_changed now (is_of tag) change goes (reverse js) (all_reversed now js early)))
+    all_reversed (now + 1) after (early_after now (reverse js) after
+    (all_changed now (is_of tag) change goes (reverse js) (all_reversed now js early)))
 
 -- the same of a place that was looked up
 placed_job : (tag : Tag) (js : List KeptJob) (place : Option ℕ) (k : ℕ) → place ≡ Some k → IsPlaced tag js place → IsLatest tag js k
@@ -432,31 +475,37 @@ placed_none tag js place is placed = let P : Option ℕ → Type 0 = λ v. IsPla
 job_there : (tag : Tag) (js : List KeptJob) (k : ℕ) (w : KeptJob) (l : IsLatest tag js k) → w ≡ get_or js k w → w ≡ l.job
 job_there tag js k w l is = is ∙ get_or_from_slice_get js k l.job w l.there
 
-pub some_found : (tag : Tag) (js : List KeptJob) (place : Option ℕ) (k : ℕ) (w : KeptJob) → place ≡ Some k → w ≡ get_or js k w → IsPlaced tag js place
+pub some_found : (tag : Tag) (js : List KeptJob) (place : Option ℕ) (k : ℕ) (w : KeptJob) → place ≡ Some k → w ≡ get_or js k w
+    → IsPlaced tag js place
     → found_of (Some w) ≡ found_of (latest_of tag js)
 some_found tag js place k w is read placed =
     let l = placed_job tag js place k is placed in
     ap (λ (v : KeptJob). found_of (Some v)) (job_there tag js k w l read) ∙ ap found_of (sym (is_latest tag js k l))
 
-pub none_found : (tag : Tag) (js : List KeptJob) (place : Option ℕ) → place ≡ None → IsPlaced tag js place → found.Absent ≡ found_of (latest_of tag js)
+pub none_found : (tag : Tag) (js : List KeptJob) (place : Option ℕ) → place ≡ None → IsPlaced tag js place
+    → found.Absent ≡ found_of (latest_of tag js)
 none_found tag js place is placed = ap found_of (sym (none_latest tag js (placed_none tag js place is placed)))
 
-pub some_changed : (tag : Tag) (change : KeptJob → KeptJob) (js : List KeptJob) (place : Option ℕ) (k : ℕ) (w v : KeptJob) → place ≡ Some k → w ≡ get_or js k w → v ≡ change w
+pub some_changed : (tag : Tag) (change : KeptJob → KeptJob) (js : List KeptJob) (place : Option ℕ) (k : ℕ) (w v : KeptJob) → place ≡ Some k
+    → w ≡ get_or js k w → v ≡ change w
     → IsPlaced tag js place → set js k v ≡ latest_changed tag change js
 some_changed tag change js place k w v is read changed placed =
     let l = placed_job tag js place k is placed in
     ap (set js k) (changed ∙ ap change (job_there tag js k w l read)) ∙ latest_is tag change js k l
 
-pub none_placed : (tag : Tag) (change : KeptJob → KeptJob) (js : List KeptJob) (place : Option ℕ) → place ≡ None → IsPlaced tag js place → js ≡ latest_changed tag change js
+pub none_placed : (tag : Tag) (change : KeptJob → KeptJob) (js : List KeptJob) (place : Option ℕ) → place ≡ None → IsPlaced tag js place
+    → js ≡ latest_changed tag change js
 none_placed tag change js place is placed = none_changed tag change js (placed_none tag js place is placed)
 
 -- the same where the next moment goes by other names
-pub changed_on : (m now last : ℕ) (tag : Tag) (make : ℕ → KeptJob → KeptJob) (js ks : List KeptJob) → ((w : KeptJob) → IsEarly m w → GoesTo m w (make (m + 1) w)) → All (IsEarly m) js
+pub changed_on : (m now last : ℕ) (tag : Tag) (make : ℕ → KeptJob → KeptJob) (js ks : List KeptJob)
+    → ((w : KeptJob) → IsEarly m w → GoesTo m w (make (m + 1) w)) → All (IsEarly m) js
     → now ≡ m + 1 → last ≡ m + 1 → ks ≡ latest_changed tag (make now) js → All (IsEarly last) ks
 changed_on m now last tag make js ks goes early now_is last_is is =
     let P : List KeptJob → Type 0 = λ v. All (IsEarly (m + 1)) v in
     let Q : ℕ → Type 0 = λ k. All (IsEarly k) ks in
-    subst Q (sym last_is) (subst P (sym (is ∙ ap (λ k. latest_changed tag (make k) js) now_is)) (changed_early m tag (make (m + 1)) js goes early))
+    subst Q (sym last_is) (subst P (sym (is ∙ ap (λ k. latest_changed tag (make k) js) now_is))
+    (changed_early m tag (make (m + 1)) js goes early))
 
 -- at the last moment each job is there as it stands
 abbrev pub job_now : KeptJob → Job

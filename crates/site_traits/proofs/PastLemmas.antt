@@ -32,10 +32,12 @@ told_of first p = told_by first p.log.calls p.kept.items
 -- what holds of the site holds of it where its past stays
 pub past_stays : (P : SiteState → Type 0) (first : List ℕ) (old new : Past) → Stays old new → P (told_of first old) → P (told_of first new)
 past_stays P first old new stays holds =
-    unchanged P first old.log.calls new.log.calls old.kept.items new.kept.items (ap (λ (r : Recorded SiteCall). r.calls) stays.log) stays.kept holds
+    unchanged P first old.log.calls new.log.calls old.kept.items new.kept.items
+    (ap (λ (r : Recorded SiteCall). r.calls) stays.log) stays.kept holds
 
 -- a begin that is on record, and one that is not
-begun_told : (first : List ℕ) (tag : Tag) (act : Act) (plan : JobPlan) (answer : BeginAnswer) (old new : Past) → IsBegun tag act plan (arrival_by plan old) answer old new
+begun_told : (first : List ℕ) (tag : Tag) (act : Act) (plan : JobPlan) (answer : BeginAnswer) (old new : Past)
+    → IsBegun tag act plan (arrival_by plan old) answer old new
     → Begins tag act answer (told_of first old) (told_of first new)
 begun_told first tag act plan answer old new b =
     let came = arrival_by plan old in
@@ -45,25 +47,30 @@ begun_told first tag act plan answer old new b =
     let a = told_of first old in
     let P : BeginAnswer → Type 0 = λ v. Begins tag act v a (told_of first new) in
     subst P (sym b.answered)
-    (on_record (λ s. Begins tag act (begin_of came) a s) first log new.log.calls (call.Began tag came, []) kept (jobs_with came tag act plan (length cs + 1) js) new.kept.items
+    (on_record (λ s. Begins tag act (begin_of came) a s) first log new.log.calls (call.Began tag came, []) kept
+    (jobs_with came tag act plan (length cs + 1) js) new.kept.items
     (begin_answered (begin_of came) (answers_of log))
     (ap (λ (r : Recorded SiteCall). r.calls) b.log) refl refl
     (b.kept ∙ ap (λ (n : ℕ). jobs_with came tag act plan (n + 1) js) (sym (length-map log change_of)))
     (begin_push came tag act plan first cs js (answers_of log) (early_calls log js old.early)))
 
-not_begun_told : (first : List ℕ) (tag : Tag) (act : Act) (plan : JobPlan) (answer : BeginAnswer) (old new : Past) → IsNotBegun (arrival_by plan old) answer old new
+not_begun_told : (first : List ℕ) (tag : Tag) (act : Act) (plan : JobPlan) (answer : BeginAnswer) (old new : Past)
+    → IsNotBegun (arrival_by plan old) answer old new
     → Begins tag act answer (told_of first old) (told_of first new)
 not_begun_told first tag act plan answer old new b =
     let a = told_of first old in
     let P : BeginAnswer → Type 0 = λ v. Begins tag act v a (told_of first new) in
     subst P (sym b.answered) (past_stays (λ s. Begins tag act begin.Failed a s) first old new b.stays (lost_begin tag act a))
 
-pub begins_told : (first : List ℕ) (tag : Tag) (act : Act) (plan : JobPlan) (answer : BeginAnswer) (old new : Past) → BeginsBy tag act plan answer old new
+pub begins_told : (first : List ℕ) (tag : Tag) (act : Act) (plan : JobPlan) (answer : BeginAnswer) (old new : Past)
+    → BeginsBy tag act plan answer old new
     → Begins tag act answer (told_of first old) (told_of first new)
-begins_told first tag act plan answer old new begins = ⊎_elim (begun_told first tag act plan answer old new) (not_begun_told first tag act plan answer old new) begins
+begins_told first tag act plan answer old new begins = ⊎_elim (begun_told first tag act plan answer old new)
+    (not_begun_told first tag act plan answer old new) begins
 
 -- a look that is on record, and one that is not
-looked_told : (first : List ℕ) (tag : Tag) (answer : LookAnswer) (old new : Past) → IsLookedAt tag answer old new → Looks tag answer (told_of first old) (told_of first new)
+looked_told : (first : List ℕ) (tag : Tag) (answer : LookAnswer) (old new : Past) → IsLookedAt tag answer old new
+    → Looks tag answer (told_of first old) (told_of first new)
 looked_told first tag answer old new b =
     let log = old.log.calls in
     let js = old.kept.items in
@@ -72,23 +79,27 @@ looked_told first tag answer old new b =
     let found = found_of (latest_of tag js) in
     let P : LookAnswer → Type 0 = λ v. Looks tag v a (told_of first new) in
     subst P (sym b.answered)
-    (on_record (λ s. Looks tag (look_of found) a s) first log new.log.calls (call.Looked tag found, []) kept (latest_changed tag (looked (length cs + 1)) js) new.kept.items
+    (on_record (λ s. Looks tag (look_of found) a s) first log new.log.calls (call.Looked tag found, []) kept
+    (latest_changed tag (looked (length cs + 1)) js) new.kept.items
     (look_answered tag (look_of found) (answers_of log))
     (ap (λ (r : Recorded SiteCall). r.calls) b.log) refl refl
     (b.kept ∙ ap (λ (n : ℕ). latest_changed tag (looked (n + 1)) js) (sym (length-map log change_of)))
     (look_push tag first cs js (answers_of log) (early_calls log js old.early)))
 
-pub looks_told : (first : List ℕ) (tag : Tag) (answer : LookAnswer) (old new : Book) → LooksAt tag answer old new ⊎ LooksInVain answer old new
+pub looks_told : (first : List ℕ) (tag : Tag) (answer : LookAnswer) (old new : Book)
+    → LooksAt tag answer old new ⊎ LooksInVain answer old new
     → Looks tag answer (told_of first old.past) (told_of first new.past)
 looks_told first tag answer old new looks =
     let a = told_of first old.past in
     let P : LookAnswer → Type 0 = λ v. Looks tag v a (told_of first new.past) in
     ⊎_elim (λ (at : LooksAt tag answer old new). looked_told first tag answer old.past new.past at.looks)
-    (λ (vain : LooksInVain answer old new). subst P (sym vain.answered) (past_stays (λ s. Looks tag look.Failed a s) first old.past new.past vain.stays (lost_look tag a)))
+    (λ (vain : LooksInVain answer old new). subst P (sym vain.answered)
+    (past_stays (λ s. Looks tag look.Failed a s) first old.past new.past vain.stays (lost_look tag a)))
     looks
 
 -- an abort that is on record, and one that is not
-aborted_told : (first : List ℕ) (tag : Tag) (answer : AbortAnswer) (old new : Past) → IsAborted tag answer old new → Aborts tag answer (told_of first old) (told_of first new)
+aborted_told : (first : List ℕ) (tag : Tag) (answer : AbortAnswer) (old new : Past) → IsAborted tag answer old new
+    → Aborts tag answer (told_of first old) (told_of first new)
 aborted_told first tag answer old new b =
     let log = old.log.calls in
     let js = old.kept.items in
@@ -96,22 +107,26 @@ aborted_told first tag answer old new b =
     let a = told_of first old in
     let P : AbortAnswer → Type 0 = λ v. Aborts tag v a (told_of first new) in
     subst P (sym b.answered)
-    (on_record (λ s. Aborts tag abort.Asked a s) first log new.log.calls (call.Aborted tag, []) kept (latest_changed tag (aborted_at (length cs + 1)) js) new.kept.items
+    (on_record (λ s. Aborts tag abort.Asked a s) first log new.log.calls (call.Aborted tag, []) kept
+    (latest_changed tag (aborted_at (length cs + 1)) js) new.kept.items
     (abort_answered tag abort.Asked (answers_of log))
     (ap (λ (r : Recorded SiteCall). r.calls) b.log) refl refl
     (b.kept ∙ ap (λ (n : ℕ). latest_changed tag (aborted_at (n + 1)) js) (sym (length-map log change_of)))
     (abort_push tag first cs js (answers_of log) (early_calls log js old.early)))
 
-pub aborts_told : (first : List ℕ) (tag : Tag) (answer : AbortAnswer) (old new : Book) → AbortsAt tag answer old new ⊎ AbortsInVain answer old new
+pub aborts_told : (first : List ℕ) (tag : Tag) (answer : AbortAnswer) (old new : Book)
+    → AbortsAt tag answer old new ⊎ AbortsInVain answer old new
     → Aborts tag answer (told_of first old.past) (told_of first new.past)
 aborts_told first tag answer old new aborts =
     let a = told_of first old.past in
     let P : AbortAnswer → Type 0 = λ v. Aborts tag v a (told_of first new.past) in
     ⊎_elim (λ (at : AbortsAt tag answer old new). aborted_told first tag answer old.past new.past at.aborts)
-    (λ (vain : AbortsInVain answer old new). subst P (sym vain.answered) (past_stays (λ s. Aborts tag abort.Failed a s) first old.past new.past vain.stays (lost_abort tag a)))
+    (λ (vain : AbortsInVain answer old new). subst P (sym vain.answered)
+    (past_stays (λ s. Aborts tag abort.Failed a s) first old.past new.past vain.stays (lost_abort tag a)))
     aborts
 
 -- the job that is put last is the one that arrives
-pub arrives_last : (tag : Tag) (act copy : Act) (plan : JobPlan) (now at place : ℕ) (jobs : List KeptJob) → copy ≡ act → at ≡ now → place ≡ length jobs + 1
+pub arrives_last : (tag : Tag) (act copy : Act) (plan : JobPlan) (now at place : ℕ) (jobs : List KeptJob) → copy ≡ act → at ≡ now
+    → place ≡ length jobs + 1
     → jobs ++ record (arrived tag copy plan at jobs) { place = place } ∷ [] ≡ jobs ++ arrived tag act plan now jobs ∷ []
 arrives_last tag act copy plan now at place jobs same moment behind = cc

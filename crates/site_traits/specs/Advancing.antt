@@ -31,6 +31,11 @@ advances-then [] (k ∷ ks) ls jk kl = absurd jk
 advances-then (j ∷ js) [] ls jk kl = absurd jk
 advances-then (j ∷ js) (k ∷ ks) [] jk kl = kl
 advances-then (j ∷ js) (k ∷ ks) (l ∷ ls) jk kl = (
-  record { tag = kl.0.tag ∙ jk.0.tag; act = kl.0.act ∙ jk.0.act; phase = goes_on-then j.phase k.phase l.phase jk.0.phase kl.0.phase },
+  record {
+    tag = kl.0.tag ∙ jk.0.tag;
+    act = kl.0.act ∙ jk.0.act;
+    phase =
+        goes_on-then j.phase k.phase l.phase jk.0.phase kl.0.phase;
+  },
   advances-then js ks ls jk.1 kl.1,
 )

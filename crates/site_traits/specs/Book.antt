@@ -1,5 +1,6 @@
 -- The plan of a site in memory, and what was done by it.
-use Rattle.std.specs.Prelude.{◌≡◌, ◌⊎◌, ◌≤◌, ◌↔◌, ℕ, ◌+◌, ◌*◌, ◌-◌, ◌^◌, min, List, length, get_or, Contains, Bool, true, IsTrue, if◌then◌else◌}
+use Rattle.std.specs.Prelude.{◌≡◌, ◌⊎◌, ◌≤◌, ◌↔◌, ℕ, ◌+◌, ◌*◌, ◌-◌, ◌^◌, min, List, length, get_or, Contains, Bool}
+use Rattle.std.specs.Prelude.{true, IsTrue, if◌then◌else◌}
 use Rattle.lcm_events.specs.declared.acts.Act.{Act}
 use Rattle.lcm_events.specs.declared.attempts.Tag.{Tag}
 use Rattle.site_traits.specs.Counts.{SiteCounts, asked, disk_failed, one_more, begin_counts, look_counts, abort_counts}
@@ -24,7 +25,16 @@ none_counted = record { disk = 0; vim = 0; look = 0; refusals = 0; writes = 0; c
 
 -- the counts that the book keeps
 abbrev pub counts_in : Book → SiteCounts
-counts_in b = record { disk = b.faults; vim = b.vim_faults; look = b.look_faults; refusals = b.refusals; writes = b.writes; cuts = b.cuts; syncs = b.syncs }
+counts_in b = record {
+  disk = b.faults;
+  vim = b.vim_faults;
+  look = b.look_faults;
+  refusals = b.refusals;
+  writes =
+      b.writes;
+  cuts = b.cuts;
+  syncs = b.syncs;
+}
 
 -- the counts once this call was asked for
 abbrev pub counted : SiteCall → SiteCounts → SiteCounts
@@ -33,8 +43,8 @@ counted (call.Cut to) c = asked cut c
 counted call.Synced c = asked sync c
 counted other c = c
 
--- no call was made: these are to fail, and there is room for a file of so many bytes, for 1,048,576 calls and for twice as many bytes
--- written (own rule)
+-- no call was made: these are to fail, and there is room for a file of so many bytes, for 1,048,576 calls and for twice
+-- as many bytes written (own rule)
 pub record IsPlanned (failing : List ℕ) (room : ℕ) (b : Book) : Type 0 where
   pub failing_are : b.failing.items ≡ failing
   pub calls : b.calls ≡ 0
@@ -60,14 +70,16 @@ pub record SamePlan (old new : Book) : Type 0 where
   pub work : new.work ≡ old.work
   pub room : new.room ≡ old.room
 
--- a call on the file succeeds exactly where it is served, and is on record then; it is counted, and so is its fault; jobs stay (own rule)
+-- a call on the file succeeds exactly where it is served, and is on record then; it is counted, and so is its fault;
+-- jobs stay (own rule)
 pub record Runs (what : SiteCall) (bytes : List ℕ) (succeeds : Bool) (old new : Book) : Type 0 where
   pub served : IsTrue succeeds ↔ IsServed what bytes old
   pub failing : new.failing ≡ old.failing
   pub room : new.room ≡ old.room
   pub calls : new.calls ≡ one_more old.calls
   pub log : new.past.log ≡ (if succeeds then with_call what bytes old.past.log else old.past.log)
-  pub counts : counts_in new ≡ (if succeeds then counted what (counts_in old) else disk_failed (counted what (counts_in old)))
+  pub counts : counts_in new ≡ (if succeeds then counted what (counts_in old)
+      else disk_failed (counted what (counts_in old)))
   pub unreachable : new.unreachable ≡ old.unreachable
   pub work : new.work ≡ old.work
   pub kept : new.past.kept.items ≡ old.past.kept.items
@@ -75,8 +87,8 @@ pub record Runs (what : SiteCall) (bytes : List ℕ) (succeeds : Bool) (old new 
   pub begins : new.begins ≡ old.begins
   pub asked : new.asked ≡ old.asked
 
--- No begin, look or abort was made: looks and aborts with these numbers are to fail, begins come out by this work in order, and there is room
--- for so many jobs (own rule).
+-- No begin, look or abort was made: looks and aborts with these numbers are to fail, begins come out by this work in
+-- order, and there is room for so many jobs (own rule).
 pub record HasWork (unreachable : List ℕ) (work : List JobPlan) (jobs : ℕ) (b : Book) : Type 0 where
   pub unreachable_are : b.unreachable.items ≡ unreachable
   pub work_is : b.work.items ≡ work

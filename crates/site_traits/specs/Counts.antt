@@ -16,8 +16,8 @@ Rose before now = min (before + 1) (2 ^ 64 - 1) ≤ now
 abbrev pub one_more : ℕ → ℕ
 one_more n = min (n + 1) (2 ^ 64 - 1)
 
--- What a site shows, told or not: how often each kind of call failed, how often a begin was refused, and how often a write, a cut and a
--- sync were asked for, whether they failed or not (own rule).
+-- What a site shows, told or not: how often each kind of call failed, how often a begin was refused, and how often a
+-- write, a cut and a sync were asked for, whether they failed or not (own rule).
 pub record SiteCounts : Type 0 where
   pub disk : ℕ
   pub vim : ℕ
@@ -46,19 +46,21 @@ all_asked (ask ∷ asks) c = all_asked asks (asked ask c)
 abbrev pub disk_failed : SiteCounts → SiteCounts
 disk_failed c = record c { disk = one_more c.disk }
 
--- A call on the file leaves the counts as they are once it is asked for; where it failed, one disk fault more is counted (own rule).
+-- A call on the file leaves the counts as they are once it is asked for; where it failed, one disk fault more is
+-- counted (own rule).
 pub record DiskCause {T E : Type 0} (asked now : SiteCounts) (result : Result T E) : Type 0 where
   pub done : OnOk result (now ≡ asked)
   pub failed : OnErr result (now ≡ disk_failed asked)
 
--- What a begin does to the counts, by its answer: a refusal is counted as one, and a call that failed as one fault of the infrastructure (own
--- rule).
+-- What a begin does to the counts, by its answer: a refusal is counted as one, and a call that failed as one fault of
+-- the infrastructure (own rule).
 abbrev pub begin_counts : BeginAnswer → SiteCounts → SiteCounts
 begin_counts begin.Begun c = c
 begin_counts (begin.Refused code) c = record c { refusals = one_more c.refusals }
 begin_counts begin.Failed c = record c { vim = one_more c.vim }
 
--- what a look does to the counts: one that failed is counted as a fault of the infrastructure, and as a failed look (own rule)
+-- what a look does to the counts: one that failed is counted as a fault of the infrastructure, and as a failed look
+-- (own rule)
 abbrev pub look_counts : LookAnswer → SiteCounts → SiteCounts
 look_counts look.Failed c = record c { vim = one_more c.vim; look = one_more c.look }
 look_counts _ c = c
@@ -91,12 +93,25 @@ pub record OnlyDiskFails (failed : Type 0) (a b : SiteCounts) : Type 0 where
 
 -- so it is where nothing was asked for
 pub untouched : (failed : Type 0) (a : SiteCounts) → ¬ failed → OnlyDiskFails failed a a
-untouched failed a never = record { rose = λ is. absurd (never is); stays = λ _. refl; vim = refl; look = refl; refusals = refl }
+untouched failed a never = record {
+  rose = λ is. absurd (never is);
+  stays = λ _. refl;
+  vim = refl;
+  look = refl;
+  refusals = refl;
+}
 
 -- one answer stands for another
 pub fails_as : (P Q : Type 0) (a b : SiteCounts) → OnlyDiskFails P a b → (P → Q) → (Q → P) → OnlyDiskFails Q a b
 fails_as P Q a b f there back =
-    record { rose = λ is. f.rose (back is); stays = λ never. f.stays (λ is. never (there is)); vim = f.vim; look = f.look; refusals = f.refusals }
+    record {
+      rose = λ is. f.rose (back is);
+      stays = λ never. f.stays (λ is. never (there is));
+      vim = f.vim;
+      look =
+          f.look;
+      refusals = f.refusals;
+    }
 
 -- behind calls of which none failed it is the last alone that did
 pub fails_last : (P : Type 0) (a b c : SiteCounts) → OnlyDiskFails ⊥ a b → OnlyDiskFails P b c → OnlyDiskFails P a c
@@ -110,7 +125,8 @@ fails_last P a b c none last =
       refusals = last.refusals ∙ none.refusals;
     }
 
--- What an object other than a site or a door shows, told or not: how often it was called, and how often a call of it failed (own rule).
+-- What an object other than a site or a door shows, told or not: how often it was called, and how often a call of it
+-- failed (own rule).
 pub record CallCounts : Type 0 where
   pub calls : ℕ
   pub faults : ℕ

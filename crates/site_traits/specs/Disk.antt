@@ -1,5 +1,7 @@
--- A file in memory, by the calls that were made on it since it stood as it was at first, and beside it the jobs of each moment.
-use Rattle.std.specs.Prelude.{◌≡◌, ◌≤◌, ℕ, ◌+◌, min, List, [], ◌∷◌, ◌++◌, length, take, drop, map, replicate, fold, if◌then◌else◌, nat_le}
+-- A file in memory, by the calls that were made on it since it stood as it was at first, and beside it the jobs of each
+-- moment.
+use Rattle.std.specs.Prelude.{◌≡◌, ◌≤◌, ℕ, ◌+◌, min, List, [], ◌∷◌, ◌++◌, length, take, drop, map, replicate, fold}
+use Rattle.std.specs.Prelude.{if◌then◌else◌, nat_le}
 use Rattle.std.proofs.Common.{arith, subst, refl, inr, ap, sym, ◌∙◌, append_assoc, length-append, length-drop}
 use Rattle.std.proofs.lemmas.List.{take_at, drop_at, take_all, length-take-le}
 use Rattle.site_traits.specs.declared.past.SiteCall.{SiteCall}
@@ -42,7 +44,12 @@ overlaid old at bytes = take at old ++ bytes ++ drop (at + length bytes) old
 
 -- the disk after one call more; a write past the end would begin at the end
 abbrev pub after : Disk → Change → Disk
-after d (wrote at bytes) = record { seen = overlaid d.seen (min at (length d.seen)) bytes; base = d.base; pending = wrote (min at (length d.seen)) bytes ∷ d.pending }
+after d (wrote at bytes) = record {
+  seen = overlaid d.seen (min at (length d.seen)) bytes;
+  base = d.base;
+  pending =
+      wrote (min at (length d.seen)) bytes ∷ d.pending;
+}
 after d (cut to) = record { seen = take to d.seen; base = d.base; pending = cut to ∷ d.pending }
 after d synced = record { seen = d.seen; base = d.seen; pending = [] }
 after d kept = d
@@ -74,12 +81,21 @@ pub record LeftSince (first : List ℕ) (changes : List Change) (jobs : List Kep
   pub reached : Reaches (disk first (take moment changes)).base (disk first (take moment changes)).pending p.image
   pub jobs_are : p.jobs ≡ jobs_at moment jobs
 
-pub left_earlier : (first : List ℕ) (changes : List Change) (jobs : List KeptJob) (t u : ℕ) (p : Pair) → t ≤ u → LeftSince first changes jobs u p → LeftSince first changes jobs t p
+pub left_earlier : (first : List ℕ) (changes : List Change) (jobs : List KeptJob) (t u : ℕ) (p : Pair) → t ≤ u
+    → LeftSince first changes jobs u p → LeftSince first changes jobs t p
 left_earlier first changes jobs t u p le left =
-    record { moment = left.moment; since = omega (arith, left.since, le); has_been = left.has_been; reached = left.reached; jobs_are = left.jobs_are }
+    record {
+      moment = left.moment;
+      since = omega (arith, left.since, le);
+      has_been = left.has_been;
+      reached =
+          left.reached;
+      jobs_are = left.jobs_are;
+    }
 
 -- a write that was not cut short is one of the ways in which it may be
-pub overlaid_torn : (old : List ℕ) (at : ℕ) (bytes : List ℕ) → at ≤ length old → Torn at (length bytes) old (overlaid old at bytes)
+pub overlaid_torn : (old : List ℕ) (at : ℕ) (bytes : List ℕ) → at ≤ length old
+    → Torn at (length bytes) old (overlaid old at bytes)
 overlaid_torn old at bytes le =
     let n = length bytes in
     let front = take at old in
@@ -108,22 +124,26 @@ seen_fold : (changes : List Change) (d : Disk) → IsSeen d → IsSeen (fold aft
 seen_fold [] d seen = seen
 seen_fold (c ∷ changes) d seen = seen_fold changes (after d c) (seen_after d c seen)
 
-pub seen_reached : (first : List ℕ) (changes : List Change) → Reaches (disk first changes).base (disk first changes).pending (disk first changes).seen
+pub seen_reached : (first : List ℕ) (changes : List Change)
+    → Reaches (disk first changes).base (disk first changes).pending (disk first changes).seen
 unfolding IsSeen
 seen_reached first changes = seen_fold changes (fresh first) refl
 
-pub left_now : (first : List ℕ) (changes : List Change) (jobs : List KeptJob) → LeftSince first changes jobs (length changes) (pair_of (disk first changes).seen (jobs_at (length changes) jobs))
+pub left_now : (first : List ℕ) (changes : List Change) (jobs : List KeptJob)
+    → LeftSince first changes jobs (length changes) (pair_of (disk first changes).seen (jobs_at (length changes) jobs))
 left_now first changes jobs = record {
   moment = length changes;
   since = omega arith;
   has_been = omega arith;
-  reached = (let P : List Change → Type 0 = λ v. Reaches (disk first v).base (disk first v).pending (disk first changes).seen in
+  reached = (let P : List Change → Type 0 = λ v. Reaches (disk first v).base (disk first v).pending
+      (disk first changes).seen in
       subst P (sym (take_all (length changes) changes (omega arith))) (seen_reached first changes));
   jobs_are = refl;
 }
 
 -- a stop now leaves the jobs as they are
-pub left_stays : (first : List ℕ) (changes : List Change) (jobs : List KeptJob) (p : Pair) → LeftSince first changes jobs (length changes) p → p.jobs ≡ jobs_at (length changes) jobs
+pub left_stays : (first : List ℕ) (changes : List Change) (jobs : List KeptJob) (p : Pair)
+    → LeftSince first changes jobs (length changes) p → p.jobs ≡ jobs_at (length changes) jobs
 left_stays first changes jobs p left =
     let now : left.moment ≡ length changes = omega (arith, left.since, left.has_been) in
     left.jobs_are ∙ ap (λ (k : ℕ). jobs_at k jobs) now

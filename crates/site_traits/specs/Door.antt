@@ -1,5 +1,6 @@
 -- What a door tells: its answers to `next`, and of each connection what came in, what went out and what failed.
-use Rattle.std.specs.Prelude.{◌≡◌, ◌≢◌, ◌≤◌, ℕ, Bool, true, false, if◌then◌else◌, nat_lt, List, [], ◌∷◌, ◌++◌, length, take, drop}
+use Rattle.std.specs.Prelude.{◌≡◌, ◌≢◌, ◌≤◌, ℕ, Bool, true, false, if◌then◌else◌, nat_lt, List, [], ◌∷◌, ◌++◌, length}
+use Rattle.std.specs.Prelude.{take, drop}
 use Rattle.lcm_events.specs.declared.states.Role.{Role}
 use Rattle.site_traits.specs.declared.door.NextAnswer.{NextAnswer}
 use Rattle.site_traits.specs.declared.door.NextAnswer.TheVariants as next
@@ -9,8 +10,8 @@ use Rattle.site_traits.specs.declared.door.WriteAnswer.{WriteAnswer}
 use Rattle.site_traits.specs.declared.door.WriteAnswer.TheVariants as write
 use Rattle.site_traits.specs.Counts.{one_more}
 
--- A connection: its bytes in, those of them that are not read yet, its bytes out, whether a read or a write on it failed, and
--- whether it was hung up (own rule).
+-- A connection: its bytes in, those of them that are not read yet, its bytes out, whether a read or a write on it
+-- failed, and whether it was hung up (own rule).
 pub record Conn : Type 0 where
   pub bytes : List ℕ
   pub left : List ℕ
@@ -21,7 +22,15 @@ pub record Conn : Type 0 where
 
 -- a connection with these bytes in, of which nothing was read yet
 abbrev pub fresh : List ℕ → Conn
-fresh bytes = record { bytes = bytes; left = bytes; out = []; read_failed = false; write_failed = false; hung_up = false }
+fresh bytes = record {
+  bytes = bytes;
+  left = bytes;
+  out = [];
+  read_failed = false;
+  write_failed = false;
+  hung_up =
+      false;
+}
 
 -- where no connection has come yet: nothing comes in, and it is hung up
 abbrev pub nobody : Conn
@@ -47,8 +56,8 @@ write_broke c = record c { write_failed = true }
 abbrev pub gone : Conn → Conn
 gone c = record c { hung_up = true }
 
--- All that a door tells: its answers to `next` but the failed ones, the connection at hand, and those before it, the oldest
--- first. Before any has come, the one at hand is `nobody`.
+-- All that a door tells: its answers to `next` but the failed ones, the connection at hand, and those before it, the
+-- oldest first. Before any has come, the one at hand is `nobody`.
 pub record DoorState : Type 0 where
   pub answers : List NextAnswer
   pub conn : Conn
@@ -110,8 +119,8 @@ abbrev pub IsTaken : WriteAnswer → ℕ → Type 0
 IsTaken (write.Took n) most = (1 ≤ n) × (n ≤ most)
 IsTaken write.Failed most = Unit {0}
 
--- What a door shows, told or not: how often a call of it failed, how often `next` did, and whether the connection at hand is up, which it
--- is from when it came until it is hung up (own rule).
+-- What a door shows, told or not: how often a call of it failed, how often `next` did, and whether the connection at
+-- hand is up, which it is from when it came until it is hung up (own rule).
 pub record DoorCounts : Type 0 where
   pub faults : ℕ
   pub next : ℕ
@@ -157,8 +166,8 @@ pub record WriteCause (answer : WriteAnswer) (a b : DoorCounts) : Type 0 where
   pub done : answer ≢ write.Failed → b ≡ a
   pub failed : answer ≡ write.Failed → b ≡ call_failed a
 
--- How often a write was asked for, whether it failed or not, and how often one took less than it was offered, told or not, each as far as a
--- u64 counts (own rule).
+-- How often a write was asked for, whether it failed or not, and how often one took less than it was offered, told or
+-- not, each as far as a u64 counts (own rule).
 pub record WriteCounts : Type 0 where
   pub made : ℕ
   pub short : ℕ
@@ -169,5 +178,9 @@ write_counts made short = record { made = made; short = short }
 
 -- once a write of so many bytes was asked for, by its answer
 abbrev pub asked_for : ℕ → WriteAnswer → WriteCounts → WriteCounts
-asked_for size (write.Took n) w = record { made = one_more w.made; short = if nat_lt n size then one_more w.short else w.short }
+asked_for size (write.Took n) w = record {
+  made = one_more w.made;
+  short =
+      if nat_lt n size then one_more w.short else w.short;
+}
 asked_for size write.Failed w = record { made = one_more w.made; short = w.short }

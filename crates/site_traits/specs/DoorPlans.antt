@@ -1,5 +1,6 @@
 -- The plans of a door in memory, as they were given and as they are ready.
-use Rattle.std.specs.Prelude.{◌≡◌, ◌<◌, ℕ, ◌+◌, ◌-◌, ◌/◌, max, List, length, take, Option, Some, None, slice_get, if◌then◌else◌, nat_lt, get_or}
+use Rattle.std.specs.Prelude.{◌≡◌, ◌<◌, ℕ, ◌+◌, ◌-◌, ◌/◌, max, List, length, take, Option, Some, None, slice_get}
+use Rattle.std.specs.Prelude.{if◌then◌else◌, nat_lt, get_or}
 use Rattle.site_traits.specs.declared.door.NextAnswer.{NextAnswer}
 use Rattle.site_traits.specs.declared.door.NextAnswer.TheVariants as next
 use Rattle.site_traits.specs.declared.mem_conn.MemConn.{MemConn}

@@ -1,4 +1,5 @@
--- The jobs of an infrastructure and how they go on (own rules). A list of jobs or of answers has the latest first, as histories have.
+-- The jobs of an infrastructure and how they go on (own rules). A list of jobs or of answers has the latest first, as
+-- histories have.
 use Rattle.std.specs.Prelude.{◌≡◌, ◌⊎◌, ℕ, List, [], ◌∷◌, Option, Some, None, option_map, find}
 use Rattle.lcm_events.specs.Same.{same_tag}
 use Rattle.lcm_events.specs.declared.acts.Act.{Act}
@@ -49,14 +50,16 @@ pub record Arrives (tag : Tag) (act : Act) (phase : Phase) (before after : List 
 abbrev pub MayArrive : Tag → Act → List Job → List Job → Type 0
 MayArrive tag act before after = Advances before after ⊎ ((phase : Phase) × Arrives tag act phase before after)
 
--- What a begin does to the jobs, by its answer. Begun: the one job was put last. Refused: no job was put, or a broken one. Failed: the one
--- job was put or none.
+-- What a begin does to the jobs, by its answer. Begun: the one job was put last. Refused: no job was put, or a broken
+-- one. Failed: the one job was put or none.
 abbrev pub BeginsAs : Tag → Act → BeginAnswer → List Job → List Job → Type 0
 BeginsAs tag act begin.Begun before after = (phase : Phase) × Arrives tag act phase before after
-BeginsAs tag act (begin.Refused code) before after = Advances before after ⊎ ((other : ℕ) × Arrives tag act (Broken other) before after)
+BeginsAs tag act (begin.Refused code) before after = Advances before after
+    ⊎ ((other : ℕ) × Arrives tag act (Broken other) before after)
 BeginsAs tag act begin.Failed before after = MayArrive tag act before after
 
--- what a look tells of the jobs: a running one was running when it was asked for, and all else is as it is once answered
+-- what a look tells of the jobs: a running one was running when it was asked for, and all else is as it is once
+-- answered
 abbrev pub LooksAs : Tag → LookAnswer → List Job → List Job → Type 0
 LooksAs tag look.Absent before after = phase_of tag after ≡ None
 LooksAs tag look.Running before after = phase_of tag before ≡ Some Running
@@ -65,8 +68,8 @@ LooksAs tag (look.Broken code) before after = phase_of tag after ≡ Some (Broke
 LooksAs tag look.Aborted before after = phase_of tag after ≡ Some Aborted
 LooksAs tag look.Failed before after = Unit {0}
 
--- What the calls on jobs answered: the codes of the begins that were refused, the tags of which an abort was asked, and the looks that were
--- answered, each the latest first.
+-- What the calls on jobs answered: the codes of the begins that were refused, the tags of which an abort was asked, and
+-- the looks that were answered, each the latest first.
 pub record Answered : Type 0 where
   pub refused : List ℕ
   pub aborted : List Tag

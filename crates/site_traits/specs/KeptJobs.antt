@@ -1,5 +1,7 @@
 -- The jobs of a site in memory, as it keeps them: each with the moments of its arrival and of its end (own rules).
-use Rattle.std.specs.Prelude.{◌≡◌, ◌≤◌, ◌<◌, ℕ, ◌+◌, ◌-◌, Bool, true, false, ◌==◌, ◌||◌, ◌&&◌, if◌then◌else◌, nat_le, Option, Some, None, is_some, is_none, slice_get, MatchOption, List, [], ◌∷◌, All, map, filter, reverse, find, drop, length, decimal}
+use Rattle.std.specs.Prelude.{◌≡◌, ◌≤◌, ◌<◌, ℕ, ◌+◌, ◌-◌, Bool, true, false, ◌==◌, ◌||◌, ◌&&◌, if◌then◌else◌, nat_le}
+use Rattle.std.specs.Prelude.{Option, Some, None, is_some, is_none, slice_get, MatchOption, List, [], ◌∷◌, All, map}
+use Rattle.std.specs.Prelude.{filter, reverse, find, drop, length, decimal}
 use Rattle.lcm_events.specs.Same.{same_tag}
 use Rattle.lcm_events.specs.declared.acts.Act.{Act}
 use Rattle.lcm_events.specs.declared.attempts.Tag.{Tag}
@@ -101,7 +103,8 @@ jobs_at k kept = jobs_of k (reverse kept)
 
 -- a look at the job at this moment: one that goes on with looks left has one fewer, and with none left it ends
 abbrev pub looked : ℕ → KeptJob → KeptJob
-looked now w = if is_some w.ended then w else if w.looks == 0 then record w { ended = Some now } else record w { looks = w.looks - 1 }
+looked now w = if is_some w.ended then w else if w.looks == 0 then record w { ended = Some now }
+    else record w { looks = w.looks - 1 }
 
 -- an abort of the job at this moment: one that goes on and can be aborted has ended
 abbrev pub aborted_at : ℕ → KeptJob → KeptJob
@@ -163,9 +166,15 @@ pub record IsLatest (tag : Tag) (kept : List KeptJob) (k : ℕ) : Type 0 where
 abbrev pub IsPlaced : Tag → List KeptJob → Option ℕ → Type 0
 IsPlaced tag kept place = MatchOption place (HasNone tag kept) (IsLatest tag kept)
 
--- the job as it stood at this moment, for a site on which no call was made: it keeps its plan and the looks that are left of it
+-- the job as it stood at this moment, for a site on which no call was made: it keeps its plan and the looks that are
+-- left of it
 abbrev pub stood : ℕ → KeptJob → KeptJob
-stood k w = record w { at = 0; ended = (if has_been w.ended k then Some 0 else None); aborted = has_been w.ended k && w.aborted }
+stood k w = record w {
+  at = 0;
+  ended = (if has_been w.ended k then Some 0 else None);
+  aborted =
+      has_been w.ended k && w.aborted;
+}
 
 -- the jobs of this moment as they stood then, for a site on which no call was made
 abbrev pub kept_at : ℕ → List KeptJob → List KeptJob

@@ -10,7 +10,8 @@ entry_of bytes e = (e.what, take e.len (drop e.from bytes))
 abbrev pub IsWithin : {T : Type 0} → List ℕ → Entry T → Type 0
 IsWithin bytes e = e.from + e.len ≤ length bytes
 
--- the calls on record, the oldest first, each with its bytes, and the room: for how many calls, and for how many bytes (own rule)
+-- the calls on record, the oldest first, each with its bytes, and the room: for how many calls, and for how many bytes
+-- (own rule)
 pub record Recorded (T : Type 0) : Type 0 where
   pub calls : List (T × List ℕ)
   pub most_calls : ℕ

@@ -24,7 +24,8 @@ counts_of c = record { calls = c.calls; faults = c.faults }
 abbrev pub next_post : MemCourier → PostPlan
 next_post c = unwrap_or (slice_get c.plans.items c.next) (planned.Status 204)
 
--- the place in the plan after a post: one plan more is used, unless it has a status and the post failed, since its record has no room
+-- the place in the plan after a post: one plan more is used, unless it has a status and the post failed, since its
+-- record has no room
 abbrev pub post_place_after : PostAnswer → PostPlan → ℕ → ℕ
 post_place_after post.Failed (planned.Status status) place = place
 post_place_after answer plan place = one_more place
@@ -34,10 +35,11 @@ abbrev pub post_faults_after : PostAnswer → ℕ → ℕ
 post_faults_after post.Failed faults = one_more faults
 post_faults_after (post.Status status) faults = faults
 
--- A post gets a status exactly where the plan has it and its record has room for the callback and the body; its plan is used, and its
--- fault is counted (own rule).
+-- A post gets a status exactly where the plan has it and its record has room for the callback and the body; its plan is
+-- used, and its fault is counted (own rule).
 pub record RunsPost (uri body : List ℕ) (result : PostAnswer) (old new : MemCourier) : Type 0 where
-  pub served : (status : ℕ) → (result ≡ post.Status status) ↔ ((next_post old ≡ planned.Status status) × HasRoom (length uri + length body) old.posts)
+  pub served : (status : ℕ) → (result ≡ post.Status status)
+      ↔ ((next_post old ≡ planned.Status status) × HasRoom (length uri + length body) old.posts)
   pub plans : new.plans.items ≡ old.plans.items
   pub place : new.next ≡ post_place_after result (next_post old) old.next
   pub room : SameRoom old.posts new.posts

@@ -42,7 +42,8 @@ IsSpent d = 1048576 ≤ d.calls
 -- `next` fails where the calls are spent, and then nothing comes; else it does what comes next (own rule)
 pub record RunsNext (answer : NextAnswer) (old new : MemDoor) : Type 0 where
   pub spent : IsSpent old → (answer ≡ next.Failed) × (new.plans.items ≡ old.plans.items)
-  pub does : old.calls < 1048576 → Does (next_of old.plans.items) answer new.conn × (new.plans.items ≡ rest_of old.plans.items)
+  pub does : old.calls < 1048576 → Does (next_of old.plans.items) answer new.conn
+      × (new.plans.items ≡ rest_of old.plans.items)
   pub calls : new.calls ≡ calls_after old.calls
 
 -- all but the connection at hand and the counts stays
@@ -70,7 +71,8 @@ pub record RunsRead (most : ℕ) (answer : ReadAnswer) (old new : MemDoor) : Typ
 
 -- these bytes are to fail: the plan says so, the calls are spent, or there is no room for them
 abbrev pub IsWriteToFail : List ℕ → MemDoor → Type 0
-IsWriteToFail bytes d = IsSpent d ⊎ ((d.conn.failing_write ≡ Some (one_more d.conn.writes)) ⊎ (d.conn.room < length d.conn.out.items + length bytes))
+IsWriteToFail bytes d = IsSpent d ⊎ ((d.conn.failing_write ≡ Some (one_more d.conn.writes))
+    ⊎ (d.conn.room < length d.conn.out.items + length bytes))
 
 -- a write fails exactly where the plan says so or there is no room, and takes all of its bytes else (own rule)
 pub record RunsWrite (bytes : List ℕ) (answer : WriteAnswer) (old new : MemDoor) : Type 0 where

@@ -11,7 +11,12 @@ use Rattle.site_traits.specs.declared.mem_orchestrator.MemOrchestrator.{MemOrche
 
 -- what an orchestrator in memory tells
 abbrev pub state_of : MemOrchestrator → OrchestratorState
-state_of o = record { answers = answers_of o.plans.items o.next; asked = bytes_of o.asked.calls; polled = bytes_of o.polled.calls }
+state_of o = record {
+  answers = answers_of o.plans.items o.next;
+  asked = bytes_of o.asked.calls;
+  polled =
+      bytes_of o.polled.calls;
+}
 
 -- how often it was called, and how often that failed
 abbrev pub counts_of : MemOrchestrator → CallCounts
@@ -31,9 +36,10 @@ abbrev pub faults_after : Call → ℕ → ℕ
 faults_after call.Failed faults = one_more faults
 faults_after call.Came faults = faults
 
--- A call with these bytes is answered exactly where the plan has an answer and its record has room; its plan is used, and its fault is
--- counted (own rule).
-pub record RunsCall (bytes : List ℕ) (result : Call) (before after : Recorded (Unit {0})) (old new : MemOrchestrator) : Type 0 where
+-- A call with these bytes is answered exactly where the plan has an answer and its record has room; its plan is used,
+-- and its fault is counted (own rule).
+pub record RunsCall (bytes : List ℕ) (result : Call) (before after : Recorded (Unit {0}))
+    (old new : MemOrchestrator) : Type 0 where
   pub served : (result ≡ call.Came) ↔ (IsSome (next_answer old.plans.items old.next) × HasRoom (length bytes) before)
   pub plans : new.plans.items ≡ old.plans.items
   pub place : new.next ≡ place_after result (next_answer old.plans.items old.next) old.next (length old.plans.items)

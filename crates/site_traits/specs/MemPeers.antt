@@ -1,5 +1,7 @@
--- Peers in memory: an orchestrator that gives the answers of its plan, and a courier that gives the statuses of its plan.
-use Rattle.std.specs.Prelude.{ℕ, ◌+◌, min, List, map, take, drop, length, nat_le, if◌then◌else◌, Option, Some, None, slice_get, option_and_then}
+-- Peers in memory: an orchestrator that gives the answers of its plan, and a courier that gives the statuses of its
+-- plan.
+use Rattle.std.specs.Prelude.{ℕ, ◌+◌, min, List, map, take, drop, length, nat_le, if◌then◌else◌, Option, Some, None}
+use Rattle.std.specs.Prelude.{slice_get, option_and_then}
 use Rattle.std.specs.List.{filter_map}
 use Rattle.site_traits.specs.Answer.{Answer}
 use Rattle.site_traits.specs.Peers.{Post}
@@ -35,8 +37,8 @@ posts_of calls = map post_of calls
 abbrev pub next_answer : List GrantPlan → ℕ → Option Answer
 next_answer plans place = option_and_then answer_of (slice_get plans place)
 
--- The place in a plan of so many after a call at a place: one plan more is used, unless it has an answer and the call failed, since its
--- record has no room (own rule).
+-- The place in a plan of so many after a call at a place: one plan more is used, unless it has an answer and the call
+-- failed, since its record has no room (own rule).
 abbrev pub place_after : Call → Option Answer → ℕ → ℕ → ℕ
 place_after call.Failed (Some answer) place most = place
 place_after result answer place most = min (place + 1) most

@@ -14,7 +14,8 @@ pub record IsEmpty (failing : Option ℕ) (s : MemSink) : Type 0 where
   pub faults : s.faults ≡ 0
   pub failing_is : s.failing ≡ failing
 
--- the sink takes these bytes: the put is not the one that is to fail, and it is within 1,048,576 calls and 64 MiB (own rule)
+-- the sink takes these bytes: the put is not the one that is to fail, and it is within 1,048,576 calls and 64 MiB (own
+-- rule)
 pub record TakesBytes (bytes : List ℕ) (s : MemSink) : Type 0 where
   pub unnamed : s.failing ≡ Some (one_more s.calls) → ⊥
   pub call : one_more s.calls ≤ 1048576

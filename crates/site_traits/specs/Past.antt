@@ -15,7 +15,8 @@ use Rattle.site_traits.specs.declared.past.SiteCall.{SiteCall}
 use Rattle.site_traits.specs.declared.past.SiteCall.TheVariants as call
 use Rattle.site_traits.specs.declared.past.Past.{Past}
 use Rattle.site_traits.specs.Jobs.{Answered, unanswered, begin_answered, look_answered, abort_answered}
-use Rattle.site_traits.specs.KeptJobs.{begin_of, look_of, arrives, arrived, found_of, latest_of, latest_changed, looked, aborted_at}
+use Rattle.site_traits.specs.KeptJobs.{begin_of, look_of, arrives, arrived, found_of, latest_of, latest_changed, looked}
+use Rattle.site_traits.specs.KeptJobs.{aborted_at}
 use Rattle.site_traits.specs.Log.{HasRoom, with_call}
 
 -- what a call on record does to the answers that were given
@@ -40,11 +41,13 @@ abbrev pub arrival_by : JobPlan → Past → Arrival
 arrival_by plan p = if nat_le p.most (length p.kept.items) then arrival.Refused 1 else plan.arrival
 
 -- the begin is on record, and its job is put last where it arrives
-pub record IsBegun (tag : Tag) (act : Act) (plan : JobPlan) (came : Arrival) (answer : BeginAnswer) (old new : Past) : Type 0 where
+pub record IsBegun (tag : Tag) (act : Act) (plan : JobPlan) (came : Arrival) (answer : BeginAnswer)
+    (old new : Past) : Type 0 where
   pub answered : answer ≡ begin_of came
   pub room : HasRoom 0 old.log
   pub log : new.log ≡ with_call (call.Began tag came) [] old.log
-  pub kept : new.kept.items ≡ (if arrives came then old.kept.items ++ arrived tag act plan (length old.log.calls + 1) old.kept.items ∷ [] else old.kept.items)
+  pub kept : new.kept.items ≡ (if arrives came then old.kept.items
+      ++ arrived tag act plan (length old.log.calls + 1) old.kept.items ∷ [] else old.kept.items)
   pub most : new.most ≡ old.most
 
 -- the begin is not on record and failed: for want of room there, or, where a job would be put, for want of memory
@@ -55,7 +58,8 @@ pub record IsNotBegun (came : Arrival) (answer : BeginAnswer) (old new : Past) :
 
 -- what a begin by this plan does
 abbrev pub BeginsBy : Tag → Act → JobPlan → BeginAnswer → Past → Past → Type 0
-BeginsBy tag act plan answer old new = IsBegun tag act plan (arrival_by plan old) answer old new ⊎ IsNotBegun (arrival_by plan old) answer old new
+BeginsBy tag act plan answer old new = IsBegun tag act plan (arrival_by plan old) answer old new
+    ⊎ IsNotBegun (arrival_by plan old) answer old new
 
 -- the look is on record, and answers how the latest job of this tag stands
 pub record IsLookedAt (tag : Tag) (answer : LookAnswer) (old new : Past) : Type 0 where

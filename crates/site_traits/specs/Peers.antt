@@ -7,8 +7,8 @@ use Rattle.site_traits.specs.declared.courier.PostAnswer.TheVariants as post
 use Rattle.site_traits.specs.Answer.{Answer}
 use Rattle.site_traits.specs.Counts.{CallCounts, called, called_in_vain}
 
--- All that an orchestrator tells: its answers, the bodies that it was asked and the locations that were polled, each the
--- oldest first (SOL 003 9.4).
+-- All that an orchestrator tells: its answers, the bodies that it was asked and the locations that were polled, each
+-- the oldest first (SOL 003 9.4).
 pub record OrchestratorState : Type 0 where
   pub answers : List Answer
   pub asked : List (List ℕ)

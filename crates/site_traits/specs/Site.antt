@@ -1,6 +1,7 @@
--- What a site tells: its file and its jobs, and what a stop may leave of both. The rules are this project's own: between two syncs a
--- written range and the part past the old end may hold any bytes, and a sync that succeeded fixes what a read gives; a call on the jobs that
--- has returned, or was cut short by a stop, has put its job in place or never will.
+-- What a site tells: its file and its jobs, and what a stop may leave of both. The rules are this project's own:
+-- between two syncs a written range and the part past the old end may hold any bytes, and a sync that succeeded fixes
+-- what a read gives; a call on the jobs that has returned, or was cut short by a stop, has put its job in place or
+-- never will.
 use Rattle.std.specs.Prelude.{◌≡◌, ◌⊎◌, ◌≤◌, ℕ, ◌+◌, max, List, [], ◌++◌, length, take, drop, Result, OnOk}
 use Rattle.std.proofs.Common.{refl}
 use Rattle.lcm_events.specs.declared.acts.Act.{Act}
@@ -8,7 +9,8 @@ use Rattle.lcm_events.specs.declared.attempts.Tag.{Tag}
 use Rattle.site_traits.specs.declared.jobs.BeginAnswer.{BeginAnswer}
 use Rattle.site_traits.specs.declared.jobs.LookAnswer.{LookAnswer}
 use Rattle.site_traits.specs.declared.jobs.AbortAnswer.{AbortAnswer}
-use Rattle.site_traits.specs.Jobs.{Job, Advances, MayArrive, BeginsAs, LooksAs, Answered, unanswered, begin_answered, look_answered, abort_answered}
+use Rattle.site_traits.specs.Jobs.{Job, Advances, MayArrive, BeginsAs, LooksAs, Answered, unanswered, begin_answered}
+use Rattle.site_traits.specs.Jobs.{look_answered, abort_answered}
 
 -- what a stop leaves behind: a file and jobs, the latest first
 pub record Pair : Type 0 where
@@ -19,9 +21,11 @@ pub record Pair : Type 0 where
 abbrev pub pair_of : List ℕ → List Job → Pair
 pair_of image jobs = record { image = image; jobs = jobs }
 
--- All that a site tells. `image` is what a read gives, `jobs` are the jobs, the latest first, and `answers` what the calls on them answered.
--- `since t` holds of the pairs that a stop at a moment since t may leave: a moment since u is one since an earlier t, and what a read gives is,
--- with the jobs, among what a stop now may leave. Between two calls a stop leaves the jobs as they are.
+-- All that a site tells. `image` is what a read gives, `jobs` are the jobs, the latest first, and `answers` what the
+-- calls on them answered.
+-- `since t` holds of the pairs that a stop at a moment since t may leave: a moment since u is one since an earlier t,
+-- and what a read gives is, with the jobs, among what a stop now may leave. Between two calls a stop leaves the jobs as
+-- they are.
 pub record SiteState : Type 1 where
   pub image : List ℕ
   pub jobs : List Job
@@ -49,16 +53,16 @@ untold = record {
   stay = λ p left. left;
 }
 
--- The law on moments. What a stop during the call may leave comes by a step from what a stop before it may leave; what a
--- stop since an earlier moment may leave is that of before the call together with that of the call.
+-- The law on moments. What a stop during the call may leave comes by a step from what a stop before it may leave; what
+-- a stop since an earlier moment may leave is that of before the call together with that of the call.
 pub record Passes (step : Pair → Pair → Type 0) (a b : SiteState) : Type 0 where
   pub later : a.moment ≤ b.moment
   pub during : (p : Pair) → b.since a.moment p → (q : Pair) × a.since a.moment q × step q p
   pub nothing_else : (t : ℕ) (p : Pair) → t ≤ a.moment → b.since t p → a.since t p ⊎ b.since a.moment p
   pub keeps : (t : ℕ) (p : Pair) → t ≤ a.moment → a.since t p → b.since t p
 
--- A stop at a moment from a to b leaves only pairs that have P. What a stop since an earlier moment may leave is what it
--- might have left before, or has P.
+-- A stop at a moment from a to b leaves only pairs that have P. What a stop since an earlier moment may leave is what
+-- it might have left before, or has P.
 pub record LeavesOnly (P : Pair → Type 0) (a b : SiteState) : Type 0 where
   pub later : a.moment ≤ b.moment
   pub each : (p : Pair) → b.since a.moment p → P p
@@ -135,7 +139,8 @@ pub record OnJobs (step : List Job → List Job → Type 0) (a b : SiteState) : 
   pub passes : Passes (JobStep step) a b
   pub same : b.image ≡ a.image
 
--- a begin of the job of this tag with this work: at each moment the one job was put last or none, and the answer tells which
+-- a begin of the job of this tag with this work: at each moment the one job was put last or none, and the answer tells
+-- which
 pub record Begins (tag : Tag) (act : Act) (answer : BeginAnswer) (a b : SiteState) : Type 0 where
   pub on_jobs : OnJobs (MayArrive tag act) a b
   pub begins : BeginsAs tag act answer a.jobs b.jobs
@@ -156,7 +161,8 @@ pub record Aborts (tag : Tag) (answer : AbortAnswer) (a b : SiteState) : Type 0 
 pub record HasItsJobs (from : SiteState) (p : Pair) : Type 0 where
   pub jobs : Advances from.jobs p.jobs
 
--- calls that leave the jobs alone: at each moment only running ones may have ended by themselves, and no call on jobs was answered
+-- calls that leave the jobs alone: at each moment only running ones may have ended by themselves, and no call on jobs
+-- was answered
 pub record KeepsJobs (a b : SiteState) : Type 0 where
   pub any_moment : LeavesOnly (HasItsJobs a) a b
   pub answers : b.answers ≡ a.answers

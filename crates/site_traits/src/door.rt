@@ -1,6 +1,7 @@
 // Where connections come in.
 ghost use Rattle.std.specs.Prelude.{◌≡◌, ◌≤◌, true, length};
-ghost use Rattle.site_traits.specs.Door.{DoorState, DoorCounts, WriteCounts, Nexts, ReadsIn, WritesOut, HangsUp, IsAmount, IsTaken, NextCause, ReadCause, WriteCause, asked_for, closed};
+ghost use Rattle.site_traits.specs.Door.{DoorState, DoorCounts, WriteCounts, Nexts, ReadsIn, WritesOut, HangsUp};
+ghost use Rattle.site_traits.specs.Door.{IsAmount, IsTaken, NextCause, ReadCause, WriteCause, asked_for, closed};
 
 use lcm_events::Role;
 
@@ -53,7 +54,8 @@ pub trait Door {
     /// How often a write was asked for, and how often one took less than it was offered, told or not.
     ghost writes: { Self → WriteCounts };
 
-    /// Waits for the next connection, which is then at hand, and up. Where none comes, the last one stays at hand as it is.
+    /// Waits for the next connection, which is then at hand, and up. Where none comes, the last one stays at hand as it
+    /// is.
     fn next(&mut self) -> NextAnswer
         ensures told { tells → Nexts result (state self.old) (state self.new) }
         ensures cause { NextCause result (counts self.old) (counts self.new) }

@@ -41,9 +41,14 @@ impl Model for Heard {
 
     ghost Value = { Answer };
 
-    ghost view = { λ h. record { status = h.status; location = (if h.located then Some h.location.items else None); body = h.body.items } };
+    ghost view = { λ h. record {
+      status = h.status;
+      location = (if h.located then Some h.location.items else None);
+      body = h.body.items;
+    } };
 
-    ghost invariant = { λ h. (2048 ≤ vec_capacity h.location) × (1048576 ≤ vec_capacity h.body) × (length h.body.items ≤ 1048576) × IsLine h.location.items };
+    ghost invariant = { λ h. (2048 ≤ vec_capacity h.location) × (1048576 ≤ vec_capacity h.body)
+        × (length h.body.items ≤ 1048576) × IsLine h.location.items };
 }
 
 impl Heard {

@@ -1,4 +1,5 @@
-// What an infrastructure does for a manager: jobs, and the answers to the calls that begin them, look at them and abort them.
+// What an infrastructure does for a manager: jobs, and the answers to the calls that begin them, look at them and abort
+// them.
 use vnfm_base::Name;
 
 /// How a job stands.

@@ -1,5 +1,6 @@
 // A record of calls, each with its bytes, for the objects in memory. All its room is taken when it is made.
-ghost use Rattle.std.specs.Prelude.{◌≡◌, ◌≤◌, ◌<◌, ◌+◌, ◌↔◌, ◌++◌, get_or, [], List, ℕ, IsTrue, IfOk, false, length, vec_capacity};
+ghost use Rattle.std.specs.Prelude.{◌≡◌, ◌≤◌, ◌<◌, ◌+◌, ◌↔◌, ◌++◌, get_or, [], List, ℕ, IsTrue, IfOk, false, length};
+ghost use Rattle.std.specs.Prelude.{vec_capacity};
 ghost use Rattle.site_traits.specs.Log.{HasRoom, with_call, empty};
 
 use std::alloc::{AllocError, Global};
@@ -37,9 +38,14 @@ impl<T: Copy + Drop> Model for Log<T> {
 
     ghost Value = { Recorded T };
 
-    ghost view = { λ l. record { calls = map (entry_of l.bytes.items) l.entries.items; most_calls = l.most_calls; most_bytes = l.most_bytes } };
+    ghost view = { λ l. record {
+      calls = map (entry_of l.bytes.items) l.entries.items;
+      most_calls = l.most_calls;
+      most_bytes = l.most_bytes;
+    } };
 
-    ghost invariant = { λ l. IsKept l.bytes.items l.entries.items × (l.most_calls ≤ vec_capacity l.entries) × (l.most_bytes ≤ vec_capacity l.bytes) };
+    ghost invariant = { λ l. IsKept l.bytes.items l.entries.items × (l.most_calls ≤ vec_capacity l.entries)
+        × (l.most_bytes ≤ vec_capacity l.bytes) };
 }
 
 impl<T: Copy + Drop> Log<T> {

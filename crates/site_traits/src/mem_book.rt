@@ -2,7 +2,8 @@
 
 ghost use Rattle.std.specs.Prelude.{◌≡◌, ◌↔◌, ℕ, List, get_or, length, Contains, IsTrue};
 ghost use Rattle.site_traits.specs.Counts.{one_more, begin_counts, look_counts, abort_counts};
-ghost use Rattle.site_traits.specs.Book.{IsWithinRoom, Runs, BeginRuns, LookRuns, AbortRuns, next_plan, unplanned, counted, counts_in};
+ghost use Rattle.site_traits.specs.Book.{IsWithinRoom, Runs, BeginRuns, LookRuns, AbortRuns, next_plan, unplanned};
+ghost use Rattle.site_traits.specs.Book.{counted, counts_in};
 
 use crate::jobs::{AbortAnswer, BeginAnswer, LookAnswer};
 use crate::mem_jobs::{Arrival, JobEnd, JobPlan};
@@ -81,7 +82,8 @@ fn plan_at(work: &[JobPlan], place: u64) -> JobPlan
 
 // A call that writes lies within the room for the file.
 fn is_within_room(what: SiteCall, len: usize, room: usize) -> bool
-    ensures { (bytes : List ℕ) (b : Book) → length bytes ≡ len → b.room ≡ room → (IsTrue result ↔ IsWithinRoom what bytes b) }
+    ensures { (bytes : List ℕ) (b : Book) → length bytes ≡ len → b.room ≡ room
+        → (IsTrue result ↔ IsWithinRoom what bytes b) }
 {
     match what {
         SiteCall::Wrote { at } => at <= room as u64 && len as u64 <= room as u64 - at,
@@ -93,7 +95,12 @@ impl Book {
     // Counts a write, a cut or a sync.
     fn count(&mut self, what: SiteCall)
         ensures counts { counts_in self.new ≡ counted what (counts_in self.old) }
-        ensures rest { self.new ≡ record self.old { writes = self.new.writes; cuts = self.new.cuts; syncs = self.new.syncs } }
+        ensures rest { self.new ≡ record self.old {
+          writes = self.new.writes;
+          cuts = self.new.cuts;
+          syncs =
+              self.new.syncs;
+        } }
     {
         match what {
             SiteCall::Wrote { .. } => self.writes = self.writes.saturating_add(1),
@@ -118,7 +125,11 @@ impl Book {
     // Counts a look that was answered so.
     fn count_look(&mut self, answer: &LookAnswer)
         ensures counts { counts_in self.new ≡ look_counts answer.now (counts_in self.old) }
-        ensures rest { self.new ≡ record self.old { vim_faults = self.new.vim_faults; look_faults = self.new.look_faults } }
+        ensures rest { self.new ≡ record self.old {
+          vim_faults = self.new.vim_faults;
+          look_faults =
+              self.new.look_faults;
+        } }
     {
         if let LookAnswer::Failed = *answer {
             self.vim_faults = self.vim_faults.saturating_add(1);

@@ -1,5 +1,6 @@
 // A connection of a door in memory.
-ghost use Rattle.std.specs.Prelude.{◌≡◌, ◌≤◌, ◌<◌, ◌+◌, ◌⊎◌, ◌↔◌, IfOk, IfSome, IsTrue, true, false, length, drop, get_or, Some, vec_capacity};
+ghost use Rattle.std.specs.Prelude.{◌≡◌, ◌≤◌, ◌<◌, ◌+◌, ◌⊎◌, ◌↔◌, IfOk, IfSome, IsTrue, true, false, length, drop};
+ghost use Rattle.std.specs.Prelude.{get_or, Some, vec_capacity};
 ghost use Rattle.site_traits.specs.Counts.{one_more};
 ghost use Rattle.site_traits.specs.Pieces.{IsRising, IsLastEnd, ArePassed, IsOfOnePiece};
 
@@ -78,7 +79,8 @@ impl MemConn {
         self.hung_up
     }
 
-    ghost use Rattle.site_traits.specs.MemConn.{conn_of, plan_of, KeepsPlan, ReadsNext, SameConn, WroteOut, IsFreshConn, IsNobody, IsConnOf, IsUncounted};
+    ghost use Rattle.site_traits.specs.MemConn.{conn_of, plan_of, KeepsPlan, ReadsNext, SameConn, WroteOut};
+    ghost use Rattle.site_traits.specs.MemConn.{IsFreshConn, IsNobody, IsConnOf, IsUncounted};
     ghost use Rattle.site_traits.specs.Door.{read_broke, write_broke, gone};
 
     // The connection at hand before any has come.
@@ -138,7 +140,8 @@ impl MemConn {
         })
     }
 
-    // Reads the next bytes of the connection, at least one, to the front of a piece that isn't empty; None where none is left.
+    // Reads the next bytes of the connection, at least one, to the front of a piece that isn't empty; None where none
+    // is left.
     pub fn read_next(&mut self, into: &mut [u8]) -> Option<usize>
         requires { 1 ≤ length into.old }
         ensures read { ReadsNext self.old self.new into.old into.new result }

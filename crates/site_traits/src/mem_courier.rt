@@ -27,7 +27,8 @@ pub struct PostMark {
 
 /// A courier in memory, which tells all: it gives the statuses of its plan in order, and behind the plan 204.
 ///
-/// It has room for 1,048,576 posts and 64 MiB of callbacks and bodies; a post past them fails and leaves the plan where it is.
+/// It has room for 1,048,576 posts and 64 MiB of callbacks and bodies; a post past them fails and leaves the plan where
+/// it is.
 pub struct MemCourier {
     plans: Vec<PostPlan>,
     next: usize,

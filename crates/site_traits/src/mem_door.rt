@@ -180,8 +180,10 @@ fn count(faults: &mut u64)
 }
 
 impl Door for MemDoor {
-    ghost use Rattle.site_traits.specs.MemDoor.{state_of, counts_of, writes_of, RunsNext, RunsRead, RunsWrite, SamePlan};
-    ghost use Rattle.site_traits.specs.Door.{Nexts, ReadsIn, WritesOut, HangsUp, IsAmount, IsTaken, NextCause, ReadCause, WriteCause, asked_for, closed};
+    ghost use Rattle.site_traits.specs.MemDoor.{state_of, counts_of, writes_of, RunsNext, RunsRead, RunsWrite};
+    ghost use Rattle.site_traits.specs.MemDoor.{SamePlan};
+    ghost use Rattle.site_traits.specs.Door.{Nexts, ReadsIn, WritesOut, HangsUp, IsAmount, IsTaken, NextCause};
+    ghost use Rattle.site_traits.specs.Door.{ReadCause, WriteCause, asked_for, closed};
 
     ghost tells = { Unit {0} };
 

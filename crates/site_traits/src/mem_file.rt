@@ -26,8 +26,10 @@ pub fn one_call(
     call: SiteCall,
     bytes: &[u8],
 ) -> Result<(), AllocError>
-    ensures seen { OnOk result (seen.new.items ≡ chosen Choice.New (clip (length seen.old.items) (change_by call bytes.now)) seen.old.items) }
-    ensures left { OnOk result (left.new.items ≡ left_after choice (change_by call bytes.now) seen.old.items left.old.items) }
+    ensures seen { OnOk result (seen.new.items ≡ chosen Choice.New
+        (clip (length seen.old.items) (change_by call bytes.now)) seen.old.items) }
+    ensures left { OnOk result (left.new.items ≡ left_after choice
+        (change_by call bytes.now) seen.old.items left.old.items) }
 {
     if let SiteCall::Synced = call {
         *left = seen.to_vec(alloc)?;

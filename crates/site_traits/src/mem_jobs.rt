@@ -1,6 +1,7 @@
 // The jobs of a site in memory: how each is planned, and how it goes on.
 ghost use Rattle.std.specs.Prelude.{◌≡◌, ◌++◌, ◌<◌, ◌^◌, ℕ, Some, IfOk, IsTrue, ◌↔◌};
-ghost use Rattle.site_traits.specs.KeptJobs.{resource_name, ended_as, found_of, look_of, looked, aborted_at, stood, has_been, phase_now};
+ghost use Rattle.site_traits.specs.KeptJobs.{resource_name, ended_as, found_of, look_of, looked, aborted_at, stood};
+ghost use Rattle.site_traits.specs.KeptJobs.{has_been, phase_now};
 
 use crate::jobs::{LookAnswer, Phase};
 use itoa::Buffer;
@@ -58,7 +59,8 @@ pub enum Found {
     Aborted,
 }
 
-/// A job, with the moments of its arrival and of its end, so that the jobs of each moment can be told. A moment is a number of calls.
+/// A job, with the moments of its arrival and of its end, so that the jobs of each moment can be told. A moment is a
+/// number of calls.
 #[derive(Drop)]
 pub struct KeptJob {
     /// The attempt that it is for.

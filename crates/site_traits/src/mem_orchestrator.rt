@@ -1,5 +1,6 @@
 // An orchestrator in memory, which gives the answers of a plan and tells all.
-ghost use Rattle.std.specs.Prelude.{◌≡◌, ◌≤◌, ◌↔◌, ◌++◌, ◌∷◌, [], IfOk, IsSome, Some, None, length, vec_len, false, IsTrue};
+ghost use Rattle.std.specs.Prelude.{◌≡◌, ◌≤◌, ◌↔◌, ◌++◌, ◌∷◌, [], IfOk, IsSome, Some, None, length, vec_len, false};
+ghost use Rattle.std.specs.Prelude.{IsTrue};
 ghost use Rattle.site_traits.specs.Log.{HasRoom, SameRoom};
 ghost use Rattle.site_traits.specs.MemPeers.{answer_of, answers_of, bytes_of, next_answer, place_after};
 
@@ -25,10 +26,11 @@ pub enum GrantPlan {
     },
 }
 
-/// An orchestrator in memory, which tells all: it gives the answers of its plan in order, and behind the plan each call fails.
+/// An orchestrator in memory, which tells all: it gives the answers of its plan in order, and behind the plan each call
+/// fails.
 ///
-/// It has room for 1,048,576 calls and 64 MiB of each, bodies asked and locations polled; a call past them fails and leaves the
-/// plan where it is.
+/// It has room for 1,048,576 calls and 64 MiB of each, bodies asked and locations polled; a call past them fails and
+/// leaves the plan where it is.
 pub struct MemOrchestrator {
     plans: Vec<GrantPlan>,
     next: usize,
@@ -113,8 +115,8 @@ fn hear_planned(plan: &GrantPlan, heard: &mut Heard) -> bool
     }
 }
 
-// One call that is put on this record: the next plan's answer is heard. Where the plan has none, where it ends or where the record
-// has no room, the call fails.
+// One call that is put on this record: the next plan's answer is heard. Where the plan has none, where it ends or where
+// the record has no room, the call fails.
 fn answer(
     plans: &[GrantPlan],
     next: &mut usize,
@@ -124,11 +126,15 @@ fn answer(
 ) -> Call
     requires { next.old ≤ length plans.now }
     ensures within { next.new ≤ length plans.now }
-    ensures served { (result ≡ Call.Came) ↔ (IsSome (next_answer plans.now next.old) × HasRoom (length bytes.now) calls.old) }
+    ensures served { (result ≡ Call.Came) ↔ (IsSome (next_answer plans.now next.old)
+        × HasRoom (length bytes.now) calls.old) }
     ensures place { next.new ≡ place_after result (next_answer plans.now next.old) next.old (length plans.now) }
     ensures room { SameRoom calls.old calls.new }
-    ensures came { result ≡ Call.Came → (answers_of plans.now next.new ≡ answers_of plans.now next.old ++ heard.new ∷ []) × (bytes_of calls.new.calls ≡ bytes_of calls.old.calls ++ bytes.now ∷ []) }
-    ensures failed { result ≡ Call.Failed → (answers_of plans.now next.new ≡ answers_of plans.now next.old) × (calls.new ≡ calls.old) }
+    ensures came { result ≡ Call.Came → (answers_of plans.now next.new
+        ≡ answers_of plans.now next.old ++ heard.new ∷ []) × (bytes_of calls.new.calls
+        ≡ bytes_of calls.old.calls ++ bytes.now ∷ []) }
+    ensures failed { result ≡ Call.Failed → (answers_of plans.now next.new ≡ answers_of plans.now next.old)
+        × (calls.new ≡ calls.old) }
 {
     let Some(plan) = plans.get(*next) else {
         return Call::Failed;

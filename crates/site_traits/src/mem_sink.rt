@@ -6,7 +6,8 @@ use crate::log::{BYTES, CALLS};
 use crate::sink::{Sink, SinkFailed};
 use std::alloc::{AllocError, Global};
 
-/// A sink in memory, which tells all. It has room for 1,048,576 calls and 64 MiB; a put past them fails and puts nothing.
+/// A sink in memory, which tells all. It has room for 1,048,576 calls and 64 MiB; a put past them fails and puts
+/// nothing.
 pub struct MemSink {
     bytes: Vec<u8>,
     failing: Option<u64>,

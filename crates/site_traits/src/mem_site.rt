@@ -1,6 +1,7 @@
 //! A site in memory, which tells all.
 
-ghost use Rattle.std.specs.Prelude.{◌≡◌, ◌≤◌, ◌<◌, ◌+◌, [], map, reverse, get_or, length, take, drop, max, All, IfOk, OnOk, is_ok, vec_capacity};
+ghost use Rattle.std.specs.Prelude.{◌≡◌, ◌≤◌, ◌<◌, ◌+◌, [], map, reverse, get_or, length, take, drop, max, All, IfOk};
+ghost use Rattle.std.specs.Prelude.{OnOk, is_ok, vec_capacity};
 ghost use Rattle.site_traits.specs.Counts.{Ask, asked, DiskCause, begin_counts, look_counts, abort_counts};
 ghost use Rattle.site_traits.specs.Book.{IsPlanned, HasWork, Runs, BeginRuns, LookRuns, AbortRuns};
 ghost use Rattle.site_traits.specs.KeptJobs.{IsEarly};
@@ -31,9 +32,10 @@ pub struct SitePlan {
 
 /// A site in memory, which tells all. A call on the file that fails changes nothing and is not put on record.
 ///
-/// A call on the file fails where its number is on the plan, where a write doesn't lie within the room for the file, and where its record has
-/// no room. A begin comes out by its plan, and a look or an abort fails where its number is on the plan; each of the three fails, changes
-/// nothing and is not put on record where its record has no room, and a begin where there is no memory for a copy of the work.
+/// A call on the file fails where its number is on the plan, where a write doesn't lie within the room for the file,
+/// and where its record has no room. A begin comes out by its plan, and a look or an abort fails where its number is on
+/// the plan; each of the three fails, changes nothing and is not put on record where its record has no room, and a
+/// begin where there is no memory for a copy of the work.
 ///
 /// Source: own rule.
 pub struct MemSite {
@@ -60,8 +62,8 @@ impl MemSite {
 
     /// A site with an empty file, on which nothing is pending, and no job.
     ///
-    /// It takes all its room: for the plan's bytes, for twice as many written, for 1,048,576 calls and for the plan's jobs, but for the names
-    /// in their work.
+    /// It takes all its room: for the plan's bytes, for twice as many written, for 1,048,576 calls and for the plan's
+    /// jobs, but for the names in their work.
     pub fn new(alloc: Global, plan: SitePlan) -> Result<MemSite, AllocError>
         ensures fresh { IfOk result (λ m. IsFresh m [] []) }
         ensures plan { IfOk result (λ m. IsPlanned plan.failing.items plan.bytes m.book) }
@@ -70,7 +72,8 @@ impl MemSite {
         MemSite::with_file(alloc, plan, &[])
     }
 
-    /// A site with an empty file and no job, over which the looks and aborts with these numbers, from 1 over both, fail.
+    /// A site with an empty file and no job, over which the looks and aborts with these numbers, from 1 over both,
+    /// fail.
     ///
     /// A look that fails so is none of the looks of a job's plan.
     pub fn unreachable(
@@ -85,7 +88,8 @@ impl MemSite {
         made(alloc, plan, calls, Vec::new(alloc), &[])
     }
 
-    /// A site with this file, on which nothing is pending, and no job; its room is for the plan's bytes, or as many as the file has.
+    /// A site with this file, on which nothing is pending, and no job; its room is for the plan's bytes, or as many as
+    /// the file has.
     pub fn with_file(alloc: Global, plan: SitePlan, file: &[u8]) -> Result<MemSite, AllocError>
         ensures fresh { IfOk result (λ m. IsFresh m file.now []) }
         ensures plan { IfOk result (λ m. IsPlanned plan.failing.items (max plan.bytes (length file.now)) m.book) }
@@ -168,8 +172,9 @@ impl MemSite {
         self.book.past.log.what(k)
     }
 
-    /// A site with the file that this choice leaves of a stop after so many calls, and the jobs that there were then. Nothing is pending on
-    /// it, no call of it is to fail, and nothing is planned of its begins. Its room is that of this site, or as much as the file needs.
+    /// A site with the file that this choice leaves of a stop after so many calls, and the jobs that there were then.
+    /// Nothing is pending on it, no call of it is to fail, and nothing is planned of its begins. Its room is that of
+    /// this site, or as much as the file needs.
     ///
     /// A job keeps its plan, and the looks that are left of it at the end of the record.
     pub fn stopped(
@@ -179,11 +184,15 @@ impl MemSite {
         choice: Choice,
     ) -> Result<MemSite, AllocError>
         requires { moment ≤ length self.now.book.past.log.calls }
-        ensures image { IfOk result (λ m. IsFresh m (stopped_image choice self.now.first.items (map change_of (take moment self.now.book.past.log.calls))) (jobs_at moment self.now.book.past.kept.items)) }
+        ensures image { IfOk result (λ m. IsFresh m (stopped_image choice self.now.first.items
+            (map change_of (take moment self.now.book.past.log.calls)))
+            (jobs_at moment self.now.book.past.kept.items)) }
         ensures plan { IfOk result (λ m. IsPlanned [] (max self.now.book.room (length m.first.items)) m.book) }
         ensures work { IfOk result (λ m. HasWork [] [] self.now.book.past.most m.book) }
         ensures jobs { IfOk result (λ m. m.book.past.kept.items ≡ kept_at moment self.now.book.past.kept.items) }
-        ensures allowed { IfOk result (λ m. LeftSince self.now.first.items (map change_of self.now.book.past.log.calls) self.now.book.past.kept.items moment (pair_of (image_of m) (state_of m).jobs)) }
+        ensures allowed { IfOk result (λ m. LeftSince self.now.first.items
+            (map change_of self.now.book.past.log.calls) self.now.book.past.kept.items moment
+            (pair_of (image_of m) (state_of m).jobs)) }
     {
         let left = self.left_by(alloc, moment, choice)?;
         let plan = SitePlan {
@@ -199,7 +208,8 @@ impl MemSite {
     // The file that this choice leaves of a stop after so many calls.
     fn left_by(&self, alloc: Global, moment: usize, choice: Choice) -> Result<Vec<u8>, AllocError>
         requires { moment ≤ length self.now.book.past.log.calls }
-        ensures { IfOk result (λ left. left.items ≡ stopped_image choice self.now.first.items (map change_of (take moment self.now.book.past.log.calls))) }
+        ensures { IfOk result (λ left. left.items ≡ stopped_image choice self.now.first.items
+            (map change_of (take moment self.now.book.past.log.calls))) }
     {
         let mut seen = self.first.to_vec(alloc)?;
         let mut left = self.first.to_vec(alloc)?;
@@ -226,7 +236,8 @@ impl MemSite {
     /// The job at place k of the list, from 0: the attempt that it is for, its work, and how it stands.
     pub fn job(&self, k: usize) -> (Tag, &Act, Phase)
         requires { k < length (state_of self.now).jobs }
-        ensures { job_of result.0 result.1.now result.2 ≡ get_or (reverse (state_of self.now).jobs) k (job_of result.0 result.1.now result.2) }
+        ensures { job_of result.0 result.1.now result.2 ≡ get_or (reverse (state_of self.now).jobs) k
+            (job_of result.0 result.1.now result.2) }
     {
         let job = &self.book.past.kept[k];
         (job.tag, &job.act, job.phase())

@@ -1,7 +1,9 @@
 // What has happened at a site in memory: the calls on record, and the jobs with their moments.
-ghost use Rattle.std.specs.Prelude.{◌≡◌, ◌≤◌, ◌<◌, ◌↔◌, [], All, IfOk, IfSome, IsTrue, true, false, length, if◌then◌else◌, vec_capacity};
+ghost use Rattle.std.specs.Prelude.{◌≡◌, ◌≤◌, ◌<◌, ◌↔◌, [], All, IfOk, IfSome, IsTrue, true, false, length};
+ghost use Rattle.std.specs.Prelude.{if◌then◌else◌, vec_capacity};
 ghost use Rattle.site_traits.specs.Log.{HasRoom, with_call, empty};
-ghost use Rattle.site_traits.specs.KeptJobs.{IsEarly, IsPlaced, begin_of, arrives, found_of, latest_of, latest_changed, looked, aborted_at, kept_at};
+ghost use Rattle.site_traits.specs.KeptJobs.{IsEarly, IsPlaced, begin_of, arrives, found_of, latest_of, latest_changed};
+ghost use Rattle.site_traits.specs.KeptJobs.{looked, aborted_at, kept_at};
 
 use crate::jobs::{AbortAnswer, BeginAnswer, LookAnswer};
 use crate::log::Log;
@@ -152,7 +154,8 @@ impl Past {
     ) -> BeginAnswer
         requires room { length self.old.kept.items < self.old.most }
         requires arrives { arrives came ≡ true }
-        ensures { IsBegun tag.now act.now plan came result self.old self.new ⊎ IsNotBegun came result self.old self.new }
+        ensures { IsBegun tag.now act.now plan came result self.old self.new
+            ⊎ IsNotBegun came result self.old self.new }
     {
         let Ok(act) = copy_of(alloc, act) else {
             return BeginAnswer::Failed;
@@ -179,7 +182,8 @@ impl Past {
     // A begin that puts no job.
     fn pass(&mut self, tag: &Tag, came: Arrival) -> BeginAnswer
         requires lost { arrives came ≡ false }
-        ensures { (act : Act) (plan : JobPlan) → IsBegun tag.now act plan came result self.old self.new ⊎ IsNotBegun came result self.old self.new }
+        ensures { (act : Act) (plan : JobPlan) → IsBegun tag.now act plan came result self.old self.new
+            ⊎ IsNotBegun came result self.old self.new }
     {
         if !self.log.push(SiteCall::Began { tag: *tag, came }, &[], &[]) {
             return BeginAnswer::Failed;
@@ -257,7 +261,8 @@ fn found_at(kept: &[KeptJob], place: Option<usize>) -> Found
 // A look, at this moment, at the job at this place, where there is one.
 fn look_at(kept: &mut Vec<KeptJob>, place: Option<usize>, now: usize)
     requires { IfSome place (λ k. k < length kept.old.items) }
-    ensures jobs { (tag : Tag) → IsPlaced tag kept.old.items place → kept.new.items ≡ latest_changed tag (looked now) kept.old.items }
+    ensures jobs { (tag : Tag) → IsPlaced tag kept.old.items place
+        → kept.new.items ≡ latest_changed tag (looked now) kept.old.items }
     ensures capacity { vec_capacity kept.old ≤ vec_capacity kept.new }
 {
     match place {
@@ -269,7 +274,8 @@ fn look_at(kept: &mut Vec<KeptJob>, place: Option<usize>, now: usize)
 // An abort, at this moment, of the job at this place, where there is one.
 fn abort_at(kept: &mut Vec<KeptJob>, place: Option<usize>, now: usize)
     requires { IfSome place (λ k. k < length kept.old.items) }
-    ensures jobs { (tag : Tag) → IsPlaced tag kept.old.items place → kept.new.items ≡ latest_changed tag (aborted_at now) kept.old.items }
+    ensures jobs { (tag : Tag) → IsPlaced tag kept.old.items place
+        → kept.new.items ≡ latest_changed tag (aborted_at now) kept.old.items }
     ensures capacity { vec_capacity kept.old ≤ vec_capacity kept.new }
 {
     match place {

@@ -10,11 +10,13 @@ use lcm_events::{Act, Tag};
 #[derive(Clone, Copy, Drop)]
 pub struct DiskFailed;
 
-/// The journal's file, and the jobs that an infrastructure does for the manager, in one, so that a stop leaves both of one moment.
+/// The journal's file, and the jobs that an infrastructure does for the manager, in one, so that a stop leaves both of
+/// one moment.
 ///
-/// Between two calls a site does not change; in a call running jobs may end by themselves. A stop may come at any moment, in a call too:
-/// `state` says what it may leave. A call on the file leaves the jobs but for those that end by themselves, and a call on the jobs leaves the
-/// file.
+/// Between two calls a site does not change; in a call running jobs may end by themselves. A stop may come at any
+/// moment, in a call too:
+/// `state` says what it may leave. A call on the file leaves the jobs but for those that end by themselves, and a call
+/// on the jobs leaves the file.
 /// Source: own rule.
 pub trait Site {
     /// Whether sites of this kind tell their content. Clauses on content hold where they do.
@@ -57,8 +59,8 @@ pub trait Site {
         ensures told { tells → Syncs result (state self.old) (state self.new) }
         ensures cause { DiskCause (asked Ask.sync (counts self.old)) (counts self.new) result };
 
-    /// Asks the infrastructure to begin a job for this attempt, with this work. The job is put last, at once or never: after `Failed` it may
-    /// be there or not.
+    /// Asks the infrastructure to begin a job for this attempt, with this work. The job is put last, at once or never:
+    /// after `Failed` it may be there or not.
     fn begin(&mut self, tag: &Tag, act: &Act) -> BeginAnswer
         ensures told { tells → Begins tag.now act.now result (state self.old) (state self.new) }
         ensures cause { counts self.new ≡ begin_counts result (counts self.old) };
@@ -68,7 +70,8 @@ pub trait Site {
         ensures told { tells → Looks tag.now result (state self.old) (state self.new) }
         ensures cause { counts self.new ≡ look_counts result (counts self.old) };
 
-    /// Asks that the job of this attempt end. A running one may become aborted, now or never; one that has ended stays as it ended.
+    /// Asks that the job of this attempt end. A running one may become aborted, now or never; one that has ended stays
+    /// as it ended.
     fn abort(&mut self, tag: &Tag) -> AbortAnswer
         ensures told { tells → Aborts tag.now result (state self.old) (state self.new) }
         ensures cause { counts self.new ≡ abort_counts result (counts self.old) };

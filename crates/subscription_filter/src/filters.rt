@@ -3,7 +3,8 @@
 ghost use Rattle.std.specs.Prelude.{◌≡◌, ◌==◌};
 ghost use Rattle.lcm_events.specs.Same.{same_name, same_state};
 ghost use Rattle.subscription_filter.specs.Facts.{facts_in};
-ghost use Rattle.lcm_model.specs.Notices.{admits, admits_given, admits_if_given, instance_text, is_type_of, matches, notice_number};
+ghost use Rattle.lcm_model.specs.Notices.{admits, admits_given, admits_if_given, instance_text, is_type_of, matches};
+ghost use Rattle.lcm_model.specs.Notices.{notice_number};
 ghost use Rattle.std.specs.List.{list_any};
 ghost use Rattle.vnfm_base.specs.Ident.{IsIdentNumber};
 
@@ -169,8 +170,8 @@ fn admits_state(states: &[OpState], state: Option<OpState>) -> bool
     }
 }
 
-/// Whether the filter lets the notice through: each of its lists does. An empty list asks nothing; a list of operation types or states asks
-/// nothing of a creation or a deletion.
+/// Whether the filter lets the notice through: each of its lists does. An empty list asks nothing; a list of operation
+/// types or states asks nothing of a creation or a deletion.
 ///
 /// Condition: the instance's number is from 1 to 2^62 - 1.
 /// Source: SOL 003 5.5.3 (LifecycleChangeNotificationsFilter).

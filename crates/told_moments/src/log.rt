@@ -1,4 +1,5 @@
-//! Moments of a site that only proofs read. They take no memory, and their calls do nothing when they run: what a moment is isn't known to code.
+//! Moments of a site that only proofs read. They take no memory, and their calls do nothing when they run: what a
+//! moment is isn't known to code.
 ghost use Rattle.std.specs.Prelude.{◌≡◌, List, [], ◌∷◌, ℕ};
 ghost use Rattle.std.specs.Borrow.{ftrue};
 
@@ -6,7 +7,8 @@ use std::marker::Model;
 
 /// The moments at which something was told, the latest first. A clause reads them as `moments`.
 ///
-/// Nothing ties them to anything by itself: the clause of the call that notes a moment does, by saying which moment it notes.
+/// Nothing ties them to anything by itself: the clause of the call that notes a moment does, by saying which moment it
+/// notes.
 #[derive(Drop)]
 pub struct ToldMoments {
     /// The moments.

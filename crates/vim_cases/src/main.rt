@@ -1,5 +1,5 @@
-//! The worked lines of the protocol: what is written of two calls and of a reply, what texts are read as replies, and how the calls on
-//! standard input are answered where each job is told as running to one look.
+//! The worked lines of the protocol: what is written of two calls and of a reply, what texts are read as replies, and
+//! how the calls on standard input are answered where each job is told as running to one look.
 #![tactic(auto)]
 
 use anyhow::{Result, bail};

@@ -29,7 +29,8 @@ impl Attempt {
     }
 }
 
-/// A job: how often it is still looked at while it runs, whether it was aborted then, and its place among the begun ones, from 1.
+/// A job: how often it is still looked at while it runs, whether it was aborted then, and its place among the begun
+/// ones, from 1.
 #[derive(Clone, Copy, Drop)]
 struct Job {
     looks: u32,
@@ -37,7 +38,8 @@ struct Job {
     place: u64,
 }
 
-/// The jobs of an infrastructure. Each does its work on a resource that is named after its place among the begun ones: `r1`, `r2` and on.
+/// The jobs of an infrastructure. Each does its work on a resource that is named after its place among the begun ones:
+/// `r1`, `r2` and on.
 #[derive(Drop)]
 pub struct VimJobs {
     looks: u32,
@@ -57,7 +59,8 @@ impl VimJobs {
 
     /// The reply to this call.
     ///
-    /// A begin puts a job, unless there is one of its attempt, and is answered `Begun` in either case. A look is answered as the job stands:
+    /// A begin puts a job, unless there is one of its attempt, and is answered `Begun` in either case. A look is
+    /// answered as the job stands:
     /// `Absent` where there is none. An abort is answered `Asked`, and ends a job that runs.
     /// After an error nothing has changed.
     pub fn answer(&mut self, alloc: Global, call: &VimCall) -> Result<VimReply, AllocError> {

@@ -22,7 +22,8 @@ pub enum Served {
 /// Lines that are answered on one connection.
 pub const LINES: u32 = u32::MAX;
 
-/// Answers the lines that come in, each before the next one is read, until they end, one is no call, or a read or a write fails.
+/// Answers the lines that come in, each before the next one is read, until they end, one is no call, or a read or a
+/// write fails.
 ///
 /// A reply is written as soon as its call was read whole. No more than the longest line is held.
 pub fn serve<R: Read + Drop, W: Write>(

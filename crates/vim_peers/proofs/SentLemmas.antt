@@ -17,10 +17,12 @@ goes_out_whole outgoing line whole old offered None goes = absurd (never goes)
   where
     never : true ≡ false → ⊥
     never is = grind arith
-goes_out_whole outgoing line whole old offered (Some now) goes = (goes.0, goes.1, front_of_whole whole line goes.0 (outgoing now.connection) goes.2)
+goes_out_whole outgoing line whole old offered (Some now) goes =
+    (goes.0, goes.1, front_of_whole whole line goes.0 (outgoing now.connection) goes.2)
 
 -- the same of a link that forgot what came before
-pub line_goes_out : {C : Type 0} (outgoing : C → List ℕ) (line sent : List ℕ) (whole : Bool) (old kept : Option (Opened C)) (offered offer : Option C)
+pub line_goes_out : {C : Type 0} (outgoing : C → List ℕ) (line sent : List ℕ) (whole : Bool) (old kept : Option (Opened C))
+    (offered offer : Option C)
     (new : Option (Opened C)) → sent ≡ line → kept ≡ old → offer ≡ offered → GoesOut outgoing sent true kept offer new
     → GoesOut outgoing line whole old offered new
 line_goes_out outgoing line sent whole old kept offered offer new is_line is_old is_offered goes =
@@ -35,6 +37,8 @@ kept_goes_out : {C : Type 0} (outgoing : C → List ℕ) (line : List ℕ) (open
 kept_goes_out outgoing line None offered = refl
 kept_goes_out outgoing line (Some now) offered = (outgoing now.connection, inl refl, (0, sym (append-nil (outgoing now.connection))))
 
-pub nothing_goes_out : {C : Type 0} (outgoing : C → List ℕ) (line : List ℕ) (old : Option (Opened C)) (offered : Option C) (new : Option (Opened C))
+pub nothing_goes_out : {C : Type 0} (outgoing : C → List ℕ) (line : List ℕ) (old : Option (Opened C)) (offered : Option C)
+    (new : Option (Opened C))
     → new ≡ old → GoesOut outgoing line false old offered new
-nothing_goes_out outgoing line old offered new same = subst (λ n. GoesOut outgoing line false old offered n) (sym same) (kept_goes_out outgoing line old offered)
+nothing_goes_out outgoing line old offered new same = subst (λ n. GoesOut outgoing line false old offered n) (sym same)
+    (kept_goes_out outgoing line old offered)

@@ -30,7 +30,8 @@ HadGoneOut outgoing old offered bytes =
 
 -- The line goes out, once and whole, where there is an answer, on the connection that was open or on the one that the
 -- network offers next; else a front of it does, or nothing.
-abbrev pub GoesOut : {C : Type 0} → (C → List ℕ) → List ℕ → Bool → Option (Opened C) → Option C → Option (Opened C) → Type 0
+abbrev pub GoesOut : {C : Type 0} → (C → List ℕ) → List ℕ → Bool → Option (Opened C) → Option C → Option (Opened C)
+    → Type 0
 GoesOut outgoing line whole old offered None = whole ≡ false
 GoesOut outgoing line whole old offered (Some now) =
     (before : List ℕ) × HadGoneOut outgoing old offered before × SendsFront whole line before (outgoing now.connection)

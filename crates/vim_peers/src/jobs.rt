@@ -41,7 +41,8 @@ impl<'a, N: HostNet + Drop, T: Stopwatch + Drop> VimPeer<'a, N, T> {
         watch: T,
         pulse: &'a Cell<Pulse>,
     ) -> Result<VimPeer<'a, N, T>, AllocError>
-        ensures { IfOk result (λ peer. (peer.manager ≡ 0) × (peer.log.calls ≡ []) × (peer.link.opened ≡ None) × (peer.link.net ≡ net)) }
+        ensures { IfOk result (λ peer. (peer.manager ≡ 0) × (peer.log.calls ≡ []) × (peer.link.opened ≡ None)
+            × (peer.link.net ≡ net)) }
     {
         let link = VimLink::new(alloc, net, watch)?;
         Ok(VimPeer {
@@ -55,7 +56,10 @@ impl<'a, N: HostNet + Drop, T: Stopwatch + Drop> VimPeer<'a, N, T> {
 
     /// Calls go to this literal address and port from now on. Its one refusal is want of memory.
     pub fn to(&mut self, address: &str) -> Result<(), AllocError>
-        ensures to { OnOk result (self.new ≡ record self.old { link = record self.old.link { address = self.new.link.address } }) }
+        ensures to { OnOk result (self.new ≡ record self.old {
+          link =
+              record self.old.link { address = self.new.link.address };
+        }) }
         ensures address { OnOk result (string_bytes self.new.link.address ≡ address.now) }
         ensures refused { OnErr result (self.new ≡ self.old) }
     {
@@ -80,7 +84,10 @@ impl<'a, N: HostNet + Drop, T: Stopwatch + Drop> Jobs<File> for VimPeer<'a, N, T
         ensures manager { self.new.manager ≡ self.old.manager }
         ensures asks { self.new.log.calls ≡ JobCall.connecting result ∷ self.old.log.calls }
         ensures ready { IsTrue result → IsReady self.new.link.opened }
-        ensures sends_nothing { N.tells → N.Connection.tells → IfSome self.new.link.opened (λ o. HadGoneOut N.Connection.outgoing self.old.link.opened (offer_of (N.peers self.old.link.net (string_bytes self.old.link.address))) (N.Connection.outgoing o.connection)) }
+        ensures sends_nothing { N.tells → N.Connection.tells
+            → IfSome self.new.link.opened (λ o. HadGoneOut N.Connection.outgoing self.old.link.opened
+            (offer_of (N.peers self.old.link.net (string_bytes self.old.link.address)))
+            (N.Connection.outgoing o.connection)) }
     {
         let open = self.link.connect();
         if !open {
@@ -95,7 +102,9 @@ impl<'a, N: HostNet + Drop, T: Stopwatch + Drop> Jobs<File> for VimPeer<'a, N, T
         ensures manager { self.new.manager ≡ self.old.manager }
         ensures asks { self.new.log.calls ≡ JobCall.beginning tag.now act.now result ∷ self.old.log.calls }
         ensures said { IsSaid begin_by BeginAnswer.Failed self.new.link.room.bytes.items result }
-        ensures sends { N.tells → N.Connection.tells → GoesOut N.Connection.outgoing (call_line (calls.Begin self.old.manager tag.now act.now)) (has_begun result) self.old.link.opened (offer_of (N.peers self.old.link.net (string_bytes self.old.link.address))) self.new.link.opened }
+        ensures sends { N.tells → N.Connection.tells → GoesOut N.Connection.outgoing
+            (call_line (calls.Begin self.old.manager tag.now act.now)) (has_begun result) self.old.link.opened
+            (offer_of (N.peers self.old.link.net (string_bytes self.old.link.address))) self.new.link.opened }
     {
         let answer = begun(self.alloc, &mut self.link, self.manager, tag, act);
         if let BeginAnswer::Failed = answer {
@@ -110,7 +119,9 @@ impl<'a, N: HostNet + Drop, T: Stopwatch + Drop> Jobs<File> for VimPeer<'a, N, T
         ensures manager { self.new.manager ≡ self.old.manager }
         ensures asks { self.new.log.calls ≡ JobCall.looking tag.now result ∷ self.old.log.calls }
         ensures said { IsSaid look_by LookAnswer.Failed self.new.link.room.bytes.items result }
-        ensures sends { N.tells → N.Connection.tells → GoesOut N.Connection.outgoing (call_line (calls.Look self.old.manager tag.now)) (has_looked result) self.old.link.opened (offer_of (N.peers self.old.link.net (string_bytes self.old.link.address))) self.new.link.opened }
+        ensures sends { N.tells → N.Connection.tells → GoesOut N.Connection.outgoing
+            (call_line (calls.Look self.old.manager tag.now)) (has_looked result) self.old.link.opened
+            (offer_of (N.peers self.old.link.net (string_bytes self.old.link.address))) self.new.link.opened }
     {
         note_asked(self.pulse);
         let answer = looked(self.alloc, &mut self.link, self.manager, tag);
@@ -126,7 +137,9 @@ impl<'a, N: HostNet + Drop, T: Stopwatch + Drop> Jobs<File> for VimPeer<'a, N, T
         ensures manager { self.new.manager ≡ self.old.manager }
         ensures asks { self.new.log.calls ≡ JobCall.aborting tag.now result ∷ self.old.log.calls }
         ensures said { IsSaid abort_by AbortAnswer.Failed self.new.link.room.bytes.items result }
-        ensures sends { N.tells → N.Connection.tells → GoesOut N.Connection.outgoing (call_line (calls.Abort self.old.manager tag.now)) (has_aborted result) self.old.link.opened (offer_of (N.peers self.old.link.net (string_bytes self.old.link.address))) self.new.link.opened }
+        ensures sends { N.tells → N.Connection.tells → GoesOut N.Connection.outgoing
+            (call_line (calls.Abort self.old.manager tag.now)) (has_aborted result) self.old.link.opened
+            (offer_of (N.peers self.old.link.net (string_bytes self.old.link.address))) self.new.link.opened }
     {
         let answer = aborted(self.alloc, &mut self.link, self.manager, tag);
         if let AbortAnswer::Failed = answer {
@@ -146,7 +159,9 @@ fn begun<N: HostNet + Drop, T: Stopwatch + Drop>(
     act: &Act,
 ) -> BeginAnswer
     ensures said { IsSaid begin_by BeginAnswer.Failed link.new.room.bytes.items result }
-    ensures sends { N.tells → N.Connection.tells → GoesOut N.Connection.outgoing (call_line (calls.Begin manager tag.now act.now)) (has_begun result) link.old.opened (offer_of (N.peers link.old.net (string_bytes link.old.address))) link.new.opened }
+    ensures sends { N.tells → N.Connection.tells → GoesOut N.Connection.outgoing
+        (call_line (calls.Begin manager tag.now act.now)) (has_begun result) link.old.opened
+        (offer_of (N.peers link.old.net (string_bytes link.old.address))) link.new.opened }
 {
     link.forget();
     if act.on.len() > MOST_NAMES {
@@ -180,7 +195,9 @@ fn looked<N: HostNet + Drop, T: Stopwatch + Drop>(
     tag: &Tag,
 ) -> LookAnswer
     ensures said { IsSaid look_by LookAnswer.Failed link.new.room.bytes.items result }
-    ensures sends { N.tells → N.Connection.tells → GoesOut N.Connection.outgoing (call_line (calls.Look manager tag.now)) (has_looked result) link.old.opened (offer_of (N.peers link.old.net (string_bytes link.old.address))) link.new.opened }
+    ensures sends { N.tells → N.Connection.tells → GoesOut N.Connection.outgoing
+        (call_line (calls.Look manager tag.now)) (has_looked result) link.old.opened
+        (offer_of (N.peers link.old.net (string_bytes link.old.address))) link.new.opened }
 {
     link.forget();
     let Ok(line) = look_line(alloc, manager, tag) else {
@@ -214,7 +231,9 @@ fn aborted<N: HostNet + Drop, T: Stopwatch + Drop>(
     tag: &Tag,
 ) -> AbortAnswer
     ensures said { IsSaid abort_by AbortAnswer.Failed link.new.room.bytes.items result }
-    ensures sends { N.tells → N.Connection.tells → GoesOut N.Connection.outgoing (call_line (calls.Abort manager tag.now)) (has_aborted result) link.old.opened (offer_of (N.peers link.old.net (string_bytes link.old.address))) link.new.opened }
+    ensures sends { N.tells → N.Connection.tells → GoesOut N.Connection.outgoing
+        (call_line (calls.Abort manager tag.now)) (has_aborted result) link.old.opened
+        (offer_of (N.peers link.old.net (string_bytes link.old.address))) link.new.opened }
 {
     link.forget();
     let Ok(line) = abort_line(alloc, manager, tag) else {

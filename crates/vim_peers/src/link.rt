@@ -71,8 +71,11 @@ impl<N: HostNet + Drop, T: Stopwatch + Drop> VimLink<N, T> {
         ensures spent { result ≡ false → IsSpent self.new.opened }
         ensures room { self.new.room ≡ self.old.room }
         ensures one { N.Connection.tells → EndsBeforeNext N.Connection.incoming self.old.opened self.new.opened }
-        ensures sends_nothing { N.tells → N.Connection.tells → IfSome self.new.opened (λ o. HadGoneOut N.Connection.outgoing self.old.opened (offer_of (N.peers self.old.net (string_bytes self.old.address))) (N.Connection.outgoing o.connection)) }
-        ensures once { N.tells → ConnectsAtMostOnce (N.peers self.old.net (string_bytes self.old.address)) (N.peers self.new.net (string_bytes self.old.address)) }
+        ensures sends_nothing { N.tells → N.Connection.tells
+            → IfSome self.new.opened (λ o. HadGoneOut N.Connection.outgoing self.old.opened
+            (offer_of (N.peers self.old.net (string_bytes self.old.address))) (N.Connection.outgoing o.connection)) }
+        ensures once { N.tells → ConnectsAtMostOnce (N.peers self.old.net (string_bytes self.old.address))
+            (N.peers self.new.net (string_bytes self.old.address)) }
         ensures address { self.new.address ≡ self.old.address }
     {
         if let Some(opened) = &mut self.opened {
@@ -103,8 +106,11 @@ impl<N: HostNet + Drop, T: Stopwatch + Drop> VimLink<N, T> {
         ensures lost { OnErr result (IsNoLine self.new.room.bytes.items) }
         ensures spent { OnErr result (IsSpent self.new.opened) }
         ensures one { N.Connection.tells → EndsBeforeNext N.Connection.incoming self.old.opened self.new.opened }
-        ensures sends { N.tells → N.Connection.tells → GoesOut N.Connection.outgoing line.now (is_ok result) self.old.opened (offer_of (N.peers self.old.net (string_bytes self.old.address))) self.new.opened }
-        ensures once { N.tells → ConnectsAtMostOnce (N.peers self.old.net (string_bytes self.old.address)) (N.peers self.new.net (string_bytes self.old.address)) }
+        ensures sends { N.tells → N.Connection.tells → GoesOut N.Connection.outgoing line.now
+            (is_ok result) self.old.opened (offer_of (N.peers self.old.net (string_bytes self.old.address)))
+            self.new.opened }
+        ensures once { N.tells → ConnectsAtMostOnce (N.peers self.old.net (string_bytes self.old.address))
+            (N.peers self.new.net (string_bytes self.old.address)) }
         ensures address { self.new.address ≡ self.old.address }
     {
         self.forget();
@@ -131,7 +137,8 @@ fn call_on<C: Connection + Drop, T: Stopwatch>(
     ensures failed { OnErr result (opened.new.failed ≡ true) }
     ensures sound { OnOk result (opened.new.failed ≡ false) }
     ensures used { opened.new.used ≡ true }
-    ensures sends { C.tells → SendsFront (is_ok result) line.now (C.outgoing opened.old.connection) (C.outgoing opened.new.connection) }
+    ensures sends { C.tells → SendsFront (is_ok result) line.now (C.outgoing opened.old.connection)
+        (C.outgoing opened.new.connection) }
 {
     opened.used = true;
     let mut reply = LineReply::new();

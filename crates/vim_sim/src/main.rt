@@ -1,4 +1,5 @@
-//! The program `vim_sim`: an infrastructure in memory for trials, which serves one connection after another at an address.
+//! The program `vim_sim`: an infrastructure in memory for trials, which serves one connection after another at an
+//! address.
 #![tactic(auto)]
 
 mod words;
@@ -18,8 +19,10 @@ const HELP: &str = "vim_sim: an infrastructure in memory for trials of vnfm
 
     vim_sim --listen HOST:PORT [--looks K]
 
-It serves one connection after another at the address. Each job that is begun is told as running to K looks, 0 where the option
-isn't given, and then as done, on the resource r1, r2 and on. A begin whose job is there already is told as begun, and changes
+It serves one connection after another at the address. Each job that is begun is told as running to K looks,
+    0 where the option
+isn't given, and then as done, on the resource r1, r2 and on. A begin whose job is there already is told as begun,
+    and changes
 nothing. A line that is no call ends its connection. What was begun is lost when the program ends.
 
     0  as many connections were served as are served at all

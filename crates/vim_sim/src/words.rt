@@ -25,7 +25,8 @@ pub fn words_of(alloc: Global, all: Args) -> Result<Vec<Text>, AllocError> {
     all.skip(1).map(|word| Text::of_string(word)).collect(alloc)
 }
 
-/// What these words ask for; none where they aren't pairs of an option and its value, each option at most once, and `--listen` among them.
+/// What these words ask for; none where they aren't pairs of an option and its value, each option at most once, and
+/// `--listen` among them.
 pub fn read_words(words: &[Text]) -> Option<Asked<'_>> {
     if let [only] = words {
         return match only.as_str() {

@@ -1,5 +1,6 @@
 -- What stands in one field: its bytes are below 256, and none of them is a separator or a line feed.
-use Rattle.std.proofs.Common.{◌≡◌, ℕ, zero, suc, ◌+◌, ◌*◌, ◌/◌, ◌%◌, ◌^◌, ◌<◌, ◌≤◌, ◌==◌, cond, List, [], ◌∷◌, ◌++◌, Bool, true, false, length, refl, sym, ◌∙◌, ap, subst, arith, inl, inr, ◌⊎◌, slice_index, Ok, nat_lt, nat_le}
+use Rattle.std.proofs.Common.{◌≡◌, ℕ, zero, suc, ◌+◌, ◌*◌, ◌/◌, ◌%◌, ◌^◌, ◌<◌, ◌≤◌, ◌==◌, cond, List, [], ◌∷◌, ◌++◌, Bool, true, false}
+use Rattle.std.proofs.Common.{length, refl, sym, ◌∙◌, ap, subst, arith, inl, inr, ◌⊎◌, slice_index, Ok, nat_lt, nat_le}
 use Rattle.std.specs.Str.{IsUtf8}
 use Rattle.std.specs.Fmt.{decimal}
 use Rattle.std.proofs.lemmas.Str.{IsUtf8-from_ascii}
@@ -35,7 +36,9 @@ AreBytes-encode : (c : ℕ) → c < 1114112 → AreBytes (encode c)
 unfolding encode
 AreBytes-encode c lt = of (nat_lt c 128) refl (nat_lt c 2048) refl (nat_lt c 65536) refl where
   of : (a : Bool) → nat_lt c 128 ≡ a → (b : Bool) → nat_lt c 2048 ≡ b → (d : Bool) → nat_lt c 65536 ≡ d
-      → AreBytes (cond a (c ∷ []) (cond b ((192 + c / 64) ∷ (128 + c % 64) ∷ []) (cond d ((224 + c / 4096) ∷ (128 + c / 64 % 64) ∷ (128 + c % 64) ∷ []) ((240 + c / 262144) ∷ (128 + c / 4096 % 64) ∷ (128 + c / 64 % 64) ∷ (128 + c % 64) ∷ []))))
+      → AreBytes (cond a (c ∷ []) (cond b ((192 + c / 64) ∷ (128 + c % 64) ∷ [])
+      (cond d ((224 + c / 4096) ∷ (128 + c / 64 % 64) ∷ (128 + c % 64) ∷ [])
+      ((240 + c / 262144) ∷ (128 + c / 4096 % 64) ∷ (128 + c / 64 % 64) ∷ (128 + c % 64) ∷ []))))
   of true e b f d g = let h : c < 128 = ltb-true c 128 e in (omega arith, tt)
   of false e true f d g = let h : c < 2048 = ltb-true c 2048 f in (omega arith, (omega arith, tt))
   of false e false f true g = let h : c < 65536 = ltb-true c 65536 g in (omega arith, (omega arith, (omega arith, tt)))

@@ -101,6 +101,7 @@ begin_fits manager tag act h k most =
     let l8 = number act.size k.size in
     let l9 = number act.cpus (omega arith) in
     let on = names act.on k.on in
-    let all = eleven (codes "BEGIN") (tag_field manager tag) (verb_word act.verb) (kind_word act.kind) (name_field act.template) (name_field act.vdu)
+    let all = eleven (codes "BEGIN") (tag_field manager tag) (verb_word act.verb) (kind_word act.kind) (name_field act.template)
+    (name_field act.vdu)
     (decimal act.serial) (name_field act.vim) (name_field act.zone) (decimal act.size) (decimal act.cpus) (map name_field act.on) in
     omega (arith, all, t, l1, l2, l3, l4, l5, l6, l7, l8, l9, on)

@@ -1,5 +1,6 @@
 -- The fields of a line hold no space and no line feed, so that a line says one thing.
-use Rattle.std.proofs.Common.{◌≡◌, ℕ, ◌^◌, ◌<◌, ◌≤◌, ◌==◌, List, [], ◌∷◌, ◌++◌, true, false, length, map, refl, sym, ◌∙◌, ap, subst, arith, Option, Some, None, is_some, nat_le}
+use Rattle.std.proofs.Common.{◌≡◌, ℕ, ◌^◌, ◌<◌, ◌≤◌, ◌==◌, List, [], ◌∷◌, ◌++◌, true, false, length, map, refl, sym, ◌∙◌, ap, subst, arith}
+use Rattle.std.proofs.Common.{Option, Some, None, is_some, nat_le}
 use Rattle.std.specs.Prelude.{MatchOption, codes, decimal}
 use Rattle.std.proofs.lemmas.Fmt.{length-decimal-le}
 use Rattle.hex.specs.Hex.{lower_digits}
@@ -26,18 +27,21 @@ use Rattle.vim_wire.specs.declared.lines.VimCall.{VimCall}
 use Rattle.vim_wire.specs.declared.lines.VimCall.TheVariants.{Begin, Look, Abort}
 use Rattle.vim_wire.specs.declared.lines.VimReply.{VimReply}
 use Rattle.vim_wire.specs.declared.lines.VimReply.TheVariants.{Begun, Refused, Absent, Running, Done, Broken, Aborted, Asked}
-use Rattle.vim_wire.specs.Lines.{IsTyped, IsCall, IsReply, call_fields, call_line, reply_fields, reply_line, line, IsTagged, IsAct, act_fields, tag_field, way_word, verb_word, kind_word, name_field}
+use Rattle.vim_wire.specs.Lines.{IsTyped, IsCall, IsReply, call_fields, call_line, reply_fields, reply_line, line, IsTagged, IsAct}
+use Rattle.vim_wire.specs.Lines.{act_fields, tag_field, way_word, verb_word, kind_word, name_field}
 use Rattle.vim_wire.proofs.PartLaws.{Free, Free-append, parts_of-joined, joined-parts_of}
 use Rattle.vim_wire.proofs.FieldLaws.{Free-decimal, Free-name}
 
 -- where no part is left, none is given
-pub nothing_left : (r : Option (Bor (List ℕ))) (old new : List (List ℕ)) → MatchOption r ((old ≡ []) × (new ≡ [])) (λ part. old ≡ part.now ∷ new)
+pub nothing_left : (r : Option (Bor (List ℕ))) (old new : List (List ℕ))
+    → MatchOption r ((old ≡ []) × (new ≡ [])) (λ part. old ≡ part.now ∷ new)
     → is_some r ≡ true → old ≡ [] → ⊥
 nothing_left None old new h some e = cc
 nothing_left (Some part) old new h some e = cc
 
 -- where none is given, none was left
-pub all_taken : (r : Option (Bor (List ℕ))) (old new : List (List ℕ)) → MatchOption r ((old ≡ []) × (new ≡ [])) (λ part. old ≡ part.now ∷ new)
+pub all_taken : (r : Option (Bor (List ℕ))) (old new : List (List ℕ))
+    → MatchOption r ((old ≡ []) × (new ≡ [])) (λ part. old ≡ part.now ∷ new)
     → is_some r ≡ false → old ≡ []
 all_taken None old new h none = h.0
 all_taken (Some part) old new h none = absurd cc
@@ -50,8 +54,13 @@ tag_parts manager tag field h e =
     let m = h.manager_fits in let a = h.occ in let b = h.change in let d = h.attempt in
     ap (parts_of 46) e
     ∙ parts_of-joined 46 (decimal manager) (decimal tag.occ ∷ decimal tag.change ∷ decimal tag.attempt ∷ way_word tag.way ∷ [])
-    (Free-decimal 46 stop manager (omega arith))
-    (Free-decimal 46 stop tag.occ a, (Free-decimal 46 stop tag.change (omega arith), (Free-decimal 46 stop tag.attempt (omega arith), (Free-way 46 tag.way, tt)))) where
+    (Free-decimal 46 stop manager (omega arith)) (
+      Free-decimal 46 stop tag.occ a,
+      (
+        Free-decimal 46 stop tag.change (omega arith),
+        (Free-decimal 46 stop tag.attempt (omega arith), (Free-way 46 tag.way, tt)),
+      ),
+    ) where
       Free-way : (s : ℕ) (way : Way) → Free 46 (way_word way)
       Free-way s Forward = (refl, tt)
       Free-way s Undo = (refl, tt)
@@ -138,18 +147,27 @@ Free-act s some lt act h =
 
 -- no field of a call holds a space or a line feed
 pub Free-call : (s : ℕ) → 0 < s → s < 46 → (call : VimCall) → IsTyped call → AllByRecursion (Free s) (call_fields call)
-Free-call s some lt (Begin manager tag act) h = (Free-word s (omega arith) (codes "BEGIN") refl, (Free-tag s lt manager tag h.0, Free-act s some lt act h.1))
+Free-call s some lt (Begin manager tag act) h = (
+  Free-word s (omega arith) (codes "BEGIN") refl,
+  (Free-tag s lt manager tag h.0, Free-act s some lt act h.1),
+)
 Free-call s some lt (Look manager tag) h = (Free-word s (omega arith) (codes "LOOK") refl, (Free-tag s lt manager tag h, tt))
 Free-call s some lt (Abort manager tag) h = (Free-word s (omega arith) (codes "ABORT") refl, (Free-tag s lt manager tag h, tt))
 
 -- nor does one of a reply
 pub Free-reply : (s : ℕ) → 0 < s → s < 46 → (reply : VimReply) → IsReply reply → AllByRecursion (Free s) (reply_fields reply)
 Free-reply s some lt Begun h = (Free-word s (omega arith) (codes "BEGUN") refl, tt)
-Free-reply s some lt (Refused code) h = (Free-word s (omega arith) (codes "REFUSED") refl, (Free-decimal s (omega arith) code (omega arith), tt))
+Free-reply s some lt (Refused code) h = (
+  Free-word s (omega arith) (codes "REFUSED") refl,
+  (Free-decimal s (omega arith) code (omega arith), tt),
+)
 Free-reply s some lt Absent h = (Free-word s (omega arith) (codes "ABSENT") refl, tt)
 Free-reply s some lt Running h = (Free-word s (omega arith) (codes "RUNNING") refl, tt)
 Free-reply s some lt (Done name) h = (Free-word s (omega arith) (codes "DONE") refl, (Free-name s some (omega arith) name, tt))
-Free-reply s some lt (Broken code) h = (Free-word s (omega arith) (codes "BROKEN") refl, (Free-decimal s (omega arith) code (omega arith), tt))
+Free-reply s some lt (Broken code) h = (
+  Free-word s (omega arith) (codes "BROKEN") refl,
+  (Free-decimal s (omega arith) code (omega arith), tt),
+)
 Free-reply s some lt Aborted h = (Free-word s (omega arith) (codes "ABORTED") refl, tt)
 Free-reply s some lt Asked h = (Free-word s (omega arith) (codes "ASKED") refl, tt)
 
@@ -161,7 +179,8 @@ parts_of-fields (word ∷ fields) front free some e =
     ap (parts_of 32) (append_cancel_right front (joined 32 (word ∷ fields)) (10 ∷ []) e) ∙ parts_of-joined 32 word fields free.0 free.1
 
 -- and these joined are the line
-pub line-parts_of : (fields : List (List ℕ)) (front bytes : List ℕ) → parts_of 32 front ≡ fields → bytes ≡ front ++ 10 ∷ [] → bytes ≡ line fields
+pub line-parts_of : (fields : List (List ℕ)) (front bytes : List ℕ) → parts_of 32 front ≡ fields → bytes ≡ front ++ 10 ∷ []
+    → bytes ≡ line fields
 line-parts_of fields front bytes e f =
     f ∙ ap (λ t. t ++ 10 ∷ []) (sym (joined-parts_of 32 front) ∙ ap (joined 32) e)
 
@@ -214,7 +233,8 @@ reply_fits Aborted h = shortest_line (codes "ABORTED") (omega arith)
 reply_fits Asked h = shortest_line (codes "ASKED") (omega arith)
 
 -- fields that begin with this word are those of a resource that is done
-pub done_of : (reply : VimReply) (word : List ℕ) (fields : List (List ℕ)) → IsReply reply → word ≡ codes "DONE" → word ∷ fields ≡ reply_fields reply
+pub done_of : (reply : VimReply) (word : List ℕ) (fields : List (List ℕ)) → IsReply reply → word ≡ codes "DONE"
+    → word ∷ fields ≡ reply_fields reply
     → (name : List ℕ) × ((fields ≡ name_field name ∷ []) × IsName name)
 done_of Begun word fields h w e = absurd cc
 done_of (Refused code) word fields h w e = absurd cc
@@ -226,8 +246,10 @@ done_of Aborted word fields h w e = absurd cc
 done_of Asked word fields h w e = absurd cc
 
 -- a call that was read has this line
-pub call_found : (r : Result VimCall VimFault) (bytes front : List ℕ) (parts : List (List ℕ)) → parts ≡ parts_of 32 front → length bytes ≤ 131072
-    → bytes ≡ front ++ 10 ∷ [] → IfOk r (λ call. IsTyped call × (parts ≡ call_fields call)) → IfOk r (λ call. IsCall call × (bytes ≡ call_line call))
+pub call_found : (r : Result VimCall VimFault) (bytes front : List ℕ) (parts : List (List ℕ)) → parts ≡ parts_of 32 front
+    → length bytes ≤ 131072
+    → bytes ≡ front ++ 10 ∷ [] → IfOk r (λ call. IsTyped call × (parts ≡ call_fields call))
+    → IfOk r (λ call. IsCall call × (bytes ≡ call_line call))
 call_found (Err fault) bytes front parts p len e h = tt
 call_found (Ok call) bytes front parts p len e h =
     let is : bytes ≡ call_line call = line-parts_of (call_fields call) front bytes (sym p ∙ h.1) e in

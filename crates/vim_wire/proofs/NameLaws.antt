@@ -1,5 +1,6 @@
 -- Lists of names, as fields.
-use Rattle.std.proofs.Common.{◌≡◌, ◌∙◌, ap, sym, subst, ℕ, suc, ◌<◌, List, [], ◌∷◌, ◌++◌, map, append_assoc, arith, length, get_or, take, ◌+◌, append-nil}
+use Rattle.std.proofs.Common.{◌≡◌, ◌∙◌, ap, sym, subst, ℕ, suc, ◌<◌, List, [], ◌∷◌, ◌++◌, map, append_assoc, arith, length, get_or, take}
+use Rattle.std.proofs.Common.{◌+◌, append-nil}
 use Rattle.std.specs.Prelude.{All}
 use Rattle.std.proofs.lemmas.List.{map-append}
 use Rattle.std.proofs.lemmas.List.Elements.{All-push}
@@ -10,7 +11,8 @@ use Rattle.std.proofs.lemmas.Grind.{flat_map-append}
 use Rattle.vnfm_base.specs.Text.{IsName}
 use Rattle.vim_wire.specs.Lines.{name_field}
 
-pub one_more : (names next : List (List ℕ)) (name field : List ℕ) (all left rest : List (List ℕ)) → All IsName names → all ≡ map name_field names ++ left
+pub one_more : (names next : List (List ℕ)) (name field : List ℕ) (all left rest : List (List ℕ)) → All IsName names
+    → all ≡ map name_field names ++ left
     → left ≡ field ∷ rest → next ≡ names ++ name ∷ [] → IsName name → field ≡ name_field name
     → record { names : All IsName next; front : all ≡ map name_field next ++ rest }
 one_more names next name field all left rest each front e more h is =
@@ -23,7 +25,8 @@ one_more names next name field all left rest each front e more h is =
     }
 
 -- each of the fields of some names is that of a name
-pub is_named : (names before : List (List ℕ)) (field : List ℕ) (behind : List (List ℕ)) → All IsName names → map name_field names ≡ before ++ field ∷ behind
+pub is_named : (names before : List (List ℕ)) (field : List ℕ) (behind : List (List ℕ)) → All IsName names
+    → map name_field names ≡ before ++ field ∷ behind
     → (name : List ℕ) × (IsName name × (field ≡ name_field name))
 is_named [] [] field behind each e = absurd cc
 is_named [] (x ∷ before) field behind each e = absurd cc

@@ -1,5 +1,6 @@
 -- The parts of some bytes, and what is joined of parts without the separator.
-use Rattle.std.proofs.Common.{◌≡◌, ℕ, zero, suc, ◌+◌, ◌-◌, ◌<◌, ◌==◌, List, [], ◌∷◌, ◌++◌, Bool, true, false, length, take, drop, get_or, refl, sym, ◌∙◌, ap, if◌then◌else◌, arith, add-one}
+use Rattle.std.proofs.Common.{◌≡◌, ℕ, zero, suc, ◌+◌, ◌-◌, ◌<◌, ◌==◌, List, [], ◌∷◌, ◌++◌, Bool, true, false, length, take, drop, get_or}
+use Rattle.std.proofs.Common.{refl, sym, ◌∙◌, ap, if◌then◌else◌, arith, add-one}
 use Rattle.std.specs.List.{AllByRecursion}
 use Rattle.std.proofs.lemmas.Bool.{eqb-true}
 use Rattle.std.proofs.lemmas.List.{take_rest}
@@ -44,7 +45,8 @@ parts_of-joined s part (next ∷ parts) f each =
 parts_some : (s : ℕ) (bytes : List ℕ) → (part : List ℕ) × (parts : List (List ℕ)) × (parts_of s bytes ≡ part ∷ parts)
 parts_some s [] = ([], [], refl)
 parts_some s (byte ∷ bytes) = of (byte == s) (parts_of s bytes) where
-  of : (b : Bool) (ps : List (List ℕ)) → (part : List ℕ) × (parts : List (List ℕ)) × ((if b then [] ∷ ps else onto_first byte ps) ≡ part ∷ parts)
+  of : (b : Bool) (ps : List (List ℕ)) → (part : List ℕ) × (parts : List (List ℕ))
+      × ((if b then [] ∷ ps else onto_first byte ps) ≡ part ∷ parts)
   of true ps = ([], ps, refl)
   of false [] = (byte ∷ [], [], refl)
   of false (p ∷ ps) = (byte ∷ p, ps, refl)

@@ -19,7 +19,8 @@ use Rattle.vim_wire.specs.declared.lines.VimCall.TheVariants.{Begin, Look, Abort
 use Rattle.vim_wire.specs.declared.lines.VimReply.{VimReply}
 use Rattle.vim_wire.specs.declared.lines.VimReply.TheVariants.{Begun, Refused, Absent, Running, Done, Broken, Aborted, Asked}
 use Rattle.vim_wire.specs.Parts.{joined, parts_of}
-use Rattle.vim_wire.specs.Lines.{IsTyped, IsReply, IsTagged, IsAct, act_fields, call_fields, reply_fields, tag_field, way_word, verb_word, kind_word, name_field}
+use Rattle.vim_wire.specs.Lines.{IsTyped, IsReply, IsTagged, IsAct, act_fields, call_fields, reply_fields, tag_field, way_word, verb_word}
+use Rattle.vim_wire.specs.Lines.{kind_word, name_field}
 use Rattle.vim_wire.specs.Prefix.{Either, called, replied, spelling, HasLine, NoLineBeginsAnother}
 use Rattle.vim_wire.proofs.PartLaws.{Free, Free-append, parts_of-joined}
 use Rattle.vim_wire.proofs.FieldLaws.{name_field-injective}
@@ -161,7 +162,8 @@ same_act a b h k e =
     let e8 : decimal a.size ≡ decimal b.size = (cc) in
     let e9 : decimal a.cpus ≡ decimal b.cpus = (cc) in
     let e10 : map name_field a.on ≡ map name_field b.on = (cc) in
-    act_of a b (same_verb a.verb b.verb e1) (same_kind a.kind b.kind e2) (name_field-injective a.template b.template h.template k.template e3)
+    act_of a b (same_verb a.verb b.verb e1) (same_kind a.kind b.kind e2)
+    (name_field-injective a.template b.template h.template k.template e3)
     (name_field-injective a.vdu b.vdu h.vdu k.vdu e4) (decimal_injective a.serial b.serial (omega arith) (omega arith) e5)
     (name_field-injective a.vim b.vim h.vim k.vim e6) (name_field-injective a.zone b.zone h.zone k.zone e7)
     (decimal_injective a.size b.size h.size k.size e8) (decimal_injective a.cpus b.cpus (omega arith) (omega arith) e9)
@@ -273,7 +275,8 @@ first_line a b rest behind h k e =
     sym (append_assoc (joined 32 (fields_of a)) (10 ∷ []) rest) ∙ ap (λ t. t ++ rest) (sym (spelled a)) ∙ e
     ∙ ap (λ t. t ++ behind) (spelled b) ∙ append_assoc (joined 32 (fields_of b)) (10 ∷ []) behind in
     let parts = cut (joined 32 (fields_of a)) (joined 32 (fields_of b)) rest behind
-    (Free-joined (fields_of a) (free 10 (omega arith) (omega arith) a h)) (Free-joined (fields_of b) (free 10 (omega arith) (omega arith) b k)) split in
+    (Free-joined (fields_of a) (free 10 (omega arith) (omega arith) a h))
+    (Free-joined (fields_of b) (free 10 (omega arith) (omega arith) b k)) split in
     let Q : List (List ℕ) → Type 0 = AllByRecursion (Free 32) in
     let one = subst Q fa.2 (free 32 (omega arith) (omega arith) a h) in
     let other = subst Q fb.2 (free 32 (omega arith) (omega arith) b k) in

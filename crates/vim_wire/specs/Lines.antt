@@ -13,7 +13,8 @@ use Rattle.vnfm_base.specs.Text.{IsName}
 use Rattle.vim_wire.specs.declared.lines.VimCall.{VimCall}
 use Rattle.vim_wire.specs.declared.lines.VimCall.TheVariants.{Begin, Look, Abort}
 use Rattle.vim_wire.specs.declared.lines.VimReply.{VimReply}
-use Rattle.vim_wire.specs.declared.lines.VimReply.TheVariants.{Begun, Refused, Absent, Running, Done, Broken, Aborted, Asked}
+use Rattle.vim_wire.specs.declared.lines.VimReply.TheVariants.{Begun, Refused, Absent, Running, Done, Broken, Aborted}
+use Rattle.vim_wire.specs.declared.lines.VimReply.TheVariants.{Asked}
 use Rattle.vim_wire.specs.Parts.{joined}
 
 -- a line: its fields with one space between each two, and a line feed
@@ -50,7 +51,8 @@ kind_word Port = codes "PORT"
 
 -- an act: its nine members in order, then the names that it is done on
 abbrev pub act_fields : Act → List (List ℕ)
-act_fields act = verb_word act.verb ∷ kind_word act.kind ∷ name_field act.template ∷ name_field act.vdu ∷ decimal act.serial
+act_fields act = verb_word act.verb ∷ kind_word act.kind ∷ name_field act.template ∷ name_field act.vdu
+    ∷ decimal act.serial
     ∷ name_field act.vim ∷ name_field act.zone ∷ decimal act.size ∷ decimal act.cpus ∷ map name_field act.on
 
 -- a call of a manager

@@ -22,4 +22,5 @@ HasLine (replied reply) = IsReply reply
 -- bytes that begin with two lines begin with one (own format)
 abbrev pub NoLineBeginsAnother : Type 0
 NoLineBeginsAnother =
-    (a b : Either) (rest behind : List ℕ) → HasLine a → HasLine b → spelling a ++ rest ≡ spelling b ++ behind → (a ≡ b) × (rest ≡ behind)
+    (a b : Either) (rest behind : List ℕ) → HasLine a → HasLine b → spelling a ++ rest ≡ spelling b ++ behind
+    → (a ≡ b) × (rest ≡ behind)

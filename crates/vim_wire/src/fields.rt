@@ -1,5 +1,6 @@
 //! What stands in one field: a number, a name or a word.
-ghost use Rattle.std.specs.Prelude.{◌≡◌, ◌≤◌, ◌<◌, ◌^◌, ◌*◌, ◌↔◌, IsTrue, IsSome, IsUtf8, ℕ, List, IfSome, Some, decimal, length};
+ghost use Rattle.std.specs.Prelude.{◌≡◌, ◌≤◌, ◌<◌, ◌^◌, ◌*◌, ◌↔◌, IsTrue, IsSome, IsUtf8, ℕ, List, IfSome, Some};
+ghost use Rattle.std.specs.Prelude.{decimal, length};
 ghost use Rattle.hex.specs.Hex.{encode_lower};
 ghost use Rattle.lcm_events.specs.declared.attempts.Way.{Way as WayOf};
 ghost use Rattle.lcm_events.specs.declared.changes.DefKind.{DefKind as KindOf};

@@ -1,4 +1,5 @@
-//! The lines between a manager and an infrastructure, both ways: each call and each reply has one line, and nothing else is read as one.
+//! The lines between a manager and an infrastructure, both ways: each call and each reply has one line, and nothing
+//! else is read as one.
 #![tactic(auto)]
 
 mod fault;

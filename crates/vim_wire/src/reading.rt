@@ -1,6 +1,8 @@
 //! A line to the call or the reply that it spells, and nothing else.
-ghost use Rattle.std.specs.Prelude.{◌≡◌, ◌≤◌, ◌++◌, ◌∷◌, [], ℕ, List, All, IfOk, IfErr, OnOk, IfSome, Some, Err, Ok, MatchOption, length, map};
-ghost use Rattle.vim_wire.specs.Lines.{IsAct, IsCall, IsReply, IsTagged, IsTyped, act_fields, call_fields, call_line, name_field, reply_fields, reply_line, tag_field};
+ghost use Rattle.std.specs.Prelude.{◌≡◌, ◌≤◌, ◌++◌, ◌∷◌, [], ℕ, List, All, IfOk, IfErr, OnOk, IfSome, Some, Err, Ok};
+ghost use Rattle.std.specs.Prelude.{MatchOption, length, map};
+ghost use Rattle.vim_wire.specs.Lines.{IsAct, IsCall, IsReply, IsTagged, IsTyped, act_fields, call_fields, call_line};
+ghost use Rattle.vim_wire.specs.Lines.{name_field, reply_fields, reply_line, tag_field};
 ghost use Rattle.vim_wire.specs.declared.lines.VimCall.{VimCall as CallOf};
 ghost use Rattle.vim_wire.specs.declared.lines.VimReply.{VimReply as ReplyOf};
 ghost use Rattle.lcm_events.specs.declared.acts.Act.{Act as ActOf};
@@ -96,7 +98,8 @@ fn call_of(alloc: Global, fields: &mut Parts) -> Result<VimCall, VimFault>
 /// The attempt of the first field, and its manager.
 fn tag_of(fields: &mut Parts) -> Option<(u32, Tag)>
     ensures found { IfSome result (λ t. IsTagged t.0 t.1 × (fields.old ≡ tag_field t.0 t.1 ∷ fields.new)) }
-    ensures again { (manager : ℕ) (tag : TagOf) (rest : List (List ℕ)) → IsTagged manager tag → fields.old ≡ tag_field manager tag ∷ rest
+    ensures again { (manager : ℕ) (tag : TagOf) (rest : List (List ℕ)) → IsTagged manager tag
+        → fields.old ≡ tag_field manager tag ∷ rest
         → (result ≡ Some (manager, tag)) × (fields.new ≡ rest) }
 {
     let field = fields.next()?;
@@ -106,7 +109,8 @@ fn tag_of(fields: &mut Parts) -> Option<(u32, Tag)>
 /// The attempt of this field, and its manager.
 fn tag(field: &[u8]) -> Option<(u32, Tag)>
     ensures found { IfSome result (λ t. IsTagged t.0 t.1 × (field.now ≡ tag_field t.0 t.1)) }
-    ensures again { (manager : ℕ) (tag : TagOf) → IsTagged manager tag → field.now ≡ tag_field manager tag → result ≡ Some (manager, tag) }
+    ensures again { (manager : ℕ) (tag : TagOf) → IsTagged manager tag → field.now ≡ tag_field manager tag
+        → result ≡ Some (manager, tag) }
 {
     let mut parts = Parts::of(b'.', field);
     let (manager, (occ, (change, (attempt, way)))): (u32, (u64, (u16, (u32, Way)))) = Read::read(
@@ -159,7 +163,8 @@ type Front = (
 /// The names of all these fields.
 fn names_of(alloc: Global, fields: &mut Parts) -> Result<Names, VimFault>
     ensures found { IfOk result (λ names. All IsName names × (fields.old ≡ map name_field names)) }
-    ensures none { result ≡ Err VimFault.NotLine → (names : List (List ℕ)) → All IsName names → fields.old ≡ map name_field names → ⊥ }
+    ensures none { result ≡ Err VimFault.NotLine → (names : List (List ℕ)) → All IsName names
+        → fields.old ≡ map name_field names → ⊥ }
 {
     let mut names = Listed::new(alloc);
     while let Some(field) = fields.next() {
@@ -197,7 +202,8 @@ fn reply_of(fields: &mut Parts) -> Option<VimReply>
 
 /// The reply of this word and the fields at the front, which are taken.
 fn reply_after(word: &[u8], fields: &mut Parts) -> Option<VimReply>
-    ensures found { IfSome result (λ reply. IsReply reply × (word.now ∷ fields.old ≡ reply_fields reply ++ fields.new)) }
+    ensures found { IfSome result (λ reply. IsReply reply
+        × (word.now ∷ fields.old ≡ reply_fields reply ++ fields.new)) }
     ensures again { (reply : ReplyOf) → IsReply reply → word.now ∷ fields.old ≡ reply_fields reply
         → (result ≡ Some reply) × (fields.new ≡ []) }
 {

@@ -2,7 +2,8 @@
 ghost use Rattle.std.specs.Prelude.{◌≡◌, ◌≤◌, ◌*◌, ◌∷◌, ◌++◌, [], All, IfOk, OnOk, codes, decimal, length, map};
 ghost use Rattle.std.specs.List.{flat_map};
 ghost use Rattle.hex.specs.Hex.{encode_lower};
-ghost use Rattle.vim_wire.specs.Lines.{IsAct, IsCall, IsReply, IsTagged, act_fields, call_line, name_field, reply_line, tag_field, way_word, verb_word, kind_word};
+ghost use Rattle.vim_wire.specs.Lines.{IsAct, IsCall, IsReply, IsTagged, act_fields, call_line, name_field, reply_line};
+ghost use Rattle.vim_wire.specs.Lines.{tag_field, way_word, verb_word, kind_word};
 ghost use Rattle.vim_wire.specs.declared.lines.VimCall.TheVariants as calls;
 ghost use Rattle.vnfm_base.specs.Text.{IsName};
 
@@ -122,7 +123,8 @@ fn put_act(line: &mut Vec<u8>, act: &Act) -> Result<(), AllocError>
 
 /// The fields of some names.
 fn put_names(line: &mut Vec<u8>, names: &[Name]) -> Result<(), AllocError>
-    ensures spelled { OnOk result (line.new.items ≡ line.old.items ++ flat_map (λ f. 32 ∷ f) (map name_field names.now)) }
+    ensures spelled { OnOk result (line.new.items ≡ line.old.items
+        ++ flat_map (λ f. 32 ∷ f) (map name_field names.now)) }
     ensures typed { OnOk result (All IsName names.now) }
 {
     for name in names {

@@ -1,5 +1,6 @@
 -- What checks that pass say of what is built then: the laws that VDUs, ports and policies share.
-use Rattle.std.proofs.Common.{◌≡◌, ◌+◌, ◌&&◌, ℕ, List, [], ◌∷◌, length, Bool, true, false, cond, Option, Some, None, unwrap_or, option_and_then, nat_le, nat_lt, refl, arith, IfSome, Result, Ok, Err, sym, subst}
+use Rattle.std.proofs.Common.{◌≡◌, ◌+◌, ◌&&◌, ℕ, List, [], ◌∷◌, length, Bool, true, false, cond, Option, Some, None, unwrap_or}
+use Rattle.std.proofs.Common.{option_and_then, nat_le, nat_lt, refl, arith, IfSome, Result, Ok, Err, sym, subst}
 use Rattle.std.proofs.lemmas.Bool.{and_from, and_parts, le-leb, lt-ltb, leb-true}
 use Rattle.std.specs.List.{list_all}
 use Rattle.std.specs.Option.{option_or}
@@ -29,7 +30,8 @@ same_fault (OutOfStep level vdu) = refl
 same_fault Memory = tt
 
 -- a check that answers just its fault refuses with it
-pub refuses_just : {A : Type 0} (result : Result A VnfdFault) (expected : Option VnfdFault) → fault_of result ≡ expected → Refuses result expected
+pub refuses_just : {A : Type 0} (result : Result A VnfdFault) (expected : Option VnfdFault) → fault_of result ≡ expected
+    → Refuses result expected
 refuses_just (Ok x) expected h = sym h
 refuses_just (Err fault) expected h = subst (IsFault fault) h (same_fault fault)
 
@@ -44,7 +46,8 @@ not_if true f h = let no : ⊥ = cc in absurd no
 not_if false f h = refl
 
 -- what is read of a value, where one is read
-pub some_then : {A B : Type 0} (f : A → Option B) (P : B → Type 0) (o : Option A) → ((x : A) → IfSome (f x) P) → IfSome (option_and_then f o) P
+pub some_then : {A B : Type 0} (f : A → Option B) (P : B → Type 0) (o : Option A) → ((x : A) → IfSome (f x) P)
+    → IfSome (option_and_then f o) P
 some_then f P None h = tt
 some_then f P (Some x) h = h x
 
@@ -69,7 +72,8 @@ given_kept k h = rw (name_or_empty-given k h) (some_byte k (and_parts (nat_le 1 
   some_byte k h = lt-ltb _ _ (omega (arith, leb-true _ _ h))
 
 -- numbers rise where the first stands below the others
-pub rising_cons : (n : ℕ) (rest : List ℕ) → list_all (nat_le (n + 1)) rest ≡ true → is_rising nat_lt rest ≡ true → is_rising nat_lt (n ∷ rest) ≡ true
+pub rising_cons : (n : ℕ) (rest : List ℕ) → list_all (nat_le (n + 1)) rest ≡ true → is_rising nat_lt rest ≡ true
+    → is_rising nat_lt (n ∷ rest) ≡ true
 rising_cons n [] above up = refl
 rising_cons n (y ∷ ys) above up =
     and_from (nat_lt n y) _ (lt-ltb _ _ (omega (arith, leb-true (n + 1) y (and_parts (nat_le (n + 1) y) _ above).0))) up

@@ -8,7 +8,8 @@ use Rattle.serde_json.specs.Find.{as_object}
 use Rattle.serde_json.specs.Read.{read}
 use Rattle.vnfd_document.specs.Document.{object_of}
 
-pub object_of-object : (bytes : List ℕ) (d : Data) → IsUtf8 bytes → read bytes ≡ Some d → is_some (as_object d) ≡ true → object_of bytes ≡ Some d
+pub object_of-object : (bytes : List ℕ) (d : Data) → IsUtf8 bytes → read bytes ≡ Some d → is_some (as_object d) ≡ true
+    → object_of bytes ≡ Some d
 object_of-object bytes d utf8 reads object = rw (is_utf8-from_IsUtf8 bytes utf8, reads, object) refl
 
 pub object_of-none : (bytes : List ℕ) → (IsUtf8 bytes → read bytes ≡ None) → object_of bytes ≡ None

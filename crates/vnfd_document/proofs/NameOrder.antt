@@ -1,5 +1,6 @@
 -- In what is read of a text, the members of each object stand in byte order of their names, each once (RFC 8259 4).
-use Rattle.std.proofs.Common.{◌≡◌, ℕ, List, [], ◌∷◌, map, Bool, true, false, cond, filter, Option, Some, None, option_map, codes, refl, ap, ◌∙◌, IfSome, Ordering, Less, Equal, Greater, nat_cmp, Result, Ok, Err, is_some, nat_lt, length, subst, is_lt}
+use Rattle.std.proofs.Common.{◌≡◌, ℕ, List, [], ◌∷◌, map, Bool, true, false, cond, filter, Option, Some, None, option_map, codes, refl, ap}
+use Rattle.std.proofs.Common.{◌∙◌, IfSome, Ordering, Less, Equal, Greater, nat_cmp, Result, Ok, Err, is_some, nat_lt, length, subst, is_lt}
 use Rattle.std.proofs.lemmas.Cmp.{nat_list_cmp_total}
 use Rattle.std.proofs.lemmas.Bool.{and_parts}
 use Rattle.std.specs.Cmp.Lexicographic.{slice_cmp}
@@ -9,7 +10,8 @@ use Rattle.std.specs.Option.{option_and_then, option_map_or}
 use Rattle.std.specs.Ordering.{match_ordering, ordering_reverse}
 use Rattle.json.specs.Json as json
 use Rattle.json.specs.Lex.{tokens}
-use Rattle.serde_json.specs.Data.{Data, null, boolean, number, string, array, object, Items, no_items, item, Members, no_members, member, put}
+use Rattle.serde_json.specs.Data.{Data, null, boolean, number, string, array, object, Items, no_items, item, Members, no_members, member}
+use Rattle.serde_json.specs.Data.{put}
 use Rattle.serde_json.specs.Find.{as_object, get, get_member}
 use Rattle.serde_json.specs.Read.{max_depth, of_json, of_items, of_members, read}
 use Rattle.lcm_model.specs.Descriptors.{are_sorted}
@@ -23,7 +25,8 @@ use Rattle.vnfd_document.specs.Places.{by_name, has_type, node_templates, of_typ
 
 -- ---- what is put stays in order
 
-behind_if : (o : Ordering) (j k l : List ℕ) (d e : Data) (ms : Members) → slice_cmp nat_cmp j k ≡ Less → slice_cmp nat_cmp j l ≡ Less → Behind j ms → Behind j (put k d ms)
+behind_if : (o : Ordering) (j k l : List ℕ) (d e : Data) (ms : Members) → slice_cmp nat_cmp j k ≡ Less → slice_cmp nat_cmp j l ≡ Less
+    → Behind j ms → Behind j (put k d ms)
     → Behind j (match_ordering o (member k d (member l e ms)) (member l d ms) (member l e (put k d ms)))
 behind_if Less j k l d e ms p q b h = (p, (q, b))
 behind_if Equal j k l d e ms p q b h = (q, b)
@@ -37,7 +40,8 @@ behind_chain : (k l : List ℕ) (ms : Members) → slice_cmp nat_cmp k l ≡ Les
 behind_chain k l no_members p b = tt
 behind_chain k l (member m d ms) p b = (nat_list_cmp_total.trans k l m p b.0, behind_chain k l ms p b.1)
 
-in_order_if : (o : Ordering) (k l : List ℕ) (d e : Data) (ms : Members) → slice_cmp nat_cmp k l ≡ o → InOrder d → Behind l ms → InOrder e → MembersInOrder ms → MembersInOrder (put k d ms)
+in_order_if : (o : Ordering) (k l : List ℕ) (d e : Data) (ms : Members) → slice_cmp nat_cmp k l ≡ o → InOrder d → Behind l ms → InOrder e
+    → MembersInOrder ms → MembersInOrder (put k d ms)
     → MembersInOrder (match_ordering o (member k d (member l e ms)) (member l d ms) (member l e (put k d ms)))
 in_order_if Less k l d e ms p new b old rest h = ((p, behind_chain k l ms p b), new, (b, old, rest))
 in_order_if Equal k l d e ms p new b old rest h = (b, new, rest)
@@ -58,7 +62,8 @@ some_map : {A B : Type 0} (f : A → B) (P : B → Type 0) (o : Option A) → If
 some_map f P None h = tt
 some_map f P (Some x) h = h
 
-some_then : {A B : Type 0} (f : A → Option B) (Q : A → Type 0) (P : B → Type 0) (o : Option A) → IfSome o Q → ((x : A) → Q x → IfSome (f x) P) → IfSome (option_and_then f o) P
+some_then : {A B : Type 0} (f : A → Option B) (Q : A → Type 0) (P : B → Type 0) (o : Option A) → IfSome o Q
+    → ((x : A) → Q x → IfSome (f x) P) → IfSome (option_and_then f o) P
 some_then f Q P None h next = tt
 some_then f Q P (Some x) h next = next x h
 
@@ -79,12 +84,14 @@ mutual
   in_order_items json.no_items = tt
   in_order_items (json.item j js) =
       some_then _ InOrder ItemsInOrder (of_json j) (in_order_json j)
-      (λ d h. some_map (item d) ItemsInOrder (of_items js) (some_and ItemsInOrder (λ ds. InOrder d × ItemsInOrder ds) (of_items js) (in_order_items js) (λ ds k. (h, k))))
+      (λ d h. some_map (item d) ItemsInOrder (of_items js) (some_and ItemsInOrder (λ ds. InOrder d × ItemsInOrder ds) (of_items js)
+      (in_order_items js) (λ ds k. (h, k))))
 
   in_order_members : (ms : json.Members) (found : Members) → MembersInOrder found → IfSome (of_members ms found) MembersInOrder
   in_order_members json.no_members found h = h
   in_order_members (json.member k j ms) found h =
-      some_then _ InOrder MembersInOrder (of_json j) (in_order_json j) (λ d new. in_order_members ms (put k d found) (in_order_put k d found new h))
+      some_then _ InOrder MembersInOrder (of_json j) (in_order_json j)
+      (λ d new. in_order_members ms (put k d found) (in_order_put k d found new h))
 
 from_json : (o : Option json.Json) → IfSome (option_and_then of_json o) InOrder
 from_json None = tt
@@ -96,7 +103,8 @@ in_order-read text = from_json (option_and_then (λ p. json.if_last p.0 p.1) (js
 
 -- ---- what stands in it is in order
 
-in_order_member_if : (o : Ordering) (e : Data) (rest : Option Data) → InOrder e → IfSome rest InOrder → IfSome (match_ordering o rest (Some e) rest) InOrder
+in_order_member_if : (o : Ordering) (e : Data) (rest : Option Data) → InOrder e → IfSome rest InOrder
+    → IfSome (match_ordering o rest (Some e) rest) InOrder
 in_order_member_if Less e rest h k = k
 in_order_member_if Equal e rest h k = h
 in_order_member_if Greater e rest h k = k
@@ -144,7 +152,8 @@ rises_object (string s) h = tt
 rises_object (array ds) h = tt
 rises_object (object ms) h = rises-members_in ms h
 
-map_then : {A B C : Type 0} (f : A → Option B) (g : B → C) (o : Option A) → option_map g (option_and_then f o) ≡ option_and_then (λ x. option_map g (f x)) o
+map_then : {A B C : Type 0} (f : A → Option B) (g : B → C) (o : Option A)
+    → option_map g (option_and_then f o) ≡ option_and_then (λ x. option_map g (f x)) o
 map_then f g None = refl
 map_then f g (Some x) = refl
 
@@ -155,7 +164,8 @@ rises-node_templates d h =
     rw (map_then as_object members_in (at path d))
     (some_then (λ x. option_map members_in (as_object x)) InOrder Rises (at path d) (in_order-at path d h) rises_object)
 
-all_behind_if : (b : Bool) (k : List ℕ) (x : Named) (xs : List Named) → slice_cmp nat_cmp k x.0 ≡ Less → AllBehind k xs → AllBehind k (cond b (x ∷ xs) xs)
+all_behind_if : (b : Bool) (k : List ℕ) (x : Named) (xs : List Named) → slice_cmp nat_cmp k x.0 ≡ Less → AllBehind k xs
+    → AllBehind k (cond b (x ∷ xs) xs)
 all_behind_if true k x xs p h = (p, h)
 all_behind_if false k x xs p h = h
 
@@ -181,20 +191,24 @@ rises-of_type kind xs h = rises-filter (λ x. has_type kind x.1) xs h
 pub name_or_empty-given : (k : List ℕ) → is_given_name k ≡ true → name_or_empty k ≡ k
 name_or_empty-given k h = let is = (and_parts _ (is_name k) h).1 in rw is refl
 
-sorted_two : (a b : List ℕ) (rest : List (List ℕ)) → slice_cmp nat_cmp a b ≡ Less → are_sorted (b ∷ rest) ≡ true → are_sorted (a ∷ b ∷ rest) ≡ true
+sorted_two : (a b : List ℕ) (rest : List (List ℕ)) → slice_cmp nat_cmp a b ≡ Less → are_sorted (b ∷ rest) ≡ true
+    → are_sorted (a ∷ b ∷ rest) ≡ true
 sorted_two a b rest less h = rw less h
 
-kept_less : (a b : List ℕ) → slice_cmp nat_cmp a b ≡ Less → is_given_name a ≡ true → is_given_name b ≡ true → slice_cmp nat_cmp (name_or_empty a) (name_or_empty b) ≡ Less
+kept_less : (a b : List ℕ) → slice_cmp nat_cmp a b ≡ Less → is_given_name a ≡ true → is_given_name b ≡ true
+    → slice_cmp nat_cmp (name_or_empty a) (name_or_empty b) ≡ Less
 kept_less a b less p q = rw (name_or_empty-given a p, name_or_empty-given b q) less
 
 -- names that rise, and are given, are sorted where the descriptor keeps them
-pub sorted-names : (xs : List Named) → Rises xs → list_all (λ x. is_given_name x.0) xs ≡ true → are_sorted (map (λ x. name_or_empty x.0) xs) ≡ true
+pub sorted-names : (xs : List Named) → Rises xs → list_all (λ x. is_given_name x.0) xs ≡ true
+    → are_sorted (map (λ x. name_or_empty x.0) xs) ≡ true
 sorted-names [] h given = refl
 sorted-names (x ∷ []) h given = refl
 sorted-names (x ∷ y ∷ xs) h given =
     let first = and_parts (is_given_name x.0) _ given in
     let second = and_parts (is_given_name y.0) _ first.1 in
-    sorted_two (name_or_empty x.0) (name_or_empty y.0) (map (λ z. name_or_empty z.0) xs) (kept_less x.0 y.0 h.0.0 first.0 second.0) (sorted-names (y ∷ xs) h.1 first.1)
+    sorted_two (name_or_empty x.0) (name_or_empty y.0) (map (λ z. name_or_empty z.0) xs) (kept_less x.0 y.0 h.0.0 first.0 second.0)
+    (sorted-names (y ∷ xs) h.1 first.1)
 
 -- ---- policies
 
@@ -221,9 +235,11 @@ in_order-cons (Some x) xs h k = (h, k)
 
 in_order-entries : (ds : Items) → ItemsInOrder ds → AllInOrder (filter_map only_member (items_in ds))
 in_order-entries no_items h = tt
-in_order-entries (item d ds) h = in_order-cons (only_member d) _ (in_order-single (members_of d) (in_order-members_of d h.0)) (in_order-entries ds h.1)
+in_order-entries (item d ds) h = in_order-cons (only_member d) _ (in_order-single (members_of d) (in_order-members_of d h.0))
+    (in_order-entries ds h.1)
 
-in_order-put_if : (b : Bool) (x y : Named) (ys : List Named) → InOrder x.1 → InOrder y.1 → AllInOrder ys → AllInOrder (put_by_name x ys) → AllInOrder (cond b (y ∷ put_by_name x ys) (x ∷ y ∷ ys))
+in_order-put_if : (b : Bool) (x y : Named) (ys : List Named) → InOrder x.1 → InOrder y.1 → AllInOrder ys → AllInOrder (put_by_name x ys)
+    → AllInOrder (cond b (y ∷ put_by_name x ys) (x ∷ y ∷ ys))
 in_order-put_if true x y ys h k l m = (k, m)
 in_order-put_if false x y ys h k l m = (h, (k, l))
 
@@ -275,7 +291,8 @@ given_in_order : (o : Option Data) (d : Data) → IfSome o InOrder → object_or
 given_in_order None d h e = let no : ⊥ = cc in absurd no
 given_in_order (Some x) d h e = let same : x ≡ d = cc in subst InOrder same h
 
-document_if : (b : Bool) (o : Option Data) (d : Data) → IfSome o InOrder → cond b (Err (TooMany (codes "bytes"))) (object_or_fault o) ≡ Ok d → InOrder d
+document_if : (b : Bool) (o : Option Data) (d : Data) → IfSome o InOrder → cond b (Err (TooMany (codes "bytes"))) (object_or_fault o) ≡ Ok d
+    → InOrder d
 document_if true o d h e = let no : ⊥ = cc in absurd no
 document_if false o d h e = given_in_order o d h e
 

@@ -15,7 +15,8 @@ abbrev pub before : Entry → Entry → Bool
 before x y = is_lt (slice_cmp nat_cmp x.name.now y.name.now)
 
 put-if : (b : Bool) (x y : Entry) (ys : List Entry) → put_by_name (seen x) (map seen ys) ≡ map seen (put before x ys)
-    → cond b (seen y ∷ put_by_name (seen x) (map seen ys)) (seen x ∷ seen y ∷ map seen ys) ≡ map seen (cond b (y ∷ put before x ys) (x ∷ y ∷ ys))
+    → cond b (seen y ∷ put_by_name (seen x) (map seen ys)) (seen x ∷ seen y ∷ map seen ys)
+    ≡ map seen (cond b (y ∷ put before x ys) (x ∷ y ∷ ys))
 put-if true x y ys h = ap (λ r. seen y ∷ r) h
 put-if false x y ys h = refl
 

@@ -1,6 +1,7 @@
 -- A stable sort gives the one list that is in order and keeps the order of what ties; putting one element after another to
 -- its place gives the same.
-use Rattle.std.proofs.Common.{◌≡◌, ◌<◌, ◌≤◌, ℕ, suc, not, List, [], ◌∷◌, length, get_or, filter, Bool, true, false, cond, refl, sym, ap, ◌∙◌, arith, true≢false}
+use Rattle.std.proofs.Common.{◌≡◌, ◌<◌, ◌≤◌, ℕ, suc, not, List, [], ◌∷◌, length, get_or, filter, Bool, true, false, cond, refl, sym, ap}
+use Rattle.std.proofs.Common.{◌∙◌, arith, true≢false}
 use Rattle.std.specs.Cmp.{IsStrictWeakOrder}
 use Rattle.std.specs.List.Sorted.{IsSortedBy, IsStableBy, ties}
 use Rattle.std.proofs.lemmas.List.Sorted.{sorted_far}
@@ -33,7 +34,10 @@ module _ {X : Type 0} (lt : X → X → Bool) where
 
   up_of : (xs : List X) → ((i j : ℕ) (d : X) → i ≤ j → j < length xs → lt (get_or xs j d) (get_or xs i d) ≡ false) → Up xs
   up_of [] h = tt
-  up_of (x ∷ xs) h = (above_of x xs (λ k p. h 0 (suc k) x (omega arith) (omega arith)), up_of xs (λ i j d p q. h (suc i) (suc j) d (omega arith) (omega arith)))
+  up_of (x ∷ xs) h = (
+    above_of x xs (λ k p. h 0 (suc k) x (omega arith) (omega arith)),
+    up_of xs (λ i j d p q. h (suc i) (suc j) d (omega arith) (omega arith)),
+  )
 
   abbrev rest : List X → List X
   rest [] = []
@@ -93,10 +97,12 @@ module _ {X : Type 0} (lt : X → X → Bool) where
     unique (y ∷ ys) (z ∷ zs) u v same =
         let first : y ≡ z = heads (lt y z) (lt z y) y z ys zs refl refl u.0 v.0 same in
         let others : (x : X) → filter (ties lt x) ys ≡ filter (ties lt x) zs =
-        λ x. rests (ties lt x y) y _ _ (same x ∙ ap (λ q. cond (ties lt x q) (q ∷ filter (ties lt x) zs) (filter (ties lt x) zs)) (sym first)) in
+        λ x. rests (ties lt x y) y _ _ (same x ∙ ap (λ q. cond (ties lt x q) (q ∷ filter (ties lt x) zs) (filter (ties lt x) zs))
+        (sym first)) in
         rw first (ap (λ q. z ∷ q) (unique ys zs u.1 v.1 others))
 
-    above_if : (b : Bool) (w x y : X) (ys : List X) → lt x w ≡ false → lt y w ≡ false → Above w ys → Above w (put x ys) → Above w (cond b (y ∷ put x ys) (x ∷ y ∷ ys))
+    above_if : (b : Bool) (w x y : X) (ys : List X) → lt x w ≡ false → lt y w ≡ false → Above w ys → Above w (put x ys)
+        → Above w (cond b (y ∷ put x ys) (x ∷ y ∷ ys))
     above_if true w x y ys p q a h = (q, h)
     above_if false w x y ys p q a h = (p, (q, a))
 
@@ -131,17 +137,20 @@ module _ {X : Type 0} (lt : X → X → Bool) where
     tie_behind w x h = not-is (lt x w) (and_parts (not (lt w x)) (not (lt x w)) h).1
 
     -- two elements, of which at most one ties, change places
-    swapped : (p q : Bool) (x y : X) (r : List X) → (p ≡ true → q ≡ true → ⊥) → cond q (y ∷ cond p (x ∷ r) r) (cond p (x ∷ r) r) ≡ cond p (x ∷ cond q (y ∷ r) r) (cond q (y ∷ r) r)
+    swapped : (p q : Bool) (x y : X) (r : List X) → (p ≡ true → q ≡ true → ⊥)
+        → cond q (y ∷ cond p (x ∷ r) r) (cond p (x ∷ r) r) ≡ cond p (x ∷ cond q (y ∷ r) r) (cond q (y ∷ r) r)
     swapped true true x y r h = absurd (h refl refl)
     swapped true false x y r h = refl
     swapped false true x y r h = refl
     swapped false false x y r h = refl
 
-    stable_if : (b : Bool) (w x y : X) (ys : List X) → lt y x ≡ b → filter (ties lt w) (put x ys) ≡ cond (ties lt w x) (x ∷ filter (ties lt w) ys) (filter (ties lt w) ys)
+    stable_if : (b : Bool) (w x y : X) (ys : List X) → lt y x ≡ b → filter (ties lt w) (put x ys)
+        ≡ cond (ties lt w x) (x ∷ filter (ties lt w) ys) (filter (ties lt w) ys)
         → filter (ties lt w) (cond b (y ∷ put x ys) (x ∷ y ∷ ys)) ≡ filter (ties lt w) (x ∷ y ∷ ys)
     stable_if true w x y ys e h =
         ap (λ r. cond (ties lt w y) (y ∷ r) r) h
-        ∙ swapped (ties lt w x) (ties lt w y) x y (filter (ties lt w) ys) (λ p q. true≢false (sym e ∙ o.chain y w x (tie_behind w y q) (tie_before w x p)))
+        ∙ swapped (ties lt w x) (ties lt w y) x y (filter (ties lt w) ys)
+        (λ p q. true≢false (sym e ∙ o.chain y w x (tie_behind w y q) (tie_before w x p)))
     stable_if false w x y ys e h = refl
 
     stable_put : (w x : X) (ys : List X) → filter (ties lt w) (put x ys) ≡ filter (ties lt w) (x ∷ ys)

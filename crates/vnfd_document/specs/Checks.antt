@@ -2,7 +2,8 @@
 use Rattle.std.specs.Prelude.{◌≡◌, List, [], ◌∷◌, Option, Some, None, Result, Ok, Err}
 use Rattle.std.specs.Option.{option_or}
 use Rattle.vnfd_document.specs.declared.fault.VnfdFault.{VnfdFault}
-use Rattle.vnfd_document.specs.declared.fault.VnfdFault.TheVariants.{NotJson, Lacks, Wrong, Unknown, TooMany, OutOfStep, Memory}
+use Rattle.vnfd_document.specs.declared.fault.VnfdFault.TheVariants.{NotJson, Lacks, Wrong, Unknown, TooMany, OutOfStep}
+use Rattle.vnfd_document.specs.declared.fault.VnfdFault.TheVariants.{Memory}
 
 -- the first fault of some checks, made in this order
 abbrev pub first_fault : List (Option VnfdFault) → Option VnfdFault

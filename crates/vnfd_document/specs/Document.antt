@@ -1,5 +1,6 @@
 -- The JSON object that the bytes of a descriptor are (RFC 8259).
-use Rattle.std.specs.Prelude.{ℕ, List, length, nat_lt, if◌then◌else◌, is_some, Option, Some, None, option_and_then, Result, Ok, Err, codes}
+use Rattle.std.specs.Prelude.{ℕ, List, length, nat_lt, if◌then◌else◌, is_some, Option, Some, None, option_and_then}
+use Rattle.std.specs.Prelude.{Result, Ok, Err, codes}
 use Rattle.std.specs.Str.{is_utf8}
 use Rattle.serde_json.specs.Data.{Data}
 use Rattle.serde_json.specs.Find.{as_object}
@@ -21,4 +22,5 @@ object_or_fault None = Err NotJson
 object_or_fault (Some d) = Ok d
 
 abbrev pub document : List ℕ → Result Data VnfdFault
-document bytes = if nat_lt 1048576 (length bytes) then Err (TooMany (codes "bytes")) else object_or_fault (object_of bytes)
+document bytes = if nat_lt 1048576 (length bytes) then Err (TooMany (codes "bytes"))
+    else object_or_fault (object_of bytes)

@@ -1,5 +1,7 @@
--- What is looked at in a JSON value: what stands under names, the entries of a list, the members of an object (RFC 8259).
-use Rattle.std.specs.Prelude.{ℕ, List, [], ◌∷◌, ◌&&◌, Bool, false, nat_le, if◌then◌else◌, Option, Some, None, option_and_then}
+-- What is looked at in a JSON value: what stands under names, the entries of a list, the members of an object (RFC
+-- 8259).
+use Rattle.std.specs.Prelude.{ℕ, List, [], ◌∷◌, ◌&&◌, Bool, false, nat_le, if◌then◌else◌, Option, Some, None}
+use Rattle.std.specs.Prelude.{option_and_then}
 use Rattle.std.specs.List.{filter_map}
 use Rattle.std.specs.Option.{option_map_or}
 use Rattle.std.specs.Str.{bytes_eq}

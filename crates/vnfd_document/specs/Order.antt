@@ -1,10 +1,11 @@
--- The members of each object of a value stand in byte order of their names, each once: so is what is read of a text (RFC
--- 8259 4; own rule).
+-- The members of each object of a value stand in byte order of their names, each once: so is what is read of a text
+-- (RFC 8259 4; own rule).
 use Rattle.std.specs.Prelude.{◌≡◌, ℕ, List, [], ◌∷◌}
 use Rattle.std.specs.Cmp.Lexicographic.{slice_cmp}
 use Rattle.std.specs.declared.cmp.Ordering.TheVariants.{Less}
 use Rattle.std.specs.Ordering.{nat_cmp}
-use Rattle.serde_json.specs.Data.{Data, null, boolean, number, string, array, object, Items, no_items, item, Members, no_members, member}
+use Rattle.serde_json.specs.Data.{Data, null, boolean, number, string, array, object, Items, no_items, item, Members}
+use Rattle.serde_json.specs.Data.{no_members, member}
 use Rattle.vnfd_document.specs.Json.{Named}
 
 -- every name of these stands behind k

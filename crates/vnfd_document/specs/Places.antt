@@ -5,14 +5,16 @@ use Rattle.std.specs.List.{filter_map, list_all}
 use Rattle.std.specs.Ordering.{is_lt, nat_cmp}
 use Rattle.std.specs.Option.{option_map_or, option_or}
 use Rattle.std.specs.Str.{bytes_eq}
-use Rattle.std.specs.Prelude.{map, ℕ, List, [], ◌∷◌, Bool, false, if◌then◌else◌, filter, Option, Some, None, option_and_then, option_map, codes, is_some}
+use Rattle.std.specs.Prelude.{map, ℕ, List, [], ◌∷◌, Bool, false, if◌then◌else◌, filter, Option, Some, None}
+use Rattle.std.specs.Prelude.{option_and_then, option_map, codes, is_some}
 use Rattle.serde_json.specs.Data.{Data, null, boolean, number, string, array, object}
 use Rattle.serde_json.specs.Find.{get, as_array, as_object, as_str}
 use Rattle.vnfd_document.specs.Json.{Named, at, is_text, items_in, members_in, named_entries}
 
 -- the node templates, in byte order of their names, where there are any (TOSCA Simple Profile 1.2, topology_template)
 abbrev pub node_templates : Data → Option (List Named)
-node_templates d = option_map members_in (option_and_then as_object (at (codes "topology_template" ∷ codes "node_templates" ∷ []) d))
+node_templates d = option_map members_in (option_and_then as_object
+    (at (codes "topology_template" ∷ codes "node_templates" ∷ []) d))
 
 -- a named thing put before the first whose name isn't less
 abbrev pub put_by_name : Named → List Named → List Named
@@ -61,7 +63,8 @@ under name xs = map (λ x. x.1) (filter (λ x. bytes_eq name x.0) xs)
 abbrev pub required : List ℕ → Data → List Data
 required name d = under name (requirements d)
 
--- the template that a requirement names: a text, or an object with the text `node` (TOSCA Simple Profile 1.2, requirements)
+-- the template that a requirement names: a text, or an object with the text `node` (TOSCA Simple Profile 1.2,
+-- requirements)
 abbrev pub node_named : Data → Option (List ℕ)
 node_named d = option_or (as_str d) (option_and_then as_str (get (codes "node") d))
 
@@ -69,7 +72,8 @@ node_named d = option_or (as_str d) (option_and_then as_str (get (codes "node") 
 abbrev pub texts_of : List Data → Option (List (List ℕ))
 texts_of ds = if list_all (λ d. is_some (as_str d)) ds then Some (filter_map as_str ds) else None
 
--- what a policy aims at: none where it has no targets, else the texts of the list, where it is one (TOSCA Simple Profile 1.2, targets)
+-- what a policy aims at: none where it has no targets, else the texts of the list, where it is one (TOSCA Simple
+-- Profile 1.2, targets)
 abbrev pub targets_in : Option Data → Option (List (List ℕ))
 targets_in None = Some []
 targets_in (Some d) = option_and_then (λ items. texts_of (items_in items)) (as_array d)

@@ -1,7 +1,8 @@
 -- The text of each reason why a descriptor is refused (own rule).
 use Rattle.std.specs.Prelude.{ℕ, List, ◌++◌, codes}
 use Rattle.vnfd_document.specs.declared.fault.VnfdFault.{VnfdFault}
-use Rattle.vnfd_document.specs.declared.fault.VnfdFault.TheVariants.{NotJson, Lacks, Wrong, Unknown, TooMany, OutOfStep, Memory}
+use Rattle.vnfd_document.specs.declared.fault.VnfdFault.TheVariants.{NotJson, Lacks, Wrong, Unknown, TooMany, OutOfStep}
+use Rattle.vnfd_document.specs.declared.fault.VnfdFault.TheVariants.{Memory}
 
 -- the text of a refusal (own rule)
 abbrev pub fault_text : VnfdFault → List ℕ

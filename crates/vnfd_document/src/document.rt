@@ -21,8 +21,8 @@ pub fn limits()
 
 /// The JSON object that the bytes are.
 ///
-/// Refusals, in this order: `TooMany` (bytes) exactly where there are more than 1,048,576; `NotJson` exactly where they are
-/// no JSON object; `Memory`.
+/// Refusals, in this order: `TooMany` (bytes) exactly where there are more than 1,048,576; `NotJson` exactly where they
+/// are no JSON object; `Memory`.
 /// Source: RFC 8259; own limit.
 pub fn read_document(alloc: Global, bytes: &[u8]) -> Result<Value, VnfdFault>
     ensures found { IfOk result (λ value. document bytes.now ≡ Ok (view value)) }

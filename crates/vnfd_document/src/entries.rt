@@ -2,7 +2,8 @@
 ghost use Rattle.std.specs.Prelude.{◌≡◌, IfOk, filter, map, option_map, []};
 ghost use Rattle.std.specs.Option.{option_map_or};
 ghost use Rattle.serde_json.specs.View.{members_view, view};
-ghost use Rattle.vnfd_document.specs.Json.{members_in as the_members_in, members_of as the_members_of, only_member as the_only_member};
+ghost use Rattle.vnfd_document.specs.Json.{members_in as the_members_in, members_of as the_members_of};
+ghost use Rattle.vnfd_document.specs.Json.{only_member as the_only_member};
 ghost use Rattle.vnfd_document.specs.Places.{node_templates, of_type as those_of_type};
 ghost use Rattle.vnfd_document.specs.Seen.{seen};
 
@@ -36,7 +37,8 @@ pub fn members<'a>(
 
 /// The members of what stands there, in byte order of their names; none where nothing stands there, or no object.
 pub fn members_in<'a>(alloc: Global, value: Option<&'a Value>) -> Result<Vec<Entry<'a>>, AllocError>
-    ensures { IfOk result (λ found. map seen found.items ≡ option_map_or the_members_of (option_map (λ v. view v.now) value.entry) []) }
+    ensures { IfOk result (λ found. map seen found.items ≡ option_map_or the_members_of
+        (option_map (λ v. view v.now) value.entry) []) }
 {
     match value {
         Some(value) => members_of(alloc, value),
@@ -90,7 +92,8 @@ pub fn templates_in<'a>(
     alloc: Global,
     document: &'a Value,
 ) -> Result<Option<Vec<Entry<'a>>>, AllocError>
-    ensures { IfOk result (λ found. option_map (λ templates. map seen templates.items) found ≡ node_templates (view document.now)) }
+    ensures { IfOk result (λ found. option_map (λ templates. map seen templates.items) found
+        ≡ node_templates (view document.now)) }
 {
     let Some(templates) = at(document, &["topology_template", "node_templates"]) else {
         return Ok(None);

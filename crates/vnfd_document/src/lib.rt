@@ -1,5 +1,5 @@
-//! What every check of a descriptor needs: the reasons of refusal, the JSON object that the bytes are, look-ups in it, and
-//! checks of which the first that fails is answered.
+//! What every check of a descriptor needs: the reasons of refusal, the JSON object that the bytes are, look-ups in it,
+//! and checks of which the first that fails is answered.
 #![tactic(auto)]
 
 mod checks;

@@ -1,7 +1,8 @@
 //! Names: how a refusal carries them, and how a descriptor's own are read.
 ghost use Rattle.std.specs.Prelude.{◌≡◌, true, if◌then◌else◌, Some, None};
 ghost use Rattle.vnfm_base.specs.Text.{is_label};
-ghost use Rattle.vnfd_document.specs.Names.{is_name, is_given_name, name_or_empty as the_name_or_empty, unknown as the_unknown};
+ghost use Rattle.vnfd_document.specs.Names.{is_name, is_given_name, name_or_empty as the_name_or_empty};
+ghost use Rattle.vnfd_document.specs.Names.{unknown as the_unknown};
 
 use crate::VnfdFault;
 use vnfm_base::Name;

@@ -3,7 +3,8 @@ ghost use Rattle.std.specs.Prelude.{◌≡◌, IfOk, List, ℕ, map, option_map}
 ghost use Rattle.std.specs.List.{filter_map};
 ghost use Rattle.serde_json.specs.View.{items_view, view};
 ghost use Rattle.vnfd_document.specs.Json.{items_in, only_member as the_only_member};
-ghost use Rattle.vnfd_document.specs.Places.{by_name, policies, policies_in as those_in, targets as the_targets, texts_of};
+ghost use Rattle.vnfd_document.specs.Places.{by_name, policies, policies_in as those_in, targets as the_targets};
+ghost use Rattle.vnfd_document.specs.Places.{texts_of};
 ghost use Rattle.vnfd_document.specs.Seen.{seen};
 
 use crate::entries::{Entry, members, only_member};
@@ -35,7 +36,8 @@ fn policies_of<'a>(alloc: Global, value: &'a Value) -> Result<Vec<Entry<'a>>, Al
 
 /// The members of those values that are objects with just one.
 pub(crate) fn named<'a>(alloc: Global, values: &'a [Value]) -> Result<Vec<Entry<'a>>, AllocError>
-    ensures { IfOk result (λ found. map seen found.items ≡ filter_map the_only_member (items_in (items_view values.now))) }
+    ensures { IfOk result (λ found. map seen found.items ≡ filter_map the_only_member
+        (items_in (items_view values.now))) }
 {
     let mut found = Vec::new(alloc);
     for value in values {
@@ -56,7 +58,8 @@ fn in_order(mut things: Vec<Entry>) -> Result<Vec<Entry>, AllocError>
 
 /// What a policy aims at: none where it has no targets, and the texts of the list where it is one; else `None`.
 pub fn targets<'a>(alloc: Global, policy: &'a Value) -> Result<Option<Vec<&'a str>>, AllocError>
-    ensures { IfOk result (λ found. option_map (λ texts. map (λ text. text.now) texts.items) found ≡ the_targets (view policy.now)) }
+    ensures { IfOk result (λ found. option_map (λ texts. map (λ text. text.now) texts.items) found
+        ≡ the_targets (view policy.now)) }
 {
     let Some(value) = policy.get("targets") else {
         return Ok(Some(Vec::new(alloc)));
@@ -69,7 +72,8 @@ pub fn targets<'a>(alloc: Global, policy: &'a Value) -> Result<Option<Vec<&'a st
 
 /// The texts of these values, where each is one.
 fn texts<'a>(alloc: Global, values: &'a [Value]) -> Result<Option<Vec<&'a str>>, AllocError>
-    ensures { IfOk result (λ found. option_map (λ texts. map (λ text. text.now) texts.items) found ≡ texts_of (items_in (items_view values.now))) }
+    ensures { IfOk result (λ found. option_map (λ texts. map (λ text. text.now) texts.items) found
+        ≡ texts_of (items_in (items_view values.now))) }
 {
     let mut found = Vec::new(alloc);
     for value in values {

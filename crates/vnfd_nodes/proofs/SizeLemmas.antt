@@ -1,5 +1,6 @@
 -- What digits mean, and how far a front of a text reaches.
-use Rattle.std.proofs.Common.{◌≡◌, ◌≤◌, ◌<◌, ◌+◌, ◌*◌, ℕ, List, [], ◌∷◌, length, take, drop, Bool, true, false, cond, refl, ap, ◌∙◌, arith, add_comm, add-one, zero, suc, get_or, nat_le}
+use Rattle.std.proofs.Common.{◌≡◌, ◌≤◌, ◌<◌, ◌+◌, ◌*◌, ℕ, List, [], ◌∷◌, length, take, drop, Bool, true, false, cond, refl, ap, ◌∙◌, arith}
+use Rattle.std.proofs.Common.{add_comm, add-one, zero, suc, get_or, nat_le}
 use Rattle.std.proofs.Math.Nat.{le-mul_of_pos_right}
 use Rattle.std.proofs.lemmas.Bool.{leb-false, lt-leb}
 use Rattle.std.specs.Char.{digit_value, is_ascii_digit}
@@ -16,7 +17,8 @@ digits_value_after-ge n (d ∷ ds) = omega (arith, digits_value_after-ge (n * 10
 past_from : (n m d : ℕ) (ds : List ℕ) → m < n * 10 + digit_value d → m < digits_value_after 10 n (d ∷ ds)
 past_from n m d ds over = omega (arith, over, digits_value_after-ge (n * 10 + digit_value d) ds)
 
-pub past_limit : (n i m : ℕ) (ds : List ℕ) → i < length ds → m < n * 10 + digit_value (get_or ds i 0) → m < digits_value_after 10 n (drop i ds)
+pub past_limit : (n i m : ℕ) (ds : List ℕ) → i < length ds → m < n * 10 + digit_value (get_or ds i 0)
+    → m < digits_value_after 10 n (drop i ds)
 past_limit n zero m [] h over = absurd (omega arith)
 past_limit n zero m (d ∷ ds) h over = past_from n m d ds over
 past_limit n (suc i) m [] h over = absurd (omega arith)
@@ -32,7 +34,8 @@ prefix_len-le p (x ∷ xs) = let e = prefix-if (p x) (prefix_len p xs) (length x
 
 digits-if : (b : Bool) (c : ℕ) (cs : List ℕ) → is_ascii_digit c ≡ b → all_ascii_digits (take (prefix_len is_ascii_digit cs) cs) ≡ true
     → all_ascii_digits (take (cond b (1 + prefix_len is_ascii_digit cs) 0) (c ∷ cs)) ≡ true
-digits-if true c cs e h = rw (ap (λ n. take n (c ∷ cs)) (add_comm 1 (prefix_len is_ascii_digit cs) ∙ add-one (prefix_len is_ascii_digit cs))) (rw e h)
+digits-if true c cs e h = rw (ap (λ n. take n (c ∷ cs)) (add_comm 1 (prefix_len is_ascii_digit cs)
+    ∙ add-one (prefix_len is_ascii_digit cs))) (rw e h)
 digits-if false c cs e h = refl
 
 -- the front is digits

@@ -1,5 +1,6 @@
 -- What passes the checks is valid: the VDUs, storages, links and ports of a descriptor that is built of it.
-use Rattle.std.proofs.Common.{◌≡◌, ◌+◌, ◌*◌, codes, ◌&&◌, ◌||◌, ℕ, List, [], ◌∷◌, length, map, Bool, true, false, cond, Option, Some, None, unwrap_or, option_and_then, is_some, nat_le, nat_lt, refl, sym, arith, IfSome, true≢false}
+use Rattle.std.proofs.Common.{◌≡◌, ◌+◌, ◌*◌, codes, ◌&&◌, ◌||◌, ℕ, List, [], ◌∷◌, length, map, Bool, true, false, cond, Option, Some, None}
+use Rattle.std.proofs.Common.{unwrap_or, option_and_then, is_some, nat_le, nat_lt, refl, sym, arith, IfSome, true≢false}
 use Rattle.std.proofs.lemmas.Bool.{and_from, and_parts, le-leb, lt-ltb, leb-true}
 use Rattle.std.specs.Char.{is_ascii_digit}
 use Rattle.std.specs.List.{list_all, take_while}
@@ -18,9 +19,11 @@ use Rattle.vnfd_document.specs.Members.{needed}
 use Rattle.vnfd_document.specs.Names.{is_given_name, is_name, name_or_empty}
 use Rattle.vnfd_document.specs.Places.{node_named, required}
 use Rattle.vnfd_document.proofs.NameOrder.{name_or_empty-given}
-use Rattle.vnfd_document.proofs.CheckLaws.{above_less, given_kept, none_parts, or_zero, read_if, rising_cons, some_then, whole_at_most, within_if}
+use Rattle.vnfd_document.proofs.CheckLaws.{above_less, given_kept, none_parts, or_zero, read_if, rising_cons, some_then, whole_at_most}
+use Rattle.vnfd_document.proofs.CheckLaws.{within_if}
 use Rattle.vnfd_nodes.specs.Built.{aimed_at, is_named, place_of, places_named, port_of, storage_of, vdu_of}
-use Rattle.vnfd_nodes.specs.Nodes.{aim_refusal, aims_refusal, binding_refusal, compute_refusal, cpus_at, is_known, maximum_at, memory_at, port_refusal, size, size_at}
+use Rattle.vnfd_nodes.specs.Nodes.{aim_refusal, aims_refusal, binding_refusal, compute_refusal, cpus_at, is_known, maximum_at, memory_at}
+use Rattle.vnfd_nodes.specs.Nodes.{port_refusal, size, size_at}
 use Rattle.vnfd_nodes.specs.Sizes.{behind, bytes_of, bytes_of_unit, is_space, size_of}
 
 -- ---- small laws
@@ -34,7 +37,8 @@ some_and : (P Q : ℕ → Type 0) (o : Option ℕ) → IfSome o P → ((n : ℕ)
 some_and P Q None h next = tt
 some_and P Q (Some n) h next = next n h
 
-needed_read : (name : List ℕ) (form : Data → Option ℕ) (v : Option Data) → needed name form v ≡ None → is_some (option_and_then form v) ≡ true
+needed_read : (name : List ℕ) (form : Data → Option ℕ) (v : Option Data) → needed name form v ≡ None
+    → is_some (option_and_then form v) ≡ true
 needed_read name form None h = let no : ⊥ = cc in absurd no
 needed_read name form (Some d) h = read_if (is_some (form d)) _ h
 
@@ -48,7 +52,8 @@ bytes_of_small digits None = tt
 bytes_of_small digits (Some u) =
     let size = digits_value 10 digits * u in
     let small = nat_le size 1152921504606846976 in
-    within_if (nat_lt 0 (length digits) && small) size (λ n. nat_le n 1152921504606846976 ≡ true) (λ h. (and_parts (nat_lt 0 (length digits)) small h).1)
+    within_if (nat_lt 0 (length digits) && small) size (λ n. nat_le n 1152921504606846976 ≡ true)
+    (λ h. (and_parts (nat_lt 0 (length digits)) small h).1)
 
 size_small : (d : Data) → IfSome (size d) (λ n. nat_le n 1152921504606846976 ≡ true)
 size_small d =
@@ -59,7 +64,8 @@ size_small d =
 
 -- ---- places
 
-places_above_if : (b : Bool) (n : ℕ) (rest : List ℕ) → list_all (nat_le (n + 1)) rest ≡ true → list_all (nat_le n) (cond b (n ∷ rest) rest) ≡ true
+places_above_if : (b : Bool) (n : ℕ) (rest : List ℕ) → list_all (nat_le (n + 1)) rest ≡ true
+    → list_all (nat_le n) (cond b (n ∷ rest) rest) ≡ true
 places_above_if true n rest h = and_from (nat_le n n) _ (le-leb n n (omega arith)) (above_less n rest h)
 places_above_if false n rest h = above_less n rest h
 
@@ -67,7 +73,8 @@ places_above : (n : ℕ) (xs : List Named) (aims : List Data) → list_all (nat_
 places_above n [] aims = refl
 places_above n (x ∷ xs) aims = places_above_if (is_named x.0 aims) n _ (places_above (n + 1) xs aims)
 
-places_rise_if : (b : Bool) (n : ℕ) (rest : List ℕ) → list_all (nat_le (n + 1)) rest ≡ true → is_rising nat_lt rest ≡ true → is_rising nat_lt (cond b (n ∷ rest) rest) ≡ true
+places_rise_if : (b : Bool) (n : ℕ) (rest : List ℕ) → list_all (nat_le (n + 1)) rest ≡ true → is_rising nat_lt rest ≡ true
+    → is_rising nat_lt (cond b (n ∷ rest) rest) ≡ true
 places_rise_if true n rest above up = rising_cons n rest above up
 places_rise_if false n rest above up = up
 
@@ -75,16 +82,19 @@ places_rise : (n : ℕ) (xs : List Named) (aims : List Data) → is_rising nat_l
 places_rise n [] aims = refl
 places_rise n (x ∷ xs) aims = places_rise_if (is_named x.0 aims) n _ (places_above (n + 1) xs aims) (places_rise (n + 1) xs aims)
 
-places_below_if : (b : Bool) (n m : ℕ) (rest : List ℕ) → nat_lt n m ≡ true → list_all (λ k. nat_lt k m) rest ≡ true → list_all (λ k. nat_lt k m) (cond b (n ∷ rest) rest) ≡ true
+places_below_if : (b : Bool) (n m : ℕ) (rest : List ℕ) → nat_lt n m ≡ true → list_all (λ k. nat_lt k m) rest ≡ true
+    → list_all (λ k. nat_lt k m) (cond b (n ∷ rest) rest) ≡ true
 places_below_if true n m rest h all = and_from (nat_lt n m) _ h all
 places_below_if false n m rest h all = all
 
-places_below : (n m : ℕ) (xs : List Named) (aims : List Data) → n + length xs ≡ m → list_all (λ k. nat_lt k m) (places_named n xs aims) ≡ true
+places_below : (n m : ℕ) (xs : List Named) (aims : List Data) → n + length xs ≡ m
+    → list_all (λ k. nat_lt k m) (places_named n xs aims) ≡ true
 places_below n m [] aims e = refl
 places_below n m (x ∷ xs) aims e =
     places_below_if (is_named x.0 aims) n m _ (lt-ltb n m (omega (arith, e))) (places_below (n + 1) m xs aims (omega (arith, e)))
 
-place_below_if : (b : Bool) (n m : ℕ) (rest : Option ℕ) → nat_lt n m ≡ true → IfSome rest (λ k. nat_lt k m ≡ true) → IfSome (cond b (Some n) rest) (λ k. nat_lt k m ≡ true)
+place_below_if : (b : Bool) (n m : ℕ) (rest : Option ℕ) → nat_lt n m ≡ true → IfSome rest (λ k. nat_lt k m ≡ true)
+    → IfSome (cond b (Some n) rest) (λ k. nat_lt k m ≡ true)
 place_below_if true n m rest h k = h
 place_below_if false n m rest h k = k
 
@@ -93,7 +103,8 @@ place_below n m [] target e = tt
 place_below n m (x ∷ xs) target e =
     place_below_if (bytes_eq target x.0) n m _ (lt-ltb n m (omega (arith, e))) (place_below (n + 1) m xs target (omega (arith, e)))
 
-known_placed_if : (b : Bool) (n : ℕ) (rest : Option ℕ) (others : Bool) → b || others ≡ true → (others ≡ true → is_some rest ≡ true) → is_some (cond b (Some n) rest) ≡ true
+known_placed_if : (b : Bool) (n : ℕ) (rest : Option ℕ) (others : Bool) → b || others ≡ true → (others ≡ true → is_some rest ≡ true)
+    → is_some (cond b (Some n) rest) ≡ true
 known_placed_if true n rest others h next = refl
 known_placed_if false n rest others h next = next h
 
@@ -102,7 +113,8 @@ known_placed n [] target h = absurd (true≢false (sym h))
 known_placed n (x ∷ xs) target h = known_placed_if (bytes_eq target x.0) n _ _ h (known_placed (n + 1) xs target)
 
 -- what aims at something known has a place
-aim_placed : (known : List Named) (aim : Option (List ℕ)) → aim_refusal known aim ≡ None → is_some (option_and_then (place_of 0 known) aim) ≡ true
+aim_placed : (known : List Named) (aim : Option (List ℕ)) → aim_refusal known aim ≡ None
+    → is_some (option_and_then (place_of 0 known) aim) ≡ true
 aim_placed known None h = let no : ⊥ = cc in absurd no
 aim_placed known (Some target) h = known_placed 0 known target (read_if (is_known known target) _ h)
 
@@ -113,7 +125,8 @@ binding_placed vdus (d ∷ ds) h = aim_placed vdus (node_named d) (none_parts (a
 
 aimed_below : (known : List Named) (aims : List Data) → IfSome (aimed_at known aims) (λ k. nat_lt k (length known) ≡ true)
 aimed_below known [] = tt
-aimed_below known (d ∷ ds) = some_then (place_of 0 known) _ (node_named d) (λ target. place_below 0 (length known) known target (omega arith))
+aimed_below known (d ∷ ds) = some_then (place_of 0 known) _ (node_named d)
+    (λ target. place_below 0 (length known) known target (omega arith))
 
 -- ---- what is built is valid
 
@@ -121,7 +134,8 @@ maximum_or : (o : Option ℕ) → IfSome o (λ n. nat_le n 65535 ≡ true) → i
 maximum_or None h = refl
 maximum_or (Some n) h = rw h refl
 
-pub vdu_valid : (d : Vnfd) (storages : List Named) (initial : ℕ) (x : Named) → length d.storages ≡ length storages → nat_le initial 65535 ≡ true
+pub vdu_valid : (d : Vnfd) (storages : List Named) (initial : ℕ) (x : Named) → length d.storages ≡ length storages
+    → nat_le initial 65535 ≡ true
     → compute_refusal x ≡ None → is_given_name x.0 ≡ true → is_valid_vdu d (vdu_of storages initial x) ≡ true
 unfolding vdu_of compute_refusal
 vdu_valid d storages initial x same small passes given =
@@ -139,12 +153,14 @@ vdu_valid d storages initial x same small passes given =
     let has_cpu : nat_le 1 (unwrap_or cpus 0) ≡ true =
     of_some (nat_le 1) 0 cpus cpus_read (some_then (whole 1 65535) (λ n. nat_le 1 n ≡ true) (cpus_at x.1) (whole_at_least 1 65535)) in
     let has_few_cpus : nat_le (unwrap_or cpus 0) 65535 ≡ true =
-    of_some (λ n. nat_le n 65535) 0 cpus cpus_read (some_then (whole 1 65535) (λ n. nat_le n 65535 ≡ true) (cpus_at x.1) (whole_at_most 1 65535)) in
+    of_some (λ n. nat_le n 65535) 0 cpus cpus_read (some_then (whole 1 65535) (λ n. nat_le n 65535 ≡ true) (cpus_at x.1)
+    (whole_at_most 1 65535)) in
     let has_maximum : is_valid_maximum (unwrap_or maximum 4294967295) ≡ true =
     maximum_or maximum (some_then (whole 0 65535) (λ n. nat_le n 65535 ≡ true) (maximum_at x.1) (whole_at_most 0 65535)) in
     let rise = places_rise 0 storages aims in
     let exist = places_below 0 (length d.storages) storages aims (omega (arith, same)) in
-    and_from _ _ (and_from _ _ (and_from _ _ (and_from _ _ (and_from _ _ (and_from _ _ (and_from _ _ has_name has_memory) has_cpu) has_few_cpus) has_maximum) small) rise) exist
+    and_from _ _ (and_from _ _ (and_from _ _ (and_from _ _ (and_from _ _
+    (and_from _ _ (and_from _ _ has_name has_memory) has_cpu) has_few_cpus) has_maximum) small) rise) exist
 
 pub storage_valid : (x : Named) → is_given_name x.0 ≡ true → is_valid_storage (storage_of x) ≡ true
 unfolding storage_of

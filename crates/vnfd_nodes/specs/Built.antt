@@ -1,9 +1,10 @@
--- The VDUs, storages, links and ports that node templates are (SOL 001, node types). The defaults of needed members show in
--- no document that passes the checks.
+-- The VDUs, storages, links and ports that node templates are (SOL 001, node types). The defaults of needed members
+-- show in no document that passes the checks.
 use Rattle.std.specs.List.{list_any}
 use Rattle.std.specs.Option.{option_map_or}
 use Rattle.std.specs.Str.{bytes_eq}
-use Rattle.std.specs.Prelude.{ℕ, List, [], ◌∷◌, ◌+◌, Bool, false, if◌then◌else◌, Option, Some, None, option_and_then, unwrap_or, codes}
+use Rattle.std.specs.Prelude.{ℕ, List, [], ◌∷◌, ◌+◌, Bool, false, if◌then◌else◌, Option, Some, None, option_and_then}
+use Rattle.std.specs.Prelude.{unwrap_or, codes}
 use Rattle.serde_json.specs.Data.{Data}
 use Rattle.lcm_events.specs.declared.descriptor.Port.{Port}
 use Rattle.lcm_events.specs.declared.descriptor.Storage.{Storage}
@@ -20,7 +21,8 @@ is_named key aims = list_any (λ d. option_map_or (bytes_eq key) (node_named d) 
 -- the places, from n on, of those things that one of these values names
 abbrev pub places_named : ℕ → List Named → List Data → List ℕ
 places_named n [] aims = []
-places_named n (x ∷ xs) aims = if is_named x.0 aims then n ∷ places_named (n + 1) xs aims else places_named (n + 1) xs aims
+places_named n (x ∷ xs) aims = if is_named x.0 aims then n ∷ places_named (n + 1) xs aims
+    else places_named (n + 1) xs aims
 
 -- the place, from n on, of the thing with this name
 abbrev pub place_of : ℕ → List Named → List ℕ → Option ℕ

@@ -1,9 +1,10 @@
--- The node templates of a descriptor: the first thing that is wrong with them, and the VDUs, storages, links and ports that
--- they are (SOL 001, node types).
+-- The node templates of a descriptor: the first thing that is wrong with them, and the VDUs, storages, links and ports
+-- that they are (SOL 001, node types).
 use Rattle.std.specs.List.{list_all, list_any}
 use Rattle.std.specs.Option.{option_or}
 use Rattle.std.specs.Str.{bytes_eq}
-use Rattle.std.specs.Prelude.{ℕ, List, [], ◌∷◌, ◌&&◌, Bool, filter, length, nat_le, if◌then◌else◌, Option, Some, None, is_some, option_and_then, unwrap_or, codes}
+use Rattle.std.specs.Prelude.{ℕ, List, [], ◌∷◌, ◌&&◌, Bool, filter, length, nat_le, if◌then◌else◌, Option, Some, None}
+use Rattle.std.specs.Prelude.{is_some, option_and_then, unwrap_or, codes}
 use Rattle.serde_json.specs.Data.{Data}
 use Rattle.serde_json.specs.Find.{as_str}
 use Rattle.vnfd_document.specs.declared.fault.VnfdFault.{VnfdFault}
@@ -29,7 +30,8 @@ pub record Nodes : Type 0 where
 abbrev pub products_in : List Named → List Named
 products_in templates = filter (λ x. is_some (property (codes "descriptor_id") x.1)) templates
 
--- those that describe the product, the VDUs, the storages, the links and the ports among these templates (SOL 001, node types)
+-- those that describe the product, the VDUs, the storages, the links and the ports among these templates (SOL 001, node
+-- types)
 abbrev pub nodes_in : List Named → Nodes
 nodes_in templates = record {
   products = products_in templates;
@@ -54,11 +56,13 @@ name d = option_and_then name_text (as_str d)
 
 -- the memory of a VDU (SOL 001, tosca.datatypes.nfv.VirtualMemory)
 abbrev pub memory_at : Data → Option Data
-memory_at d = at (codes "capabilities" ∷ codes "virtual_compute" ∷ codes "properties" ∷ codes "virtual_memory" ∷ codes "virtual_mem_size" ∷ []) d
+memory_at d = at (codes "capabilities" ∷ codes "virtual_compute" ∷ codes "properties" ∷ codes "virtual_memory"
+    ∷ codes "virtual_mem_size" ∷ []) d
 
 -- the processors of a VDU (SOL 001, tosca.datatypes.nfv.VirtualCpu)
 abbrev pub cpus_at : Data → Option Data
-cpus_at d = at (codes "capabilities" ∷ codes "virtual_compute" ∷ codes "properties" ∷ codes "virtual_cpu" ∷ codes "num_virtual_cpu" ∷ []) d
+cpus_at d = at (codes "capabilities" ∷ codes "virtual_compute" ∷ codes "properties" ∷ codes "virtual_cpu"
+    ∷ codes "num_virtual_cpu" ∷ []) d
 
 -- the greatest number of instances of a VDU (SOL 001, tosca.datatypes.nfv.VduProfile)
 abbrev pub maximum_at : Data → Option Data
@@ -78,7 +82,8 @@ product_refusal (x ∷ y ∷ rest) = Some (Wrong (codes "descriptor_id"))
 
 -- the product's properties are there and names (SOL 001, the node type of a VNF)
 abbrev pub product_properties : List (List ℕ)
-product_properties = codes "descriptor_id" ∷ codes "provider" ∷ codes "product_name" ∷ codes "software_version" ∷ codes "descriptor_version" ∷ codes "flavour_id" ∷ []
+product_properties = codes "descriptor_id" ∷ codes "provider" ∷ codes "product_name" ∷ codes "software_version"
+    ∷ codes "descriptor_version" ∷ codes "flavour_id" ∷ []
 
 abbrev pub property_refusal : Data → List ℕ → Option VnfdFault
 property_refusal d key = needed key name (property key d)
@@ -165,7 +170,8 @@ binding_refusal vdus (d ∷ ds) = aims_refusal vdus (d ∷ ds)
 -- a port's VDU is known, and its link, where it has one
 unfoldable pub port_refusal : List Named → List Named → Named → Option VnfdFault
 port_refusal vdus links x =
-    option_or (binding_refusal vdus (required (codes "virtual_binding") x.1)) (aims_refusal links (required (codes "virtual_link") x.1))
+    option_or (binding_refusal vdus (required (codes "virtual_binding") x.1))
+    (aims_refusal links (required (codes "virtual_link") x.1))
 
 -- the checks of all VDUs, storages and ports
 unfoldable pub computes_refusal : Nodes → Option VnfdFault

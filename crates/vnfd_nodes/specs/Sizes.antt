@@ -3,7 +3,8 @@ use Rattle.std.specs.Char.{is_ascii_digit, to_ascii_lowercase}
 use Rattle.std.specs.List.{prefix_len, take_while}
 use Rattle.std.specs.Str.{bytes_eq}
 use Rattle.std.specs.Str.Parse.{digits_value}
-use Rattle.std.specs.Prelude.{ℕ, List, Bool, Option, Some, None, codes, drop, length, map, nat_le, nat_lt, if◌then◌else◌, ◌==◌, ◌&&◌, ◌*◌}
+use Rattle.std.specs.Prelude.{ℕ, List, Bool, Option, Some, None, codes, drop, length, map, nat_le, nat_lt}
+use Rattle.std.specs.Prelude.{if◌then◌else◌, ◌==◌, ◌&&◌, ◌*◌}
 
 -- the unit has this name, in any case of letters
 abbrev pub is_unit : List ℕ → List ℕ → Bool
@@ -34,7 +35,8 @@ is_space byte = byte == 32
 abbrev pub bytes_of : List ℕ → Option ℕ → Option ℕ
 bytes_of digits None = None
 bytes_of digits (Some unit) =
-    if nat_lt 0 (length digits) && nat_le (digits_value 10 digits * unit) 1152921504606846976 then Some (digits_value 10 digits * unit) else None
+    if nat_lt 0 (length digits) && nat_le (digits_value 10 digits * unit) 1152921504606846976
+    then Some (digits_value 10 digits * unit) else None
 
 -- the size that a text is, in bytes
 abbrev pub size_of : List ℕ → Option ℕ

@@ -1,6 +1,7 @@
 //! The limits of node templates.
 ghost use Rattle.std.specs.Prelude.{◌≡◌};
-ghost use Rattle.vnfd_nodes.specs.declared.bounds.TheConstants.{CPUS, INSTANCES, LINKS, NO_MAXIMUM, PORTS, SIZE, STORAGES, VDUS};
+ghost use Rattle.vnfd_nodes.specs.declared.bounds.TheConstants.{CPUS, INSTANCES, LINKS, NO_MAXIMUM, PORTS, SIZE};
+ghost use Rattle.vnfd_nodes.specs.declared.bounds.TheConstants.{STORAGES, VDUS};
 
 /// The most VDUs of a descriptor.
 pub const VDUS: usize = 64;
@@ -26,8 +27,8 @@ pub const NO_MAXIMUM: u32 = 4_294_967_295;
 /// Bytes of the largest size, 2 ^ 60.
 pub const SIZE: u64 = 1_152_921_504_606_846_976;
 
-/// The limits, as numbers: 64 VDUs, 128 storages, 64 links, 256 ports; 65,535 processors and instances of a VDU, of which
-/// 4,294,967,295 stands for no maximum; sizes of 2 ^ 60 bytes.
+/// The limits, as numbers: 64 VDUs, 128 storages, 64 links, 256 ports; 65,535 processors and instances of a VDU, of
+/// which 4,294,967,295 stands for no maximum; sizes of 2 ^ 60 bytes.
 pub fn limits()
     ensures vdus { VDUS ≡ 64 }
     ensures storages { STORAGES ≡ 128 }

@@ -7,8 +7,10 @@ ghost use Rattle.vnfd_document.specs.Json.{whole};
 ghost use Rattle.vnfd_document.specs.Names.{name_or_empty as the_name_or_empty};
 ghost use Rattle.vnfd_document.specs.Places.{node_named as the_node_named};
 ghost use Rattle.vnfd_document.specs.Seen.{seen};
-ghost use Rattle.vnfd_nodes.specs.Built.{aimed_at as the_aimed_at, is_named as the_is_named, place_of as the_place_of, places_named as the_places_named, port_of, storage_of, vdu_of};
-ghost use Rattle.vnfd_nodes.specs.Nodes.{cpus_at as the_cpus, maximum_at as the_maximum, memory_at as the_memory, size, size_at as the_size};
+ghost use Rattle.vnfd_nodes.specs.Built.{aimed_at as the_aimed_at, is_named as the_is_named, place_of as the_place_of};
+ghost use Rattle.vnfd_nodes.specs.Built.{places_named as the_places_named, port_of, storage_of, vdu_of};
+ghost use Rattle.vnfd_nodes.specs.Nodes.{cpus_at as the_cpus, maximum_at as the_maximum, memory_at as the_memory, size};
+ghost use Rattle.vnfd_nodes.specs.Nodes.{size_at as the_size};
 
 use crate::bounds::{CPUS, INSTANCES, NO_MAXIMUM};
 use crate::members::{cpus_at, maximum_at, memory_at, size_at, size_of_value};
@@ -69,7 +71,8 @@ fn size_of(storage: &Value) -> Option<u64>
 /// The places of those things that one of these values names, rising.
 fn places_named(alloc: Global, things: &[Entry], aims: &[&Value]) -> Result<Vec<u16>, AllocError>
     requires { length things.now ≤ 128 }
-    ensures { IfOk result (λ found. found.items ≡ the_places_named 0 (map seen things.now) (map (λ v. view v.now) aims.now)) }
+    ensures { IfOk result (λ found. found.items ≡ the_places_named 0 (map seen things.now)
+        (map (λ v. view v.now) aims.now)) }
 {
     let mut found = Vec::new(alloc);
     for at in 0..things.len() {
@@ -166,7 +169,8 @@ pub fn ports(
 ) -> Result<Listed<Port>, AllocError>
     requires vdus { length vdus.now ≤ 64 }
     requires links { length links.now ≤ 64 }
-    ensures { IfOk result (λ found. found ≡ map (port_of (map seen vdus.now) (map seen links.now)) (map seen templates.now)) }
+    ensures { IfOk result (λ found. found ≡ map (port_of (map seen vdus.now) (map seen links.now))
+        (map seen templates.now)) }
 {
     let mut found = Vec::new(alloc);
     for template in templates {

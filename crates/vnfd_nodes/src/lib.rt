@@ -1,4 +1,5 @@
-//! The node templates of a descriptor: what is wrong with them first, and the VDUs, storages, links and ports that they are.
+//! The node templates of a descriptor: what is wrong with them first, and the VDUs, storages, links and ports that they
+//! are.
 #![tactic(auto)]
 
 mod bounds;

@@ -2,7 +2,8 @@
 ghost use Rattle.std.specs.Prelude.{◌≡◌, option_map};
 ghost use Rattle.serde_json.specs.View.{view};
 ghost use Rattle.vnfd_document.specs.Places.{property};
-ghost use Rattle.vnfd_nodes.specs.Nodes.{cpus_at as the_cpus, maximum_at as the_maximum, memory_at as the_memory, name as the_name, property_of as the_property, size, size_at as the_size};
+ghost use Rattle.vnfd_nodes.specs.Nodes.{cpus_at as the_cpus, maximum_at as the_maximum, memory_at as the_memory};
+ghost use Rattle.vnfd_nodes.specs.Nodes.{name as the_name, property_of as the_property, size, size_at as the_size};
 
 use crate::sizes::size_in;
 use serde_json::Value;

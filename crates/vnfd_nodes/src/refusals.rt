@@ -8,7 +8,14 @@ ghost use Rattle.vnfd_document.specs.Places.{node_named as the_node_named};
 ghost use Rattle.vnfm_base.specs.Text.{is_label};
 ghost use Rattle.vnfd_document.specs.Seen.{seen};
 ghost use Rattle.vnfd_nodes.specs.Seen.{nodes_seen};
-ghost use Rattle.vnfd_nodes.specs.Nodes.{aim_refusal, aims_refusal, binding_refusal, compute_refusal, computes_refusal, empties_refusal, maxima_refusal, missing_refusal, ports_refusal, sizes_refusal, storage_refusal, cpus_at as the_cpus, memory_at as the_memory, size, count_refusal, counts_refusal, empty_refusal, have_names as names_are_given, have_all_names as all_names_are_given, is_known as the_known, maximum_refusal, port_refusal, product_refusal, properties_refusal, property_refusal, size_refusal, storages_refusal, templates_refusal};
+ghost use Rattle.vnfd_nodes.specs.Nodes.{aim_refusal, aims_refusal, binding_refusal, compute_refusal, computes_refusal};
+ghost use Rattle.vnfd_nodes.specs.Nodes.{empties_refusal, maxima_refusal, missing_refusal, ports_refusal};
+ghost use Rattle.vnfd_nodes.specs.Nodes.{sizes_refusal, storage_refusal, cpus_at as the_cpus, memory_at as the_memory};
+ghost use Rattle.vnfd_nodes.specs.Nodes.{size, count_refusal, counts_refusal, empty_refusal};
+ghost use Rattle.vnfd_nodes.specs.Nodes.{have_names as names_are_given, have_all_names as all_names_are_given};
+ghost use Rattle.vnfd_nodes.specs.Nodes.{is_known as the_known, maximum_refusal, port_refusal, product_refusal};
+ghost use Rattle.vnfd_nodes.specs.Nodes.{properties_refusal, property_refusal, size_refusal, storages_refusal};
+ghost use Rattle.vnfd_nodes.specs.Nodes.{templates_refusal};
 
 use crate::bounds::{CPUS, INSTANCES, LINKS, PORTS, STORAGES, VDUS};
 use crate::members::{

@@ -28,7 +28,8 @@ pub fn size_in(text: &str) -> Option<u64>
 fn size_from(digits: &[u8], unit: u64) -> Option<u64>
     requires digits { all_ascii_digits digits.now ≡ true }
     requires unit { 1 ≤ unit }
-    ensures { result ≡ (if nat_le (digits_value 10 digits.now * unit) 1152921504606846976 then Some (digits_value 10 digits.now * unit) else None) }
+    ensures { result ≡ (if nat_le (digits_value 10 digits.now * unit) 1152921504606846976
+        then Some (digits_value 10 digits.now * unit) else None) }
 {
     let number = decimal(digits)?;
     let size = number.checked_mul(unit)?;
@@ -65,7 +66,8 @@ fn spaces_len(bytes: &[u8]) -> usize
 #[tactic(auto, using(crate::proofs::SizeLemmas::size_steps))]
 fn decimal(digits: &[u8]) -> Option<u64>
     requires { all_ascii_digits digits.now ≡ true }
-    ensures { result ≡ (if nat_le (digits_value 10 digits.now) 1152921504606846976 then Some (digits_value 10 digits.now) else None) }
+    ensures { result ≡ (if nat_le (digits_value 10 digits.now) 1152921504606846976
+        then Some (digits_value 10 digits.now) else None) }
 {
     let mut number = 0;
     for digit in digits {

@@ -1,5 +1,6 @@
 -- What passes the checks of policies has its aspects and its levels in byte order of their names, each once.
-use Rattle.std.proofs.Common.{◌≡◌, codes, ◌++◌, ℕ, List, [], ◌∷◌, map, Bool, true, Option, Some, None, refl, ap, sym, ◌∙◌, subst, IfSome, append-nil}
+use Rattle.std.proofs.Common.{◌≡◌, codes, ◌++◌, ℕ, List, [], ◌∷◌, map, Bool, true, Option, Some, None, refl, ap, sym, ◌∙◌, subst, IfSome}
+use Rattle.std.proofs.Common.{append-nil}
 use Rattle.std.proofs.lemmas.Bool.{and_parts}
 use Rattle.std.specs.List.{flat_map, list_all}
 use Rattle.serde_json.specs.Data.{Data}
@@ -23,7 +24,8 @@ names_of : {A : Type 0} (f : Named → A) (name : A → List ℕ) (xs : List Nam
 names_of f name [] = refl
 names_of f name (x ∷ xs) = ap (λ (ns : List (List ℕ)). name (f x) ∷ ns) (names_of f name xs)
 
-members_sorted : (o : Option Data) → IfSome o InOrder → list_all (λ x. is_given_name x.0) (members_at o) ≡ true → are_sorted (map (λ x. name_or_empty x.0) (members_at o)) ≡ true
+members_sorted : (o : Option Data) → IfSome o InOrder → list_all (λ x. is_given_name x.0) (members_at o) ≡ true
+    → are_sorted (map (λ x. name_or_empty x.0) (members_at o)) ≡ true
 members_sorted None h given = refl
 members_sorted (Some d) h given = sorted-names (members_of d) (rises-members d h) given
 
@@ -53,7 +55,8 @@ aspects_sorted vdus policies h passes given =
     (aspects_sorted_by (of_type scaling_aspects policies) (in_order-of_type scaling_aspects policies h) form given)
 
 levels_sorted_by : (all with_levels : List Named) → AllInOrder with_levels → policies_with_levels_refusal all with_levels ≡ None
-    → list_all (λ x. is_given_name x.0) (flat_map (λ p. levels_in p.1) with_levels) ≡ true → are_sorted (map (λ l. l.name) (levels_by all with_levels)) ≡ true
+    → list_all (λ x. is_given_name x.0) (flat_map (λ p. levels_in p.1) with_levels) ≡ true
+    → are_sorted (map (λ l. l.name) (levels_by all with_levels)) ≡ true
 levels_sorted_by all [] h passes given = refl
 levels_sorted_by all (p ∷ []) h passes given =
     subst (λ (names : List (List ℕ)). are_sorted names ≡ true) (sym (names_of (level_of all) (λ l. l.name) (levels_in p.1)))
@@ -66,5 +69,6 @@ pub levels_sorted : (vdus policies : List Named) → AllInOrder policies → pol
 unfolding levels_of policy_names
 levels_sorted vdus policies h passes given =
     let of_levels = flat_map (λ p. levels_in p.1) (of_type instantiation_levels policies) in
-    levels_sorted_by (aspects policies) (of_type instantiation_levels policies) (in_order-of_type instantiation_levels policies h) (levels_pass vdus policies passes)
+    levels_sorted_by (aspects policies) (of_type instantiation_levels policies) (in_order-of_type instantiation_levels policies h)
+    (levels_pass vdus policies passes)
     (and_parts (list_all (λ a. is_given_name a.0) (aspects policies)) _ (sym (names_given (aspects policies) of_levels) ∙ given)).1

@@ -1,5 +1,6 @@
 -- Steps that are the same, however often each stands, are refused alike.
-use Rattle.std.proofs.Common.{◌≡◌, ◌&&◌, ◌||◌, ◌++◌, ℕ, List, [], ◌∷◌, length, map, Bool, true, false, cond, Option, Some, None, nat_eq, codes, refl, ap, sym, ◌∙◌, suc, subst, Bor}
+use Rattle.std.proofs.Common.{◌≡◌, ◌&&◌, ◌||◌, ◌++◌, ℕ, List, [], ◌∷◌, length, map, Bool, true, false, cond, Option, Some, None, nat_eq}
+use Rattle.std.proofs.Common.{codes, refl, ap, sym, ◌∙◌, suc, subst, Bor}
 use Rattle.std.proofs.lemmas.Slice.Eq.{bytes_eq-Decides}
 use Rattle.std.specs.List.{list_all, list_any}
 use Rattle.std.specs.Prelude.{is_some}
@@ -52,14 +53,18 @@ further : (a b c : Bool) → b ≡ (b && c) → (a && b) ≡ ((a && b) && c)
 further true b c h = h
 further false b c h = refl
 
-absorbed_if : (test : Data → Bool) (x y : Data) (b : Bool) (ys : List Data) → are_same_text y x ≡ b → (b || list_any (are_same_text y) ys) ≡ true
-    → (list_any (are_same_text y) ys ≡ true → list_all test ys ≡ (list_all test ys && test y)) → (test x && list_all test ys) ≡ ((test x && list_all test ys) && test y)
+absorbed_if : (test : Data → Bool) (x y : Data) (b : Bool) (ys : List Data) → are_same_text y x ≡ b
+    → (b || list_any (are_same_text y) ys) ≡ true
+    → (list_any (are_same_text y) ys ≡ true → list_all test ys ≡ (list_all test ys && test y))
+    → (test x && list_all test ys) ≡ ((test x && list_all test ys) && test y)
 absorbed_if test x y true ys same h rest =
-    subst (λ (z : Data). (test x && list_all test ys) ≡ ((test x && list_all test ys) && test z)) (sym (same_text y x same)) (twice (test x) (list_all test ys))
+    subst (λ (z : Data). (test x && list_all test ys) ≡ ((test x && list_all test ys) && test z)) (sym (same_text y x same))
+    (twice (test x) (list_all test ys))
 absorbed_if test x y false ys same h rest = further (test x) (list_all test ys) (test y) (rest h)
 
 -- what is there already adds nothing
-pub absorbed : (test : Data → Bool) (xs : List Data) (y : Data) → list_any (are_same_text y) xs ≡ true → list_all test xs ≡ (list_all test xs && test y)
+pub absorbed : (test : Data → Bool) (xs : List Data) (y : Data) → list_any (are_same_text y) xs ≡ true
+    → list_all test xs ≡ (list_all test xs && test y)
 absorbed test [] y h = let no : ⊥ = cc in absurd no
 absorbed test (x ∷ xs) y h = absorbed_if test x y (are_same_text y x) xs refl h (absorbed test xs y)
 

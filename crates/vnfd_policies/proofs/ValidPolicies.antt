@@ -20,7 +20,8 @@ use Rattle.vnfd_policies.proofs.SortedLaws as in_order
 use Rattle.vnfd_policies.proofs.ValidLaws as of_aspects
 
 -- there are at most 16 aspects
-pub few_aspects : (vdus policies : List Named) → policies_refusal vdus policies ≡ None → nat_le (length (aspects_of vdus policies)) 16 ≡ true
+pub few_aspects : (vdus policies : List Named) → policies_refusal vdus policies ≡ None
+    → nat_le (length (aspects_of vdus policies)) 16 ≡ true
 few_aspects vdus policies passes = of_aspects.aspects_few vdus policies passes
 
 -- there are at most 64 levels
@@ -28,22 +29,26 @@ pub few_levels : (vdus policies : List Named) → policies_refusal vdus policies
 few_levels vdus policies passes = of_levels.levels_few vdus policies passes
 
 -- the default level is one of the levels
-pub default_exists : (vdus policies : List Named) → policies_refusal vdus policies ≡ None → nat_lt (default_of policies) (length (levels_of policies)) ≡ true
+pub default_exists : (vdus policies : List Named) → policies_refusal vdus policies ≡ None
+    → nat_lt (default_of policies) (length (levels_of policies)) ≡ true
 default_exists vdus policies passes = of_levels.default_below vdus policies passes
 
-aspects_given : (policies : List Named) → list_all is_given_name (policy_names policies) ≡ true → list_all (λ a. is_given_name a.0) (aspects policies) ≡ true
+aspects_given : (policies : List Named) → list_all is_given_name (policy_names policies) ≡ true
+    → list_all (λ a. is_given_name a.0) (aspects policies) ≡ true
 unfolding policy_names
 aspects_given policies given =
     let levels = flat_map (λ p. levels_in p.1) (of_type instantiation_levels policies) in
     (and_parts (list_all (λ a. is_given_name a.0) (aspects policies)) _ (sym (names_given (aspects policies) levels) ∙ given)).0
 
 -- the aspects are in byte order of their names, each once
-pub aspects_sorted : (vdus policies : List Named) → AllInOrder policies → list_all is_given_name (policy_names policies) ≡ true → policies_refusal vdus policies ≡ None
+pub aspects_sorted : (vdus policies : List Named) → AllInOrder policies → list_all is_given_name (policy_names policies) ≡ true
+    → policies_refusal vdus policies ≡ None
     → are_sorted (map (λ a. a.name) (aspects_of vdus policies)) ≡ true
 aspects_sorted vdus policies ordered given passes = in_order.aspects_sorted vdus policies ordered passes (aspects_given policies given)
 
 -- the levels are in byte order of their names, each once
-pub levels_sorted : (vdus policies : List Named) → AllInOrder policies → list_all is_given_name (policy_names policies) ≡ true → policies_refusal vdus policies ≡ None
+pub levels_sorted : (vdus policies : List Named) → AllInOrder policies → list_all is_given_name (policy_names policies) ≡ true
+    → policies_refusal vdus policies ≡ None
     → are_sorted (map (λ l. l.name) (levels_of policies)) ≡ true
 levels_sorted vdus policies ordered given passes = in_order.levels_sorted vdus policies ordered passes given
 
@@ -51,7 +56,8 @@ levels_sorted vdus policies ordered given passes = in_order.levels_sorted vdus p
 pub aspects_valid : (d : Vnfd) (vdus policies : List Named) → length d.vdus ≡ length vdus → AllInOrder policies
     → list_all is_given_name (policy_names policies) ≡ true → policies_refusal vdus policies ≡ None
     → list_all (is_valid_aspect d) (aspects_of vdus policies) ≡ true
-aspects_valid d vdus policies same ordered given passes = of_aspects.aspects_valid d vdus policies same passes (aspects_given policies given)
+aspects_valid d vdus policies same ordered given passes = of_aspects.aspects_valid d vdus policies same passes
+    (aspects_given policies given)
 
 -- each level is valid, in a descriptor with these aspects
 pub levels_valid : (d : Vnfd) (vdus policies : List Named) → d.aspects ≡ aspects_of vdus policies → AllInOrder policies

@@ -1,7 +1,8 @@
 -- Scaling aspects, and why they are refused (SOL 001, ScalingAspects; limits: own rule).
 use Rattle.std.specs.List.{flat_map, list_all}
 use Rattle.std.specs.Option.{option_map_or}
-use Rattle.std.specs.Prelude.{ℕ, List, [], ◌∷◌, length, ◌==◌, ◌&&◌, ◌||◌, Bool, if◌then◌else◌, is_some, Option, Some, None, option_and_then, unwrap_or, codes}
+use Rattle.std.specs.Prelude.{ℕ, List, [], ◌∷◌, length, ◌==◌, ◌&&◌, ◌||◌, Bool, if◌then◌else◌, is_some, Option, Some}
+use Rattle.std.specs.Prelude.{None, option_and_then, unwrap_or, codes}
 use Rattle.serde_json.specs.Data.{Data, Items}
 use Rattle.serde_json.specs.Find.{get, as_array, as_object, as_str}
 use Rattle.vnfd_document.specs.declared.fault.VnfdFault.{VnfdFault}
@@ -44,9 +45,11 @@ maximum_refusal a = needed (codes "max_scale_level") (whole 0 1000) (get (codes 
 
 -- why an aspect's steps are refused, which are passed over where its greatest level is 0
 abbrev pub steps_refusal : Named → Option VnfdFault
-steps_refusal a = if maximum a.1 == 0 then None else needed (codes "step_deltas") (step_list (maximum a.1)) (get (codes "step_deltas") a.1)
+steps_refusal a = if maximum a.1 == 0 then None else needed (codes "step_deltas") (step_list (maximum a.1))
+    (get (codes "step_deltas") a.1)
 
--- why the aspects are refused: the form of the policy, then their number, then each one's greatest level, then each one's steps
+-- why the aspects are refused: the form of the policy, then their number, then each one's greatest level, then each
+-- one's steps
 abbrev pub aspects_refusal : List Named → Option VnfdFault
 aspects_refusal policies =
     first_fault (form_refusal (of_type scaling_aspects policies) ∷ too_many 16 (codes "aspects") (aspects policies)

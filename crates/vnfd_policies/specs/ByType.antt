@@ -2,7 +2,8 @@
 use Rattle.std.specs.Prelude.{◌≡◌, map}
 use Rattle.vnfd_document.specs.Places.{of_type}
 use Rattle.vnfd_document.specs.Seen.{seen}
-use Rattle.vnfd_policies.specs.Policies.{aspect_deltas, initial_delta, instantiation_levels, scaling_aspects, vdu_levels}
+use Rattle.vnfd_policies.specs.Policies.{aspect_deltas, initial_delta, instantiation_levels, scaling_aspects}
+use Rattle.vnfd_policies.specs.Policies.{vdu_levels}
 use Rattle.vnfd_policies.specs.declared.by_type.Policies.{Policies}
 
 -- those with aspects are those of all that are of this type

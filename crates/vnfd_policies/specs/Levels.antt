@@ -1,7 +1,8 @@
 -- Instantiation levels, and why they are refused (SOL 001, InstantiationLevels; limits and defaults: own rule).
 use Rattle.std.specs.List.{position_from}
 use Rattle.std.specs.Option.{option_map_or, option_or}
-use Rattle.std.specs.Prelude.{ℕ, List, [], ◌∷◌, length, nat_le, if◌then◌else◌, is_some, map, find, Option, Some, None, option_and_then, option_map, unwrap_or, codes}
+use Rattle.std.specs.Prelude.{ℕ, List, [], ◌∷◌, length, nat_le, if◌then◌else◌, is_some, map, find, Option, Some, None}
+use Rattle.std.specs.Prelude.{option_and_then, option_map, unwrap_or, codes}
 use Rattle.std.specs.Str.{bytes_eq}
 use Rattle.lcm_events.specs.declared.descriptor.Level.{Level}
 use Rattle.serde_json.specs.Data.{Data}
@@ -24,10 +25,12 @@ abbrev pub none_refusal : List Named → Option VnfdFault
 none_refusal [] = Some (Lacks (codes "levels"))
 none_refusal (l ∷ levels) = None
 
--- why a scale level is refused: it is no whole number up to this greatest level (SOL 001, InstantiationLevels, scale_level)
+-- why a scale level is refused: it is no whole number up to this greatest level (SOL 001, InstantiationLevels,
+-- scale_level)
 abbrev pub number_refusal : ℕ → Data → Option VnfdFault
 number_refusal most scale =
-    if is_some (option_and_then (whole 0 most) (get (codes "scale_level") scale)) then None else Some (Wrong (codes "scale_level"))
+    if is_some (option_and_then (whole 0 most) (get (codes "scale_level") scale)) then None
+    else Some (Wrong (codes "scale_level"))
 
 -- why the scale level of an aspect is refused: there is no such aspect, or its number is refused
 abbrev pub level_of_refusal : Named → Option Named → Option VnfdFault
@@ -50,7 +53,8 @@ abbrev pub default_refusal : List Named → Option Data → Option VnfdFault
 default_refusal levels None = if nat_le (length levels) 1 then None else Some (Lacks (codes "default_level"))
 default_refusal levels (Some d) = default_text_refusal levels (as_str d)
 
--- why a policy with levels is refused: it has no level, or too many, or a level that is refused, or a default level that is
+-- why a policy with levels is refused: it has no level, or too many, or a level that is refused, or a default level
+-- that is
 abbrev pub policy_levels_refusal : List Named → Data → Option VnfdFault
 policy_levels_refusal all policy =
     first_fault (none_refusal (levels_in policy) ∷ too_many 64 (codes "levels") (levels_in policy)
@@ -67,9 +71,11 @@ policies_with_levels_refusal all (p ∷ q ∷ more) = Some (Wrong (codes "levels
 abbrev pub levels_refusal : List Named → Option VnfdFault
 levels_refusal policies = policies_with_levels_refusal (aspects policies) (of_type instantiation_levels policies)
 
--- the scale level of an aspect at a level, a whole number up to its greatest level, and 0 where it gives none (default: own rule)
+-- the scale level of an aspect at a level, a whole number up to its greatest level, and 0 where it gives none (default:
+-- own rule)
 abbrev pub number_at : Data → Named → ℕ
-number_at level aspect = unwrap_or (option_and_then (whole 0 (maximum aspect.1)) (at (codes "scale_info" ∷ aspect.0 ∷ codes "scale_level" ∷ []) level)) 0
+number_at level aspect = unwrap_or (option_and_then (whole 0 (maximum aspect.1))
+    (at (codes "scale_info" ∷ aspect.0 ∷ codes "scale_level" ∷ []) level)) 0
 
 -- a level, with the scale level of each aspect
 abbrev pub level_of : List Named → Named → Level
@@ -90,7 +96,8 @@ first_name (l ∷ levels) = l.0
 
 -- the name of the default level of a policy: the one that it names, else its first level's
 abbrev pub default_name_in : Data → List ℕ
-default_name_in policy = unwrap_or (option_and_then as_str (property (codes "default_level") policy)) (first_name (levels_in policy))
+default_name_in policy = unwrap_or (option_and_then as_str (property (codes "default_level") policy))
+    (first_name (levels_in policy))
 
 -- the name of the default level, which is `default` where no policy has levels (own rule)
 abbrev pub default_name_by : List Named → List ℕ
@@ -100,10 +107,11 @@ default_name_by (p ∷ more) = default_name_in p.1
 abbrev pub default_name : List Named → List ℕ
 default_name policies = default_name_by (of_type instantiation_levels policies)
 
--- the number of the default level among the levels, which is 0 where no policy has levels. A document that isn't refused has at
--- most 64 levels; of one that is, a number past 16 bits is 0 (own rule)
+-- the number of the default level among the levels, which is 0 where no policy has levels. A document that isn't
+-- refused has at most 64 levels; of one that is, a number past 16 bits is 0 (own rule)
 abbrev pub default_number : Data → ℕ
-default_number policy = unwrap_or (option_and_then (within 0 65535) (position_from (λ l. bytes_eq l.0 (default_name_in policy)) 0 (levels_in policy))) 0
+default_number policy = unwrap_or (option_and_then (within 0 65535)
+    (position_from (λ l. bytes_eq l.0 (default_name_in policy)) 0 (levels_in policy))) 0
 
 abbrev pub default_by : List Named → ℕ
 default_by [] = 0

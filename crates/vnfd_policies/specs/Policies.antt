@@ -1,8 +1,9 @@
--- Policies on scaling: their types, what stands in them, and which VDUs they aim at (SOL 001, policy types; TOSCA Simple
--- Profile 1.2, targets).
+-- Policies on scaling: their types, what stands in them, and which VDUs they aim at (SOL 001, policy types; TOSCA
+-- Simple Profile 1.2, targets).
 use Rattle.std.specs.List.{list_any}
 use Rattle.std.specs.Option.{option_map_or, option_or}
-use Rattle.std.specs.Prelude.{ℕ, List, [], ◌∷◌, ◌++◌, length, nat_lt, Bool, false, if◌then◌else◌, Option, Some, None, codes}
+use Rattle.std.specs.Prelude.{ℕ, List, [], ◌∷◌, ◌++◌, length, nat_lt, Bool, false, if◌then◌else◌, Option, Some, None}
+use Rattle.std.specs.Prelude.{codes}
 use Rattle.std.specs.Str.{bytes_eq}
 use Rattle.serde_json.specs.Data.{Data}
 use Rattle.vnfd_document.specs.declared.fault.VnfdFault.{VnfdFault}
@@ -57,7 +58,8 @@ too_many most name xs = if nat_lt most (length xs) then Some (TooMany name) else
 abbrev pub unknown_in : List Named → List ℕ → Option VnfdFault
 unknown_in xs name = if is_named name xs then None else Some (unknown name)
 
--- why the targets of a policy are refused: they have another form than a list of texts, or the first of them that names no VDU
+-- why the targets of a policy are refused: they have another form than a list of texts, or the first of them that names
+-- no VDU
 abbrev pub targets_refusal : List Named → Option (List (List ℕ)) → Option VnfdFault
 targets_refusal vdus None = Some (Wrong (codes "targets"))
 targets_refusal vdus (Some names) = first_failing (unknown_in vdus) names

@@ -1,6 +1,8 @@
--- The aspects of a descriptor, with a row of deltas for each VDU that has some (SOL 001, ScalingAspects, VduScalingAspectDeltas).
+-- The aspects of a descriptor, with a row of deltas for each VDU that has some (SOL 001, ScalingAspects,
+-- VduScalingAspectDeltas).
 use Rattle.std.specs.List.{enumerate_from, filter_map}
-use Rattle.std.specs.Prelude.{ℕ, List, length, ◌==◌, if◌then◌else◌, map, filter, find, Option, option_and_then, option_map, unwrap_or, codes}
+use Rattle.std.specs.Prelude.{ℕ, List, length, ◌==◌, if◌then◌else◌, map, filter, find, Option, option_and_then}
+use Rattle.std.specs.Prelude.{option_map, unwrap_or, codes}
 use Rattle.std.specs.Str.{bytes_eq}
 use Rattle.lcm_events.specs.declared.descriptor.Aspect.{Aspect}
 use Rattle.lcm_events.specs.declared.descriptor.Row.{Row}
@@ -23,7 +25,8 @@ deltas_by policy names = map (delta_in (property (codes "deltas") policy)) names
 -- the row of the VDU of this number and name: that of the policy that aims at it
 abbrev pub row_of : Data → List Named → ℕ → List ℕ → Option Row
 row_of aspect policies number vdu =
-    option_map (λ p. record { vdu = number; deltas = deltas_by p.1 (steps aspect) }) (find (λ p. aims_at vdu p.1) policies)
+    option_map (λ p. record { vdu = number; deltas = deltas_by p.1 (steps aspect) })
+    (find (λ p. aims_at vdu p.1) policies)
 
 -- the rows of an aspect in order of VDU, by the policies that are for it
 abbrev pub rows_of : List Named → List Named → Data → List Row
@@ -40,7 +43,13 @@ step_count aspect = if length (steps aspect) == 1 then 1 else maximum aspect
 -- an aspect with its rows
 abbrev pub aspect_of : List Named → List Named → Named → Aspect
 aspect_of vdus policies a =
-    record { name = name_or_empty a.0; maximum = maximum a.1; steps = step_count a.1; rows = rows_of vdus (policies_for a.0 policies) a.1 }
+    record {
+      name = name_or_empty a.0;
+      maximum = maximum a.1;
+      steps = step_count a.1;
+      rows =
+          rows_of vdus (policies_for a.0 policies) a.1;
+    }
 
 -- the aspects, in byte order of their names
 unfoldable pub aspects_of : List Named → List Named → List Aspect

@@ -14,8 +14,8 @@ pub const INSTANCES: u32 = 65_535;
 /// The most levels of a descriptor.
 pub const LEVELS: usize = 64;
 
-/// The limits, as numbers: 16 aspects, each with levels to 1,000; 65,535 instances that a step adds or that a VDU has at first;
-/// 64 levels.
+/// The limits, as numbers: 16 aspects, each with levels to 1,000; 65,535 instances that a step adds or that a VDU has
+/// at first; 64 levels.
 pub fn limits()
     ensures aspects { ASPECTS ≡ 16 }
     ensures maximum { MAXIMUM ≡ 1000 }

@@ -1,5 +1,6 @@
 //! What each step of an aspect adds to a VDU, and why that is refused.
-ghost use Rattle.std.specs.Prelude.{◌≡◌, ◌++◌, IfOk, IfSome, codes, find, is_some, map, option_map, option_and_then, [], unwrap_or, if◌then◌else◌, Some, None};
+ghost use Rattle.std.specs.Prelude.{◌≡◌, ◌++◌, IfOk, IfSome, codes, find, is_some, map, option_map, option_and_then};
+ghost use Rattle.std.specs.Prelude.{[], unwrap_or, if◌then◌else◌, Some, None};
 ghost use Rattle.std.specs.List.{list_all, list_any};
 ghost use Rattle.std.specs.Option.{option_map_or};
 ghost use Rattle.serde_json.specs.Find.{as_str, get};
@@ -13,7 +14,10 @@ ghost use Rattle.vnfd_document.specs.Seen.{seen};
 ghost use Rattle.vnfd_policies.specs.Aspects.{steps as the_steps};
 ghost use Rattle.vnfd_policies.specs.AspectsSeen.{aspect_seen};
 ghost use Rattle.vnfd_policies.specs.Cells.{cell};
-ghost use Rattle.vnfd_policies.specs.Deltas.{all_deltas_refusal, aspect_name as the_aspect_name, aspect_refusal, cells as the_cells, deltas_for, deltas_refusal, is_cell_in, policies_refusal_after, single_refusal, step_delta as the_step_delta, steps_of as the_steps_of, text_refusal};
+ghost use Rattle.vnfd_policies.specs.Deltas.{all_deltas_refusal, aspect_name as the_aspect_name, aspect_refusal};
+ghost use Rattle.vnfd_policies.specs.Deltas.{cells as the_cells, deltas_for, deltas_refusal, is_cell_in};
+ghost use Rattle.vnfd_policies.specs.Deltas.{policies_refusal_after, single_refusal, step_delta as the_step_delta};
+ghost use Rattle.vnfd_policies.specs.Deltas.{steps_of as the_steps_of, text_refusal};
 ghost use Rattle.vnfd_policies.specs.ByType.{HaveAspects, HaveDeltas};
 
 use crate::aspect_steps::Steps;
@@ -33,8 +37,8 @@ pub struct Cell<'a> {
     pub vdu: &'a str,
 }
 
-/// The first thing that is wrong with the policies that give deltas: of each in turn its aspect, its targets, its deltas, and
-/// whether a VDU has deltas of the aspect already.
+/// The first thing that is wrong with the policies that give deltas: of each in turn its aspect, its targets, its
+/// deltas, and whether a VDU has deltas of the aspect already.
 ///
 /// Source: SOL 001, tosca.policies.nfv.VduScalingAspectDeltas.
 pub fn refuse_deltas<'a>(
@@ -65,7 +69,8 @@ fn refuse_each<'a>(
     policies: &[Entry<'a>],
 ) -> Result<(), VnfdFault>
     requires { map aspect_seen steps.now ≡ map seen aspects.now }
-    ensures { Refuses result (policies_refusal_after (map seen vdus.now) (map seen aspects.now) [] (map seen policies.now)) }
+    ensures { Refuses result (policies_refusal_after (map seen vdus.now) (map seen aspects.now) []
+        (map seen policies.now)) }
 {
     let mut taken: Vec<Cell> = Vec::new(alloc);
     for policy in policies {
@@ -82,8 +87,10 @@ fn take_cells<'a>(
     policy: &'a Value,
     taken: &mut Vec<Cell<'a>>,
 ) -> Result<(), VnfdFault>
-    ensures refuses { Refuses result (if list_any (is_cell_in (map cell taken.old.items)) (the_cells (map seen vdus.now) (view policy.now)) then Some (Wrong (codes "deltas")) else None) }
-    ensures taken { IfOk result (λ done. map cell taken.new.items ≡ map cell taken.old.items ++ the_cells (map seen vdus.now) (view policy.now)) }
+    ensures refuses { Refuses result (if list_any (is_cell_in (map cell taken.old.items))
+        (the_cells (map seen vdus.now) (view policy.now)) then Some (Wrong (codes "deltas")) else None) }
+    ensures taken { IfOk result (λ done. map cell taken.new.items
+        ≡ map cell taken.old.items ++ the_cells (map seen vdus.now) (view policy.now)) }
 {
     let cells = cells(alloc, vdus, policy)?;
     if is_any_taken(taken.as_slice(), cells.as_slice()) {
@@ -111,7 +118,8 @@ fn refuse_policy(
 
 /// The aspect that a policy is for is there, and one of the aspects.
 fn refuse_aspect(aspects: &[Entry], policy: &Value) -> Result<(), VnfdFault>
-    ensures { fault_of result ≡ aspect_refusal (map seen aspects.now) (the_property (codes "aspect") (view policy.now)) }
+    ensures { fault_of result ≡ aspect_refusal (map seen aspects.now)
+        (the_property (codes "aspect") (view policy.now)) }
 {
     match property(policy, "aspect") {
         Some(value) => refuse_aspect_name(aspects, value),
@@ -140,7 +148,8 @@ pub fn aspect_name(policy: &Value) -> &str
 
 /// Where there is a step of the policy's aspect to look up, its deltas are there, with one for each step.
 fn refuse_missing_deltas(steps: &[Steps], policy: &Value) -> Result<(), VnfdFault>
-    ensures { fault_of result ≡ deltas_refusal (the_steps_of (map aspect_seen steps.now) (the_aspect_name (view policy.now))) (the_property (codes "deltas") (view policy.now)) }
+    ensures { fault_of result ≡ deltas_refusal (the_steps_of (map aspect_seen steps.now)
+        (the_aspect_name (view policy.now))) (the_property (codes "deltas") (view policy.now)) }
 {
     match steps_named(steps, aspect_name(policy)) {
         Some(steps) => refuse_deltas_of(steps.names.as_slice(), policy),
@@ -160,7 +169,8 @@ pub fn steps(aspect: &Value) -> Option<&Vec<Value>>
 
 #[tactic(auto, using(crate::proofs::StepLaws::count_seen))]
 fn refuse_deltas_of(names: &[&Value], policy: &Value) -> Result<(), VnfdFault>
-    ensures { fault_of result ≡ deltas_refusal (map (λ v. view v.now) names.now) (the_property (codes "deltas") (view policy.now)) }
+    ensures { fault_of result ≡ deltas_refusal (map (λ v. view v.now) names.now)
+        (the_property (codes "deltas") (view policy.now)) }
 {
     if names.is_empty() {
         return Ok(());
@@ -170,7 +180,8 @@ fn refuse_deltas_of(names: &[&Value], policy: &Value) -> Result<(), VnfdFault>
 
 /// The deltas of a policy are there, with one for each of these steps.
 fn refuse_no_deltas(names: &[&Value], policy: &Value) -> Result<(), VnfdFault>
-    ensures { fault_of result ≡ needed (codes "deltas") (deltas_for (map (λ v. view v.now) names.now)) (the_property (codes "deltas") (view policy.now)) }
+    ensures { fault_of result ≡ needed (codes "deltas") (deltas_for (map (λ v. view v.now) names.now))
+        (the_property (codes "deltas") (view policy.now)) }
 {
     let Some(deltas) = property(policy, "deltas") else {
         return Err(VnfdFault::Lacks(label("deltas")));

@@ -10,7 +10,10 @@ ghost use Rattle.vnfd_document.specs.Places.{of_type, property as the_property, 
 ghost use Rattle.vnfd_document.specs.Seen.{seen};
 ghost use Rattle.vnfd_policies.specs.Levels.{default_name as the_default_name};
 ghost use Rattle.vnfd_policies.specs.Policies.{vdu_levels};
-ghost use Rattle.vnfd_policies.specs.Initial.{again_refusal, delta_of as the_delta_of, first_given as the_first_given, given_at as the_given_at, initial_of, initials_refusal, initials_refusal_after, instances as the_instances, is_aimed_at as one_aims_at, missing_refusal};
+ghost use Rattle.vnfd_policies.specs.Initial.{again_refusal, delta_of as the_delta_of, first_given as the_first_given};
+ghost use Rattle.vnfd_policies.specs.Initial.{given_at as the_given_at, initial_of, initials_refusal};
+ghost use Rattle.vnfd_policies.specs.Initial.{initials_refusal_after, instances as the_instances};
+ghost use Rattle.vnfd_policies.specs.Initial.{is_aimed_at as one_aims_at, missing_refusal};
 ghost use Rattle.vnfd_policies.specs.ByType.{HaveDeltas, HaveInitials, HaveLevels, HaveNumbers};
 
 use crate::bounds::INSTANCES;
@@ -28,8 +31,8 @@ fn instances(value: &Value) -> Option<u32>
     whole_in(0, INSTANCES, value.get("number_of_instances")?)
 }
 
-/// The first thing that is wrong with the initial deltas: of each policy in turn its targets, a VDU that is a target for the
-/// second time, its number; then a VDU with deltas of an aspect and no initial delta.
+/// The first thing that is wrong with the initial deltas: of each policy in turn its targets, a VDU that is a target
+/// for the second time, its number; then a VDU with deltas of an aspect and no initial delta.
 ///
 /// Source: SOL 001, tosca.policies.nfv.VduInitialDelta.
 pub fn refuse_initials<'a>(
@@ -64,7 +67,8 @@ fn refuse_each<'a>(
 
 /// Adds the targets of a policy to those of the policies before it. None stands among those before it.
 fn add_targets<'a>(aimed_at: &mut Vec<&'a str>, names: &[&'a str]) -> Result<(), VnfdFault>
-    ensures refuses { Refuses result (again_refusal (map (λ name. name.now) aimed_at.old.items) (map (λ name. name.now) names.now)) }
+    ensures refuses { Refuses result (again_refusal (map (λ name. name.now) aimed_at.old.items)
+        (map (λ name. name.now) names.now)) }
     ensures added { IfOk result (λ done. aimed_at.new.items ≡ aimed_at.old.items ++ names.now) }
 {
     for name in names {
@@ -90,7 +94,8 @@ fn is_among(names: &[&str], wanted: &str) -> bool
 
 /// The number of a policy is there, and a whole number to 65,535.
 fn refuse_number(policy: &Value) -> Result<(), VnfdFault>
-    ensures { fault_of result ≡ needed (codes "initial_delta") the_instances (the_property (codes "initial_delta") (view policy.now)) }
+    ensures { fault_of result ≡ needed (codes "initial_delta") the_instances
+        (the_property (codes "initial_delta") (view policy.now)) }
 {
     let Some(delta) = property(policy, "initial_delta") else {
         return Err(VnfdFault::Lacks(label("initial_delta")));
@@ -107,7 +112,8 @@ fn refuse_missing(
     initials: &[Entry],
     vdus: &[Entry],
 ) -> Result<(), VnfdFault>
-    ensures { fault_of result ≡ first_failing (missing_refusal (map seen with_deltas.now) (map seen initials.now)) (map seen vdus.now) }
+    ensures { fault_of result ≡ first_failing (missing_refusal (map seen with_deltas.now) (map seen initials.now))
+        (map seen vdus.now) }
 {
     for vdu in vdus {
         if is_aimed_at(with_deltas, vdu.name) && !is_aimed_at(initials, vdu.name) {
@@ -129,9 +135,11 @@ fn is_aimed_at(policies: &[Entry], vdu: &str) -> bool
     false
 }
 
-/// The instances of the VDU of this name at first: its initial delta, else what it is given at the default level, else 1.
+/// The instances of the VDU of this name at first: its initial delta, else what it is given at the default level, else
+/// 1.
 ///
-/// Source: SOL 001, tosca.policies.nfv.VduInitialDelta and tosca.policies.nfv.VduInstantiationLevels; defaults: own rule.
+/// Source: SOL 001, tosca.policies.nfv.VduInitialDelta and tosca.policies.nfv.VduInstantiationLevels; defaults: own
+/// rule.
 #[tactic(auto, unfolding(crate::specs::Initial::initial_of))]
 pub fn initial(alloc: Global, policies: &Policies, vdu: &str) -> Result<u32, AllocError>
     requires initials { HaveInitials policies.now }
@@ -150,7 +158,8 @@ pub fn initial(alloc: Global, policies: &Policies, vdu: &str) -> Result<u32, All
 fn given_first(alloc: Global, policies: &Policies, vdu: &str) -> Result<Option<u32>, AllocError>
     requires levels { HaveLevels policies.now }
     requires numbers { HaveNumbers policies.now }
-    ensures { IfOk result (λ n. n ≡ the_first_given (the_default_name (map seen policies.now.all.items)) vdu.now (of_type vdu_levels (map seen policies.now.all.items))) }
+    ensures { IfOk result (λ n. n ≡ the_first_given (the_default_name (map seen policies.now.all.items)) vdu.now
+        (of_type vdu_levels (map seen policies.now.all.items))) }
 {
     let level = default_name(alloc, policies)?;
     Ok(first_given(level, vdu, policies.with_numbers.as_slice()))
@@ -170,7 +179,8 @@ fn delta_of(vdu: &str, policies: &[Entry]) -> Option<u32>
 
 /// The number of a policy, or 0 where it has none.
 fn number(policy: &Value) -> u32
-    ensures { result ≡ unwrap_or (option_and_then the_instances (the_property (codes "initial_delta") (view policy.now))) 0 }
+    ensures { result ≡ unwrap_or (option_and_then the_instances
+        (the_property (codes "initial_delta") (view policy.now))) 0 }
 {
     match property(policy, "initial_delta") {
         Some(delta) => instances(delta).unwrap_or(0),

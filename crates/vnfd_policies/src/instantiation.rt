@@ -9,7 +9,14 @@ ghost use Rattle.vnfd_document.specs.Checks.{Refuses, fault_of, first_failing};
 ghost use Rattle.vnfd_document.specs.Json.{whole, within};
 ghost use Rattle.vnfd_document.specs.Places.{property as the_property};
 ghost use Rattle.vnfd_document.specs.Seen.{seen};
-ghost use Rattle.vnfd_policies.specs.Levels.{default_by, default_name as the_default_name, default_name_by, default_name_in as the_default_name_in, default_number as the_default_number, default_of, default_refusal, default_text_refusal, first_name as the_first_name, level_of as the_level_of, level_of_refusal, level_refusal, levels_by as the_levels_by, levels_in as the_levels_in, levels_of, levels_refusal, none_refusal, number_at as the_number_at, number_refusal, policies_with_levels_refusal, policy_levels_refusal, scale_refusal};
+ghost use Rattle.vnfd_policies.specs.Levels.{default_by, default_name as the_default_name, default_name_by};
+ghost use Rattle.vnfd_policies.specs.Levels.{default_name_in as the_default_name_in};
+ghost use Rattle.vnfd_policies.specs.Levels.{default_number as the_default_number, default_of, default_refusal};
+ghost use Rattle.vnfd_policies.specs.Levels.{default_text_refusal, first_name as the_first_name};
+ghost use Rattle.vnfd_policies.specs.Levels.{level_of as the_level_of, level_of_refusal, level_refusal};
+ghost use Rattle.vnfd_policies.specs.Levels.{levels_by as the_levels_by, levels_in as the_levels_in, levels_of};
+ghost use Rattle.vnfd_policies.specs.Levels.{levels_refusal, none_refusal, number_at as the_number_at, number_refusal};
+ghost use Rattle.vnfd_policies.specs.Levels.{policies_with_levels_refusal, policy_levels_refusal, scale_refusal};
 ghost use Rattle.vnfd_policies.specs.Policies.{members_at};
 ghost use Rattle.vnfd_policies.specs.ByType.{HaveAspects, HaveLevels};
 
@@ -25,8 +32,8 @@ use vnfd_document::{
     whole_in,
 };
 
-/// The first thing that is wrong with the instantiation levels: that there are two policies with levels, or none in the one,
-/// or too many; the scale levels of each level in turn; the default level.
+/// The first thing that is wrong with the instantiation levels: that there are two policies with levels, or none in the
+/// one, or too many; the scale levels of each level in turn; the default level.
 ///
 /// Source: SOL 001, tosca.policies.nfv.InstantiationLevels.
 pub fn refuse_levels(alloc: Global, policies: &Policies) -> Result<(), VnfdFault>
@@ -128,7 +135,8 @@ fn scale_level(most: u32, scale: &Value) -> Option<u32>
 
 /// The default level is there where there are several levels, and names one of them.
 fn refuse_default(levels: &[Entry], policy: &Value) -> Result<(), VnfdFault>
-    ensures { fault_of result ≡ default_refusal (map seen levels.now) (the_property (codes "default_level") (view policy.now)) }
+    ensures { fault_of result ≡ default_refusal (map seen levels.now)
+        (the_property (codes "default_level") (view policy.now)) }
 {
     match property(policy, "default_level") {
         Some(value) => refuse_default_name(levels, value),
@@ -146,7 +154,8 @@ fn refuse_default_name(levels: &[Entry], value: &Value) -> Result<(), VnfdFault>
     }
 }
 
-/// The levels: those of the policy that has some, and where there is none one level named `default` with every aspect at 0.
+/// The levels: those of the policy that has some, and where there is none one level named `default` with every aspect
+/// at 0.
 ///
 /// Source: SOL 001, tosca.policies.nfv.InstantiationLevels; default: own rule.
 #[tactic(auto, unfolding(crate::specs::Levels::levels_of))]
@@ -164,7 +173,11 @@ pub fn levels(alloc: Global, policies: &Policies) -> Result<Listed<Level>, Alloc
 
 /// One level named `default`, with each aspect at 0.
 fn only_level(alloc: Global, aspects: &[Entry]) -> Result<Listed<Level>, AllocError>
-    ensures { IfOk result (λ found. found ≡ record { name = codes "default"; numbers = map (λ a. 0) (map seen aspects.now) } ∷ []) }
+    ensures { IfOk result (λ found. found ≡ record {
+      name = codes "default";
+      numbers =
+          map (λ a. 0) (map seen aspects.now);
+    } ∷ []) }
 {
     let numbers = zeros(alloc, aspects)?;
     let mut levels = Vec::new(alloc);
@@ -191,7 +204,8 @@ fn levels_of_policy(
     aspects: &[Entry],
     policy: &Value,
 ) -> Result<Listed<Level>, AllocError>
-    ensures { IfOk result (λ found. found ≡ map (the_level_of (map seen aspects.now)) (the_levels_in (view policy.now))) }
+    ensures { IfOk result (λ found. found ≡ map (the_level_of (map seen aspects.now))
+        (the_levels_in (view policy.now))) }
 {
     let levels = levels_in(alloc, policy)?;
     each_level(alloc, aspects, levels.as_slice())
@@ -258,7 +272,8 @@ fn default_name_in<'a>(alloc: Global, policy: &'a Value) -> Result<&'a str, Allo
 
 /// The text of a policy's default level.
 fn default_text(policy: &Value) -> Option<&str>
-    ensures { option_map (λ name. name.now) result ≡ option_and_then as_str (the_property (codes "default_level") (view policy.now)) }
+    ensures { option_map (λ name. name.now) result ≡ option_and_then as_str
+        (the_property (codes "default_level") (view policy.now)) }
 {
     property(policy, "default_level")?.as_str()
 }
@@ -296,7 +311,8 @@ fn default_number(alloc: Global, policy: &Value) -> Result<u16, AllocError>
 
 /// The number of the level of this name, where it has 16 bits, else 0.
 fn number_of(levels: &[Entry], name: &str) -> u16
-    ensures { result ≡ unwrap_or (option_and_then (within 0 65535) (position_from (λ l. bytes_eq l.0 name.now) 0 (map seen levels.now))) 0 }
+    ensures { result ≡ unwrap_or (option_and_then (within 0 65535)
+        (position_from (λ l. bytes_eq l.0 name.now) 0 (map seen levels.now))) 0 }
 {
     match place_of(levels, name) {
         Some(place) if place <= 65_535 => place as u16,

@@ -1,4 +1,5 @@
-//! The policies of a descriptor: what is wrong with them first, and the aspects, initial deltas and levels that they are.
+//! The policies of a descriptor: what is wrong with them first, and the aspects, initial deltas and levels that they
+//! are.
 #![tactic(auto)]
 
 ghost use Rattle.std.specs.Prelude.{◌≡◌, ◌&&◌, codes, map, option_map};
@@ -53,7 +54,8 @@ pub fn are_policy_names_given(policies: &Policies) -> bool
 
 /// Whether the members of this property of these policies have names that aren't empty.
 fn are_names_given(policies: &[Entry], name: &str) -> bool
-    ensures { result ≡ list_all (λ m. is_given_name m.0) (flat_map (λ p. members_at (the_property name.now p.1)) (map seen policies.now)) }
+    ensures { result ≡ list_all (λ m. is_given_name m.0) (flat_map (λ p. members_at (the_property name.now p.1))
+        (map seen policies.now)) }
 {
     for policy in policies {
         if !are_members_given(property(policy.value, name)) {
@@ -92,8 +94,8 @@ fn are_keys_given(object: &Map<String, Value>) -> bool
     true
 }
 
-/// The first thing that is wrong with the policies: with the aspects, with what their steps add to the VDUs, with the initial
-/// deltas, with the levels.
+/// The first thing that is wrong with the policies: with the aspects, with what their steps add to the VDUs, with the
+/// initial deltas, with the levels.
 ///
 /// Source: SOL 001, the policies on scaling; limits and order: own rule.
 #[tactic(auto, unfolding(crate::specs::Refusal::policies_refusal))]

@@ -1,5 +1,6 @@
 //! The aspects of a descriptor, with a row of deltas for each VDU that has some.
-ghost use Rattle.std.specs.Prelude.{◌≡◌, ◌≤◌, IfOk, codes, filter, find, length, map, option_and_then, option_map, unwrap_or, []};
+ghost use Rattle.std.specs.Prelude.{◌≡◌, ◌≤◌, IfOk, codes, filter, find, length, map, option_and_then, option_map};
+ghost use Rattle.std.specs.Prelude.{unwrap_or, []};
 ghost use Rattle.std.specs.List.{enumerate_from, filter_map};
 ghost use Rattle.std.specs.Option.{option_map_or};
 ghost use Rattle.serde_json.specs.Data.{Data};
@@ -10,7 +11,9 @@ ghost use Rattle.vnfd_document.specs.Seen.{seen};
 ghost use Rattle.vnfd_policies.specs.Aspects.{steps as the_steps};
 ghost use Rattle.vnfd_policies.specs.Deltas.{step_delta as the_step_delta};
 ghost use Rattle.vnfd_policies.specs.Policies.{aims_at as it_aims_at};
-ghost use Rattle.vnfd_policies.specs.Rows.{aspect_of as the_aspect_of, aspects_of, delta_in, deltas_by as the_deltas_by, policies_for as those_for, row_of as the_row_of, rows_of as the_rows_of, step_count as the_step_count};
+ghost use Rattle.vnfd_policies.specs.Rows.{aspect_of as the_aspect_of, aspects_of, delta_in};
+ghost use Rattle.vnfd_policies.specs.Rows.{deltas_by as the_deltas_by, policies_for as those_for, row_of as the_row_of};
+ghost use Rattle.vnfd_policies.specs.Rows.{rows_of as the_rows_of, step_count as the_step_count};
 ghost use Rattle.vnfd_policies.specs.ByType.{HaveAspects, HaveDeltas};
 
 use crate::by_type::Policies;
@@ -52,7 +55,8 @@ fn each_aspect(
     aspects: &[Entry],
 ) -> Result<Listed<Aspect>, AllocError>
     requires { length vdus.now ≤ 64 }
-    ensures { IfOk result (λ found. found ≡ map (the_aspect_of (map seen vdus.now) (map seen policies.now)) (map seen aspects.now)) }
+    ensures { IfOk result (λ found. found ≡ map (the_aspect_of (map seen vdus.now) (map seen policies.now))
+        (map seen aspects.now)) }
 {
     let mut found = Vec::new(alloc);
     for aspect in aspects {
@@ -69,7 +73,8 @@ fn aspect_of(
     aspect: &Entry,
 ) -> Result<Aspect, AllocError>
     requires { length vdus.now ≤ 64 }
-    ensures { IfOk result (λ found. found ≡ the_aspect_of (map seen vdus.now) (map seen policies.now) (seen aspect.now)) }
+    ensures { IfOk result (λ found. found ≡ the_aspect_of (map seen vdus.now) (map seen policies.now)
+        (seen aspect.now)) }
 {
     let policies = policies_for(alloc, aspect.name, policies)?;
     let rows = rows_of(alloc, vdus, policies.as_slice(), aspect.value)?;
@@ -177,7 +182,8 @@ fn deltas_by(
     deltas: Option<&Value>,
     names: &[Value],
 ) -> Result<Listed<u32>, AllocError>
-    ensures { IfOk result (λ found. found ≡ map (delta_in (option_map (λ v. view v.now) deltas.entry)) (items_in (items_view names.now))) }
+    ensures { IfOk result (λ found. found ≡ map (delta_in (option_map (λ v. view v.now) deltas.entry))
+        (items_in (items_view names.now))) }
 {
     let mut found = Vec::new(alloc);
     for name in names {

@@ -8,7 +8,8 @@ ghost use Rattle.vnfd_document.specs.Checks.{Refuses, fault_of, first_failing};
 ghost use Rattle.vnfd_document.specs.Json.{items_in};
 ghost use Rattle.vnfd_document.specs.Places.{property as the_property};
 ghost use Rattle.vnfd_document.specs.Seen.{seen};
-ghost use Rattle.vnfd_policies.specs.Aspects.{are_steps, aspects as the_aspects, aspects_refusal, form_refusal, maximum as the_maximum, maximum_refusal, step_list, steps_refusal};
+ghost use Rattle.vnfd_policies.specs.Aspects.{are_steps, aspects as the_aspects, aspects_refusal, form_refusal};
+ghost use Rattle.vnfd_policies.specs.Aspects.{maximum as the_maximum, maximum_refusal, step_list, steps_refusal};
 ghost use Rattle.vnfd_policies.specs.Policies.{members_at};
 ghost use Rattle.vnfd_policies.specs.ByType.{HaveAspects};
 
@@ -33,7 +34,8 @@ fn property_members<'a>(
     policies: &[Entry<'a>],
     name: &str,
 ) -> Result<Vec<Entry<'a>>, AllocError>
-    ensures { IfOk result (λ found. map seen found.items ≡ flat_map (λ p. members_at (the_property name.now p.1)) (map seen policies.now)) }
+    ensures { IfOk result (λ found. map seen found.items ≡ flat_map (λ p. members_at (the_property name.now p.1))
+        (map seen policies.now)) }
 {
     let mut found = Vec::new(alloc);
     for policy in policies {
@@ -53,8 +55,8 @@ pub fn maximum(aspect: &Value) -> u32
     }
 }
 
-/// The first thing that is wrong with the aspects: the form of the policy, their number, the greatest level of each, the
-/// steps of each.
+/// The first thing that is wrong with the aspects: the form of the policy, their number, the greatest level of each,
+/// the steps of each.
 ///
 /// Source: SOL 001, tosca.policies.nfv.ScalingAspects.
 pub fn refuse_aspects(alloc: Global, policies: &Policies) -> Result<(), VnfdFault>

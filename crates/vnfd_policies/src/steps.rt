@@ -49,7 +49,8 @@ fn names_of<'a>(alloc: Global, aspect: &'a Value) -> Result<Vec<&'a Value>, Allo
 
 /// These names, each once.
 fn each_once<'a>(alloc: Global, names: &'a [Value]) -> Result<Vec<&'a Value>, AllocError>
-    ensures { IfOk result (λ found. AreSameSteps (map (λ v. view v.now) found.items) (items_in (items_view names.now))) }
+    ensures { IfOk result (λ found. AreSameSteps (map (λ v. view v.now) found.items)
+        (items_in (items_view names.now))) }
 {
     let mut found = Vec::new(alloc);
     for name in names {
@@ -61,7 +62,9 @@ fn each_once<'a>(alloc: Global, names: &'a [Value]) -> Result<Vec<&'a Value>, Al
 /// Adds a name, unless it is there.
 #[tactic(auto, using(crate::proofs::StepLaws::added, crate::proofs::StepLaws::absorbed))]
 fn add_once<'a>(found: &mut Vec<&'a Value>, name: &'a Value) -> Result<(), AllocError>
-    ensures all { IfOk result (λ done. (test : Data → Bool) → list_all test (map (λ v. view v.now) found.new.items) ≡ (list_all test (map (λ v. view v.now) found.old.items) && test (view name.now))) }
+    ensures all { IfOk result (λ done. (test : Data → Bool)
+        → list_all test (map (λ v. view v.now) found.new.items)
+        ≡ (list_all test (map (λ v. view v.now) found.old.items) && test (view name.now))) }
     ensures some { IfOk result (λ done. 0 < length found.new.items) }
 {
     if is_among(found.as_slice(), name) {

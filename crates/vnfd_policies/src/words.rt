@@ -9,7 +9,8 @@ ghost use Rattle.vnfd_document.specs.Json.{items_in};
 ghost use Rattle.vnfm_base.specs.Text.{is_label};
 ghost use Rattle.vnfd_document.specs.Places.{property as the_property, targets as the_targets, texts_of};
 ghost use Rattle.vnfd_document.specs.Seen.{seen};
-ghost use Rattle.vnfd_policies.specs.Policies.{aims_at as it_aims_at, is_named as one_is_named, targets_refusal, too_many, unknown_in};
+ghost use Rattle.vnfd_policies.specs.Policies.{aims_at as it_aims_at, is_named as one_is_named, targets_refusal};
+ghost use Rattle.vnfd_policies.specs.Policies.{too_many, unknown_in};
 
 use serde_json::Value;
 use std::alloc::Global;
@@ -61,7 +62,8 @@ pub fn aims_at(vdu: &str, policy: &Value) -> bool
 
 /// Whether all these values are texts, and one of them is this text.
 fn are_texts_with(text: &str, values: &[Value]) -> bool
-    ensures { result ≡ option_map_or (list_any (bytes_eq text.now)) (texts_of (items_in (items_view values.now))) false }
+    ensures { result ≡ option_map_or (list_any (bytes_eq text.now))
+        (texts_of (items_in (items_view values.now))) false }
 {
     let mut found = false;
     for value in values {
@@ -112,7 +114,8 @@ pub fn known_targets<'a>(
     policy: &'a Value,
 ) -> Result<Vec<&'a str>, VnfdFault>
     ensures refuses { Refuses result (targets_refusal (map seen vdus.now) (the_targets (view policy.now))) }
-    ensures known { IfOk result (λ names. map (λ name. name.now) names.items ≡ unwrap_or (the_targets (view policy.now)) []) }
+    ensures known { IfOk result (λ names. map (λ name. name.now) names.items
+        ≡ unwrap_or (the_targets (view policy.now)) []) }
 {
     let Some(names) = targets(alloc, policy)? else {
         return Err(VnfdFault::Wrong(label("targets")));

@@ -1,5 +1,6 @@
 -- What passes the checks is a valid descriptor.
-use Rattle.std.proofs.Common.{◌≡◌, ◌≤◌, ◌<◌, ◌&&◌, ℕ, List, [], ◌∷◌, length, map, Bool, true, false, cond, Option, Some, None, Result, Ok, Err, nat_le, nat_lt, codes, refl, sym, ap, ◌∙◌, subst, arith, suc, IfSome, IfOk, find, option_map, Bor, Vec}
+use Rattle.std.proofs.Common.{◌≡◌, ◌≤◌, ◌<◌, ◌&&◌, ℕ, List, [], ◌∷◌, length, map, Bool, true, false, cond, Option, Some, None, Result, Ok}
+use Rattle.std.proofs.Common.{Err, nat_le, nat_lt, codes, refl, sym, ap, ◌∙◌, subst, arith, suc, IfSome, IfOk, find, option_map, Bor, Vec}
 use Rattle.std.proofs.lemmas.List.{length-map}
 use Rattle.std.proofs.lemmas.Bool.{and_from, and_parts, leb-true, lt-ltb}
 use Rattle.std.specs.List.{list_all}
@@ -8,7 +9,8 @@ use Rattle.std.specs.Str.{bytes_eq}
 use Rattle.serde_json.specs.Data.{Data}
 use Rattle.lcm_events.specs.declared.descriptor.Level.{Level}
 use Rattle.lcm_events.specs.declared.descriptor.Vnfd.{Vnfd}
-use Rattle.lcm_model.specs.Descriptors.{IsValid, are_levels_of, are_sorted, is_given, is_valid_level, is_valid_port, is_valid_storage, is_valid_vdu}
+use Rattle.lcm_model.specs.Descriptors.{IsValid, are_levels_of, are_sorted, is_given, is_valid_level, is_valid_port, is_valid_storage}
+use Rattle.lcm_model.specs.Descriptors.{is_valid_vdu}
 use Rattle.vnfd_document.specs.declared.fault.VnfdFault.{VnfdFault}
 use Rattle.vnfd_document.specs.Checks.{Gives, first_failing}
 use Rattle.vnfd_document.specs.Document.{document}
@@ -19,14 +21,18 @@ use Rattle.vnfd_document.specs.Places.{node_templates, policies}
 use Rattle.vnfd_document.proofs.CheckLaws.{none_parts, not_if, read_if}
 use Rattle.vnfd_document.proofs.NameOrder.{in_order-document, in_order-policies, rises-node_templates, rises-of_type, sorted-names}
 use Rattle.vnfd_nodes.specs.Built.{port_of, storage_of, vdu_of}
-use Rattle.vnfd_nodes.specs.Nodes.{Nodes, compute_refusal, computes_refusal, count_refusal, counts_refusal, empties_refusal, empty_refusal, have_all_names, have_names, maxima_refusal, missing_refusal, nodes_in, port_refusal, ports_refusal, product_refusal, properties_refusal, property_of, sizes_refusal, storages_refusal, templates_refusal}
+use Rattle.vnfd_nodes.specs.Nodes.{Nodes, compute_refusal, computes_refusal, count_refusal, counts_refusal, empties_refusal, empty_refusal}
+use Rattle.vnfd_nodes.specs.Nodes.{have_all_names, have_names, maxima_refusal, missing_refusal, nodes_in, port_refusal, ports_refusal}
+use Rattle.vnfd_nodes.specs.Nodes.{product_refusal, properties_refusal, property_of, sizes_refusal, storages_refusal, templates_refusal}
 use Rattle.vnfd_nodes.proofs.ValidLaws.{all_built, all_given, link_valid, port_valid, storage_valid, vdu_valid}
 use Rattle.vnfd_policies.specs.Initial.{initial_of}
 use Rattle.vnfd_policies.specs.Levels.{default_of, levels_of}
 use Rattle.vnfd_policies.specs.Refusal.{level_policies, policies_refusal, policy_names}
 use Rattle.vnfd_policies.specs.Rows.{aspects_of}
-use Rattle.vnfd_policies.proofs.ValidPolicies.{aspects_sorted, aspects_valid, default_exists, few_aspects, few_levels, initial_small, levels_sorted, levels_valid}
-use Rattle.vnfd_reader.specs.Answer.{document_answer, names_refusal, parts_answer, parts_refusal, product_of, templates_answer, unless, vdus_of, vnfd_of}
+use Rattle.vnfd_policies.proofs.ValidPolicies.{aspects_sorted, aspects_valid, default_exists, few_aspects, few_levels, initial_small}
+use Rattle.vnfd_policies.proofs.ValidPolicies.{levels_sorted, levels_valid}
+use Rattle.vnfd_reader.specs.Answer.{document_answer, names_refusal, parts_answer, parts_refusal, product_of, templates_answer, unless}
+use Rattle.vnfd_reader.specs.Answer.{vdus_of, vnfd_of}
 use Rattle.vnfd_reader.specs.Steps.{steps_refusal}
 use Rattle.vnfd_nodes.specs.declared.templates.Templates.{Templates}
 use Rattle.vnfd_nodes.specs.Seen.{nodes_seen}
@@ -103,7 +109,8 @@ some_bytes : (k : List ℕ) → bytes_eq k [] ≡ false → is_given k ≡ true
 some_bytes [] h = let no : ⊥ = cc in absurd no
 some_bytes (x ∷ xs) h = lt-ltb 0 (length (x ∷ xs)) (omega arith)
 
-identified : (d : Data) → properties_refusal d ≡ None → (is_given (property_of d (codes "descriptor_id")) && is_given (property_of d (codes "flavour_id"))) ≡ true
+identified : (d : Data) → properties_refusal d ≡ None → (is_given (property_of d (codes "descriptor_id"))
+    && is_given (property_of d (codes "flavour_id"))) ≡ true
 unfolding empties_refusal
 identified d h =
     let empties = (none_parts (missing_refusal d) (empties_refusal d) h).1 in
@@ -113,11 +120,13 @@ identified d h =
 
 -- ---- the names of what is built
 
-names_built : {A : Type 0} (f : Named → A) (g : A → List ℕ) → ((x : Named) → g (f x) ≡ name_or_empty x.0) → (xs : List Named) → map g (map f xs) ≡ map (λ x. name_or_empty x.0) xs
+names_built : {A : Type 0} (f : Named → A) (g : A → List ℕ) → ((x : Named) → g (f x) ≡ name_or_empty x.0) → (xs : List Named)
+    → map g (map f xs) ≡ map (λ x. name_or_empty x.0) xs
 names_built f g same [] = refl
 names_built f g same (x ∷ xs) = rw (same x, names_built f g same xs) refl
 
-sorted_built : {A : Type 0} (f : Named → A) (g : A → List ℕ) → ((x : Named) → g (f x) ≡ name_or_empty x.0) → (xs : List Named) → Rises xs → have_names xs ≡ true → are_sorted (map g (map f xs)) ≡ true
+sorted_built : {A : Type 0} (f : Named → A) (g : A → List ℕ) → ((x : Named) → g (f x) ≡ name_or_empty x.0) → (xs : List Named) → Rises xs
+    → have_names xs ≡ true → are_sorted (map g (map f xs)) ≡ true
 sorted_built f g same xs up given = rw (names_built f g same xs) (sorted-names xs up given)
 
 vdu_name : (storages ps : List Named) (x : Named) → (vdu_of storages (initial_of ps x.0) x).name ≡ name_or_empty x.0
@@ -166,11 +175,13 @@ vnfd_valid n ps up in_order h =
           (sorted_built (port_of n.vdus n.links) (λ x. x.name) (port_name n.vdus n.links) n.ports up.ports given.ports))
           (aspects_sorted n.vdus ps in_order given.policies pass.policies))
           (levels_sorted n.vdus ps in_order given.policies pass.policies);
-      vdus = all_built (is_valid_vdu d) (λ x. vdu_of n.storages (initial_of ps x.0) x) compute_refusal n.vdus (computes_pass n pass.templates) given.vdus
+      vdus = all_built (is_valid_vdu d) (λ x. vdu_of n.storages (initial_of ps x.0) x) compute_refusal n.vdus
+          (computes_pass n pass.templates) given.vdus
           (λ x p g. vdu_valid d n.storages (initial_of ps x.0) x storage_count (initial_small ps x.0) p g);
       storages = all_given is_valid_storage storage_of n.storages given.storages storage_valid;
       links = all_given is_given (λ x. name_or_empty x.0) n.links given.links link_valid;
-      ports = all_built (is_valid_port d) (port_of n.vdus n.links) (port_refusal n.vdus n.links) n.ports (ports_pass n pass.templates) given.ports
+      ports = all_built (is_valid_port d) (port_of n.vdus n.links) (port_refusal n.vdus n.links) n.ports
+          (ports_pass n pass.templates) given.ports
           (λ x p g. port_valid d n.vdus n.links x vdu_count link_count p g);
       aspects = aspects_valid d n.vdus ps vdu_count in_order given.policies pass.policies;
       levels = levels_valid d n.vdus ps refl in_order given.policies pass.policies;
@@ -184,7 +195,8 @@ pub few_vdus : (nodes : Templates) (ps : List Named) → parts_refusal (nodes_se
 few_vdus nodes ps h = let most = leb-true _ _ (parts_few nodes ps h).vdus in omega (arith, most, length-map nodes.vdus.items seen)
 
 pub few_storages : (nodes : Templates) (ps : List Named) → parts_refusal (nodes_seen nodes) ps ≡ None → length nodes.storages.items ≤ 128
-few_storages nodes ps h = let most = leb-true _ _ (parts_few nodes ps h).storages in omega (arith, most, length-map nodes.storages.items seen)
+few_storages nodes ps h = let most = leb-true _ _ (parts_few nodes ps h).storages in
+    omega (arith, most, length-map nodes.storages.items seen)
 
 pub few_links : (nodes : Templates) (ps : List Named) → parts_refusal (nodes_seen nodes) ps ≡ None → length nodes.links.items ≤ 64
 few_links nodes ps h = let most = leb-true _ _ (parts_few nodes ps h).links in omega (arith, most, length-map nodes.links.items seen)
@@ -213,7 +225,8 @@ parts_valid n ps v up in_order h =
     let behind = (none_parts (product_refusal n.products) (option_or (parts_refusal n ps) steps) passes.0).1 in
     subst IsValid passes.1 (vnfd_valid n ps up in_order (none_parts (parts_refusal n ps) steps behind).0)
 
-templates_valid : (d : Data) (o : Option (List Named)) (ps : List Named) (v : Vnfd) → InOrder d → o ≡ node_templates d → AllInOrder ps → templates_answer o ps ≡ Ok v → IsValid v
+templates_valid : (d : Data) (o : Option (List Named)) (ps : List Named) (v : Vnfd) → InOrder d → o ≡ node_templates d → AllInOrder ps
+    → templates_answer o ps ≡ Ok v → IsValid v
 templates_valid d None ps v h e in_order k = let no : ⊥ = cc in absurd no
 templates_valid d (Some templates) ps v h e in_order k = parts_valid (nodes_in templates) ps v (come_in_order d templates h e) in_order k
 
@@ -228,19 +241,23 @@ given_valid (Err fault) d h k = tt
 
 -- ---- the levels of a valid descriptor
 
-found_if : (b : Bool) (d : Vnfd) (l : Level) (rest : Option Level) → is_valid_level d l ≡ true → IfSome rest (λ x. is_valid_level d x ≡ true) → IfSome (cond b (Some l) rest) (λ x. is_valid_level d x ≡ true)
+found_if : (b : Bool) (d : Vnfd) (l : Level) (rest : Option Level) → is_valid_level d l ≡ true
+    → IfSome rest (λ x. is_valid_level d x ≡ true) → IfSome (cond b (Some l) rest) (λ x. is_valid_level d x ≡ true)
 found_if true d l rest h k = h
 found_if false d l rest h k = k
 
-found_valid : (d : Vnfd) (t : Level → Bool) (xs : List Level) → list_all (is_valid_level d) xs ≡ true → IfSome (find t xs) (λ x. is_valid_level d x ≡ true)
+found_valid : (d : Vnfd) (t : Level → Bool) (xs : List Level) → list_all (is_valid_level d) xs ≡ true
+    → IfSome (find t xs) (λ x. is_valid_level d x ≡ true)
 found_valid d t [] h = tt
 found_valid d t (x ∷ xs) h = let parts = and_parts (is_valid_level d x) _ h in found_if (t x) d x _ parts.0 (found_valid d t xs parts.1)
 
-numbers_valid : (d : Vnfd) (o : Option Level) → IfSome o (λ x. is_valid_level d x ≡ true) → IfSome (option_map (λ l. l.numbers) o) (λ numbers. are_levels_of d numbers ≡ true)
+numbers_valid : (d : Vnfd) (o : Option Level) → IfSome o (λ x. is_valid_level d x ≡ true)
+    → IfSome (option_map (λ l. l.numbers) o) (λ numbers. are_levels_of d numbers ≡ true)
 numbers_valid d None h = tt
 numbers_valid d (Some l) h = (and_parts (is_given l.name) _ h).1
 
-pub levels_are_of : (d : Vnfd) (name : List ℕ) (o : Option (Bor (List ℕ))) → IsValid d → option_copied o ≡ level_of d name → IfSome o (λ numbers. are_levels_of d numbers.now ≡ true)
+pub levels_are_of : (d : Vnfd) (name : List ℕ) (o : Option (Bor (List ℕ))) → IsValid d → option_copied o ≡ level_of d name
+    → IfSome o (λ numbers. are_levels_of d numbers.now ≡ true)
 levels_are_of d name None valid e = tt
 levels_are_of d name (Some x) valid e =
     subst (λ o. IfSome o (λ numbers. are_levels_of d numbers ≡ true)) (sym e) (numbers_valid d _ (found_valid d _ d.levels valid.levels))

@@ -1,5 +1,5 @@
--- What bytes are as a descriptor: the first thing that is wrong with them, or what they say (SOL 001; order and limits: own
--- rule, docs/DESCRIPTORS.md).
+-- What bytes are as a descriptor: the first thing that is wrong with them, or what they say (SOL 001; order and limits:
+-- own rule, docs/DESCRIPTORS.md).
 use Rattle.std.specs.Prelude.{ℕ, List, [], ◌∷◌, ◌&&◌, if◌then◌else◌, map, Option, Some, None, Result, Ok, Err, codes}
 use Rattle.std.specs.List.{list_all}
 use Rattle.std.specs.Option.{option_or}
@@ -14,7 +14,8 @@ use Rattle.vnfd_document.specs.Json.{Named}
 use Rattle.vnfd_document.specs.Names.{is_given_name, name_or_empty}
 use Rattle.vnfd_document.specs.Places.{node_templates, policies}
 use Rattle.vnfd_nodes.specs.Built.{port_of, storage_of, vdu_of}
-use Rattle.vnfd_nodes.specs.Nodes.{Nodes, counts_refusal, have_all_names, nodes_in, product_refusal, properties_refusal, property_of, templates_refusal}
+use Rattle.vnfd_nodes.specs.Nodes.{Nodes, counts_refusal, have_all_names, nodes_in, product_refusal, properties_refusal}
+use Rattle.vnfd_nodes.specs.Nodes.{property_of, templates_refusal}
 use Rattle.vnfd_policies.specs.Initial.{initial_of}
 use Rattle.vnfd_policies.specs.Levels.{default_of, levels_of}
 use Rattle.vnfd_policies.specs.Refusal.{level_policies, policies_refusal, policy_names}
@@ -28,7 +29,8 @@ product_of (x ∷ xs) = x.1
 
 -- all names that the descriptor keeps are names that aren't empty
 unfoldable pub names_refusal : Nodes → List Named → Option VnfdFault
-names_refusal n ps = if have_all_names n && list_all is_given_name (policy_names ps) then None else Some (Wrong (codes "name"))
+names_refusal n ps = if have_all_names n && list_all is_given_name (policy_names ps) then None
+    else Some (Wrong (codes "name"))
 
 -- the first thing that is wrong with node templates and policies, but for the numbers stated for levels
 abbrev pub parts_refusal : Nodes → List Named → Option VnfdFault

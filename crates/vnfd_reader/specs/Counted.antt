@@ -1,6 +1,7 @@
--- What a policy states is compared with what was found once: the number of instances of each VDU at each level, and the VDU that
--- each target names (SOL 001, VduInstantiationLevels).
-use Rattle.std.specs.Prelude.{ℕ, List, if◌then◌else◌, map, find, slice_get, Option, Some, None, option_map, unwrap_or, codes}
+-- What a policy states is compared with what was found once: the number of instances of each VDU at each level, and the
+-- VDU that each target names (SOL 001, VduInstantiationLevels).
+use Rattle.std.specs.Prelude.{ℕ, List, if◌then◌else◌, map, find, slice_get, Option, Some, None, option_map, unwrap_or}
+use Rattle.std.specs.Prelude.{codes}
 use Rattle.std.specs.List.{enumerate_from}
 use Rattle.lcm_events.specs.Same.{same_name}
 use Rattle.lcm_events.specs.declared.descriptor.Vnfd.{Vnfd}
@@ -33,7 +34,8 @@ aim_at vdus target = (target, place_of 0 vdus target)
 abbrev pub place_refusal : List ℕ → Option ℕ → List ℕ → List ℕ → Option ℕ → Option VnfdFault
 place_refusal counts number level target None = Some (unknown target)
 place_refusal counts number level target (Some place) =
-    if is_stated (unwrap_or (slice_get counts place) 0) number then None else Some (OutOfStep (name_or_empty level) (name_or_empty target))
+    if is_stated (unwrap_or (slice_get counts place) 0) number then None
+    else Some (OutOfStep (name_or_empty level) (name_or_empty target))
 
 abbrev pub aim_refusal : List ℕ → Option ℕ → List ℕ → List ℕ × Option ℕ → Option VnfdFault
 aim_refusal counts number level aim = place_refusal counts number level aim.0 aim.1
@@ -49,5 +51,7 @@ at_level_refusal aims level None = Some (unknown level.0)
 at_level_refusal aims level (Some counts) = aims_refusal counts (stated level.1) level.0 aims
 
 -- it is so for all levels that a policy speaks of
-abbrev pub at_levels_refusal : List (List ℕ × List ℕ) → Option (List (List ℕ × Option ℕ)) → List Named → Option VnfdFault
-at_levels_refusal table aims levels = first_failing (λ level. at_level_refusal aims level (counts_of table level.0)) levels
+abbrev pub at_levels_refusal : List (List ℕ × List ℕ) → Option (List (List ℕ × Option ℕ)) → List Named
+    → Option VnfdFault
+at_levels_refusal table aims levels = first_failing (λ level. at_level_refusal aims level (counts_of table level.0))
+    levels

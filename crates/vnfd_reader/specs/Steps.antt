@@ -27,7 +27,8 @@ is_stated n (Some m) = m == n
 abbrev pub step_refusal : Vnfd → Named → List ℕ → List ℕ → Option ℕ → Option VnfdFault
 step_refusal v level numbers target None = Some (unknown target)
 step_refusal v level numbers target (Some place) =
-    if is_stated (count v place numbers) (stated level.1) then None else Some (OutOfStep (name_or_empty level.0) (name_or_empty target))
+    if is_stated (count v place numbers) (stated level.1) then None
+    else Some (OutOfStep (name_or_empty level.0) (name_or_empty target))
 
 -- it is so for the VDU of this name
 abbrev pub target_refusal : Vnfd → List Named → Named → List ℕ → List ℕ → Option VnfdFault
@@ -47,9 +48,11 @@ abbrev pub level_refusal : Vnfd → List Named → Option (List (List ℕ)) → 
 level_refusal v vdus names level None = Some (unknown level.0)
 level_refusal v vdus names level (Some numbers) = targets_refusal v vdus level numbers names
 
--- it is so for all levels that a policy speaks of, in byte order of their names (SOL 001, VduInstantiationLevels, levels)
+-- it is so for all levels that a policy speaks of, in byte order of their names (SOL 001, VduInstantiationLevels,
+-- levels)
 unfoldable pub levels_refusal : Vnfd → List Named → Option (List (List ℕ)) → List Named → Option VnfdFault
-levels_refusal v vdus names levels = first_failing (λ level. level_refusal v vdus names level (numbers_of v level.0)) levels
+levels_refusal v vdus names levels = first_failing (λ level. level_refusal v vdus names level (numbers_of v level.0))
+    levels
 
 abbrev pub policy_refusal : Vnfd → List Named → Data → Option VnfdFault
 policy_refusal v vdus d = levels_refusal v vdus (targets d) (option_map_or members_of (property (codes "levels") d) [])

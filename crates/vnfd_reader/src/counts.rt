@@ -1,5 +1,5 @@
-//! What is found once for all that policies state: the number of instances of each VDU at each level, and the VDU that each
-//! target of a policy names.
+//! What is found once for all that policies state: the number of instances of each VDU at each level, and the VDU that
+//! each target of a policy names.
 ghost use Rattle.std.specs.Prelude.{◌≡◌, ◌≤◌, IfOk, find, length, map, option_map, true};
 ghost use Rattle.std.specs.Option.{option_copied};
 ghost use Rattle.serde_json.specs.View.{view};
@@ -7,7 +7,8 @@ ghost use Rattle.lcm_events.specs.Same.{same_name};
 ghost use Rattle.lcm_model.specs.Descriptors.{IsValid, are_levels_of, is_valid_level};
 ghost use Rattle.vnfd_document.specs.Places.{targets as the_targets};
 ghost use Rattle.vnfd_document.specs.Seen.{seen};
-ghost use Rattle.vnfd_reader.specs.Counted.{aim_at, counted as the_counted, counts_at as the_counts_at, counts_of as the_counts_of};
+ghost use Rattle.vnfd_reader.specs.Counted.{aim_at, counted as the_counted, counts_at as the_counts_at};
+ghost use Rattle.vnfd_reader.specs.Counted.{counts_of as the_counts_of};
 ghost use Rattle.vnfd_reader.specs.CountsSeen.{aim_seen, counts_seen};
 
 use lcm_events::{Level, Vnfd};
@@ -54,7 +55,10 @@ fn level_counts(
     requires valid { IsValid vnfd.now }
     requires level { is_valid_level vnfd.now level.now ≡ true }
     requires vdus { length vdus.now ≤ 64 }
-    ensures { IfOk result (λ found. counts_seen found ≡ (level.now.name, the_counts_at vnfd.now (map seen vdus.now) level.now.numbers)) }
+    ensures { IfOk result (λ found. counts_seen found ≡ (
+      level.now.name,
+      the_counts_at vnfd.now (map seen vdus.now) level.now.numbers,
+    )) }
 {
     Ok(LevelCounts {
         name: level.name,
@@ -94,7 +98,8 @@ pub fn counts_of<'a>(table: &'a [LevelCounts], level: &str) -> Option<&'a [u32]>
 }
 
 fn counts_named<'a>(table: &'a [LevelCounts], name: &Name) -> Option<&'a [u32]>
-    ensures { option_copied result ≡ option_map (λ x. x.1) (find (λ x. same_name x.0 name.now) (map counts_seen table.now)) }
+    ensures { option_copied result ≡ option_map (λ x. x.1)
+        (find (λ x. same_name x.0 name.now) (map counts_seen table.now)) }
 {
     for level in table {
         if level.name == *name {
@@ -111,7 +116,8 @@ pub fn aims<'a>(
     policy: &'a Value,
 ) -> Result<Option<Vec<Aim<'a>>>, AllocError>
     requires { length vdus.now ≤ 64 }
-    ensures { IfOk result (λ found. option_map (λ aims. map aim_seen aims.items) found ≡ option_map (map (aim_at (map seen vdus.now))) (the_targets (view policy.now))) }
+    ensures { IfOk result (λ found. option_map (λ aims. map aim_seen aims.items) found
+        ≡ option_map (map (aim_at (map seen vdus.now))) (the_targets (view policy.now))) }
 {
     match targets(alloc, policy)? {
         Some(names) => Ok(Some(aims_at(alloc, vdus, names.as_slice())?)),
@@ -125,7 +131,8 @@ fn aims_at<'a>(
     targets: &[&'a str],
 ) -> Result<Vec<Aim<'a>>, AllocError>
     requires { length vdus.now ≤ 64 }
-    ensures { IfOk result (λ found. map aim_seen found.items ≡ map (aim_at (map seen vdus.now)) (map (λ t. t.now) targets.now)) }
+    ensures { IfOk result (λ found. map aim_seen found.items
+        ≡ map (aim_at (map seen vdus.now)) (map (λ t. t.now) targets.now)) }
 {
     let mut found = Vec::new(alloc);
     for target in targets {

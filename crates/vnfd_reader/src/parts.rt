@@ -7,7 +7,8 @@ ghost use Rattle.vnfd_document.specs.Seen.{seen};
 ghost use Rattle.vnfd_nodes.specs.Nodes.{product_refusal};
 ghost use Rattle.vnfd_nodes.specs.Seen.{nodes_seen};
 ghost use Rattle.vnfd_reader.specs.Ordered.{ComeInOrder};
-ghost use Rattle.vnfd_reader.specs.Answer.{document_answer, names_refusal, parts_answer, parts_refusal, product_of, vdus_of, vnfd_of};
+ghost use Rattle.vnfd_reader.specs.Answer.{document_answer, names_refusal, parts_answer, parts_refusal, product_of};
+ghost use Rattle.vnfd_reader.specs.Answer.{vdus_of, vnfd_of};
 ghost use Rattle.vnfd_policies.specs.ByType.{HaveAspects, HaveDeltas, HaveInitials, HaveLevels, HaveNumbers};
 
 use crate::steps::refuse_steps;
@@ -171,7 +172,8 @@ fn vdus(
     requires levels { HaveLevels policies.now }
     requires numbers { HaveNumbers policies.now }
     requires storages { length storages.now ≤ 128 }
-    ensures { IfOk result (λ found. found ≡ vdus_of (map seen storages.now) (map seen policies.now.all.items) (map seen templates.now)) }
+    ensures { IfOk result (λ found. found ≡ vdus_of (map seen storages.now) (map seen policies.now.all.items)
+        (map seen templates.now)) }
 {
     let mut found = Vec::new(alloc);
     for template in templates {

@@ -4,9 +4,11 @@ ghost use Rattle.serde_json.specs.View.{view};
 ghost use Rattle.lcm_model.specs.Descriptors.{IsValid};
 ghost use Rattle.vnfd_document.specs.Checks.{Refuses, fault_of, first_failing};
 ghost use Rattle.vnfd_document.specs.Seen.{seen};
-ghost use Rattle.vnfd_reader.specs.Counted.{aim_refusal, aims_refusal, at_level_refusal, at_levels_refusal, counted as the_counted, counts_of as the_counts_of};
+ghost use Rattle.vnfd_reader.specs.Counted.{aim_refusal, aims_refusal, at_level_refusal, at_levels_refusal};
+ghost use Rattle.vnfd_reader.specs.Counted.{counted as the_counted, counts_of as the_counts_of};
 ghost use Rattle.vnfd_reader.specs.CountsSeen.{aim_seen, counts_seen};
-ghost use Rattle.vnfd_reader.specs.Steps.{is_stated as the_is_stated, policy_refusal, stated as the_stated, steps_refusal};
+ghost use Rattle.vnfd_reader.specs.Steps.{is_stated as the_is_stated, policy_refusal, stated as the_stated};
+ghost use Rattle.vnfd_reader.specs.Steps.{steps_refusal};
 
 use crate::counts::{Aim, LevelCounts, aims, counted, counts_of};
 use lcm_events::Vnfd;
@@ -43,7 +45,8 @@ fn refuse_policies(
 ) -> Result<(), VnfdFault>
     requires table { map counts_seen table.now ≡ the_counted vnfd.now (map seen vdus.now) }
     requires vdus { length vdus.now ≤ 64 }
-    ensures { Refuses result (first_failing (λ p. policy_refusal vnfd.now (map seen vdus.now) p.1) (map seen policies.now)) }
+    ensures { Refuses result (first_failing (λ p. policy_refusal vnfd.now (map seen vdus.now) p.1)
+        (map seen policies.now)) }
 {
     for policy in policies {
         refuse_policy(alloc, vnfd, table, vdus, policy.value)?;
@@ -76,7 +79,8 @@ fn refuse_levels(
     aims: Option<&[Aim]>,
     levels: &[Entry],
 ) -> Result<(), VnfdFault>
-    ensures { fault_of result ≡ at_levels_refusal (map counts_seen table.now) (option_map (λ aims. map aim_seen aims.now) aims.entry) (map seen levels.now) }
+    ensures { fault_of result ≡ at_levels_refusal (map counts_seen table.now)
+        (option_map (λ aims. map aim_seen aims.now) aims.entry) (map seen levels.now) }
 {
     for level in levels {
         refuse_level(table, aims, level)?;
@@ -85,7 +89,8 @@ fn refuse_levels(
 }
 
 fn refuse_level(table: &[LevelCounts], aims: Option<&[Aim]>, level: &Entry) -> Result<(), VnfdFault>
-    ensures { fault_of result ≡ at_level_refusal (option_map (λ aims. map aim_seen aims.now) aims.entry) (seen level.now) (the_counts_of (map counts_seen table.now) level.now.name.now) }
+    ensures { fault_of result ≡ at_level_refusal (option_map (λ aims. map aim_seen aims.now) aims.entry)
+        (seen level.now) (the_counts_of (map counts_seen table.now) level.now.name.now) }
 {
     match counts_of(table, level.name) {
         Some(counts) => refuse_targets(counts, stated(level.value), level.name, aims),
@@ -99,7 +104,8 @@ fn refuse_targets(
     level: &str,
     aims: Option<&[Aim]>,
 ) -> Result<(), VnfdFault>
-    ensures { fault_of result ≡ aims_refusal counts.now number level.now (option_map (λ aims. map aim_seen aims.now) aims.entry) }
+    ensures { fault_of result ≡ aims_refusal counts.now number level.now
+        (option_map (λ aims. map aim_seen aims.now) aims.entry) }
 {
     match aims {
         Some(aims) => refuse_each(counts, number, level, aims),

@@ -121,8 +121,8 @@ fn start_among(rt: &HostRuntime, streams: &Held, settings: &Settings) -> u8 {
     }
 }
 
-/// Starts the program for `once`, the one command that calls its peers. Where the numbers of the standard streams can't be held, no socket is
-/// opened.
+/// Starts the program for `once`, the one command that calls its peers. Where the numbers of the standard streams can't
+/// be held, no socket is opened.
 fn start_once(rt: &HostRuntime, settings: &Settings) -> u8 {
     let mut device = NullFiles::of(rt);
     match hold_streams(&mut device) {

@@ -51,7 +51,19 @@ bytes-ident manager kind n =
                   omega arith,
                   (
                     small,
-                    (omega arith, (omega arith, (omega arith, (omega arith, (omega arith, (omega arith, (omega arith, (omega arith, tt)))))))),
+                    (
+                      omega arith,
+                      (
+                        omega arith,
+                        (
+                          omega arith,
+                          (
+                            omega arith,
+                            (omega arith, (omega arith, (omega arith, (omega arith, tt)))),
+                          ),
+                        ),
+                      ),
+                    ),
                   ),
                 ),
               ),

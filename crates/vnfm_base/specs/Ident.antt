@@ -16,9 +16,11 @@ kind_byte Occurrence = 2
 kind_byte Subscription = 3
 kind_byte Notice = 4
 
--- the manager's number, "vm", the version, what is named, and its number behind the variant's bit (RFC 9562 5.8; own layout)
+-- the manager's number, "vm", the version, what is named, and its number behind the variant's bit (RFC 9562 5.8; own
+-- layout)
 unfoldable pub ident : ℕ → Kind → ℕ → List ℕ
-ident manager kind n = to_be_bytes w32 manager ++ (118 ∷ 109 ∷ 128 ∷ kind_byte kind ∷ [] ++ to_be_bytes w64 (2 ^ 63 + n))
+ident manager kind n = to_be_bytes w32 manager ++ (118 ∷ 109 ∷ 128 ∷ kind_byte kind ∷ []
+    ++ to_be_bytes w64 (2 ^ 63 + n))
 
 -- the text of an identifier: lower case, with hyphens (RFC 9562 4)
 unfoldable pub ident_text : List ℕ → List ℕ

@@ -1,5 +1,6 @@
 -- Names and lines: the short texts that requests, answers and events carry (own rule).
-use Rattle.std.specs.Prelude.{ℕ, ◌≡◌, ◌≢◌, ◌-◌, ◌≤◌, ◌==◌, ◌&&◌, not, nat_le, nat_lt, Bool, List, ◌++◌, length, take, replicate, All, IsUtf8}
+use Rattle.std.specs.Prelude.{ℕ, ◌≡◌, ◌≢◌, ◌-◌, ◌≤◌, ◌==◌, ◌&&◌, not, nat_le, nat_lt, Bool, List, ◌++◌, length, take}
+use Rattle.std.specs.Prelude.{replicate, All, IsUtf8}
 use Rattle.std.specs.List.{list_all}
 use Rattle.std.specs.Str.{is_utf8}
 
@@ -39,5 +40,6 @@ pub record HoldsName (len : ℕ) (room : List ℕ) : Type 0 where
   pub name : IsName (take len room)
 
 -- so the text gives the room back
-pub HoldsName-room : (len : ℕ) (room : List ℕ) → HoldsName len room → take len room ++ replicate (255 - length (take len room)) 0 ≡ room
+pub HoldsName-room : (len : ℕ) (room : List ℕ) → HoldsName len room
+    → take len room ++ replicate (255 - length (take len room)) 0 ≡ room
 HoldsName-room len room h = rw h.len_is h.zeros

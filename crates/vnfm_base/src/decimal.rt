@@ -3,7 +3,8 @@ ghost use Rattle.std.specs.Prelude.{◌≡◌, ◌<◌, ◌^◌, ℕ, IfSome, So
 
 use itoa::Buffer;
 
-/// The number that this text is in decimal, without a sign or a leading zero; `None` exactly where it is none below 2^64.
+/// The number that this text is in decimal, without a sign or a leading zero; `None` exactly where it is none below
+/// 2^64.
 ///
 /// Source: own rule.
 pub fn whole_number(digits: &str) -> Option<u64>

@@ -89,7 +89,8 @@ pub fn ident_read(text: &[u8], manager: u32, kind: Kind) -> Option<u64>
 /// The number in the last eight bytes of the UUID with this text, where it is one.
 fn number_in(text: &[u8]) -> Option<u64>
     ensures found { IfSome result IsIdentNumber }
-    ensures number { (manager : ℕ) (kind : Kind) (n : ℕ) → IsIdentNumber n → text.now ≡ ident_text (ident manager kind n) → result ≡ Some n }
+    ensures number { (manager : ℕ) (kind : Kind) (n : ℕ) → IsIdentNumber n
+        → text.now ≡ ident_text (ident manager kind n) → result ≡ Some n }
 {
     match Uuid::try_parse_ascii(text) {
         Ok(id) => number_of(&id),

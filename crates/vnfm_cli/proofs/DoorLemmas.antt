@@ -1,5 +1,6 @@
 -- Which calls of the door failed in a run, by its course.
-use Rattle.std.proofs.Common.{◌≡◌, ◌⊎◌, ℕ, Bool, true, false, List, [], ◌∷◌, Option, Some, None, Ok, Err, ap, subst, refl, inl, inr, ⊎_elim, ◌∙◌}
+use Rattle.std.proofs.Common.{◌≡◌, ◌⊎◌, ℕ, Bool, true, false, List, [], ◌∷◌, Option, Some, None, Ok, Err, ap, subst, refl, inl, inr, ⊎_elim}
+use Rattle.std.proofs.Common.{◌∙◌}
 use Rattle.executor.specs.declared.manager.OpenFault.{OpenFault}
 use Rattle.executor.specs.declared.manager.OpenFault.TheVariants as opening
 use Rattle.journal_core.specs.declared.create.CreateFault.TheVariants as creating
@@ -10,13 +11,16 @@ use Rattle.lcm_api.specs.World.{Peers, WorldTells}
 use Rattle.lcm_events.specs.declared.events.Event.{Event}
 use Rattle.lcm_events.specs.declared.states.Role.{Role}
 use Rattle.lcm_sessions.specs.Doing.{Brings, BringsNothing, OnboardingAtDoor}
-use Rattle.lcm_sessions.specs.Onboarding.{Ended, done, starving as lacking, breaking, Onboarding, unready, unheard, cut_off, heard, judged_answer}
+use Rattle.lcm_sessions.specs.Onboarding.{Ended, done, starving as lacking, breaking, Onboarding, unready, unheard, cut_off, heard}
+use Rattle.lcm_sessions.specs.Onboarding.{judged_answer}
 use Rattle.lcm_sessions.specs.Verdict.{Verdict, refused, full as no_room, accepted, verdict}
 use Rattle.site_traits.specs.Counts.{one_more}
 use Rattle.site_traits.specs.Door.{DoorCounts, call_failed, closed, next_failed, opened as has_come}
 use Rattle.command_line.specs.declared.options.Command.TheVariants.{Onboard, Once}
 use Rattle.vnfm_cli.specs.Causes.{FailsAtDoor}
-use Rattle.vnfm_commands.specs.Course.{Course, misused, starved, making, unopened, opened, Opening, serving, onboarding, Visit, unasked, served, Round, Close, finished, unreached, stopped, halted, full, starving, broken, IsOfWords, close_ending, ending_of, once_made, onboarding_ending}
+use Rattle.vnfm_commands.specs.Course.{Course, misused, starved, making, unopened, opened, Opening, serving, onboarding, Visit, unasked}
+use Rattle.vnfm_commands.specs.Course.{served, Round, Close, finished, unreached, stopped, halted, full, starving, broken, IsOfWords}
+use Rattle.vnfm_commands.specs.Course.{close_ending, ending_of, once_made, onboarding_ending}
 use Rattle.vnfm_cli.specs.DoorFaults.{CountsFaults, CountsOnboarding, close_counts, rounds_counts, talk_counts, visit_counts}
 use Rattle.vnfm_commands.specs.Outside.{Beside, Tells, session_peers, session_tells}
 use Rattle.vnfm_commands.specs.Rounds.{CloseDoes, Receives, RoundsDo, Visits}
@@ -47,9 +51,11 @@ close_counted : (t : Tells) (m : ℕ) (H : List Event) (close : Close) (a b : Be
     → b.mouth.wire.intake.counts ≡ close_counts close a.mouth.wire.intake.counts
 close_counted t m H finished a b does = ap (λ (p : Beside). p.mouth.wire.intake.counts) does
 close_counted t m H unreached a b does = does.0.unreached.counts
-close_counted t m H (stopped came talk) a b does = receives_counted (session_tells t) m H came talk (session_peers a) (session_peers b) does.0.0
+close_counted t m H (stopped came talk) a b does = receives_counted (session_tells t) m H came talk (session_peers a)
+    (session_peers b) does.0.0
 close_counted t m H (halted visit turn end why) a b does =
-    ap (λ (x : MouthState). x.wire.intake.counts) does.2.mouth ∙ visit_counted (session_tells t) m H visit (session_peers a) (session_peers does.0) does.1.visits
+    ap (λ (x : MouthState). x.wire.intake.counts) does.2.mouth ∙ visit_counted (session_tells t) m H visit (session_peers a)
+    (session_peers does.0) does.1.visits
 
 -- what came of onboarding
 brought_counts : (tells : Type 0) (bytes : List ℕ) (failed : Bool) (a b : MouthState) → Brings tells bytes failed a b
@@ -67,7 +73,8 @@ onboarding_counted tells (heard bytes now ended) a b at = ⊎_elim
     at
 
 -- each call that failed is counted, and nothing else
-pub course_counted : (t : Tells) (course : Course) (a b : Beside) → CourseDoes t course a b → CountsFaults course a.mouth.wire.intake.counts b.mouth.wire.intake.counts
+pub course_counted : (t : Tells) (course : Course) (a b : Beside) → CourseDoes t course a b
+    → CountsFaults course a.mouth.wire.intake.counts b.mouth.wire.intake.counts
 course_counted t misused a b does = ap (λ (p : Beside). p.mouth.wire.intake.counts) does
 course_counted t starved a b does = ap (λ (p : Beside). p.mouth.wire.intake.counts) does
 course_counted t (making number result) a b does = ap (λ (p : Peers). p.mouth.wire.intake.counts) does.peers
@@ -103,7 +110,8 @@ rounds_next [] c = refl
 rounds_next (r ∷ before) c = visit_next r.visit (rounds_counts before c) ∙ rounds_next before c
 
 -- a run that can't end so leaves the counts
-quiet : (words : List (List ℕ)) (P : Type 0) (a b : DoorCounts) → (P → ⊥) → (b.next ≡ a.next) × (b.faults ≡ a.faults) → FailsAtDoor words P a b
+quiet : (words : List (List ℕ)) (P : Type 0) (a b : DoorCounts) → (P → ⊥) → (b.next ≡ a.next) × (b.faults ≡ a.faults)
+    → FailsAtDoor words P a b
 quiet words P a b never same = record {
   rose = λ is. absurd (never is);
   stays = λ _. same.0;
@@ -114,7 +122,8 @@ same_counts : (a b : DoorCounts) → b ≡ a → (b.next ≡ a.next) × (b.fault
 same_counts a b is = (ap (λ (c : DoorCounts). c.next) is, ap (λ (c : DoorCounts). c.faults) is)
 
 -- a run that ends so, for one call that failed
-loud : (words : List (List ℕ)) (P : Type 0) (a b : DoorCounts) → P → (b.next ≡ one_more a.next) ⊎ (AreWordsOf Onboard words × (b.next ≡ a.next)) → b.faults ≡ one_more a.faults
+loud : (words : List (List ℕ)) (P : Type 0) (a b : DoorCounts) → P
+    → (b.next ≡ one_more a.next) ⊎ (AreWordsOf Onboard words × (b.next ≡ a.next)) → b.faults ≡ one_more a.faults
     → FailsAtDoor words P a b
 loud words P a b is next faults = record {
   rose = λ _. next;
@@ -123,7 +132,8 @@ loud words P a b is next faults = record {
 }
 
 -- rounds end so exactly where waiting failed
-serving_fails : (words : List (List ℕ)) (n : ℕ) (close : Close) (a b c : DoorCounts) → AreWordsOf Once words → c.next ≡ a.next → b ≡ close_counts close c
+serving_fails : (words : List (List ℕ)) (n : ℕ) (close : Close) (a b c : DoorCounts) → AreWordsOf Once words → c.next ≡ a.next
+    → b ≡ close_counts close c
     → FailsAtDoor words (close_ending n close ≡ Err DoorFailure) a b
 serving_fails words n close a b c once same is = by close (ap (λ (k : DoorCounts). k.next) is)
   where
@@ -132,7 +142,12 @@ serving_fails words n close a b c once same is = by close (ap (λ (k : DoorCount
 
     by : (x : Close) → b.next ≡ (close_counts x c).next → FailsAtDoor words (close_ending n x ≡ Err DoorFailure) a b
     by finished next = stays _ (λ p. cc p) next
-    by unreached next = record { rose = λ _. inl (next ∙ ap one_more same); stays = λ never. absurd (never refl); faults = λ other. absurd (other once) }
+    by unreached next = record {
+      rose = λ _. inl (next ∙ ap one_more same);
+      stays = λ never. absurd (never refl);
+      faults =
+          λ other. absurd (other once);
+    }
     by (stopped came talk) next = stays _ (λ p. cc p) (next ∙ talk_next talk.end c)
     by (halted visit turn end (full e more)) next = stays _ (λ p. cc p) (next ∙ visit_next visit c)
     by (halted visit turn end starving) next = stays _ (λ p. cc p) (next ∙ visit_next visit c)
@@ -147,13 +162,17 @@ never_door v lacking is = cc is
 never_door v breaking is = cc is
 
 -- onboarding ends so exactly where waiting or a read failed
-onboarding_ends : (words : List (List ℕ)) (start : Opening) (o : Onboarding) (a b : DoorCounts) → AreWordsOf Onboard words → CountsOnboarding o a b
+onboarding_ends : (words : List (List ℕ)) (start : Opening) (o : Onboarding) (a b : DoorCounts) → AreWordsOf Onboard words
+    → CountsOnboarding o a b
     → FailsAtDoor words (ending_of (opened start (onboarding o)) ≡ Err DoorFailure) a b
 onboarding_ends words start unready a b on counted = quiet words _ a b (λ is. cc is) (same_counts a b counted)
-onboarding_ends words start unheard a b on counted = let same = same_counts (next_failed a) b counted in loud words _ a b refl (inl same.0) same.1
-onboarding_ends words start (cut_off bytes) a b on counted = let same = same_counts (closed (call_failed (has_come a))) b counted in loud words _ a b refl (inr (on, same.0)) same.1
+onboarding_ends words start unheard a b on counted = let same = same_counts (next_failed a) b counted in
+    loud words _ a b refl (inl same.0) same.1
+onboarding_ends words start (cut_off bytes) a b on counted = let same = same_counts (closed (call_failed (has_come a))) b counted in
+    loud words _ a b refl (inr (on, same.0)) same.1
 onboarding_ends words start (heard bytes now ended) a b on counted =
-    quiet words _ a b (never_door (verdict start.history now bytes) ended) (⊎_elim (same_counts (closed (has_come a)) b) (same_counts a b) counted)
+    quiet words _ a b (never_door (verdict start.history now bytes) ended)
+    (⊎_elim (same_counts (closed (has_come a)) b) (same_counts a b) counted)
 
 -- no journal that wasn't opened is a fault of the door
 never_opening : (why : OpenFault) → ending_of (unopened why) ≡ Err DoorFailure → ⊥
@@ -168,18 +187,25 @@ pub course_fails : (t : Tells) (words : List (List ℕ)) (course : Course) (a b 
     → FailsAtDoor words (ending_of course ≡ Err DoorFailure) a.mouth.wire.intake.counts b.mouth.wire.intake.counts
 course_fails t words misused a b of does = quiet words _ _ _ (λ is. cc is) (same_counts _ _ (course_counted t misused a b does))
 course_fails t words starved a b of does = quiet words _ _ _ (λ is. cc is) (same_counts _ _ (course_counted t starved a b does))
-course_fails t words (making number (Ok made)) a b of does = quiet words _ _ _ (λ is. cc is) (same_counts _ _ (course_counted t (making number (Ok made)) a b does))
-course_fails t words (making number (Err creating.Taken)) a b of does = quiet words _ _ _ (λ is. cc is) (same_counts _ _ (course_counted t (making number (Err creating.Taken)) a b does))
-course_fails t words (making number (Err creating.Disk)) a b of does = quiet words _ _ _ (λ is. cc is) (same_counts _ _ (course_counted t (making number (Err creating.Disk)) a b does))
-course_fails t words (unopened why) a b of does = quiet words _ _ _ (never_opening why) (same_counts _ _ (course_counted t (unopened why) a b does))
+course_fails t words (making number (Ok made)) a b of does = quiet words _ _ _ (λ is. cc is)
+    (same_counts _ _ (course_counted t (making number (Ok made)) a b does))
+course_fails t words (making number (Err creating.Taken)) a b of does =
+    quiet words _ _ _ (λ is. cc is) (same_counts _ _ (course_counted t (making number (Err creating.Taken)) a b does))
+course_fails t words (making number (Err creating.Disk)) a b of does =
+    quiet words _ _ _ (λ is. cc is) (same_counts _ _ (course_counted t (making number (Err creating.Disk)) a b does))
+course_fails t words (unopened why) a b of does = quiet words _ _ _ (never_opening why)
+    (same_counts _ _ (course_counted t (unopened why) a b does))
 course_fails t words (opened start (serving service)) a b of does =
-    serving_fails words _ service.close _ _ (rounds_counts service.rounds a.mouth.wire.intake.counts) (record { settings = of.settings; set = of.set; is = of.is.command })
+    serving_fails words _ service.close _ _ (rounds_counts service.rounds a.mouth.wire.intake.counts)
+    (record { settings = of.settings; set = of.set; is = of.is.command })
     (rounds_next service.rounds _) (course_counted t (opened start (serving service)) a b does)
 course_fails t words (opened start (onboarding o)) a b of does =
-    onboarding_ends words start o _ _ (record { settings = of.settings; set = of.set; is = of.is }) (course_counted t (opened start (onboarding o)) a b does)
+    onboarding_ends words start o _ _ (record { settings = of.settings; set = of.set; is = of.is })
+    (course_counted t (opened start (onboarding o)) a b does)
 
 -- the same of another way to say how it ended
-pub fails_with : (words : List (List ℕ)) (P Q : Type 0) (a b : DoorCounts) → (P → Q) → (Q → P) → FailsAtDoor words P a b → FailsAtDoor words Q a b
+pub fails_with : (words : List (List ℕ)) (P Q : Type 0) (a b : DoorCounts) → (P → Q) → (Q → P) → FailsAtDoor words P a b
+    → FailsAtDoor words Q a b
 fails_with words P Q a b there back fails = record {
   rose = λ is. fails.rose (back is);
   stays = λ never. fails.stays (λ is. never (there is));

@@ -5,7 +5,8 @@ use Rattle.std.proofs.lemmas.Bool.{ne_eqb}
 use Rattle.vnfm_commands.specs.Ending.{Ending, failure_status, status_of, told_status, IsStatus}
 use Rattle.vnfm_commands.specs.Runs.{IsOrYields}
 use Rattle.vnfm_commands.specs.declared.ending.Failure.{Failure}
-use Rattle.vnfm_commands.specs.declared.ending.Failure.TheVariants.{Usage, SiteFault, DoorFault, NoJournal, NotAJournal, NoMemory, BadRecord, JournalFull, DescriptorRefused, Taken}
+use Rattle.vnfm_commands.specs.declared.ending.Failure.TheVariants.{Usage, SiteFault, DoorFault, NoJournal, NotAJournal, NoMemory}
+use Rattle.vnfm_commands.specs.declared.ending.Failure.TheVariants.{BadRecord, JournalFull, DescriptorRefused, Taken}
 
 -- a status but 7 is the ending's
 pub status_told : (put : Bool) (s n : ℕ) → told_status put s ≡ n → n ≢ 7 → s ≡ n
@@ -46,7 +47,8 @@ is_status true (Ok report) = inl refl
 is_status false (Ok report) = inr (omega arith, omega arith)
 is_status put (Err why) = let is = failure_is why in
     let least = is.least in
-    subst IsStatus (sym (told_same put (failure_status why) (failure_status why) refl (λ none. omega (arith, none, least)))) (inr (is.least, is.most))
+    subst IsStatus (sym (told_same put (failure_status why) (failure_status why) refl (λ none. omega (arith, none, least))))
+    (inr (is.least, is.most))
 
 -- status 7 is that of a report whose line was lost
 pub seven_lost : (put : Bool) (e : Ending) → told_status put (status_of e) ≡ 7 → (put ≡ false) × (status_of e ≡ 0)
@@ -63,7 +65,8 @@ Where true T = T
 Where false T = Unit {0}
 
 -- the words are no command, the disk failed, or the door did: each has a status of its own
-pub told_by : (e : Ending) → Where (status_of e == 2) (e ≡ Err Usage) × Where (status_of e == 3) (e ≡ Err SiteFault) × Where (status_of e == 4) (e ≡ Err DoorFault)
+pub told_by : (e : Ending) → Where (status_of e == 2) (e ≡ Err Usage) × Where (status_of e == 3) (e ≡ Err SiteFault)
+    × Where (status_of e == 4) (e ≡ Err DoorFault)
 told_by (Ok report) = (tt, tt, tt)
 told_by (Err Usage) = (refl, tt, tt)
 told_by (Err SiteFault) = (tt, refl, tt)
@@ -96,7 +99,8 @@ put_told false s n is put = absurd (put refl)
 put_told true s n is put = is
 
 -- a status of 0 or 7 is that of an ending with 0
-pub done_status : (put : Bool) (e : Ending) (result : ℕ) → result ≡ told_status put (status_of e) → (result ≡ 0) ⊎ (result ≡ 7) → status_of e ≡ 0
+pub done_status : (put : Bool) (e : Ending) (result : ℕ) → result ≡ told_status put (status_of e) → (result ≡ 0) ⊎ (result ≡ 7)
+    → status_of e ≡ 0
 done_status put e result is at = ⊎_elim
     (λ (none : result ≡ 0). status_told put (status_of e) 0 (sym is ∙ none) (omega arith))
     (λ (seven : result ≡ 7). (seven_lost put e (sym is ∙ seven)).1)

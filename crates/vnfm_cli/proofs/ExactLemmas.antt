@@ -16,7 +16,9 @@ use Rattle.site_traits.specs.Door.{DoorCounts}
 use Rattle.site_traits.specs.Site.{SiteState}
 use Rattle.vnfm_cli.specs.Causes.{FailsAtDoor}
 use Rattle.vnfm_cli.proofs.EndingLemmas.{Where}
-use Rattle.vnfm_commands.specs.Course.{Course, misused, starved, making, unopened, opened, Close, finished, unreached, stopped, halted, full, starving, broken, serving, onboarding, close_ending, ending_of, onboarding_ending, unopened_failure, IsOf, IsOfSettings, IsOfWords}
+use Rattle.vnfm_commands.specs.Course.{Course, misused, starved, making, unopened, opened, Close, finished, unreached, stopped, halted}
+use Rattle.vnfm_commands.specs.Course.{full, starving, broken, serving, onboarding, close_ending, ending_of, onboarding_ending}
+use Rattle.vnfm_commands.specs.Course.{unopened_failure, IsOf, IsOfSettings, IsOfWords}
 use Rattle.vnfm_commands.specs.Ending.{failure_status, status_of}
 use Rattle.vnfm_commands.specs.Runs.{AtFile, IsDoorCause, IsLegalCourse, IsNoJournal, IsOrYields, IsSoundStart, IsStartOf, MayEndWith}
 use Rattle.journal_core.specs.Create.{IsMade}
@@ -42,13 +44,15 @@ pub commanded : (P : Type 0) (words : List (List ℕ)) (s : Settings) → settin
 commanded P words s some none = cc
 
 -- the course of words that set something is one of that
-of_settings : (words : List (List ℕ)) (course : Course) (s : Settings) → settings_of words ≡ Some s → IsOfSettings words course → IsOf s course
+of_settings : (words : List (List ℕ)) (course : Course) (s : Settings) → settings_of words ≡ Some s → IsOfSettings words course
+    → IsOf s course
 of_settings words course s set of =
     let P : Settings → Type 0 = λ x. IsOf x course in
     subst P (set_once words of.settings s of.set set) of.is
 
 -- words that load a journal don't make one
-not_making : (P : Type 0) (words : List (List ℕ)) (number : ℕ) (result : Result (Unit {0}) CreateFault) → AreLoading words → IsOfSettings words (making number result) → P
+not_making : (P : Type 0) (words : List (List ℕ)) (number : ℕ) (result : Result (Unit {0}) CreateFault) → AreLoading words
+    → IsOfSettings words (making number result) → P
 not_making P words number result are of =
     let init = (of_settings words (making number result) are.settings are.set of).0 in
     absurd (false≢true (ap loads (sym init) ∙ are.loading))
@@ -60,11 +64,12 @@ verdict_status (no_room end more) = inr (inr (inl refl))
 verdict_status (accepted vnfd) = inl refl
 
 -- the words of a course that makes a journal are `init`'s, for that manager
-init_words : (words : List (List ℕ)) (number : ℕ) (result : Result (Unit {0}) CreateFault) → IsOfSettings words (making number result) → AreInit number words
+init_words : (words : List (List ℕ)) (number : ℕ) (result : Result (Unit {0}) CreateFault) → IsOfSettings words (making number result)
+    → AreInit number words
 init_words words number result of = record { settings = of.settings; set = of.set; is = of.is.0; number = sym of.is.1 }
 
--- what a status tells of the words and of the file at the start: 5 of one that is no journal, 8 of a bad record, 9 and 10 of the command, 11 of a file
--- that isn't unfinished for the manager of `init`
+-- what a status tells of the words and of the file at the start: 5 of one that is no journal, 8 of a bad record, 9 and 10 of the command,
+-- 11 of a file that isn't unfinished for the manager of `init`
 abbrev pub IsTold : Type 0 → List (List ℕ) → SiteState → ℕ → Type 0
 IsTold tells words a n =
     Where (n == 5) (tells → IsNoJournal a.image)
@@ -88,22 +93,31 @@ module _ (tells : Type 0) (words : List (List ℕ)) (a b : SiteState) where
   judged_so on (no_room end more) = (tt, tt, inl on, tt, tt)
   judged_so on (accepted vnfd) = (tt, tt, tt, tt, tt)
 
-  pub told_so : (course : Course) → IsOfWords words course → (tells → AtFile course a b) → IsTold tells words a (status_of (ending_of course))
+  pub told_so : (course : Course) → IsOfWords words course → (tells → AtFile course a b)
+      → IsTold tells words a (status_of (ending_of course))
   told_so misused of at = (tt, tt, tt, tt, tt)
   told_so starved of at = (tt, tt, tt, tt, tt)
   told_so (making number (Ok u)) of at = (tt, tt, tt, tt, tt)
-  told_so (making number (Err creating.Taken)) of at = (tt, tt, tt, tt, λ told. (number, init_words words number (Err creating.Taken) of, (at told).taken refl))
+  told_so (making number (Err creating.Taken)) of at = (
+    tt,
+    tt,
+    tt,
+    tt,
+    λ told. (number, init_words words number (Err creating.Taken) of, (at told).taken refl),
+  )
   told_so (making number (Err creating.Disk)) of at = (tt, tt, tt, tt, tt)
   told_so (unopened opening.Unmade) of at = ((λ told. inl (at told).because), tt, tt, tt, tt)
   told_so (unopened (opening.Foreign place)) of at = ((λ told. inr (place, (at told).because)), tt, tt, tt, tt)
   told_so (unopened (opening.BadRecord n)) of at = (tt, (λ told. (n, (at told).because)), tt, tt, tt)
   told_so (unopened opening.Disk) of at = (tt, tt, tt, tt, tt)
   told_so (unopened opening.Memory) of at = (tt, tt, tt, tt, tt)
-  told_so (opened start (serving service)) of at = closed_so (record { settings = of.settings; set = of.set; is = of.is.command }) _ service.close
+  told_so (opened start (serving service)) of at = closed_so (record { settings = of.settings; set = of.set; is = of.is.command }) _
+      service.close
   told_so (opened start (onboarding unready)) of at = (tt, tt, tt, tt, tt)
   told_so (opened start (onboarding unheard)) of at = (tt, tt, tt, tt, tt)
   told_so (opened start (onboarding (cut_off bytes))) of at = (tt, tt, tt, tt, tt)
-  told_so (opened start (onboarding (heard bytes now done))) of at = judged_so (record { settings = of.settings; set = of.set; is = of.is }) (verdict start.history now bytes)
+  told_so (opened start (onboarding (heard bytes now done))) of at =
+      judged_so (record { settings = of.settings; set = of.set; is = of.is }) (verdict start.history now bytes)
   told_so (opened start (onboarding (heard bytes now breaking))) of at = (tt, tt, tt, tt, tt)
   told_so (opened start (onboarding (heard bytes now no_memory))) of at = (tt, tt, tt, tt, tt)
 
@@ -113,18 +127,21 @@ of_command : (command : Command) (words : List (List ℕ)) (course : Course) →
 of_command command words course are of = (are.settings, are.is, of_settings words course are.settings are.set of)
 
 -- the course of `init`'s words is one of `init`, for their manager
-pub of_init : (m : ℕ) (words : List (List ℕ)) (course : Course) → AreInit m words → IsOfSettings words course → (s : Settings) × (s.command ≡ Init) × (s.manager ≡ m) × IsOf s course
+pub of_init : (m : ℕ) (words : List (List ℕ)) (course : Course) → AreInit m words → IsOfSettings words course
+    → (s : Settings) × (s.command ≡ Init) × (s.manager ≡ m) × IsOf s course
 of_init m words course are of = (are.settings, are.is, are.number, of_settings words course are.settings are.set of)
 
 -- settings of a command aren't those of another course
 pub never_unopened : (P : Type 0) (s : Settings) (why : OpenFault) → s.command ≡ Init → IsOf s (unopened why) → P
 never_unopened P s why init is = absurd (false≢true (ap loads (sym init) ∙ is))
 
-pub never_served : (P : Type 0) (s : Settings) (command : Command) (c : Command) → s.command ≡ command → s.command ≡ c → (command ≡ c → ⊥) → P
+pub never_served : (P : Type 0) (s : Settings) (command : Command) (c : Command) → s.command ≡ command → s.command ≡ c → (command ≡ c → ⊥)
+    → P
 never_served P s command c one other different = absurd (different (sym one ∙ other))
 
 -- a file that isn't unfinished for the manager is told so
-pub taken_ending : (course : Course) (words : List (List ℕ)) (a b : SiteState) (m : ℕ) → AreInit m words → IsOfWords words course → AtFile course a b
+pub taken_ending : (course : Course) (words : List (List ℕ)) (a b : SiteState) (m : ℕ) → AreInit m words → IsOfWords words course
+    → AtFile course a b
     → (IsUnfinished m a.image → ⊥) → IsOrYields 11 (status_of (ending_of course))
 taken_ending misused words a b m are of at not = commanded _ words are.settings are.set of
 taken_ending starved words a b m are of at not = inr (inr refl)
@@ -133,12 +150,16 @@ taken_ending (making number (Ok u)) words a b m are of at not =
     absurd ((at.kept (λ unfinished. not (subst (λ k. IsUnfinished k a.image) same unfinished))).1 refl)
 taken_ending (making number (Err creating.Taken)) words a b m are of at not = inl refl
 taken_ending (making number (Err creating.Disk)) words a b m are of at not = inr (inl refl)
-taken_ending (unopened why) words a b m are of at not = let it = of_init m words (unopened why) are of in never_unopened _ it.0 why it.1 it.3
-taken_ending (opened start (serving service)) words a b m are of at not = let it = of_init m words (opened start (serving service)) are of in never_served _ it.0 Init Once it.1 it.3.command (λ wrong. cc)
-taken_ending (opened start (onboarding o)) words a b m are of at not = let it = of_init m words (opened start (onboarding o)) are of in never_served _ it.0 Init Onboard it.1 it.3 (λ wrong. cc)
+taken_ending (unopened why) words a b m are of at not = let it = of_init m words (unopened why) are of in
+    never_unopened _ it.0 why it.1 it.3
+taken_ending (opened start (serving service)) words a b m are of at not = let it =
+    of_init m words (opened start (serving service)) are of in never_served _ it.0 Init Once it.1 it.3.command (λ wrong. cc)
+taken_ending (opened start (onboarding o)) words a b m are of at not = let it = of_init m words (opened start (onboarding o)) are of in
+    never_served _ it.0 Init Onboard it.1 it.3 (λ wrong. cc)
 
 -- where `init` did its work the file is made
-pub made_ending : (course : Course) (words : List (List ℕ)) (a b : SiteState) (m : ℕ) → AreInit m words → IsOfWords words course → AtFile course a b
+pub made_ending : (course : Course) (words : List (List ℕ)) (a b : SiteState) (m : ℕ) → AreInit m words → IsOfWords words course
+    → AtFile course a b
     → status_of (ending_of course) ≡ 0 → IsMade m b
 made_ending misused words a b m are of at is = absurd (omega (arith, is))
 made_ending starved words a b m are of at is = absurd (omega (arith, is))
@@ -148,8 +169,10 @@ made_ending (making number (Ok u)) words a b m are of at is =
 made_ending (making number (Err creating.Taken)) words a b m are of at is = absurd (omega (arith, is))
 made_ending (making number (Err creating.Disk)) words a b m are of at is = absurd (omega (arith, is))
 made_ending (unopened why) words a b m are of at is = let it = of_init m words (unopened why) are of in never_unopened _ it.0 why it.1 it.3
-made_ending (opened start (serving service)) words a b m are of at is = let it = of_init m words (opened start (serving service)) are of in never_served _ it.0 Init Once it.1 it.3.command (λ wrong. cc)
-made_ending (opened start (onboarding o)) words a b m are of at is = let it = of_init m words (opened start (onboarding o)) are of in never_served _ it.0 Init Onboard it.1 it.3 (λ wrong. cc)
+made_ending (opened start (serving service)) words a b m are of at is = let it = of_init m words (opened start (serving service)) are of in
+    never_served _ it.0 Init Once it.1 it.3.command (λ wrong. cc)
+made_ending (opened start (onboarding o)) words a b m are of at is = let it = of_init m words (opened start (onboarding o)) are of in
+    never_served _ it.0 Init Onboard it.1 it.3 (λ wrong. cc)
 
 -- `init` ends with 0, 6 or 11, unless the disk failed
 complete_init : (course : Course) (words : List (List ℕ)) (a b : SiteState) → AreWordsOf Init words → IsOfWords words course
@@ -159,12 +182,16 @@ complete_init starved words a b are of disk = inr (inl refl)
 complete_init (making number (Ok u)) words a b are of disk = inl refl
 complete_init (making number (Err creating.Taken)) words a b are of disk = inr (inr refl)
 complete_init (making number (Err creating.Disk)) words a b are of disk = absurd (disk refl)
-complete_init (unopened why) words a b are of disk = let it = of_command Init words (unopened why) are of in never_unopened _ it.0 why it.1 it.2
-complete_init (opened start (serving service)) words a b are of disk = let it = of_command Init words (opened start (serving service)) are of in never_served _ it.0 Init Once it.1 it.2.command (λ wrong. cc)
-complete_init (opened start (onboarding o)) words a b are of disk = let it = of_command Init words (opened start (onboarding o)) are of in never_served _ it.0 Init Onboard it.1 it.2 (λ wrong. cc)
+complete_init (unopened why) words a b are of disk = let it = of_command Init words (unopened why) are of in
+    never_unopened _ it.0 why it.1 it.2
+complete_init (opened start (serving service)) words a b are of disk = let it =
+    of_command Init words (opened start (serving service)) are of in never_served _ it.0 Init Once it.1 it.2.command (λ wrong. cc)
+complete_init (opened start (onboarding o)) words a b are of disk = let it = of_command Init words (opened start (onboarding o)) are of in
+    never_served _ it.0 Init Onboard it.1 it.2 (λ wrong. cc)
 
 -- rounds do their work, or find the journal full or no memory, unless the disk or the door failed
-rounds_done : (rounds : ℕ) (close : Close) → (close_ending rounds close ≡ Err SiteFault → ⊥) → (close_ending rounds close ≡ Err DoorFault → ⊥) → MayEndWith Once (status_of (close_ending rounds close))
+rounds_done : (rounds : ℕ) (close : Close) → (close_ending rounds close ≡ Err SiteFault → ⊥)
+    → (close_ending rounds close ≡ Err DoorFault → ⊥) → MayEndWith Once (status_of (close_ending rounds close))
 rounds_done rounds finished disk door = inl refl
 rounds_done rounds unreached disk door = absurd (door refl)
 rounds_done rounds (stopped came talk) disk door = absurd (disk refl)
@@ -174,10 +201,12 @@ rounds_done rounds (halted visit turn end broken) disk door = absurd (disk refl)
 
 -- the words of two commands are words of one
 same_command : (words : List (List ℕ)) (c d : Command) → AreWordsOf c words → AreWordsOf d words → c ≡ d
-same_command words c d are other = sym are.is ∙ ap (λ (s : Settings). s.command) (set_once words are.settings other.settings are.set other.set) ∙ other.is
+same_command words c d are other = sym are.is ∙ ap (λ (s : Settings). s.command)
+    (set_once words are.settings other.settings are.set other.set) ∙ other.is
 
 -- why the door failed for the command of these words
-pub door_cause : (command : Command) (words : List (List ℕ)) (failed : Type 0) (a b : DoorCounts) → AreWordsOf command words → FailsAtDoor words failed a b → failed → IsDoorCause command a b
+pub door_cause : (command : Command) (words : List (List ℕ)) (failed : Type 0) (a b : DoorCounts) → AreWordsOf command words
+    → FailsAtDoor words failed a b → failed → IsDoorCause command a b
 door_cause Init words failed a b are fails is = ⊎_elim
     (λ (next : b.next ≡ one_more a.next). one_fault a.next b.next next)
     (λ (on : AreWordsOf Onboard words × (b.next ≡ a.next)). let same = same_command words Init Onboard are on.0 in cc)
@@ -206,7 +235,8 @@ module _ (whole_unmade : IsWholeOrUnmade) (whole_foreign : IsWholeOrForeign) (he
       none
 
   -- a file that is no journal is told so
-  pub no_journal_ending : (course : Course) (words : List (List ℕ)) (a b : SiteState) → AreLoading words → IsOfWords words course → AtFile course a b → IsNoJournal a.image
+  pub no_journal_ending : (course : Course) (words : List (List ℕ)) (a b : SiteState) → AreLoading words → IsOfWords words course
+      → AtFile course a b → IsNoJournal a.image
       → IsOrYields 5 (status_of (ending_of course))
   no_journal_ending misused words a b are of at none = commanded _ words are.settings are.set of
   no_journal_ending starved words a b are of at none = inr (inr refl)
@@ -219,13 +249,15 @@ module _ (whole_unmade : IsWholeOrUnmade) (whole_foreign : IsWholeOrForeign) (he
   no_journal_ending (opened start activity) words a b are of at none = absurd (whole_journal start.number _ a.image at.found.file none)
 
   -- a bad record is told so
-  pub bad_record_ending : (course : Course) (words : List (List ℕ)) (a b : SiteState) (n : ℕ) → AreLoading words → IsOfWords words course → IsLegalCourse course → AtFile course a b
+  pub bad_record_ending : (course : Course) (words : List (List ℕ)) (a b : SiteState) (n : ℕ) → AreLoading words → IsOfWords words course
+      → IsLegalCourse course → AtFile course a b
       → IsBadRecord n a.image → IsOrYields 8 (status_of (ending_of course))
   bad_record_ending misused words a b n are of legal at bad = commanded _ words are.settings are.set of
   bad_record_ending starved words a b n are of legal at bad = inr (inr refl)
   bad_record_ending (making number result) words a b n are of legal at bad = not_making _ words number result are of
   bad_record_ending (unopened opening.Unmade) words a b n are of legal at bad = absurd (bad_journal n a.image bad (inl at.because))
-  bad_record_ending (unopened (opening.Foreign place)) words a b n are of legal at bad = absurd (bad_journal n a.image bad (inr (place, at.because)))
+  bad_record_ending (unopened (opening.Foreign place)) words a b n are of legal at bad =
+      absurd (bad_journal n a.image bad (inr (place, at.because)))
   bad_record_ending (unopened (opening.BadRecord k)) words a b n are of legal at bad = inl refl
   bad_record_ending (unopened opening.Disk) words a b n are of legal at bad = inr (inl refl)
   bad_record_ending (unopened opening.Memory) words a b n are of legal at bad = inr (inr refl)
@@ -236,40 +268,54 @@ module _ (whole_unmade : IsWholeOrUnmade) (whole_foreign : IsWholeOrForeign) (he
   sound_unopened : (why : OpenFault) (m : ℕ) (H : List Event) (a b : SiteState) → IsSoundStart m H a → AtFile (unopened why) a b
       → (ending_of (unopened why) ≡ Err SiteFault → ⊥) → failure_status (unopened_failure why) ≡ 6
   sound_unopened opening.Unmade m H a b sound at disk = absurd (whole_journal m _ a.image sound.start.file.file (inl at.because))
-  sound_unopened (opening.Foreign place) m H a b sound at disk = absurd (whole_journal m _ a.image sound.start.file.file (inr (place, at.because)))
+  sound_unopened (opening.Foreign place) m H a b sound at disk = absurd
+      (whole_journal m _ a.image sound.start.file.file (inr (place, at.because)))
   sound_unopened (opening.BadRecord n) m H a b sound at disk =
       absurd (no_bad m n H a.image sound.start.number sound.start.file sound.legal at.because)
   sound_unopened opening.Disk m H a b sound at disk = absurd (disk refl)
   sound_unopened opening.Memory m H a b sound at disk = refl
 
   -- `onboard` ends with 0, 6, 9 or 10 from a sound start, unless the disk or the door failed
-  complete_onboard : (course : Course) (words : List (List ℕ)) (a b : SiteState) (m : ℕ) (H : List Event) → AreWordsOf Onboard words → IsSoundStart m H a → IsOfWords words course
-      → AtFile course a b → (ending_of course ≡ Err SiteFault → ⊥) → (ending_of course ≡ Err DoorFault → ⊥) → MayEndWith Onboard (status_of (ending_of course))
+  complete_onboard : (course : Course) (words : List (List ℕ)) (a b : SiteState) (m : ℕ) (H : List Event) → AreWordsOf Onboard words
+      → IsSoundStart m H a → IsOfWords words course
+      → AtFile course a b → (ending_of course ≡ Err SiteFault → ⊥) → (ending_of course ≡ Err DoorFault → ⊥)
+      → MayEndWith Onboard (status_of (ending_of course))
   complete_onboard misused words a b m H are sound of at disk door = commanded _ words are.settings are.set of
   complete_onboard starved words a b m H are sound of at disk door = inr (inl refl)
-  complete_onboard (making number result) words a b m H are sound of at disk door = let it = of_command Onboard words (making number result) are of in never_served _ it.0 Onboard Init it.1 it.2.0 (λ wrong. cc)
+  complete_onboard (making number result) words a b m H are sound of at disk door = let it =
+      of_command Onboard words (making number result) are of in never_served _ it.0 Onboard Init it.1 it.2.0 (λ wrong. cc)
   complete_onboard (unopened why) words a b m H are sound of at disk door = inr (inl (sound_unopened why m H a b sound at disk))
-  complete_onboard (opened start (serving service)) words a b m H are sound of at disk door = let it = of_command Onboard words (opened start (serving service)) are of in never_served _ it.0 Onboard Once it.1 it.2.command (λ wrong. cc)
+  complete_onboard (opened start (serving service)) words a b m H are sound of at disk door = let it =
+      of_command Onboard words (opened start (serving service)) are of in never_served _ it.0 Onboard Once it.1 it.2.command (λ wrong. cc)
   complete_onboard (opened start (onboarding unready)) words a b m H are sound of at disk door = inr (inl refl)
   complete_onboard (opened start (onboarding unheard)) words a b m H are sound of at disk door = absurd (door refl)
   complete_onboard (opened start (onboarding (cut_off bytes))) words a b m H are sound of at disk door = absurd (door refl)
-  complete_onboard (opened start (onboarding (heard bytes now done))) words a b m H are sound of at disk door = verdict_status (verdict start.history now bytes)
+  complete_onboard (opened start (onboarding (heard bytes now done))) words a b m H are sound of at disk door =
+      verdict_status (verdict start.history now bytes)
   complete_onboard (opened start (onboarding (heard bytes now breaking))) words a b m H are sound of at disk door = absurd (disk refl)
   complete_onboard (opened start (onboarding (heard bytes now no_memory))) words a b m H are sound of at disk door = inr (inl refl)
 
   -- `once` ends with 0, 6 or 9 from a sound start, unless the disk or the door failed
-  complete_once : (course : Course) (words : List (List ℕ)) (a b : SiteState) (m : ℕ) (H : List Event) → AreWordsOf Once words → IsSoundStart m H a → IsOfWords words course
-      → AtFile course a b → (ending_of course ≡ Err SiteFault → ⊥) → (ending_of course ≡ Err DoorFault → ⊥) → MayEndWith Once (status_of (ending_of course))
+  complete_once : (course : Course) (words : List (List ℕ)) (a b : SiteState) (m : ℕ) (H : List Event) → AreWordsOf Once words
+      → IsSoundStart m H a → IsOfWords words course
+      → AtFile course a b → (ending_of course ≡ Err SiteFault → ⊥) → (ending_of course ≡ Err DoorFault → ⊥)
+      → MayEndWith Once (status_of (ending_of course))
   complete_once misused words a b m H are sound of at disk door = commanded _ words are.settings are.set of
   complete_once starved words a b m H are sound of at disk door = inr (inl refl)
-  complete_once (making number result) words a b m H are sound of at disk door = let it = of_command Once words (making number result) are of in never_served _ it.0 Once Init it.1 it.2.0 (λ wrong. cc)
+  complete_once (making number result) words a b m H are sound of at disk door = let it =
+      of_command Once words (making number result) are of in never_served _ it.0 Once Init it.1 it.2.0 (λ wrong. cc)
   complete_once (unopened why) words a b m H are sound of at disk door = inr (inl (sound_unopened why m H a b sound at disk))
   complete_once (opened start (serving service)) words a b m H are sound of at disk door = rounds_done _ service.close disk door
-  complete_once (opened start (onboarding o)) words a b m H are sound of at disk door = let it = of_command Once words (opened start (onboarding o)) are of in never_served _ it.0 Once Onboard it.1 it.2 (λ wrong. cc)
+  complete_once (opened start (onboarding o)) words a b m H are sound of at disk door = let it =
+      of_command Once words (opened start (onboarding o)) are of in never_served _ it.0 Once Onboard it.1 it.2 (λ wrong. cc)
 
   -- from a sound start a command does its work or is refused, unless a call failed or there was no memory
-  pub complete_ending : (command : Command) (course : Course) (words : List (List ℕ)) (a b : SiteState) → AreWordsOf command words → IsStartOf command a → IsOfWords words course
-      → AtFile course a b → (ending_of course ≡ Err SiteFault → ⊥) → (ending_of course ≡ Err DoorFault → ⊥) → MayEndWith command (status_of (ending_of course))
+  pub complete_ending : (command : Command) (course : Course) (words : List (List ℕ)) (a b : SiteState) → AreWordsOf command words
+      → IsStartOf command a → IsOfWords words course
+      → AtFile course a b → (ending_of course ≡ Err SiteFault → ⊥) → (ending_of course ≡ Err DoorFault → ⊥)
+      → MayEndWith command (status_of (ending_of course))
   complete_ending Init course words a b are start of at disk door = complete_init course words a b are of disk
-  complete_ending Onboard course words a b are start of at disk door = complete_onboard course words a b start.0 start.1 are start.2 of at disk door
-  complete_ending Once course words a b are start of at disk door = complete_once course words a b start.0 start.1 are start.2 of at disk door
+  complete_ending Onboard course words a b are start of at disk door =
+      complete_onboard course words a b start.0 start.1 are start.2 of at disk door
+  complete_ending Once course words a b are start of at disk door =
+      complete_once course words a b start.0 start.1 are start.2 of at disk door

@@ -18,8 +18,10 @@ use Rattle.lcm_model.specs.Work.{window}
 use Rattle.site_traits.specs.Jobs.{Advances, Job}
 use Rattle.site_traits.specs.Moments.{goes_on, joined, started, weakened}
 use Rattle.site_traits.specs.Site.{FileStep, HasItsJobs, KeepsJobs, LeavesOnly, Pair, Same, SiteState}
-use Rattle.vnfm_commands.specs.Course.{Course, misused, starved, making, unopened, opened, serving, onboarding, activity_work, told_by, told_of, IsOfWords}
-use Rattle.vnfm_cli.specs.Headline.{AreStanding, IsFresh, IsFreshPair, IsLeftWith, IsSoundBeginning, IsSoundPair, SoundJobsMakeSoundPairs, StandsSince}
+use Rattle.vnfm_commands.specs.Course.{Course, misused, starved, making, unopened, opened, serving, onboarding, activity_work, told_by}
+use Rattle.vnfm_commands.specs.Course.{told_of, IsOfWords}
+use Rattle.vnfm_cli.specs.Headline.{AreStanding, IsFresh, IsFreshPair, IsLeftWith, IsSoundBeginning, IsSoundPair, SoundJobsMakeSoundPairs}
+use Rattle.vnfm_cli.specs.Headline.{StandsSince}
 use Rattle.vnfm_commands.specs.Runs.{AtFile, AtJobs, IsLegalCourse, IsUntouched, Recovers, ToldIn}
 use Rattle.vnfm_commands.specs.Words.{AreInit}
 use Rattle.vnfm_cli.proofs.ExactLemmas.{commanded, never_served, never_unopened, of_init}
@@ -80,7 +82,8 @@ module _ (whole : IsWholeOrUnmade) (once : HasOneHistory) (may_end : JobsMayEnd)
         pairs m G has.history p small has.from has.file (subst (λ (K : List Event). IsSound m K p.jobs) same.1 some.sound);
   }
 
-  are_standing : (tells : Type 0) (m : ℕ) (H : List Event) (histories : List (List Event)) (before now : List ℕ) (w : Work) (a b : SiteState) → tells → m < 4294967296
+  are_standing : (tells : Type 0) (m : ℕ) (H : List Event) (histories : List (List Event)) (before now : List ℕ) (w : Work)
+      (a b : SiteState) → tells → m < 4294967296
       → StaysSound m H w a b → AreTold tells m histories before now a b → AreStanding m histories before now a b
   are_standing tells m H [] before now w a b told small sound are = are
   are_standing tells m H (G ∷ earlier) before now w a b told small sound are = (
@@ -92,8 +95,10 @@ module _ (whole : IsWholeOrUnmade) (once : HasOneHistory) (may_end : JobsMayEnd)
   )
 
   -- all that was acknowledged stands since
-  pub acknowledged : (tells : Type 0) → tells → (course : Course) (before now : List ℕ) (a b : SiteState) → AtFile course a b → IsLegalCourse course
-      → ToldIn tells course before now a b → (m : ℕ) (H : List Event) → IsSoundBeginning m H a → AreStanding m (told_of course) before now a b
+  pub acknowledged : (tells : Type 0) → tells → (course : Course) (before now : List ℕ) (a b : SiteState) → AtFile course a b
+      → IsLegalCourse course
+      → ToldIn tells course before now a b → (m : ℕ) (H : List Event) → IsSoundBeginning m H a
+      → AreStanding m (told_of course) before now a b
   acknowledged tells told misused before now a b at legal are m H start = are
   acknowledged tells told starved before now a b at legal are m H start = are
   acknowledged tells told (making number result) before now a b at legal are m H start = are
@@ -106,7 +111,8 @@ module _ (whole : IsWholeOrUnmade) (once : HasOneHistory) (may_end : JobsMayEnd)
       (subst (λ (k : ℕ). AreTold tells k histories before now a b) (sym it.0) are)
 
   -- from a sound beginning a stop leaves sound pairs, whatever the run
-  pub leaves_sound : (course : Course) (a b : SiteState) → AtFile course a b → IsLegalCourse course → (m : ℕ) (H : List Event) → IsSoundBeginning m H a
+  pub leaves_sound : (course : Course) (a b : SiteState) → AtFile course a b → IsLegalCourse course → (m : ℕ) (H : List Event)
+      → IsSoundBeginning m H a
       → LeavesOnly (IsSoundPair m H) a b
   leaves_sound misused a b at legal m H start = untouched_leaves (IsSoundPair m H) a b at (begins m H a start)
   leaves_sound starved a b at legal m H start = untouched_leaves (IsSoundPair m H) a b at (begins m H a start)
@@ -126,25 +132,32 @@ fresh_pair : (m : ℕ) (s : SiteState) → IsFresh m s → (p : Pair) → s.sinc
 fresh_pair m s fresh p left = record { file = record { file = inl (fresh.file.each p left) }; jobless = s.stay p left ∙ fresh.jobless }
 
 -- and so it is while its journal is made
-making_leaves : (m : ℕ) (result : Result (Unit {0}) CreateFault) (a b : SiteState) → Creates m result a b → KeepsJobs a b → IsFresh m a → LeavesOnly (IsFreshPair m) a b
+making_leaves : (m : ℕ) (result : Result (Unit {0}) CreateFault) (a b : SiteState) → Creates m result a b → KeepsJobs a b → IsFresh m a
+    → LeavesOnly (IsFreshPair m) a b
 making_leaves m result a b creates alone fresh =
-    weakened (IsFreshPair m) (λ p. IsMaking m p × HasItsJobs a p) a b (joined (IsMaking m) (HasItsJobs a) a b (creates.any_moment fresh.file) alone.any_moment)
+    weakened (IsFreshPair m) (λ p. IsMaking m p × HasItsJobs a p) a b
+    (joined (IsMaking m) (HasItsJobs a) a b (creates.any_moment fresh.file) alone.any_moment)
     (λ p both. record { file = both.0; jobless = no_job p.jobs (subst (λ (js : List Job). Advances js p.jobs) fresh.jobless both.1.jobs) })
 
 -- from a fresh site `init` leaves fresh pairs
-pub leaves_fresh : (course : Course) (words : List (List ℕ)) (a b : SiteState) → IsOfWords words course → AtFile course a b → AtJobs course a b → (m : ℕ) → AreInit m words → IsFresh m a
+pub leaves_fresh : (course : Course) (words : List (List ℕ)) (a b : SiteState) → IsOfWords words course → AtFile course a b
+    → AtJobs course a b → (m : ℕ) → AreInit m words → IsFresh m a
     → LeavesOnly (IsFreshPair m) a b
 leaves_fresh misused words a b of at jobs m are fresh = commanded _ words are.settings are.set of
 leaves_fresh starved words a b of at jobs m are fresh = untouched_leaves (IsFreshPair m) a b at (fresh_pair m a fresh)
 leaves_fresh (making number result) words a b of at jobs m are fresh =
     let same : number ≡ m = (let it = of_init m words (making number result) are of in it.3.1 ∙ it.2) in
     making_leaves m result a b (subst (λ (k : ℕ). Creates k result a b) same at) jobs fresh
-leaves_fresh (unopened why) words a b of at jobs m are fresh = let it = of_init m words (unopened why) are of in never_unopened _ it.0 why it.1 it.3
-leaves_fresh (opened start (serving service)) words a b of at jobs m are fresh = let it = of_init m words (opened start (serving service)) are of in never_served _ it.0 Init Once it.1 it.3.command (λ wrong. cc)
-leaves_fresh (opened start (onboarding o)) words a b of at jobs m are fresh = let it = of_init m words (opened start (onboarding o)) are of in never_served _ it.0 Init Onboard it.1 it.3 (λ wrong. cc)
+leaves_fresh (unopened why) words a b of at jobs m are fresh = let it = of_init m words (unopened why) are of in
+    never_unopened _ it.0 why it.1 it.3
+leaves_fresh (opened start (serving service)) words a b of at jobs m are fresh = let it =
+    of_init m words (opened start (serving service)) are of in never_served _ it.0 Init Once it.1 it.3.command (λ wrong. cc)
+leaves_fresh (opened start (onboarding o)) words a b of at jobs m are fresh = let it =
+    of_init m words (opened start (onboarding o)) are of in never_served _ it.0 Init Onboard it.1 it.3 (λ wrong. cc)
 
 -- a life goes on from what a stop left
-pub life_goes_on : JobsMayEnd → (m : ℕ) (H : List Event) (p : Pair) (s : SiteState) → IsSoundPair m H p → IsLeftWith p s → (K : List Event) × Extends H K × IsSoundBeginning m K s
+pub life_goes_on : JobsMayEnd → (m : ℕ) (H : List Event) (p : Pair) (s : SiteState) → IsSoundPair m H p → IsLeftWith p s
+    → (K : List Event) × Extends H K × IsSoundBeginning m K s
 life_goes_on may_end m H p s sound left =
     let P : List ℕ → Type 0 = λ image. HasHistory m sound.history image in
     let here : HasHistory m sound.history s.image = subst P (sym left.file) sound.file in (
@@ -165,14 +178,20 @@ made_begins m s small made none =
     let here : HasHistory m [] s.image = record { file = made.file; events = tt } in
     record {
       start = record {
-        start = record { number = small; file = here; left = λ q now. subst (λ (image : List ℕ). HasHistory m [] image) (sym (made.settled.image q now)) here };
+        start = record {
+          number = small;
+          file = here;
+          left = λ q now.
+              subst (λ (image : List ℕ). HasHistory m [] image) (sym (made.settled.image q now)) here;
+        };
         legal = tt;
       };
       sound = subst (λ (js : List Job). IsSound m [] js) (sym none) (record { legal = tt; begun = tt; ended = λ x is. absurd is });
     }
 
 -- what a stopped `init` leaves is a fresh start of it, or a sound beginning without an event
-pub init_goes_on : (m : ℕ) (p : Pair) (s : SiteState) → m < 4294967296 → IsFreshPair m p → IsLeftWith p s → IsFresh m s ⊎ IsSoundBeginning m [] s
+pub init_goes_on : (m : ℕ) (p : Pair) (s : SiteState) → m < 4294967296 → IsFreshPair m p → IsLeftWith p s
+    → IsFresh m s ⊎ IsSoundBeginning m [] s
 init_goes_on m p s small fresh left =
     let none : s.jobs ≡ [] = no_job s.jobs (subst (λ (js : List Job). Advances js s.jobs) fresh.jobless left.jobs) in
     ⊎_elim
@@ -183,5 +202,9 @@ init_goes_on m p s small fresh left =
       jobless = none;
     }))
     (λ (made : HasRecords m [] p.image).
-    inr (made_begins m s small (record { settled = left.settled; file = subst (λ (image : List ℕ). HasRecords m [] image) (sym left.file) made }) none))
+    inr (made_begins m s small (record {
+      settled = left.settled;
+      file =
+          subst (λ (image : List ℕ). HasRecords m [] image) (sym left.file) made;
+    }) none))
     fresh.file.file

@@ -11,16 +11,18 @@ use Rattle.command_line.specs.Words.{settings_of}
 use Rattle.vnfm_commands.specs.Words.{AreInit, AreLoading, AreWordsOf}
 use Rattle.command_line.specs.declared.options.Command.TheVariants.{Onboard, Once}
 
--- Where this holds of a run of these words a wait for a connection failed, and is counted once, or for `onboard` a read of one; else no wait failed.
--- But for the talks of `once` no other call of the door failed, and one that did is counted once.
+-- Where this holds of a run of these words a wait for a connection failed, and is counted once, or for `onboard` a read
+-- of one; else no wait failed. But for the talks of `once` no other call of the door failed, and one that did is
+-- counted once.
 pub record FailsAtDoor (words : List (List ℕ)) (failed : Type 0) (a b : DoorCounts) : Type 0 where
   pub rose : failed → (b.next ≡ one_more a.next) ⊎ (AreWordsOf Onboard words × (b.next ≡ a.next))
   pub stays : ¬ failed → b.next ≡ a.next
   pub faults : ¬ (AreWordsOf Once words) → (failed → b.faults ≡ one_more a.faults) × (¬ failed → b.faults ≡ a.faults)
 
--- Each status has its cause: 2 comes exactly where the words are no command; 4 exactly where waiting for a connection or a read of a descriptor
--- failed; 7, 9 and 10 only where the line couldn't be put, for `onboard` or `once`, and for `onboard`; and where the site tells, 5 exactly where the file that is to be
--- opened is no journal, 8 exactly where one of its records is bad, and 11 exactly where the file isn't unfinished for the manager of
+-- Each status has its cause: 2 comes exactly where the words are no command; 4 exactly where waiting for a connection
+-- or a read of a descriptor failed; 7, 9 and 10 only where the line couldn't be put, for `onboard` or `once`, and for
+-- `onboard`; and where the site tells, 5 exactly where the file that is to be opened is no journal, 8 exactly where one
+-- of its records is bad, and 11 exactly where the file isn't unfinished for the manager of
 -- `init`, but that each of these yields to a disk fault and to want of memory.
 pub record HasCauses (tells : Type 0) (words : List (List ℕ)) (status : ℕ) (w v : Outside) (a b : Output) : Type 0 where
   pub usage : (status ≡ 2) ↔ (settings_of words ≡ None)

@@ -3,9 +3,11 @@ use Rattle.std.specs.Prelude.{◌≡◌, ◌⊎◌, List, [], ◌∷◌}
 use Rattle.lcm_sessions.specs.Onboarding.{Onboarding, unready, unheard, cut_off, heard}
 use Rattle.lcm_sessions.specs.Session.{Talk, counts_behind}
 use Rattle.site_traits.specs.Door.{DoorCounts, call_failed, closed, next_failed, opened as has_come}
-use Rattle.vnfm_commands.specs.Course.{Course, opened, serving, onboarding, Visit, unasked, served, Round, Close, finished, unreached, stopped, halted}
+use Rattle.vnfm_commands.specs.Course.{Course, opened, serving, onboarding, Visit, unasked, served, Round, Close}
+use Rattle.vnfm_commands.specs.Course.{finished, unreached, stopped, halted}
 
--- behind a connection on which this talk was held: one fault more where the read for the next request failed, and one where telling did
+-- behind a connection on which this talk was held: one fault more where the read for the next request failed, and one
+-- where telling did
 abbrev pub talk_counts : Talk → DoorCounts → DoorCounts
 talk_counts talk c = closed (counts_behind talk.end (has_come c))
 
@@ -31,7 +33,8 @@ CountsOnboarding unheard a b = b ≡ next_failed a
 CountsOnboarding (cut_off bytes) a b = b ≡ closed (call_failed (has_come a))
 CountsOnboarding (heard bytes now ended) a b = (b ≡ closed (has_come a)) ⊎ (b ≡ a)
 
--- each call of the door that failed in a run that went so counts as one fault, a wait as a failed wait too, and nothing else counts
+-- each call of the door that failed in a run that went so counts as one fault, a wait as a failed wait too, and nothing
+-- else counts
 abbrev pub CountsFaults : Course → DoorCounts → DoorCounts → Type 0
 CountsFaults (opened start (serving service)) a b = b ≡ close_counts service.close (rounds_counts service.rounds a)
 CountsFaults (opened start (onboarding o)) a b = CountsOnboarding o a b

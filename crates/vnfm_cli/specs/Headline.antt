@@ -1,5 +1,5 @@
--- What a stop leaves, whenever it comes in a run: a journal that has all that it had and all that was acknowledged before the stop, and resources
--- that are just those of its history.
+-- What a stop leaves, whenever it comes in a run: a journal that has all that it had and all that was acknowledged
+-- before the stop, and resources that are just those of its history.
 use Rattle.std.specs.Prelude.{List, [], ◌∷◌, false, ℕ, ◌<◌, ◌≤◌, ◌≡◌}
 use Rattle.executor.specs.History.{HasHistory}
 use Rattle.executor.specs.Work.{Extends}
@@ -20,7 +20,8 @@ use Rattle.site_traits.specs.Jobs.{Advances, Job}
 use Rattle.site_traits.specs.Site.{IsJobless, IsSettled, Pair, SiteState}
 use Rattle.vnfm_commands.specs.Runs.{IsSoundStart}
 
--- What is read, and whatever a stop now may leave, is a journal of manager m with this legal history, and the jobs are sound with it (own rule).
+-- What is read, and whatever a stop now may leave, is a journal of manager m with this legal history, and the jobs are
+-- sound with it (own rule).
 pub record IsSoundBeginning (m : ℕ) (H : List Event) (s : SiteState) : Type 0 where
   pub start : IsSoundStart m H s
   pub sound : IsSound m H s.jobs
@@ -33,14 +34,17 @@ ChangesStand s n H jobs = (o : ℕ) → state H o ≡ s → EachStands H jobs o 
 abbrev pub AreGrantedWork : List Event → List Job → Type 0
 AreGrantedWork H jobs = (j : Job) → IsIn j jobs → IsGrantedWork H j
 
--- of an instance that is NOT_INSTANTIATED without an operation that goes on nothing stands among the jobs (SOL 003 5.5.2.2, instantiationState)
+-- of an instance that is NOT_INSTANTIATED without an operation that goes on nothing stands among the jobs (SOL 003
+-- 5.5.2.2, instantiationState)
 abbrev pub IdleHaveNothing : List Event → List Job → Type 0
-IdleHaveNothing H jobs = (i : ℕ) → is_instantiated H i ≡ false → ongoing H i ≡ [] → (x : Def) → stands_among H i x jobs ≡ false
+IdleHaveNothing H jobs = (i : ℕ) → is_instantiated H i ≡ false → ongoing H i ≡ [] → (x : Def)
+    → stands_among H i x jobs ≡ false
 
--- What a stop leaves is sound, from history H of manager m on. The file has a history of that manager that begins with H, so that nothing of H
--- is lost, and the jobs are sound with it. Each change stands at most once; each of an occurrence that is COMPLETED exactly once, and each of
--- one that is ROLLED_BACK not at all; each job is granted work; and nothing stands of an instance that is NOT_INSTANTIATED without an operation
--- that goes on (SOL 003 5.6.2, 9.4.2, 5.5.2.2; own rule).
+-- What a stop leaves is sound, from history H of manager m on. The file has a history of that manager that begins with
+-- H, so that nothing of H is lost, and the jobs are sound with it. Each change stands at most once; each of an
+-- occurrence that is COMPLETED exactly once, and each of one that is ROLLED_BACK not at all; each job is granted work;
+-- and nothing stands of an instance that is NOT_INSTANTIATED without an operation that goes on (SOL 003 5.6.2, 9.4.2,
+-- 5.5.2.2; own rule).
 pub record IsSoundPair (m : ℕ) (H : List Event) (p : Pair) : Type 0 where
   pub number : m < 4294967296
   pub history : List Event
@@ -56,23 +60,26 @@ pub record IsSoundPair (m : ℕ) (H : List Event) (p : Pair) : Type 0 where
 -- a file with a history from H on, and jobs that are sound with it, are such a pair (own rule)
 abbrev pub SoundJobsMakeSoundPairs : Type 0
 SoundJobsMakeSoundPairs =
-    (m : ℕ) (H K : List Event) (p : Pair) → m < 4294967296 → Extends H K → HasHistory m K p.image → IsSound m K p.jobs → IsSoundPair m H p
+    (m : ℕ) (H K : List Event) (p : Pair) → m < 4294967296 → Extends H K → HasHistory m K p.image → IsSound m K p.jobs
+    → IsSoundPair m H p
 
--- At this moment, between these two states of the site, history G had been reached, and whatever a stop since leaves is sound from it on: nothing
--- of it is lost (own rule).
+-- At this moment, between these two states of the site, history G had been reached, and whatever a stop since leaves is
+-- sound from it on: nothing of it is lost (own rule).
 pub record StandsSince (m : ℕ) (G : List Event) (moment : ℕ) (a b : SiteState) : Type 0 where
   pub behind : a.moment ≤ moment
   pub before : moment ≤ b.moment
   pub left : (p : Pair) → b.since moment p → IsSoundPair m G p
 
--- Between these two states of the site these histories were told of, the latest first, each at one of the moments that were noted since those
--- before, and each stands since its moment. Nothing else was told of (own rule).
+-- Between these two states of the site these histories were told of, the latest first, each at one of the moments that
+-- were noted since those before, and each stands since its moment. Nothing else was told of (own rule).
 abbrev pub AreStanding : ℕ → List (List Event) → List ℕ → List ℕ → SiteState → SiteState → Type 0
 AreStanding m [] before now a b = now ≡ before
 AreStanding m (G ∷ earlier) before now a b =
-    (moment : ℕ) × (noted : List ℕ) × (now ≡ moment ∷ noted) × StandsSince m G moment a b × AreStanding m earlier before noted a b
+    (moment : ℕ) × (noted : List ℕ) × (now ≡ moment ∷ noted) × StandsSince m G moment a b
+    × AreStanding m earlier before noted a b
 
--- a site before its journal is made: a stop now leaves only files that are unfinished for this manager, and there is no job (own rule)
+-- a site before its journal is made: a stop now leaves only files that are unfinished for this manager, and there is no
+-- job (own rule)
 pub record IsFresh (manager : ℕ) (s : SiteState) : Type 0 where
   pub file : MayBeMade manager s
   pub jobless : s.jobs ≡ []
@@ -82,8 +89,8 @@ pub record IsFreshPair (manager : ℕ) (p : Pair) : Type 0 where
   pub file : IsMaking manager p
   pub jobless : IsJobless p
 
--- What a stop left is there when the next run begins: nothing is pending, the file is the one that was left, and of the jobs that were left
--- some running ones may have ended (own rule).
+-- What a stop left is there when the next run begins: nothing is pending, the file is the one that was left, and of the
+-- jobs that were left some running ones may have ended (own rule).
 pub record IsLeftWith (p : Pair) (s : SiteState) : Type 0 where
   pub settled : IsSettled s
   pub file : s.image ≡ p.image

@@ -27,11 +27,13 @@ DiskFaultsAreTold = (status : ℕ) (a b : SiteCounts) → DiskFails (status ≡ 
 
 -- a run counts each call of the door that failed in it as one fault, and nothing else
 abbrev pub DoorFaultsAreCounted : Tells → Type 0
-DoorFaultsAreCounted t = (course : Course) (a b : Beside) → CourseDoes t course a b → CountsFaults course a.mouth.wire.intake.counts b.mouth.wire.intake.counts
+DoorFaultsAreCounted t = (course : Course) (a b : Beside) → CourseDoes t course a b
+    → CountsFaults course a.mouth.wire.intake.counts b.mouth.wire.intake.counts
 
 -- a run puts one line
 abbrev pub OneLineIsPut : Type 0 → Type 0
-OneLineIsPut tells = (ending : Ending) (status : ℕ) (a b : Output) → Ends tells ending status a b → b.counts.calls ≡ one_more a.counts.calls
+OneLineIsPut tells = (ending : Ending) (status : ℕ) (a b : Output) → Ends tells ending status a b
+    → b.counts.calls ≡ one_more a.counts.calls
 
 -- where `init` ends with 0 or 7, the file is a made one of its manager, and nothing is pending
 abbrev pub InitMakes : {S : Type 0} → Type 0 → Type 0 → (S → SiteState) → Type 0
@@ -49,26 +51,30 @@ abbrev pub text_last : ℕ → List Event → Option Closing → List ℕ
 text_last m H None = []
 text_last m H (Some closing) = optional_text (reply_last m H closing.last)
 
--- Where no call of the door failed, the bytes out of a connection that came are the replies to its requests, and what is told at its end.
+-- Where no call of the door failed, the bytes out of a connection that came are the replies to its requests, and what
+-- is told at its end.
 pub record HasWholeAnswer (m : ℕ) (H : List Event) (talk : Talk) (b : Peers) : Type 0 where
-  pub out : b.mouth.wire.intake.door.conn.out ≡ said (replies m H talk.asks) ++ text_last m (life (once_answered m) H talk.asks) talk.end
+  pub out : b.mouth.wire.intake.door.conn.out ≡ said (replies m H talk.asks)
+      ++ text_last m (life (once_answered m) H talk.asks) talk.end
 
 abbrev pub AnswersAreWhole : session.WorldTells → Type 0
-AnswersAreWhole t = (m : ℕ) (H : List Event) (came : Role) (talk : Talk) (a b : Peers) → Receives t m H came talk a b → t.door
+AnswersAreWhole t = (m : ℕ) (H : List Event) (came : Role) (talk : Talk) (a b : Peers) → Receives t m H came talk a b
+    → t.door
     → ¬ (Rose a.mouth.wire.intake.counts.faults b.mouth.wire.intake.counts.faults) → HasWholeAnswer m H talk b
 
--- Whatever a stop leaves of a run that began soundly with history H, the next run begins soundly, with a history from H on. So what holds of
--- one run from a sound beginning holds of any number of them (own rule).
+-- Whatever a stop leaves of a run that began soundly with history H, the next run begins soundly, with a history from H
+-- on. So what holds of one run from a sound beginning holds of any number of them (own rule).
 abbrev pub LivesGoOn : {S : Type 0} → (S → SiteState) → Type 0
 LivesGoOn {S} state = (m : ℕ) (H : List Event) (p : Pair) (s : S) → IsSoundPair m H p → IsLeftWith p (state s)
     → (K : List Event) × Extends H K × IsSoundBeginning m K (state s)
 
--- Whatever a stopped `init` leaves, the next `init` begins freshly, or the journal is made: then the next run begins soundly, with no event (own
--- rule).
+-- Whatever a stopped `init` leaves, the next `init` begins freshly, or the journal is made: then the next run begins
+-- soundly, with no event (own rule).
 abbrev pub InitsGoOn : {S : Type 0} → (S → SiteState) → Type 0
 InitsGoOn {S} state = (m : ℕ) (p : Pair) (s : S) → m < 4294967296 → IsFreshPair m p → IsLeftWith p (state s)
     → IsFresh m (state s) ⊎ IsSoundBeginning m [] (state s)
 
 -- a site whose journal was just made, without a job, is a sound beginning, with no event (own rule)
 abbrev pub MadeJournalsBeginSoundly : {S : Type 0} → (S → SiteState) → Type 0
-MadeJournalsBeginSoundly {S} state = (m : ℕ) (s : S) → m < 4294967296 → IsMade m (state s) → (state s).jobs ≡ [] → IsSoundBeginning m [] (state s)
+MadeJournalsBeginSoundly {S} state = (m : ℕ) (s : S) → m < 4294967296 → IsMade m (state s) → (state s).jobs ≡ []
+    → IsSoundBeginning m [] (state s)

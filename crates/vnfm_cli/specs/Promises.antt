@@ -21,7 +21,8 @@ pub record Ground : Type 1 where
 
 -- from a sound beginning a stop leaves sound pairs, whenever it comes
 abbrev pub StaysSound : Ground → Ground → Type 0
-StaysSound a b = (m : ℕ) (H : List Event) → IsSoundBeginning m H a.outside.site → LeavesOnly (IsSoundPair m H) a.outside.site b.outside.site
+StaysSound a b = (m : ℕ) (H : List Event) → IsSoundBeginning m H a.outside.site
+    → LeavesOnly (IsSoundPair m H) a.outside.site b.outside.site
 
 -- and from the telling of each reply on, pairs that are sound from the history behind it on
 abbrev pub Acknowledges : Course → Ground → Ground → Type 0
@@ -31,17 +32,22 @@ Acknowledges course a b =
 
 -- from a fresh site `init` leaves fresh pairs
 abbrev pub StaysFresh : List (List ℕ) → Ground → Ground → Type 0
-StaysFresh words a b = (m : ℕ) → AreInit m words → IsFresh m a.outside.site → LeavesOnly (IsFreshPair m) a.outside.site b.outside.site
+StaysFresh words a b = (m : ℕ) → AreInit m words → IsFresh m a.outside.site
+    → LeavesOnly (IsFreshPair m) a.outside.site b.outside.site
 
--- a command ends with one of its statuses from a sound start where no call of the disk, of the door or of the sink failed
+-- a command ends with one of its statuses from a sound start where no call of the disk, of the door or of the sink
+-- failed
 abbrev pub IsComplete : List (List ℕ) → ℕ → Ground → Ground → Type 0
 IsComplete words status a b =
-    (command : Command) → AreWordsOf command words → IsStartOf command a.outside.site → ¬ (Rose a.outside.counts.disk b.outside.counts.disk)
-    → ¬ (IsDoorCause command a.outside.mouth.wire.intake.counts b.outside.mouth.wire.intake.counts) → ¬ (Rose a.lines.counts.faults b.lines.counts.faults)
+    (command : Command) → AreWordsOf command words → IsStartOf command a.outside.site
+    → ¬ (Rose a.outside.counts.disk b.outside.counts.disk)
+    → ¬ (IsDoorCause command a.outside.mouth.wire.intake.counts b.outside.mouth.wire.intake.counts)
+    → ¬ (Rose a.lines.counts.faults b.lines.counts.faults)
     → MayEndWith command status
 
--- One run of these words went so, and ended with this status, of which its line tells. Where the site tells, a stop leaves, whenever it comes, what
--- the headline says: of a sound beginning sound pairs, which hold all that was acknowledged before it, and of a fresh site of `init` fresh ones.
+-- One run of these words went so, and ended with this status, of which its line tells. Where the site tells, a stop
+-- leaves, whenever it comes, what the headline says: of a sound beginning sound pairs, which hold all that was
+-- acknowledged before it, and of a fresh site of `init` fresh ones.
 pub record Promises (t : Tells) (lines : Type 0) (words : List (List ℕ)) (status : ℕ) (a b : Ground) : Type 0 where
   pub course : Course
   pub runs : Runs t words course a.outside b.outside

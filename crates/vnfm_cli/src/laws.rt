@@ -1,7 +1,8 @@
 //! What holds of every run, as contracts of calls that do nothing.
 ghost use Rattle.lcm_api.specs.World as session;
 ghost use Rattle.vnfm_cli.specs.Headline.{SoundJobsMakeSoundPairs};
-ghost use Rattle.vnfm_cli.specs.Laws.{AnswersAreWhole, DiskFaultsAreTold, DoorFaultsAreCounted, InitMakes, InitsGoOn, LivesGoOn, MadeJournalsBeginSoundly, OneLineIsPut};
+ghost use Rattle.vnfm_cli.specs.Laws.{AnswersAreWhole, DiskFaultsAreTold, DoorFaultsAreCounted, InitMakes, InitsGoOn};
+ghost use Rattle.vnfm_cli.specs.Laws.{LivesGoOn, MadeJournalsBeginSoundly, OneLineIsPut};
 ghost use Rattle.vnfm_commands.specs.Outside.{telling};
 
 use lcm_jobs::{
@@ -17,7 +18,8 @@ pub fn disk_faults_are_told()
     ensures { DiskFaultsAreTold }
 {}
 
-/// The door's counts are those before a run, with one fault more for each call of the door that failed in its course, and no other.
+/// The door's counts are those before a run, with one fault more for each call of the door that failed in its course,
+/// and no other.
 ///
 /// Source: own rule, docs/FORMATS.md.
 pub fn door_faults_are_counted<S: Site, D: Door, O: Orchestrator, C: Courier, K: Clock>()
@@ -38,15 +40,16 @@ pub fn init_makes_the_journal<S: Site, W: Sink>()
     ensures { InitMakes S.tells W.tells S.state }
 {}
 
-/// Where no call of the door failed, a connection got the replies to its requests, in order, and what is told at its end, and nothing else.
+/// Where no call of the door failed, a connection got the replies to its requests, in order, and what is told at its
+/// end, and nothing else.
 ///
 /// Source: RFC 9112 9.3.
 pub fn answers_are_whole<S: Site, D: Door, K: Clock>()
     ensures { AnswersAreWhole (session.telling S.tells D.tells K.tells) }
 {}
 
-/// A file with a history, and jobs that are sound with it, are a sound pair: each change stands at most once, as its occurrence says, and each
-/// job is granted work.
+/// A file with a history, and jobs that are sound with it, are a sound pair: each change stands at most once, as its
+/// occurrence says, and each job is granted work.
 ///
 /// Source: SOL 003 5.6.2, 9.4.2 (Grants) and 5.5.2.2 (Type: VnfInstance, instantiationState).
 pub fn sound_jobs_make_sound_pairs()
@@ -59,8 +62,8 @@ pub fn sound_jobs_make_sound_pairs()
     idle_instances_have_no_job_standing();
 }
 
-/// A life goes on from whatever a stop left of the one before it, with all that it had and all that it had acknowledged by then, so that the
-/// headline of `run` holds of any number of lives.
+/// A life goes on from whatever a stop left of the one before it, with all that it had and all that it had acknowledged
+/// by then, so that the headline of `run` holds of any number of lives.
 ///
 /// Source: own rule.
 pub fn lives_go_on<S: Site>()
@@ -69,7 +72,8 @@ pub fn lives_go_on<S: Site>()
     jobs_may_end();
 }
 
-/// A life begins with `init`, whatever a stop left of it: what is there is a fresh start of `init` again, or a sound beginning without an event.
+/// A life begins with `init`, whatever a stop left of it: what is there is a fresh start of `init` again, or a sound
+/// beginning without an event.
 ///
 /// Source: own rule.
 pub fn inits_go_on<S: Site>()

@@ -20,27 +20,30 @@ use vnfm_commands::{finish, obey};
 ///
 /// The words are a command, behind which its options stand in any order:
 /// - `init --journal PATH --manager N` makes the journal of manager N.
-/// - `onboard --journal PATH` opens the journal, reads the door's first connection, then the clock, and records the descriptor.
-/// - `once --journal PATH` opens the journal and makes as many rounds as `--rounds` says, or one: in each it serves one connection of the
-///   door, where one comes, whose requests are answered one by one for the role of `--role`, reads the clock once for each request
-///   and once for the round, and makes a turn: one act, in the order of their numbers, for each active occurrence: in STARTING, PROCESSING or
-///   ROLLING_BACK, under a cancel or not. An act asks the orchestrator for a grant or polls it, begins the job of an attempt behind its intent,
-///   which makes a change or undoes it, looks at a job, under a FORCEFUL cancel once it was asked to abort, or moves the occurrence on by what
+/// - `onboard --journal PATH` opens the journal, reads the door's first connection, then the clock, and records the
+///   descriptor.
+/// - `once --journal PATH` opens the journal and makes as many rounds as `--rounds` says, or one: in each it serves one
+///   connection of the door, where one comes, whose requests are answered one by one for the role of `--role`, reads
+///   the clock once for each request and once for the round, and makes a turn: one act, in the order of their numbers,
+///   for each active occurrence: in STARTING, PROCESSING or ROLLING_BACK, under a cancel or not. An act asks the
+///   orchestrator for a grant or polls it, begins the job of an attempt behind its intent, which makes a change or
+///   undoes it, looks at a job, under a FORCEFUL cancel once it was asked to abort, or moves the occurrence on by what
 ///   was answered. Rounds go on where nobody comes any more.
 ///
-/// From a sound beginning a stop leaves, whenever it comes, a journal with all that it had and jobs that are sound with it: each change stands
-/// at most once, and none ungranted. From the moment at which a reply was told on, whenever a stop comes, that journal has all that was done up
-/// to the reply.
+/// From a sound beginning a stop leaves, whenever it comes, a journal with all that it had and jobs that are sound with
+/// it: each change stands at most once, and none ungranted. From the moment at which a reply was told on, whenever a
+/// stop comes, that journal has all that was done up to the reply.
 ///
-/// The orchestrator and the infrastructure are asked by `once` alone, the courier isn't asked yet, and `--orchestrator` and `--vim` are used
-/// by nothing.
-/// Statuses: 0 the command did its work; 2 the words are no command; 3 exactly where a disk call failed, in an act too, after which no other
-/// is made; 4 exactly where waiting for a connection failed, or a read of a descriptor; 5 the file is no journal; 6 there is no memory; 7 the line of
-/// status 0 couldn't be put; 8 a record is bad; 9 the journal has no room for the descriptor, or for an event of an act; 10 the descriptor is
-/// refused; 11 the file isn't unfinished for the manager of `init`. After 2, 5, 8, 10 and 11 the file is as it was; after 4, 6 and 9 too, but
-/// that what `once` acknowledged, and what its acts recorded, stand. A call of the orchestrator or the infrastructure that failed gives no
-/// status: a later turn goes on from it.
-/// Source: SOL 003 clause 5; words, statuses and lines are an own rule, docs/FORMATS.md.
+/// The orchestrator and the infrastructure are asked by `once` alone, the courier isn't asked yet, and `--orchestrator`
+/// and `--vim` are used by nothing.
+/// Statuses: 0 the command did its work; 2 the words are no command; 3 exactly where a disk call failed, in an act too,
+/// after which no other is made; 4 exactly where waiting for a connection failed, or a read of a descriptor; 5 the file
+/// is no journal; 6 there is no memory; 7 the line of status 0 couldn't be put; 8 a record is bad; 9 the journal has no
+/// room for the descriptor, or for an event of an act; 10 the descriptor is refused; 11 the file isn't unfinished for
+/// the manager of `init`. After 2, 5, 8, 10 and 11 the file is as it was; after 4, 6 and 9 too, but that what `once`
+/// acknowledged, and what its acts recorded, stand. A call of the orchestrator or the infrastructure that failed gives
+/// no status: a later turn goes on from it. Source: SOL 003 clause 5; words, statuses and lines are an own rule,
+/// docs/FORMATS.md.
 pub fn run<S: Site, D: Door, O: Orchestrator, C: Courier, K: Clock, W: Sink>(
     alloc: Global,
     words: &[Text],
@@ -53,10 +56,12 @@ pub fn run<S: Site, D: Door, O: Orchestrator, C: Courier, K: Clock, W: Sink>(
 ) -> u8
     ensures promises { Promises (telling S.tells D.tells O.tells C.tells K.tells) W.tells words.now result
         (record {
-          outside = outside (S.state site.old) (S.counts site.old) mouth.old (O.state orchestrator.old) (O.counts orchestrator.old) (C.state courier.old) (C.counts courier.old) (K.state clock.old);
+          outside = outside (S.state site.old) (S.counts site.old) mouth.old (O.state orchestrator.old)
+              (O.counts orchestrator.old) (C.state courier.old) (C.counts courier.old) (K.state clock.old);
           lines = output_of W.state W.counts out.old;
         }) (record {
-          outside = outside (S.state site.new) (S.counts site.new) mouth.new (O.state orchestrator.new) (O.counts orchestrator.new) (C.state courier.new) (C.counts courier.new) (K.state clock.new);
+          outside = outside (S.state site.new) (S.counts site.new) mouth.new (O.state orchestrator.new)
+              (O.counts orchestrator.new) (C.state courier.new) (C.counts courier.new) (K.state clock.new);
           lines = output_of W.state W.counts out.new;
         }) }
     ensures unasked { ¬ (AreWordsOf Once words.now) → orchestrator.new ≡ orchestrator.old }

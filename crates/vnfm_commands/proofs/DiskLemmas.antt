@@ -1,5 +1,6 @@
 -- Which endings of a run tell that the disk failed.
-use Rattle.std.proofs.Common.{◌≡◌, ◌≢◌, ◌<◌, ℕ, Bool, true, false, refl, sym, subst, ap, ◌∙◌, arith, ⊎_elim, if◌then◌else◌, Some, option_map, Result, Ok, Err}
+use Rattle.std.proofs.Common.{◌≡◌, ◌≢◌, ◌<◌, ℕ, Bool, true, false, refl, sym, subst, ap, ◌∙◌, arith, ⊎_elim, if◌then◌else◌, Some}
+use Rattle.std.proofs.Common.{option_map, Result, Ok, Err}
 use Rattle.std.proofs.Math.Dec.{eqb}
 use Rattle.std.proofs.lemmas.Bool.Decides.{eqb_tells}
 use Rattle.site_traits.specs.Counts.{SiteCounts, asked, OnlyDiskFails, CallCounts, Rose, called, called_in_vain, fails_as, one_more}
@@ -56,26 +57,39 @@ fails_never P Q a b f never other = fails_as P Q a b f (λ is. absurd (never is)
 -- a sync was asked for, and nothing failed
 pub synced : (P : Type 0) (a b : SiteCounts) → b ≡ asked sync a → ¬ P → OnlyDiskFails P a b
 synced P a b is never =
-    subst (OnlyDiskFails P a) (sym is) (record { rose = λ yes. absurd (never yes); stays = λ _. refl; vim = refl; look = refl; refusals = refl })
+    subst (OnlyDiskFails P a) (sym is) (record {
+      rose = λ yes. absurd (never yes);
+      stays = λ _. refl;
+      vim = refl;
+      look = refl;
+      refusals =
+          refl;
+    })
 
 -- a journal was to be made
-pub making_fails : CreatesCount → (r : Result (Unit {0}) CreateFault) (manager : ℕ) (a b : SiteCounts) → CreateAsks r a b → OnlyDiskFails (making_ending manager r ≡ Err SiteFault) a b
+pub making_fails : CreatesCount → (r : Result (Unit {0}) CreateFault) (manager : ℕ) (a b : SiteCounts) → CreateAsks r a b
+    → OnlyDiskFails (making_ending manager r ≡ Err SiteFault) a b
 making_fails counted (Ok done) manager a b asks = fails_never _ _ a b (counted (Ok done) a b asks) (λ wrong. cc wrong) (λ wrong. cc wrong)
-making_fails counted (Err creating.Taken) manager a b asks = fails_never _ _ a b (counted (Err creating.Taken) a b asks) (λ wrong. cc wrong) (λ wrong. cc wrong)
-making_fails counted (Err creating.Disk) manager a b asks = fails_as _ _ a b (counted (Err creating.Disk) a b asks) (λ is. refl) (λ is. refl)
+making_fails counted (Err creating.Taken) manager a b asks = fails_never _ _ a b (counted (Err creating.Taken) a b asks) (λ wrong. cc wrong)
+    (λ wrong. cc wrong)
+making_fails counted (Err creating.Disk) manager a b asks = fails_as _ _ a b (counted (Err creating.Disk) a b asks) (λ is. refl)
+    (λ is. refl)
 
 -- a journal that wasn't opened
-pub unopened_fails : {T : Type 0} (why : OpenFault) (ending : Ending) (a b : SiteCounts) → FailsWhere (◌≡◌ {A = Result T OpenFault} (Err why) (Err opening.Disk)) (asked sync a) b
+pub unopened_fails : {T : Type 0} (why : OpenFault) (ending : Ending) (a b : SiteCounts)
+    → FailsWhere (◌≡◌ {A = Result T OpenFault} (Err why) (Err opening.Disk)) (asked sync a) b
     → ending ≡ Err (unopened_failure why) → OnlyDiskFails (ending ≡ Err SiteFault) a b
 unopened_fails opening.Unmade ending a b f is = synced _ a b (f.stays (λ wrong. cc wrong)) (λ site. absurd (cc (sym is ∙ site)))
 unopened_fails (opening.Foreign place) ending a b f is = synced _ a b (f.stays (λ wrong. cc wrong)) (λ site. absurd (cc (sym is ∙ site)))
 unopened_fails (opening.BadRecord n) ending a b f is = synced _ a b (f.stays (λ wrong. cc wrong)) (λ site. absurd (cc (sym is ∙ site)))
 unopened_fails opening.Memory ending a b f is = synced _ a b (f.stays (λ wrong. cc wrong)) (λ site. absurd (cc (sym is ∙ site)))
 unopened_fails opening.Disk ending a b f is =
-    subst (OnlyDiskFails (ending ≡ Err SiteFault) a) (sym (f.rose refl)) (record { rose = λ _. refl; stays = λ never. absurd (never is); vim = refl; look = refl; refusals = refl })
+    subst (OnlyDiskFails (ending ≡ Err SiteFault) a) (sym (f.rose refl))
+    (record { rose = λ _. refl; stays = λ never. absurd (never is); vim = refl; look = refl; refusals = refl })
 
 -- a descriptor that wasn't onboarded
-pub unonboarded_fails : {T : Type 0} (why : OnboardFault) (ending : Ending) (a b : SiteCounts) → OnlyDiskFails (◌≡◌ {A = Result T OnboardFault} (Err why) (Err fault.Disk)) a b
+pub unonboarded_fails : {T : Type 0} (why : OnboardFault) (ending : Ending) (a b : SiteCounts)
+    → OnlyDiskFails (◌≡◌ {A = Result T OnboardFault} (Err why) (Err fault.Disk)) a b
     → ending ≡ Err (unonboarded why) → OnlyDiskFails (ending ≡ Err SiteFault) a b
 unonboarded_fails fault.Door ending a b f is = fails_never _ _ a b f (λ wrong. cc wrong) (λ site. absurd (cc (sym is ∙ site)))
 unonboarded_fails (fault.Refused why) ending a b f is = fails_never _ _ a b f (λ wrong. cc wrong) (λ site. absurd (cc (sym is ∙ site)))
@@ -87,12 +101,14 @@ unonboarded_fails fault.Disk ending a b f is = fails_as _ _ a b f (λ _. is) (λ
 err_is : {T : Type 0} (x y : Failure) → ◌≡◌ {A = Result T Failure} (Err x) (Err y) → x ≡ y
 err_is x y is = cc
 
-pub round_fails : (why : Failure) (a b : SiteCounts) → DiskFails (◌≡◌ {A = Result (Unit {0}) Failure} (Err why) (Err SiteFault)) a b → DiskFails (◌≡◌ {A = Ending} (Err why) (Err SiteFault)) a b
+pub round_fails : (why : Failure) (a b : SiteCounts) → DiskFails (◌≡◌ {A = Result (Unit {0}) Failure} (Err why) (Err SiteFault)) a b
+    → DiskFails (◌≡◌ {A = Ending} (Err why) (Err SiteFault)) a b
 round_fails why a b f = disk_as _ _ a b f (λ is. ap Err (err_is why SiteFault is)) (λ is. ap Err (err_is why SiteFault is))
 
 -- a turn that didn't go through
 pub turn_fails : {T : Type 0} (fault : WorkFault) (why : Failure) (a b : SiteCounts) → option_map halting (halt_of fault) ≡ Some why
-    → DiskFails (◌≡◌ {A = Result T WorkFault} (Err fault) (Err working.Disk)) a b → DiskFails (◌≡◌ {A = Result (Unit {0}) Failure} (Err why) (Err SiteFault)) a b
+    → DiskFails (◌≡◌ {A = Result T WorkFault} (Err fault) (Err working.Disk)) a b
+    → DiskFails (◌≡◌ {A = Result (Unit {0}) Failure} (Err why) (Err SiteFault)) a b
 turn_fails (working.Full end more) why a b is f = disk_never _ _ a b f (λ wrong. cc wrong) (λ wrong. cc (is, wrong))
 turn_fails working.Memory why a b is f = disk_never _ _ a b f (λ wrong. cc wrong) (λ wrong. cc (is, wrong))
 turn_fails working.Disk why a b is f = disk_as _ _ a b f (λ _. cc is) (λ _. refl)
@@ -106,12 +122,14 @@ rises_where status a b f less = ⊎_elim
     (eqb_tells status 3)
 
 -- a line that was not put is counted
-pub lost_line : (put : Bool) (before now : CallCounts) → now ≡ (if put then called before else called_in_vain before) → put ≡ false → Rose before.faults now.faults
+pub lost_line : (put : Bool) (before now : CallCounts) → now ≡ (if put then called before else called_in_vain before) → put ≡ false
+    → Rose before.faults now.faults
 lost_line true before now is lost = absurd (cc lost)
 lost_line false before now is lost = subst (λ (v : CallCounts). Rose before.faults v.faults) (sym is) (omega arith)
 
 -- and so is every put
-pub one_put : (put : Bool) (before now : CallCounts) → now ≡ (if put then called before else called_in_vain before) → now.calls ≡ one_more before.calls
+pub one_put : (put : Bool) (before now : CallCounts) → now ≡ (if put then called before else called_in_vain before)
+    → now.calls ≡ one_more before.calls
 one_put true before now is = ap (λ (v : CallCounts). v.calls) is
 one_put false before now is = ap (λ (v : CallCounts). v.calls) is
 

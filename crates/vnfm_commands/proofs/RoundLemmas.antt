@@ -1,12 +1,15 @@
 -- One round, and the rounds so far.
-use Rattle.std.proofs.Common.{◌≡◌, ◌<◌, ◌+◌, ◌⊎◌, ℕ, Bool, true, false, true≢false, List, [], ◌∷◌, length, Option, Some, None, option_map, Result, Ok, Err, sym, subst, refl, ap, ◌∙◌, arith}
+use Rattle.std.proofs.Common.{◌≡◌, ◌<◌, ◌+◌, ◌⊎◌, ℕ, Bool, true, false, true≢false, List, [], ◌∷◌, length, Option, Some, None, option_map}
+use Rattle.std.proofs.Common.{Result, Ok, Err, sym, subst, refl, ap, ◌∙◌, arith}
 use Rattle.executor.specs.Chain.{AreTold, ChainsJoin}
 use Rattle.executor.specs.Managed.{Managed, IsReady}
 use Rattle.executor.specs.declared.manager.WorkFault.{WorkFault}
 use Rattle.executor.specs.declared.manager.WorkFault.TheVariants as working
-use Rattle.executor.specs.Work.{Idles, Work, Works, WorksAreWithJobs, WorksWithJobs, WorksWithJobsJoin, WorksWithJobsLeadOn, LeadsOn, went, stood}
+use Rattle.executor.specs.Work.{Idles, Work, Works, WorksAreWithJobs, WorksWithJobs, WorksWithJobsJoin, WorksWithJobsLeadOn, LeadsOn, went}
+use Rattle.executor.specs.Work.{stood}
 use Rattle.lcm_api.specs.Mouth.{MouthState, Begins}
-use Rattle.lcm_sessions.specs.Session.{Last, Closing, Talk, behind_told, over as no_more, unheard, untold, starving, breaking, breaks, is_breaking, life, work_by, work_last, work_of}
+use Rattle.lcm_sessions.specs.Session.{Last, Closing, Talk, behind_told, over as no_more, unheard, untold, starving, breaking, breaks}
+use Rattle.lcm_sessions.specs.Session.{is_breaking, life, work_by, work_last, work_of}
 use Rattle.lcm_api.specs.World as session
 use Rattle.lcm_api.specs.World.{Peers, World, peers_of, world}
 use Rattle.lcm_sessions.specs.Talking as talking
@@ -23,9 +26,13 @@ use Rattle.site_traits.specs.declared.door.NextAnswer.{NextAnswer}
 use Rattle.site_traits.specs.declared.door.NextAnswer.TheVariants.{Nobody, Ended}
 use Rattle.site_traits.specs.Moments.{kept_jobs}
 use Rattle.site_traits.specs.Site.{KeepsJobs, SiteState}
-use Rattle.vnfm_commands.specs.Course.{Visit, unasked, served, Turning, Round, Close, finished, unreached, stopped, halted, Halt, full, starving as lacking, broken, halt_of, Service, IsCount, close_ending, close_work, halting, moment_of, once_made, once_served, told_at_close, told_in_rounds, told_in_visit}
+use Rattle.vnfm_commands.specs.Course.{Visit, unasked, served, Turning, Round, Close, finished, unreached, stopped, halted, Halt, full}
+use Rattle.vnfm_commands.specs.Course.{starving as lacking, broken, halt_of, Service, IsCount, close_ending, close_work, halting, moment_of}
+use Rattle.vnfm_commands.specs.Course.{once_made, once_served, told_at_close, told_in_rounds, told_in_visit}
 use Rattle.vnfm_commands.specs.Outside.{Outside, Tells, acting_outside, acting_tells, beside, session_tells, session_world}
-use Rattle.vnfm_commands.specs.Rounds.{AreFor, AsksNobody, FailsBy, IsDoorEnd, IsEndFor, IsMet, IsOne, IsTurned, IsVisitFor, Makes, MakesOne, Meets, Met, visited, over, MetFor, One, round, end, OneFor, Receives, RoundsDo, TurnDoes, VisitDoes}
+use Rattle.vnfm_commands.specs.Rounds.{AreFor, AsksNobody, FailsBy, IsDoorEnd, IsEndFor, IsMet, IsOne, IsTurned, IsVisitFor, Makes}
+use Rattle.vnfm_commands.specs.Rounds.{MakesOne, Meets, Met, visited, over, MetFor, One, round, end, OneFor, Receives, RoundsDo, TurnDoes}
+use Rattle.vnfm_commands.specs.Rounds.{VisitDoes}
 use Rattle.vnfm_commands.proofs.ToldLemmas.{rounds_within, visit_within}
 use Rattle.vnfm_commands.specs.declared.ending.Failure.{Failure}
 use Rattle.vnfm_commands.specs.declared.ending.Failure.TheVariants.{DoorFault}
@@ -38,7 +45,8 @@ unbroken_last m H (untold x) fine = refl
 unbroken_last m H (starving x) fine = refl
 unbroken_last m H (breaking x) fine = absurd (true≢false fine)
 
-unbroken_by : (m : ℕ) (H : List Event) (closing : Option Closing) → breaks closing ≡ false → work_by m H closing ≡ went (stood (work_by m H closing))
+unbroken_by : (m : ℕ) (H : List Event) (closing : Option Closing) → breaks closing ≡ false
+    → work_by m H closing ≡ went (stood (work_by m H closing))
 unbroken_by m H None fine = refl
 unbroken_by m H (Some closing) fine = unbroken_last m H closing.last fine
 
@@ -52,9 +60,11 @@ came_of true came talk = over (stopped came talk)
 came_of false came talk = visited (served came talk)
 
 -- a connection came and was served
-pub met_served : (t : session.WorldTells) (m : ℕ) (H : List Event) (broke : Bool) (came : Role) (talk : Talk) (n : Managed) (s : SiteState) (c d : MouthState) (ks : List ℕ) (v : World)
+pub met_served : (t : session.WorldTells) (m : ℕ) (H : List Event) (broke : Bool) (came : Role) (talk : Talk) (n : Managed) (s : SiteState)
+    (c d : MouthState) (ks : List ℕ) (v : World)
     → (t.door → Comes came c.wire.intake.door d.wire.intake.door) → d.wire.intake.counts ≡ has_come c.wire.intake.counts → Begins d
-    → d.told ≡ c.told → talking.Serves t m H talk n (world s d ks) v → breaks talk.end ≡ broke → Meets t m H (came_of broke came talk) n (world s c ks) v
+    → d.told ≡ c.told → talking.Serves t m H talk n (world s d ks) v → breaks talk.end ≡ broke
+    → Meets t m H (came_of broke came talk) n (world s c ks) v
 met_served t m H broke came talk n s c d ks v comes counts begins unnoted serves is = by broke is
   where
     receives : Receives t m H came talk (record { mouth = c; clock = ks }) (peers_of v)
@@ -76,14 +86,16 @@ IsFailureOf (Err cause) (Err why) = option_map halting (halt_of cause) ≡ Some 
 IsFailureOf result answer = ⊥
 
 -- the cause of a fault that is this failure
-caused : (fault : WorkFault) (why : Failure) → option_map halting (halt_of fault) ≡ Some why → (halt : Halt) × (halt_of fault ≡ Some halt) × (why ≡ halting halt)
+caused : (fault : WorkFault) (why : Failure) → option_map halting (halt_of fault) ≡ Some why
+    → (halt : Halt) × (halt_of fault ≡ Some halt) × (why ≡ halting halt)
 caused (working.Full place more) why is = (full place more, refl, cc)
 caused working.Memory why is = (lacking, refl, cc)
 caused working.Disk why is = (broken, refl, cc)
 caused (working.TooLong n) why is = absurd (cc is)
 
 -- how a turn ended, by the failure of what it answered
-pub turned : (result : Result Turn WorkFault) (answer : Result (Unit {0}) Failure) (ends : List Acted) (ended : TurnEnd) → EndsTurn result ends ended → IsFailureOf result answer → IsTurned answer ended
+pub turned : (result : Result Turn WorkFault) (answer : Result (Unit {0}) Failure) (ends : List Acted) (ended : TurnEnd)
+    → EndsTurn result ends ended → IsFailureOf result answer → IsTurned answer ended
 turned (Ok turn) (Ok done) ends through is of = tt
 turned (Ok turn) (Ok done) ends (by d cause) is of = absurd is
 turned (Ok turn) (Err why) ends ended is of = absurd of
@@ -121,16 +133,21 @@ record Goes (t : Tells) (m : ℕ) (H : List Event) (turn : Turning) (ended : Tur
   does : TurnDoes t m H turn ended (beside u) (beside v)
 
 -- the chain of both
-told_by_both : (t : Tells) (m : ℕ) (H : List Event) (visit : Visit) (turn : Turning) (ended : TurnEnd) (n o : Managed) (w u v : Outside) → ChainsJoin t.site w.site u.site v.site
-    → Went t m H visit n w u → Goes t m (once_served m H visit) turn ended o u v → AreTold t.site m (told_in_visit m H visit) w.mouth.told v.mouth.told w.site v.site
+told_by_both : (t : Tells) (m : ℕ) (H : List Event) (visit : Visit) (turn : Turning) (ended : TurnEnd) (n o : Managed) (w u v : Outside)
+    → ChainsJoin t.site w.site u.site v.site
+    → Went t m H visit n w u → Goes t m (once_served m H visit) turn ended o u v
+    → AreTold t.site m (told_in_visit m H visit) w.mouth.told v.mouth.told w.site v.site
 told_by_both t m H visit turn ended n o w u v chains first second =
     let G : List Event = once_served m H visit in
     chains m H G (turn_work (moment_of turn) G turn.acts ended) n o [] (told_in_visit m H visit) w.mouth.told u.mouth.told v.mouth.told
-    first.works.at_file.site (visit_within m H visit) first.told second.turns.works.at_file.site (ap (λ (x : MouthState). x.told) second.does.mouth)
+    first.works.at_file.site (visit_within m H visit) first.told second.turns.works.at_file.site
+    (ap (λ (x : MouthState). x.told) second.does.mouth)
 
 -- a visit and a turn that went through are a round
-round_made : (t : Tells) (m : ℕ) (H : List Event) (visit : Visit) (turn : Turning) (n o : Managed) (w u v : Outside) → WorksWithJobsJoin t.site w.site u.site v.site → ChainsJoin t.site w.site u.site v.site
-    → Went t m H visit n w u → Goes t m (once_served m H visit) turn through o u v → MakesOne t m H (round (record { visit = visit; turn = turn })) o w v
+round_made : (t : Tells) (m : ℕ) (H : List Event) (visit : Visit) (turn : Turning) (n o : Managed) (w u v : Outside)
+    → WorksWithJobsJoin t.site w.site u.site v.site → ChainsJoin t.site w.site u.site v.site
+    → Went t m H visit n w u → Goes t m (once_served m H visit) turn through o u v
+    → MakesOne t m H (round (record { visit = visit; turn = turn })) o w v
 round_made t m H visit turn n o w u v joins chains first second =
     let G : List Event = once_served m H visit in
     record {
@@ -140,8 +157,10 @@ round_made t m H visit turn n o w u v joins chains first second =
     }
 
 -- a visit and a turn that ended in this fault end the rounds
-round_halted : (t : Tells) (m : ℕ) (H : List Event) (visit : Visit) (turn : Turning) (ended : TurnEnd) (why : Halt) (n o : Managed) (w u v : Outside) → WorksWithJobsJoin t.site w.site u.site v.site → ChainsJoin t.site w.site u.site v.site
-    → Went t m H visit n w u → Goes t m (once_served m H visit) turn ended o u v → FailsBy ended why → MakesOne t m H (end (halted visit turn ended why)) o w v
+round_halted : (t : Tells) (m : ℕ) (H : List Event) (visit : Visit) (turn : Turning) (ended : TurnEnd) (why : Halt) (n o : Managed)
+    (w u v : Outside) → WorksWithJobsJoin t.site w.site u.site v.site → ChainsJoin t.site w.site u.site v.site
+    → Went t m H visit n w u → Goes t m (once_served m H visit) turn ended o u v → FailsBy ended why
+    → MakesOne t m H (end (halted visit turn ended why)) o w v
 round_halted t m H visit turn ended why n o w u v joins chains first second fails =
     let G : List Event = once_served m H visit in
     record {
@@ -151,17 +170,28 @@ round_halted t m H visit turn ended why n o w u v joins chains first second fail
     }
 
 -- what came of a round in which a visit was made, by what the turn answered
-round_turned : (t : Tells) (m : ℕ) (H : List Event) (role : Role) (visit : Visit) (turn : Turning) (ended : TurnEnd) (answer : Result (Unit {0}) Failure) (n o : Managed) (w u v : Outside) → WorksWithJobsJoin t.site w.site u.site v.site → ChainsJoin t.site w.site u.site v.site
+round_turned : (t : Tells) (m : ℕ) (H : List Event) (role : Role) (visit : Visit) (turn : Turning) (ended : TurnEnd)
+    (answer : Result (Unit {0}) Failure) (n o : Managed) (w u v : Outside) → WorksWithJobsJoin t.site w.site u.site v.site
+    → ChainsJoin t.site w.site u.site v.site
     → Went t m H visit n w u → Goes t m (once_served m H visit) turn ended o u v → IsTurned answer ended → IsVisitFor role visit
     → (one : One) × MakesOne t m H one o w v × OneFor role one × IsOne answer one
 round_turned t m H role visit turn ended (Ok done) n o w u v joins chains first second is for = went_by ended second is
   where
     went_by : (e : TurnEnd) → Goes t m (once_served m H visit) turn e o u v → IsTurned (Ok done) e
         → (one : One) × MakesOne t m H one o w v × OneFor role one × IsOne (Ok done) one
-    went_by through gone is = (round (record { visit = visit; turn = turn }), round_made t m H visit turn n o w u v joins chains first gone, for, tt)
+    went_by through gone is = (
+      round (record { visit = visit; turn = turn }),
+      round_made t m H visit turn n o w u v joins chains first gone,
+      for,
+      tt,
+    )
     went_by (by d cause) gone is = absurd is
-round_turned t m H role visit turn ended (Err why) n o w u v joins chains first second is for =
-    (end (halted visit turn ended is.0), round_halted t m H visit turn ended is.0 n o w u v joins chains first second is.1, for, ap Err is.2)
+round_turned t m H role visit turn ended (Err why) n o w u v joins chains first second is for = (
+  end (halted visit turn ended is.0),
+  round_halted t m H visit turn ended is.0 n o w u v joins chains first second is.1,
+  for,
+  ap Err is.2,
+)
 
 -- which visit it was that was made
 pub the_visit : (met : Met) → IsMet (Ok tt) met → (v : Visit) × (met ≡ visited v)
@@ -170,7 +200,8 @@ the_visit (over c) is = absurd is
 
 -- behind a visit the manager is ready for the turn
 pub ready_met : (t : session.WorldTells) (role : Role) (m n : Managed) (w u : World) → LeadsOn t.site w.site u.site
-    → ((H : List Event) → IsReady t.site m H w.site → (met : Met) × Meets t m.ledger.manager H met n w u × MetFor role met × IsMet (Ok tt) met)
+    → ((H : List Event) → IsReady t.site m H w.site → (met : Met) × Meets t m.ledger.manager H met n w u × MetFor role met
+    × IsMet (Ok tt) met)
     → (H : List Event) × IsReady t.site m H w.site → (H : List Event) × IsReady t.site n H u.site
 ready_met t role m n w u leads meets ready =
     let it = meets ready.0 ready.1 in
@@ -182,11 +213,15 @@ ready_met t role m n w u leads meets ready =
 
 -- what came of a round in which a visit was made
 pub made_by : (t : Tells) (role : Role) (m n o : Managed) (answer : Result (Unit {0}) Failure) (failed : Type 0) (w u v : Outside)
-    → LeadsOn t.site w.site u.site → WorksAreWithJobs t.site w.site u.site → ChainsJoin t.site w.site u.site v.site → WorksWithJobsJoin t.site w.site u.site v.site
-    → ((H : List Event) → IsReady t.site m H w.site → (met : Met) × Meets (session_tells t) m.ledger.manager H met n (session_world w) (session_world u) × MetFor role met × IsMet (Ok tt) met)
-    → OnlyDiskFails failed w.counts u.counts → u.orchestrator ≡ w.orchestrator → u.courier ≡ w.courier → v.mouth ≡ u.mouth → v.courier ≡ u.courier
+    → LeadsOn t.site w.site u.site → WorksAreWithJobs t.site w.site u.site → ChainsJoin t.site w.site u.site v.site
+    → WorksWithJobsJoin t.site w.site u.site v.site
+    → ((H : List Event) → IsReady t.site m H w.site → (met : Met) × Meets (session_tells t) m.ledger.manager H met n (session_world w)
+    (session_world u) × MetFor role met × IsMet (Ok tt) met)
+    → OnlyDiskFails failed w.counts u.counts → u.orchestrator ≡ w.orchestrator → u.courier ≡ w.courier → v.mouth ≡ u.mouth
+    → v.courier ≡ u.courier
     → ((H : List Event) → IsReady t.site n H u.site → (turn : Turning) × (ended : TurnEnd)
-    × Turns (acting_tells t) (point n.ledger.manager (moment_of turn) H) turn.acts ended o (acting_outside u) (acting_outside v) × (t.clock → Gives turn.value u.clock v.clock) × IsTurned answer ended)
+    × Turns (acting_tells t) (point n.ledger.manager (moment_of turn) H) turn.acts ended o (acting_outside u) (acting_outside v)
+    × (t.clock → Gives turn.value u.clock v.clock) × IsTurned answer ended)
     → (H : List Event) → IsReady t.site m H w.site
     → (one : One) × MakesOne t m.ledger.manager H one o w v × OneFor role one × IsOne answer one
 made_by t role m n o answer failed w u v leads alone chains joins meets counts orchestrator courier mouth same turns H ready =
@@ -197,7 +232,8 @@ made_by t role m n o answer failed w u v leads alone chains joins meets counts o
     let met : Meets (session_tells t) m.ledger.manager H (visited met_as.0) n (session_world w) (session_world u) = subst P met_as.1 it.1 in
     let G : List Event = once_served m.ledger.manager H met_as.0 in
     let turned = turns G (leads m.ledger.manager H (went G) n met.works refl) in
-    let R : ℕ → Type 0 = λ x. Turns (acting_tells t) (point x (moment_of turned.0) G) turned.0.acts turned.1 o (acting_outside u) (acting_outside v) in
+    let R : ℕ → Type 0 = λ x. Turns (acting_tells t) (point x (moment_of turned.0) G) turned.0.acts turned.1 o (acting_outside u)
+    (acting_outside v) in
     let done = subst R met.works.number turned.2 in
     round_turned t m.ledger.manager H role met_as.0 turned.0 turned.1 answer n o w u v joins chains
     (record {
@@ -207,7 +243,16 @@ made_by t role m n o answer failed w u v leads alone chains joins meets counts o
     })
     (record {
       turns = done;
-      does = record { mouth = mouth; courier = same; clock = turned.3; between = done.between; acts = done.deeds_do; end_does = done.end_does; each = done.order };
+      does = record {
+        mouth = mouth;
+        courier = same;
+        clock = turned.3;
+        between = done.between;
+        acts = done.deeds_do;
+        end_does =
+            done.end_does;
+        each = done.order;
+      };
     })
     turned.4 (subst Q met_as.1 it.2)
 
@@ -219,8 +264,10 @@ door_end why (stopped came talk) is = ap Err is
 door_end why (halted visit turn ended cause) is = absurd is
 
 -- nobody came
-pub met_nobody : (t : session.WorldTells) (m : Managed) (H : List Event) (answer : NextAnswer) (s : SiteState) (c d : MouthState) (ks : List ℕ) → Idles t.site s → IsReady t.site m H s
-    → (answer ≡ Nobody) ⊎ (answer ≡ Ended) → (t.door → ComesNot answer c.wire.intake.door d.wire.intake.door) → d.wire.intake.counts ≡ c.wire.intake.counts → d.told ≡ c.told
+pub met_nobody : (t : session.WorldTells) (m : Managed) (H : List Event) (answer : NextAnswer) (s : SiteState) (c d : MouthState)
+    (ks : List ℕ) → Idles t.site s → IsReady t.site m H s
+    → (answer ≡ Nobody) ⊎ (answer ≡ Ended) → (t.door → ComesNot answer c.wire.intake.door d.wire.intake.door)
+    → d.wire.intake.counts ≡ c.wire.intake.counts → d.told ≡ c.told
     → Meets t m.ledger.manager H (visited unasked) m (world s c ks) (world s d ks)
 met_nobody t m H answer s c d ks idles ready none comes counts unnoted = record {
   works = idles m H ready;
@@ -229,20 +276,33 @@ met_nobody t m H answer s c d ks idles ready none comes counts unnoted = record 
 }
 
 -- waiting failed
-pub met_unreached : (t : session.WorldTells) (m : Managed) (H : List Event) (s : SiteState) (c d : MouthState) (ks : List ℕ) → Idles t.site s → IsReady t.site m H s
+pub met_unreached : (t : session.WorldTells) (m : Managed) (H : List Event) (s : SiteState) (c d : MouthState) (ks : List ℕ)
+    → Idles t.site s → IsReady t.site m H s
     → (t.door → d.wire.intake.door ≡ c.wire.intake.door) → d.wire.intake.counts ≡ next_failed c.wire.intake.counts → d.told ≡ c.told
     → Meets t m.ledger.manager H (over unreached) m (world s c ks) (world s d ks)
-met_unreached t m H s c d ks idles ready same counts unnoted = record { works = idles m H ready; does = record { unreached = record { same = same; counts = counts }; clock = refl }; told = unnoted }
+met_unreached t m H s c d ks idles ready same counts unnoted = record {
+  works = idles m H ready;
+  does =
+      record { unreached = record { same = same; counts = counts }; clock = refl };
+  told = unnoted;
+}
 
 -- what came of the door in a round that the door ended is what ended it, and nobody was asked
-pub round_over : (t : Tells) (m : ℕ) (H : List Event) (role : Role) (why : Failure) (failed : Type 0) (met : Met) (n : Managed) (w v : Outside)
-    → WorksAreWithJobs t.site w.site v.site → Meets (session_tells t) m H met n (session_world w) (session_world v) → MetFor role met → IsMet (Err why) met
-    → OnlyDiskFails failed w.counts v.counts → v.orchestrator ≡ w.orchestrator → v.courier ≡ w.courier → (why ≡ DoorFault → (beside v).around ≡ (beside w).around)
+pub round_over : (t : Tells) (m : ℕ) (H : List Event) (role : Role) (why : Failure) (failed : Type 0) (met : Met) (n : Managed)
+    (w v : Outside)
+    → WorksAreWithJobs t.site w.site v.site → Meets (session_tells t) m H met n (session_world w) (session_world v) → MetFor role met
+    → IsMet (Err why) met
+    → OnlyDiskFails failed w.counts v.counts → v.orchestrator ≡ w.orchestrator → v.courier ≡ w.courier
+    → (why ≡ DoorFault → (beside v).around ≡ (beside w).around)
     → (one : One) × MakesOne t m H one n w v × OneFor role one × IsOne (Err why) one
 round_over t m H role why failed (visited visit) n w v alone meets for is counts orchestrator courier same = absurd is
 round_over t m H role why failed (over finished) n w v alone meets for is counts orchestrator courier same = absurd is
-round_over t m H role why failed (over unreached) n w v alone meets for is counts orchestrator courier same =
-    (end unreached, record { works = alone m H (went H) n meets.works; does = (meets.does, same is, courier); told = meets.told }, for, door_end why unreached is)
+round_over t m H role why failed (over unreached) n w v alone meets for is counts orchestrator courier same = (
+  end unreached,
+  record { works = alone m H (went H) n meets.works; does = (meets.does, same is, courier); told = meets.told },
+  for,
+  door_end why unreached is,
+)
 round_over t m H role why failed (over (stopped came talk)) n w v alone meets for is counts orchestrator courier same = (
   end (stopped came talk),
   record {
@@ -253,7 +313,8 @@ round_over t m H role why failed (over (stopped came talk)) n w v alone meets fo
   for,
   door_end why (stopped came talk) is,
 )
-round_over t m H role why failed (over (halted visit turn ended cause)) n w v alone meets for is counts orchestrator courier same = absurd is
+round_over t m H role why failed (over (halted visit turn ended cause)) n w v alone meets for is counts orchestrator courier same =
+    absurd is
 
 -- the rounds so far: all were made
 pub record RoundsSoFar (t : Tells) (role : Role) (m n : Managed) (made : ℕ) (w v : Outside) : Type 0 where
@@ -262,12 +323,14 @@ pub record RoundsSoFar (t : Tells) (role : Role) (m n : Managed) (made : ℕ) (w
       × RoundsDo t m.ledger.manager H rounds (beside w) (beside v) × AreFor role rounds × (made ≡ length rounds)
       × AreTold t.site m.ledger.manager (told_in_rounds m.ledger.manager H rounds) w.mouth.told v.mouth.told w.site v.site
 
-pub none_made : (t : Tells) (role : Role) (m : Managed) (w : Outside) → Idles t.site w.site → WorksAreWithJobs t.site w.site w.site → RoundsSoFar t role m m 0 w w
+pub none_made : (t : Tells) (role : Role) (m : Managed) (w : Outside) → Idles t.site w.site → WorksAreWithJobs t.site w.site w.site
+    → RoundsSoFar t role m m 0 w w
 none_made t role m w idles alone = record {
   each = λ H ready. ([], alone m.ledger.manager H (went H) m (idles m H ready), refl, tt, refl, refl);
 }
 
-pub ready_so_far : (t : Tells) (role : Role) (m n : Managed) (made : ℕ) (w v : Outside) → RoundsSoFar t role m n made w v → WorksWithJobsLeadOn t.site w.site v.site
+pub ready_so_far : (t : Tells) (role : Role) (m n : Managed) (made : ℕ) (w v : Outside) → RoundsSoFar t role m n made w v
+    → WorksWithJobsLeadOn t.site w.site v.site
     → (H : List Event) × IsReady t.site m H w.site → (H : List Event) × IsReady t.site n H v.site
 ready_so_far t role m n made w v so_far leads ready =
     let it = so_far.each ready.0 ready.1 in
@@ -285,9 +348,11 @@ the_end why (round r) is = absurd is
 the_end why (end c) is = (c, refl, is)
 
 -- one round more
-pub one_round_more : (t : Tells) (role : Role) (m n o : Managed) (made : ℕ) (w u v : Outside) → RoundsSoFar t role m n made w u → WorksWithJobsLeadOn t.site w.site u.site
+pub one_round_more : (t : Tells) (role : Role) (m n o : Managed) (made : ℕ) (w u v : Outside) → RoundsSoFar t role m n made w u
+    → WorksWithJobsLeadOn t.site w.site u.site
     → WorksWithJobsJoin t.site w.site u.site v.site → ChainsJoin t.site w.site u.site v.site
-    → ((H : List Event) → IsReady t.site n H u.site → (one : One) × MakesOne t n.ledger.manager H one o u v × OneFor role one × IsOne (Ok tt) one)
+    → ((H : List Event) → IsReady t.site n H u.site → (one : One) × MakesOne t n.ledger.manager H one o u v × OneFor role one
+    × IsOne (Ok tt) one)
     → RoundsSoFar t role m o (made + 1) w v
 one_round_more t role m n o made w u v so_far leads joins chains step = record {
   each = λ H ready.
@@ -305,14 +370,17 @@ one_round_more t role m n o made w u v so_far leads joins chains step = record {
         (beside u, it.2, one.does),
         (subst R r.1 did.2, it.3),
         omega (arith, count),
-        chains m.ledger.manager H G (went (once_made m.ledger.manager G r.0)) n o (told_in_visit m.ledger.manager G r.0.visit) (told_in_rounds m.ledger.manager H it.0) w.mouth.told u.mouth.told v.mouth.told
+        chains m.ledger.manager H G (went (once_made m.ledger.manager G r.0)) n o (told_in_visit m.ledger.manager G r.0.visit)
+            (told_in_rounds m.ledger.manager H it.0) w.mouth.told u.mouth.told v.mouth.told
             it.1.at_file.site (rounds_within m.ledger.manager H it.0) it.5 one.works.at_file.site one.told,
       );
 }
 
 -- all were made
-pub all_made : (t : Tells) (role : Role) (m n : Managed) (made count : ℕ) (w v : Outside) → RoundsSoFar t role m n made w v → made ≡ count → (H : List Event) → IsReady t.site m H w.site
-    → (service : Service) × Makes t m.ledger.manager H service n w v × (service.role ≡ role) × IsCount count (length service.rounds) service.close × (made ≡ length service.rounds) × (service.close ≡ finished)
+pub all_made : (t : Tells) (role : Role) (m n : Managed) (made count : ℕ) (w v : Outside) → RoundsSoFar t role m n made w v → made ≡ count
+    → (H : List Event) → IsReady t.site m H w.site
+    → (service : Service) × Makes t m.ledger.manager H service n w v × (service.role ≡ role)
+    × IsCount count (length service.rounds) service.close × (made ≡ length service.rounds) × (service.close ≡ finished)
 all_made t role m n made count w v so_far all H ready =
     let it = so_far.each H ready in
     let service : Service = record { role = role; rounds = it.0; close = finished } in (
@@ -329,11 +397,14 @@ all_made t role m n made count w v so_far all H ready =
     )
 
 -- the rounds ended for this failure
-pub rounds_ended : (t : Tells) (role : Role) (m n o : Managed) (made count : ℕ) (why : Failure) (w u v : Outside) → RoundsSoFar t role m n made w u → WorksWithJobsLeadOn t.site w.site u.site
+pub rounds_ended : (t : Tells) (role : Role) (m n o : Managed) (made count : ℕ) (why : Failure) (w u v : Outside)
+    → RoundsSoFar t role m n made w u → WorksWithJobsLeadOn t.site w.site u.site
     → WorksWithJobsJoin t.site w.site u.site v.site → ChainsJoin t.site w.site u.site v.site → made < count
-    → ((H : List Event) → IsReady t.site n H u.site → (one : One) × MakesOne t n.ledger.manager H one o u v × OneFor role one × IsOne (Err why) one)
+    → ((H : List Event) → IsReady t.site n H u.site → (one : One) × MakesOne t n.ledger.manager H one o u v × OneFor role one
+    × IsOne (Err why) one)
     → (H : List Event) → IsReady t.site m H w.site
-    → (service : Service) × Makes t m.ledger.manager H service o w v × (service.role ≡ role) × IsCount count (length service.rounds) service.close × (Err why ≡ close_ending (length service.rounds) service.close)
+    → (service : Service) × Makes t m.ledger.manager H service o w v × (service.role ≡ role)
+    × IsCount count (length service.rounds) service.close × (Err why ≡ close_ending (length service.rounds) service.close)
 rounds_ended t role m n o made count why w u v so_far leads joins chains fewer step H ready =
     let it = so_far.each H ready in
     let G : List Event = life (once_made m.ledger.manager) H it.0 in
@@ -350,7 +421,8 @@ rounds_ended t role m n o made count why w u v so_far leads joins chains fewer s
       record {
         works = joins m.ledger.manager H G (close_work m.ledger.manager G c.0) n o it.1 one.works;
         serves = record { between = beside u; rounds = it.2; close = one.does; roles = it.3; role = subst R c.1 did.2 };
-        told = chains m.ledger.manager H G (close_work m.ledger.manager G c.0) n o (told_at_close m.ledger.manager G c.0) (told_in_rounds m.ledger.manager H it.0) w.mouth.told u.mouth.told v.mouth.told
+        told = chains m.ledger.manager H G (close_work m.ledger.manager G c.0) n o (told_at_close m.ledger.manager G c.0)
+            (told_in_rounds m.ledger.manager H it.0) w.mouth.told u.mouth.told v.mouth.told
             it.1.at_file.site (rounds_within m.ledger.manager H it.0) it.5 one.works.at_file.site one.told;
       },
       refl,

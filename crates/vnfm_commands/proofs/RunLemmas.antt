@@ -12,7 +12,8 @@ use Rattle.lcm_api.specs.World.{Peers}
 use Rattle.lcm_events.specs.declared.events.Event.{Event}
 use Rattle.lcm_sessions.specs.Onboarding.{onboarding_work}
 use Rattle.site_traits.specs.Site.{SiteState}
-use Rattle.vnfm_commands.specs.Course.{Course, misused, starved, making, opened, unopened, Activity, serving, onboarding, IsOf, IsOfWords, Opening, activity_work, told_by}
+use Rattle.vnfm_commands.specs.Course.{Course, misused, starved, making, opened, unopened, Activity, serving, onboarding, IsOf, IsOfWords}
+use Rattle.vnfm_commands.specs.Course.{Opening, activity_work, told_by}
 use Rattle.command_line.specs.Words.{settings_of}
 use Rattle.command_line.specs.declared.options.Settings.{Settings}
 use Rattle.vnfm_commands.specs.Outside.{Outside, Tells, beside}
@@ -24,7 +25,8 @@ abbrev pub opening_of : Managed → List Event → Opening
 opening_of m H = record { number = m.ledger.manager; history = H }
 
 -- opening the journal, and then work on it
-recovers : (tells : Type 0) (m n : Managed) (H : List Event) (w : Work) (a b e : SiteState) → Stays b → Stays e → Follows tells a b e → tells → SyncsAndReads a b → IsReady tells m H b
+recovers : (tells : Type 0) (m n : Managed) (H : List Event) (w : Work) (a b e : SiteState) → Stays b → Stays e → Follows tells a b e
+    → tells → SyncsAndReads a b → IsReady tells m H b
     → WorksWithJobs tells m.ledger.manager H w n b e → Recovers m.ledger.manager H w a e
 recovers tells m n H w a b e before behind follows told reads ready works =
     let at = works.at_file.site told in
@@ -35,39 +37,53 @@ recovers tells m n H w a b e before behind follows told reads ready works =
       any_moment = λ start. (follows told reads m.ledger.manager H w n works start.left).0;
       sound = λ start sound. (follows told reads m.ledger.manager H w n works start.left).1 sound;
       at_exit = at.at_exit;
-      rests = λ fine. record { settled = (at.stands fine).journal.settled; file = subst P works.at_file.number (behind n (stood w) (at.stands fine)).here };
+      rests = λ fine. record {
+        settled = (at.stands fine).journal.settled;
+        file =
+            subst P works.at_file.number (behind n (stood w) (at.stands fine)).here;
+      };
     }
 
 -- an activity's work is one with jobs
-activity_works : (tells : Type 0) (m : ℕ) (H : List Event) (activity : Activity) (n : Managed) (a b : SiteState) → WorksAreWithJobs tells a b → ActivityWorks tells m H activity n a b
+activity_works : (tells : Type 0) (m : ℕ) (H : List Event) (activity : Activity) (n : Managed) (a b : SiteState)
+    → WorksAreWithJobs tells a b → ActivityWorks tells m H activity n a b
     → WorksWithJobs tells m H (activity_work m H activity) n a b
 activity_works tells m H (serving service) n a b alone works = works
 activity_works tells m H (onboarding o) n a b alone works = alone m H (onboarding_work H o) n works
 
 -- an activity behind the opening of its journal does this to the jobs
-activity_jobs : (tells : Type 0) (m : ℕ) (H : List Event) (activity : Activity) (n : Managed) (a b e : SiteState) → LeavesJobs tells a b e → tells → SyncsAndReads a b → ActivityWorks tells m H activity n b e
+activity_jobs : (tells : Type 0) (m : ℕ) (H : List Event) (activity : Activity) (n : Managed) (a b e : SiteState) → LeavesJobs tells a b e
+    → tells → SyncsAndReads a b → ActivityWorks tells m H activity n b e
     → AtJobsBy activity a e
 activity_jobs tells m H (serving service) n a b e leaves told reads works = tt
 activity_jobs tells m H (onboarding o) n a b e leaves told reads works = (leaves told reads).1 m H (onboarding_work H o) n works
 
 -- an opened journal, and an activity of its manager
-pub does_activity : (t : Tells) (m n : Managed) (H : List Event) (activity : Activity) (w u v : Outside) → Stays u.site → Stays v.site → Follows t.site w.site u.site v.site
-    → LeavesJobs t.site w.site u.site v.site → WorksAreWithJobs t.site u.site v.site → m.ledger.manager < 4294967296 → (t.site → SyncsAndReads w.site u.site)
-    → IsReady t.site m H u.site → Pursues t m.ledger.manager H activity n u v → Rests t (beside w) (beside u) → Does t (opened (opening_of m H) activity) w v
+pub does_activity : (t : Tells) (m n : Managed) (H : List Event) (activity : Activity) (w u v : Outside) → Stays u.site → Stays v.site
+    → Follows t.site w.site u.site v.site
+    → LeavesJobs t.site w.site u.site v.site → WorksAreWithJobs t.site u.site v.site → m.ledger.manager < 4294967296
+    → (t.site → SyncsAndReads w.site u.site)
+    → IsReady t.site m H u.site → Pursues t m.ledger.manager H activity n u v → Rests t (beside w) (beside u)
+    → Does t (opened (opening_of m H) activity) w v
 does_activity t m n H activity w u v before behind follows leaves alone number reads ready pursues rests =
-    let works : WorksWithJobs t.site m.ledger.manager H (activity_work m.ledger.manager H activity) n u.site v.site = activity_works t.site m.ledger.manager H activity n u.site v.site alone pursues.works in
+    let works : WorksWithJobs t.site m.ledger.manager H (activity_work m.ledger.manager H activity) n u.site v.site =
+    activity_works t.site m.ledger.manager H activity n u.site v.site alone pursues.works in
     let histories : List (List Event) = told_by m.ledger.manager H activity in
     record {
       legal = record { number = number; before = ready.keeps.kept.legal; grows = works.at_file.grows };
-      site = λ told. recovers t.site m n H (activity_work m.ledger.manager H activity) w.site u.site v.site before behind follows told (reads told) ready works;
+      site = λ told. recovers t.site m n H (activity_work m.ledger.manager H activity) w.site u.site v.site before behind follows told
+          (reads told) ready works;
       jobs = λ told. activity_jobs t.site m.ledger.manager H activity n w.site u.site v.site leaves told (reads told) pursues.works;
       beside = (beside u, rests, pursues.does);
-      told = told_since t.site m.ledger.manager histories w.mouth.told v.mouth.told w.site u.site v.site (λ told. (reads told).on_file.passes.later)
-          (subst (λ (p : Peers). AreTold t.site m.ledger.manager histories p.mouth.told v.mouth.told u.site v.site) rests.peers pursues.told);
+      told = told_since t.site m.ledger.manager histories w.mouth.told v.mouth.told w.site u.site v.site
+          (λ told. (reads told).on_file.passes.later)
+          (subst (λ (p : Peers). AreTold t.site m.ledger.manager histories p.mouth.told v.mouth.told u.site v.site) rests.peers
+          pursues.told);
     }
 
 -- a journal that wasn't opened
-pub does_not_open : (t : Tells) (why : OpenFault) (w v : Outside) → LeavesJobs t.site w.site v.site v.site → (t.site → SyncsAndReads w.site v.site) → (t.site → Refuses why v.site.image)
+pub does_not_open : (t : Tells) (why : OpenFault) (w v : Outside) → LeavesJobs t.site w.site v.site v.site
+    → (t.site → SyncsAndReads w.site v.site) → (t.site → Refuses why v.site.image)
     → Rests t (beside w) (beside v) → Does t (unopened why) w v
 does_not_open t why w v leaves reads found rests = record {
   legal = tt;
@@ -78,7 +94,8 @@ does_not_open t why w v leaves reads found rests = record {
 }
 
 -- a course of settings is one of the words that set them
-pub of_words : (words : List (List ℕ)) (s : Settings) (course : Course) → settings_of words ≡ Some s → IsOf s course → IsOfWords words course
+pub of_words : (words : List (List ℕ)) (s : Settings) (course : Course) → settings_of words ≡ Some s → IsOf s course
+    → IsOfWords words course
 of_words words s misused set is = absurd is
 of_words words s starved set is = absurd is
 of_words words s (making number result) set is = record { settings = s; set = set; is = is }

@@ -7,7 +7,8 @@ use Rattle.lcm_events.specs.declared.events.Event.{Event}
 use Rattle.lcm_events.specs.declared.events.EventKind.{EventKind}
 use Rattle.lcm_laws.specs.Acting.{with_events}
 use Rattle.lcm_sessions.proofs.TalkLemmas.{answered_within, within_more}
-use Rattle.lcm_sessions.specs.Session.{Ask, Closing, Last, Talk, over, unheard, untold, starving, breaking, behind_last, behind_replies, behind_told, has_reply, life, once_answered, outcome_of, work_by, work_last, work_of}
+use Rattle.lcm_sessions.specs.Session.{Ask, Closing, Last, Talk, over, unheard, untold, starving, breaking, behind_last, behind_replies}
+use Rattle.lcm_sessions.specs.Session.{behind_told, has_reply, life, once_answered, outcome_of, work_by, work_last, work_of}
 use Rattle.occ_work.specs.Deeds.{Deed, kinds_of, once_done}
 use Rattle.occ_work.specs.Turns.{once_all_done}
 use Rattle.vnfm_commands.specs.Course.{Visit, unasked, served, Round, moment_of, once_made, once_served, told_in_rounds, told_in_visit}
@@ -68,7 +69,8 @@ events_extend : (now : ℕ) (kinds : List EventKind) (H : List Event) → Extend
 events_extend now [] H = extends_refl H
 events_extend now (k ∷ kinds) H =
     let e : Event = record { moment = now; kind = k } in
-    extends_trans H (with_events now kinds H) (e ∷ with_events now kinds H) (events_extend now kinds H) (record { more = e ∷ []; is = refl })
+    extends_trans H (with_events now kinds H) (e ∷ with_events now kinds H) (events_extend now kinds H)
+    (record { more = e ∷ []; is = refl })
 
 -- and so do acts
 acts_extend : (now : ℕ) (H : List Event) (acts : List Deed) → Extends H (once_all_done now H acts)

@@ -20,14 +20,17 @@ use Rattle.vnfm_commands.specs.Ending.{Ending}
 use Rattle.command_line.specs.Words.{settings_of}
 use Rattle.vnfm_commands.specs.Words.{IsCommand, loads}
 use Rattle.vnfm_commands.specs.declared.ending.Failure.{Failure}
-use Rattle.vnfm_commands.specs.declared.ending.Failure.TheVariants.{Usage, SiteFault, DoorFault, NoJournal, NotAJournal, NoMemory, BadRecord, JournalFull, DescriptorRefused, Taken}
+use Rattle.vnfm_commands.specs.declared.ending.Failure.TheVariants.{Usage, SiteFault, DoorFault, NoJournal, NotAJournal}
+use Rattle.vnfm_commands.specs.declared.ending.Failure.TheVariants.{NoMemory, BadRecord, JournalFull, DescriptorRefused}
+use Rattle.vnfm_commands.specs.declared.ending.Failure.TheVariants.{Taken}
 use Rattle.vnfm_commands.specs.declared.ending.Report.TheVariants.{Done, Made, Onboarded}
 use Rattle.command_line.specs.declared.options.Command.TheVariants.{Init, Onboard, Once}
 use Rattle.command_line.specs.declared.options.Settings.{Settings}
 use Rattle.command_line.specs.declared.options.SettingsFault.{SettingsFault}
 use Rattle.command_line.specs.declared.options.SettingsFault.TheVariants as setting
 
--- What came of asking the door in a round: no connection came, or one came, from this role as the door tells, and this talk was held on it.
+-- What came of asking the door in a round: no connection came, or one came, from this role as the door tells, and this
+-- talk was held on it.
 pub data Visit : Type 0 where
   unasked : Visit
   served : Role → Talk → Visit
@@ -42,14 +45,14 @@ pub record Round : Type 0 where
   pub visit : Visit
   pub turn : Turning
 
--- why a turn didn't go through: the closed gate stands at this place, and behind it there is no room for so many bytes of an act's event; there is
--- no memory; or the disk failed
+-- why a turn didn't go through: the closed gate stands at this place, and behind it there is no room for so many bytes
+-- of an act's event; there is no memory; or the disk failed
 pub data Halt : Type 0 where
   full : ℕ → ℕ → Halt
   starving broken : Halt
 
--- How the rounds ended: all were made, waiting for a connection failed, the disk failed in a talk on a connection from this role, or behind
--- this visit the turn with these acts ended so, for this cause.
+-- How the rounds ended: all were made, waiting for a connection failed, the disk failed in a talk on a connection from
+-- this role, or behind this visit the turn with these acts ended so, for this cause.
 pub data Close : Type 0 where
   finished unreached : Close
   stopped : Role → Talk → Close
@@ -127,7 +130,8 @@ told_at_close m H (halted visit turn end why) = told_in_visit m H visit
 
 -- those behind all replies that an activity tells, the latest first: behind each its request is answered
 abbrev pub told_by : ℕ → List Event → Activity → List (List Event)
-told_by m H (serving service) = told_at_close m (life (once_made m) H service.rounds) service.close ++ told_in_rounds m H service.rounds
+told_by m H (serving service) = told_at_close m (life (once_made m) H service.rounds) service.close
+    ++ told_in_rounds m H service.rounds
 told_by m H (onboarding o) = []
 
 -- which failure a fault of the settings is

@@ -1,12 +1,15 @@
 -- How a run ends: its status, and the line that it prints (own rule, docs/FORMATS.md).
-use Rattle.std.specs.Prelude.{◌≡◌, ◌≤◌, ◌⊎◌, ℕ, ◌==◌, List, [], ◌∷◌, ◌++◌, codes, decimal, if◌then◌else◌, Bool, true, false, Result, Ok, Err}
+use Rattle.std.specs.Prelude.{◌≡◌, ◌≤◌, ◌⊎◌, ℕ, ◌==◌, List, [], ◌∷◌, ◌++◌, codes, decimal, if◌then◌else◌, Bool, true}
+use Rattle.std.specs.Prelude.{false, Result, Ok, Err}
 use Rattle.lcm_sessions.specs.declared.answer.DescriptorRefusal.{DescriptorRefusal}
 use Rattle.lcm_sessions.specs.declared.answer.DescriptorRefusal.TheVariants.{Unread, IsOnboarded, TooMany, TooLong}
 use Rattle.lcm_sessions.specs.declared.answer.Onboarded.{Onboarded as Said}
 use Rattle.site_traits.specs.Counts.{CallCounts, called, called_in_vain}
 use Rattle.vnfd_document.specs.Texts.{fault_text}
 use Rattle.vnfm_commands.specs.declared.ending.Failure.{Failure}
-use Rattle.vnfm_commands.specs.declared.ending.Failure.TheVariants.{Usage, SiteFault, DoorFault, NoJournal, NotAJournal, NoMemory, BadRecord, JournalFull, DescriptorRefused, Taken}
+use Rattle.vnfm_commands.specs.declared.ending.Failure.TheVariants.{Usage, SiteFault, DoorFault, NoJournal, NotAJournal}
+use Rattle.vnfm_commands.specs.declared.ending.Failure.TheVariants.{NoMemory, BadRecord, JournalFull, DescriptorRefused}
+use Rattle.vnfm_commands.specs.declared.ending.Failure.TheVariants.{Taken}
 use Rattle.vnfm_commands.specs.declared.ending.Report.{Report}
 use Rattle.vnfm_commands.specs.declared.ending.Report.TheVariants.{Done, Made, Onboarded}
 
@@ -105,7 +108,8 @@ pub record Output : Type 0 where
 abbrev pub output_of : {W : Type 0} → (W → List ℕ) → (W → CallCounts) → W → Output
 output_of state counts sink = record { bytes = state sink; counts = counts sink }
 
--- The line of the ending was put in one call, or none of it, which the sink counts; the status says so where it would be 0.
+-- The line of the ending was put in one call, or none of it, which the sink counts; the status says so where it would
+-- be 0.
 pub record Ends (tells : Type 0) (ending : Ending) (status : ℕ) (a b : Output) : Type 0 where
   pub put : Bool
   pub status_is : status ≡ told_status put (status_of ending)

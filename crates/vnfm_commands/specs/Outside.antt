@@ -21,7 +21,8 @@ pub record Mail : Type 0 where
   pub posts : List Post
   pub counts : CallCounts
 
--- All of it: the site, which has the journal's file and the jobs, with its counts, the connection, the orchestrator, the courier and the clock.
+-- All of it: the site, which has the journal's file and the jobs, with its counts, the connection, the orchestrator,
+-- the courier and the clock.
 pub record Outside : Type 1 where
   pub site : SiteState
   pub counts : SiteCounts
@@ -48,7 +49,8 @@ abbrev pub beside : Outside → Beside
 beside w = record { mouth = w.mouth; around = acting.around (acting_outside w); courier = w.courier; clock = w.clock }
 
 -- these objects, each by what it tells and, but for the connection and the clock, by its counts
-abbrev pub outside : SiteState → SiteCounts → MouthState → OrchestratorState → CallCounts → List Post → CallCounts → List ℕ → Outside
+abbrev pub outside : SiteState → SiteCounts → MouthState → OrchestratorState → CallCounts → List Post → CallCounts
+    → List ℕ → Outside
 outside site counts mouth orchestrator calls courier posts clock = record {
   site = site;
   counts = counts;
@@ -60,7 +62,14 @@ outside site counts mouth orchestrator calls courier posts clock = record {
 
 -- what tells of these objects
 abbrev pub telling : Type 0 → Type 0 → Type 0 → Type 0 → Type 0 → Tells
-telling site door orchestrator courier clock = record { site = site; door = door; orchestrator = orchestrator; courier = courier; clock = clock }
+telling site door orchestrator courier clock = record {
+  site = site;
+  door = door;
+  orchestrator = orchestrator;
+  courier =
+      courier;
+  clock = clock;
+}
 
 -- what a session sees of it
 abbrev pub session_tells : Tells → session.WorldTells

@@ -16,7 +16,10 @@ use Rattle.occ_work.specs.Around.{Around, Unasked}
 use Rattle.occ_work.specs.Turns.{DeedsDo, EndDoes, IsFor, TurnEnd, through, stopped as by, once_all_done}
 use Rattle.site_traits.specs.Clock.{Gives}
 use Rattle.site_traits.specs.Door.{Comes, opened as has_come}
-use Rattle.vnfm_commands.specs.Course.{Halt, halt_of, halting, Visit, unasked, served, Turning, Round, Close, finished, unreached, stopped, halted, Service, close_ending, close_work, moment_of, once_made, once_served, service_work, serving, told_at_close, told_by, told_in_visit}
+use Rattle.vnfm_commands.specs.Course.{Halt, halt_of, halting, Visit, unasked, served, Turning, Round, Close, finished}
+use Rattle.vnfm_commands.specs.Course.{unreached, stopped, halted, Service, close_ending, close_work, moment_of}
+use Rattle.vnfm_commands.specs.Course.{once_made, once_served, service_work, serving, told_at_close, told_by}
+use Rattle.vnfm_commands.specs.Course.{told_in_visit}
 use Rattle.vnfm_commands.specs.Outside.{Beside, Outside, Tells, acting_tells, beside, session_peers, session_tells}
 use Rattle.vnfm_commands.specs.declared.ending.Failure.{Failure}
 use Rattle.vnfm_commands.specs.declared.ending.Failure.TheVariants.{DoorFault, SiteFault}
@@ -39,7 +42,8 @@ pub record ComesNobody (t : session.WorldTells) (a b : Peers) : Type 0 where
   pub clock : b.clock ≡ a.clock
 
 -- a connection came, from this role as the door tells, this talk was held on it, and it was ended
-pub record Receives (t : session.WorldTells) (m : ℕ) (H : List Event) (came : Role) (talk : Talk) (a b : Peers) : Type 0 where
+pub record Receives (t : session.WorldTells) (m : ℕ) (H : List Event) (came : Role) (talk : Talk)
+    (a b : Peers) : Type 0 where
   pub between : MouthState
   pub comes : t.door → Comes came a.mouth.wire.intake.door between.wire.intake.door
   pub counts : between.wire.intake.counts ≡ has_come a.mouth.wire.intake.counts
@@ -61,25 +65,29 @@ pub record VisitDoes (t : Tells) (m : ℕ) (H : List Event) (visit : Visit) (a b
   pub visits : Visits (session_tells t) m H visit (session_peers a) (session_peers b)
   pub asks : AsksNobody t a b
 
--- What a turn does that ended so, over history H: the clock is read, which gives the turn's value, and an act is made for each occurrence that
--- is active there, in the order of their numbers, each over the history that those before it left, or up to one that ends in a fault.
+-- What a turn does that ended so, over history H: the clock is read, which gives the turn's value, and an act is made
+-- for each occurrence that is active there, in the order of their numbers, each over the history that those before it
+-- left, or up to one that ends in a fault.
 pub record TurnDoes (t : Tells) (m : ℕ) (H : List Event) (turn : Turning) (end : TurnEnd) (a b : Beside) : Type 0 where
   pub mouth : b.mouth ≡ a.mouth
   pub courier : b.courier ≡ a.courier
   pub clock : t.clock → Gives turn.value a.clock b.clock
   pub between : Around
   pub acts : DeedsDo (acting_tells t) m (moment_of turn) H turn.acts a.around between
-  pub end_does : EndDoes (acting_tells t) m (moment_of turn) (once_all_done (moment_of turn) H turn.acts) end between b.around
+  pub end_does : EndDoes (acting_tells t) m (moment_of turn)
+      (once_all_done (moment_of turn) H turn.acts) end between b.around
   pub each : IsFor (active H) turn.acts end
 
 -- what a round does, over history H: a visit, and then a turn that went through, over the history that the visit left
 abbrev pub RoundDoes : Tells → ℕ → List Event → Round → Beside → Beside → Type 0
-RoundDoes t m H r a c = (b : Beside) × VisitDoes t m H r.visit a b × TurnDoes t m (once_served m H r.visit) r.turn through b c
+RoundDoes t m H r a c = (b : Beside) × VisitDoes t m H r.visit a b
+    × TurnDoes t m (once_served m H r.visit) r.turn through b c
 
 -- the rounds were made, each over the history that those before it left, and from where they ended
 abbrev pub RoundsDo : Tells → ℕ → List Event → List Round → Beside → Beside → Type 0
 RoundsDo t m H [] a b = b ≡ a
-RoundsDo t m H (r ∷ before) a c = (b : Beside) × RoundsDo t m H before a b × RoundDoes t m (life (once_made m) H before) r b c
+RoundsDo t m H (r ∷ before) a c = (b : Beside) × RoundsDo t m H before a b
+    × RoundDoes t m (life (once_made m) H before) r b c
 
 -- the turn's end is one for this cause
 abbrev pub FailsBy : TurnEnd → Halt → Type 0
@@ -101,8 +109,10 @@ DoorEnds t m H other a b = ⊥
 -- what the end of the rounds does; after a disk fault in a talk the clock isn't read
 abbrev pub CloseDoes : Tells → ℕ → List Event → Close → Beside → Beside → Type 0
 CloseDoes t m H finished a b = b ≡ a
-CloseDoes t m H unreached a b = DoorEnds (session_tells t) m H unreached (session_peers a) (session_peers b) × (b.around ≡ a.around) × (b.courier ≡ a.courier)
-CloseDoes t m H (stopped came talk) a b = DoorEnds (session_tells t) m H (stopped came talk) (session_peers a) (session_peers b) × AsksNobody t a b
+CloseDoes t m H unreached a b = DoorEnds (session_tells t) m H unreached (session_peers a) (session_peers b)
+    × (b.around ≡ a.around) × (b.courier ≡ a.courier)
+CloseDoes t m H (stopped came talk) a b = DoorEnds (session_tells t) m H (stopped came talk) (session_peers a)
+    (session_peers b) × AsksNobody t a b
 CloseDoes t m H (halted visit turn end why) a c =
     (b : Beside) × VisitDoes t m H visit a b × TurnDoes t m (once_served m H visit) turn end b c × FailsBy end why
 
@@ -121,7 +131,8 @@ ClosesFor role (stopped came talk) = talk.role ≡ role
 ClosesFor role (halted visit turn end why) = IsVisitFor role visit
 ClosesFor role other = Unit {0}
 
--- what rounds do to all that stands beside the journal: they were made, and ended so, and all talks were held for the role of the words
+-- what rounds do to all that stands beside the journal: they were made, and ended so, and all talks were held for the
+-- role of the words
 pub record Serves (t : Tells) (m : ℕ) (H : List Event) (service : Service) (a b : Beside) : Type 0 where
   pub between : Beside
   pub rounds : RoundsDo t m H service.rounds a between
@@ -129,7 +140,8 @@ pub record Serves (t : Tells) (m : ℕ) (H : List Event) (service : Service) (a 
   pub roles : AreFor service.role service.rounds
   pub role : ClosesFor service.role service.close
 
--- What they do to the journal too; the manager is now n. From the telling of each reply on no stop takes back the history behind it.
+-- What they do to the journal too; the manager is now n. From the telling of each reply on no stop takes back the
+-- history behind it.
 pub record Makes (t : Tells) (m : ℕ) (H : List Event) (service : Service) (n : Managed) (w v : Outside) : Type 0 where
   pub works : WorksWithJobs t.site m H (service_work m H service) n w.site v.site
   pub serves : Serves t m H service (beside w) (beside v)
@@ -172,7 +184,8 @@ IsMet (Err why) (over c) = IsDoorEnd why c
 IsMet answer other = ⊥
 
 -- what asking the door does, over history H of manager m, which is now n
-pub record Meets (t : session.WorldTells) (m : ℕ) (H : List Event) (met : Met) (n : Managed) (w v : World) : Type 0 where
+pub record Meets (t : session.WorldTells) (m : ℕ) (H : List Event) (met : Met) (n : Managed)
+    (w v : World) : Type 0 where
   pub works : Works t.site m H (met_work m H met) n w.site v.site
   pub does : MetDoes t m H met (peers_of w) (peers_of v)
   pub told : AreTold t.site m (told_in_met m H met) w.mouth.told v.mouth.told w.site v.site

@@ -16,7 +16,8 @@ use Rattle.site_traits.specs.Counts.{Rose}
 use Rattle.site_traits.specs.Door.{DoorCounts}
 use Rattle.site_traits.specs.Site.{Pair, SiteState, IsSettled, KeepsJobs, LeavesOnly}
 use Rattle.lcm_sessions.specs.Doing.{BringsIn}
-use Rattle.vnfm_commands.specs.Course.{Course, misused, starved, making, unopened, opened, Activity, serving, onboarding, Opening, activity_work, service_work, told_by, IsOfWords}
+use Rattle.vnfm_commands.specs.Course.{Course, misused, starved, making, unopened, opened, Activity, serving}
+use Rattle.vnfm_commands.specs.Course.{onboarding, Opening, activity_work, service_work, told_by, IsOfWords}
 use Rattle.lcm_sessions.specs.Onboarding.{onboarding_work}
 use Rattle.vnfm_commands.specs.Outside.{Beside, Outside, Tells, beside, session_peers, session_tells}
 use Rattle.vnfm_commands.specs.Rounds.{AsksNobody, Rests, Serves}
@@ -59,7 +60,8 @@ abbrev pub IsDoorCause : Command → DoorCounts → DoorCounts → Type 0
 IsDoorCause Onboard a b = Rose a.next b.next ⊎ Rose a.faults b.faults
 IsDoorCause other a b = Rose a.next b.next
 
--- a sound start of a command: of `init` a file that is unfinished for some manager or not, else a journal with a legal history
+-- a sound start of a command: of `init` a file that is unfinished for some manager or not, else a journal with a legal
+-- history
 abbrev pub IsStartOf : Command → SiteState → Type 0
 IsStartOf Init s = Unit {0}
 IsStartOf other s = (m : ℕ) × (H : List Event) × IsSoundStart m H s
@@ -75,9 +77,9 @@ pub record IsAtRest (m : ℕ) (H : List Event) (s : SiteState) : Type 0 where
   pub settled : IsSettled s
   pub file : HasHistory m H s.image
 
--- The journal was opened with history H, and this work was done. At every moment a stop leaves a history from H to what the work aimed
--- at; at its end one that has all that was acknowledged; and unless the disk failed, nothing is pending and the file has just that. Where the
--- jobs were sound with H, a stop leaves sound ones at every moment.
+-- The journal was opened with history H, and this work was done. At every moment a stop leaves a history from H to what
+-- the work aimed at; at its end one that has all that was acknowledged; and unless the disk failed, nothing is pending
+-- and the file has just that. Where the jobs were sound with H, a stop leaves sound ones at every moment.
 pub record Recovers (m : ℕ) (H : List Event) (w : Work) (a b : SiteState) : Type 0 where
   pub found : HasHistory m H a.image
   pub any_moment : IsStart m H a → LeavesOnly (HasSome m H (aimed w)) a b
@@ -91,12 +93,14 @@ AtFile misused a b = IsUntouched a b
 AtFile starved a b = IsUntouched a b
 AtFile (making manager result) a b = Creates manager result a b
 AtFile (unopened why) a b = IsRefused why a b
-AtFile (opened start activity) a b = Recovers start.number start.history (activity_work start.number start.history activity) a b
+AtFile (opened start activity) a b = Recovers start.number start.history
+    (activity_work start.number start.history activity) a b
 
 -- what an activity does beside the journal: onboarding asks nobody but the door
 abbrev pub ActivityDoes : Tells → Opening → Activity → Beside → Beside → Type 0
 ActivityDoes t start (serving service) a b = Serves t start.number start.history service a b
-ActivityDoes t start (onboarding o) a b = BringsIn (session_tells t) o (session_peers a) (session_peers b) × AsksNobody t a b
+ActivityDoes t start (onboarding o) a b = BringsIn (session_tells t) o (session_peers a) (session_peers b)
+    × AsksNobody t a b
 
 -- what an activity does to the journal: rounds have jobs begun and looked at, and onboarding leaves the jobs alone
 abbrev pub ActivityWorks : Type 0 → ℕ → List Event → Activity → Managed → SiteState → SiteState → Type 0
@@ -104,12 +108,14 @@ ActivityWorks tells m H (serving service) n a b = WorksWithJobs tells m H (servi
 ActivityWorks tells m H (onboarding o) n a b = Works tells m H (onboarding_work H o) n a b
 
 -- what an activity does, behind the opening; the manager is now n
-pub record Pursues (t : Tells) (m : ℕ) (H : List Event) (activity : Activity) (n : Managed) (w v : Outside) : Type 0 where
+pub record Pursues (t : Tells) (m : ℕ) (H : List Event) (activity : Activity) (n : Managed)
+    (w v : Outside) : Type 0 where
   pub works : ActivityWorks t.site m H activity n w.site v.site
   pub does : ActivityDoes t (record { number = m; history = H }) activity (beside w) (beside v)
   pub told : AreTold t.site m (told_by m H activity) w.mouth.told v.mouth.told w.site v.site
 
--- what a run does beside the journal: words that set nothing do nothing, and the making and the opening of a journal ask nobody
+-- what a run does beside the journal: words that set nothing do nothing, and the making and the opening of a journal
+-- ask nobody
 abbrev pub CourseDoes : Tells → Course → Beside → Beside → Type 0
 CourseDoes t misused a b = b ≡ a
 CourseDoes t starved a b = b ≡ a
@@ -125,7 +131,8 @@ pub record IsLegalRun (m : ℕ) (H : List Event) (w : Work) : Type 0 where
 
 -- what was opened is a legal history, and stays one
 abbrev pub IsLegalCourse : Course → Type 0
-IsLegalCourse (opened start activity) = IsLegalRun start.number start.history (activity_work start.number start.history activity)
+IsLegalCourse (opened start activity) = IsLegalRun start.number start.history
+    (activity_work start.number start.history activity)
 IsLegalCourse other = Unit {0}
 
 -- what a run does to the jobs: it leaves them alone, but for rounds, whose acts `CourseDoes` tells
@@ -139,7 +146,8 @@ AtJobs other a b = KeepsJobs a b
 
 -- what was told in a run, and since when: from the telling of each reply on no stop takes back the history behind it
 abbrev pub ToldIn : Type 0 → Course → List ℕ → List ℕ → SiteState → SiteState → Type 0
-ToldIn tells (opened start activity) before now a b = AreTold tells start.number (told_by start.number start.history activity) before now a b
+ToldIn tells (opened start activity) before now a b = AreTold tells start.number
+    (told_by start.number start.history activity) before now a b
 ToldIn tells other before now a b = now ≡ before
 
 -- what a run does, by the way that it went

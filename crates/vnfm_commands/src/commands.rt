@@ -9,7 +9,8 @@ ghost use Rattle.lcm_events.specs.declared.events.Event.{Event};
 ghost use Rattle.occ_work.specs.Around.{CountJobsAlike, DiskFails};
 ghost use Rattle.site_traits.specs.Counts.{OnlyDiskFails};
 ghost use Rattle.site_traits.specs.Site.{KeepsJobs};
-ghost use Rattle.vnfm_commands.specs.Course.{Course, Activity, IsActivityOf, IsOf, activity_ending, ending_of, making_ending};
+ghost use Rattle.vnfm_commands.specs.Course.{Course, Activity, IsActivityOf, IsOf, activity_ending, ending_of};
+ghost use Rattle.vnfm_commands.specs.Course.{making_ending};
 ghost use Rattle.vnfm_commands.specs.Outside.{outside, telling};
 ghost use Rattle.vnfm_commands.specs.Runs.{Pursues, Does, Runs};
 ghost use Rattle.vnfm_commands.specs.Words.{AreWordsOf, loads};
@@ -39,8 +40,10 @@ pub fn obey<S: Site, D: Door, O: Orchestrator, C: Courier, K: Clock>(
     clock: &mut K,
 ) -> Ending
     ensures runs { (course : Course) × Runs (telling S.tells D.tells O.tells C.tells K.tells) words.now course
-        (outside (S.state site.old) (S.counts site.old) mouth.old (O.state orchestrator.old) (O.counts orchestrator.old) (C.state courier.old) (C.counts courier.old) (K.state clock.old))
-        (outside (S.state site.new) (S.counts site.new) mouth.new (O.state orchestrator.new) (O.counts orchestrator.new) (C.state courier.new) (C.counts courier.new) (K.state clock.new))
+        (outside (S.state site.old) (S.counts site.old) mouth.old (O.state orchestrator.old) (O.counts orchestrator.old)
+        (C.state courier.old) (C.counts courier.old) (K.state clock.old))
+        (outside (S.state site.new) (S.counts site.new) mouth.new (O.state orchestrator.new) (O.counts orchestrator.new)
+        (C.state courier.new) (C.counts courier.new) (K.state clock.new))
         × (result ≡ ending_of course) }
     ensures unasked { ¬ (AreWordsOf Once words.now) → orchestrator.new ≡ orchestrator.old }
     ensures unposted { courier.new ≡ courier.old }
@@ -63,9 +66,12 @@ fn perform<S: Site, D: Door, O: Orchestrator, C: Courier, K: Clock>(
     courier: &mut C,
     clock: &mut K,
 ) -> Ending
-    ensures does { (course : Course) × IsOf settings.now course × Does (telling S.tells D.tells O.tells C.tells K.tells) course
-        (outside (S.state site.old) (S.counts site.old) mouth.old (O.state orchestrator.old) (O.counts orchestrator.old) (C.state courier.old) (C.counts courier.old) (K.state clock.old))
-        (outside (S.state site.new) (S.counts site.new) mouth.new (O.state orchestrator.new) (O.counts orchestrator.new) (C.state courier.new) (C.counts courier.new) (K.state clock.new))
+    ensures does { (course : Course) × IsOf settings.now course
+        × Does (telling S.tells D.tells O.tells C.tells K.tells) course
+        (outside (S.state site.old) (S.counts site.old) mouth.old (O.state orchestrator.old) (O.counts orchestrator.old)
+        (C.state courier.old) (C.counts courier.old) (K.state clock.old))
+        (outside (S.state site.new) (S.counts site.new) mouth.new (O.state orchestrator.new) (O.counts orchestrator.new)
+        (C.state courier.new) (C.counts courier.new) (K.state clock.new))
         × (result ≡ ending_of course) }
     ensures unasked { settings.now.command ≢ Once → orchestrator.new ≡ orchestrator.old }
     ensures unposted { courier.new ≡ courier.old }
@@ -81,7 +87,9 @@ fn perform<S: Site, D: Door, O: Orchestrator, C: Courier, K: Clock>(
 
 /// Makes the journal of this manager.
 fn init<S: Site>(manager: u32, site: &mut S) -> Ending
-    ensures makes { (making : Result (Unit {0}) CreateFault) × (S.tells → Creates manager making (S.state site.old) (S.state site.new)) × (result ≡ making_ending manager making) }
+    ensures makes { (making : Result (Unit {0}) CreateFault)
+        × (S.tells → Creates manager making (S.state site.old) (S.state site.new))
+        × (result ≡ making_ending manager making) }
     ensures jobs { S.tells → KeepsJobs (S.state site.old) (S.state site.new) }
     ensures disk { OnlyDiskFails (result ≡ Err Failure.SiteFault) (S.counts site.old) (S.counts site.new) }
 {
@@ -101,9 +109,12 @@ fn open<S: Site, D: Door, O: Orchestrator, C: Courier, K: Clock>(
     clock: &mut K,
 ) -> Ending
     requires loading { loads settings.now.command ≡ true }
-    ensures does { (course : Course) × IsOf settings.now course × Does (telling S.tells D.tells O.tells C.tells K.tells) course
-        (outside (S.state site.old) (S.counts site.old) mouth.old (O.state orchestrator.old) (O.counts orchestrator.old) (C.state courier.old) (C.counts courier.old) (K.state clock.old))
-        (outside (S.state site.new) (S.counts site.new) mouth.new (O.state orchestrator.new) (O.counts orchestrator.new) (C.state courier.new) (C.counts courier.new) (K.state clock.new))
+    ensures does { (course : Course) × IsOf settings.now course
+        × Does (telling S.tells D.tells O.tells C.tells K.tells) course
+        (outside (S.state site.old) (S.counts site.old) mouth.old (O.state orchestrator.old) (O.counts orchestrator.old)
+        (C.state courier.old) (C.counts courier.old) (K.state clock.old))
+        (outside (S.state site.new) (S.counts site.new) mouth.new (O.state orchestrator.new) (O.counts orchestrator.new)
+        (C.state courier.new) (C.counts courier.new) (K.state clock.new))
         × (result ≡ ending_of course) }
     ensures unasked { settings.now.command ≢ Once → orchestrator.new ≡ orchestrator.old }
     ensures unposted { courier.new ≡ courier.old }
@@ -138,10 +149,13 @@ fn work<S: Site, D: Door, O: Orchestrator, C: Courier, K: Clock>(
 ) -> Ending
     requires loading { loads settings.now.command ≡ true }
     requires ready { (H : List Event) × IsReady S.tells manager.old H (S.state site.old) }
-    ensures activity { (H : List Event) → IsReady S.tells manager.old H (S.state site.old) → (activity : Activity) × IsActivityOf settings.now activity
+    ensures activity { (H : List Event) → IsReady S.tells manager.old H (S.state site.old)
+        → (activity : Activity) × IsActivityOf settings.now activity
         × Pursues (telling S.tells D.tells O.tells C.tells K.tells) manager.old.ledger.manager H activity manager.new
-        (outside (S.state site.old) (S.counts site.old) mouth.old (O.state orchestrator.old) (O.counts orchestrator.old) (C.state courier.old) (C.counts courier.old) (K.state clock.old))
-        (outside (S.state site.new) (S.counts site.new) mouth.new (O.state orchestrator.new) (O.counts orchestrator.new) (C.state courier.new) (C.counts courier.new) (K.state clock.new))
+        (outside (S.state site.old) (S.counts site.old) mouth.old (O.state orchestrator.old) (O.counts orchestrator.old)
+        (C.state courier.old) (C.counts courier.old) (K.state clock.old))
+        (outside (S.state site.new) (S.counts site.new) mouth.new (O.state orchestrator.new) (O.counts orchestrator.new)
+        (C.state courier.new) (C.counts courier.new) (K.state clock.new))
         × (result ≡ activity_ending H activity) }
     ensures unasked { settings.now.command ≢ Once → orchestrator.new ≡ orchestrator.old }
     ensures unposted { courier.new ≡ courier.old }

@@ -3,7 +3,9 @@ ghost use Rattle.std.specs.Prelude.{◌≡◌, ◌≤◌, ◌+◌, ◌++◌, ◌
 ghost use Rattle.arrayvec.specs.ArrayString.{array_string_len};
 ghost use Rattle.site_traits.specs.Sink.{Puts, SinkCause};
 ghost use Rattle.vnfd_document.specs.Texts.{fault_text};
-ghost use Rattle.vnfm_commands.specs.Ending.{Ends, failure_line, failure_status, full_line, numbered_line, onboarded_line, output_of, refusal_text, refused_line, report_line, with_count};
+ghost use Rattle.vnfm_commands.specs.Ending.{Ends, failure_line, failure_status, full_line, numbered_line};
+ghost use Rattle.vnfm_commands.specs.Ending.{onboarded_line, output_of, refusal_text, refused_line, report_line};
+ghost use Rattle.vnfm_commands.specs.Ending.{with_count};
 
 use arrayvec::ArrayString;
 use command_line::SettingsFault;

@@ -26,10 +26,10 @@ use vnfm_base::Moment;
 
 /// Makes as many rounds as the settings say, for whoever asks in their role, and says how the run ends.
 ///
-/// A round is: the door is asked for a connection once; one that came is served; then the clock is read, and a turn is made: one act for each
-/// occurrence whose grant is asked for or whose changes are made. The first round in which waiting for a connection fails, or the disk, or a
-/// turn finds the journal full or no memory, is the last, and the acts before that stand.
-/// Source: SOL 003 clauses 5 and 9; rounds are an own rule, docs/FORMATS.md.
+/// A round is: the door is asked for a connection once; one that came is served; then the clock is read, and a turn is
+/// made: one act for each occurrence whose grant is asked for or whose changes are made. The first round in which
+/// waiting for a connection fails, or the disk, or a turn finds the journal full or no memory, is the last, and the
+/// acts before that stand. Source: SOL 003 clauses 5 and 9; rounds are an own rule, docs/FORMATS.md.
 pub fn make_rounds<S: Site, D: Door, O: Orchestrator, C: Courier, K: Clock>(
     alloc: Global,
     settings: &Settings,
@@ -43,9 +43,12 @@ pub fn make_rounds<S: Site, D: Door, O: Orchestrator, C: Courier, K: Clock>(
     requires ready { (H : List Event) × IsReady S.tells manager.old H (S.state site.old) }
     ensures makes { (H : List Event) → IsReady S.tells manager.old H (S.state site.old) → (service : Service)
         × Makes (telling S.tells D.tells O.tells C.tells K.tells) manager.old.ledger.manager H service manager.new
-        (outside (S.state site.old) (S.counts site.old) mouth.old (O.state orchestrator.old) (O.counts orchestrator.old) (C.state courier.old) (C.counts courier.old) (K.state clock.old))
-        (outside (S.state site.new) (S.counts site.new) mouth.new (O.state orchestrator.new) (O.counts orchestrator.new) (C.state courier.new) (C.counts courier.new) (K.state clock.new))
-        × (service.role ≡ settings.now.role) × IsCount settings.now.rounds (length service.rounds) service.close × (result ≡ close_ending (length service.rounds) service.close) }
+        (outside (S.state site.old) (S.counts site.old) mouth.old (O.state orchestrator.old) (O.counts orchestrator.old)
+        (C.state courier.old) (C.counts courier.old) (K.state clock.old))
+        (outside (S.state site.new) (S.counts site.new) mouth.new (O.state orchestrator.new) (O.counts orchestrator.new)
+        (C.state courier.new) (C.counts courier.new) (K.state clock.new))
+        × (service.role ≡ settings.now.role) × IsCount settings.now.rounds (length service.rounds) service.close
+        × (result ≡ close_ending (length service.rounds) service.close) }
     ensures unposted { courier.new ≡ courier.old }
     ensures disk { DiskFails (result ≡ Err Failure.SiteFault) (S.counts site.old) (S.counts site.new) }
 {
@@ -86,8 +89,10 @@ fn make_round<S: Site, D: Door, O: Orchestrator, C: Courier, K: Clock>(
     requires ready { (H : List Event) × IsReady S.tells manager.old H (S.state site.old) }
     ensures makes { (H : List Event) → IsReady S.tells manager.old H (S.state site.old) → (one : One)
         × MakesOne (telling S.tells D.tells O.tells C.tells K.tells) manager.old.ledger.manager H one manager.new
-        (outside (S.state site.old) (S.counts site.old) mouth.old (O.state orchestrator.old) (O.counts orchestrator.old) (C.state courier.old) (C.counts courier.old) (K.state clock.old))
-        (outside (S.state site.new) (S.counts site.new) mouth.new (O.state orchestrator.new) (O.counts orchestrator.new) (C.state courier.new) (C.counts courier.new) (K.state clock.new))
+        (outside (S.state site.old) (S.counts site.old) mouth.old (O.state orchestrator.old) (O.counts orchestrator.old)
+        (C.state courier.old) (C.counts courier.old) (K.state clock.old))
+        (outside (S.state site.new) (S.counts site.new) mouth.new (O.state orchestrator.new) (O.counts orchestrator.new)
+        (C.state courier.new) (C.counts courier.new) (K.state clock.new))
         × OneFor role one × IsOne result one }
     ensures unposted { courier.new ≡ courier.old }
     ensures disk { DiskFails (result ≡ Err Failure.SiteFault) (S.counts site.old) (S.counts site.new) }
@@ -113,7 +118,8 @@ fn meet<S: Site, D: Door, K: Clock>(
     requires ready { (H : List Event) × IsReady S.tells manager.old H (S.state site.old) }
     ensures meets { (H : List Event) → IsReady S.tells manager.old H (S.state site.old) → (met : Met)
         × Meets (session.telling S.tells D.tells K.tells) manager.old.ledger.manager H met manager.new
-        (session.world (S.state site.old) mouth.old (K.state clock.old)) (session.world (S.state site.new) mouth.new (K.state clock.new))
+        (session.world (S.state site.old) mouth.old (K.state clock.old))
+        (session.world (S.state site.new) mouth.new (K.state clock.new))
         × MetFor role met × IsMet result met }
     ensures disk { OnlyDiskFails (result ≡ Err Failure.SiteFault) (S.counts site.old) (S.counts site.new) }
     ensures untouched { result ≡ Err Failure.DoorFault → site.new ≡ site.old }
@@ -139,9 +145,12 @@ fn take_turn<S: Site, O: Orchestrator, K: Clock>(
     clock: &mut K,
 ) -> Result<(), Failure>
     requires ready { (H : List Event) × IsReady S.tells manager.old H (S.state site.old) }
-    ensures turns { (H : List Event) → IsReady S.tells manager.old H (S.state site.old) → (turning : Turning) × (end : TurnEnd)
-        × Turns (acting.telling S.tells O.tells) (point manager.old.ledger.manager (moment_of turning) H) turning.acts end manager.new
-        (acting.reach (S.state site.old) (S.counts site.old) (O.state orchestrator.old) (O.counts orchestrator.old)) (acting.reach (S.state site.new) (S.counts site.new) (O.state orchestrator.new) (O.counts orchestrator.new))
+    ensures turns { (H : List Event) → IsReady S.tells manager.old H (S.state site.old)
+        → (turning : Turning) × (end : TurnEnd)
+        × Turns (acting.telling S.tells O.tells) (point manager.old.ledger.manager (moment_of turning) H) turning.acts
+        end manager.new
+        (acting.reach (S.state site.old) (S.counts site.old) (O.state orchestrator.old) (O.counts orchestrator.old))
+        (acting.reach (S.state site.new) (S.counts site.new) (O.state orchestrator.new) (O.counts orchestrator.new))
         × (K.tells → Gives turning.value (K.state clock.old) (K.state clock.new)) × IsTurned result end }
     ensures disk { DiskFails (result ≡ Err Failure.SiteFault) (S.counts site.old) (S.counts site.new) }
 {

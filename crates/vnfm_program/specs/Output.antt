@@ -1,4 +1,5 @@
--- What a person and a program see of a run: the texts that go to standard output and standard error (own rule, docs/FORMATS.md).
+-- What a person and a program see of a run: the texts that go to standard output and standard error (own rule,
+-- docs/FORMATS.md).
 use Rattle.std.specs.Prelude.{◌≡◌, ◌⊎◌, ℕ, List, ◌++◌, codes, if◌then◌else◌, Bool, Option, Some, None}
 use Rattle.program_words.specs.declared.page.Page.{Page}
 use Rattle.program_words.specs.Lines.{IsLineOf}
@@ -29,7 +30,8 @@ pub record Says (tells : Type 0) (line : List ℕ) (a b : Output) : Type 0 where
   pub put : Bool
   pub text : PutsText tells line put a b
 
--- The reason's line was put in one call, or, where there was no memory for it, one that says so. Where there is nothing to say nothing was put.
+-- The reason's line was put in one call, or, where there was no memory for it, one that says so. Where there is nothing
+-- to say nothing was put.
 abbrev pub Explains : Type 0 → Option Reason → List (List ℕ) → Output → Output → Type 0
 Explains tells None words a b = b ≡ a
 Explains tells (Some reason) words a b = Says tells (codes "vnfm: there was no memory to say why\n") a b

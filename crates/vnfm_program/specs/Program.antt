@@ -27,8 +27,9 @@ use Rattle.vnfm_commands.specs.Outside.{Mail, Outside}
 use Rattle.vnfm_commands.specs.Outside as run
 use Rattle.vnfm_program.specs.Output.{Explains, Prints, Starves}
 
--- What the program works with beside its words and its mouth: what opens the null device, the files and the site, on which no file was opened yet,
--- as they are; the orchestrator, the courier, the clock, standard output and standard error by what they show.
+-- What the program works with beside its words and its mouth: what opens the null device, the files and the site, on
+-- which no file was opened yet, as they are; the orchestrator, the courier, the clock, standard output and standard
+-- error by what they show.
 pub record Machine (N H F J : Type 0) : Type 0 where
   pub device : N
   pub files : H
@@ -72,7 +73,8 @@ abbrev pub is_told_on_error : Option Settings → Bool
 is_told_on_error None = false
 is_told_on_error (Some settings) = answers settings.command
 
--- the folder of a file that `init` makes is synced each time, so that the name of a journal that it answered for is on the disk
+-- the folder of a file that `init` makes is synced each time, so that the name of a journal that it answered for is on
+-- the disk
 abbrev pub folder_of : Command → FolderSync
 folder_of Init = Always
 folder_of Onboard = WhereMade
@@ -107,8 +109,10 @@ module _ {N H F J : Type 0} where
     pub device : b.device ≡ a.device
     pub files : b.files ≡ a.files
 
-  -- One run over what was opened, with its line to standard output. Behind it, what explains its status went to standard error.
-  pub record SpeaksOnOutput (g : Meaning N H F) (words : List (List ℕ)) (status : ℕ) (a b : Scene N H F J) : Type 0 where
+  -- One run over what was opened, with its line to standard output. Behind it, what explains its status went to
+  -- standard error.
+  pub record SpeaksOnOutput (g : Meaning N H F) (words : List (List ℕ)) (status : ℕ)
+      (a b : Scene N H F J) : Type 0 where
     pub promises : Promises g.outside g.lines words status (ground g a a.machine.lines) (ground g b b.machine.lines)
     pub explains : Explains g.errors (reason_at status b) words a.machine.errors b.machine.errors
     pub kept : OpensNoMore a.machine b.machine
@@ -133,18 +137,28 @@ module _ {N H F J : Type 0} where
 
   -- The file at the path of the settings was asked for, while the numbers of the standard streams are held by the one
   -- holding that was made. Where it was lost, it was for this cause. Whatever stood at a path stands as it did.
-  pub record AsksForFile (g : Meaning N H F) (settings : Settings) (lost : Option WhyLost) (a b : Machine N H F J) : Type 0 where
+  pub record AsksForFile (g : Meaning N H F) (settings : Settings) (lost : Option WhyLost)
+      (a b : Machine N H F J) : Type 0 where
     pub streams : g.device_tells → AreHeld (g.numbers a.device) (g.numbers b.device)
-    pub seeks : g.files_tells → Seeks settings.journal (folder_of settings.command) lost (g.places a.files) (g.places b.files)
+    pub seeks : g.files_tells → Seeks settings.journal (folder_of settings.command) lost (g.places a.files)
+        (g.places b.files)
     pub stands : g.files_tells → LeavesAll settings.journal (g.places a.files) (g.places b.files)
 
   -- there was no memory to open the file that the words name: that was said, and nothing else was done
-  pub record IsStarvedOpening (g : Meaning N H F) (words : List (List ℕ)) (status : ℕ) (a b : Objects N H F J) : Type 0 where
+  pub record IsStarvedOpening (g : Meaning N H F) (words : List (List ℕ)) (status : ℕ)
+      (a b : Objects N H F J) : Type 0 where
     pub settings : Settings
     pub set : settings_of words ≡ Some settings
     pub asks : AsksForFile g settings (Some Memory) a.machine b.machine
     pub starves : Starves g.errors status a.machine.errors b.machine.errors
-    pub kept : b ≡ record a { machine = record a.machine { device = b.machine.device; files = b.machine.files; errors = b.machine.errors } }
+    pub kept : b ≡ record a {
+      machine = record a.machine {
+        device = b.machine.device;
+        files = b.machine.files;
+        errors =
+            b.machine.errors;
+      };
+    }
 
   -- a page was printed to standard output, and nothing else was done
   pub record IsPrinted (g : Meaning N H F) (page : Page) (status : ℕ) (a b : Objects N H F J) : Type 0 where
@@ -154,7 +168,8 @@ module _ {N H F J : Type 0} where
   -- The file at the path of the settings was opened, or it is told why it couldn't be had. Nothing else was done.
   pub record OpensFile (g : Meaning N H F) (settings : Settings) (a b : Machine N H F J) : Type 0 where
     pub asks : AsksForFile g settings b.site.why a b
-    pub file : g.files_tells → g.outside.site → IsHeld g.state g.hold settings.journal (folder_of settings.command) b.site.file (g.places a.files) (g.places b.files)
+    pub file : g.files_tells → g.outside.site → IsHeld g.state g.hold settings.journal
+        (folder_of settings.command) b.site.file (g.places a.files) (g.places b.files)
     pub why : IsExplained b.site.file b.site.why
     pub counts : counts_of b.site ≡ counts_of a.site
     pub kept : b ≡ record a { device = b.device; files = b.files; site = b.site }
@@ -169,8 +184,8 @@ module _ {N H F J : Type 0} where
   Opens g None a b = b ≡ a
   Opens g (Some settings) a b = OpensFile g settings a b ⊎ OpensNothing g a b
 
-  -- The file that the words name was opened, then the words were obeyed by one run over it, and then its status was explained. Nothing else
-  -- was done, before or behind the run.
+  -- The file that the words name was opened, then the words were obeyed by one run over it, and then its status was
+  -- explained. Nothing else was done, before or behind the run.
   pub record Obeys (g : Meaning N H F) (words : List (List ℕ)) (status : ℕ) (a b : Objects N H F J) : Type 0 where
     pub opened : Machine N H F J
     pub opens : Opens g (settings_of words) a.machine opened
@@ -178,11 +193,13 @@ module _ {N H F J : Type 0} where
     pub after : MouthState
     pub has_mouth : a.mouth ≡ Ok before
     pub mouth : b.mouth ≡ Ok after
-    pub performs : Performs g (is_told_on_error (settings_of words)) words status (record { mouth = before; machine = opened }) (record { mouth = after; machine = b.machine })
+    pub performs : Performs g (is_told_on_error (settings_of words)) words status
+        (record { mouth = before; machine = opened }) (record { mouth = after; machine = b.machine })
 
   -- the same, or there was no memory
   abbrev pub ObeysOrStarves : Meaning N H F → List (List ℕ) → ℕ → Objects N H F J → Objects N H F J → Type 0
-  ObeysOrStarves g words status a b = Obeys g words status a b ⊎ (IsStarved g status a b ⊎ IsStarvedOpening g words status a b)
+  ObeysOrStarves g words status a b = Obeys g words status a b
+      ⊎ (IsStarved g status a b ⊎ IsStarvedOpening g words status a b)
 
   -- what is done where these words ask for this page or for none
   abbrev pub Goes : Meaning N H F → Option Page → List (List ℕ) → ℕ → Objects N H F J → Objects N H F J → Type 0

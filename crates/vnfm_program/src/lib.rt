@@ -1,4 +1,5 @@
-//! The program: from the words of the command line to a run over the file that they name, and to the words that say how it went.
+//! The program: from the words of the command line to a run over the file that they name, and to the words that say how
+//! it went.
 #![tactic(auto)]
 
 mod machine;

@@ -16,7 +16,8 @@ const NO_LINE: &[u8] = b"vnfm: there was no memory to say why\n";
 
 /// Puts a text in one call, and says whether it was put.
 fn put<W: Sink>(out: &mut W, text: &[u8]) -> bool
-    ensures { PutsText W.tells text.now result (output_of W.state W.counts out.old) (output_of W.state W.counts out.new) }
+    ensures { PutsText W.tells text.now result (output_of W.state W.counts out.old)
+        (output_of W.state W.counts out.new) }
 {
     out.put(text).is_ok()
 }
@@ -40,10 +41,11 @@ pub fn starve<E: Sink>(errors: &mut E) -> u8
     6
 }
 
-/// Says why a run with these words ended as it did, where there is something to say: by the reason's line, or, where there is no memory
-/// for it, by one that says so.
+/// Says why a run with these words ended as it did, where there is something to say: by the reason's line, or, where
+/// there is no memory for it, by one that says so.
 pub fn explain<E: Sink>(alloc: Global, words: &[Text], reason: Option<Reason>, errors: &mut E)
-    ensures { Explains E.tells reason words.now (output_of E.state E.counts errors.old) (output_of E.state E.counts errors.new) }
+    ensures { Explains E.tells reason words.now (output_of E.state E.counts errors.old)
+        (output_of E.state E.counts errors.new) }
 {
     let Some(reason) = reason else {
         return;

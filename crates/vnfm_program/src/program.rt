@@ -5,7 +5,8 @@ ghost use Rattle.command_line.specs.Words.{settings_of};
 ghost use Rattle.program_words.specs.Pages.{page_of};
 ghost use Rattle.program_words.specs.Reasons.{reason_of};
 ghost use Rattle.vnfm_commands.specs.Outside.{telling};
-ghost use Rattle.vnfm_program.specs.Program.{ObeysOrStarves, Performs, SpeaksOnError, SpeaksOnOutput, Starts, answers, folder_of, is_undelivered};
+ghost use Rattle.vnfm_program.specs.Program.{ObeysOrStarves, Performs, SpeaksOnError, SpeaksOnOutput, Starts, answers};
+ghost use Rattle.vnfm_program.specs.Program.{folder_of, is_undelivered};
 ghost use Rattle.vnfm_program.specs.Words.{words_in};
 
 use crate::machine::Machine;
@@ -27,13 +28,13 @@ use vnfm_cli::{Command, Settings, SettingsFault, run, settings};
 /// The program: it obeys the words behind its name, says how that went, and gives its status.
 ///
 /// - Words that ask for a page have it printed to `lines`, and nothing else is done: 0, or 7 where it couldn't be put.
-/// - A command has the file at its path opened, by `files`, while `device` holds the numbers of the standard streams, and is then
-///   obeyed by one run over that file, the mouth, the orchestrator, the courier and the clock: `run` says what it does there, and its
-///   status. `init` syncs the file's folder each time. Where the numbers can't be taken no file is opened, and the run is over `site` as
-///   it is.
+/// - A command has the file at its path opened, by `files`, while `device` holds the numbers of the standard streams,
+///   and is then obeyed by one run over that file, the mouth, the orchestrator, the courier and the clock: `run` says
+///   what it does there, and its status. `init` syncs the file's folder each time. Where the numbers can't be taken no
+///   file is opened, and the run is over `site` as it is.
 /// - Words that are no command open nothing, and are run over `site` as it is, which gives 2.
-/// - The run's line goes to `errors` for `once`, and to `lines` for all others. Behind the run nothing is called but `errors`: it
-///   gets the one line that says why the run ended so, where there is something to say and memory for it.
+/// - The run's line goes to `errors` for `once`, and to `lines` for all others. Behind the run nothing is called but
+///   `errors`: it gets the one line that says why the run ended so, where there is something to say and memory for it.
 /// - Want of memory for the words, the mouth, the settings or to open the file is said on `errors`: 6.
 ///
 /// `arguments` are those of `env::args`: the program's name, and the words. Where they can't be had there are no words.
@@ -68,7 +69,8 @@ where
       state = H.File.state;
       hold = H.File.hold;
     })
-        (words_in arguments) result (record { mouth = mouth.old; machine = machine.old }) (record { mouth = mouth.new; machine = machine.new }) }
+        (words_in arguments) result (record { mouth = mouth.old; machine = machine.old })
+        (record { mouth = mouth.new; machine = machine.new }) }
     ensures memory { IfErr arguments (λ fault. error_kind fault ≡ ErrorKind.OutOfMemory → result ≡ 6) }
 {
     let Ok(words) = words_of(alloc, arguments) else {
@@ -111,7 +113,8 @@ where
       state = H.File.state;
       hold = H.File.hold;
     })
-        words.now result (record { mouth = mouth.old; machine = machine.old }) (record { mouth = mouth.new; machine = machine.new }) }
+        words.now result (record { mouth = mouth.old; machine = machine.old })
+        (record { mouth = mouth.new; machine = machine.new }) }
 {
     let Ok(mouth) = mouth else {
         return starve(&mut machine.errors);
@@ -156,7 +159,8 @@ where
       state = H.File.state;
       hold = H.File.hold;
     })
-        words.now result (record { mouth = Ok mouth.old; machine = machine.old }) (record { mouth = Ok mouth.new; machine = machine.new }) }
+        words.now result (record { mouth = Ok mouth.old; machine = machine.old })
+        (record { mouth = Ok mouth.new; machine = machine.new }) }
 {
     match hold_streams(&mut machine.device) {
         Ok(streams) => match machine.site.open(
@@ -172,8 +176,8 @@ where
     }
 }
 
-/// When the folder of a command's file is synced. `init` says that the journal is made, so its name is on the disk. The other
-/// commands open what is there.
+/// When the folder of a command's file is synced. `init` says that the journal is made, so its name is on the disk. The
+/// other commands open what is there.
 fn folder_of(command: Command) -> FolderSync
     ensures { result ≡ folder_of command }
 {
@@ -213,7 +217,8 @@ fn perform<
       state = H.File.state;
       hold = H.File.hold;
     })
-        (answers command) words.now result (record { mouth = mouth.old; machine = machine.old }) (record { mouth = mouth.new; machine = machine.new }) }
+        (answers command) words.now result (record { mouth = mouth.old; machine = machine.old })
+        (record { mouth = mouth.new; machine = machine.new }) }
 {
     match command {
         Command::Once => tell_on_error(alloc, words, mouth, machine),
@@ -250,7 +255,8 @@ fn tell_on_output<
       state = H.File.state;
       hold = H.File.hold;
     })
-        words.now result (record { mouth = mouth.old; machine = machine.old }) (record { mouth = mouth.new; machine = machine.new }) }
+        words.now result (record { mouth = mouth.old; machine = machine.old })
+        (record { mouth = mouth.new; machine = machine.new }) }
 {
     let status = run(
         alloc,
@@ -300,7 +306,8 @@ fn tell_on_error<
       state = H.File.state;
       hold = H.File.hold;
     })
-        words.now result (record { mouth = mouth.old; machine = machine.old }) (record { mouth = mouth.new; machine = machine.new }) }
+        words.now result (record { mouth = mouth.old; machine = machine.old })
+        (record { mouth = mouth.new; machine = machine.new }) }
 {
     let status = run(
         alloc,

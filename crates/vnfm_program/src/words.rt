@@ -11,8 +11,8 @@ use std::io::ErrorKind;
 use vnfm_base::Text;
 use vnfm_cli::{Settings, SettingsFault, settings};
 
-/// The words behind the program's name. Where the arguments can't be had, as where one isn't UTF-8, there are none, which is no
-/// command.
+/// The words behind the program's name. Where the arguments can't be had, as where one isn't UTF-8, there are none,
+/// which is no command.
 ///
 /// Its one refusal is want of memory.
 pub fn words_of(alloc: Global, arguments: io::Result<Args>) -> Result<Vec<Text>, AllocError>
@@ -33,8 +33,8 @@ fn behind_first(alloc: Global, all: Args) -> Result<Vec<Text>, AllocError>
     all.skip(1).map(|word| Text::of_string(word)).collect(alloc)
 }
 
-/// What the words of the command line set, which is nothing where they are no command. It is asked before the program is started, so that
-/// what it works with is made for the addresses that the words name.
+/// What the words of the command line set, which is nothing where they are no command. It is asked before the program
+/// is started, so that what it works with is made for the addresses that the words name.
 ///
 /// `arguments` are those of `env::args`. Its one refusal is want of memory.
 pub fn settings_in(

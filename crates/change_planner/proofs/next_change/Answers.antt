@@ -17,4 +17,5 @@ returns-clause-none c = grind (arith, elements)
 
 pub returns-clause-in_history : goal.returns-clause-in_history
 returns-clause-in_history c =
-    first-in_history c.args.changes.now c.args.nets.now c.position.result (returns-clause-known c) (returns-clause-open c) (returns-clause-least c) (returns-clause-none c)
+    first-in_history c.args.changes.now c.args.nets.now c.position.result (returns-clause-known c) (returns-clause-open c)
+    (returns-clause-least c) (returns-clause-none c)

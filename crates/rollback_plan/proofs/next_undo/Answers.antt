@@ -17,4 +17,5 @@ returns-clause-none c = grind (arith, elements)
 
 pub returns-clause-in_history : goal.returns-clause-in_history
 returns-clause-in_history c =
-    last-in_history c.args.changes.now c.args.nets.now c.rposition.result (returns-clause-known c) (returns-clause-made c) (returns-clause-greatest c) (returns-clause-none c)
+    last-in_history c.args.changes.now c.args.nets.now c.rposition.result (returns-clause-known c) (returns-clause-made c)
+    (returns-clause-greatest c) (returns-clause-none c)

@@ -11,4 +11,5 @@ returns-clause-work c = search rules
 pub returns-clause-of_attempt : goal.returns-clause-of_attempt
 returns-clause-of_attempt c H t s way stood =
     let w = act c.args.vnfd.now c.args.holding.now (undo c.args.change.now.verb) c.args.change.now.def c.args.place.now in
-    ok_is c.act_in.result w (act_of H t) (returns-clause-work c) (undo_work c.args.vnfd.now c.args.holding.now c.args.change.now H t c.args.place.now s way stood)
+    ok_is c.act_in.result w (act_of H t) (returns-clause-work c) (undo_work c.args.vnfd.now c.args.holding.now c.args.change.now H t
+    c.args.place.now s way stood)

@@ -17,5 +17,6 @@ returns-then-are_names_given c =
     let levels_are = ap (λ (xs : List Entry). map seen xs) c.as_slice-then-are_names_given.ensures.value ∙ c.requires.levels in
     let aspects_given = sym c.are_names_given.ensures ∙ c.if-are_names_given.true in
     c.are_names_given-then-are_names_given.ensures
-    ∙ ap (λ (b : Bool). b && list_all (λ m. is_given_name m.0) (flat_map (λ p. members_at (property (codes "levels") p.1)) with_levels)) (sym aspects_given)
+    ∙ ap (λ (b : Bool). b && list_all (λ m. is_given_name m.0) (flat_map (λ p. members_at (property (codes "levels") p.1)) with_levels))
+    (sym aspects_given)
     ∙ names_given_by (map seen c.args.policies.now.all.items) with_aspects with_levels aspects_are levels_are

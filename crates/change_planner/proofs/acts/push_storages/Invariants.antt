@@ -6,4 +6,5 @@ use Rattle.change_planner.specs.Acts.{resource_held}
 use Rattle.change_planner.proofs.acts.push_storages.Given as goal
 
 abbrev pub invariant-loop-item : goal.invariant-loop-item
-invariant-loop-item l = l.names ++ filter_map (resource_held l.holding) (map (def_of Storage l.vdu l.serial) (drop l.item-index l.storages)) ≡ l.fn.names ++ filter_map (resource_held l.holding) (map (def_of Storage l.vdu l.serial) l.storages)
+invariant-loop-item l = l.names ++ filter_map (resource_held l.holding) (map (def_of Storage l.vdu l.serial) (drop l.item-index l.storages))
+    ≡ l.fn.names ++ filter_map (resource_held l.holding) (map (def_of Storage l.vdu l.serial) l.storages)

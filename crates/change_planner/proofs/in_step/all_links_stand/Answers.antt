@@ -7,4 +7,5 @@ use Rattle.change_planner.proofs.in_step.all_links_stand.Goals as goal
 pub returns : goal.returns
 returns c =
     ap (λ n. length c.items_of_vdu.result.now == n) c.len.ensures
-    ∙ links_step c.args.vnfd.now c.args.holding.now _ c.requires.valid c.requires.held (c.items_of_vdu.ensures ∙ ap (filter (has_vdu 65535)) c.as_slice.ensures)
+    ∙ links_step c.args.vnfd.now c.args.holding.now _ c.requires.valid c.requires.held
+    (c.items_of_vdu.ensures ∙ ap (filter (has_vdu 65535)) c.as_slice.ensures)

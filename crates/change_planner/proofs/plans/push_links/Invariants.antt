@@ -6,4 +6,5 @@ use Rattle.change_planner.proofs.plans.push_links.Given as goal
 
 abbrev pub invariant-loop-link : goal.invariant-loop-link
 invariant-loop-link l =
-    l.list.items ++ map (change Create) (map link_def (drop l.link-index l.links)) ≡ l.fn.list.items ++ map (change Create) (map link_def l.links)
+    l.list.items ++ map (change Create) (map link_def (drop l.link-index l.links))
+    ≡ l.fn.list.items ++ map (change Create) (map link_def l.links)

@@ -8,4 +8,6 @@ use Rattle.change_planner.proofs.plans.push_machines.Given as goal
 
 abbrev pub invariant-loop-at : goal.invariant-loop-at
 invariant-loop-at l =
-    l.list.items ++ map (change Create) (flat_map (λ s. map (def_of l.kind l.vdu s) l.items) (range_with_len (l.top + 1 + l.at) (l.missing - l.at))) ≡ l.fn.list.items ++ map (change Create) (flat_map (λ s. map (def_of l.kind l.vdu s) l.items) (range_with_len (l.top + 1) l.missing))
+    l.list.items ++ map (change Create) (flat_map (λ s. map (def_of l.kind l.vdu s) l.items)
+    (range_with_len (l.top + 1 + l.at) (l.missing - l.at))) ≡ l.fn.list.items
+    ++ map (change Create) (flat_map (λ s. map (def_of l.kind l.vdu s) l.items) (range_with_len (l.top + 1) l.missing))

@@ -8,4 +8,5 @@ use Rattle.change_planner.proofs.plans.push_made.Given as goal
 
 abbrev pub invariant-loop-vdu : goal.invariant-loop-vdu
 invariant-loop-vdu l =
-    l.list.items ++ map (change Create) (flat_map (new_defs l.vnfd l.kind) (enumerate_from l.vdu (drop l.vdu l.rolls))) ≡ l.fn.list.items ++ made_by l.vnfd l.kind l.rolls
+    l.list.items ++ map (change Create) (flat_map (new_defs l.vnfd l.kind) (enumerate_from l.vdu (drop l.vdu l.rolls)))
+    ≡ l.fn.list.items ++ made_by l.vnfd l.kind l.rolls

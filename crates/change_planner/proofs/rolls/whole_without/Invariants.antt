@@ -7,5 +7,6 @@ use Rattle.change_planner.proofs.rolls.whole_without.Given as goal
 
 abbrev pub invariant-loop-serial : goal.invariant-loop-serial
 invariant-loop-serial l =
-    l.kept.items ++ filter (λ s. is_whole l.case.vnfd.now (inventory_of l.case.holding.now) l.vdu s && not (is_among l.named s)) (drop l.serial-index l.serials)
+    l.kept.items ++ filter (λ s. is_whole l.case.vnfd.now (inventory_of l.case.holding.now) l.vdu s && not (is_among l.named s))
+    (drop l.serial-index l.serials)
     ≡ filter (λ s. is_whole l.case.vnfd.now (inventory_of l.case.holding.now) l.vdu s && not (is_among l.named s)) l.serials

@@ -10,4 +10,5 @@ between-requires-clause-order c =
     omega (arith, fits, start, end)
 
 pub returns : goal.returns
-returns c = rw (c.between.ensures, c.count_before-start.ensures.value, c.count_before-end.ensures.value) (serial_span c.args.vdu c.args.serial c.args.items.now c.requires)
+returns c = rw (c.between.ensures, c.count_before-start.ensures.value, c.count_before-end.ensures.value)
+    (serial_span c.args.vdu c.args.serial c.args.items.now c.requires)

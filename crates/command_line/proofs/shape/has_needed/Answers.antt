@@ -8,4 +8,8 @@ alone true = refl
 alone false = refl
 
 pub returns-then-stands : goal.returns-then-stands
-returns-then-stands c = λ pairs are. rw (c.in-Init.is, sym (c.stands.ensures pairs are) ∙ c.if-stands.true, c.stands-then-stands.ensures pairs are) (alone _)
+returns-then-stands c = λ pairs are. rw (
+  c.in-Init.is,
+  sym (c.stands.ensures pairs are) ∙ c.if-stands.true,
+  c.stands-then-stands.ensures pairs are,
+) (alone _)

@@ -10,7 +10,8 @@ returns-then-len-clause-fits c =
     let text = spelling c.args.event.now in
     let whole = c.put_event.ensures.spelled ∙ ap (λ (w : Written). put w text) c.clear.ensures in
     let is : IsEvent c.args.event.now = c.requires.rules c.put_event.ensures.typed in
-    let long = (put-long c.put_event.new.out text whole (let h : c.put_len-len.result ≡ c.put_event.new.out.len = c.put_len-len.ensures in omega arith) (most_spelling c.args.event.now is)).1 in
+    let long = (put-long c.put_event.new.out text whole (let h : c.put_len-len.result ≡ c.put_event.new.out.len = c.put_len-len.ensures in
+    omega arith) (most_spelling c.args.event.now is)).1 in
     ((λ (h : false ≡ true). absurd cc), (λ (h : length text ≤ 65536). absurd (let k : 65536 < length text = long in omega arith)))
 
 pub returns-then-len-clause-too_long : goal.returns-then-len-clause-too_long
@@ -18,18 +19,21 @@ returns-then-len-clause-too_long c =
     let text = spelling c.args.event.now in
     let whole = c.put_event.ensures.spelled ∙ ap (λ (w : Written). put w text) c.clear.ensures in
     let is : IsEvent c.args.event.now = c.requires.rules c.put_event.ensures.typed in
-    let long = (put-long c.put_event.new.out text whole (let h : c.put_len-len.result ≡ c.put_event.new.out.len = c.put_len-len.ensures in omega arith) (most_spelling c.args.event.now is)).0 in
+    let long = (put-long c.put_event.new.out text whole (let h : c.put_len-len.result ≡ c.put_event.new.out.len = c.put_len-len.ensures in
+    omega arith) (most_spelling c.args.event.now is)).0 in
     c.put_len-len.ensures ∙ long
 
 pub returns-clause-ok : goal.returns-clause-ok
 returns-clause-ok c =
     let text = spelling c.args.event.now in
     let whole = c.put_event.ensures.spelled ∙ ap (λ (w : Written). put w text) c.clear.ensures in
-    (put-kept c.put_event.new.out text whole (let h : c.put_len-len.result ≡ c.put_event.new.out.len = c.put_len-len.ensures in omega arith)).0
+    (put-kept c.put_event.new.out text whole (let h : c.put_len-len.result ≡ c.put_event.new.out.len = c.put_len-len.ensures in
+    omega arith)).0
 
 pub returns-clause-fits : goal.returns-clause-fits
 returns-clause-fits c =
     let text = spelling c.args.event.now in
     let whole = c.put_event.ensures.spelled ∙ ap (λ (w : Written). put w text) c.clear.ensures in
-    let short = (put-kept c.put_event.new.out text whole (let h : c.put_len-len.result ≡ c.put_event.new.out.len = c.put_len-len.ensures in omega arith)).1 in
+    let short = (put-kept c.put_event.new.out text whole (let h : c.put_len-len.result ≡ c.put_event.new.out.len = c.put_len-len.ensures in
+    omega arith)).1 in
     ((λ (h : true ≡ true). short), (λ (h : length text ≤ 65536). refl))

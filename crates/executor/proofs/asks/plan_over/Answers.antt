@@ -18,4 +18,5 @@ pub returns-in-Ok : goal.returns-in-Ok
 returns-in-Ok c = λ m H small legal tables asked.
     let row = c.args.row.now in
     accepted m H row.number c.args.vnfd.now row.holding c.is_busy-busy.result c.args.ask.now c.in-Ok.changes legal small asked
-    (c.is_busy-busy.ensures m H legal tables) (sym c.in_default.ensures) (rw c.in-Ok.is at c.in_ok-changes.ensures.accepted) (rw c.in-Ok.is at c.in_ok-changes.ensures.planned)
+    (c.is_busy-busy.ensures m H legal tables) (sym c.in_default.ensures) (rw c.in-Ok.is at c.in_ok-changes.ensures.accepted)
+    (rw c.in-Ok.is at c.in_ok-changes.ensures.planned)

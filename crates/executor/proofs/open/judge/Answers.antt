@@ -5,8 +5,11 @@ use Rattle.executor.proofs.SpellingLemmas.{no_next}
 use Rattle.executor.proofs.open.judge.Goals as goal
 
 pub returns-then-not-branch : goal.returns-then-not-branch
-returns-then-not-branch c = λ m H small legal tables.
-    (no_next c.no_spelling_begins_another.ensures m H _ c.in-Ok.event c.in-Ok.ensures.found.0 c.in-Ok.ensures.found.1 (iff_false (c.in_ok-may_follow.ensures.judged m H small legal tables) c.if-not-branch.true), tables)
+returns-then-not-branch c = λ m H small legal tables. (
+  no_next c.no_spelling_begins_another.ensures m H _ c.in-Ok.event c.in-Ok.ensures.found.0 c.in-Ok.ensures.found.1
+      (iff_false (c.in_ok-may_follow.ensures.judged m H small legal tables) c.if-not-branch.true),
+  tables,
+)
 
 pub returns : goal.returns
 returns c = λ m H small legal tables.

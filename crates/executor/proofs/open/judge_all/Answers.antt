@@ -16,7 +16,8 @@ loop-judged-init g c = record {
 
 pub judge_next-requires : goal.judge_next-requires
 judge_next-requires g c = record {
-  small = λ none. small_so_far _ c.records_add_up.ensures.longer c.serials_are_counted.ensures _ _ _ c.loop-judged.invariant.judged c.loop-judged.invariant.within none;
+  small = λ none. small_so_far _ c.records_add_up.ensures.longer c.serials_are_counted.ensures _ _ _ c.loop-judged.invariant.judged
+      c.loop-judged.invariant.within none;
 }
 
 pub loop-judged-preserved : goal.loop-judged-preserved
@@ -24,7 +25,8 @@ loop-judged-preserved g c =
     let reads = rw c.in-Record.is at c.in_ok-next.ensures.grown in
     let step = rw (c.count.ensures, c.record_bytes.ensures) at c.in_ok-judge_next.ensures in
     record {
-      judged = step_on _ c.records_add_up.ensures.adds c.records_add_up.ensures.longer c.serials_are_counted.ensures _ _ _ _ _ _ c.loop-judged.invariant.judged c.loop-judged.invariant.within reads step
+      judged = step_on _ c.records_add_up.ensures.adds c.records_add_up.ensures.longer c.serials_are_counted.ensures _ _ _ _ _ _
+          c.loop-judged.invariant.judged c.loop-judged.invariant.within reads step
           (λ tells rs loads. rw c.in-Record.is at (c.in_ok-next.ensures.found tells rs loads));
       manager = reads.manager ∙ c.loop-judged.invariant.manager;
       within = c.next.ensures.within;
@@ -35,7 +37,8 @@ loop-judged-preserved g c =
 pub returns-in_err-judge_next-clause-told : goal.returns-in_err-judge_next-clause-told
 returns-in_err-judge_next-clause-told g c = λ tells.
     let so_far = c.loop-judged.invariant.judged.so_far tells in
-    judges_starved _ _ _ _ _ c.from_residual-in_err-judge_next.ensures.1 (rw c.in-Record.is at (c.in_ok-next.ensures.found tells so_far.rs so_far.loads))
+    judges_starved _ _ _ _ _ c.from_residual-in_err-judge_next.ensures.1
+    (rw c.in-Record.is at (c.in_ok-next.ensures.found tells so_far.rs so_far.loads))
     (reads-then _ _ _ (c.loop-judged.invariant.reads tells) (c.next.ensures.told tells))
 
 pub returns-in_err-next-clause-told : goal.returns-in_err-next-clause-told
@@ -52,7 +55,11 @@ returns-clause-judged g c =
     through _ _ _ _ _ _ _ c.loop-judged.invariant.judged c.in_default.not-Record c.in_ok-next.ensures.grown c.in_ok-next.ensures.found
 
 pub returns-clause-told : goal.returns-clause-told
-returns-clause-told g c = λ tells. record { finds = tt; reads = reads-then _ _ _ (c.loop-judged.invariant.reads tells) (c.next.ensures.told tells) }
+returns-clause-told g c = λ tells. record {
+  finds = tt;
+  reads =
+      reads-then _ _ _ (c.loop-judged.invariant.reads tells) (c.next.ensures.told tells);
+}
 
 pub returns-in_err-next-clause-counts : goal.returns-in_err-next-clause-counts
 returns-in_err-next-clause-counts g c =

@@ -15,7 +15,8 @@ returns-in_err-append-clause-works g c = λ H ready may.
     let number = c.in_err-append.ensures.manager in
     let shut = c.in_err-append.ensures.closed (ap Err disk) in
     rw (err_is _ _ c.from_residual.ensures.1, disk)
-    (broken _ m n H c.args.e.now _ _ ready (keeps_closed m n number shut (λ k K tables. tables) H ready.keeps) number shut c.requires.event may.allowed
+    (broken _ m n H c.args.e.now _ _ ready (keeps_closed m n number shut (λ k K tables. tables) H ready.keeps) number shut c.requires.event
+    may.allowed
     (λ tells. (rw c.requires.spelled.is at (c.in_err-append.ensures.told tells)).any_moment))
 
 pub returns-clause-works : goal.returns-clause-works
@@ -25,7 +26,8 @@ returns-clause-works g c = λ H ready may.
     let n : Managed = managed c.append.new.self c.apply.new.self in
     let room = c.requires.spelled.room in
     let small = small_end c.records_add_up.ensures.longer H (rw (← ready.keeps.kept.end ready.usable) (omega (arith, room))) in
-    let keeps = keeps_more c.records_add_up.ensures.adds m n c.args.tables.now H c.args.e.now ready.keeps ready.usable c.in_ok-append.ensures.manager c.in_ok-append.ensures.grown.0
+    let keeps = keeps_more c.records_add_up.ensures.adds m n c.args.tables.now H c.args.e.now ready.keeps ready.usable
+    c.in_ok-append.ensures.manager c.in_ok-append.ensures.grown.0
     (rw bytes at c.in_ok-append.ensures.grown.1) c.requires.event may.allowed (λ k K tables. tables) c.apply.ensures.applies small in
     committed _ m n H c.args.e.now _ _ ready keeps c.in_ok-append.ensures.manager c.in_ok-append.ensures.grown.2 c.requires.event
     (λ tells. rw bytes at (c.in_ok-append.ensures.told tells))
@@ -39,6 +41,8 @@ returns-clause-keeps_one g c =
     let room = c.requires.spelled.room in
     let small = small_end c.records_add_up.ensures.longer H (rw (← ready.keeps.kept.end ready.usable) (omega (arith, room))) in (
       c.args.e.now ∷ H,
-      keeps_more c.records_add_up.ensures.adds m n c.args.tables.now H c.args.e.now ready.keeps ready.usable c.in_ok-append.ensures.manager c.in_ok-append.ensures.grown.0
-          (rw c.requires.spelled.is at c.in_ok-append.ensures.grown.1) c.requires.event c.requires.may.2.allowed (λ k K tables. tables) c.apply.ensures.applies small,
+      keeps_more c.records_add_up.ensures.adds m n c.args.tables.now H c.args.e.now ready.keeps ready.usable c.in_ok-append.ensures.manager
+          c.in_ok-append.ensures.grown.0
+          (rw c.requires.spelled.is at c.in_ok-append.ensures.grown.1) c.requires.event c.requires.may.2.allowed
+          (λ k K tables. tables) c.apply.ensures.applies small,
     )

@@ -9,7 +9,8 @@ returns-then-not-fits-clause-room g c = λ H end.
     let size = c.in_ok-more.ensures.length in
     record {
       fits = omega (arith, size);
-      full = full_told c.records_add_up.ensures.room c.args.limit _ _ H c.args.e.now end size.0 (iff_false c.fits.ensures c.if-not-fits.true);
+      full = full_told c.records_add_up.ensures.room c.args.limit _ _ H c.args.e.now end size.0
+          (iff_false c.fits.ensures c.if-not-fits.true);
       end_is = c.end.ensures ∙ end;
       more_is = size.0;
     }
@@ -17,4 +18,8 @@ returns-then-not-fits-clause-room g c = λ H end.
 pub returns-clause-room : goal.returns-clause-room
 returns-clause-room g c = λ H end.
     let size = c.in_ok-more.ensures.length in
-    record { fits = omega (arith, size); room = room_told c.records_add_up.ensures.room c.args.limit _ _ H c.args.e.now end size.0 (c.fits.ensures.0 c.if-not-fits.false) }
+    record {
+      fits = omega (arith, size);
+      room = room_told c.records_add_up.ensures.room c.args.limit _ _ H c.args.e.now end size.0
+          (c.fits.ensures.0 c.if-not-fits.false);
+    }

@@ -11,4 +11,5 @@ returns-in-Ok c =
     (sym (text-read c.args.before c.args.bytes.now (view c.in-Ok.value) c.in-Ok.ensures.ok.0 c.in-Ok.ensures.ok.1)) c.text_for.ensures
 
 pub returns-else-is_memory : goal.returns-else-is_memory
-returns-else-is_memory c = sym (text-unread c.args.before c.args.bytes.now (c.in-Err.ensures.err (iff_false c.is_memory.ensures c.if-is_memory.false)))
+returns-else-is_memory c = sym (text-unread c.args.before c.args.bytes.now
+    (c.in-Err.ensures.err (iff_false c.is_memory.ensures c.if-is_memory.false)))

@@ -6,4 +6,5 @@ use Rattle.grant_desk.specs.GrantAll.{rows_for}
 use Rattle.grant_desk.proofs.grant_all.rows_for.Given as goal
 
 abbrev pub invariant-loop-entry : goal.invariant-loop-entry
-invariant-loop-entry l = rows_for (items_view l.fn.entries) ≡ option_map (λ more. map view l.rows.items ++ more) (rows_for (items_view (drop l.entry-index l.entries)))
+invariant-loop-entry l = rows_for (items_view l.fn.entries) ≡ option_map (λ more. map view l.rows.items ++ more)
+    (rows_for (items_view (drop l.entry-index l.entries)))

@@ -6,4 +6,5 @@ use Rattle.grant_desk.specs.Answers.{rows_in}
 use Rattle.grant_desk.proofs.grants.rows_in.Given as goal
 
 abbrev pub invariant-loop-value : goal.invariant-loop-value
-invariant-loop-value l = rows_in (items_view l.fn.values) ≡ option_map (λ more. l.rows ++ more) (rows_in (items_view (drop l.value-index l.values)))
+invariant-loop-value l = rows_in (items_view l.fn.values) ≡ option_map (λ more. l.rows ++ more)
+    (rows_in (items_view (drop l.value-index l.values)))

@@ -24,5 +24,7 @@ returns-clause-sees c =
     let three = rw c.as_slice-3.ensures at c.see_rows-3.ensures.sees in
     let first = sees_some [] c.args.rows.now.add c.see_rows.new.room c.see_rows.result c.in-Some.added c.in-Some.is one in
     let both = sees_both [] c.args.rows.now.add c.args.rows.now.remove c.in-Some.added _ _ c.see_rows-2.result first two in
-    let second = sees_some [] (c.args.rows.now.add ++ c.args.rows.now.remove) c.see_rows-2.new.room c.see_rows-2.result c.in-Some-see_rows.removed c.in-Some-see_rows.is both in
-    sees_both [] (c.args.rows.now.add ++ c.args.rows.now.remove) c.args.rows.now.update c.in-Some-see_rows.removed _ _ c.see_rows-3.result second three
+    let second = sees_some [] (c.args.rows.now.add ++ c.args.rows.now.remove) c.see_rows-2.new.room c.see_rows-2.result
+    c.in-Some-see_rows.removed c.in-Some-see_rows.is both in
+    sees_both [] (c.args.rows.now.add ++ c.args.rows.now.remove) c.args.rows.now.update c.in-Some-see_rows.removed _ _ c.see_rows-3.result
+    second three

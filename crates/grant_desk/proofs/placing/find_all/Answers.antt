@@ -8,4 +8,5 @@ returns-clause-found c =
     let one = rw c.as_slice.ensures at c.find_rows.ensures in
     let two = rw c.as_slice-2.ensures at c.find_rows-2.ensures in
     let three = rw c.as_slice-3.ensures at c.find_rows-3.ensures in
-    found_places c.args.changes.now c.args.rows.now.add c.args.rows.now.remove c.args.rows.now.update (length c.args.changes.now) _ _ _ _ refl c.requires one two three
+    found_places c.args.changes.now c.args.rows.now.add c.args.rows.now.remove c.args.rows.now.update
+    (length c.args.changes.now) _ _ _ _ refl c.requires one two three

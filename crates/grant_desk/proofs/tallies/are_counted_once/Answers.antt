@@ -13,4 +13,5 @@ none_left part (x ∷ xs) (n ∷ ns) (inl end) = let none = end.1.0 in cc
 none_left part (x ∷ xs) (n ∷ ns) (inr end) = let none = end.1.0 in cc
 
 pub returns : goal.returns
-returns c = sym (c.loop-change.invariant ∙ none_left c.args.part c.loop-change.change-iterator.a.rest.now c.loop-change.change-iterator.b.rest.now c.in-None.ensures.steps)
+returns c = sym (c.loop-change.invariant ∙ none_left c.args.part c.loop-change.change-iterator.a.rest.now
+    c.loop-change.change-iterator.b.rest.now c.in-None.ensures.steps)

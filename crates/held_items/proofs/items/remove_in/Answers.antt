@@ -6,11 +6,15 @@ pub returns-then-is_some : goal.returns-then-is_some
 returns-then-is_some c = λ rises.
     c.remove.ensures.items
     ∙ removed c.args.def c.args.items.now.items c.place_of-at.result rises
-    (is_place c.args.def c.as_slice.result.now c.args.items.now.items c.place_of-at.result c.as_slice.ensures.value c.place_of-at.ensures.bound c.place_of-at.ensures.place)
-    (is_at c.item_at.result c.args.def c.as_slice-2.result.now c.args.items.now.items c.place_of-at.result c.is_some.result true c.is_some.ensures c.if-is_some.true c.item_at.ensures c.as_slice-2.ensures.value)
+    (is_place c.args.def c.as_slice.result.now c.args.items.now.items c.place_of-at.result c.as_slice.ensures.value
+    c.place_of-at.ensures.bound c.place_of-at.ensures.place)
+    (is_at c.item_at.result c.args.def c.as_slice-2.result.now c.args.items.now.items c.place_of-at.result c.is_some.result true
+    c.is_some.ensures c.if-is_some.true c.item_at.ensures c.as_slice-2.ensures.value)
 
 pub returns-else-is_some : goal.returns-else-is_some
 returns-else-is_some c = λ rises.
     stays c.args.def c.args.items.now.items c.place_of-at.result rises
-    (is_place c.args.def c.as_slice.result.now c.args.items.now.items c.place_of-at.result c.as_slice.ensures.value c.place_of-at.ensures.bound c.place_of-at.ensures.place)
-    (is_at c.item_at.result c.args.def c.as_slice-2.result.now c.args.items.now.items c.place_of-at.result c.is_some.result false c.is_some.ensures c.if-is_some.false c.item_at.ensures c.as_slice-2.ensures.value)
+    (is_place c.args.def c.as_slice.result.now c.args.items.now.items c.place_of-at.result c.as_slice.ensures.value
+    c.place_of-at.ensures.bound c.place_of-at.ensures.place)
+    (is_at c.item_at.result c.args.def c.as_slice-2.result.now c.args.items.now.items c.place_of-at.result c.is_some.result false
+    c.is_some.ensures c.if-is_some.false c.item_at.ensures c.as_slice-2.ensures.value)

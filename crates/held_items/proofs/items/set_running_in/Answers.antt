@@ -5,12 +5,16 @@ use Rattle.held_items.proofs.items.set_running_in.Goals as goal
 pub returns-then-is_some : goal.returns-then-is_some
 returns-then-is_some c = λ rises.
     powered c.args.def c.args.running c.index_mut.result.now c.args.items.now.items c.place_of-at.result rises
-    (is_place c.args.def c.as_slice.result.now c.args.items.now.items c.place_of-at.result c.as_slice.ensures.value c.place_of-at.ensures.bound c.place_of-at.ensures.place)
-    (is_at c.item_at.result c.args.def c.as_slice-2.result.now c.args.items.now.items c.place_of-at.result c.is_some.result true c.is_some.ensures c.if-is_some.true c.item_at.ensures c.as_slice-2.ensures.value)
+    (is_place c.args.def c.as_slice.result.now c.args.items.now.items c.place_of-at.result c.as_slice.ensures.value
+    c.place_of-at.ensures.bound c.place_of-at.ensures.place)
+    (is_at c.item_at.result c.args.def c.as_slice-2.result.now c.args.items.now.items c.place_of-at.result c.is_some.result true
+    c.is_some.ensures c.if-is_some.true c.item_at.ensures c.as_slice-2.ensures.value)
     c.index_mut.ensures.value
 
 pub returns-else-is_some : goal.returns-else-is_some
 returns-else-is_some c = λ rises.
     same_power c.args.def c.args.running c.args.items.now.items c.place_of-at.result rises
-    (is_place c.args.def c.as_slice.result.now c.args.items.now.items c.place_of-at.result c.as_slice.ensures.value c.place_of-at.ensures.bound c.place_of-at.ensures.place)
-    (is_at c.item_at.result c.args.def c.as_slice-2.result.now c.args.items.now.items c.place_of-at.result c.is_some.result false c.is_some.ensures c.if-is_some.false c.item_at.ensures c.as_slice-2.ensures.value)
+    (is_place c.args.def c.as_slice.result.now c.args.items.now.items c.place_of-at.result c.as_slice.ensures.value
+    c.place_of-at.ensures.bound c.place_of-at.ensures.place)
+    (is_at c.item_at.result c.args.def c.as_slice-2.result.now c.args.items.now.items c.place_of-at.result c.is_some.result false
+    c.is_some.ensures c.if-is_some.false c.item_at.ensures c.as_slice-2.ensures.value)

@@ -7,11 +7,13 @@ use Rattle.http_client.proofs.heads.judge.Goals.{in-NoBody, in-Sized, in-Chunked
 use Rattle.http_client.proofs.heads.judge.Goals as goal
 
 pub returns-then-is_interim : goal.returns-then-is_interim
-returns-then-is_interim c = λ bytes e. interim_there c.args.window.now bytes c.args.fields.now c.args.head c.requires e (sym c.is_interim.ensures ∙ c.if-is_interim.true)
+returns-then-is_interim c = λ bytes e. interim_there c.args.window.now bytes c.args.fields.now c.args.head c.requires e
+    (sym c.is_interim.ensures ∙ c.if-is_interim.true)
 
 pub returns-in-TooLong : goal.returns-in-TooLong
 returns-in-TooLong c = λ bytes e ended.
-    too_long_there c.args.window.now bytes c.args.fields.now c.args.head ended c.requires e (sym c.is_interim.ensures ∙ c.if-is_interim.false)
+    too_long_there c.args.window.now bytes c.args.fields.now c.args.head ended c.requires e
+    (sym c.is_interim.ensures ∙ c.if-is_interim.false)
     (sym c.frame_of.ensures ∙ c.in-TooLong.is)
 
 pub returns-in-Broken : goal.returns-in-Broken
@@ -21,7 +23,8 @@ returns-in-Broken c = λ bytes e ended.
 
 pub returns : goal.returns
 returns c = λ bytes e.
-    let framed : frame_as c.match-frame_of.body ≡ frame_behind c.args.head.code (map (header_bytes c.args.window.now) c.args.fields.now) = elim c.match-frame_of.branch [
+    let framed : frame_as c.match-frame_of.body ≡ frame_behind c.args.head.code (map (header_bytes c.args.window.now) c.args.fields.now) =
+    elim c.match-frame_of.branch [
       | in-NoBody w ↦ ap frame_as w.body-is ∙ sym w.in-NoBody.is ∙ c.frame_of.ensures
       | in-Sized w ↦ ap frame_as w.body-is ∙ sym w.in-Sized.is ∙ c.frame_of.ensures
       | in-Chunked w ↦ ap frame_as w.body-is ∙ sym w.in-Chunked.is ∙ c.frame_of.ensures

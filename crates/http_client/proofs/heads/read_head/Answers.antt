@@ -10,7 +10,12 @@ judge-requires c =
     let found = rw c.in-Ok-Complete.field-0-is at c.in-Ok-Complete.ensures.complete in
     let within = rw c.in-Ok-Complete.field-0-is at c.in-Ok-Complete.ensures.within in
     let short : length (take c.min.result c.args.bytes.now) ≤ HEAD_BYTES =
-    omega (arith, length-take HEAD_BYTES c.args.bytes.now, ap length (ap (λ k. take k c.args.bytes.now) c.min.ensures ∙ window_min HEAD_BYTES c.args.bytes.now)) in
+    omega (
+      arith,
+      length-take HEAD_BYTES c.args.bytes.now,
+      ap length
+          (ap (λ k. take k c.args.bytes.now) c.min.ensures ∙ window_min HEAD_BYTES c.args.bytes.now),
+    ) in
     spans_there _ _ _ short c.if-head-gt-HEAD_FIELDS.false within found
 
 pub returns-in-Ok-Complete-clause-head : goal.returns-in-Ok-Complete-clause-head
@@ -26,7 +31,8 @@ returns-in-Ok-Complete-2-clause-head c =
 
 pub returns-in-Ok-Partial-clause-head : goal.returns-in-Ok-Partial-clause-head
 returns-in-Ok-Partial-clause-head c = λ ended.
-    let e : take c.min.result c.args.bytes.now ≡ take HEAD_BYTES c.args.bytes.now = ap (λ k. take k c.args.bytes.now) c.min.ensures ∙ window_min HEAD_BYTES c.args.bytes.now in
+    let e : take c.min.result c.args.bytes.now ≡ take HEAD_BYTES c.args.bytes.now =
+    ap (λ k. take k c.args.bytes.now) c.min.ensures ∙ window_min HEAD_BYTES c.args.bytes.now in
     let none = rw c.in-Ok-Partial.field-0-is at c.in-Ok-Partial.ensures.partial in
     let may = rw c.in-Ok-Partial.field-0-is at c.in-Ok-Partial.ensures.unfinished in
     inl (inl (record {
@@ -37,7 +43,9 @@ returns-in-Ok-Partial-clause-head c = λ ended.
 
 pub returns-in-Err-clause-head : goal.returns-in-Err-clause-head
 returns-in-Err-clause-head c = λ ended.
-    let e : take c.min.result c.args.bytes.now ≡ take HEAD_BYTES c.args.bytes.now = ap (λ k. take k c.args.bytes.now) c.min.ensures ∙ window_min HEAD_BYTES c.args.bytes.now in
-    let short : length (take c.min.result c.args.bytes.now) ≤ HEAD_BYTES = omega (arith, length-take HEAD_BYTES c.args.bytes.now, ap length e) in
+    let e : take c.min.result c.args.bytes.now ≡ take HEAD_BYTES c.args.bytes.now =
+    ap (λ k. take k c.args.bytes.now) c.min.ensures ∙ window_min HEAD_BYTES c.args.bytes.now in
+    let short : length (take c.min.result c.args.bytes.now) ≤ HEAD_BYTES =
+    omega (arith, length-take HEAD_BYTES c.args.bytes.now, ap length e) in
     inl (subst (λ (x : List ℕ). NeverHasResponse x) e
     (refused_is_never _ _ c.in-Err.field-0 c.requires short c.in-Err.ensures.invalid c.in-Err.ensures.too_many))

@@ -5,7 +5,8 @@ use Rattle.http_client.specs.Requests.{content_lines}
 use Rattle.http_client.proofs.requests.put_content.Goals as goal
 
 content_some : (body : List ℕ) → (length body == 0) ≡ false
-    → content_lines body ≡ codes "Content-Type: application/json\r\n" ++ (codes "Content-Length: " ++ (decimal (length body) ++ codes "\r\n"))
+    → content_lines body ≡ codes "Content-Type: application/json\r\n"
+    ++ (codes "Content-Length: " ++ (decimal (length body) ++ codes "\r\n"))
 content_some [] h = absurd (different (sym h)) where
   different : false ≡ true → ⊥
   different e = cc
@@ -19,4 +20,5 @@ pub returns : goal.returns
 returns c =
     further c.put_length.result c.args.bytes.now.items c.extend_from_slice.new.self.items c.put_length.new.bytes.items
     (codes "Content-Type: application/json\r\n") (codes "Content-Length: " ++ (decimal (length c.args.body.now) ++ codes "\r\n"))
-    (content_lines c.args.body.now) c.in_ok-extend_from_slice.ensures.items (content_some c.args.body.now (sym c.is_empty.ensures ∙ c.if-is_empty.false)) c.put_length.ensures
+    (content_lines c.args.body.now) c.in_ok-extend_from_slice.ensures.items
+    (content_some c.args.body.now (sym c.is_empty.ensures ∙ c.if-is_empty.false)) c.put_length.ensures

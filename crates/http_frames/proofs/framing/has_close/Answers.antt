@@ -8,5 +8,6 @@ use Rattle.http_frames.proofs.framing.has_close.Goals as goal
 pub returns : goal.returns
 unfolding has_close
 returns c = any_from_yields_List (λ option. is_same_word option (codes "close")) _ _ _ c.any.ensures.ran
-    (YieldsList-from_slice_split _ parts_options c.args.value.now c.split.ensures.rest c.split.ensures.done c.split.ensures.closure (λ x b q k. search rules))
+    (YieldsList-from_slice_split _ parts_options c.args.value.now c.split.ensures.rest c.split.ensures.done c.split.ensures.closure
+    (λ x b q k. search rules))
     (λ x b q k. search rules)

@@ -10,4 +10,5 @@ returns-clause-memory c =
 
 pub decode-requires : goal.decode-requires
 decode-requires c =
-    subst (λ (x : List ℕ). HasDecoded x c.args.decoder.now) (sym (c.front.ensures ∙ ap (λ x. take CHUNKED_BYTES x) c.rest-tail.ensures)) c.requires.decoded
+    subst (λ (x : List ℕ). HasDecoded x c.args.decoder.now) (sym (c.front.ensures ∙ ap (λ x. take CHUNKED_BYTES x) c.rest-tail.ensures))
+    c.requires.decoded

@@ -2,7 +2,8 @@ use Rattle.std.proofs.Common.{List, ℕ, length, ap, sym, ◌∙◌, subst}
 use Rattle.http_frames.specs.Heads.{HeadIs, HasReadLines}
 use Rattle.http_frames.specs.declared.head.Head.TheVariants as answer
 use Rattle.http_wire.proofs.IntakeLaws.{takes_on}
-use Rattle.http_wire.proofs.TakeLaws.{malformed_grows, too_large_grows, head_needs_more, head_breaks_off, no_byte, wants_to_read, lines_stay}
+use Rattle.http_wire.proofs.TakeLaws.{malformed_grows, too_large_grows, head_needs_more, head_breaks_off, no_byte, wants_to_read}
+use Rattle.http_wire.proofs.TakeLaws.{lines_stay}
 use Rattle.http_wire.proofs.take.take_head.Goals as goal
 
 pub returns-in-TooLarge-clause-came : goal.returns-in-TooLarge-clause-came
@@ -10,7 +11,8 @@ returns-in-TooLarge-clause-came g c = λ told.
     too_large_grows c.looks.intake (subst (λ (x : List ℕ). HeadIs x answer.TooLarge) c.held-held.ensures c.in-TooLarge.ensures.head)
 
 pub read_on-requires-clause-needs : goal.read_on-requires-clause-needs
-read_on-requires-clause-needs g c = head_needs_more c.looks.intake.held (subst (λ (x : List ℕ). HeadIs x answer.More) c.held-held.ensures c.in-More.ensures.head)
+read_on-requires-clause-needs g c = head_needs_more c.looks.intake.held
+    (subst (λ (x : List ℕ). HeadIs x answer.More) c.held-held.ensures c.in-More.ensures.head)
 
 pub returns-in-Ok-End-clause-came : goal.returns-in-Ok-End-clause-came
 returns-in-Ok-End-clause-came g c = λ told.
@@ -44,13 +46,16 @@ looks-preserved g c = (
 )
 
 pub returns-in-Ok-End-clause-takes : goal.returns-in-Ok-End-clause-takes
-returns-in-Ok-End-clause-takes g c = takes_on g.D.Door.tells c.args.intake.now c.looks.intake c.read_on.new.self c.looks.invariant.0 c.in-Ok-End.ensures.takes
+returns-in-Ok-End-clause-takes g c = takes_on g.D.Door.tells c.args.intake.now c.looks.intake c.read_on.new.self c.looks.invariant.0
+    c.in-Ok-End.ensures.takes
 
 pub returns-in-Ok-End-2-clause-takes : goal.returns-in-Ok-End-2-clause-takes
-returns-in-Ok-End-2-clause-takes g c = takes_on g.D.Door.tells c.args.intake.now c.looks.intake c.read_on.new.self c.looks.invariant.0 c.in-Ok-End.ensures.takes
+returns-in-Ok-End-2-clause-takes g c = takes_on g.D.Door.tells c.args.intake.now c.looks.intake c.read_on.new.self c.looks.invariant.0
+    c.in-Ok-End.ensures.takes
 
 pub returns-in-Ok-Failed-clause-takes : goal.returns-in-Ok-Failed-clause-takes
-returns-in-Ok-Failed-clause-takes g c = takes_on g.D.Door.tells c.args.intake.now c.looks.intake c.read_on.new.self c.looks.invariant.0 c.in-Ok-Failed.ensures.takes
+returns-in-Ok-Failed-clause-takes g c = takes_on g.D.Door.tells c.args.intake.now c.looks.intake c.read_on.new.self c.looks.invariant.0
+    c.in-Ok-Failed.ensures.takes
 
 pub read-requires-clause-lines : goal.read-requires-clause-lines
 read-requires-clause-lines g c = subst (λ (x : List ℕ). HasReadLines x c.looks.reader) (sym c.held-held.ensures) c.looks.invariant.2

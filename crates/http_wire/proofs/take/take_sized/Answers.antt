@@ -6,7 +6,8 @@ use Rattle.http_wire.proofs.take.take_sized.Goals as goal
 
 pub overflow_add-end : goal.overflow_add-end
 overflow_add-end g c =
-    let fits : c.args.head.len + c.args.length ≤ HEAD_BYTES + BODY_BYTES = length_fits c.args.intake.now.held c.args.head c.args.length c.requires.head c.requires.sized in
+    let fits : c.args.head.len + c.args.length ≤ HEAD_BYTES + BODY_BYTES =
+    length_fits c.args.intake.now.held c.args.head c.args.length c.requires.head c.requires.sized in
     omega arith
 
 pub read_on-requires-clause-needs : goal.read_on-requires-clause-needs
@@ -22,7 +23,8 @@ reads-preserved g c = (
 )
 
 pub returns-in-Ok-End-clause-takes : goal.returns-in-Ok-End-clause-takes
-returns-in-Ok-End-clause-takes g c = takes_on g.D.Door.tells c.args.intake.now c.reads.intake c.read_on.new.self c.reads.invariant.0 c.in-Ok-End.ensures.takes
+returns-in-Ok-End-clause-takes g c = takes_on g.D.Door.tells c.args.intake.now c.reads.intake c.read_on.new.self c.reads.invariant.0
+    c.in-Ok-End.ensures.takes
 
 pub returns-in-Ok-End-clause-came : goal.returns-in-Ok-End-clause-came
 returns-in-Ok-End-clause-came g c = λ told.
@@ -32,14 +34,17 @@ returns-in-Ok-End-clause-came g c = λ told.
     (omega (arith, c.reads-test.true, ap length c.held.ensures, ap length came.0)) (came.1 told)
 
 pub returns-in-Ok-Failed-clause-takes : goal.returns-in-Ok-Failed-clause-takes
-returns-in-Ok-Failed-clause-takes g c = takes_on g.D.Door.tells c.args.intake.now c.reads.intake c.read_on.new.self c.reads.invariant.0 c.in-Ok-Failed.ensures.takes
+returns-in-Ok-Failed-clause-takes g c = takes_on g.D.Door.tells c.args.intake.now c.reads.intake c.read_on.new.self c.reads.invariant.0
+    c.in-Ok-Failed.ensures.takes
 
 pub returns-in-Ok-Failed-clause-came : goal.returns-in-Ok-Failed-clause-came
 returns-in-Ok-Failed-clause-came g c =
     let came = rw c.in-Ok-Failed.field-0-is at c.in-Ok-Failed.ensures.came in (
-      rose_since c.args.intake.now.counts.faults c.reads.intake.counts.faults c.read_on.new.self.counts.faults c.reads.invariant.0.counts.faults (ap (λ x. x.faults) came.1),
+      rose_since c.args.intake.now.counts.faults c.reads.intake.counts.faults c.read_on.new.self.counts.faults
+          c.reads.invariant.0.counts.faults (ap (λ x. x.faults) came.1),
       sized_has_none c.read_on.new.self.held c.args.head c.args.length
-          (head_stays g.D.Door.tells c.reads.intake c.read_on.new.self c.args.head c.in-Ok-Failed.ensures.takes c.reads.invariant.1) c.requires.sized
+          (head_stays g.D.Door.tells c.reads.intake c.read_on.new.self c.args.head c.in-Ok-Failed.ensures.takes c.reads.invariant.1)
+          c.requires.sized
           (omega (arith, c.reads-test.true, ap length c.held.ensures, ap length came.0)),
     )
 

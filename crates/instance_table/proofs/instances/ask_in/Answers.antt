@@ -6,5 +6,6 @@ use Rattle.instance_table.proofs.instances.ask_in.Goals as goal
 pub returns-clause-items : goal.returns-clause-items
 returns-clause-items c = λ rises.
     c.ask_at.ensures.items
-    ∙ changed_one (λ r. r.number) c.args.number (asked c.args.number c.args.changes.now) c.args.rows.now.items c.as_slice.result.now c.instance_place-at.result c.as_slice.ensures.value rises
+    ∙ changed_one (λ r. r.number) c.args.number (asked c.args.number c.args.changes.now) c.args.rows.now.items c.as_slice.result.now
+    c.instance_place-at.result c.as_slice.ensures.value rises
     (λ r other. rw other refl) c.instance_place-at.ensures.bound c.instance_place-at.ensures.place

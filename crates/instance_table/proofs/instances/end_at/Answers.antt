@@ -10,8 +10,10 @@ returns-in-Some-clause-items c =
     let rows = c.args.rows.now.items in
     let row : InstanceRow = c.in-Some.row.now in
     ap (λ (r : InstanceRow). set rows c.args.at r) c.follow_end.ensures
-    ∙ update-set (ended c.args.number c.args.end_effect c.args.aim) c.args.at rows row (c.in-Some.ensures.item.3.0) (c.in-Some.ensures.item.1)
+    ∙ update-set (ended c.args.number c.args.end_effect c.args.aim) c.args.at rows row (c.in-Some.ensures.item.3.0)
+    (c.in-Some.ensures.item.1)
 
 pub returns-in-None-clause-items : goal.returns-in-None-clause-items
 returns-in-None-clause-items c =
-    sym (update-past (ended c.args.number c.args.end_effect c.args.aim) c.args.at c.args.rows.now.items (not_within c.args.at _ (λ h. c.in-None.ensures.variant.1 (omega (arith, h, c.args.rows.now.ok.0)))))
+    sym (update-past (ended c.args.number c.args.end_effect c.args.aim) c.args.at c.args.rows.now.items
+    (not_within c.args.at _ (λ h. c.in-None.ensures.variant.1 (omega (arith, h, c.args.rows.now.ok.0)))))

@@ -10,6 +10,7 @@ returns-clause-room c =
     on_ok _ _ c.reserve_at.result
     (λ h rises.
     subst (λ (y : Option InstanceRow). IfSome y (λ r. length r.holding.items < c.reserve_at.new.editor))
-    (found_at (λ r. r.number) c.args.number c.args.rows.now.items c.as_slice.result.now c.instance_place-at.result c.as_slice.ensures.value rises c.instance_place-at.ensures.bound c.instance_place-at.ensures.place)
+    (found_at (λ r. r.number) c.args.number c.args.rows.now.items c.as_slice.result.now c.instance_place-at.result c.as_slice.ensures.value
+    rises c.instance_place-at.ensures.bound c.instance_place-at.ensures.place)
     h)
     c.reserve_at.ensures.room

@@ -10,9 +10,11 @@ returns-in-Some c = λ room.
     let rows = c.args.rows.now.items in
     let row : InstanceRow = c.in-Some.row.now in
     ap (λ (r : InstanceRow). set rows c.args.at r)
-    (c.follow_work.ensures (key_holds (λ r. r.number) c.args.work.now.instance (HasItemRoom c.args.editor.now) rows c.args.at row (c.in-Some.ensures.item.3.0) (c.in-Some.ensures.item.1) room))
+    (c.follow_work.ensures (key_holds (λ r. r.number) c.args.work.now.instance (HasItemRoom c.args.editor.now) rows c.args.at row
+    (c.in-Some.ensures.item.3.0) (c.in-Some.ensures.item.1) room))
     ∙ update-set (after_work c.args.work.now) c.args.at rows row (c.in-Some.ensures.item.3.0) (c.in-Some.ensures.item.1)
 
 pub returns-in-None : goal.returns-in-None
 returns-in-None c = λ room.
-    sym (update-past (after_work c.args.work.now) c.args.at c.args.rows.now.items (not_within c.args.at _ (λ h. c.in-None.ensures.variant.1 (omega (arith, h, c.args.rows.now.ok.0)))))
+    sym (update-past (after_work c.args.work.now) c.args.at c.args.rows.now.items
+    (not_within c.args.at _ (λ h. c.in-None.ensures.variant.1 (omega (arith, h, c.args.rows.now.ok.0)))))

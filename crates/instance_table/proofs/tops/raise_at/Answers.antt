@@ -12,4 +12,5 @@ returns-in-Some c =
 
 pub returns-in-None : goal.returns-in-None
 returns-in-None c =
-    sym (update-past (max c.args.serial) c.args.vdu c.args.tops.now.items (not_within c.args.vdu _ (λ h. c.in-None.ensures.variant.1 (omega (arith, h, c.args.tops.now.ok.0)))))
+    sym (update-past (max c.args.serial) c.args.vdu c.args.tops.now.items
+    (not_within c.args.vdu _ (λ h. c.in-None.ensures.variant.1 (omega (arith, h, c.args.tops.now.ok.0)))))

@@ -13,7 +13,8 @@ size_at-requires-clause-told g c = λ tells.
     let told = c.requires.told tells in
     let within = told.0.within in
     let mark = c.loop.invariant.mark tells in
-    let here = stands_at c.args.n c.args.end c.loop.counter c.loop.place a (g.S.Site.state c.loop.site) told.0 (c.loop.invariant.told tells) (omega (arith, c.loop-test.true)) mark.place in
+    let here = stands_at c.args.n c.args.end c.loop.counter c.loop.place a (g.S.Site.state c.loop.site) told.0 (c.loop.invariant.told tells)
+    (omega (arith, c.loop-test.true)) mark.place in
     (get_or rs c.loop.counter [], here)
 
 pub returns-in_err-size-clause-told : goal.returns-in_err-size-clause-told
@@ -26,7 +27,8 @@ returns-in-None-clause-place g c = λ tells.
     let told = c.requires.told tells in
     let within = told.0.within in
     let mark = c.loop.invariant.mark tells in
-    let here = stands_at c.args.n c.args.end c.loop.counter c.loop.place a (g.S.Site.state c.loop.site) told.0 (c.loop.invariant.told tells) (omega (arith, c.loop-test.true)) mark.place in
+    let here = stands_at c.args.n c.args.end c.loop.counter c.loop.place a (g.S.Site.state c.loop.site) told.0 (c.loop.invariant.told tells)
+    (omega (arith, c.loop-test.true)) mark.place in
     let found = c.in_ok-size.ensures.size tells (get_or rs c.loop.counter []) here in
     let wrong : ◌≡◌ {A = Option ℕ} None (Some (length (get_or rs c.loop.counter []))) = sym c.in-None.is ∙ found in
     absurd (cc wrong)
@@ -42,7 +44,8 @@ loop-preserved g c = record {
       let told = c.requires.told tells in
       let within = told.0.within in
       let mark = c.loop.invariant.mark tells in
-      let here = stands_at c.args.n c.args.end c.loop.counter c.loop.place a (g.S.Site.state c.loop.site) told.0 (c.loop.invariant.told tells) (omega (arith, c.loop-test.true)) mark.place in
+      let here = stands_at c.args.n c.args.end c.loop.counter c.loop.place a (g.S.Site.state c.loop.site) told.0
+      (c.loop.invariant.told tells) (omega (arith, c.loop-test.true)) mark.place in
       let found = c.in_ok-size.ensures.size tells (get_or rs c.loop.counter []) here in
       let same : ◌≡◌ {A = Option ℕ} (Some c.in-Some.size) (Some (length (get_or rs c.loop.counter []))) = sym c.in-Some.is ∙ found in
       mark_next rs c.loop.counter c.loop.place c.in-Some.size (omega (arith, c.loop-test.true)) mark (cc same);

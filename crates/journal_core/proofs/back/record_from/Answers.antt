@@ -34,8 +34,10 @@ bytes_at-requires-clause-within g c = λ tells.
     let reads = c.in_ok-place.ensures.told tells in
     let found = c.in_ok-place.ensures.place tells in
     let here = record_at c.args.n c.args.end c.in-Some.place _ a (g.S.Site.state c.place_of.new.site) has reads c.in-Some.is found in
-    let still = record_at c.args.n c.args.end c.in-Some.place _ a b has (reads-then _ _ _ reads (c.in_ok-size.ensures.told tells)) c.in-Some.is found in
-    bytes_within c.in-Some.place c.args.end c.in-Some-2.size bytes b.image still (one_number _ _ _ c.in-Some-2.is (c.in_ok-size.ensures.size tells bytes here))
+    let still = record_at c.args.n c.args.end c.in-Some.place _ a b has
+    (reads-then _ _ _ reads (c.in_ok-size.ensures.told tells)) c.in-Some.is found in
+    bytes_within c.in-Some.place c.args.end c.in-Some-2.size bytes b.image still
+    (one_number _ _ _ c.in-Some-2.is (c.in_ok-size.ensures.size tells bytes here))
 
 pub returns-in_err-bytes_at-clause-told : goal.returns-in_err-bytes_at-clause-told
 returns-in_err-bytes_at-clause-told g c = λ tells.
@@ -50,7 +52,8 @@ returns-clause-record_is g c = λ tells.
     let reads = c.in_ok-place.ensures.told tells in
     let found = c.in_ok-place.ensures.place tells in
     let here = record_at c.args.n c.args.end c.in-Some.place _ a (g.S.Site.state c.place_of.new.site) has reads c.in-Some.is found in
-    let still = record_at c.args.n c.args.end c.in-Some.place _ a b has (reads-then _ _ _ reads (c.in_ok-size.ensures.told tells)) c.in-Some.is found in
+    let still = record_at c.args.n c.args.end c.in-Some.place _ a b has
+    (reads-then _ _ _ reads (c.in_ok-size.ensures.told tells)) c.in-Some.is found in
     let many = one_number _ _ _ c.in-Some-2.is (c.in_ok-size.ensures.size tells bytes here) in (
       one_number _ _ _ c.in-Some.is found,
       many,

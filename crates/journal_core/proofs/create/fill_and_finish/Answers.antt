@@ -7,11 +7,13 @@ pub returns-in_err-fill-clause-asks : goal.returns-in_err-fill-clause-asks
 returns-in_err-fill-clause-asks g c =
     let a = g.S.Site.counts c.args.site.now in
     let b = g.S.Site.counts c.fill.new.site in
-    asks_failed (through 2) c.from_residual.result a b c.from_residual.ensures.0 (stops_more (through 1) (through 1) a b c.in_err-fill.ensures.asks.failed)
+    asks_failed (through 2) c.from_residual.result a b c.from_residual.ensures.0
+    (stops_more (through 1) (through 1) a b c.in_err-fill.ensures.asks.failed)
 
 pub returns-clause-asks : goal.returns-clause-asks
 returns-clause-asks g c =
-    asks_then (through 1) (through 1) c.finish.result (g.S.Site.counts c.args.site.now) (g.S.Site.counts c.fill.new.site) (g.S.Site.counts c.finish.new.site)
+    asks_then (through 1) (through 1) c.finish.result (g.S.Site.counts c.args.site.now) (g.S.Site.counts c.fill.new.site)
+    (g.S.Site.counts c.finish.new.site)
     c.in_ok-fill.ensures.asks.done c.finish.ensures.asks
 
 pub returns-clause-told : goal.returns-clause-told

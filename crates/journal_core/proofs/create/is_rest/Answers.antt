@@ -9,6 +9,8 @@ use Rattle.journal_core.proofs.create.is_rest.Goals as goal
 pub returns-then-front-eq33 : goal.returns-then-front-eq33
 returns-then-front-eq33 c =
     let front = c.args.front.now in
-    let d = slice_eq-Decides Decides-eqb (take (length front - 1) (drop 1 front)) (take 32 (drop 1 c.made_bytes-made.result)) c.eq.result c.eq.ensures in
-    let rest : take 32 (drop 1 c.made_bytes-made.result) ≡ drop 1 (made c.args.manager) = ap (λ v. take 32 (drop 1 v)) c.made_bytes-made.ensures ∙ made_rest c.args.manager in
+    let d = slice_eq-Decides Decides-eqb (take (length front - 1) (drop 1 front))
+    (take 32 (drop 1 c.made_bytes-made.result)) c.eq.result c.eq.ensures in
+    let rest : take 32 (drop 1 c.made_bytes-made.result) ≡ drop 1 (made c.args.manager) =
+    ap (λ v. take 32 (drop 1 v)) c.made_bytes-made.ensures ∙ made_rest c.args.manager in
     (λ t. sym (take_rest front 1) ∙ d.0 t ∙ rest, λ is. d.1 (take_rest front 1 ∙ is ∙ sym rest))

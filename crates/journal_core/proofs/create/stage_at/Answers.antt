@@ -9,5 +9,10 @@ returns-clause-stage g c = λ tells.
     let held = c.if-len-lt33.held in
     let long = c.requires.long tells in
     let many : (held ≡ min 33 (length image)) × (held ≤ 33) =
-    elim c.if-len-lt33.branch [ then-len-lt33 w ↦ (omega (arith, w.held-is), omega (arith, w.held-is)) | else-len-lt33 w ↦ (omega (arith, w.held-is), omega (arith, w.held-is)) ] in
-    c.stage_by.ensures image (read_front held 33 c.read_at.new.into (replicate 33 0) image (c.in_ok-read_at.ensures.bytes tells) many.1 many.0)
+    elim c.if-len-lt33.branch [
+      | then-len-lt33 w ↦ (omega (arith, w.held-is), omega (arith, w.held-is))
+      | else-len-lt33 w ↦
+          (omega (arith, w.held-is), omega (arith, w.held-is))
+    ] in
+    c.stage_by.ensures image (read_front held 33 c.read_at.new.into (replicate 33 0) image
+    (c.in_ok-read_at.ensures.bytes tells) many.1 many.0)

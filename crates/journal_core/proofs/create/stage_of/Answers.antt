@@ -4,10 +4,12 @@ use Rattle.journal_core.proofs.create.stage_of.Goals as goal
 
 pub returns-clause-told : goal.returns-clause-told
 returns-clause-told g c = λ tells.
-    syncs_and_reads c.sync.result (g.S.Site.state c.args.site.now) (g.S.Site.state c.sync.new.self) (g.S.Site.state c.length.new.self) (g.S.Site.state c.stage_at.new.site)
+    syncs_and_reads c.sync.result (g.S.Site.state c.args.site.now) (g.S.Site.state c.sync.new.self) (g.S.Site.state c.length.new.self)
+    (g.S.Site.state c.stage_at.new.site)
     (c.sync.ensures.told tells) (c.length.ensures.told tells) (c.stage_at.ensures.told tells)
 
 pub returns-in_err-len-clause-told : goal.returns-in_err-len-clause-told
 returns-in_err-len-clause-told g c = λ tells.
-    syncs_and_reads c.sync.result (g.S.Site.state c.args.site.now) (g.S.Site.state c.sync.new.self) (g.S.Site.state c.length.new.self) (g.S.Site.state c.length.new.self)
+    syncs_and_reads c.sync.result (g.S.Site.state c.args.site.now) (g.S.Site.state c.sync.new.self) (g.S.Site.state c.length.new.self)
+    (g.S.Site.state c.length.new.self)
     (c.sync.ensures.told tells) (c.length.ensures.told tells) (reads-refl _)

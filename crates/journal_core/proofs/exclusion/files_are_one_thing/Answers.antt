@@ -1,4 +1,5 @@
-use Rattle.journal_core.proofs.Excluding.{whole_or_unmade, whole_or_foreign, whole_or_broken, whole_once, headed_or_not, foreign_once, breaks_once, same_manager}
+use Rattle.journal_core.proofs.Excluding.{whole_or_unmade, whole_or_foreign, whole_or_broken, whole_once, headed_or_not, foreign_once}
+use Rattle.journal_core.proofs.Excluding.{breaks_once, same_manager}
 use Rattle.journal_core.proofs.Records.{records_of}
 use Rattle.journal_core.proofs.exclusion.files_are_one_thing.Goals as goal
 

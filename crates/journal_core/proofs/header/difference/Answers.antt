@@ -5,7 +5,8 @@ use Rattle.journal_core.specs.Header.{MayStand}
 use Rattle.journal_core.proofs.header.difference.Goals as goal
 
 pub loop-place-preserved : goal.loop-place-preserved
-loop-place-preserved c = below_more (λ k. MayStand k c.args.front.now) c.loop-place.place c.loop-place.invariant (c.stands.ensures.0 c.if-not-stands.false)
+loop-place-preserved c = below_more (λ k. MayStand k c.args.front.now) c.loop-place.place c.loop-place.invariant
+    (c.stands.ensures.0 c.if-not-stands.false)
 
 pub returns-then-not-stands : goal.returns-then-not-stands
 returns-then-not-stands c = record {

@@ -11,7 +11,12 @@ returns-clause-judged g c = λ tells.
     let held = c.if-len-lt33.held in
     let long = c.requires.long tells in
     let many : (held ≡ min 33 (length image)) × (held ≤ 33) =
-    elim c.if-len-lt33.branch [ then-len-lt33 w ↦ (omega (arith, w.held-is), omega (arith, w.held-is)) | else-len-lt33 w ↦ (omega (arith, w.held-is), omega (arith, w.held-is)) ] in
+    elim c.if-len-lt33.branch [
+      | then-len-lt33 w ↦ (omega (arith, w.held-is), omega (arith, w.held-is))
+      | else-len-lt33 w ↦
+          (omega (arith, w.held-is), omega (arith, w.held-is))
+    ] in
     let P : List ℕ → Type 0 = λ v. Judged v c.judge.result in
     judged_front image c.judge.result
-    (subst P (read_front held 33 c.read_at.new.into (replicate 33 0) image (c.in_ok-read_at.ensures.bytes tells) many.1 many.0) c.judge.ensures.judged)
+    (subst P (read_front held 33 c.read_at.new.into (replicate 33 0) image (c.in_ok-read_at.ensures.bytes tells) many.1 many.0)
+    c.judge.ensures.judged)

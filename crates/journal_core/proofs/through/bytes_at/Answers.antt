@@ -11,5 +11,6 @@ returns-clause-bytes g c = λ tells.
     let within = c.requires.within tells in
     let many : c.args.size ≡ min c.args.size (length rest) = omega (arith, length-drop c.args.at image) in
     on_ok_weaker c.read_at.result
-    (λ (is : c.read_at.new.into ≡ take (length (take c.args.size c.args.buffer.now)) rest). read_front c.args.size c.args.size c.read_at.new.into c.args.buffer.now rest is c.requires.room many)
+    (λ (is : c.read_at.new.into ≡ take (length (take c.args.size c.args.buffer.now)) rest). read_front c.args.size c.args.size
+    c.read_at.new.into c.args.buffer.now rest is c.requires.room many)
     (c.read_at.ensures.bytes tells)

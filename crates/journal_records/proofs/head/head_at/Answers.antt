@@ -12,9 +12,14 @@ returns-clause-head g c = λ tells.
     let long = c.requires.long tells in
     let left : c.args.end + length (drop c.args.end image) ≡ c.args.len = omega (arith, length-drop c.args.end image) in
     let many : (held ≡ min 5 (length (drop c.args.end image))) × (held ≤ 5) =
-    elim c.if-len-end-lt5.branch [ then-len-end-lt5 w ↦ (omega (arith, w.held-is), omega (arith, w.held-is)) | else-len-end-lt5 w ↦ (omega (arith, w.held-is), omega (arith, w.held-is)) ] in
+    elim c.if-len-end-lt5.branch [
+      | then-len-end-lt5 w ↦ (omega (arith, w.held-is), omega (arith, w.held-is))
+      | else-len-end-lt5 w ↦
+          (omega (arith, w.held-is), omega (arith, w.held-is))
+    ] in
     c.head_of.ensures.head (drop c.args.end image)
-    (read_front held 5 c.read_at.new.into (0 ∷ 0 ∷ 0 ∷ 0 ∷ 0 ∷ []) (drop c.args.end image) (c.in_ok-read_at.ensures.bytes tells) many.1 many.0)
+    (read_front held 5 c.read_at.new.into (0 ∷ 0 ∷ 0 ∷ 0 ∷ 0 ∷ []) (drop c.args.end image)
+    (c.in_ok-read_at.ensures.bytes tells) many.1 many.0)
     left
 
 pub returns-then-end-len-clause-told : goal.returns-then-end-len-clause-told

@@ -6,4 +6,5 @@ use Rattle.json_views.specs.Affected.{affected, made_at}
 use Rattle.json_views.proofs.affected.changes_made.Given as goal
 
 abbrev pub invariant-loop-number : goal.invariant-loop-number
-invariant-loop-number l = l.list.items ++ filter_map (made_at l.fn.row) (range_with_len l.number (length l.fn.row.changes - l.number)) ≡ affected l.fn.row
+invariant-loop-number l = l.list.items ++ filter_map (made_at l.fn.row) (range_with_len l.number (length l.fn.row.changes - l.number))
+    ≡ affected l.fn.row

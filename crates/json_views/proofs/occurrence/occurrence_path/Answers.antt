@@ -4,4 +4,5 @@ use Rattle.json_views.proofs.occurrence.occurrence_path.Goals as goal
 
 pub returns-clause-line : goal.returns-clause-line
 returns-clause-line c =
-    rw (c.push_str.ensures.bytes, c.in_ok-path.ensures.ok, c.as_str.ensures.value, c.in_ok-id.ensures) (occurrence_line _ c.args.manager c.args.n)
+    rw (c.push_str.ensures.bytes, c.in_ok-path.ensures.ok, c.as_str.ensures.value, c.in_ok-id.ensures)
+    (occurrence_line _ c.args.manager c.args.n)

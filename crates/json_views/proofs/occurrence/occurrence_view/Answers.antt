@@ -11,5 +11,6 @@ unfolding occurrence_text
 returns c =
     c.of_vec.ensures
     ∙ c.in_ok-text.ensures.text
-    (ap has_float c.in_ok-value.ensures ∙ occurrence_plain c.args.manager c.args.n c.args.row.now c.args.vnfd.now (moment_text c.args.row.now.asked) (moment_text c.args.row.now.entered))
+    (ap has_float c.in_ok-value.ensures ∙ occurrence_plain c.args.manager c.args.n c.args.row.now c.args.vnfd.now
+    (moment_text c.args.row.now.asked) (moment_text c.args.row.now.entered))
     ∙ ap compact_text c.in_ok-value.ensures

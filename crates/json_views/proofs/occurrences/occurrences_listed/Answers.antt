@@ -22,12 +22,16 @@ loop-place-preserved c =
     elim c.match-row_at.branch [
       | in-Some+in_ok-entry-in-Some+in_ok-push-in-Some w ↦
           let there =
-          ap (option_map (occurrence_row c.args.manager c.args.instances.now.rows (place + 1))) (sym c.row_at.ensures ∙ ap option_copied w.in-Some.is)
+          ap (option_map (occurrence_row c.args.manager c.args.instances.now.rows (place + 1)))
+          (sym c.row_at.ensures ∙ ap option_copied w.in-Some.is)
           ∙ ap Some (sym w.in_ok-entry-in-Some.ensures) in
           rw (w.values-is, w.in_ok-push-in-Some.ensures.items)
           (ap (λ t. t ++ filter_map f (range_with_len (place + 1) (made - (place + 1)))) (map_push view c.loop-place.values.items _)
-          ∙ one_here f shown whole _ place made (omega (arith, c.loop-place-test.true, c.made_in-made.ensures)) there c.loop-place.invariant)
+          ∙ one_here f shown whole _ place made (omega (arith, c.loop-place-test.true, c.made_in-made.ensures)) there
+          c.loop-place.invariant)
       | in-None w ↦
           rw w.values-is
-          (none_here f shown whole place made (omega (arith, c.loop-place-test.true, c.made_in-made.ensures)) (ap (option_map (occurrence_row c.args.manager c.args.instances.now.rows (place + 1))) (sym c.row_at.ensures ∙ ap option_copied w.in-None.is)) c.loop-place.invariant)
+          (none_here f shown whole place made (omega (arith, c.loop-place-test.true, c.made_in-made.ensures))
+          (ap (option_map (occurrence_row c.args.manager c.args.instances.now.rows (place + 1)))
+          (sym c.row_at.ensures ∙ ap option_copied w.in-None.is)) c.loop-place.invariant)
     ]

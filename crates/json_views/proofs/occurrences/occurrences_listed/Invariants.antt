@@ -9,5 +9,6 @@ use Rattle.json_views.proofs.occurrences.occurrences_listed.Given as goal
 abbrev pub invariant-loop-place : goal.invariant-loop-place
 invariant-loop-place l =
     map view l.values.items
-    ++ filter_map (occurrence_at l.fn.manager l.fn.instances.rows l.fn.occurrences.rows) (range_with_len l.place (length l.fn.occurrences.rows - l.place))
+    ++ filter_map (occurrence_at l.fn.manager l.fn.instances.rows l.fn.occurrences.rows)
+    (range_with_len l.place (length l.fn.occurrences.rows - l.place))
     ≡ occurrences_listed l.fn.manager l.fn.instances.rows l.fn.occurrences.rows

@@ -9,5 +9,6 @@ pub returns : goal.returns
 unfolding occurrences_text
 returns c =
     c.of_vec.ensures
-    ∙ c.in_ok-text.ensures.text (ap has_float c.in_ok-value.ensures ∙ list_plain c.args.manager c.args.instances.now.rows c.args.occurrences.now.rows)
+    ∙ c.in_ok-text.ensures.text (ap has_float c.in_ok-value.ensures
+    ∙ list_plain c.args.manager c.args.instances.now.rows c.args.occurrences.now.rows)
     ∙ ap compact_text c.in_ok-value.ensures

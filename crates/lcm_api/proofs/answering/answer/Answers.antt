@@ -20,6 +20,8 @@ returns-clause-reply g c = λ H keeps.
 
 pub returns-clause-works : goal.returns-clause-works
 returns-clause-works g c = λ H ready.
-    let P : Planned → Type 0 = λ p. Works g.S.Site.tells c.args.manager.now.ledger.manager H (answered (in_room H c.args.request.now.last p) H c.carry_out.result) c.carry_out.new.manager (g.S.Site.state c.args.site.now) (g.S.Site.state c.carry_out.new.site) in
+    let P : Planned → Type 0 = λ p. Works g.S.Site.tells c.args.manager.now.ledger.manager H
+    (answered (in_room H c.args.request.now.last p) H c.carry_out.result) c.carry_out.new.manager (g.S.Site.state c.args.site.now)
+    (g.S.Site.state c.carry_out.new.site) in
     let planned = c.in_ok-planned.ensures H ready.keeps in
     subst P (planned_is _ _ _ _ planned) (c.carry_out.ensures.works H ready (may_carry_out _ _ _ _ planned))

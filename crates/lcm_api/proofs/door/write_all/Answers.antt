@@ -16,10 +16,13 @@ loop-at-preserved g c =
       within = within;
       counts = search rules;
       asked = more_so_far c.loop-at.at c.in-Took.n (length bytes) _ _ _ c.loop-at-test.true within c.loop-at.invariant.asked
-          (subst (λ size. g.D.Door.writes c.write.new.self ≡ asked_for size (write.Took c.in-Took.n) (g.D.Door.writes c.loop-at.door)) left c.in-Took.ensures.one);
+          (subst (λ size. g.D.Door.writes c.write.new.self ≡ asked_for size (write.Took c.in-Took.n) (g.D.Door.writes c.loop-at.door)) left
+          c.in-Took.ensures.one);
       told = λ tells.
-          let P : List ℕ → Type 0 = λ out. ConnIs (has_written out (g.D.Door.state c.args.door.now).conn) (g.D.Door.state c.args.door.now) (g.D.Door.state c.write.new.self) in
-          subst P (front_more bytes c.loop-at.at c.in-Took.n within) (tells_more _ _ _ _ _ (c.loop-at.invariant.told tells) (c.in-Took.ensures.told tells));
+          let P : List ℕ → Type 0 = λ out. ConnIs (has_written out (g.D.Door.state c.args.door.now).conn) (g.D.Door.state c.args.door.now)
+          (g.D.Door.state c.write.new.self) in
+          subst P (front_more bytes c.loop-at.at c.in-Took.n within) (tells_more _ _ _ _ _ (c.loop-at.invariant.told tells)
+          (c.in-Took.ensures.told tells));
     }
 
 pub loop-at-init : goal.loop-at-init
@@ -39,4 +42,5 @@ returns-in-Failed-clause-asks g c =
     let left : length (take (length bytes - c.loop-at.at) (drop c.loop-at.at bytes)) ≡ length bytes - c.loop-at.at =
     length-take-le (length bytes - c.loop-at.at) (drop c.loop-at.at bytes) (omega (arith, length-drop c.loop-at.at bytes)) in
     told_in_part c.loop-at.at (length bytes) _ _ _ _ c.loop-at-test.true c.loop-at.invariant.asked
-    (subst (λ size. g.D.Door.writes c.write.new.self ≡ asked_for size write.Failed (g.D.Door.writes c.loop-at.door)) left c.in-Failed.ensures.one)
+    (subst (λ size. g.D.Door.writes c.write.new.self ≡ asked_for size write.Failed (g.D.Door.writes c.loop-at.door)) left
+    c.in-Failed.ensures.one)

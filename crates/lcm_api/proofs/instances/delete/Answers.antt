@@ -6,4 +6,5 @@ pub returns-in-None : goal.returns-in-None
 returns-in-None g c = λ H keeps.
     let found = c.in-Some.ensures.own H keeps in
     deletes c.args.manager.now H c.args.now c.args.request.now c.in-Some.row.now c.deleted.result c.deletion.result
-    (rw c.asked_id.ensures at (c.in-Some.ensures.named H keeps)) found (c.in-None.ensures H keeps found) c.deletion.ensures c.deleted.ensures
+    (rw c.asked_id.ensures at (c.in-Some.ensures.named H keeps)) found
+    (c.in-None.ensures H keeps found) c.deletion.ensures c.deleted.ensures

@@ -19,8 +19,10 @@ returns-clause-named g c = λ H keeps.
     let few = c.instances-table.ensures.few H keeps in
     let stands = c.instances-table.ensures.rows H keeps in
     let shown = (c.legal_rows_can_be_shown.ensures window _ H (rows H) (omega (arith, few)) keeps.kept.legal refl).all in
-    let reading : IsReading Instance c.number.result c.as_bytes.result.now (Some c.in_ok-n.n) = record { has = c.in_ok-n.ensures.found; only = c.in_ok-n.ensures.read } in
-    rw (c.number.ensures, c.as_bytes.ensures.value) at (named_found _ _ _ H _ reading shown (c.instance.ensures.among window _ H keeps.kept.legal stands))
+    let reading : IsReading Instance c.number.result c.as_bytes.result.now (Some c.in_ok-n.n) =
+    record { has = c.in_ok-n.ensures.found; only = c.in_ok-n.ensures.read } in
+    rw (c.number.ensures, c.as_bytes.ensures.value) at (named_found _ _ _ H _ reading shown
+    (c.instance.ensures.among window _ H keeps.kept.legal stands))
 
 pub returns-clause-own : goal.returns-clause-own
 returns-clause-own g c = own_of c.args.manager.now c.in_ok-n.n c.instance.result (λ H keeps.

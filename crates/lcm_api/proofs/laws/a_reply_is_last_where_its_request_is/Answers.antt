@@ -26,11 +26,13 @@ use Rattle.lcm_events.specs.declared.events.Operation.{Operation}
 use Rattle.lcm_events.specs.declared.states.Role.{Role}
 use Rattle.lcm_model.specs.Lives.{descriptor}
 use Rattle.lcm_model.specs.Refusals.{ask_refusal, situation, task_refusal}
-use Rattle.lcm_api.specs.Asks.{accepted, ask_described, ask_found, ask_judged, ask_of, ask_read, asked_in, asking, instance_task, operation_asked, task_with, unserved_found}
+use Rattle.lcm_api.specs.Asks.{accepted, ask_described, ask_found, ask_judged, ask_of, ask_read, asked_in, asking, instance_task}
+use Rattle.lcm_api.specs.Asks.{operation_asked, task_with, unserved_found}
 use Rattle.lcm_api.specs.declared.asks.AskedBody.{AskedBody}
 use Rattle.lcm_api.specs.Occurrences.{list_occurrences, named_operation, occurrence_row_text, show_asked}
 use Rattle.lcm_api.specs.Creating.{body_outcome, create_instance, described_outcome, created, creation}
-use Rattle.lcm_api.specs.Instances.{asked_id, delete_found, delete_judged, deleted, deletion, list_instances, named_instance, row_text, show_found}
+use Rattle.lcm_api.specs.Instances.{asked_id, delete_found, delete_judged, deleted, deletion, list_instances, named_instance, row_text}
+use Rattle.lcm_api.specs.Instances.{show_found}
 use Rattle.lcm_api.specs.Media.{is_json}
 use Rattle.lcm_api.specs.Outcome.{routed, served}
 use Rattle.lcm_api.specs.Refusals.{refusal_status, refusal_text}
@@ -38,7 +40,8 @@ use Rattle.lcm_api.specs.Replies.{in_room, recorded, refusal, refused, shown, to
 use Rattle.lcm_api.specs.declared.record.Planned.{Planned}
 use Rattle.lcm_api.specs.declared.record.Planned.TheVariants.{Records, Told}
 use Rattle.lcm_api.specs.Routes.{not_allowed, routing}
-use Rattle.lcm_api.specs.Tasks.{cancel, cancel_read, occurrence_task, task_asked, task_event, task_judged, task_named, task_of, task_refused, task_reply, taken}
+use Rattle.lcm_api.specs.Tasks.{cancel, cancel_read, occurrence_task, task_asked, task_event, task_judged, task_named, task_of}
+use Rattle.lcm_api.specs.Tasks.{task_refused, task_reply, taken}
 use Rattle.lcm_api.specs.declared.tasks.AskedTask.{AskedTask}
 use Rattle.lcm_api.specs.declared.tasks.AskedTask.TheVariants.{Cancel, Fail, Retry, Rollback}
 use Rattle.lcm_events.specs.declared.states.CancelMode.{CancelMode}
@@ -51,7 +54,8 @@ use Rattle.lcm_model.specs.declared.refusals.TaskRefusal.TheVariants.{NotSupport
 use Rattle.json_views.specs.Words.{state_word}
 use Rattle.lcm_routes.specs.declared.resources.Resource.{Resource}
 use Rattle.lcm_api.specs.declared.route.Route.{Route}
-use Rattle.lcm_api.specs.declared.route.Route.TheVariants.{ListInstances, CreateInstance, ShowInstance, DeleteInstance, InstanceTask, ListOccurrences, ShowOccurrence, OccurrenceTask}
+use Rattle.lcm_api.specs.declared.route.Route.TheVariants.{ListInstances, CreateInstance, ShowInstance, DeleteInstance, InstanceTask}
+use Rattle.lcm_api.specs.declared.route.Route.TheVariants.{ListOccurrences, ShowOccurrence, OccurrenceTask}
 use Rattle.lcm_api.specs.declared.route.Routing.{Routing}
 use Rattle.lcm_api.specs.declared.route.Routing.TheVariants.{Nowhere, NotAllowed, Served}
 use Rattle.executor.specs.Room.{is_full}
@@ -81,16 +85,19 @@ creation_ends : (m : ℕ) (n : ℕ) (body : CreateBody) (vnfd : Vnfd) (last : Bo
 unfolding created
 creation_ends m n body vnfd last = refl
 
-described_ends : (m : ℕ) (H : List Event) (now : ℕ) (body : CreateBody) (last : Bool) (found : Option Vnfd) → EndsAs last (described_outcome m H now body last found)
+described_ends : (m : ℕ) (H : List Event) (now : ℕ) (body : CreateBody) (last : Bool) (found : Option Vnfd)
+    → EndsAs last (described_outcome m H now body last found)
 described_ends m H now body last None = refusal_ends 422 (codes "vnfdId is not onboarded") last
 described_ends m H now body last (Some vnfd) =
     elim (nat_le MAX_INSTANCES (length (live_instances H))) as (λ crowded.
-    EndsAs last (if crowded then refused 507 (codes "too many instances") last else Records (creation H now body) (created m (instances_made H + 1) body vnfd last))) [
+    EndsAs last (if crowded then refused 507 (codes "too many instances") last
+    else Records (creation H now body) (created m (instances_made H + 1) body vnfd last))) [
       | true ↦ refusal_ends 507 (codes "too many instances") last
       | false ↦ creation_ends m (instances_made H + 1) body vnfd last
     ]
 
-body_ends : (m : ℕ) (H : List Event) (now : ℕ) (body : Result CreateBody BodyFault) (last : Bool) → IsOfBytes body → EndsAs last (body_outcome m H now body last)
+body_ends : (m : ℕ) (H : List Event) (now : ℕ) (body : Result CreateBody BodyFault) (last : Bool) → IsOfBytes body
+    → EndsAs last (body_outcome m H now body last)
 body_ends m H now (Ok body) last is = described_ends m H now body last (descriptor_named H body.vnfd)
 body_ends m H now (Err Malformed) last is = refusal_ends 400 (codes "malformed JSON") last
 body_ends m H now (Err (Lacks name)) last is = refusal_ends 400 (codes "missing " ++ name) last
@@ -99,7 +106,8 @@ body_ends m H now (Err Memory) last is = absurd is
 
 create_ends : (m : ℕ) (H : List Event) (now : ℕ) (r : Request) → EndsAs r.last (create_instance m H now r)
 create_ends m H now r =
-    elim (is_json r.media) as (λ json. EndsAs r.last (if json then body_outcome m H now (create_of r.body) r.last else refused 415 (codes "body must be application/json") r.last)) [
+    elim (is_json r.media) as (λ json. EndsAs r.last (if json then body_outcome m H now (create_of r.body) r.last
+    else refused 415 (codes "body must be application/json") r.last)) [
       | true ↦ body_ends m H now (create_of r.body) r.last (create_of_bytes r.body)
       | false ↦ refusal_ends 415 (codes "body must be application/json") r.last
     ]
@@ -114,7 +122,8 @@ not_allowed_ends x last = refl
 
 list_ends : (m : ℕ) (H : List Event) (r : Request) → EndsAs r.last (list_instances m H r)
 list_ends m H r =
-    elim (asks_filter r.target) as (λ filtered. EndsAs r.last (if filtered then refused 400 (codes "filter is not served") r.last else told (shown (instances_text m (rows H)) r.last))) [
+    elim (asks_filter r.target) as (λ filtered. EndsAs r.last (if filtered then refused 400 (codes "filter is not served") r.last
+    else told (shown (instances_text m (rows H)) r.last))) [
       | true ↦ refusal_ends 400 (codes "filter is not served") r.last
       | false ↦ shown_ends (instances_text m (rows H)) r.last
     ]
@@ -139,19 +148,24 @@ accepted_ends : (m occ : ℕ) (last : Bool) → (accepted m occ last).last ≡ l
 unfolding accepted
 accepted_ends m occ last = refl
 
-ask_judged_ends : (m : ℕ) (H : List Event) (now : ℕ) (a : Operation) (last : Bool) (why : Option Refusal) → EndsAs last (ask_judged m H now a last why)
+ask_judged_ends : (m : ℕ) (H : List Event) (now : ℕ) (a : Operation) (last : Bool) (why : Option Refusal)
+    → EndsAs last (ask_judged m H now a last why)
 ask_judged_ends m H now a last (Some why) = refusal_ends (refusal_status why) (refusal_text why) last
 ask_judged_ends m H now a last None = accepted_ends m a.occ last
 
-ask_described_ends : (m : ℕ) (H : List Event) (now : ℕ) (role : Role) (i : ℕ) (ask : Ask) (last : Bool) (found : Option Vnfd) → EndsAs last (ask_described m H now role i ask last found)
+ask_described_ends : (m : ℕ) (H : List Event) (now : ℕ) (role : Role) (i : ℕ) (ask : Ask) (last : Bool) (found : Option Vnfd)
+    → EndsAs last (ask_described m H now role i ask last found)
 ask_described_ends m H now role i ask last None = refusal_ends 404 (codes "no such instance") last
-ask_described_ends m H now role i ask last (Some d) = ask_judged_ends m H now (operation_asked H i role ask d) last (ask_refusal d (situation d H i) ask)
+ask_described_ends m H now role i ask last (Some d) = ask_judged_ends m H now (operation_asked H i role ask d) last
+    (ask_refusal d (situation d H i) ask)
 
-ask_ends : (m : ℕ) (H : List Event) (now : ℕ) (role : Role) (body : AskedBody) (last : Bool) (found : Option InstanceRow) → EndsAs last (ask_found m H now role body last found)
+ask_ends : (m : ℕ) (H : List Event) (now : ℕ) (role : Role) (body : AskedBody) (last : Bool) (found : Option InstanceRow)
+    → EndsAs last (ask_found m H now role body last found)
 ask_ends m H now role body last None = refusal_ends 404 (codes "no such instance") last
 ask_ends m H now role body last (Some row) = ask_described_ends m H now role row.number (ask_of body) last (descriptor H row.number)
 
-ask_read_ends : (m : ℕ) (H : List Event) (now : ℕ) (role : Role) (read : Result AskedBody BodyFault) (r : Request) → IsOfBytes read → EndsAs r.last (ask_read m H now role read r)
+ask_read_ends : (m : ℕ) (H : List Event) (now : ℕ) (role : Role) (read : Result AskedBody BodyFault) (r : Request) → IsOfBytes read
+    → EndsAs r.last (ask_read m H now role read r)
 ask_read_ends m H now role (Ok body) r is = ask_ends m H now role body r.last (named_instance m H (asked_id r))
 ask_read_ends m H now role (Err Malformed) r is = refusal_ends 400 (codes "malformed JSON") r.last
 ask_read_ends m H now role (Err (Lacks name)) r is = refusal_ends 400 (codes "missing " ++ name) r.last
@@ -176,20 +190,24 @@ asked_of_bytes kinds.Operate bytes = tt
 asked_of_bytes kinds.Terminate bytes = tt
 asked_of_bytes kinds.ChangeFlavour bytes = tt
 
-task_with_ends : (m : ℕ) (H : List Event) (now : ℕ) (role : Role) (r : Request) (asked : Option (Result AskedBody BodyFault)) → AreOfBytes asked → EndsAs r.last (task_with m H now role r asked)
+task_with_ends : (m : ℕ) (H : List Event) (now : ℕ) (role : Role) (r : Request) (asked : Option (Result AskedBody BodyFault))
+    → AreOfBytes asked → EndsAs r.last (task_with m H now role r asked)
 task_with_ends m H now role r None are = unserved_ends r.last (named_instance m H (asked_id r))
 task_with_ends m H now role r (Some read) are =
-    elim (is_json r.media) as (λ json. EndsAs r.last (if json then ask_read m H now role read r else refused 415 (codes "body must be application/json") r.last)) [
+    elim (is_json r.media) as (λ json. EndsAs r.last (if json then ask_read m H now role read r
+    else refused 415 (codes "body must be application/json") r.last)) [
       | true ↦ ask_read_ends m H now role read r are
       | false ↦ refusal_ends 415 (codes "body must be application/json") r.last
     ]
 
-task_ends : (m : ℕ) (H : List Event) (now : ℕ) (role : Role) (kind : OpKind) (r : Request) → EndsAs r.last (instance_task m H now role kind r)
+task_ends : (m : ℕ) (H : List Event) (now : ℕ) (role : Role) (kind : OpKind) (r : Request)
+    → EndsAs r.last (instance_task m H now role kind r)
 task_ends m H now role kind r = task_with_ends m H now role r (asked_in kind r.body) (asked_of_bytes kind r.body)
 
 list_occurrences_ends : (m : ℕ) (H : List Event) (r : Request) → EndsAs r.last (list_occurrences m H r)
 list_occurrences_ends m H r =
-    elim (asks_filter r.target) as (λ filtered. EndsAs r.last (if filtered then refused 400 (codes "filter is not served") r.last else told (shown (occurrences_text m (rows H) (occurrences.rows H)) r.last))) [
+    elim (asks_filter r.target) as (λ filtered. EndsAs r.last (if filtered then refused 400 (codes "filter is not served") r.last
+    else told (shown (occurrences_text m (rows H) (occurrences.rows H)) r.last))) [
       | true ↦ refusal_ends 400 (codes "filter is not served") r.last
       | false ↦ shown_ends (occurrences_text m (rows H) (occurrences.rows H)) r.last
     ]
@@ -212,18 +230,22 @@ task_refused_ends : (why : TaskRefusal) (last : Bool) → EndsAs last (task_refu
 task_refused_ends NotSupported last = refusal_ends 404 (codes "task is not supported") last
 task_refused_ends (WrongState state) last = refusal_ends 409 (codes "operation is " ++ state_word state) last
 
-task_judged_ends : (m : ℕ) (H : List Event) (now : ℕ) (asked : AskedTask) (a : Operation) (last : Bool) (why : Option TaskRefusal) → EndsAs last (task_judged m H now asked a last why)
+task_judged_ends : (m : ℕ) (H : List Event) (now : ℕ) (asked : AskedTask) (a : Operation) (last : Bool) (why : Option TaskRefusal)
+    → EndsAs last (task_judged m H now asked a last why)
 task_judged_ends m H now asked a last (Some why) = task_refused_ends why last
 task_judged_ends m H now asked a last None = task_reply_ends m (task_event now a.occ asked ∷ H) asked a last
 
-task_asked_ends : (m : ℕ) (H : List Event) (now : ℕ) (asked : AskedTask) (last : Bool) (found : Option Operation) → EndsAs last (task_asked m H now asked last found)
+task_asked_ends : (m : ℕ) (H : List Event) (now : ℕ) (asked : AskedTask) (last : Bool) (found : Option Operation)
+    → EndsAs last (task_asked m H now asked last found)
 task_asked_ends m H now asked last None = refusal_ends 404 (codes "no such occurrence") last
-task_asked_ends m H now asked last (Some a) = task_judged_ends m H now asked a last (task_refusal (kind_of a.ask) (state H a.occ) (task_of asked))
+task_asked_ends m H now asked last (Some a) = task_judged_ends m H now asked a last
+    (task_refusal (kind_of a.ask) (state H a.occ) (task_of asked))
 
 task_named_ends : (m : ℕ) (H : List Event) (now : ℕ) (asked : AskedTask) (r : Request) → EndsAs r.last (task_named m H now asked r)
 task_named_ends m H now asked r = task_asked_ends m H now asked r.last (named_operation m H (asked_id r))
 
-cancel_body_ends : (m : ℕ) (H : List Event) (now : ℕ) (body : Result CancelMode BodyFault) (r : Request) → IsOfBytes body → EndsAs r.last (cancel_read m H now body r)
+cancel_body_ends : (m : ℕ) (H : List Event) (now : ℕ) (body : Result CancelMode BodyFault) (r : Request) → IsOfBytes body
+    → EndsAs r.last (cancel_read m H now body r)
 cancel_body_ends m H now (Ok mode) r is = task_named_ends m H now (Cancel mode) r
 cancel_body_ends m H now (Err Malformed) r is = refusal_ends 400 (codes "malformed JSON") r.last
 cancel_body_ends m H now (Err (Lacks name)) r is = refusal_ends 400 (codes "missing " ++ name) r.last
@@ -232,7 +254,8 @@ cancel_body_ends m H now (Err Memory) r is = absurd is
 
 cancel_ends : (m : ℕ) (H : List Event) (now : ℕ) (r : Request) → EndsAs r.last (cancel m H now r)
 cancel_ends m H now r =
-    elim (is_json r.media) as (λ json. EndsAs r.last (if json then cancel_read m H now (cancel_of r.body) r else refused 415 (codes "body must be application/json") r.last)) [
+    elim (is_json r.media) as (λ json. EndsAs r.last (if json then cancel_read m H now (cancel_of r.body) r
+    else refused 415 (codes "body must be application/json") r.last)) [
       | true ↦ cancel_body_ends m H now (cancel_of r.body) r (cancel_of_bytes r.body)
       | false ↦ refusal_ends 415 (codes "body must be application/json") r.last
     ]

@@ -8,13 +8,16 @@ use Rattle.lcm_api.proofs.listen.read_to_end.Goals as goal
 pub returns-in-End-clause-told : goal.returns-in-End-clause-told
 returns-in-End-clause-told g c = λ tells.
     let ended = c.in-End.ensures.told tells in
-    let heard = heard_all _ c.loop-at.at c.loop-at.room _ _ _ c.loop-at.invariant.within c.loop-at.auto.room (c.loop-at.invariant.told tells) ended.0 ended.1 in
-    let same = take-put_mid_below c.loop-at.at (length c.loop-at.room - c.loop-at.at) c.loop-at.room c.read.new.into c.loop-at.at (omega arith) (omega arith) in
+    let heard = heard_all _ c.loop-at.at c.loop-at.room _ _ _ c.loop-at.invariant.within c.loop-at.auto.room
+    (c.loop-at.invariant.told tells) ended.0 ended.1 in
+    let same = take-put_mid_below c.loop-at.at (length c.loop-at.room - c.loop-at.at) c.loop-at.room c.read.new.into c.loop-at.at
+    (omega arith) (omega arith) in
     rw same heard
 
 pub returns-clause-told : goal.returns-clause-told
 returns-clause-told g c = λ tells.
-    heard_full _ c.loop-at.at c.loop-at.room _ _ c.loop-at.invariant.within c.loop-at.auto.room c.loop-at-test.false (c.loop-at.invariant.told tells)
+    heard_full _ c.loop-at.at c.loop-at.room _ _ c.loop-at.invariant.within c.loop-at.auto.room c.loop-at-test.false
+    (c.loop-at.invariant.told tells)
 
 pub loop-at-preserved : goal.loop-at-preserved
 loop-at-preserved g c =
@@ -28,6 +31,8 @@ loop-at-preserved g c =
       counts = search rules;
       writes = search rules;
       told = λ tells.
-          heard_more c.loop-at.at c.in-Got.n c.loop-at.room _ c.read.new.into _ _ _ _ (omega (arith, room, within)) (take-put_mid c.loop-at.at (length c.loop-at.room - c.loop-at.at) c.loop-at.room c.read.new.into (c.loop-at.at + length c.read.new.into) refl (omega (arith, room, within)))
+          heard_more c.loop-at.at c.in-Got.n c.loop-at.room _ c.read.new.into _ _ _ _ (omega (arith, room, within))
+          (take-put_mid c.loop-at.at (length c.loop-at.room - c.loop-at.at) c.loop-at.room c.read.new.into
+          (c.loop-at.at + length c.read.new.into) refl (omega (arith, room, within)))
           (c.loop-at.invariant.told tells) (c.in-Got.ensures.told tells);
     }

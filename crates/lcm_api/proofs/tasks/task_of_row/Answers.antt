@@ -5,7 +5,8 @@ use Rattle.lcm_api.proofs.tasks.task_of_row.Goals as goal
 
 pub returns-in_ok-reply-in-Ok : goal.returns-in_ok-reply-in-Ok
 returns-in_ok-reply-in-Ok g c = λ H keeps found.
-    takes_row c.args.manager.now H c.args.now c.args.n c.args.asked c.args.last c.args.row.now c.in_ok-reply-in-Ok.reply c.task_event.result found
+    takes_row c.args.manager.now H c.args.now c.args.n c.args.asked c.args.last c.args.row.now c.in_ok-reply-in-Ok.reply c.task_event.result
+    found
     (rw (c.kind.ensures, c.task_of.ensures) at (none_refuses _ _ c.in-Ok.ensures.refused)) c.task_event.ensures
     (λ a asked may. c.in_ok-reply-in-Ok.ensures H a keeps asked found may)
 

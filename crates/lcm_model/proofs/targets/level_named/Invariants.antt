@@ -4,4 +4,5 @@ use Rattle.std.specs.Prelude.{find}
 use Rattle.lcm_model.proofs.targets.level_named.Given as goal
 
 abbrev pub invariant-loop-level : goal.invariant-loop-level
-invariant-loop-level l = find (λ x. same_name x.name l.name) (drop l.level-index l.vnfd.levels) ≡ find (λ x. same_name x.name l.name) l.vnfd.levels
+invariant-loop-level l = find (λ x. same_name x.name l.name) (drop l.level-index l.vnfd.levels)
+    ≡ find (λ x. same_name x.name l.name) l.vnfd.levels

@@ -17,6 +17,7 @@ returns-then-reading-clause-heard g c = (
     gone = c.hang_up.ensures.told;
     down = c.hang_up.ensures.cause;
     silent = λ tells.
-        brought_out _ _ _ _ _ _ _ (c.in-Came.ensures.told tells) (c.read_to_end-reading.ensures.told tells).conn (c.hang_up.ensures.told tells);
+        brought_out _ _ _ _ _ _ _ (c.in-Came.ensures.told tells) (c.read_to_end-reading.ensures.told tells).conn
+        (c.hang_up.ensures.told tells);
   },
 )

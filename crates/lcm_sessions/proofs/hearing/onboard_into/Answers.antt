@@ -7,10 +7,12 @@ use Rattle.lcm_sessions.proofs.hearing.onboard_into.Goals as goal
 pub returns-clause-onboards : goal.returns-clause-onboards
 returns-clause-onboards g c = λ H ready.
     onboards_heard _ _ H c.take_in.new.manager c.in_ok-count.count c.of-now.result c.now.result c.hear.new.room c.take_in.result _ _
-    c.in_ok-count.ensures.heard (c.take_in.ensures.answer H ready.keeps) (c.take_in.ensures.works H ready) c.now.ensures.told c.of-now.ensures c.hear.ensures.unnoted
+    c.in_ok-count.ensures.heard (c.take_in.ensures.answer H ready.keeps)
+    (c.take_in.ensures.works H ready) c.now.ensures.told c.of-now.ensures c.hear.ensures.unnoted
 
 pub returns-in_err-count-clause-onboards : goal.returns-in_err-count-clause-onboards
 returns-in_err-count-clause-onboards g c = λ H ready.
     let err = err_from_is_err_and c.from_residual.result c.from_residual.ensures.1 in
     rw (err.1 ∙ ap Err err.2)
-    (onboards_unheard _ _ H c.in_err-count.field-0.0 c.hear.new.room _ _ _ _ c.in_err-count.ensures.heard c.hear.ensures.unnoted (c.works_add_up.ensures.idles c.args.site.now) ready)
+    (onboards_unheard _ _ H c.in_err-count.field-0.0 c.hear.new.room _ _ _ _ c.in_err-count.ensures.heard c.hear.ensures.unnoted
+    (c.works_add_up.ensures.idles c.args.site.now) ready)

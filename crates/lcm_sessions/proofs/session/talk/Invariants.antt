@@ -8,7 +8,8 @@ use Rattle.lcm_sessions.proofs.session.talk.Given as goal
 
 abbrev pub invariant-steps : goal.invariant-steps
 invariant-steps g l = TalksSoFar (telling g.S.Site.tells g.D.Door.tells g.K.Clock.tells) l.role l.fn.manager l.manager l.told
-    (world (g.S.Site.state l.fn.site) l.fn.mouth (g.K.Clock.state l.fn.clock)) (world (g.S.Site.state l.site) l.mouth (g.K.Clock.state l.clock))
+    (world (g.S.Site.state l.fn.site) l.fn.mouth (g.K.Clock.state l.fn.clock))
+    (world (g.S.Site.state l.site) l.mouth (g.K.Clock.state l.clock))
     × OnlyDiskFails ⊥ (g.S.Site.counts l.fn.site) (g.S.Site.counts l.site)
     × (l.role ≡ l.fn.role)
 

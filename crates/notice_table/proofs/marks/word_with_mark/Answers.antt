@@ -8,4 +8,6 @@ returns-then-mark-clause-marks c = rw c.if-mark.true (marked_word c.args.place c
 
 pub returns-else-mark-clause-marks : goal.returns-else-mark-clause-marks
 returns-else-mark-clause-marks c =
-    rw c.if-mark.false (ap (λ (k : ℕ). marks_in (c.args.place + 1) k) (sym (unset_low c.args.word (1 * 2 ^ c.args.place % 18446744073709551616))) ∙ marked_word c.args.place c.args.word false c.requires.place c.requires.word)
+    rw c.if-mark.false (ap (λ (k : ℕ). marks_in (c.args.place + 1) k)
+    (sym (unset_low c.args.word (1 * 2 ^ c.args.place % 18446744073709551616)))
+    ∙ marked_word c.args.place c.args.word false c.requires.place c.requires.word)

@@ -22,6 +22,7 @@ loop-queue-preserved c =
       rows = ap (λ (r : QueueRow). set now i r) (c.ask-heard.ensures.row ∙ ap f (sym c.queue-item.is))
           ∙ map_over_more f rows now i x (omega arith) c.loop-queue.invariant.rows c.queue-item.is;
       answer = ap (λ (b : Bool). b || c.ask-heard.result) c.loop-queue.invariant.answer
-          ∙ (ap (λ (b : Bool). list_any p (take i rows) || b) (c.ask-heard.ensures.answer ∙ ap p (ap (λ (ys : List QueueRow). get_or ys i x) c.loop-queue.invariant.rows ∙ untouched f i rows x))
+          ∙ (ap (λ (b : Bool). list_any p (take i rows) || b) (c.ask-heard.ensures.answer
+          ∙ ap p (ap (λ (ys : List QueueRow). get_or ys i x) c.loop-queue.invariant.rows ∙ untouched f i rows x))
           ∙ sym (list_any_more p rows i x (omega arith)));
     }

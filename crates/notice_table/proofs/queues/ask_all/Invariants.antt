@@ -7,6 +7,7 @@ use Rattle.notice_table.proofs.queues.ask_all.Given as goal
 
 abbrev pub invariant-loop-queue : goal.invariant-loop-queue
 invariant-loop-queue l = record {
-  rows : l.queues ≡ map (asked l.notice.manager (facts_in l.notice)) (take l.queue-index l.initial.queues) ++ drop l.queue-index l.initial.queues;
+  rows : l.queues ≡ map (asked l.notice.manager (facts_in l.notice)) (take l.queue-index l.initial.queues)
+      ++ drop l.queue-index l.initial.queues;
   answer : l.heard ≡ list_any (λ q. matches l.notice.manager q.filter (facts_in l.notice)) (take l.queue-index l.initial.queues);
 }

@@ -7,7 +7,8 @@ use Rattle.notice_table.proofs.queues.post_at.Goals as goal
 
 pub returns-in-Some-clause-rows : goal.returns-in-Some-clause-rows
 returns-in-Some-clause-rows c =
-    changed_written row (row_posted c.args.number c.args.outcome) c.args.at c.args.queues.now.items c.follow_post.new.self c.in-Some.queue.now (c.in-Some.ensures.item.3.0) (c.in-Some.ensures.item.1)
+    changed_written row (row_posted c.args.number c.args.outcome) c.args.at c.args.queues.now.items c.follow_post.new.self
+    c.in-Some.queue.now (c.in-Some.ensures.item.3.0) (c.in-Some.ensures.item.1)
     c.follow_post.ensures.row
 
 pub returns-in-None-clause-rows : goal.returns-in-None-clause-rows

@@ -20,12 +20,15 @@ returns-clause-rows c = λ rises.
     let same = length-map ys row in
     let bound = c.queue_place-at.ensures.bound in
     c.post_at.ensures.rows
-    ∙ changed_one (λ (q : Row). q.number) n (row_posted n c.args.outcome) (map row rows) (map row ys) k (ap (map row) is) (rises_seen rows rises)
+    ∙ changed_one (λ (q : Row). q.number) n (row_posted n c.args.outcome) (map row rows) (map row ys) k (ap (map row) is)
+    (rises_seen rows rises)
     (λ q other. rw other refl) (omega (arith, same, bound))
     (λ _. seen_point row (λ (q : Row). nat_lt q.number n) ys k bound
-    (c.queue_place-at.ensures.place (parted (λ (r : QueueRow). r.number) n ys (subst (λ (zs : List QueueRow). Rises (λ r. r.number) zs) (sym is) rises))))
+    (c.queue_place-at.ensures.place (parted (λ (r : QueueRow). r.number) n ys
+    (subst (λ (zs : List QueueRow). Rises (λ r. r.number) zs) (sym is) rises))))
 
 pub returns-clause-within : goal.returns-clause-within
 returns-clause-within c = λ count all.
     subst (λ (rows : List Row). All (IsWithin count) rows) (sym c.post_at.ensures.rows)
-    (all_updated (IsWithin count) (row_posted c.args.number c.args.outcome) (λ r h. within_post c.args.number c.args.outcome count r h) c.queue_place-at.result (map row c.args.queues.now.items) all)
+    (all_updated (IsWithin count) (row_posted c.args.number c.args.outcome)
+    (λ r h. within_post c.args.number c.args.outcome count r h) c.queue_place-at.result (map row c.args.queues.now.items) all)

@@ -3,4 +3,5 @@ use Rattle.std.proofs.lemmas.Fn.{always_returns_same}
 use Rattle.notice_table.proofs.queues.queue_place.Goals as goal
 
 pub returns-clause-place : goal.returns-clause-place
-returns-clause-place c = c.partition_point.ensures.partitioned (λ q. nat_lt q.number c.args.number) (always_returns_same _ _ _ (λ a r f k. search (rules, of_calls)))
+returns-clause-place c = c.partition_point.ensures.partitioned (λ q. nat_lt q.number c.args.number)
+    (always_returns_same _ _ _ (λ a r f k. search (rules, of_calls)))

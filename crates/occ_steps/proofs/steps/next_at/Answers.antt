@@ -7,10 +7,12 @@ use Rattle.occ_steps.proofs.steps.next_at.Goals as goal
 
 pub returns-in-Forward : goal.returns-in-Forward
 returns-in-Forward c =
-    sym (found_first c.args.row.now _ _ _ c.as_slice-changes.ensures c.as_slice-nets.ensures c.next_change.ensures.known c.next_change.ensures.open c.next_change.ensures.least c.next_change.ensures.none)
+    sym (found_first c.args.row.now _ _ _ c.as_slice-changes.ensures c.as_slice-nets.ensures c.next_change.ensures.known
+    c.next_change.ensures.open c.next_change.ensures.least c.next_change.ensures.none)
     ∙ ap (λ (w : Way). next_at w c.args.row.now) (sym c.in-Forward.is)
 
 pub returns-in-Undo : goal.returns-in-Undo
 returns-in-Undo c =
-    sym (found_last c.args.row.now _ _ _ c.as_slice-changes.ensures c.as_slice-nets.ensures c.next_undo.ensures.known c.next_undo.ensures.made c.next_undo.ensures.greatest c.next_undo.ensures.none)
+    sym (found_last c.args.row.now _ _ _ c.as_slice-changes.ensures c.as_slice-nets.ensures c.next_undo.ensures.known
+    c.next_undo.ensures.made c.next_undo.ensures.greatest c.next_undo.ensures.none)
     ∙ ap (λ (w : Way). next_at w c.args.row.now) (sym c.in-Undo.is)

@@ -7,7 +7,8 @@ use Rattle.occ_table.proofs.pending.begin_in.Goals as goal
 pub returns-then-len-lt-ROOM-clause-items : goal.returns-then-len-lt-ROOM-clause-items
 returns-then-len-lt-ROOM-clause-items c =
     let ps : List Pending = c.args.entries.now.items in
-    c.push_reserved.ensures.items ∙ chosen _ _ _ (lt-ltb (length ps) 4 (omega (arith, c.len.ensures, c.if-len-lt-ROOM.true, c.args.entries.now.ok.0)))
+    c.push_reserved.ensures.items ∙ chosen _ _ _ (lt-ltb (length ps) 4
+    (omega (arith, c.len.ensures, c.if-len-lt-ROOM.true, c.args.entries.now.ok.0)))
 
 pub returns-else-len-lt-ROOM-clause-items : goal.returns-else-len-lt-ROOM-clause-items
 returns-else-len-lt-ROOM-clause-items c =

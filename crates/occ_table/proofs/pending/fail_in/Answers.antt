@@ -13,4 +13,5 @@ loop-pending-preserved c =
     ∙ (mapped_step f n xs _ (omega arith) ∙ c.loop-pending.invariant)
 
 pub returns : goal.returns
-returns c = sym (mapped_end (failed_by c.args.tag.now) c.loop-pending.pending-index c.loop-pending.entries (omega arith)) ∙ c.loop-pending.invariant
+returns c = sym (mapped_end (failed_by c.args.tag.now) c.loop-pending.pending-index c.loop-pending.entries (omega arith))
+    ∙ c.loop-pending.invariant

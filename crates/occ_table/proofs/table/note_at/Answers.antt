@@ -14,4 +14,5 @@ returns-in-Some-clause-items c =
 
 pub returns-in-None-clause-items : goal.returns-in-None-clause-items
 returns-in-None-clause-items c =
-    sym (update-past (noted c.args.change (Some c.args.used)) c.args.at c.args.rows.now.items (not_within c.args.at _ (λ h. c.in-None.ensures.variant.1 (omega (arith, h, c.args.rows.now.ok.0)))))
+    sym (update-past (noted c.args.change (Some c.args.used)) c.args.at c.args.rows.now.items
+    (not_within c.args.at _ (λ h. c.in-None.ensures.variant.1 (omega (arith, h, c.args.rows.now.ok.0)))))

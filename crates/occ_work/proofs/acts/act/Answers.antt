@@ -24,16 +24,19 @@ ask-requires g c =
 pub returns-in-Move-clause-acts : goal.returns-in-Move-clause-acts
 returns-in-Move-clause-acts g c = λ H ready is.
     let next = c.next_step.ensures H ready.keeps is ∙ ap (λ (s : Step). Some (action_of s)) c.in-Move.is in
-    moving_act _ _ _ H _ _ _ _ _ _ _ _ _ _ _ next c.move_to.ensures.jobs c.move_to.ensures.disk (c.move_to.ensures.records H ready is next) c.move_to.ensures.ended
+    moving_act _ _ _ H _ _ _ _ _ _ _ _ _ _ _ next c.move_to.ensures.jobs c.move_to.ensures.disk
+    (c.move_to.ensures.records H ready is next) c.move_to.ensures.ended
 
 pub returns-in-Move-clause-disk : goal.returns-in-Move-clause-disk
 returns-in-Move-clause-disk g c = disk_of _ _ _ c.move_to.ensures.disk
 
 pub returns-in-Poll-clause-acts : goal.returns-in-Poll-clause-acts
-returns-in-Poll-clause-acts g c = λ H ready is. c.poll.ensures.acts H ready is (c.next_step.ensures H ready.keeps is ∙ ap (λ (s : Step). Some (action_of s)) c.in-Poll.is)
+returns-in-Poll-clause-acts g c = λ H ready is. c.poll.ensures.acts H ready is
+    (c.next_step.ensures H ready.keeps is ∙ ap (λ (s : Step). Some (action_of s)) c.in-Poll.is)
 
 pub returns-in-Ask-clause-acts : goal.returns-in-Ask-clause-acts
-returns-in-Ask-clause-acts g c = λ H ready is. c.ask.ensures.acts H ready is (c.next_step.ensures H ready.keeps is ∙ ap (λ (s : Step). Some (action_of s)) c.in-Ask.is)
+returns-in-Ask-clause-acts g c = λ H ready is. c.ask.ensures.acts H ready is
+    (c.next_step.ensures H ready.keeps is ∙ ap (λ (s : Step). Some (action_of s)) c.in-Ask.is)
 
 pub begin-requires : goal.begin-requires
 begin-requires g c =

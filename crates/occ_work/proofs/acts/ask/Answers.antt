@@ -9,7 +9,8 @@ take-requires g c = record { ready = c.requires.ready }
 
 pub returns-clause-acts : goal.returns-clause-acts
 returns-clause-acts g c = λ H ready is next.
-    asking_act _ _ _ H _ _ _ _ _ _ _ _ _ _ _ _ _ _ _ next (c.in_ok-body.ensures H ready.keeps is ∙ ap Some (sym c.as_slice.ensures)) c.ask-call.ensures.told c.ask-call.ensures.cause
+    asking_act _ _ _ H _ _ _ _ _ _ _ _ _ _ _ _ _ _ _ next (c.in_ok-body.ensures H ready.keeps is ∙ ap Some (sym c.as_slice.ensures))
+    c.ask-call.ensures.told c.ask-call.ensures.cause
     c.take.ensures.jobs c.take.ensures.disk (c.take.ensures.records H ready is next) (c.take.ensures.ended H ready is)
 
 pub returns-clause-disk : goal.returns-clause-disk

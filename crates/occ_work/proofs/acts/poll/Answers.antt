@@ -12,7 +12,8 @@ take-requires g c = record { ready = c.requires.ready }
 
 pub returns-clause-acts : goal.returns-clause-acts
 returns-clause-acts g c = λ H ready is next.
-    polling_act _ _ _ H _ _ _ _ _ _ _ _ _ _ _ _ _ _ _ next (c.location_of.ensures H ready.keeps is) c.poll-call.ensures.told c.poll-call.ensures.cause
+    polling_act _ _ _ H _ _ _ _ _ _ _ _ _ _ _ _ _ _ _ next (c.location_of.ensures H ready.keeps is) c.poll-call.ensures.told
+    c.poll-call.ensures.cause
     c.take.ensures.jobs c.take.ensures.disk (c.take.ensures.records H ready is next) (c.take.ensures.ended H ready is)
 
 pub returns-clause-disk : goal.returns-clause-disk

@@ -19,7 +19,8 @@ returns-clause-works g c = λ H ready may.
     let same = c.in_ok-reserve_for.ensures.ledger in
     let again = ready_kept _ _ _ H _ ready same c.in_ok-reserve_for.ensures.keeps in
     let put = attempt_put _ H c.event_of-intent.result again.keeps.kept.events (rw is may) (rw is refl) in
-    let whole = put_works _ _ H c.event_of-intent.result _ _ _ _ (c.put.ensures.works H again put) c.put.ensures.jobs (rw is may) (rw is refl) in
+    let whole = put_works _ _ H c.event_of-intent.result _ _ _ _ (c.put.ensures.works H again put) c.put.ensures.jobs (rw is may)
+    (rw is refl) in
     rw (is, same) at whole
 
 pub returns-clause-quiet : goal.returns-clause-quiet
@@ -27,7 +28,8 @@ returns-clause-quiet g c =
     let it = c.requires.may in
     let few = c.occurrences-table.ensures.few it.0 it.1.keeps in
     let room = rw c.event_of-intent.ensures at c.in_ok-reserve_for.ensures.room in
-    ok_anyhow _ _ (c.put.ensures.quiet (laid_quiet _ it.0 _ _ (c.in_ok-reserve_for.ensures.keeps it.0 it.1.keeps) (omega (arith, few)) it.2 room))
+    ok_anyhow _ _ (c.put.ensures.quiet (laid_quiet _ it.0 _ _ (c.in_ok-reserve_for.ensures.keeps it.0 it.1.keeps)
+    (omega (arith, few)) it.2 room))
 
 pub returns-clause-short : goal.returns-clause-short
 returns-clause-short g c = λ n is.

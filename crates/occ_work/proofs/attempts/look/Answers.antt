@@ -11,7 +11,8 @@ pub returns-in_err-reserve_for-clause-attempts : goal.returns-in_err-reserve_for
 returns-in_err-reserve_for-clause-attempts g c = λ H ready is next.
     let err = err_from_is_err_and c.from_residual.result c.from_residual.ensures.1 in
     rw (err.1 ∙ ap Err err.2)
-    (starved_attempt _ c.args.manager.now _ H _ _ _ _ _ next tt (kept_idle _ _ _ H _ ready c.in_err-reserve_for.ensures.ledger c.in_err-reserve_for.ensures.keeps))
+    (starved_attempt _ c.args.manager.now _ H _ _ _ _ _ next tt (kept_idle _ _ _ H _ ready c.in_err-reserve_for.ensures.ledger
+    c.in_err-reserve_for.ensures.keeps))
 
 pub settle-requires-clause-may : goal.settle-requires-clause-may
 settle-requires-clause-may g c =
@@ -29,6 +30,8 @@ returns-clause-attempts g c = λ H ready is next.
     let kept = ready_kept _ _ _ H _ ready same c.in_ok-reserve_for.ensures.keeps in
     let behind = ready_on _ Advances _ H _ _ kept (λ told. (c.look-answer.ensures.told told).on_jobs) in
     let going = look_open c.next_actions_are_allowed.ensures false c.args.manager.now.ledger.manager H _ _ legal is next in
-    looked_attempt _ _ _ H _ _ c.look-answer.result _ _ _ _ _ _ _ _ _ _ next (look_legal c.next_actions_are_allowed.ensures false _ c.args.now H _ _ c.look-answer.result legal is next)
-    (ap (λ (l : Ledger). l.manager) same) kept c.look-answer.ensures.told (rw same at (c.settle.ensures.puts H behind going)) c.settle.ensures.jobs
+    looked_attempt _ _ _ H _ _ c.look-answer.result _ _ _ _ _ _ _ _ _ _ next
+    (look_legal c.next_actions_are_allowed.ensures false _ c.args.now H _ _ c.look-answer.result legal is next)
+    (ap (λ (l : Ledger). l.manager) same) kept c.look-answer.ensures.told
+    (rw same at (c.settle.ensures.puts H behind going)) c.settle.ensures.jobs
     c.settle.ensures.memory c.settle.ensures.ended c.look-answer.ensures.cause c.settle.ensures.disk

@@ -9,11 +9,16 @@ put-requires-clause-may g c = let it = c.requires.may in (it.0, it.1, attempt_pu
 
 pub returns-in-Ok-clause-puts : goal.returns-in-Ok-clause-puts
 returns-in-Ok-clause-puts g c = λ H ready allowed.
-    record { at_file = c.in-Ok.ensures.works H ready (attempt_put _ H _ ready.keeps.kept.events allowed c.requires.kind); room = c.in-Ok.ensures.room H ready.keeps }
+    record {
+      at_file = c.in-Ok.ensures.works H ready (attempt_put _ H _ ready.keeps.kept.events allowed c.requires.kind);
+      room =
+          c.in-Ok.ensures.room H ready.keeps;
+    }
 
 pub returns-in-Err-clause-puts : goal.returns-in-Err-clause-puts
 returns-in-Err-clause-puts g c = λ H ready allowed. record {
-  at_file = recorded_at_file _ _ H c.args.event.now c.in-Err.fault _ _ _ (c.in-Err.ensures.works H ready (attempt_put _ H _ ready.keeps.kept.events allowed c.requires.kind));
+  at_file = recorded_at_file _ _ H c.args.event.now c.in-Err.fault _ _ _
+      (c.in-Err.ensures.works H ready (attempt_put _ H _ ready.keeps.kept.events allowed c.requires.kind));
   room = one_room H c.args.event.now c.in-Err.fault (c.in-Err.ensures.room H ready.keeps);
 }
 

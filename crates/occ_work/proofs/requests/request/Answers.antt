@@ -30,4 +30,5 @@ returns g c = λ H keeps is.
     let found = c.row_of-row.ensures.row H keeps is in
     let live = c.instance_of-instance.ensures H keeps _ is found in
     let named = c.vnfd_of-vnfd.ensures H keeps in
-    request_made _ _ H _ _ _ _ _ _ _ c.rows_have_holdings.ensures legal found live named c.number.ensures c.in_ok-ask.ensures c.as_slice.ensures c.grant_body.ensures.text
+    request_made _ _ H _ _ _ _ _ _ _ c.rows_have_holdings.ensures legal found live named c.number.ensures c.in_ok-ask.ensures
+    c.as_slice.ensures c.grant_body.ensures.text

@@ -6,7 +6,15 @@ use Rattle.occ_work.proofs.taking.move_to.Goals as goal
 pub record-requires : goal.record-requires
 record-requires g c =
     let it = c.requires.ready in
-    record { may = (it.0, it.1, may_move_event _ _ it.0 _ _ _ c.next_actions_are_allowed.ensures it.1.keeps.kept.legal it.2 it.3 c.event_of-event.ensures); kind = rw c.event_of-event.ensures refl }
+    record {
+      may = (
+        it.0,
+        it.1,
+        may_move_event _ _ it.0 _ _ _ c.next_actions_are_allowed.ensures it.1.keeps.kept.legal it.2 it.3
+            c.event_of-event.ensures,
+      );
+      kind = rw c.event_of-event.ensures refl;
+    }
 
 pub returns-clause-records : goal.returns-clause-records
 returns-clause-records g c = λ H ready is next.

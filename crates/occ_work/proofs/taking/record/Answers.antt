@@ -5,7 +5,11 @@ use Rattle.occ_work.proofs.TakingLemmas.{one_room, recorded_works}
 use Rattle.occ_work.proofs.taking.record.Goals as goal
 
 pub returns-in-Ok-clause-records : goal.returns-in-Ok-clause-records
-returns-in-Ok-clause-records g c = λ H ready may. record { works = with_jobs _ _ H _ _ _ _ (c.in-Ok.ensures.works H ready may); room = c.in-Ok.ensures.room H ready.keeps }
+returns-in-Ok-clause-records g c = λ H ready may. record {
+  works = with_jobs _ _ H _ _ _ _ (c.in-Ok.ensures.works H ready may);
+  room =
+      c.in-Ok.ensures.room H ready.keeps;
+}
 
 pub returns-in-Err-clause-records : goal.returns-in-Err-clause-records
 returns-in-Err-clause-records g c = λ H ready may. record {
@@ -22,5 +26,6 @@ returns-in-Err-clause-jobs g c = λ told. let it = c.requires.may in (c.in-Err.e
 pub returns-in-Err-clause-short : goal.returns-in-Err-clause-short
 returns-in-Err-clause-short g c = λ n is.
     let it = c.requires.may in
-    let fits = acts_fit c.plans_are_small.ensures _ it.0 c.args.event.now.moment c.args.event.now.kind it.1.keeps.kept.legal it.2.allowed c.in-Err.ensures.event c.requires.kind in
+    let fits = acts_fit c.plans_are_small.ensures _ it.0 c.args.event.now.moment c.args.event.now.kind it.1.keeps.kept.legal it.2.allowed
+    c.in-Err.ensures.event c.requires.kind in
     not_too_long it.0 c.args.event.now c.in-Err.fault n fits (c.in-Err.ensures.room it.0 it.1.keeps) (fault_of _ _ is)

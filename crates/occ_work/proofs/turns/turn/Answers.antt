@@ -10,12 +10,14 @@ acts-init g c = (none_yet _ _ _ _ (c.works_add_up.ensures.idles c.args.site.now)
 
 pub next_active-requires : goal.next_active-requires
 next_active-requires g c =
-    let up = ready_so_far _ _ _ _ _ _ _ _ c.acts.invariant.0 (c.works_with_jobs_add_up.ensures.leads c.args.site.now c.acts.site) c.requires.ready in
+    let up = ready_so_far _ _ _ _ _ _ _ _ c.acts.invariant.0 (c.works_with_jobs_add_up.ensures.leads c.args.site.now c.acts.site)
+    c.requires.ready in
     record { usable = up.1.usable; kept = (up.0, up.1.keeps) }
 
 pub act-requires : goal.act-requires
 act-requires g c =
-    let up = ready_so_far _ _ _ _ _ _ _ _ c.acts.invariant.0 (c.works_with_jobs_add_up.ensures.leads c.args.site.now c.acts.site) c.requires.ready in
+    let up = ready_so_far _ _ _ _ _ _ _ _ c.acts.invariant.0 (c.works_with_jobs_add_up.ensures.leads c.args.site.now c.acts.site)
+    c.requires.ready in
     record { ready = (up.0, up.1, found_active up.0 _ _ (sym (c.next_active.ensures.next up.0 up.1.keeps) ∙ c.in-Some.is)) }
 
 pub acts-preserved : goal.acts-preserved

@@ -8,7 +8,8 @@ use Rattle.outside_edges.proofs.real_site.lent.Goals as goal
 pub returns-in-Ok-false-clause-goes : goal.returns-in-Ok-false-clause-goes
 returns-in-Ok-false-clause-goes g c = λ tells.
     let one = c.in-Ok-false.ensures.told tells in
-    stops_by_no FileCall.kind_check _ _ _ (ap (λ s. s.calls) one) (ap (λ s. s.last) one ∙ ap (λ b. yes_or_no (Ok b)) c.in-Ok-false.field-0-test)
+    stops_by_no FileCall.kind_check _ _ _ (ap (λ s. s.calls) one) (ap (λ s. s.last) one
+    ∙ ap (λ b. yes_or_no (Ok b)) c.in-Ok-false.field-0-test)
 
 pub returns-in-Err-clause-goes : goal.returns-in-Err-clause-goes
 returns-in-Err-clause-goes g c = λ tells.
@@ -20,7 +21,8 @@ returns-in-Err-try_lock-clause-goes g c = λ tells.
     let one = c.in-Ok-true.ensures.told tells in
     let two = c.in-Err-try_lock.ensures.told tells in
     stops_behind FileCall.kind_check _ _ _ _
-    (stops_by_fault FileCall.locking _ _ _ _ _ (ap (λ s. s.calls) two ∙ ap (λ s. made_once FileCall.locking s.calls) one) (ap (λ s. s.last) two) c.why_of-in-Err-try_lock.ensures)
+    (stops_by_fault FileCall.locking _ _ _ _ _ (ap (λ s. s.calls) two ∙ ap (λ s. made_once FileCall.locking s.calls) one)
+    (ap (λ s. s.last) two) c.why_of-in-Err-try_lock.ensures)
 
 pub returns-in-Err-forget_pages-clause-goes : goal.returns-in-Err-forget_pages-clause-goes
 returns-in-Err-forget_pages-clause-goes g c = λ tells.
@@ -30,5 +32,6 @@ returns-in-Err-forget_pages-clause-goes g c = λ tells.
     stops_behind FileCall.kind_check _ _ _ _
     (stops_behind FileCall.locking _ _ _ _
     (stops_by_fault FileCall.page_drop _ _ _ _ _
-    (ap (λ s. s.calls) three ∙ ap (λ s. made_once FileCall.page_drop s.calls) two ∙ ap (λ s. made_once FileCall.page_drop (made_once FileCall.locking s.calls)) one)
+    (ap (λ s. s.calls) three ∙ ap (λ s. made_once FileCall.page_drop s.calls) two
+    ∙ ap (λ s. made_once FileCall.page_drop (made_once FileCall.locking s.calls)) one)
     (ap (λ s. s.last) three) c.why_of-in-Err-forget_pages.ensures))

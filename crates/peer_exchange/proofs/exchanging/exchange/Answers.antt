@@ -6,5 +6,6 @@ pub returns-in-Err-receive-clause-sends : goal.returns-in-Err-receive-clause-sen
 returns-in-Err-receive-clause-sends g c = λ told. let sent = c.in-Ok.ensures.sent told in (
   length c.args.request.now,
   c.in-Err-receive.ensures.kept told ∙ sent.took
-      ∙ sym (ap (λ x. g.C.Connection.outgoing c.args.connection.now ++ x) (take_all (length c.args.request.now) c.args.request.now (omega arith))),
+      ∙ sym (ap (λ x. g.C.Connection.outgoing c.args.connection.now ++ x)
+      (take_all (length c.args.request.now) c.args.request.now (omega arith))),
 )

@@ -7,7 +7,8 @@ use Rattle.program_words.proofs.wrong.wrong_behind.Goals as goal
 
 pub loop-at-preserved : goal.loop-at-preserved
 loop-at-preserved c =
-    let more = one_more c.args.command c.args.words.now c.loop-at.at c.option-item.result c.value-item.result c.loop-at.invariant.1 c.in-len2-up.len_at_least c.option-item.is c.value-item.is
+    let more = one_more c.args.command c.args.words.now c.loop-at.at c.option-item.result c.value-item.result c.loop-at.invariant.1
+    c.in-len2-up.len_at_least c.option-item.is c.value-item.is
     (sym c.is_new.ensures ∙ c.if-not-is_new.false) (sym c.takes.ensures ∙ c.if-not-takes.false) in
     (more.0, more.1, c.loop-at.invariant.2 ∙ more.2)
 

@@ -8,8 +8,10 @@ use Rattle.vim_wire.proofs.reading.names_of.Goals as goal
 pub loop-field-preserved : goal.loop-field-preserved
 loop-field-preserved c =
     let found = c.in-Some-name.ensures.found in
-    one_more c.loop-field.names c.put.new.names c.in-Some-name.name c.in-Some.field.now c.args.fields.now c.loop-field.fields c.next.new.self
-    c.loop-field.invariant.names c.loop-field.invariant.front (c.in-Some.ensures {u = tt}) (c.in_ok-put-in-Some-name.ensures.ok) found.0 found.1
+    one_more c.loop-field.names c.put.new.names c.in-Some-name.name c.in-Some.field.now c.args.fields.now c.loop-field.fields
+    c.next.new.self
+    c.loop-field.invariant.names c.loop-field.invariant.front (c.in-Some.ensures {u = tt})
+    (c.in_ok-put-in-Some-name.ensures.ok) found.0 found.1
 
 pub returns-in-None-clause-none : goal.returns-in-None-clause-none
 returns-in-None-clause-none c = λ same names each e.

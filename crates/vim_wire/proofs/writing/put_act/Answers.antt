@@ -25,11 +25,16 @@ returns-clause-spelled c =
     let s1 = (32 ∷ kind_word act.kind) ++ s2 in
     on_ok_further on c.args.line.now.items c.put.new.line.items line (32 ∷ verb_word act.verb) s1 verb
     (on_ok_further on c.put.new.line.items c.put-2.new.line.items line (32 ∷ kind_word act.kind) s2 kind
-    (on_ok_further on c.put-2.new.line.items c.put_name.new.line.items line (32 ∷ name_field act.template) s3 c.in_ok-put_name.ensures.spelled
-    (on_ok_further on c.put_name.new.line.items c.put_name-2.new.line.items line (32 ∷ name_field act.vdu) s4 c.in_ok-put_name-2.ensures.spelled
+    (on_ok_further on c.put-2.new.line.items c.put_name.new.line.items line
+    (32 ∷ name_field act.template) s3 c.in_ok-put_name.ensures.spelled
+    (on_ok_further on c.put_name.new.line.items c.put_name-2.new.line.items line
+    (32 ∷ name_field act.vdu) s4 c.in_ok-put_name-2.ensures.spelled
     (on_ok_further on c.put_name-2.new.line.items c.put_number.new.line.items line (32 ∷ decimal act.serial) s5 c.in_ok-put_number.ensures
-    (on_ok_further on c.put_number.new.line.items c.put_name-3.new.line.items line (32 ∷ name_field act.vim) s6 c.in_ok-put_name-3.ensures.spelled
-    (on_ok_further on c.put_name-3.new.line.items c.put_name-4.new.line.items line (32 ∷ name_field act.zone) s7 c.in_ok-put_name-4.ensures.spelled
+    (on_ok_further on c.put_number.new.line.items c.put_name-3.new.line.items line
+    (32 ∷ name_field act.vim) s6 c.in_ok-put_name-3.ensures.spelled
+    (on_ok_further on c.put_name-3.new.line.items c.put_name-4.new.line.items line
+    (32 ∷ name_field act.zone) s7 c.in_ok-put_name-4.ensures.spelled
     (on_ok_further on c.put_name-4.new.line.items c.put_number-2.new.line.items line (32 ∷ decimal act.size) s8 c.in_ok-put_number-2.ensures
-    (on_ok_further on c.put_number-2.new.line.items c.put_number-3.new.line.items line (32 ∷ decimal act.cpus) s9 c.in_ok-put_number-3.ensures
+    (on_ok_further on c.put_number-2.new.line.items c.put_number-3.new.line.items line
+    (32 ∷ decimal act.cpus) s9 c.in_ok-put_number-3.ensures
     names))))))))

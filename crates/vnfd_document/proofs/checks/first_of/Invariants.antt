@@ -6,4 +6,5 @@ use Rattle.vnfd_document.proofs.checks.first_of.Given as goal
 
 abbrev pub invariant-loop-thing : goal.invariant-loop-thing
 invariant-loop-thing g l =
-    first_failing (g.C.Check.says l.fn.check) (map seen l.fn.things) ≡ first_failing (g.C.Check.says l.check) (map seen (drop l.thing-index l.things))
+    first_failing (g.C.Check.says l.fn.check) (map seen l.fn.things)
+    ≡ first_failing (g.C.Check.says l.check) (map seen (drop l.thing-index l.things))

@@ -5,4 +5,5 @@ use Rattle.vnfd_document.specs.Seen.{seen}
 use Rattle.vnfd_document.proofs.entries.of_type.Given as goal
 
 abbrev pub invariant-loop-thing : goal.invariant-loop-thing
-invariant-loop-thing l = of_type l.fn.kind (map seen l.fn.things) ≡ map seen l.found.items ++ of_type l.kind (map seen (drop l.thing-index l.things))
+invariant-loop-thing l = of_type l.fn.kind (map seen l.fn.things)
+    ≡ map seen l.found.items ++ of_type l.kind (map seen (drop l.thing-index l.things))

@@ -9,5 +9,7 @@ use Rattle.vnfd_document.proofs.policies.texts.Given as goal
 
 abbrev pub invariant-loop-value : goal.invariant-loop-value
 invariant-loop-value l =
-    (filter_map as_str (items_in (items_view l.fn.values)) ≡ map (λ text. text.now) l.found.items ++ filter_map as_str (items_in (items_view (drop l.value-index l.values))))
-    × (list_all (λ d. is_some (as_str d)) (items_in (items_view l.fn.values)) ≡ list_all (λ d. is_some (as_str d)) (items_in (items_view (drop l.value-index l.values))))
+    (filter_map as_str (items_in (items_view l.fn.values)) ≡ map (λ text. text.now) l.found.items
+    ++ filter_map as_str (items_in (items_view (drop l.value-index l.values))))
+    × (list_all (λ d. is_some (as_str d)) (items_in (items_view l.fn.values))
+    ≡ list_all (λ d. is_some (as_str d)) (items_in (items_view (drop l.value-index l.values))))

@@ -5,4 +5,5 @@ use Rattle.vnfd_nodes.specs.Built.{is_named}
 use Rattle.vnfd_nodes.proofs.built.is_named.Given as goal
 
 abbrev pub invariant-loop-aim : goal.invariant-loop-aim
-invariant-loop-aim l = is_named l.fn.key (map (λ v. view v.now) l.fn.aims) ≡ is_named l.key (map (λ v. view v.now) (drop l.aim-index l.aims))
+invariant-loop-aim l = is_named l.fn.key (map (λ v. view v.now) l.fn.aims)
+    ≡ is_named l.key (map (λ v. view v.now) (drop l.aim-index l.aims))

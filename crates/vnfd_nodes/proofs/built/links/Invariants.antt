@@ -6,4 +6,5 @@ use Rattle.vnfd_nodes.proofs.built.links.Given as goal
 
 abbrev pub invariant-loop-template : goal.invariant-loop-template
 invariant-loop-template l =
-    map (λ x. name_or_empty x.0) (map seen l.fn.templates) ≡ l.found.items ++ map (λ x. name_or_empty x.0) (map seen (drop l.template-index l.templates))
+    map (λ x. name_or_empty x.0) (map seen l.fn.templates) ≡ l.found.items
+    ++ map (λ x. name_or_empty x.0) (map seen (drop l.template-index l.templates))

@@ -7,4 +7,5 @@ use Rattle.vnfd_policies.proofs.deltas.is_any_taken.Given as goal
 
 abbrev pub invariant-loop-cell : goal.invariant-loop-cell
 invariant-loop-cell l =
-    list_any (is_cell_in (map cell l.fn.taken)) (map cell l.fn.cells) ≡ list_any (is_cell_in (map cell l.taken)) (map cell (drop l.cell-index l.cells))
+    list_any (is_cell_in (map cell l.fn.taken)) (map cell l.fn.cells)
+    ≡ list_any (is_cell_in (map cell l.taken)) (map cell (drop l.cell-index l.cells))

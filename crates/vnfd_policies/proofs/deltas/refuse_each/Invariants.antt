@@ -9,6 +9,7 @@ use Rattle.vnfd_policies.proofs.deltas.refuse_each.Given as goal
 abbrev pub invariant-loop-policy : goal.invariant-loop-policy
 invariant-loop-policy l = record {
   refusal : policies_refusal_after (map seen l.fn.vdus) (map seen l.fn.aspects) [] (map seen l.fn.policies)
-      ≡ policies_refusal_after (map seen l.vdus) (map seen l.aspects) (map seen (take l.policy-index l.policies)) (map seen (drop l.policy-index l.policies));
+      ≡ policies_refusal_after (map seen l.vdus) (map seen l.aspects) (map seen (take l.policy-index l.policies))
+      (map seen (drop l.policy-index l.policies));
   taken : map cell l.taken.items ≡ flat_map (λ p. cells (map seen l.vdus) p.1) (map seen (take l.policy-index l.policies));
 }

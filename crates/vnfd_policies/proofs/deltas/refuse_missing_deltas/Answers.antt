@@ -20,5 +20,6 @@ returns-in-Some c =
     let named = ap (λ (name : List ℕ). steps_of all name) c.aspect_name.ensures in
     c.refuse_deltas_of.ensures
     ∙ ap (λ (names : List (Bor Value)). deltas_refusal (map (λ v. view v.now) names) deltas) c.as_slice.ensures.value
-    ∙ same_refusal (map (λ v. view v.now) c.in-Some.steps.now.names.items) (steps (view c.in-Some.steps.now.aspect.value.now)) c.in-Some.steps.now.same deltas
+    ∙ same_refusal (map (λ v. view v.now) c.in-Some.steps.now.names.items)
+    (steps (view c.in-Some.steps.now.aspect.value.now)) c.in-Some.steps.now.same deltas
     ∙ ap (λ (ds : List Data). deltas_refusal ds deltas) (found ∙ named)

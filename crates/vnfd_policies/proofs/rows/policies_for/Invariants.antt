@@ -6,4 +6,5 @@ use Rattle.vnfd_policies.proofs.rows.policies_for.Given as goal
 
 abbrev pub invariant-loop-policy : goal.invariant-loop-policy
 invariant-loop-policy l =
-    policies_for l.fn.name (map seen l.fn.policies) ≡ map seen l.found.items ++ policies_for l.name (map seen (drop l.policy-index l.policies))
+    policies_for l.fn.name (map seen l.fn.policies) ≡ map seen l.found.items
+    ++ policies_for l.name (map seen (drop l.policy-index l.policies))

@@ -6,4 +6,5 @@ use Rattle.vnfd_policies.proofs.steps.steps_named.Given as goal
 
 abbrev pub invariant-loop-steps : goal.invariant-loop-steps
 invariant-loop-steps l =
-    find (λ a. bytes_eq a.0 l.fn.name) (map aspect_seen l.fn.all) ≡ find (λ a. bytes_eq a.0 l.name) (map aspect_seen (drop l.steps-index l.all))
+    find (λ a. bytes_eq a.0 l.fn.name) (map aspect_seen l.fn.all) ≡ find (λ a. bytes_eq a.0 l.name)
+    (map aspect_seen (drop l.steps-index l.all))

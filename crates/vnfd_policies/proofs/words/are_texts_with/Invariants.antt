@@ -10,5 +10,7 @@ use Rattle.vnfd_policies.proofs.words.are_texts_with.Given as goal
 
 abbrev pub invariant-loop-value : goal.invariant-loop-value
 invariant-loop-value l =
-    (list_all (λ d. is_some (as_str d)) (items_in (items_view l.fn.values)) ≡ list_all (λ d. is_some (as_str d)) (items_in (items_view (drop l.value-index l.values))))
-    × (list_any (bytes_eq l.text) (filter_map as_str (items_in (items_view l.fn.values))) ≡ (l.found || list_any (bytes_eq l.text) (filter_map as_str (items_in (items_view (drop l.value-index l.values))))))
+    (list_all (λ d. is_some (as_str d)) (items_in (items_view l.fn.values))
+    ≡ list_all (λ d. is_some (as_str d)) (items_in (items_view (drop l.value-index l.values))))
+    × (list_any (bytes_eq l.text) (filter_map as_str (items_in (items_view l.fn.values)))
+    ≡ (l.found || list_any (bytes_eq l.text) (filter_map as_str (items_in (items_view (drop l.value-index l.values))))))

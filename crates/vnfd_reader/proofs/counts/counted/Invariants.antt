@@ -10,6 +10,7 @@ use Rattle.vnfd_reader.proofs.counts.counted.Given as goal
 abbrev pub invariant-loop-level : goal.invariant-loop-level
 invariant-loop-level l = record {
   counts : counted l.fn.vnfd (map seen l.fn.vdus)
-      ≡ map counts_seen l.found.items ++ map (λ x. (x.name, counts_at l.vnfd (map seen l.vdus) x.numbers)) (drop l.level-index l.vnfd.levels);
+      ≡ map counts_seen l.found.items ++ map (λ x. (x.name, counts_at l.vnfd (map seen l.vdus) x.numbers))
+      (drop l.level-index l.vnfd.levels);
   valid : list_all (is_valid_level l.vnfd) (drop l.level-index l.vnfd.levels) ≡ true;
 }

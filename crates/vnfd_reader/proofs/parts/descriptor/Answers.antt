@@ -13,7 +13,8 @@ pub descriptor_of-requires-clause-nodes : goal.descriptor_of-requires-clause-nod
 descriptor_of-requires-clause-nodes c =
     let found = ap (option_map (λ t. map seen t.items)) (sym c.in-Some.is) ∙ c.in_ok-templates.ensures in
     let templates = ap (λ (xs : List Entry). Some (map seen xs)) c.as_slice.ensures.value ∙ found in
-    subst ComeInOrder (sym c.in_ok-nodes.ensures) (come_in_order (view c.args.document.now) (map seen c.as_slice.result.now) c.requires templates)
+    subst ComeInOrder (sym c.in_ok-nodes.ensures) (come_in_order (view c.args.document.now)
+    (map seen c.as_slice.result.now) c.requires templates)
 
 pub descriptor_of-requires-clause-policies : goal.descriptor_of-requires-clause-policies
 descriptor_of-requires-clause-policies c =

@@ -19,9 +19,11 @@ built-requires-clause-links c = few_links c.args.nodes.now (map seen c.args.poli
 pub refuse_steps-requires-clause-valid : goal.refuse_steps-requires-clause-valid
 refuse_steps-requires-clause-valid c =
     subst IsValid (sym c.in_ok-vnfd.ensures)
-    (vnfd_valid (nodes_seen c.args.nodes.now) (map seen c.args.policies.now.all.items) c.requires.nodes c.requires.policies c.in_ok-refuse_parts.ensures)
+    (vnfd_valid (nodes_seen c.args.nodes.now) (map seen c.args.policies.now.all.items) c.requires.nodes c.requires.policies
+    c.in_ok-refuse_parts.ensures)
 
 pub refuse_steps-requires-clause-vdus : goal.refuse_steps-requires-clause-vdus
 refuse_steps-requires-clause-vdus c =
     let Short : List Entry → Type 0 = λ xs. length xs ≤ 64 in
-    subst Short (sym c.as_slice-2.ensures.value) (few_vdus c.args.nodes.now (map seen c.args.policies.now.all.items) c.in_ok-refuse_parts.ensures)
+    subst Short (sym c.as_slice-2.ensures.value) (few_vdus c.args.nodes.now
+    (map seen c.args.policies.now.all.items) c.in_ok-refuse_parts.ensures)

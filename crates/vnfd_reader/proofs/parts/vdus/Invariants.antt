@@ -8,4 +8,5 @@ use Rattle.vnfd_reader.proofs.parts.vdus.Given as goal
 abbrev pub invariant-loop-template : goal.invariant-loop-template
 invariant-loop-template l =
     map (λ x. vdu_of (map seen l.fn.storages) (initial_of (map seen l.fn.policies.all.items) x.0) x) (map seen l.fn.templates)
-    ≡ l.found.items ++ map (λ x. vdu_of (map seen l.storages) (initial_of (map seen l.policies.all.items) x.0) x) (map seen (drop l.template-index l.templates))
+    ≡ l.found.items ++ map (λ x. vdu_of (map seen l.storages) (initial_of (map seen l.policies.all.items) x.0) x)
+    (map seen (drop l.template-index l.templates))

@@ -15,13 +15,18 @@ pub returns-in-Some : goal.returns-in-Some
 returns-in-Some c =
     let found = ap (option_map (λ aims. map aim_seen aims.items)) (sym c.in-Some.is) ∙ c.in_ok-aims.ensures in
     let aims_are = ap (λ (xs : List Aim). Some (map aim_seen xs)) c.as_slice.ensures.value ∙ found in
-    let levels_are = ap (λ (xs : List Entry). map seen xs) c.as_slice-in-Some.ensures.value ∙ c.in_ok-levels.ensures ∙ ap (λ (o : Option Data). option_map_or members_of o []) c.at.ensures in
-    refuses_policy c.refuse_levels.result c.args.vnfd.now (map seen c.args.vdus.now) (view c.args.policy.now) (map counts_seen c.args.table.now)
-    (Some (map aim_seen c.as_slice.result.now)) (map seen c.as_slice-in-Some.result.now) c.refuse_levels.ensures c.requires.table aims_are levels_are
+    let levels_are = ap (λ (xs : List Entry). map seen xs) c.as_slice-in-Some.ensures.value ∙ c.in_ok-levels.ensures
+    ∙ ap (λ (o : Option Data). option_map_or members_of o []) c.at.ensures in
+    refuses_policy c.refuse_levels.result c.args.vnfd.now (map seen c.args.vdus.now) (view c.args.policy.now)
+    (map counts_seen c.args.table.now)
+    (Some (map aim_seen c.as_slice.result.now)) (map seen c.as_slice-in-Some.result.now) c.refuse_levels.ensures c.requires.table aims_are
+    levels_are
 
 pub returns : goal.returns
 returns c =
     let aims_are = ap (option_map (λ aims. map aim_seen aims.items)) (sym c.in-None.is) ∙ c.in_ok-aims.ensures in
-    let levels_are = ap (λ (xs : List Entry). map seen xs) c.as_slice-in-None.ensures.value ∙ c.in_ok-levels.ensures ∙ ap (λ (o : Option Data). option_map_or members_of o []) c.at.ensures in
-    refuses_policy c.refuse_levels-in-None.result c.args.vnfd.now (map seen c.args.vdus.now) (view c.args.policy.now) (map counts_seen c.args.table.now)
+    let levels_are = ap (λ (xs : List Entry). map seen xs) c.as_slice-in-None.ensures.value ∙ c.in_ok-levels.ensures
+    ∙ ap (λ (o : Option Data). option_map_or members_of o []) c.at.ensures in
+    refuses_policy c.refuse_levels-in-None.result c.args.vnfd.now (map seen c.args.vdus.now) (view c.args.policy.now)
+    (map counts_seen c.args.table.now)
     None (map seen c.as_slice-in-None.result.now) c.refuse_levels-in-None.ensures c.requires.table aims_are levels_are

@@ -28,40 +28,53 @@ returns-clause-promises g c =
       runs = runs.1;
       ends = rw (← runs.2) c.finish.ensures;
       headline = λ tells m H start.
-          leaves_sound c.files_are_one_thing.ensures.unmade c.a_file_has_one_history.ensures c.jobs_may_end.ensures c.sound_jobs_make_sound_pairs.ensures runs.0
+          leaves_sound c.files_are_one_thing.ensures.unmade c.a_file_has_one_history.ensures c.jobs_may_end.ensures
+          c.sound_jobs_make_sound_pairs.ensures runs.0
           a b (does.site tells) does.legal m H start;
       acknowledged = λ tells m H start.
-          acknowledged c.files_are_one_thing.ensures.unmade c.a_file_has_one_history.ensures c.jobs_may_end.ensures c.sound_jobs_make_sound_pairs.ensures _ tells runs.0
+          acknowledged c.files_are_one_thing.ensures.unmade c.a_file_has_one_history.ensures c.jobs_may_end.ensures
+          c.sound_jobs_make_sound_pairs.ensures _ tells runs.0
           _ _ a b (does.site tells) does.legal does.told m H start;
-      beginning = λ tells m are fresh. leaves_fresh runs.0 c.args.words.now a b runs.1.words_are (does.site tells) (does.jobs tells) m are fresh;
+      beginning = λ tells m are fresh. leaves_fresh runs.0 c.args.words.now a b runs.1.words_are (does.site tells)
+          (does.jobs tells) m are fresh;
       disk = disk_as _ _ _ _ c.obey-ending.ensures.disk
           (λ is. at ∙ told_same _ _ 3 (ap status_of is) (omega arith))
           (λ is. where_told 3 (status_of e) _ (told_by e).1 (status_told put (status_of e) 3 (sym at ∙ is) (omega arith)));
       untouched_jobs = c.obey-ending.ensures.untouched_jobs;
       causes = record {
         usage = (
-          (λ two. c.obey-ending.ensures.usage.0 (where_told 2 (status_of e) _ (told_by e).0 (status_told put (status_of e) 2 (sym at ∙ two) (omega arith)))),
+          (λ two. c.obey-ending.ensures.usage.0 (where_told 2 (status_of e) _ (told_by e).0
+              (status_told put (status_of e) 2 (sym at ∙ two) (omega arith)))),
           (λ none. at ∙ told_same _ _ 2 (ap status_of (c.obey-ending.ensures.usage.1 none)) (omega arith)),
         );
         door = fails_with _ _ _ _ _
             (λ is. at ∙ told_same _ _ 4 (ap status_of (runs.2 ∙ is)) (omega arith))
-            (λ four. sym runs.2 ∙ where_told 4 (status_of e) _ (told_by e).2 (status_told put (status_of e) 4 (sym at ∙ four) (omega arith)))
+            (λ four. sym runs.2 ∙ where_told 4 (status_of e) _ (told_by e).2
+            (status_told put (status_of e) 4 (sym at ∙ four) (omega arith)))
             failing;
         only = rw at (is_status c.finish.ensures.put _);
         journal = λ tells five. (subst Told (status_told _ _ 5 (sym is ∙ five) (omega arith)) told).0 tells;
-        no_journal = λ tells are none. subst (λ n. IsOrYields 5 n) (sym is) (told_or_yields _ _ 5 (omega arith) (no_journal_ending c.files_are_one_thing.ensures.unmade c.files_are_one_thing.ensures.foreign c.files_are_one_thing.ensures.headed c.a_legal_history_has_no_bad_record.ensures runs.0 c.args.words.now a b are runs.1.words_are (does.site tells) none));
+        no_journal = λ tells are none. subst (λ n. IsOrYields 5 n) (sym is)
+            (told_or_yields _ _ 5 (omega arith) (no_journal_ending c.files_are_one_thing.ensures.unmade
+            c.files_are_one_thing.ensures.foreign c.files_are_one_thing.ensures.headed c.a_legal_history_has_no_bad_record.ensures runs.0
+            c.args.words.now a b are runs.1.words_are (does.site tells) none));
         record_is_bad = λ tells eight. (subst Told (status_told _ _ 8 (sym is ∙ eight) (omega arith)) told).1 tells;
-        bad_record = λ tells are n bad. subst (λ n. IsOrYields 8 n) (sym is) (told_or_yields _ _ 8 (omega arith) (bad_record_ending c.files_are_one_thing.ensures.unmade c.files_are_one_thing.ensures.foreign c.files_are_one_thing.ensures.headed c.a_legal_history_has_no_bad_record.ensures runs.0 c.args.words.now a b n are runs.1.words_are does.legal (does.site tells) bad));
+        bad_record = λ tells are n bad. subst (λ n. IsOrYields 8 n) (sym is)
+            (told_or_yields _ _ 8 (omega arith) (bad_record_ending c.files_are_one_thing.ensures.unmade
+            c.files_are_one_thing.ensures.foreign c.files_are_one_thing.ensures.headed c.a_legal_history_has_no_bad_record.ensures runs.0
+            c.args.words.now a b n are runs.1.words_are does.legal (does.site tells) bad));
         full = λ nine. (subst Told (status_told _ _ 9 (sym is ∙ nine) (omega arith)) told).2;
         refused = λ ten. (subst Told (status_told _ _ 10 (sym is ∙ ten) (omega arith)) told).3;
         taken = λ tells eleven. (subst Told (status_told _ _ 11 (sym is ∙ eleven) (omega arith)) told).4 tells;
-        is_taken = λ tells m are not. subst (λ n. IsOrYields 11 n) (sym is) (told_or_yields _ _ 11 (omega arith) (taken_ending runs.0 c.args.words.now a b m are runs.1.words_are (does.site tells) not));
+        is_taken = λ tells m are not. subst (λ n. IsOrYields 11 n) (sym is)
+            (told_or_yields _ _ 11 (omega arith) (taken_ending runs.0 c.args.words.now a b m are runs.1.words_are (does.site tells) not));
         sink = λ seven. lost_line _ _ _ c.finish.ensures.counts (seven_lost _ _ (sym at ∙ seven)).0;
       };
       complete = λ tells command are start disk door sink.
           let P : ℕ → Type 0 = λ status. MayEndWith command status in
           subst P (sym (put_told _ _ _ is (λ lost. sink (lost_line _ _ _ c.finish.ensures.counts lost))))
-          (complete_ending c.files_are_one_thing.ensures.unmade c.files_are_one_thing.ensures.foreign c.files_are_one_thing.ensures.headed c.a_legal_history_has_no_bad_record.ensures command runs.0 c.args.words.now a b are start runs.1.words_are (does.site tells)
+          (complete_ending c.files_are_one_thing.ensures.unmade c.files_are_one_thing.ensures.foreign c.files_are_one_thing.ensures.headed
+          c.a_legal_history_has_no_bad_record.ensures command runs.0 c.args.words.now a b are start runs.1.words_are (does.site tells)
           (λ fault. disk (one_fault _ _ (c.obey-ending.ensures.disk.rose (runs.2 ∙ fault))))
           (λ fault. door (door_cause command c.args.words.now _ _ _ are failing fault)));
     }

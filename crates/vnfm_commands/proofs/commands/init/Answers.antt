@@ -5,7 +5,8 @@ use Rattle.vnfm_commands.proofs.DiskLemmas.{making_fails}
 use Rattle.vnfm_commands.proofs.commands.init.Goals as goal
 
 pub returns-clause-disk : goal.returns-clause-disk
-returns-clause-disk g c = making_fails c.faults_are_counted.ensures.create (Ok c.in_ok-create.field-0) c.args.manager _ _ c.in_ok-create.ensures.asks
+returns-clause-disk g c = making_fails c.faults_are_counted.ensures.create
+    (Ok c.in_ok-create.field-0) c.args.manager _ _ c.in_ok-create.ensures.asks
 
 pub returns-in_err-create-clause-disk : goal.returns-in_err-create-clause-disk
 returns-in_err-create-clause-disk g c =

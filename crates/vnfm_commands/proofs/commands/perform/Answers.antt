@@ -9,7 +9,9 @@ use Rattle.vnfm_commands.proofs.commands.perform.Goals as goal
 pub returns-in-Init-clause-does : goal.returns-in-Init-clause-does
 returns-in-Init-clause-does g c =
     let made = c.init.ensures.makes in
-    let behind = outside (g.S.Site.state c.init.new.site) (g.S.Site.counts c.init.new.site) c.args.mouth.now (g.O.Orchestrator.state c.args.orchestrator.now) (g.O.Orchestrator.counts c.args.orchestrator.now) (g.C.Courier.state c.args.courier.now) (g.C.Courier.counts c.args.courier.now) (g.K.Clock.state c.args.clock.now) in (
+    let behind = outside (g.S.Site.state c.init.new.site) (g.S.Site.counts c.init.new.site) c.args.mouth.now
+    (g.O.Orchestrator.state c.args.orchestrator.now) (g.O.Orchestrator.counts c.args.orchestrator.now)
+    (g.C.Courier.state c.args.courier.now) (g.C.Courier.counts c.args.courier.now) (g.K.Clock.state c.args.clock.now) in (
       making c.args.settings.now.manager made.0,
       (c.in-Init.is, refl),
       record {

@@ -4,4 +4,5 @@ use Rattle.vnfm_commands.proofs.ending.put_fault.Goals as goal
 
 pub returns-in-OutOfStep-clause-bytes : goal.returns-in-OutOfStep-clause-bytes
 returns-in-OutOfStep-clause-bytes c =
-    rw (c.put_named-in-OutOfStep-2.ensures.bytes, c.put_named-in-OutOfStep.ensures.bytes, c.in-OutOfStep.is, append_assoc, append_assoc) refl
+    rw (c.put_named-in-OutOfStep-2.ensures.bytes, c.put_named-in-OutOfStep.ensures.bytes, c.in-OutOfStep.is, append_assoc, append_assoc)
+    refl

@@ -11,9 +11,11 @@ use Rattle.vnfm_commands.proofs.rounds.meet.Goals as goal
 pub returns-in-Ok-clause-meets : goal.returns-in-Ok-clause-meets
 returns-in-Ok-clause-meets g c = λ H ready.
     let it = c.in-Ok.ensures.serves H ready in
-    let v : World = world (g.S.Site.state c.answer_session.new.site) c.answer_session.new.mouth (g.K.Clock.state c.answer_session.new.clock) in (
+    let v : World = world (g.S.Site.state c.answer_session.new.site) c.answer_session.new.mouth
+    (g.K.Clock.state c.answer_session.new.clock) in (
       visited (served c.in-Came.field-0 it.0),
-      met_served _ _ H false c.in-Came.field-0 it.0 _ _ c.args.mouth.now c.next.new.self _ v c.in-Came.ensures.told c.in-Came.ensures.cause c.next.ensures.begins c.next.ensures.unnoted it.1 it.3.1,
+      met_served _ _ H false c.in-Came.field-0 it.0 _ _ c.args.mouth.now c.next.new.self _ v c.in-Came.ensures.told c.in-Came.ensures.cause
+          c.next.ensures.begins c.next.ensures.unnoted it.1 it.3.1,
       it.2,
       tt,
     )
@@ -21,9 +23,11 @@ returns-in-Ok-clause-meets g c = λ H ready.
 pub returns-in-Err-clause-meets : goal.returns-in-Err-clause-meets
 returns-in-Err-clause-meets g c = λ H ready.
     let it = c.in-Err.ensures.serves H ready in
-    let v : World = world (g.S.Site.state c.answer_session.new.site) c.answer_session.new.mouth (g.K.Clock.state c.answer_session.new.clock) in (
+    let v : World = world (g.S.Site.state c.answer_session.new.site) c.answer_session.new.mouth
+    (g.K.Clock.state c.answer_session.new.clock) in (
       over (stopped c.in-Came.field-0 it.0),
-      met_served _ _ H true c.in-Came.field-0 it.0 _ _ c.args.mouth.now c.next.new.self _ v c.in-Came.ensures.told c.in-Came.ensures.cause c.next.ensures.begins c.next.ensures.unnoted it.1 it.3,
+      met_served _ _ H true c.in-Came.field-0 it.0 _ _ c.args.mouth.now c.next.new.self _ v c.in-Came.ensures.told c.in-Came.ensures.cause
+          c.next.ensures.begins c.next.ensures.unnoted it.1 it.3,
       it.2,
       refl,
     )
@@ -31,7 +35,8 @@ returns-in-Err-clause-meets g c = λ H ready.
 pub returns-in-Nobody-clause-meets : goal.returns-in-Nobody-clause-meets
 returns-in-Nobody-clause-meets g c = λ H ready. (
   visited unasked,
-  met_nobody _ _ H Nobody _ c.args.mouth.now c.next.new.self _ (c.works_add_up.ensures.idles c.args.site.now) ready (inl refl) c.in-Nobody.ensures.told c.in-Nobody.ensures.cause c.next.ensures.unnoted,
+  met_nobody _ _ H Nobody _ c.args.mouth.now c.next.new.self _ (c.works_add_up.ensures.idles c.args.site.now) ready
+      (inl refl) c.in-Nobody.ensures.told c.in-Nobody.ensures.cause c.next.ensures.unnoted,
   tt,
   tt,
 )
@@ -39,7 +44,8 @@ returns-in-Nobody-clause-meets g c = λ H ready. (
 pub returns-in-Ended-clause-meets : goal.returns-in-Ended-clause-meets
 returns-in-Ended-clause-meets g c = λ H ready. (
   visited unasked,
-  met_nobody _ _ H Ended _ c.args.mouth.now c.next.new.self _ (c.works_add_up.ensures.idles c.args.site.now) ready (inr refl) c.in-Ended.ensures.told c.in-Ended.ensures.cause c.next.ensures.unnoted,
+  met_nobody _ _ H Ended _ c.args.mouth.now c.next.new.self _ (c.works_add_up.ensures.idles c.args.site.now) ready
+      (inr refl) c.in-Ended.ensures.told c.in-Ended.ensures.cause c.next.ensures.unnoted,
   tt,
   tt,
 )
@@ -47,7 +53,8 @@ returns-in-Ended-clause-meets g c = λ H ready. (
 pub returns-in-Failed-clause-meets : goal.returns-in-Failed-clause-meets
 returns-in-Failed-clause-meets g c = λ H ready. (
   over unreached,
-  met_unreached _ _ H _ c.args.mouth.now c.next.new.self _ (c.works_add_up.ensures.idles c.args.site.now) ready c.in-Failed.ensures.told c.in-Failed.ensures.cause c.next.ensures.unnoted,
+  met_unreached _ _ H _ c.args.mouth.now c.next.new.self _ (c.works_add_up.ensures.idles c.args.site.now) ready c.in-Failed.ensures.told
+      c.in-Failed.ensures.cause c.next.ensures.unnoted,
   tt,
   refl,
 )

@@ -10,13 +10,23 @@ failure_of-requires g c = record { short = λ n is. c.in-Err.ensures.short n (ap
 
 pub returns-in-Ok-clause-turns : goal.returns-in-Ok-clause-turns
 returns-in-Ok-clause-turns g c = λ H ready.
-    let it = c.in-Ok.ensures.turns H ready in
-    (record { value = c.now.result; acts = it.0 }, it.1, rw c.of-now.ensures at it.2, c.now.ensures.told, turned (Ok c.in-Ok.field-0) (Ok (tt {0})) (endings c.of-now.result H it.0) it.1 it.3 (tt {0}))
+    let it = c.in-Ok.ensures.turns H ready in (
+      record { value = c.now.result; acts = it.0 },
+      it.1,
+      rw c.of-now.ensures at it.2,
+      c.now.ensures.told,
+      turned (Ok c.in-Ok.field-0) (Ok (tt {0})) (endings c.of-now.result H it.0) it.1 it.3 (tt {0}),
+    )
 
 pub returns-in-Err-clause-turns : goal.returns-in-Err-clause-turns
 returns-in-Err-clause-turns g c = λ H ready.
-    let it = c.in-Err.ensures.turns H ready in
-    (record { value = c.now.result; acts = it.0 }, it.1, rw c.of-now.ensures at it.2, c.now.ensures.told, turned (Err c.in-Err.fault) (Err c.failure_of.result) (endings c.of-now.result H it.0) it.1 it.3 c.failure_of.ensures)
+    let it = c.in-Err.ensures.turns H ready in (
+      record { value = c.now.result; acts = it.0 },
+      it.1,
+      rw c.of-now.ensures at it.2,
+      c.now.ensures.told,
+      turned (Err c.in-Err.fault) (Err c.failure_of.result) (endings c.of-now.result H it.0) it.1 it.3 c.failure_of.ensures,
+    )
 
 pub returns-in-Err-clause-disk : goal.returns-in-Err-clause-disk
 returns-in-Err-clause-disk g c = turn_fails c.in-Err.fault c.failure_of.result _ _ c.failure_of.ensures c.in-Err.ensures.disk

@@ -8,4 +8,5 @@ returns-in-Ok-settings g c = rw c.in-Ok.is c.hold_and_perform.ensures
 
 pub returns-in-Err-Usage : goal.returns-in-Err-Usage
 returns-in-Err-Usage g c =
-    inl (obeyed _ _ None _ _ _ c.args.machine.now _ _ (unset _ _ c.in-Err-Usage.field-0-is c.in-Err-Usage.ensures) refl c.in-Ok.is refl c.tell_on_output.ensures)
+    inl (obeyed _ _ None _ _ _ c.args.machine.now _ _ (unset _ _ c.in-Err-Usage.field-0-is c.in-Err-Usage.ensures) refl c.in-Ok.is refl
+    c.tell_on_output.ensures)

@@ -9,10 +9,12 @@ returns-in-Ok-open g c = rw (← c.machine.view_is) (
     (inl (record {
       asks = record {
         streams = λ tells. (c.in-Ok.ensures tells).held;
-        seeks = λ tells. sought_as c.args.settings.now _ _ _ _ _ c.as_str.ensures.value c.folder_of.ensures (c.in-Ok-open.ensures.seeks tells);
+        seeks = λ tells. sought_as c.args.settings.now _ _ _ _ _ c.as_str.ensures.value c.folder_of.ensures
+            (c.in-Ok-open.ensures.seeks tells);
         stands = λ tells. left_at c.args.settings.now _ _ _ c.as_str.ensures.value (c.open.ensures.stands tells);
       };
-      file = λ tells file_tells. held_as _ _ c.args.settings.now _ _ _ _ _ c.as_str.ensures.value c.folder_of.ensures (c.in-Ok-open.ensures.had tells file_tells);
+      file = λ tells file_tells. held_as _ _ c.args.settings.now _ _ _ _ _ c.as_str.ensures.value c.folder_of.ensures
+          (c.in-Ok-open.ensures.had tells file_tells);
       why = c.in-Ok-open.ensures.why;
       counts = c.open.ensures.counts;
       kept = refl;
@@ -26,7 +28,8 @@ returns-in-Ok g c = rw (← c.machine.view_is) (
       set = c.requires;
       asks = record {
         streams = λ tells. (c.in-Ok.ensures tells).held;
-        seeks = λ tells. sought_as c.args.settings.now _ _ _ _ _ c.as_str.ensures.value c.folder_of.ensures (c.in-Err-open.ensures.seeks tells);
+        seeks = λ tells. sought_as c.args.settings.now _ _ _ _ _ c.as_str.ensures.value c.folder_of.ensures
+            (c.in-Err-open.ensures.seeks tells);
         stands = λ tells. left_at c.args.settings.now _ _ _ c.as_str.ensures.value (c.open.ensures.stands tells);
       };
       starves = c.starve.ensures;

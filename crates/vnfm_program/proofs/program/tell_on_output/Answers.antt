@@ -3,4 +3,9 @@ use Rattle.std.proofs.Common.{refl}
 use Rattle.vnfm_program.proofs.program.tell_on_output.Goals as goal
 
 pub returns : goal.returns
-returns g c = rw (← c.machine.view_is) (record { promises = c.run-status.ensures.promises; explains = rw c.reason.ensures at c.explain.ensures; kept = record { device = refl; files = refl } })
+returns g c = rw (← c.machine.view_is) (record {
+  promises = c.run-status.ensures.promises;
+  explains =
+      rw c.reason.ensures at c.explain.ensures;
+  kept = record { device = refl; files = refl };
+})

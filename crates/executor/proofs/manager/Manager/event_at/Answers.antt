@@ -10,7 +10,8 @@ returns-clause-reads g c = λ H ready tells.
     let begins = rw (← c.self.view_is) at ready in
     let within = rw (← c.self.view_is) at c.requires.within in
     let told = c.in_ok-read_back.ensures.told tells in
-    let has = has_event m H _ c.args.n _ c.requires.some within (begins.keeps.kept.count begins.usable) (begins.stands tells) (c.record_back.ensures ∙ told.record_is) in
+    let has = has_event m H _ c.args.n _ c.requires.some within (begins.keeps.kept.count begins.usable) (begins.stands tells)
+    (c.record_back.ensures ∙ told.record_is) in
     record {
       event = read_is _ _ has.event has.is (c.event_of.ensures.found has.event has.rules has.spelled);
       whole = λ k is. (c.event_of.ensures.none k is).1 has.event has.rules has.spelled;

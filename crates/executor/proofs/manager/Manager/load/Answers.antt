@@ -14,7 +14,8 @@ returns-clause-told g c = λ tells. syncs_then _ _ _ (c.open.ensures.told tells)
 
 pub returns-in_err-judged-clause-opens : goal.returns-in_err-judged-clause-opens
 returns-in_err-judged-clause-opens g c =
-    opens_err _ _ c.in_err-judged.field-0.0 _ c.from_residual-in_err-judged.ensures.1 (λ tells. refuses_of _ _ _ (c.in_err-judged.ensures.told tells).finds)
+    opens_err _ _ c.in_err-judged.field-0.0 _ c.from_residual-in_err-judged.ensures.1
+    (λ tells. refuses_of _ _ _ (c.in_err-judged.ensures.told tells).finds)
 
 pub returns-in_err-judged-clause-told : goal.returns-in_err-judged-clause-told
 returns-in_err-judged-clause-told g c = λ tells. syncs_then _ _ _ (c.open.ensures.told tells) (c.judge_all.ensures.told tells).reads

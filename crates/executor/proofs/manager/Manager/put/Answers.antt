@@ -11,7 +11,8 @@ pub returns-in_err-spell_within-clause-works : goal.returns-in_err-spell_within-
 returns-in_err-spell_within-clause-works g c = λ H ready may.
     let m : Managed = managed c.self.inside.journal c.self.inside.tables in
     let begins = rw (← c.self.view_is) at ready in
-    rw (← c.self.view_is) (file_of _ _ H _ _ _ _ (refused _ m H _ _ _ _ (err_is _ _ c.from_residual.ensures.1) (λ is. c.in_err-spell_within.ensures.disk (ap Err is)) begins))
+    rw (← c.self.view_is) (file_of _ _ H _ _ _ _ (refused _ m H _ _ _ _ (err_is _ _ c.from_residual.ensures.1)
+    (λ is. c.in_err-spell_within.ensures.disk (ap Err is)) begins))
 
 pub returns-in_err-spell_within-clause-jobs : goal.returns-in_err-spell_within-clause-jobs
 returns-in_err-spell_within-clause-jobs g c = λ told. keeps_refl _

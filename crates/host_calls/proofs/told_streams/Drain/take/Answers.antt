@@ -8,4 +8,5 @@ returns-clause-took c true =
     let taken : ℕ = c.args.self.now.at in
     let all : List ℕ = c.args.self.now.expected.items in
     take-add taken (length c.args.bytes.now) all
-    ∙ ap (λ x. take taken all ++ x) (ap (λ x. take (length c.args.bytes.now) x) (sym c.due.ensures) ∙ c.are_due.ensures.same c.if-not-are_due.false)
+    ∙ ap (λ x. take taken all ++ x) (ap (λ x. take (length c.args.bytes.now) x) (sym c.due.ensures)
+    ∙ c.are_due.ensures.same c.if-not-are_due.false)

@@ -13,5 +13,9 @@ returns-in-Ok-Partial-clause-goes_on c = λ yes ended.
     elim c.requires.1 [
       | inl nothing ↦ absurd (c.if-self-eq0.false nothing)
       | inr lines ↦ let g = goes_on (take p bytes) (drop p bytes) lines none may in
-          inl (omega arith, subst (λ (x : List ℕ). HasNoResponse x) (take-append-drop p bytes) g.0, subst (λ (x : List ℕ). MayBecomeResponse x) (take-append-drop p bytes) g.1)
+          inl (
+            omega arith,
+            subst (λ (x : List ℕ). HasNoResponse x) (take-append-drop p bytes) g.0,
+            subst (λ (x : List ℕ). MayBecomeResponse x) (take-append-drop p bytes) g.1,
+          )
     ]

@@ -33,7 +33,8 @@ heads-preserved c =
         interims = passed.1.0;
         passed = passed.1.1;
         lines = c.renew.ensures _;
-        last = subst (λ (y : Option AnswerParts). HasReadLast (drop (c.heads.self.passed + c.in-Interim.len) c.args.bytes.now) y c.heads.self.decoder) (sym c.heads.invariant.1)
+        last = subst (λ (y : Option AnswerParts). HasReadLast (drop (c.heads.self.passed + c.in-Interim.len) c.args.bytes.now) y
+            c.heads.self.decoder) (sym c.heads.invariant.1)
             (nothing_passed _ c.heads.self.head c.heads.self.decoder c.heads.invariant.1 x.last);
       },
       c.heads.invariant.1,
@@ -41,8 +42,10 @@ heads-preserved c =
 
 pub returns-in-Malformed-clause-came : goal.returns-in-Malformed-clause-came
 returns-in-Malformed-clause-came c = λ ended.
-    are_last ended c.args.bytes.now c.heads.self bad c.heads.invariant.0 (subst (λ (y : List ℕ). IsLast ended y bad) c.rest-left.ensures (c.in-Malformed.ensures.head ended))
+    are_last ended c.args.bytes.now c.heads.self bad c.heads.invariant.0
+    (subst (λ (y : List ℕ). IsLast ended y bad) c.rest-left.ensures (c.in-Malformed.ensures.head ended))
 
 pub returns-in-TooLarge-clause-came : goal.returns-in-TooLarge-clause-came
 returns-in-TooLarge-clause-came c = λ ended.
-    are_last ended c.args.bytes.now c.heads.self big c.heads.invariant.0 (subst (λ (y : List ℕ). IsLast ended y big) c.rest-left.ensures (c.in-TooLarge.ensures.head ended))
+    are_last ended c.args.bytes.now c.heads.self big c.heads.invariant.0
+    (subst (λ (y : List ℕ). IsLast ended y big) c.rest-left.ensures (c.in-TooLarge.ensures.head ended))

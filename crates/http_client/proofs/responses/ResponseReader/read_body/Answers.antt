@@ -11,18 +11,22 @@ returns-in-Sized-2-clause-is c =
     let there = head_there _ _ c.args.parts _ c.requires.head c.requires.read.last in
     let tail : c.rest-tail.result.now ≡ drop c.args.parts.len (drop c.args.self.now.passed c.args.bytes.now) =
     c.rest-tail.ensures ∙ ap (drop c.args.parts.len) c.rest-left.ensures in
-    let over : c.in-Sized-2.length < length (drop c.args.parts.len (drop c.args.self.now.passed c.args.bytes.now)) = omega (arith, c.if-tail-length-2.true, ap length tail) in
+    let over : c.in-Sized-2.length < length (drop c.args.parts.len (drop c.args.self.now.passed c.args.bytes.now)) =
+    omega (arith, c.if-tail-length-2.true, ap length tail) in
     says_bad c.args.ended c.args.bytes.now c.args.self.now c.args.parts c.requires.read there.0
-    (subst (λ (f : Frame). BreaksBody f (drop c.args.parts.len (drop c.args.self.now.passed c.args.bytes.now))) (sym (ap frame_as c.in-Sized-2.is)) over)
+    (subst (λ (f : Frame). BreaksBody f (drop c.args.parts.len (drop c.args.self.now.passed c.args.bytes.now)))
+    (sym (ap frame_as c.in-Sized-2.is)) over)
 
 pub returns-in-Empty-clause-is : goal.returns-in-Empty-clause-is
 returns-in-Empty-clause-is c =
     let there = head_there _ _ c.args.parts _ c.requires.head c.requires.read.last in
     let tail : c.rest-tail.result.now ≡ drop c.args.parts.len (drop c.args.self.now.passed c.args.bytes.now) =
     c.rest-tail.ensures ∙ ap (drop c.args.parts.len) c.rest-left.ensures in
-    let over : BODY_BYTES < length (drop c.args.parts.len (drop c.args.self.now.passed c.args.bytes.now)) = omega (arith, c.if-tail-gt-BODY_BYTES.true, ap length tail) in
+    let over : BODY_BYTES < length (drop c.args.parts.len (drop c.args.self.now.passed c.args.bytes.now)) =
+    omega (arith, c.if-tail-gt-BODY_BYTES.true, ap length tail) in
     says_big c.args.ended c.args.bytes.now c.args.self.now c.args.parts c.requires.read there.0
-    (subst (λ (f : Frame). PassesLimit f (drop c.args.parts.len (drop c.args.self.now.passed c.args.bytes.now))) (sym (ap frame_as c.in-Empty.is)) over)
+    (subst (λ (f : Frame). PassesLimit f (drop c.args.parts.len (drop c.args.self.now.passed c.args.bytes.now)))
+    (sym (ap frame_as c.in-Empty.is)) over)
 
 pub hear-requires-clause-fits : goal.hear-requires-clause-fits
 hear-requires-clause-fits c =

@@ -12,6 +12,9 @@ returns-in-Ok-Partial c = λ yes.
     let bytes = c.args.bytes.now in
     elim c.requires.1 [
       | inl nothing ↦ absurd (c.if-self-eq0.false nothing)
-      | inr lines ↦ let g = goes_on (take p bytes) (drop p bytes) lines none may in
-          (subst (λ (x : List ℕ). HasNoRequest x) (take-append-drop p bytes) g.0, subst (λ (x : List ℕ). MayBecomeRequest x) (take-append-drop p bytes) g.1, omega arith)
+      | inr lines ↦ let g = goes_on (take p bytes) (drop p bytes) lines none may in (
+        subst (λ (x : List ℕ). HasNoRequest x) (take-append-drop p bytes) g.0,
+        subst (λ (x : List ℕ). MayBecomeRequest x) (take-append-drop p bytes) g.1,
+        omega arith,
+      )
     ]

@@ -27,8 +27,10 @@ pub returns-in-Broken : goal.returns-in-Broken
 returns-in-Broken c = λ front is.
     let bytes = c.args.bytes.now in
     let n = c.loop-place.place in
-    let never = subst (λ (x : List ℕ). NeverHasChunkLine x) (one_byte_more front bytes n (omega arith)) (c.in-Broken.ensures (front ++ take n bytes) (c.loop-place.invariant front is)) in
-    subst (λ (x : List ℕ). NeverHasChunkLine x) (sym (passed_whole front bytes (n + 1))) (never_grows (front ++ take (n + 1) bytes) (drop (n + 1) bytes) never)
+    let never = subst (λ (x : List ℕ). NeverHasChunkLine x) (one_byte_more front bytes n (omega arith))
+    (c.in-Broken.ensures (front ++ take n bytes) (c.loop-place.invariant front is)) in
+    subst (λ (x : List ℕ). NeverHasChunkLine x) (sym (passed_whole front bytes (n + 1)))
+    (never_grows (front ++ take (n + 1) bytes) (drop (n + 1) bytes) never)
 
 pub loop-place-preserved : goal.loop-place-preserved
 loop-place-preserved c = λ front is.
@@ -37,4 +39,5 @@ loop-place-preserved c = λ front is.
 
 pub returns : goal.returns
 returns c = λ front is.
-    subst (λ (x : List ℕ). IsSizeFront (front ++ x) c.loop-place.line) (take_all c.loop-place.place c.args.bytes.now (omega arith)) (c.loop-place.invariant front is)
+    subst (λ (x : List ℕ). IsSizeFront (front ++ x) c.loop-place.line) (take_all c.loop-place.place c.args.bytes.now (omega arith))
+    (c.loop-place.invariant front is)

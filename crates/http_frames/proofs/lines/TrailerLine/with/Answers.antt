@@ -6,7 +6,8 @@ use Rattle.http_frames.specs.declared.lines.TrailerLine.TheVariants as line
 use Rattle.http_frames.proofs.lines.TrailerLine.with.Goals as goal
 
 -- behind something there is something, and so there is behind CR
-full : (front bytes : List ℕ) (l : TrailerLine) → IsLineFront front l → (l ≡ line.Nothing → ⊥) → 1 ≤ length bytes → IsEmptyLine (front ++ bytes) → ⊥
+full : (front bytes : List ℕ) (l : TrailerLine) → IsLineFront front l → (l ≡ line.Nothing → ⊥) → 1 ≤ length bytes
+    → IsEmptyLine (front ++ bytes) → ⊥
 full front bytes line.Nothing is other some empty = other refl
 full [] bytes line.Return is other some empty = absurd (cc)
 full (x ∷ front) [] line.Return is other some empty = absurd (omega arith)

@@ -25,7 +25,8 @@ returns-in-Err-clause-exact g c told goes_on =
     (ap (λ w. w.intake) c.self.view_is) c.in-Err.ensures.came.0 c.in-Err.ensures.came.1 told
 
 -- a request that isn't the last stands before the last place
-few_so_far : (tells : Type 0) (n : ℕ) (a b : IntakeState) (r : Request) → n ≤ CONNECTION_REQUESTS → TakesRequest tells (n == CONNECTION_REQUESTS) a b r → r.last ≡ false
+few_so_far : (tells : Type 0) (n : ℕ) (a b : IntakeState) (r : Request) → n ≤ CONNECTION_REQUESTS
+    → TakesRequest tells (n == CONNECTION_REQUESTS) a b r → r.last ≡ false
     → n < CONNECTION_REQUESTS
 few_so_far tells n a b r within takes goes_on = let last = takes.last in grind (arith, common_steps)
 

@@ -14,5 +14,6 @@ returns-in-Some-clause-room c =
     let is : option_map (λ g. g.instance) (find (λ g. g.occ == c.args.occ) old.going) ≡ Some c.in-Some.number =
     sym (c.instance_of.ensures (subst (λ (rs : Rows). Rises (λ g. g.occ) rs.going) kept ordered.going)) ∙ c.in-Some.is in
     room_about new c.args.occ c.in-Some.number c.reserve_item.new.self.reserved.room
-    (subst (λ (rs : Rows). option_map (λ g. g.instance) (find (λ g. g.occ == c.args.occ) rs.going) ≡ Some c.in-Some.number) (sym kept) is) (room ordered.instances))
+    (subst (λ (rs : Rows). option_map (λ g. g.instance) (find (λ g. g.occ == c.args.occ) rs.going) ≡ Some c.in-Some.number) (sym kept) is)
+    (room ordered.instances))
     c.reserve_item.ensures.room

@@ -9,5 +9,6 @@ both P Q (Err x) p q = p
 
 pub returns-in-Created-clause-room : goal.returns-in-Created-clause-room
 returns-in-Created-clause-room c =
-    subst (λ (k : EventKind). OnOk c.reserve_instance.result (HasRoom k c.reserve_instance.new.self.rows c.reserve_instance.new.self.reserved)) (sym c.in-Created.is)
+    subst (λ (k : EventKind). OnOk c.reserve_instance.result (HasRoom k c.reserve_instance.new.self.rows
+    c.reserve_instance.new.self.reserved)) (sym c.in-Created.is)
     (both _ _ c.reserve_instance.result c.reserve_instance.ensures.laid c.reserve_instance.ensures.spare)

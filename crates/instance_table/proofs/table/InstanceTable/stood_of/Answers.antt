@@ -19,7 +19,8 @@ returns-in-Some c = λ ordered.
     let row : InstanceRow = c.in-Some.row.now in
     let n = c.args.operation.now.instance in
     let changes = c.args.operation.now.changes in
-    let found : find (λ r. r.number == n) rs.instances ≡ Some row = sym (c.instance_numbered.ensures ordered.instances) ∙ ap option_copied c.in-Some.is in
+    let found : find (λ r. r.number == n) rs.instances ≡ Some row =
+    sym (c.instance_numbered.ensures ordered.instances) ∙ ap option_copied c.in-Some.is in
     let order : AreInOrder row.holding.items = ordered.items row (found_in (λ r. r.number == n) rs.instances row found) in
     as_ok c.stood_of.result _ _
     (ap (λ (ys : List Held). map (stood_in ys) c.as_slice-in-Some.result.now) c.as_slice.ensures

@@ -28,8 +28,10 @@ write_through-requires-2 g c = λ tells.
     let b = g.S.Site.state c.write_through.new.site in
     let end : c.self.inside.end ≡ j.end = ap (λ (v : Ledger). v.end) c.self.view_is in
     let whole : take c.frame-total.result c.deref.result.now ≡ piece c.args.bytes.now =
-    ap (take c.frame-total.result) (c.deref.ensures.value ∙ take_at c.frame-total.new.buffer _ _ (omega arith)) ∙ c.frame-total.ensures.framed in
-    let ready = first_ready c.args.bytes.now _ _ j a b stands (ap (λ v. v + 1) end) whole (c.in_ok-write_through.ensures.told tells).holds in
+    ap (take c.frame-total.result) (c.deref.ensures.value ∙ take_at c.frame-total.new.buffer _ _ (omega arith))
+    ∙ c.frame-total.ensures.framed in
+    let ready = first_ready c.args.bytes.now _ _ j a b stands (ap (λ v. v + 1) end) whole
+    (c.in_ok-write_through.ensures.told tells).holds in
     let long = has_length _ _ _ (ready_has _ _ _ _ ready) in
     omega (arith, stands.end)
 
@@ -50,7 +52,8 @@ returns-in_err-write_through-2-clause-told g c = λ tells.
     let first = c.in_ok-write_through.ensures.told tells in
     let end : c.self.inside.end ≡ j.end = ap (λ (v : Ledger). v.end) c.self.view_is in
     let whole : take c.frame-total.result c.deref.result.now ≡ piece c.args.bytes.now =
-    ap (take c.frame-total.result) (c.deref.ensures.value ∙ take_at c.frame-total.new.buffer _ _ (omega arith)) ∙ c.frame-total.ensures.framed in
+    ap (take c.frame-total.result) (c.deref.ensures.value ∙ take_at c.frame-total.new.buffer _ _ (omega arith))
+    ∙ c.frame-total.ensures.framed in
     let one : IsRecord c.args.bytes.now = record { some = c.requires.some; fits = c.requires.fits } in
     let ready = first_ready c.args.bytes.now _ _ j a b stands (ap (λ v. v + 1) end) whole first.holds in
     appends_not c.args.bytes.now _ j _ _ _ c.from_residual-in_err-write_through-2.ensures.0
@@ -70,15 +73,20 @@ returns-clause-told g c = λ tells.
     let count : c.self.inside.count ≡ j.count = ap (λ (v : Ledger). v.count) c.self.view_is in
     let manager : c.self.inside.manager ≡ j.manager = ap (λ (v : Ledger). v.manager) c.self.view_is in
     let whole : take c.frame-total.result c.deref.result.now ≡ piece c.args.bytes.now =
-    ap (take c.frame-total.result) (c.deref.ensures.value ∙ take_at c.frame-total.new.buffer _ _ (omega arith)) ∙ c.frame-total.ensures.framed in
+    ap (take c.frame-total.result) (c.deref.ensures.value ∙ take_at c.frame-total.new.buffer _ _ (omega arith))
+    ∙ c.frame-total.ensures.framed in
     let one : IsRecord c.args.bytes.now = record { some = c.requires.some; fits = c.requires.fits } in
     let room : j.end + 6 + length c.args.bytes.now ≤ 268435456 = omega arith in
     let ready = first_ready c.args.bytes.now _ _ j a b stands (ap (λ v. v + 1) end) whole first.holds in
     let has = second_has c.args.bytes.now _ j a b d stands ready one end room second.holds in
     record {
-      any_moment = second_moments c.args.bytes.now _ _ j a b d (first_moments c.args.bytes.now _ _ _ j a b stands (ap (λ v. v + 1) end) first)
+      any_moment = second_moments c.args.bytes.now _ _ j a b d (first_moments c.args.bytes.now _ _ _ j a b stands
+          (ap (λ v. v + 1) end) first)
           stands first.settled ready one end room second;
-      stands = stands_more c.args.bytes.now j _ a d stands second.settled has manager (omega arith) (omega arith) (marks_kept c.args.bytes.now j a c.self.inside.last c.self.inside.marks.places c.keep.new.self.places _ stands (ap (λ (v : Ledger). v.marks) c.self.view_is) (count ∙ stands.count) (end ∙ stands.end) (c.keep.ensures.marks (records a.image ++ c.args.bytes.now ∷ [])));
+      stands = stands_more c.args.bytes.now j _ a d stands second.settled has manager (omega arith) (omega arith)
+          (marks_kept c.args.bytes.now j a c.self.inside.last c.self.inside.marks.places c.keep.new.self.places _ stands
+          (ap (λ (v : Ledger). v.marks) c.self.view_is) (count ∙ stands.count) (end ∙ stands.end)
+          (c.keep.ensures.marks (records a.image ++ c.args.bytes.now ∷ [])));
       added = records_of _ _ _ has;
     }
 
@@ -98,18 +106,21 @@ returns-in_err-write_through-2-clause-asks g c =
     let r = c.from_residual-in_err-write_through-2.result in
     let err = err_from_is_err_and r c.from_residual-in_err-write_through-2.ensures.1 in
     let P : Result (Unit {0}) AppendFault → Type 0 = λ v. AppendAsks v a b in
-    subst P (sym (err.1 ∙ ap Err err.2)) (stops_after (through 1) (through 1) a m b c.in_ok-write_through.ensures.asks.done c.in_err-write_through-2.ensures.asks.failed)
+    subst P (sym (err.1 ∙ ap Err err.2)) (stops_after (through 1) (through 1) a m b c.in_ok-write_through.ensures.asks.done
+    c.in_err-write_through-2.ensures.asks.failed)
 
 pub returns-in_err-write_through-clause-jobs : goal.returns-in_err-write_through-clause-jobs
 returns-in_err-write_through-clause-jobs g c = λ tells. keeps_one _ _ _ (c.in_err-write_through.ensures.told tells).on_file
 
 pub returns-in_err-write_through-2-clause-jobs : goal.returns-in_err-write_through-2-clause-jobs
 returns-in_err-write_through-2-clause-jobs g c = λ tells.
-    keeps_file _ _ _ _ (keeps_one _ _ _ (c.in_ok-write_through.ensures.told tells).on_file) (c.in_err-write_through-2.ensures.told tells).on_file
+    keeps_file _ _ _ _ (keeps_one _ _ _ (c.in_ok-write_through.ensures.told tells).on_file)
+    (c.in_err-write_through-2.ensures.told tells).on_file
 
 pub returns-clause-jobs : goal.returns-clause-jobs
 returns-clause-jobs g c = λ tells.
-    keeps_file _ _ _ _ (keeps_one _ _ _ (c.in_ok-write_through.ensures.told tells).on_file) (c.in_ok-write_through-2.ensures.told tells).on_file
+    keeps_file _ _ _ _ (keeps_one _ _ _ (c.in_ok-write_through.ensures.told tells).on_file)
+    (c.in_ok-write_through-2.ensures.told tells).on_file
 
 pub returns-then-self-bytes-gt-MAX_FILE-clause-jobs : goal.returns-then-self-bytes-gt-MAX_FILE-clause-jobs
 returns-then-self-bytes-gt-MAX_FILE-clause-jobs g c = λ tells. keeps_refl _

@@ -17,13 +17,15 @@ use Rattle.journal_core.proofs.journal.Journal.create.Goals as goal
 pub returns-in_err-stage-clause-told : goal.returns-in_err-stage-clause-told
 returns-in_err-stage-clause-told g c = λ tells.
     let err = err_from_is_err_and c.from_residual.result c.from_residual.ensures.1 in
-    creates_not c.args.manager c.from_residual.result (g.S.Site.state c.args.site.now) (g.S.Site.state c.stage_of.new.site) (err.1 ∙ ap Err err.2) (c.stage_of.ensures.told tells)
+    creates_not c.args.manager c.from_residual.result (g.S.Site.state c.args.site.now) (g.S.Site.state c.stage_of.new.site)
+    (err.1 ∙ ap Err err.2) (c.stage_of.ensures.told tells)
 
 pub returns-in_default-clause-told : goal.returns-in_default-clause-told
 returns-in_default-clause-told g c = λ tells.
     let b = g.S.Site.state c.stage_of.new.site in
     let P : Option Stage → Type 0 = λ v. StandsSo (FoundIs c.args.manager v) b in
-    creates_taken c.args.manager (g.S.Site.state c.args.site.now) b (c.stage_of.ensures.told tells) (subst P c.in_default.is (c.in_ok-stage.ensures.stage tells)).file
+    creates_taken c.args.manager (g.S.Site.state c.args.site.now) b (c.stage_of.ensures.told tells)
+    (subst P c.in_default.is (c.in_ok-stage.ensures.stage tells)).file
 
 pub returns-in_err-proceed-clause-told : goal.returns-in_err-proceed-clause-told
 returns-in_err-proceed-clause-told g c = λ tells.
@@ -43,7 +45,8 @@ returns-clause-told g c = λ tells.
     let b = g.S.Site.state c.stage_of.new.site in
     let d = g.S.Site.state c.proceed.new.site in
     let P : Option Stage → Type 0 = λ v. StandsSo (FoundIs m v) b in
-    creates_steps m c.in-Some.stage (Ok tt) (Ok c.in_ok-proceed.field-0) (g.S.Site.state c.args.site.now) b d (c.stage_of.ensures.told tells)
+    creates_steps m c.in-Some.stage (Ok tt) (Ok c.in_ok-proceed.field-0) (g.S.Site.state c.args.site.now) b d
+    (c.stage_of.ensures.told tells)
     (subst P c.in-Some.is (c.in_ok-stage.ensures.stage tells)) (c.in_ok-proceed.ensures.told tells) (ok_not_taken (Ok tt) refl) (λ h. h)
 
 pub returns-in_err-stage-clause-asks : goal.returns-in_err-stage-clause-asks
@@ -62,8 +65,11 @@ returns-in_err-proceed-clause-asks g c =
     let r = c.from_residual-in_err-proceed.result in
     let err = err_from_is_err_and r c.from_residual-in_err-proceed.ensures.1 in
     let P : Result (Unit {0}) CreateFault → Type 0 = λ v. CreateAsks v a b in
-    subst P (sym (err.1 ∙ ap Err err.2))
-    (c.in-Some.stage, stops_after (sync ∷ []) (left_to_ask c.in-Some.stage) a m b c.in_ok-stage.ensures.cause.done c.in_err-proceed.ensures.asks.failed)
+    subst P (sym (err.1 ∙ ap Err err.2)) (
+      c.in-Some.stage,
+      stops_after (sync ∷ []) (left_to_ask c.in-Some.stage) a m b c.in_ok-stage.ensures.cause.done
+          c.in_err-proceed.ensures.asks.failed,
+    )
 
 pub returns-in_err-stage-clause-jobs : goal.returns-in_err-stage-clause-jobs
 returns-in_err-stage-clause-jobs g c = λ tells. loading_keeps _ _ (c.stage_of.ensures.told tells)
@@ -72,7 +78,9 @@ pub returns-in_default-clause-jobs : goal.returns-in_default-clause-jobs
 returns-in_default-clause-jobs g c = λ tells. loading_keeps _ _ (c.stage_of.ensures.told tells)
 
 pub returns-in_err-proceed-clause-jobs : goal.returns-in_err-proceed-clause-jobs
-returns-in_err-proceed-clause-jobs g c = λ tells. keeps_then _ _ _ (loading_keeps _ _ (c.stage_of.ensures.told tells)) (c.proceed.ensures.told tells).jobs
+returns-in_err-proceed-clause-jobs g c = λ tells. keeps_then _ _ _ (loading_keeps _ _ (c.stage_of.ensures.told tells))
+    (c.proceed.ensures.told tells).jobs
 
 pub returns-clause-jobs : goal.returns-clause-jobs
-returns-clause-jobs g c = λ tells. keeps_then _ _ _ (loading_keeps _ _ (c.stage_of.ensures.told tells)) (c.in_ok-proceed.ensures.told tells).jobs
+returns-clause-jobs g c = λ tells. keeps_then _ _ _ (loading_keeps _ _ (c.stage_of.ensures.told tells))
+    (c.in_ok-proceed.ensures.told tells).jobs

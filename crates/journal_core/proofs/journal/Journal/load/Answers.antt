@@ -15,7 +15,8 @@ returns-in_err-next-clause-loaded g c = λ tells.
     let P : LoadFault → Type 0 = λ v. Finds before.0 (Err v) c.next.new.self b in
     let Q : Result Ledger LoadFault → Type 0 = λ v. Loaded v b in
     subst Q (sym err.1)
-    (failed_load before.0 err.0 c.loop-loading.loading c.next.new.self (g.S.Site.state c.loop-loading.site) b before.1 (c.next.ensures.told tells)
+    (failed_load before.0 err.0 c.loop-loading.loading c.next.new.self (g.S.Site.state c.loop-loading.site) b before.1
+    (c.next.ensures.told tells)
     c.in_err-next.ensures.grown (subst P (sym err.2) (c.in_err-next.ensures.found tells before.0 before.1)))
 
 pub returns-in_err-next-clause-told : goal.returns-in_err-next-clause-told
@@ -35,10 +36,12 @@ loop-loading-preserved g c = record {
 }
 
 pub returns-in_err-next-clause-jobs : goal.returns-in_err-next-clause-jobs
-returns-in_err-next-clause-jobs g c = λ tells. loading_keeps _ _ (syncs_then_reads _ _ _ (c.loop-loading.invariant.told tells) (c.next.ensures.told tells))
+returns-in_err-next-clause-jobs g c = λ tells. loading_keeps _ _
+    (syncs_then_reads _ _ _ (c.loop-loading.invariant.told tells) (c.next.ensures.told tells))
 
 pub returns-in-End-clause-jobs : goal.returns-in-End-clause-jobs
-returns-in-End-clause-jobs g c = λ tells. loading_keeps _ _ (syncs_then_reads _ _ _ (c.loop-loading.invariant.told tells) (c.next.ensures.told tells))
+returns-in-End-clause-jobs g c = λ tells. loading_keeps _ _ (syncs_then_reads _ _ _ (c.loop-loading.invariant.told tells)
+    (c.next.ensures.told tells))
 
 pub returns-in_err-loading-clause-jobs : goal.returns-in_err-loading-clause-jobs
 returns-in_err-loading-clause-jobs g c = λ tells. loading_keeps _ _ (c.open.ensures.told tells)

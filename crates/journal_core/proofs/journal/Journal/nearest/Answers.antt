@@ -9,4 +9,5 @@ pub returns-else-kept-self-clause-mark : goal.returns-else-kept-self-clause-mark
 returns-else-kept-self-clause-mark g c = λ rs all.
     let i = c.self.inside in
     let P : List Mark → Type 0 = λ v. All (IsMark rs) v in
-    c.near-kept.ensures.mark rs (All-tail (IsMark rs) i.last i.marks.places (subst P (sym (ap (λ (v : Ledger). v.marks) c.self.view_is)) all))
+    c.near-kept.ensures.mark rs (All-tail (IsMark rs) i.last i.marks.places
+    (subst P (sym (ap (λ (v : Ledger). v.marks) c.self.view_is)) all))

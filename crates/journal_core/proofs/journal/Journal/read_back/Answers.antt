@@ -30,7 +30,8 @@ returns-clause-told g c = λ tells.
     record {
       reads = reads;
       record_is = ap (take c.in-Some.size) whole ∙ found.2;
-      stands = reads_stands j _ a _ stands reads (ap (λ (v : Ledger). v.manager) c.self.view_is) (ap (λ (v : Ledger). v.count) c.self.view_is) (ap (λ (v : Ledger). v.end) c.self.view_is)
+      stands = reads_stands j _ a _ stands reads (ap (λ (v : Ledger). v.manager) c.self.view_is)
+          (ap (λ (v : Ledger). v.count) c.self.view_is) (ap (λ (v : Ledger). v.end) c.self.view_is)
           (All-cons (IsMark rs) (record { before = n; place = c.in-Some.place + 5 + c.in-Some.size }) i.marks.places here kept);
       whole = λ k wrong. cc wrong;
     }

@@ -11,7 +11,15 @@ pub returns-in-Closed-clause-found : goal.returns-in-Closed-clause-found
 returns-in-Closed-clause-found g c = λ tells rs loads.
     let i = c.self.inside in
     let a = g.S.Site.state c.args.site.now in
-    let l : Progress = record { manager = i.manager; count = i.count; end = i.end; len = i.len; record_bytes = take i.size i.buffer.items; ended = i.ended; marks = i.marks.places } in
+    let l : Progress = record {
+      manager = i.manager;
+      count = i.count;
+      end = i.end;
+      len = i.len;
+      record_bytes = take i.size i.buffer.items;
+      ended = i.ended;
+      marks = i.marks.places;
+    } in
     let k : Progress = record l { ended = true } in
     let P : Progress → Type 0 = λ v. Loads rs v a in
     let Q : Head → Type 0 = λ v. HeadIs i.end (drop i.end a.image) v in
@@ -25,8 +33,24 @@ returns-in_ok-bytes_at-in-Open-clause-found g c = λ tells rs loads.
     let a = g.S.Site.state c.args.site.now in
     let mid = g.S.Site.state c.head_at.new.site in
     let buffer = take i.buffer.len (c.bytes_at.new.buffer ++ drop (length c.bytes_at.new.buffer) i.buffer.items) in
-    let l : Progress = record { manager = i.manager; count = i.count; end = i.end; len = i.len; record_bytes = take i.size i.buffer.items; ended = i.ended; marks = i.marks.places } in
-    let k : Progress = record { manager = i.manager; count = i.count + 1; end = i.end + (5 + n); len = i.len; record_bytes = take n buffer; ended = false; marks = c.keep.new.self.places } in
+    let l : Progress = record {
+      manager = i.manager;
+      count = i.count;
+      end = i.end;
+      len = i.len;
+      record_bytes = take i.size i.buffer.items;
+      ended = i.ended;
+      marks = i.marks.places;
+    } in
+    let k : Progress = record {
+      manager = i.manager;
+      count = i.count + 1;
+      end = i.end + (5 + n);
+      len = i.len;
+      record_bytes = take n buffer;
+      ended = false;
+      marks = c.keep.new.self.places;
+    } in
     let P : Progress → Type 0 = λ v. Loads rs v a in
     let Q : Head → Type 0 = λ v. HeadIs i.end (drop i.end a.image) v in
     let head = c.in_ok-head_at.ensures.told tells in
@@ -34,7 +58,8 @@ returns-in_ok-bytes_at-in-Open-clause-found g c = λ tells rs loads.
     let whole : buffer ≡ c.bytes_at.new.buffer = take_at c.bytes_at.new.buffer _ _ (omega arith) in
     let bytes : take n buffer ≡ take n (drop (i.end + 5) a.image) =
     ap (take n) whole ∙ c.in_ok-bytes_at-in-Open.ensures.bytes tells ∙ ap (λ v. take n (drop (i.end + 5) v)) head.same in
-    loads_more rs l k n a (g.S.Site.state c.bytes_at.new.site) (subst P (sym c.self.view_is) loads) (reads-then a mid (g.S.Site.state c.bytes_at.new.site) head read)
+    loads_more rs l k n a (g.S.Site.state c.bytes_at.new.site) (subst P (sym c.self.view_is) loads)
+    (reads-then a mid (g.S.Site.state c.bytes_at.new.site) head read)
     (subst Q c.in-Open.is (c.in_ok-head_at.ensures.head tells)) bytes refl refl refl refl (c.keep.ensures.marks (rs ++ k.record_bytes ∷ []))
 
 pub returns-in_err-bytes_at-in-Open-clause-told : goal.returns-in_err-bytes_at-in-Open-clause-told
@@ -48,13 +73,30 @@ returns-in_ok-bytes_at-in-Open-clause-grown g c =
     let i = c.self.inside in
     let n = c.in-Open.size in
     let buffer = take i.buffer.len (c.bytes_at.new.buffer ++ drop (length c.bytes_at.new.buffer) i.buffer.items) in
-    let l : Progress = record { manager = i.manager; count = i.count; end = i.end; len = i.len; record_bytes = take i.size i.buffer.items; ended = i.ended; marks = i.marks.places } in
-    let k : Progress = record { manager = i.manager; count = i.count + 1; end = i.end + (5 + n); len = i.len; record_bytes = take n buffer; ended = false; marks = c.keep.new.self.places } in
+    let l : Progress = record {
+      manager = i.manager;
+      count = i.count;
+      end = i.end;
+      len = i.len;
+      record_bytes = take i.size i.buffer.items;
+      ended = i.ended;
+      marks = i.marks.places;
+    } in
+    let k : Progress = record {
+      manager = i.manager;
+      count = i.count + 1;
+      end = i.end + (5 + n);
+      len = i.len;
+      record_bytes = take n buffer;
+      ended = false;
+      marks = c.keep.new.self.places;
+    } in
     let P : Progress → Type 0 = λ v. ReadsOn v k in
     let Q : Head → Type 0 = λ v. HeadEnds i.end i.len v in
     let ends = subst Q c.in-Open.is c.in_ok-head_at.ensures.ends in
     let fits = ends.fits in
-    let whole : length buffer ≡ 65541 = ap length (take_at c.bytes_at.new.buffer (drop (length c.bytes_at.new.buffer) i.buffer.items) i.buffer.len (omega arith)) ∙ omega arith in
+    let whole : length buffer ≡ 65541 = ap length (take_at c.bytes_at.new.buffer
+    (drop (length c.bytes_at.new.buffer) i.buffer.items) i.buffer.len (omega arith)) ∙ omega arith in
     subst P c.self.view_is (grows_more l k n ends (length-take-le n buffer (omega arith)) refl refl refl refl)
 
 pub invariant_of-self-in-Open : goal.invariant_of-self-in-Open

@@ -12,7 +12,8 @@ invariant_of-self-2 c =
     let made = c.make_room-self-inside.ensures in
     let step = c.make_room-self-inside.result in
     let P : ℕ → Type 0 = λ n. AreEvery step (n + 1) c.push_reserved.new.self.items in (
-      subst P seen_is (every_push step c.args.mark.before c.make_room-self-inside.new.kept.items c.push_reserved.new.self.items c.args.mark made.fit.0 made.every made.next refl
+      subst P seen_is (every_push step c.args.mark.before c.make_room-self-inside.new.kept.items c.push_reserved.new.self.items c.args.mark
+          made.fit.0 made.every made.next refl
           c.push_reserved.ensures.items),
       (made.fit.0, omega (arith, made.fit.1, seen_is)),
       c.push_reserved.ensures.capacity ∙ made.capacity,
@@ -22,7 +23,8 @@ pub returns-clause-marks : goal.returns-clause-marks
 returns-clause-marks c = λ rs all mark.
     let P : List Mark → Type 0 = λ v. All (IsMark rs) v in
     let was = subst P (sym (ap (λ (k : Kept). k.places) c.self.view_is)) all in
-    subst P (sym c.push_reserved.ensures.items) (All-push (IsMark rs) c.make_room-self-inside.new.kept.items c.args.mark (c.make_room-self-inside.ensures.marks rs was) mark)
+    subst P (sym c.push_reserved.ensures.items) (All-push (IsMark rs) c.make_room-self-inside.new.kept.items c.args.mark
+    (c.make_room-self-inside.ensures.marks rs was) mark)
 
 pub make_room-self-inside-requires-clause-next : goal.make_room-self-inside-requires-clause-next
 make_room-self-inside-requires-clause-next c = grind (arith, common_steps)

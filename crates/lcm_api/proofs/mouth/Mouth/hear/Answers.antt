@@ -17,10 +17,15 @@ pub returns-in-Request-clause-heard : goal.returns-in-Request-clause-heard
 returns-in-Request-clause-heard g c = (
   c.in-Request.request,
   refl,
-  takes _ _ _ _ _ (ap (λ m. m.wire) c.self.view_is) (rw c.in-Request.is at c.in_ok-request.ensures.taken) (rw c.in-Request.is at c.in_ok-request.ensures.exact),
+  takes _ _ _ _ _ (ap (λ m. m.wire) c.self.view_is) (rw c.in-Request.is at c.in_ok-request.ensures.taken)
+      (rw c.in-Request.is at c.in_ok-request.ensures.exact),
 )
 
 pub returns-in_err-request-clause-heard : goal.returns-in_err-request-clause-heard
 returns-in_err-request-clause-heard g c =
     let err = err_from_is_err_and c.from_residual.result c.from_residual.ensures.1 in
-    rw (err.1 ∙ ap Err err.2) (refl, takes _ _ _ _ _ (ap (λ m. m.wire) c.self.view_is) c.in_err-request.ensures.taken c.in_err-request.ensures.exact)
+    rw (err.1 ∙ ap Err err.2) (
+      refl,
+      takes _ _ _ _ _ (ap (λ m. m.wire) c.self.view_is) c.in_err-request.ensures.taken
+          c.in_err-request.ensures.exact,
+    )

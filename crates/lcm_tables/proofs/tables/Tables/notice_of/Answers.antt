@@ -9,7 +9,8 @@ use Rattle.lcm_tables.proofs.tables.Tables.notice_of.Goals as goal
 
 pub returns-in-Created-clause-facts : goal.returns-in-Created-clause-facts
 returns-in-Created-clause-facts c = λ m H legal tables few allowed.
-    let may : IsAllowed m H (Created c.in-Created.instance c.in-Created.vnfd c.in-Created.name c.in-Created.text) = subst (λ (k : EventKind). IsAllowed m H k) c.in-Created.is allowed in
+    let may : IsAllowed m H (Created c.in-Created.instance c.in-Created.vnfd c.in-Created.name c.in-Created.text) =
+    subst (λ (k : EventKind). IsAllowed m H k) c.in-Created.is allowed in
     let number = may.number in
     let made = few_made H in
     ap (option_map facts_in) (c.notice_of_creation.ensures.value (omega (arith, number), omega (arith, number, made, few)))

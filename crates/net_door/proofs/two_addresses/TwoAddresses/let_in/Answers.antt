@@ -56,12 +56,15 @@ returns-in-Heard-clause-absent g c = λ first second.
 pub returns-in-None-Nobody-clause-absent : goal.returns-in-None-Nobody-clause-absent
 returns-in-None-Nobody-clause-absent g c = λ first second.
     let same = c.loop.invariant.first (c.loop.invariant.alone first second) in
-    absurd (nobody_is_well (rw c.in-None-Nobody.field-0-is at c.in-None-Nobody.ensures.absent (ap (λ a. a.first) same ∙ first) (ap (λ a. a.second) same ∙ second)))
+    absurd (nobody_is_well (rw c.in-None-Nobody.field-0-is at c.in-None-Nobody.ensures.absent (ap (λ a. a.first) same ∙ first)
+    (ap (λ a. a.second) same ∙ second)))
 
 pub returns-in-None-Spent-clause-absent : goal.returns-in-None-Spent-clause-absent
 returns-in-None-Spent-clause-absent g c = λ first second.
     let same = c.loop.invariant.first (c.loop.invariant.alone first second) in
-    absurd (spent_is_well (rw c.in-None-Spent.field-0-is at c.in-None-Spent.ensures.absent (ap (λ a. a.first) same ∙ first) (ap (λ a. a.second) same ∙ second)))
+    absurd (spent_is_well (rw c.in-None-Spent.field-0-is at c.in-None-Spent.ensures.absent (ap (λ a. a.first) same ∙ first)
+    (ap (λ a. a.second) same ∙ second)))
 
 pub returns-clause-absent : goal.returns-clause-absent
-returns-clause-absent g c = λ first second. absurd (let none = c.loop.invariant.alone first second in omega (arith, none, c.loop-test.false))
+returns-clause-absent g c = λ first second. absurd (let none = c.loop.invariant.alone first second in
+    omega (arith, none, c.loop-test.false))

@@ -14,5 +14,6 @@ invariant-loop g l = record {
   first : l.counter ≡ 0 → l.self ≡ l.initial.self;
   later : 1 ≤ l.counter → g.N.HostNet.tells → g.N.Connection.Connection.tells → (answer : Result (LetIn g.row.N-Connection.Denot) Shut)
       → LetsIn g.N.Connection.Connection.quiet
-      (comes l.initial.self.turn (given_by g.N.HostNet.coming l.initial.self.first) (given_by g.N.HostNet.coming l.initial.self.second)) answer;
+      (comes l.initial.self.turn (given_by g.N.HostNet.coming l.initial.self.first) (given_by g.N.HostNet.coming l.initial.self.second))
+      answer;
 }

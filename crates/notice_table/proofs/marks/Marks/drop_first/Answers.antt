@@ -23,7 +23,8 @@ invariant_of-self c =
     let t = c.self.inside in
     let rest : List Bool = in_words t.words.items ++ marks_in t.filled t.back in
     record {
-      count = one_less t.count (marks_in t.left t.front ++ rest) _ c.self.invariant.count (drop_in t.left t.front rest (omega (arith, c.if-self-gt1.true)));
+      count = one_less t.count (marks_in t.left t.front ++ rest) _ c.self.invariant.count
+          (drop_in t.left t.front rest (omega (arith, c.if-self-gt1.true)));
       filled = c.self.invariant.filled;
       back = c.self.invariant.back;
       front = λ none. absurd (omega (arith, none, c.if-self-gt1.true));
@@ -40,7 +41,8 @@ invariant_of-self-in-Some c =
     let t = c.self.inside in
     record {
       count = one_less t.count (marks_in t.left t.front ++ (in_words t.words.items ++ marks_in t.filled t.back)) _ c.self.invariant.count
-          (next_word t.left t.front c.in-Some.word t.words.items c.pop_front.new.self.items (marks_in t.filled t.back) c.if-self-eq1.true c.in-Some.ensures.items);
+          (next_word t.left t.front c.in-Some.word t.words.items c.pop_front.new.self.items
+          (marks_in t.filled t.back) c.if-self-eq1.true c.in-Some.ensures.items);
       filled = c.self.invariant.filled;
       back = c.self.invariant.back;
       front = λ none. absurd (omega (arith, none));
@@ -49,7 +51,8 @@ invariant_of-self-in-Some c =
 pub returns-in-Some-clause-marks : goal.returns-in-Some-clause-marks
 returns-in-Some-clause-marks c =
     let t = c.self.inside in
-    next_word t.left t.front c.in-Some.word t.words.items c.pop_front.new.self.items (marks_in t.filled t.back) c.if-self-eq1.true c.in-Some.ensures.items
+    next_word t.left t.front c.in-Some.word t.words.items c.pop_front.new.self.items
+    (marks_in t.filled t.back) c.if-self-eq1.true c.in-Some.ensures.items
     ∙ ap (λ (s : ShownMarks). drop 1 s.marks) c.self.view_is
 
 pub invariant_of-self-in-None : goal.invariant_of-self-in-None

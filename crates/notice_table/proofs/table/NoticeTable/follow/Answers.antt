@@ -4,4 +4,5 @@ use Rattle.notice_table.specs.Table.{makes_queue}
 use Rattle.notice_table.proofs.table.NoticeTable.follow.Goals as goal
 
 pub returns-in-Subscribed-clause-stays : goal.returns-in-Subscribed-clause-stays
-returns-in-Subscribed-clause-stays c = λ no. let clash : true ≡ false = subst (λ (k : EventKind). makes_queue k ≡ false) c.in-Subscribed.is no in cc
+returns-in-Subscribed-clause-stays c = λ no. let clash : true ≡ false =
+    subst (λ (k : EventKind). makes_queue k ≡ false) c.in-Subscribed.is no in cc

@@ -7,7 +7,8 @@ pub returns-in-Some : goal.returns-in-Some
 returns-in-Some c = record {
   judged = λ outcome width m H legal stands.
       may_post_first width m H c.args.subscription c.args.place outcome (Some c.in-Some.first) _
-      (first_found width m H c.args.self.now.queues c.args.subscription _ legal stands c.in-Some.ensures) (same_place c.in-Some.first c.args.place);
+      (first_found width m H c.args.self.now.queues c.args.subscription _ legal stands c.in-Some.ensures)
+      (same_place c.in-Some.first c.args.place);
 }
 
 pub returns-in-None : goal.returns-in-None

@@ -14,7 +14,8 @@ invariant_of-self c =
     let t = c.self.inside in
     let n = length t.places.items in
     record {
-      rows = All-same (IsWithin n) _ _ (ap (map row) c.remove.ensures.items ∙ map_filter (λ (r : Row). not (r.number == c.args.number)) row t.queues.items)
+      rows = All-same (IsWithin n) _ _ (ap (map row) c.remove.ensures.items
+          ∙ map_filter (λ (r : Row). not (r.number == c.args.number)) row t.queues.items)
           (All-filter (λ (r : Row). not (r.number == c.args.number)) (IsWithin n) (map row t.queues.items) c.self.invariant.rows);
       next = c.self.invariant.next;
     }
@@ -29,6 +30,8 @@ returns-clause-queues c =
 
 pub returns-clause-reserved : goal.returns-clause-reserved
 returns-clause-reserved c =
-    kept c.args.self.now c.self.inside.places.items _ c.self.inside.queues.items c.remove.new.queues.items _ _ c.self.inside.next c.self.view_is
+    kept c.args.self.now c.self.inside.places.items _ c.self.inside.queues.items c.remove.new.queues.items _ _ c.self.inside.next
+    c.self.view_is
     (omega (arith, c.remove.ensures.length, c.remove.ensures.capacity))
-    (λ all. All-same (λ (r : QueueRow). 0 < room r) _ _ c.remove.ensures.items (All-filter (λ (r : QueueRow). not (r.number == c.args.number)) (λ (r : QueueRow). 0 < room r) c.self.inside.queues.items all))
+    (λ all. All-same (λ (r : QueueRow). 0 < room r) _ _ c.remove.ensures.items
+    (All-filter (λ (r : QueueRow). not (r.number == c.args.number)) (λ (r : QueueRow). 0 < room r) c.self.inside.queues.items all))

@@ -12,6 +12,7 @@ returns-clause-room c =
     (λ all. record {
       place = omega (arith, c.in_ok-reserve.ensures.ok);
       marks = All-map (λ (n : ℕ). 0 < n) room _
-          (all_taken (λ (r : QueueRow). 0 < room r) c.self.inside.queues.len c.reserve_all.new.queues _ (omega (arith, c.as_mut_slice.ensures.len, c.reserve_all.auto.queues)) all);
+          (all_taken (λ (r : QueueRow). 0 < room r) c.self.inside.queues.len c.reserve_all.new.queues _
+          (omega (arith, c.as_mut_slice.ensures.len, c.reserve_all.auto.queues)) all);
     })
     c.reserve_all.ensures.room

@@ -4,4 +4,5 @@ use Rattle.occ_table.specs.declared.resources.Entry.{Entry}
 use Rattle.occ_table.proofs.resources.Resources.forget.Goals as goal
 
 pub returns-clause-entries : goal.returns-clause-entries
-returns-clause-entries c = λ q. c.remove.ensures.updates.0 q ∙ ap (λ (r : KeptResources). cond {A = Option Entry} (same_key c.args.key.now q) None (kept_by r.entries q)) c.self.view_is
+returns-clause-entries c = λ q. c.remove.ensures.updates.0 q ∙ ap
+    (λ (r : KeptResources). cond {A = Option Entry} (same_key c.args.key.now q) None (kept_by r.entries q)) c.self.view_is

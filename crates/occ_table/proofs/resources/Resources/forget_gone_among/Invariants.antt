@@ -9,5 +9,6 @@ use Rattle.occ_table.proofs.resources.Resources.forget_gone_among.Given as goal
 abbrev pub invariant-loop-change : goal.invariant-loop-change
 invariant-loop-change l =
     ((i : ℕ) (x : Def) → kept_of l.self.entries i x
-    ≡ cond ((l.instance == i) && list_any (λ c. same_def c.def x) (take l.change-index l.changes)) (option_and_then where_it_stands (kept_of l.initial.self.entries i x)) (kept_of l.initial.self.entries i x))
+    ≡ cond ((l.instance == i) && list_any (λ c. same_def c.def x) (take l.change-index l.changes))
+    (option_and_then where_it_stands (kept_of l.initial.self.entries i x)) (kept_of l.initial.self.entries i x))
     × (l.initial.self.spare ≤ l.self.spare) × (l.self.room ≡ l.initial.self.room)

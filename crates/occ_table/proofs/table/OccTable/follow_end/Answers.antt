@@ -20,12 +20,14 @@ returns-in-Done c =
     record {
       rows = λ from.
           c.follow_done.ensures.rows from
-          ∙ ap (λ (o : Outcome). update (row_after time (used_after (deed_of t o old.rows) (kept_of old.resources)) k) (t.occ - 1) old.rows) (sym c.in-Done.is);
+          ∙ ap (λ (o : Outcome). update (row_after time (used_after (deed_of t o old.rows) (kept_of old.resources)) k) (t.occ - 1) old.rows)
+          (sym c.in-Done.is);
       active = c.follow_done.ensures.active;
       ongoing = c.follow_done.ensures.ongoing;
       vnfds = c.follow_done.ensures.vnfds;
       resources = λ i x.
-          c.follow_done.ensures.resources i x ∙ ap (λ (o : Outcome). learned (deed_of t o old.rows) (kept_of old.resources) i x) (sym c.in-Done.is);
+          c.follow_done.ensures.resources i x ∙ ap (λ (o : Outcome). learned (deed_of t o old.rows) (kept_of old.resources) i x)
+          (sym c.in-Done.is);
       reserved = λ none. let yes : true ≡ false = sym (ap is_done c.in-Done.is) ∙ none in cc;
     }
 
@@ -40,11 +42,13 @@ returns-in_default c =
     record {
       rows = λ from.
           c.follow_about.ensures.numbered t.occ about from ∙ ap (λ (o : Option ℕ). rows_about o time None k old.rows) about
-          ∙ ap (λ (d : Option DoneAttempt). update (row_after time (used_after d (kept_of old.resources)) k) (t.occ - 1) old.rows) (sym nothing);
+          ∙ ap (λ (d : Option DoneAttempt). update (row_after time (used_after d (kept_of old.resources)) k) (t.occ - 1) old.rows)
+          (sym nothing);
       active = c.follow_about.ensures.active;
       ongoing = c.follow_about.ensures.ongoing;
       vnfds = c.follow_about.ensures.vnfds;
       resources = λ i x.
-          ap (λ es. kept_of es i x) c.follow_about.ensures.resources ∙ ap (λ (d : Option DoneAttempt). learned d (kept_of old.resources) i x) (sym nothing);
+          ap (λ es. kept_of es i x) c.follow_about.ensures.resources ∙ ap
+          (λ (d : Option DoneAttempt). learned d (kept_of old.resources) i x) (sym nothing);
       reserved = λ none. c.follow_about.ensures.reserved;
     }

@@ -13,5 +13,6 @@ returns-in-Some c = record {
 pub returns-in-None : goal.returns-in-None
 returns-in-None c = record {
   judged = λ m H legal stands.
-      begin_none c.args.width H c.args.tag.now (sym (c.occurrence.ensures.looks c.args.width m H legal stands) ∙ ap option_copied c.in-None.is);
+      begin_none c.args.width H c.args.tag.now (sym (c.occurrence.ensures.looks c.args.width m H legal stands)
+      ∙ ap option_copied c.in-None.is);
 }

@@ -6,7 +6,8 @@ use Rattle.occ_table.proofs.table.OccTable.may_deny.Goals as goal
 pub returns-in-Some : goal.returns-in-Some
 returns-in-Some c = record {
   judged = λ width m H legal stands.
-      deny_there H c.args.occ c.in-Some.row.now _ (sym (c.occurrence.ensures.looks width m H legal stands) ∙ ap option_copied c.in-Some.is) c.is_asking.ensures;
+      deny_there H c.args.occ c.in-Some.row.now _ (sym (c.occurrence.ensures.looks width m H legal stands) ∙ ap option_copied c.in-Some.is)
+      c.is_asking.ensures;
 }
 
 pub returns-in-None : goal.returns-in-None

@@ -6,7 +6,8 @@ use Rattle.occ_table.proofs.table.OccTable.may_fail_call.Goals as goal
 pub returns-in-Some : goal.returns-in-Some
 returns-in-Some c = record {
   judged = λ width m H legal stands.
-      fail_row H c.args.tag.now c.in-Some.row.now _ (sym (c.occurrence.ensures.looks width m H legal stands) ∙ ap option_copied c.in-Some.is)
+      fail_row H c.args.tag.now c.in-Some.row.now _ (sym (c.occurrence.ensures.looks width m H legal stands)
+      ∙ ap option_copied c.in-Some.is)
       c.is_waiting.ensures;
 }
 

@@ -6,7 +6,8 @@ use Rattle.occ_table.proofs.table.OccTable.may_move.Goals as goal
 pub returns-in-Some : goal.returns-in-Some
 returns-in-Some c = record {
   judged = λ width m H legal stands.
-      move_there width m H c.args.occ c.args.to c.in-Some.row.now _ legal (sym (c.occurrence.ensures.looks width m H legal stands) ∙ ap option_copied c.in-Some.is)
+      move_there width m H c.args.occ c.args.to c.in-Some.row.now _ legal
+      (sym (c.occurrence.ensures.looks width m H legal stands) ∙ ap option_copied c.in-Some.is)
       c.may_move.ensures;
 }
 

@@ -12,4 +12,7 @@ returns-then-n-eq0 c = record {
 }
 
 pub returns : goal.returns
-returns c = record { looks = λ width m H legal stands. c.row_at.ensures ∙ looked width m H c.args.self.now.rows c.args.n legal stands (one_up c.args.n c.if-n-eq0.false) }
+returns c = record {
+  looks = λ width m H legal stands. c.row_at.ensures
+      ∙ looked width m H c.args.self.now.rows c.args.n legal stands (one_up c.args.n c.if-n-eq0.false);
+}

@@ -11,7 +11,8 @@ returns-clause-put g c = λ t.
     let long = ap length all in
     let both = length-append c.self.inside.bytes.items more in
     ap (λ v. record { calls = v; most_calls = c.self.inside.most_calls; most_bytes = c.self.inside.most_bytes })
-    (log_push c.self.inside.entries.items c.push_reserved.new.self.items c.self.inside.bytes.items more c.put_both.new.bytes.items c.args.what _ _
+    (log_push c.self.inside.entries.items c.push_reserved.new.self.items c.self.inside.bytes.items more c.put_both.new.bytes.items
+    c.args.what _ _
     c.self.invariant.0.within all c.push_reserved.ensures.items (omega arith) (omega arith))
     ∙ ap (with_call c.args.what more) c.self.view_is
 
@@ -24,7 +25,8 @@ invariant_of-self-2 g c =
     let entries = c.push_reserved.ensures.capacity in
     let bytes = c.put_both.ensures.capacity in
     let was = c.self.invariant in (
-      kept_push c.self.inside.entries.items c.push_reserved.new.self.items c.self.inside.bytes.items more c.put_both.new.bytes.items c.args.what _ _
+      kept_push c.self.inside.entries.items c.push_reserved.new.self.items c.self.inside.bytes.items more c.put_both.new.bytes.items
+          c.args.what _ _
           was.0 all c.push_reserved.ensures.items (omega arith) (omega arith),
       omega (arith, entries, was.1),
       omega (arith, bytes, was.2),
@@ -42,8 +44,10 @@ returns-then-len-self-clause-room g c = (
   λ wrong. absurd (cc wrong),
   λ room.
       let i = c.self.inside in
-      let entries : length (map (entry_of i.bytes.items) i.entries.items) ≡ length i.entries.items = length-map i.entries.items (entry_of i.bytes.items) in
-      let calls : length (map (entry_of i.bytes.items) i.entries.items) ≡ length c.args.self.now.calls = ap (λ r. length r.calls) c.self.view_is in
+      let entries : length (map (entry_of i.bytes.items) i.entries.items) ≡ length i.entries.items =
+      length-map i.entries.items (entry_of i.bytes.items) in
+      let calls : length (map (entry_of i.bytes.items) i.entries.items) ≡ length c.args.self.now.calls =
+      ap (λ r. length r.calls) c.self.view_is in
       let most : i.most_calls ≡ c.args.self.now.most_calls = ap (λ r. r.most_calls) c.self.view_is in
       let less = room.call in
       absurd (omega arith),

@@ -10,12 +10,15 @@ loop-piece-preserved c =
     let was = c.loop-piece.invariant in
     let pieces = c.deref-piece-items.result.now in
     let bytes = concat-more pieces c.loop-piece.piece-index c.piece-item.result c.loop-piece.bytes.items c.extend_from_slice.new.self.items
-    (omega (arith, c.loop-piece-test.true)) (sym c.piece-item.is) was.bytes (c.in_ok-extend_from_slice.ensures.items ∙ ap (λ v. c.loop-piece.bytes.items ++ v) c.as_slice.ensures) in
+    (omega (arith, c.loop-piece-test.true)) (sym c.piece-item.is) was.bytes
+    (c.in_ok-extend_from_slice.ensures.items ∙ ap (λ v. c.loop-piece.bytes.items ++ v) c.as_slice.ensures) in
     record {
       bytes = bytes;
       count = omega (arith, c.in_ok-push.ensures.len, was.count);
-      each = ends-more pieces c.loop-piece.piece-index c.loop-piece.ends.items c.push.new.self.items c.extend_from_slice.new.self.items was.count bytes
-          (c.in_ok-push.ensures.items ∙ ap (λ v. c.loop-piece.ends.items ++ v ∷ []) (c.len.ensures ∙ c.extend_from_slice.new.self.ok.0)) was.each;
+      each = ends-more pieces c.loop-piece.piece-index c.loop-piece.ends.items c.push.new.self.items c.extend_from_slice.new.self.items
+          was.count bytes
+          (c.in_ok-push.ensures.items ∙ ap (λ v. c.loop-piece.ends.items ++ v ∷ []) (c.len.ensures ∙ c.extend_from_slice.new.self.ok.0))
+          was.each;
     }
 
 pub invariant_of-result : goal.invariant_of-result

@@ -6,4 +6,5 @@ use Rattle.site_traits.proofs.mem_door.MemDoorDoor.write.Goals as goal
 pub returns-then-is_spent-clause-cause : goal.returns-then-is_spent-clause-cause
 returns-then-is_spent-clause-cause c =
     let up : c.break_write.new.self.hung_up ≡ c.args.self.now.conn.hung_up = search rules in
-    write_cause (counts_of c.args.self.now) _ c.count-then-is_spent.ensures.later (failed_counts _ _ _ _ _ c.count-then-is_spent.ensures.one up)
+    write_cause (counts_of c.args.self.now) _ c.count-then-is_spent.ensures.later
+    (failed_counts _ _ _ _ _ c.count-then-is_spent.ensures.one up)

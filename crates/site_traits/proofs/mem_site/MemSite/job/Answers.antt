@@ -9,7 +9,8 @@ use Rattle.site_traits.proofs.mem_site.MemSite.job.Goals as goal
 pub index-job-requires : goal.index-job-requires
 index-job-requires c =
     let past = c.args.self.now.book.past in
-    let counted = jobs_counted (length (map change_of past.log.calls)) past.kept.items (early_calls past.log.calls past.kept.items past.early) in
+    let counted = jobs_counted (length (map change_of past.log.calls)) past.kept.items
+    (early_calls past.log.calls past.kept.items past.early) in
     omega (arith, c.requires, counted, past.kept.ok.0)
 
 pub returns : goal.returns

@@ -7,5 +7,6 @@ use Rattle.site_traits.proofs.mem_site.MemSite.jobs.Goals as goal
 pub returns : goal.returns
 returns c =
     let past = c.args.self.now.book.past in
-    let counted = jobs_counted (length (map change_of past.log.calls)) past.kept.items (early_calls past.log.calls past.kept.items past.early) in
+    let counted = jobs_counted (length (map change_of past.log.calls)) past.kept.items
+    (early_calls past.log.calls past.kept.items past.early) in
     omega (arith, c.len.ensures, counted, past.kept.ok.0)

@@ -10,4 +10,5 @@ returns-clause-told c =
 pub invariant_of-self-clause-seen : goal.invariant_of-self-clause-seen
 invariant_of-self-clause-seen c =
     let first = c.args.self.now.first.items in
-    c.args.self.now.seen ∙ sym (looks_told first c.args.tag.now c.look.result c.args.self.now.book c.look.new.self c.look.ensures.runs.past).on_jobs.same
+    c.args.self.now.seen ∙ sym (looks_told first c.args.tag.now c.look.result c.args.self.now.book c.look.new.self
+    c.look.ensures.runs.past).on_jobs.same

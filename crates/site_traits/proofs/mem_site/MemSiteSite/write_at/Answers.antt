@@ -9,11 +9,13 @@ returns-clause-told c =
     let was = c.args.self.now.book.past in
     let now = c.run.new.self.past in
     let runs = c.if-not-run.ensures.runs in
-    writes_told _ c.args.self.now.first.items was.log.calls now.log.calls was.kept.items now.kept.items _ c.args.at c.args.bytes.now was.early (ap (λ (r : Recorded SiteCall). r.calls) runs.log) runs.kept refl (λ l. refl) c.requires
+    writes_told _ c.args.self.now.first.items was.log.calls now.log.calls was.kept.items now.kept.items _ c.args.at c.args.bytes.now
+    was.early (ap (λ (r : Recorded SiteCall). r.calls) runs.log) runs.kept refl (λ l. refl) c.requires
 
 pub returns-then-not-run-clause-told : goal.returns-then-not-run-clause-told
 returns-then-not-run-clause-told c =
     let was = c.args.self.now.book.past in
     let now = c.run.new.self.past in
     let runs = c.if-not-run.ensures.runs in
-    writes_lost _ c.args.self.now.first.items was.log.calls now.log.calls was.kept.items now.kept.items c.args.at c.args.bytes.now (ap (λ (r : Recorded SiteCall). r.calls) runs.log) runs.kept
+    writes_lost _ c.args.self.now.first.items was.log.calls now.log.calls was.kept.items now.kept.items c.args.at c.args.bytes.now
+    (ap (λ (r : Recorded SiteCall). r.calls) runs.log) runs.kept

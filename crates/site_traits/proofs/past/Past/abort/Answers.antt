@@ -14,4 +14,5 @@ invariant_of-self-2-clause-early c =
     let last = ap (λ (r : Recorded SiteCall). length r.calls) (c.push.ensures.put c.if-not-push.false) ∙ length_push was.log.calls _ in
     let now = c.len-now.ensures ∙ last in
     changed_on m _ _ c.args.tag.now aborted_at was.kept.items c.abort_at.new.kept.items (λ w early. go_aborted m w early) was.early now last
-    (c.abort_at.ensures.jobs c.args.tag.now (let P : List KeptJob → Type 0 = λ v. IsPlaced c.args.tag.now v c.latest-place.result in subst P c.deref.ensures.value c.latest-place.ensures))
+    (c.abort_at.ensures.jobs c.args.tag.now (let P : List KeptJob → Type 0 = λ v. IsPlaced c.args.tag.now v c.latest-place.result in
+    subst P c.deref.ensures.value c.latest-place.ensures))

@@ -15,6 +15,7 @@ returns c =
       answered = search rules;
       room = search rules;
       log = search rules;
-      kept = rw c.requires.arrives (c.push_reserved.ensures.items ∙ arrives_last c.args.tag.now c.args.act.now c.in-Ok.act c.args.plan (length calls + 1) c.len-at.result _ kept (search rules) at (search rules));
+      kept = rw c.requires.arrives (c.push_reserved.ensures.items ∙ arrives_last c.args.tag.now c.args.act.now c.in-Ok.act c.args.plan
+          (length calls + 1) c.len-at.result _ kept (search rules) at (search rules));
       most = search rules;
     })

@@ -8,7 +8,8 @@ pub returns-in-Some : goal.returns-in-Some
 returns-in-Some c =
     let found = c.in-Some.ensures {u = tt} in
     sym c.self.view_is ∙ ap (parts_left c.self.inside.separator) (c.in_ok-rest.was {u = tt})
-    ∙ cut_at c.self.inside.separator c.in_ok-rest.rest.now c.in-Some.at found.0.high found.1 (λ k below. found.0.before k (omega arith) below)
+    ∙ cut_at c.self.inside.separator c.in_ok-rest.rest.now c.in-Some.at found.0.high found.1
+    (λ k below. found.0.before k (omega arith) below)
 
 pub returns-in-None : goal.returns-in-None
 returns-in-None c =
