@@ -7,14 +7,15 @@ use Rattle.std.specs.List.{AllByRecursion, flat_map}
 use Rattle.std.proofs.Math.Seq.{take-suc}
 use Rattle.std.proofs.lemmas.List.Concat.{flat_map-append}
 use Rattle.std.specs.Int.{to_be_bytes, w8, w16}
+use Rattle.vnfm_base.specs.declared.limits.TheConstants.{MAX_RECORD}
 use Rattle.event_codec.specs.Written.{Written, put}
 
 -- more than the room in two pieces is more than the room in one
-same_test : (a b : ℕ) → (65536 < a → 65536 < b) → (a ≤ 65536 → b ≤ 65536) → nat_lt 65536 a ≡ nat_lt 65536 b
+same_test : (a b : ℕ) → (MAX_RECORD < a → MAX_RECORD < b) → (a ≤ MAX_RECORD → b ≤ MAX_RECORD) → nat_lt MAX_RECORD a ≡ nat_lt MAX_RECORD b
 same_test a b over within =
-    elim (cases_lt 65536 a) [
-      | inl h ↦ lt-ltb 65536 a h ∙ sym (lt-ltb 65536 b (over h))
-      | inr h ↦ le-ltb 65536 a h ∙ sym (le-ltb 65536 b (within h))
+    elim (cases_lt MAX_RECORD a) [
+      | inl h ↦ lt-ltb MAX_RECORD a h ∙ sym (lt-ltb MAX_RECORD b (over h))
+      | inr h ↦ le-ltb MAX_RECORD a h ∙ sym (le-ltb MAX_RECORD b (within h))
     ]
 
 -- what is kept of two pieces
@@ -29,15 +30,15 @@ unfolding put
 put_twice w x y =
     let count : min (min (w.len + length x) (2 ^ 64 - 1) + length y) (2 ^ 64 - 1) ≡ min (w.len + length (x ++ y)) (2 ^ 64 - 1) =
     omega (arith, length-append x y) in
-    let test : nat_lt 65536 (min (w.len + length x) (2 ^ 64 - 1) + length y) ≡ nat_lt 65536 (w.len + length (x ++ y)) =
+    let test : nat_lt MAX_RECORD (min (w.len + length x) (2 ^ 64 - 1) + length y) ≡ nat_lt MAX_RECORD (w.len + length (x ++ y)) =
     same_test (min (w.len + length x) (2 ^ 64 - 1) + length y) (w.len + length (x ++ y))
     (λ h. omega (arith, length-append x y)) (λ h. omega (arith, length-append x y)) in
-    let texts : (if nat_lt 65536 (min (w.len + length x) (2 ^ 64 - 1) + length y) then []
-    else (if nat_lt 65536 (w.len + length x) then [] else w.kept ++ x) ++ y)
-    ≡ (if nat_lt 65536 (w.len + length (x ++ y)) then [] else w.kept ++ (x ++ y)) =
-    ap (λ (b : Bool). if b then [] else (if nat_lt 65536 (w.len + length x) then [] else w.kept ++ x) ++ y) test
-    ∙ kept_twice (nat_lt 65536 (w.len + length x)) (nat_lt 65536 (w.len + length (x ++ y))) w.kept x y
-    (λ e. le-ltb 65536 (w.len + length x) (let k : w.len + length (x ++ y) ≤ 65536 = ltb-false 65536 (w.len + length (x ++ y)) e in
+    let texts : (if nat_lt MAX_RECORD (min (w.len + length x) (2 ^ 64 - 1) + length y) then []
+    else (if nat_lt MAX_RECORD (w.len + length x) then [] else w.kept ++ x) ++ y)
+    ≡ (if nat_lt MAX_RECORD (w.len + length (x ++ y)) then [] else w.kept ++ (x ++ y)) =
+    ap (λ (b : Bool). if b then [] else (if nat_lt MAX_RECORD (w.len + length x) then [] else w.kept ++ x) ++ y) test
+    ∙ kept_twice (nat_lt MAX_RECORD (w.len + length x)) (nat_lt MAX_RECORD (w.len + length (x ++ y))) w.kept x y
+    (λ e. le-ltb MAX_RECORD (w.len + length x) (let k : w.len + length (x ++ y) ≤ MAX_RECORD = ltb-false MAX_RECORD (w.len + length (x ++ y)) e in
     omega (arith, length-append x y))) in
     λ i. record { len = count i; kept = texts i }
 

@@ -1,5 +1,6 @@
 -- What a record's buffer holds: how many bytes were put into it, and those bytes as long as a record has room for them.
 use Rattle.std.specs.Prelude.{ℕ, ◌+◌, ◌-◌, ◌^◌, List, [], ◌++◌, length, min, nat_lt, if◌then◌else◌}
+use Rattle.vnfm_base.specs.declared.limits.TheConstants.{MAX_RECORD}
 
 -- how much was put, and what is kept of it
 pub record Written : Type 0 where
@@ -14,5 +15,5 @@ nothing = record { len = 0; kept = [] }
 unfoldable pub put : Written → List ℕ → Written
 put w bytes = record {
   len = min (w.len + length bytes) (2 ^ 64 - 1);
-  kept = if nat_lt 65536 (w.len + length bytes) then [] else w.kept ++ bytes;
+  kept = if nat_lt MAX_RECORD (w.len + length bytes) then [] else w.kept ++ bytes;
 }

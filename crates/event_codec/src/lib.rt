@@ -19,5 +19,5 @@ mod writing;
 pub use fault::DecodeFault;
 pub use laws::no_spelling_begins_another;
 pub use reading::decode;
-pub use record_buf::{RECORD_MAX, RecordBuf};
+pub use record_buf::RecordBuf;
 pub use writing::{TooLong, encode};

@@ -7,15 +7,12 @@ ghost use Rattle.vnfm_base.specs.Text.{IsName, IsLine};
 
 use std::alloc::{AllocError, Global};
 use std::marker::Model;
-use vnfm_base::{Line, Name};
-
-/// Bytes of the longest record.
-pub const RECORD_MAX: usize = 65_536;
+use vnfm_base::{Line, MAX_RECORD, Name};
 
 /// Room for the bytes of one record.
 ///
 /// A contract sees how many bytes were put into it, and the bytes that are kept: all of them as long as they are at
-/// most `RECORD_MAX`, and none behind that.
+/// most `MAX_RECORD`, and none behind that.
 #[derive(Drop)]
 pub struct RecordBuf {
     len: u64,
@@ -25,12 +22,13 @@ pub struct RecordBuf {
 impl Model for RecordBuf {
     ghost use Rattle.std.specs.Prelude.{◌≤◌, length, vec_capacity};
     ghost use Rattle.event_codec.specs.Written.{Written};
+    ghost use Rattle.vnfm_base.specs.declared.limits.TheConstants.{MAX_RECORD};
 
     ghost Value = { Written };
 
     ghost view = { λ b. record { len = b.len; kept = b.bytes.items } };
 
-    ghost invariant = { λ b. (65536 ≤ vec_capacity b.bytes) × (length b.bytes.items ≤ b.len) };
+    ghost invariant = { λ b. (MAX_RECORD ≤ vec_capacity b.bytes) × (length b.bytes.items ≤ b.len) };
 }
 
 impl RecordBuf {
@@ -38,7 +36,7 @@ impl RecordBuf {
     pub fn new(alloc: Global) -> Result<RecordBuf, AllocError>
         ensures { IfOk result (λ b. b ≡ nothing) }
     {
-        let bytes = Vec::with_capacity(alloc, RECORD_MAX)?;
+        let bytes = Vec::with_capacity(alloc, MAX_RECORD)?;
         Ok(RecordBuf { len: 0, bytes })
     }
 
@@ -69,7 +67,7 @@ impl RecordBuf {
         ensures { self.new ≡ put self.old bytes.now }
     {
         self.len = self.len.saturating_add(bytes.len() as u64);
-        if self.len > RECORD_MAX as u64 {
+        if self.len > MAX_RECORD as u64 {
             self.bytes.clear();
         } else {
             let _ = self.bytes.extend_from_slice(bytes);

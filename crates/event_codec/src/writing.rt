@@ -4,14 +4,16 @@ ghost use Rattle.event_codec.specs.Numbers as number;
 ghost use Rattle.event_codec.specs.Spell.{spelling, kind_number, fields};
 ghost use Rattle.event_codec.specs.Typed.{TypedEvent, TypedKind};
 ghost use Rattle.event_codec.specs.Valid.{IsEvent};
+ghost use Rattle.vnfm_base.specs.declared.limits.TheConstants.{MAX_RECORD};
 ghost use Rattle.event_codec.specs.Written.{nothing, put};
 
 use crate::numbers;
-use crate::record_buf::{RECORD_MAX, RecordBuf};
+use crate::record_buf::RecordBuf;
 use crate::write_lists::{few, many, optional};
 use crate::write_parts::{filter, grant_try, operation, outcome, tag, vnfd};
 use lcm_events::{Event, EventKind};
 use thiserror::Error;
+use vnfm_base::MAX_RECORD;
 
 /// The event has so many bytes, more than a record holds.
 #[derive(Debug, Drop, Error)]
@@ -27,13 +29,13 @@ pub fn encode(event: &Event, buf: &mut RecordBuf) -> Result<(), TooLong>
     requires rules { TypedEvent event.now → IsEvent event.now }
     ensures event { IsEvent event.now }
     ensures ok { OnOk result (buf.new.kept ≡ spelling event.now) }
-    ensures fits { IsOk result ↔ (length (spelling event.now) ≤ 65536) }
+    ensures fits { IsOk result ↔ (length (spelling event.now) ≤ MAX_RECORD) }
     ensures too_long { IfErr result (λ fault. fault.0 ≡ length (spelling event.now)) }
 {
     buf.clear();
     put_event(buf, event);
     let len = buf.put_len();
-    if len > RECORD_MAX as u64 {
+    if len > MAX_RECORD as u64 {
         return Err(TooLong(len));
     }
     Ok(())

@@ -2,6 +2,7 @@
 use Rattle.std.specs.Prelude.{◌≡◌, ◌≤◌, ℕ, ◌+◌, ◌-◌, List, [], ◌++◌, length, take, drop, get_or, Option, Some, None}
 use Rattle.std.specs.Prelude.{Result, Err, OnOk}
 use Rattle.site_traits.specs.Site.{SiteState, Reads}
+use Rattle.vnfm_base.specs.declared.limits.TheConstants.{MAX_RECORD}
 use Rattle.journal_core.specs.declared.back.BackFault.{BackFault}
 use Rattle.journal_core.specs.declared.back.BackFault.TheVariants as fault
 use Rattle.journal_records.specs.File.{framed, records, size, IsRecord, HasRecords}
@@ -17,7 +18,7 @@ pub record HasAt (place end : ℕ) (bytes image : List ℕ) : Type 0 where
 -- a record of this size at this place ends at or before `end`
 pub record FitsAt (place end n : ℕ) : Type 0 where
   pub some : 1 ≤ n
-  pub fits : n ≤ 65536
+  pub fits : n ≤ MAX_RECORD
   pub whole : place + 5 + n ≤ end
 
 -- the file is whole, its closed gate stands at `end`, and it has a record n, from 1

@@ -2,6 +2,7 @@
 use Rattle.std.specs.Prelude.{◌≡◌, ◌≢◌, ◌≤◌, ◌<◌, ℕ, zero, suc, ◌+◌, ◌==◌, if◌then◌else◌, List, [], ◌∷◌, ◌++◌, length}
 use Rattle.std.specs.Prelude.{take, drop, replicate, All}
 use Rattle.std.specs.Int.{w32, to_be_bytes, from_be_bytes}
+use Rattle.vnfm_base.specs.declared.limits.TheConstants.{MAX_RECORD}
 
 -- the 32 bytes in front of the records of this manager: `VNFM-LCM`, the format 1, the manager's number and zeros
 unfoldable pub header : ℕ → List ℕ
@@ -41,7 +42,7 @@ size rs = 32 + length (blocks rs)
 -- a record has 1 to 65,536 bytes
 pub record IsRecord (bytes : List ℕ) : Type 0 where
   pub some : 1 ≤ length bytes
-  pub fits : length bytes ≤ 65536
+  pub fits : length bytes ≤ MAX_RECORD
 
 -- The file is made for this manager and whole, and its records are these, the oldest first: its header, an open record
 -- for each, and a gate that is closed. Behind that gate anything may stand.

@@ -2,6 +2,7 @@
 -- docs/JOURNAL.md).
 use Rattle.std.specs.Prelude.{◌≡◌, ◌≢◌, ◌⊎◌, ◌≤◌, ◌<◌, ℕ, ◌+◌, List, [], ◌∷◌, ◌++◌, length, take, get_or, All}
 use Rattle.std.specs.Int.{w32, from_be_bytes}
+use Rattle.vnfm_base.specs.declared.limits.TheConstants.{MAX_RECORD}
 use Rattle.journal_records.specs.declared.head.Head.{Head}
 use Rattle.journal_records.specs.declared.head.Head.TheVariants.{Closed, Open, Broken}
 use Rattle.journal_records.specs.File.{header, blocks, size, IsRecord}
@@ -14,7 +15,7 @@ number rest = from_be_bytes w32 (take 4 rest)
 pub record IsBody (end : ℕ) (rest : List ℕ) : Type 0 where
   pub whole : 4 + number rest ≤ length rest
   pub some : 1 ≤ number rest
-  pub fits : number rest ≤ 65536
+  pub fits : number rest ≤ MAX_RECORD
   pub small : end + 5 + number rest < 268435456
 
 -- a gate that isn't open stands in front
@@ -45,7 +46,7 @@ HeadIs end bytes Broken = IsBroken end bytes
 -- a record that begins at `end` ends within the file and its limit
 pub record EndsWithin (end len n : ℕ) : Type 0 where
   pub some : 1 ≤ n
-  pub fits : n ≤ 65536
+  pub fits : n ≤ MAX_RECORD
   pub whole : end + 5 + n ≤ len
   pub small : end + 5 + n < 268435456
 

@@ -9,7 +9,7 @@ ghost use Rattle.vnfm_base.specs.declared.name.TheConstants.{NAME_MAX};
 ghost use Rattle.vnfm_base.specs.declared.line.TheConstants.{LINE_MAX};
 ghost use Rattle.vnfm_base.specs.declared.moment.TheConstants.{MAX_MOMENT};
 ghost use Rattle.lcm_model.specs.declared.limits.TheConstants.{MAX_DESCRIPTORS, MAX_INSTANCES, MAX_SUBSCRIPTIONS};
-ghost use Rattle.event_codec.specs.declared.record_buf.TheConstants.{RECORD_MAX};
+ghost use Rattle.vnfm_base.specs.declared.limits.TheConstants.{MAX_RECORD};
 ghost use Rattle.json_views.specs.declared.occurrences.TheConstants.{MAX_LISTED};
 
 /// The limits of vnfm_base: a name has 255 bytes at most, a line 2,048, and the last moment is
@@ -36,7 +36,7 @@ pub fn limits_of_histories()
 ///
 /// Source: own format, docs/EVENTS.md.
 pub fn limits_of_spellings()
-    ensures record { RECORD_MAX ≡ 65536 }
+    ensures record { MAX_RECORD ≡ 65536 }
 {}
 
 /// The limits of site_traits: an answer that is heard has a body of 1,048,576 bytes at most, and an object in memory

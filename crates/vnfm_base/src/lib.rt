@@ -4,6 +4,7 @@
 mod bytes;
 mod decimal;
 mod identifier;
+mod limits;
 mod line;
 mod moment;
 mod name;
@@ -13,6 +14,7 @@ mod text;
 pub use bytes::Bytes;
 pub use decimal::whole_number;
 pub use identifier::{Kind, ident, ident_read, ident_text};
+pub use limits::MAX_RECORD;
 pub use line::{LINE_MAX, Line, LineFault};
 pub use moment::{MAX_MOMENT, Moment, moment_text};
 pub use name::{NAME_MAX, Name};
