@@ -1,7 +1,7 @@
 -- The events of the next action are allowed.
 use Rattle.std.proofs.Common.{◌≡◌, ◌≤◌, ◌<◌, ◌+◌, ◌&&◌, ◌||◌, ◌==◌, ◌∙◌, ℕ, List, [], ◌∷◌, Bool, true, false, not, Option, None, Some}
-use Rattle.std.proofs.Common.{is_some, refl, ap, sym, subst, length, arith, zero, suc, inl, inr, ◌⊎◌, ltb, ltb-true, eqb-true, eq-eqb}
-use Rattle.std.proofs.Common.{false-eqb, slice_get, unwrap_or, ◌≢◌}
+use Rattle.std.proofs.Common.{is_some, refl, ap, sym, subst, length, arith, zero, suc, inl, inr, ◌⊎◌, filter, ltb, ltb-true, eqb-true}
+use Rattle.std.proofs.Common.{eq-eqb, false-eqb, slice_get, unwrap_or, ◌≢◌}
 use Rattle.std.specs.List.{enumerate_from, list_all, range_with_len}
 use Rattle.std.specs.Option.{option_map_or}
 use Rattle.std.specs.Prelude.{option_and_then, option_map}
@@ -19,7 +19,7 @@ use Rattle.lcm_events.specs.declared.events.Operation.{Operation}
 use Rattle.lcm_events.specs.declared.states.OpState.{OpState}
 use Rattle.lcm_events.specs.declared.states.OpState.TheVariants.{Completed, FailedTemp, Processing, RolledBack, RollingBack, Starting}
 use Rattle.lcm_model.specs.declared.actions.Action.{Action}
-use Rattle.lcm_model.specs.declared.actions.Action.TheVariants.{AskForGrant, MoveTo, Poll}
+use Rattle.lcm_model.specs.declared.actions.Action.TheVariants.{AbortAndLook, AskForGrant, Look, MoveTo, Poll}
 use Rattle.lcm_model.specs.Words.{IsIn, first, first_some, last, when}
 use Rattle.lcm_model.specs.Moves.{is_active, state}
 use Rattle.lcm_model.specs.Attempts.{is_of, is_of_occurrence, is_open, net, open_attempts, open_of, open_tags}
@@ -29,18 +29,18 @@ use Rattle.lcm_model.specs.Since.{has_trouble, is_cancelled, is_forced}
 use Rattle.lcm_model.specs.Planned.{is_before}
 use Rattle.lcm_model.specs.Refusals.{case_in, situation}
 use Rattle.lcm_model.specs.Work.{HasStopped, IsQuiet, IsTurnOf, MayBeginWithin, MayMove, all_have_net, all_through, gives_up, goes_before}
-use Rattle.lcm_model.specs.Work.{has_net, is_through, net_after, net_before, works_in}
+use Rattle.lcm_model.specs.Work.{has_net, is_through, net_after, net_before, window, works_in}
 use Rattle.lcm_model.specs.Allowed.{IsAllowedWithin, IsAsking, IsLegalWithin, IsPlanOf}
 use Rattle.lcm_model.specs.Lives.{descriptor}
 use Rattle.lcm_model.specs.Next.{Answer, BeginFailed, BeginRefused, BeginTaken, GrantCame, GrantDenied, GrantLater, GrantMissesSome}
-use Rattle.lcm_model.specs.Next.{GrantTrouble, LookedAborted, LookedAbsent, LookedBroken, LookedDone, appended, begin_of, beginning}
-use Rattle.lcm_model.specs.Next.{first_open, granting, is_at_net, look_at, looking, new_tag, next_action, next_at_work, next_in}
-use Rattle.lcm_model.specs.Next.{next_while_asking, polling, with_net}
+use Rattle.lcm_model.specs.Next.{GrantTrouble, LookedAborted, LookedAbsent, LookedBroken, LookedDone, appended, begin_of, beginning, chosen}
+use Rattle.lcm_model.specs.Next.{end_of, first_open, free, goes_on, granting, is_at_net, is_free, is_none_open, looking, new_tag}
+use Rattle.lcm_model.specs.Next.{next_action, next_at_work, next_in, next_while_asking, only_when, polling, with_net}
 use Rattle.lcm_laws.specs.Acting.{IsAnswer, with_events}
 use Rattle.lcm_laws.proofs.Histories.{event, legal_induction}
-use Rattle.lcm_laws.proofs.Lists.{first-nil, and_left, and_true, by_test}
-use Rattle.lcm_laws.proofs.Members.{any_in, get_in, get_within, Less, Rises, in_filter, in_range, of_filter, of_range, rises_filter}
-use Rattle.lcm_laws.proofs.Members.{rises_range}
+use Rattle.lcm_laws.proofs.Lists.{first-nil, and_left, and_right, and_true, by_test}
+use Rattle.lcm_laws.proofs.Members.{any_in, get_in, get_within, Less, Rises, in_filter, in_map, in_range, of_filter, of_map, of_range}
+use Rattle.lcm_laws.proofs.Members.{rises_filter, rises_range}
 use Rattle.lcm_laws.proofs.FreshLaws.{fresh_open, fresh_unfailed}
 use Rattle.lcm_laws.proofs.NetLaws.{made_at_most_once}
 use Rattle.lcm_laws.proofs.PlanHistory.{descriptor_valid, found_in}
@@ -182,12 +182,6 @@ legal_looking width m H now t (LookedBroken code) legal h = (h, legal)
 legal_looking width m H now t LookedAborted legal h = (h, legal)
 legal_looking width m H now t LookedAbsent legal h = (h, legal)
 legal_looking width m H now t _ legal h = legal
-
-fine_look : (width m : ℕ) (H : List Event) (o now : ℕ) (t : Tag) (answer : Answer) (force : Bool) → IsLegalWithin width m H
-    → is_open H t ≡ true
-    → IsFine width m H o now answer (look_at force t)
-fine_look width m H o now t answer true legal h = legal_looking width m H now t answer legal h
-fine_look width m H o now t answer false legal h = legal_looking width m H now t answer legal h
 
 first_open-open : (H : List Event) (o : ℕ) (t : Tag) → first_open H o ≡ Some t → is_open H t ≡ true
 first_open-open H o t e =
@@ -351,15 +345,6 @@ through width m H o w c x legal chosen is =
     rw shift (or_true_right (not (goes_before w x.phase y)) (net H o j == net_after w) (eq-eqb (net H o j) (net_after w) after)))
     (λ stays. rw stays refl))
 
-turn_of : (width m : ℕ) (H : List Event) (o : ℕ) (w : Way) (c : ℕ) → IsLegalWithin width m H → IsChosen H o w c → (x : Option Change)
-    → slice_get (changes H o) c ≡ x
-    → IsTurnOf H (new_tag H o w c) x
-turn_of width m H o w c legal chosen None is = get_missing (changes H o) c (of_with_net H o (net_before w) c chosen.0).0 is
-turn_of width m H o w c legal chosen (Some x) is = (
-  (of_with_net H o (net_before w) c chosen.0).1,
-  through width m H o w c x legal chosen is,
-)
-
 none_of_change : (H : List Event) (o c : ℕ) → open_of H o ≡ [] → open_attempts H o c ≡ []
 none_of_change H o c none = empty (open_attempts H o c) (λ t h.
     let from = of_filter (is_of o c) t (open_tags H) h in
@@ -369,18 +354,90 @@ none_of_change H o c none = empty (open_attempts H o c) (λ t h.
       empty [] f = refl
       empty (t ∷ ts) f = absurd (f t (inl refl))
 
-may_begin : (width m : ℕ) (H : List Event) (o : ℕ) (w : Way) (c : ℕ) → 1 ≤ width → IsLegalWithin width m H → state H o ≡ works_in w
-    → open_of H o ≡ []
-    → (has_trouble H o || is_cancelled H o) ≡ false → IsChosen H o w c → MayBeginWithin width H (new_tag H o w c)
-may_begin width m H o w c wide legal works none quiet chosen = record {
-  works = works;
-  no_trouble = or_left_false (has_trouble H o) (is_cancelled H o) quiet;
-  no_cancel = or_right_false (has_trouble H o) (is_cancelled H o) quiet;
-  room = (let n : length (open_of H o) ≡ 0 = ap length none in omega (arith, n, wide));
-  none_open = none_of_change H o c none;
-  number = refl;
-  turn = turn_of width m H o w c legal chosen (slice_get (changes H o) c) refl;
-}
+-- an entry with its number is at that place
+of_placed : {A : Type 0} → (k c : ℕ) (x : A) (xs : List A) → IsIn (c, x) (enumerate_from k xs)
+    → (j : ℕ) × (c ≡ k + j) × (slice_get xs j ≡ Some x)
+of_placed k c x [] h = absurd h
+of_placed k c x (y ∷ xs) (inl is) = let first : k ≡ c = ap (λ z. z.0) is in let same : y ≡ x = ap (λ z. z.1) is in
+    (0, omega (arith, first), cc)
+of_placed k c x (y ∷ xs) (inr h) = let rest = of_placed (k + 1) c x xs h in let at = rest.1 in (suc rest.0, omega (arith, at), rest.2)
+
+in_placed : {A : Type 0} → (k j : ℕ) (x : A) (xs : List A) → slice_get xs j ≡ Some x → IsIn (k + j, x) (enumerate_from k xs)
+in_placed k j x [] e = cc
+in_placed k zero x (y ∷ xs) e = let same : y ≡ x = cc in let here : k ≡ k + 0 = omega arith in
+    inl (ap (λ z. (z, y)) here ∙ ap (λ z. (k + 0, z)) same)
+in_placed {A} k (suc j) x (y ∷ xs) e =
+    let same : (k + 1) + j ≡ k + suc j = omega arith in
+    inr (subst (λ (n : ℕ). IsIn (n, x) (enumerate_from (k + 1) xs)) same (in_placed (k + 1) j x xs e))
+
+-- a change that may be attempted, with what makes it so
+abbrev IsFree : List Event → ℕ → Way → ℕ → Change → Type 0
+IsFree H o w c x = (net H o c ≡ net_before w) × (open_attempts H o c ≡ []) × (all_through H o w x.phase ≡ true)
+
+nil_open : (ts : List Tag) → is_none_open ts ≡ true → ts ≡ []
+nil_open [] e = refl
+nil_open (t ∷ ts) e = cc
+
+of_is_free : (H : List Event) (o : ℕ) (w : Way) (c : ℕ) (x : Change) → is_free H o w (c, x) ≡ true → IsFree H o w c x
+unfolding is_free
+of_is_free H o w c x e =
+    let rest = and_right (net H o c == net_before w) (is_none_open (open_attempts H o c) && all_through H o w x.phase) e in (
+      eqb-true (net H o c) (net_before w) (and_left (net H o c == net_before w) _ e),
+      nil_open (open_attempts H o c) (and_left (is_none_open (open_attempts H o c)) (all_through H o w x.phase) rest),
+      and_right (is_none_open (open_attempts H o c)) (all_through H o w x.phase) rest,
+    )
+
+in_is_free : (H : List Event) (o : ℕ) (w : Way) (c : ℕ) (x : Change) → IsFree H o w c x → is_free H o w (c, x) ≡ true
+unfolding is_free
+in_is_free H o w c x h =
+    and_true (net H o c == net_before w) (is_none_open (open_attempts H o c) && all_through H o w x.phase)
+    (eq-eqb (net H o c) (net_before w) h.0)
+    (and_true (is_none_open (open_attempts H o c)) (all_through H o w x.phase) (ap is_none_open h.1) h.2)
+
+of_free : (H : List Event) (o : ℕ) (w : Way) (c : ℕ) → IsIn c (free H o w)
+    → (x : Change) × (slice_get (changes H o) c ≡ Some x) × IsFree H o w c x
+of_free H o w c h =
+    let from = of_map (λ (z : ℕ × Change). z.0) c (filter (is_free H o w) (enumerate_from 0 (changes H o))) h in
+    let entry = of_filter (is_free H o w) from.0 (enumerate_from 0 (changes H o)) from.1 in
+    let place = of_placed 0 from.0.0 from.0.1 (changes H o) entry.0 in
+    let at = place.1 in
+    let is = from.2 in
+    let same : place.0 ≡ c = omega (arith, at, is) in (
+      from.0.1,
+      subst (λ (n : ℕ). slice_get (changes H o) n ≡ Some from.0.1) same place.2,
+      subst (λ (n : ℕ). IsFree H o w n from.0.1) is (of_is_free H o w from.0.0 from.0.1 entry.1),
+    )
+
+in_free : (H : List Event) (o : ℕ) (w : Way) (c : ℕ) (x : Change) → slice_get (changes H o) c ≡ Some x → IsFree H o w c x
+    → IsIn c (free H o w)
+in_free H o w c x at h =
+    let same : 0 + c ≡ c = omega arith in
+    in_map (λ (z : ℕ × Change). z.0) (c, x) (filter (is_free H o w) (enumerate_from 0 (changes H o)))
+    (in_filter (is_free H o w) (c, x) (enumerate_from 0 (changes H o))
+    (subst (λ (n : ℕ). IsIn (n, x) (enumerate_from 0 (changes H o))) same (in_placed 0 c x (changes H o) at)) (in_is_free H o w c x h))
+
+not_so : (b : Bool) → not b ≡ true → b ≡ false
+not_so true e = cc
+not_so false e = refl
+
+may_begin : (width : ℕ) (H : List Event) (o : ℕ) (w : Way) (c : ℕ) → window ≤ width → state H o ≡ works_in w → goes_on H o ≡ true
+    → IsIn c (free H o w)
+    → MayBeginWithin width H (new_tag H o w c)
+may_begin width H o w c wide works on h =
+    let it = of_free H o w c h in
+    let quiet = not_so (has_trouble H o || is_cancelled H o) (and_left (not (has_trouble H o || is_cancelled H o))
+    (ltb (length (open_of H o)) window) on) in
+    let fewer = ltb-true (length (open_of H o)) window (and_right (not (has_trouble H o || is_cancelled H o))
+    (ltb (length (open_of H o)) window) on) in
+    record {
+      works = works;
+      no_trouble = or_left_false (has_trouble H o) (is_cancelled H o) quiet;
+      no_cancel = or_right_false (has_trouble H o) (is_cancelled H o) quiet;
+      room = omega (arith, fewer, wide);
+      none_open = it.2.1;
+      number = refl;
+      turn = subst (λ (y : Option Change). IsTurnOf H (new_tag H o w c) y) (sym it.1) (it.2.0, it.2.2);
+    }
 
 legal_beginning : (width m : ℕ) (H : List Event) (now : ℕ) (t : Tag) (answer : Answer) → IsLegalWithin width m H → MayBeginWithin width H t
     → IsLegalWithin width m (with_events now (beginning t answer) H)
@@ -413,11 +470,6 @@ all_after width m H o w legal none =
     absurd (subst (λ (ns : List ℕ). IsIn j ns) none (in_with_net H o (net_before w) j (get_within y (changes H o) j e) waits))) in
     rw shift (eq-eqb (net H o j) (net_after w) after))
 
--- where the work of an occurrence ends
-abbrev end_of : Way → OpState
-end_of Forward = Completed
-end_of Undo = RolledBack
-
 may_end : (width m : ℕ) (H : List Event) (o : ℕ) (w : Way) → IsLegalWithin width m H → open_of H o ≡ []
     → (has_trouble H o || is_cancelled H o) ≡ false
     → with_net H o (net_before w) ≡ [] → MayMove H o (works_in w) (end_of w)
@@ -428,62 +480,111 @@ may_stop : (H : List Event) (o : ℕ) (w : Way) → HasStopped H o → MayMove H
 may_stop H o Forward h = h
 may_stop H o Undo h = h
 
--- the number of the change that is chosen
-abbrev choice : Way → List ℕ → Option ℕ
-choice Forward ns = first ns
-choice Undo ns = last ns
-
-chosen_is : (H : List Event) (o : ℕ) (w : Way) (c : ℕ) → choice w (with_net H o (net_before w)) ≡ Some c → IsChosen H o w c
+chosen_is : (H : List Event) (o : ℕ) (w : Way) (c : ℕ) → chosen w (with_net H o (net_before w)) ≡ Some c → IsChosen H o w c
 chosen_is H o Forward c e = (first_in c (with_net H o 0) e, λ j h. first_least c (with_net H o 0) (with_net_rises H o 0) e j h)
 chosen_is H o Undo c e = (last_in c (with_net H o 1) e, λ j h. last_greatest c (with_net H o 1) (with_net_rises H o 1) e j h)
 
-chosen_none : (w : Way) (ns : List ℕ) → choice w ns ≡ None → ns ≡ []
+chosen_none : (w : Way) (ns : List ℕ) → chosen w ns ≡ None → ns ≡ []
 chosen_none Forward ns e = first-nil ns e
 chosen_none Undo ns e = last-none ns e
 
--- what is done at work in either way
-abbrev work_lines : List Event → ℕ → Way → List (Option Action)
-work_lines H o w = option_map (begin_of H o w) (choice w (with_net H o (net_before w))) ∷ Some (MoveTo (end_of w)) ∷ []
+chosen_in : (w : Way) (ns : List ℕ) (c : ℕ) → chosen w ns ≡ Some c → IsIn c ns
+chosen_in Forward ns c e = first_in c ns e
+chosen_in Undo ns c e = last_in c ns e
 
-fine_work : (width m : ℕ) (H : List Event) (o now : ℕ) (answer : Answer) (action : Action) (w : Way) → 1 ≤ width → IsLegalWithin width m H
-    → is_some (operation H o) ≡ true
-    → state H o ≡ works_in w → next_at_work H o (work_lines H o w) ≡ Some action → IsFine width m H o now answer action
+-- where nothing is open, the least or greatest change that waits may be attempted; so where none may, none waits
+none_waits : (width m : ℕ) (H : List Event) (o : ℕ) (w : Way) → IsLegalWithin width m H → open_of H o ≡ [] → free H o w ≡ []
+    → with_net H o (net_before w) ≡ []
+none_waits width m H o w legal none empty = by (chosen w (with_net H o (net_before w))) refl where
+  at : (c : ℕ) → IsChosen H o w c → (x : Option Change) → slice_get (changes H o) c ≡ x → ⊥
+  at c is None missing = get_missing (changes H o) c (of_with_net H o (net_before w) c is.0).0 missing
+  at c is (Some x) found =
+      subst (λ (ns : List ℕ). IsIn c ns) empty
+      (in_free H o w c x found (
+        (of_with_net H o (net_before w) c is.0).1,
+        none_of_change H o c none,
+        through width m H o w c x legal is found,
+      ))
+
+  by : (n : Option ℕ) → chosen w (with_net H o (net_before w)) ≡ n → with_net H o (net_before w) ≡ []
+  by None is = chosen_none w (with_net H o (net_before w)) is
+  by (Some c) is = absurd (at c (chosen_is H o w c is) (slice_get (changes H o) c) refl)
+
+pick_only : {A : Type 0} → (b : Bool) (x : Option A) (y : A) (lines : List (Option A)) → first_some (only_when b x ∷ lines) ≡ Some y
+    → ((b ≡ true) × (x ≡ Some y)) ⊎ ((b ≡ true → x ≡ None) × (first_some lines ≡ Some y))
+pick_only true (Some z) y lines e = inl (refl, e)
+pick_only true None y lines e = inr ((λ h. refl), e)
+pick_only false x y lines e = inr ((λ h. cc), e)
+
+of_mapped : {A B : Type 0} → (f : A → B) (x : Option A) (y : B) → option_map f x ≡ Some y → (z : A) × (x ≡ Some z) × (f z ≡ y)
+of_mapped f (Some z) y e = (z, refl, cc)
+of_mapped f None y e = cc
+
+none_mapped : {A B : Type 0} → (f : A → B) (x : Option A) → option_map f x ≡ None → x ≡ None
+none_mapped f None e = refl
+none_mapped f (Some z) e = cc
+
+quiet_goes_on : (H : List Event) (o : ℕ) → open_of H o ≡ [] → (has_trouble H o || is_cancelled H o) ≡ false → goes_on H o ≡ true
+quiet_goes_on H o none quiet = rw (quiet, none) refl
+
+fine_work : (width m : ℕ) (H : List Event) (o now : ℕ) (answer : Answer) (action : Action) (w : Way) → window ≤ width
+    → IsLegalWithin width m H → is_some (operation H o) ≡ true
+    → state H o ≡ works_in w → next_at_work H o w ≡ Some action → IsFine width m H o now answer action
 fine_work width m H o now answer action w wide legal asked is e =
-    look (pick_map (look_at (is_forced H o)) (first_open H o) action _ e) where
-      begin : open_of H o ≡ [] → (has_trouble H o || is_cancelled H o) ≡ false
-          → ((c : ℕ) × (choice w (with_net H o (net_before w)) ≡ Some c) × (begin_of H o w c ≡ action))
-          ⊎ ((choice w (with_net H o (net_before w)) ≡ None) × (first_some (Some (MoveTo (end_of w)) ∷ []) ≡ Some action))
-          → IsFine width m H o now answer action
-      begin none quiet (inl h) =
-          subst (λ (a : Action). IsFine width m H o now answer a) h.2
-          (legal_beginning width m H now (new_tag H o w h.0) answer legal
-          (may_begin width m H o w h.0 wide legal is none quiet (chosen_is H o w h.0 h.1)))
-      begin none quiet (inr h) =
-          let same : MoveTo (end_of w) ≡ action = cc in
-          subst (λ (a : Action). IsFine width m H o now answer a) same
-          (fine_move width m H o now answer (works_in w) (end_of w) legal asked is
-          (may_end width m H o w legal none quiet (chosen_none w (with_net H o (net_before w)) h.0)))
+    abort (pick_only (is_forced H o) (option_map AbortAndLook (first_open H o)) action _ e) where
+      looks : (t : Tag) → first_open H o ≡ Some t → IsLegalWithin width m (with_events now (looking t answer) H)
+      looks t found = legal_looking width m H now t answer legal (first_open-open H o t found)
 
-      stop : open_of H o ≡ [] → (((has_trouble H o || is_cancelled H o) ≡ true) × (MoveTo FailedTemp ≡ action))
-          ⊎ (((has_trouble H o || is_cancelled H o) ≡ false) × (first_some (work_lines H o w) ≡ Some action))
+      done : open_of H o ≡ [] → (goes_on H o ≡ true → chosen w (free H o w) ≡ None) → (has_trouble H o || is_cancelled H o) ≡ false
+          → IsFine width m H o now answer (MoveTo (end_of w))
+      done none left quiet =
+          let empty = chosen_none w (free H o w) (left (quiet_goes_on H o none quiet)) in
+          fine_move width m H o now answer (works_in w) (end_of w) legal asked is
+          (may_end width m H o w legal none quiet (none_waits width m H o w legal none empty))
+
+      stop : open_of H o ≡ [] → (goes_on H o ≡ true → chosen w (free H o w) ≡ None)
+          → (((has_trouble H o || is_cancelled H o) ≡ true) × (MoveTo FailedTemp ≡ action))
+          ⊎ (((has_trouble H o || is_cancelled H o) ≡ false) × (first_some (Some (MoveTo (end_of w)) ∷ []) ≡ Some action))
           → IsFine width m H o now answer action
-      stop none (inl h) =
+      stop none left (inl h) =
           subst (λ (a : Action). IsFine width m H o now answer a) h.1
           (fine_move width m H o now answer (works_in w) FailedTemp legal asked is (may_stop H o w (record { none_open = none; cause = h.0 })))
-      stop none (inr h) = begin none h.0 (pick_map (begin_of H o w) (choice w (with_net H o (net_before w))) action _ h.1)
+      stop none left (inr h) =
+          let same : MoveTo (end_of w) ≡ action = cc in
+          subst (λ (a : Action). IsFine width m H o now answer a) same (done none left h.0)
 
-      look : ((t : Tag) × (first_open H o ≡ Some t) × (look_at (is_forced H o) t ≡ action))
-          ⊎ ((first_open H o ≡ None) × (first_some (when (has_trouble H o || is_cancelled H o) (MoveTo FailedTemp) ∷ work_lines H o w)
-          ≡ Some action))
+      look : (goes_on H o ≡ true → chosen w (free H o w) ≡ None) → ((t : Tag) × (first_open H o ≡ Some t) × (Look t ≡ action))
+          ⊎ ((first_open H o ≡ None) × (first_some (when (has_trouble H o || is_cancelled H o) (MoveTo FailedTemp) ∷ Some (MoveTo (end_of w))
+          ∷ []) ≡ Some action))
           → IsFine width m H o now answer action
-      look (inl h) =
-          subst (λ (a : Action). IsFine width m H o now answer a) h.2 (fine_look width m H o now h.0 answer (is_forced H o) legal
-          (first_open-open H o h.0 h.1))
-      look (inr h) =
-          stop (last-none (open_of H o) h.0) (pick_when (has_trouble H o || is_cancelled H o) (MoveTo FailedTemp) action _ h.1)
+      look left (inl h) = subst (λ (a : Action). IsFine width m H o now answer a) h.2 (looks h.0 h.1)
+      look left (inr h) = stop (last-none (open_of H o) h.0) left (pick_when (has_trouble H o || is_cancelled H o)
+          (MoveTo FailedTemp) action _ h.1)
 
-fine_in : (width m : ℕ) (H : List Event) (o now : ℕ) (answer : Answer) (action : Action) (s : OpState) → 1 ≤ width → IsLegalWithin width m H
-    → is_some (operation H o) ≡ true
+      begin : ((goes_on H o ≡ true) × (option_map (begin_of H o w) (chosen w (free H o w)) ≡ Some action))
+          ⊎ ((goes_on H o ≡ true → option_map (begin_of H o w) (chosen w (free H o w)) ≡ None)
+          × (first_some (option_map Look (first_open H o) ∷ when (has_trouble H o || is_cancelled H o) (MoveTo FailedTemp)
+          ∷ Some (MoveTo (end_of w)) ∷ []) ≡ Some action))
+          → IsFine width m H o now answer action
+      begin (inl h) =
+          let it = of_mapped (begin_of H o w) (chosen w (free H o w)) action h.1 in
+          subst (λ (a : Action). IsFine width m H o now answer a) it.2
+          (legal_beginning width m H now (new_tag H o w it.0) answer legal
+          (may_begin width H o w it.0 wide is h.0 (chosen_in w (free H o w) it.0 it.1)))
+      begin (inr h) = look (λ on. none_mapped (begin_of H o w) (chosen w (free H o w)) (h.0 on)) (pick_map Look (first_open H o) action _ h.1)
+
+      abort : ((is_forced H o ≡ true) × (option_map AbortAndLook (first_open H o) ≡ Some action))
+          ⊎ ((is_forced H o ≡ true → option_map AbortAndLook (first_open H o) ≡ None)
+          × (first_some (only_when (goes_on H o) (option_map (begin_of H o w) (chosen w (free H o w))) ∷ option_map Look (first_open H o)
+          ∷ when (has_trouble H o || is_cancelled H o) (MoveTo FailedTemp) ∷ Some (MoveTo (end_of w)) ∷ []) ≡ Some action))
+          → IsFine width m H o now answer action
+      abort (inl h) =
+          let it = of_mapped AbortAndLook (first_open H o) action h.1 in
+          subst (λ (a : Action). IsFine width m H o now answer a) it.2 (looks it.0 it.1)
+      abort (inr h) = begin (pick_only (goes_on H o) (option_map (begin_of H o w) (chosen w (free H o w))) action _ h.1)
+
+fine_in : (width m : ℕ) (H : List Event) (o now : ℕ) (answer : Answer) (action : Action) (s : OpState) → window ≤ width
+    → IsLegalWithin width m H → is_some (operation H o) ≡ true
     → IsAnswer H o answer → state H o ≡ s → next_in s H o ≡ Some action → IsFine width m H o now answer action
 fine_in width m H o now answer action Starting wide legal asked good is e =
     fine_starting width m H o now answer action legal asked is good e
@@ -499,7 +600,7 @@ acted s None action e = cc
 acted s (Some a) action e = e
 
 -- the events of the next action are allowed
-pub next_legal : (width m : ℕ) (H : List Event) → 1 ≤ width → IsLegalWithin width m H → (o now : ℕ) (action : Action) (answer : Answer)
+pub next_legal : (width m : ℕ) (H : List Event) → window ≤ width → IsLegalWithin width m H → (o now : ℕ) (action : Action) (answer : Answer)
     → is_some (operation H o) ≡ true
     → next_action H o ≡ Some action → IsAnswer H o answer → IsLegalWithin width m (with_events now (appended o action answer) H)
 next_legal width m H wide legal o now action answer asked e good =
@@ -510,17 +611,18 @@ some_line : {A : Type 0} → (o : Option A) (lines : List (Option A)) → is_som
 some_line None lines h = h
 some_line (Some x) lines h = refl
 
+works_on : (H : List Event) (o : ℕ) (w : Way) → is_some (next_at_work H o w) ≡ true
+works_on H o w =
+    some_line (only_when (is_forced H o) (option_map AbortAndLook (first_open H o))) _
+    (some_line (only_when (goes_on H o) (option_map (begin_of H o w) (chosen w (free H o w)))) _
+    (some_line (option_map Look (first_open H o)) _
+    (some_line (when (has_trouble H o || is_cancelled H o) (MoveTo FailedTemp)) _ refl)))
+
 active_acts_in : (H : List Event) (o : ℕ) (s : OpState) → is_some (next_in s H o) ≡ is_active s
 active_acts_in H o Starting = some_line (when (gives_up H o) (MoveTo RolledBack)) _
     (some_line (when (is_granted H o) (MoveTo Processing)) _ (some_line (when (is_some (location H o)) Poll) _ refl))
-active_acts_in H o Processing =
-    some_line (option_map (look_at (is_forced H o)) (first_open H o)) _
-    (some_line (when (has_trouble H o || is_cancelled H o) (MoveTo FailedTemp)) _
-    (some_line (option_map (begin_of H o Forward) (first (with_net H o 0))) _ refl))
-active_acts_in H o RollingBack =
-    some_line (option_map (look_at (is_forced H o)) (first_open H o)) _
-    (some_line (when (has_trouble H o || is_cancelled H o) (MoveTo FailedTemp)) _
-    (some_line (option_map (begin_of H o Undo) (last (with_net H o 1))) _ refl))
+active_acts_in H o Processing = works_on H o Forward
+active_acts_in H o RollingBack = works_on H o Undo
 active_acts_in H o _ = refl
 
 acts_where : (s : Option Action) (x : Option Operation) (b : Bool) → is_some s ≡ b → is_some (option_and_then (λ a. s) x) ≡ (is_some x && b)

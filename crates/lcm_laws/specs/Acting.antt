@@ -6,6 +6,7 @@ use Rattle.lcm_model.specs.declared.actions.Action.{Action}
 use Rattle.lcm_model.specs.Allowed.{IsLegalWithin}
 use Rattle.lcm_model.specs.Descriptors.{is_given}
 use Rattle.lcm_model.specs.Grants.{IsPlacing}
+use Rattle.lcm_model.specs.Work.{window}
 use Rattle.lcm_model.specs.Moves.{is_active, state}
 use Rattle.lcm_model.specs.Next.{Answer, GrantCame, appended, next_action}
 use Rattle.lcm_model.specs.Operations.{changes, operation}
@@ -23,7 +24,7 @@ IsAnswer H o _ = Unit {0}
 -- a legal history stays legal by the events that the next action of an occurrence appends, for each answer (own rule)
 abbrev pub NextActionsAreAllowed : Type 0
 NextActionsAreAllowed =
-    (width m : ℕ) (H : List Event) → 1 ≤ width → IsLegalWithin width m H
+    (width m : ℕ) (H : List Event) → window ≤ width → IsLegalWithin width m H
     → (o now : ℕ) (action : Action) (answer : Answer) → is_some (operation H o) ≡ true
     → next_action H o ≡ Some action → IsAnswer H o answer
     → IsLegalWithin width m (with_events now (appended o action answer) H)

@@ -21,7 +21,7 @@ use Rattle.lcm_model.specs.Refusals.{is_terminate}
 
 -- how many attempts of an occurrence the product has open at once, at most (own rule)
 abbrev pub window : ℕ
-window = 1
+window = 4
 
 -- the state in which attempts in this way are made (SOL 003 5.6.2)
 abbrev pub works_in : Way → OpState

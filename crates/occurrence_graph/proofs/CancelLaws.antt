@@ -1,8 +1,8 @@
 -- The next action takes the step of the cancel that is in force.
-use Rattle.std.proofs.Common.{◌≡◌, ◌∷◌, ℕ, List, [], Bool, true, false, not, Option, None, Some, is_some, refl, subst, ◌&&◌, ◌||◌, inl, inr}
-use Rattle.std.proofs.Common.{◌⊎◌}
+use Rattle.std.proofs.Common.{◌≡◌, ◌∷◌, ℕ, List, [], Bool, true, false, not, Option, None, Some, is_some, refl, subst, length, ◌&&◌, ◌||◌}
+use Rattle.std.proofs.Common.{inl, inr, ◌⊎◌}
 use Rattle.std.specs.List.{list_any}
-use Rattle.std.specs.Prelude.{if◌then◌else◌, option_and_then, option_map}
+use Rattle.std.specs.Prelude.{if◌then◌else◌, nat_lt, option_and_then, option_map}
 use Rattle.lcm_events.specs.declared.attempts.Tag.{Tag}
 use Rattle.lcm_events.specs.declared.events.Event.{Event}
 use Rattle.lcm_events.specs.declared.events.GrantTry.TheVariants.{Later, NotCovering, Trouble}
@@ -14,8 +14,9 @@ use Rattle.lcm_events.specs.declared.states.OpState.TheVariants.{FailedTemp, Pro
 use Rattle.lcm_model.specs.declared.actions.Action.{Action}
 use Rattle.lcm_model.specs.declared.actions.Action.TheVariants.{AbortAndLook, AskForGrant, Look, MoveTo, Poll}
 use Rattle.lcm_model.specs.Grants.{Covering, GrantAnswer, Refused, Tried, answers, has_ended, is_covering, is_granted, is_last, location}
+use Rattle.lcm_model.specs.Attempts.{open_of}
 use Rattle.lcm_model.specs.Moves.{is_active, state}
-use Rattle.lcm_model.specs.Next.{first_open, look_at, next_in, next_while_asking}
+use Rattle.lcm_model.specs.Next.{first_open, next_in, next_while_asking, only_when}
 use Rattle.lcm_model.specs.Operations.{operation}
 use Rattle.lcm_model.specs.Since.{has_trouble, is_cancelled, is_forced}
 use Rattle.lcm_model.specs.Words.{first_some, when}
@@ -56,31 +57,37 @@ asking_waits false false true located ends step = absurd (let e = ends refl in c
 asking_waits false false false true ends step = inl refl
 asking_waits false false false false ends step = inr refl
 
-abbrev working : Bool → Option Tag → Bool → Bool → List (Option Action) → Option Action
-working forced opened trouble cancelled lines = first_some (
-    option_map (look_at forced) opened
+abbrev working : Bool → Option Tag → Bool → Bool → Bool → Option Action → Action → Option Action
+working forced opened trouble cancelled fewer begin end = first_some (
+    only_when forced (option_map AbortAndLook opened)
+    ∷ only_when (not (trouble || cancelled) && fewer) begin
+    ∷ option_map Look opened
     ∷ when (trouble || cancelled) (MoveTo FailedTemp)
-    ∷ lines)
+    ∷ Some end ∷ [])
 
-working_leaves : (forced : Bool) (opened : Option Tag) (trouble : Bool) (lines : List (Option Action)) → is_some opened ≡ false
-    → working forced opened trouble true lines ≡ Some (MoveTo FailedTemp)
-working_leaves forced (Some t) trouble lines e = cc
-working_leaves forced None true lines e = refl
-working_leaves forced None false lines e = refl
+working_leaves : (forced : Bool) (opened : Option Tag) (trouble fewer : Bool) (begin : Option Action) (end : Action)
+    → is_some opened ≡ false
+    → working forced opened trouble true fewer begin end ≡ Some (MoveTo FailedTemp)
+working_leaves forced (Some t) trouble fewer begin end e = cc
+working_leaves true None true fewer begin end e = refl
+working_leaves true None false fewer begin end e = refl
+working_leaves false None true fewer begin end e = refl
+working_leaves false None false fewer begin end e = refl
 
-working_halts : (forced : Bool) (opened : Option Tag) (trouble : Bool) (lines : List (Option Action)) → is_some opened ≡ true
+working_halts : (forced : Bool) (opened : Option Tag) (trouble fewer : Bool) (begin : Option Action) (end : Action) → is_some opened ≡ true
     → mode_of forced ≡ Forceful
-    → working forced opened trouble true lines ≡ option_map AbortAndLook opened
-working_halts forced None trouble lines e is = cc
-working_halts true (Some t) trouble lines e is = refl
-working_halts false (Some t) trouble lines e is = cc
+    → working forced opened trouble true fewer begin end ≡ option_map AbortAndLook opened
+working_halts forced None trouble fewer begin end e is = cc
+working_halts true (Some t) trouble fewer begin end e is = refl
+working_halts false (Some t) trouble fewer begin end e is = cc
 
-working_waits : (forced : Bool) (opened : Option Tag) (trouble : Bool) (lines : List (Option Action)) → is_some opened ≡ true
+working_waits : (forced : Bool) (opened : Option Tag) (trouble fewer : Bool) (begin : Option Action) (end : Action) → is_some opened ≡ true
     → mode_of forced ≡ Graceful
-    → working forced opened trouble true lines ≡ option_map Look opened
-working_waits forced None trouble lines e is = cc
-working_waits true (Some t) trouble lines e is = cc
-working_waits false (Some t) trouble lines e is = refl
+    → working forced opened trouble true fewer begin end ≡ option_map Look opened
+working_waits forced None trouble fewer begin end e is = cc
+working_waits true (Some t) trouble fewer begin end e is = cc
+working_waits false (Some t) true fewer begin end e is = refl
+working_waits false (Some t) false fewer begin end e is = refl
 
 not_starting : (at : OpState) (mode : CancelMode) (waiting : Bool) → ¬ (at ≡ Starting) → Leaves at mode waiting → waiting ≡ false
 not_starting at mode waiting h (inl e) = e
@@ -96,18 +103,22 @@ takes_asking H o e = record {
 
 takes_processing : (H : List Event) (o : ℕ) → is_cancelled H o ≡ true → TakesStep Processing H o (next_in Processing H o)
 takes_processing H o e = record {
-  leaves = λ step. rw e (working_leaves (is_forced H o) (first_open H o) (has_trouble H o) _
+  leaves = λ step. rw e (working_leaves (is_forced H o) (first_open H o) (has_trouble H o) (nat_lt (length (open_of H o)) 4) _ _
       (not_starting Processing _ _ (λ never. cc) step));
-  halts = λ step. rw e (working_halts (is_forced H o) (first_open H o) (has_trouble H o) _ (step.0) (step.1));
-  waits = λ step. rw e (working_waits (is_forced H o) (first_open H o) (has_trouble H o) _ (step.0) (step.1));
+  halts = λ step. rw e (working_halts (is_forced H o) (first_open H o) (has_trouble H o) (nat_lt (length (open_of H o)) 4) _ _ (step.0)
+      (step.1));
+  waits = λ step. rw e (working_waits (is_forced H o) (first_open H o) (has_trouble H o) (nat_lt (length (open_of H o)) 4) _ _ (step.0)
+      (step.1));
 }
 
 takes_rolling_back : (H : List Event) (o : ℕ) → is_cancelled H o ≡ true → TakesStep RollingBack H o (next_in RollingBack H o)
 takes_rolling_back H o e = record {
-  leaves = λ step. rw e (working_leaves (is_forced H o) (first_open H o) (has_trouble H o) _
+  leaves = λ step. rw e (working_leaves (is_forced H o) (first_open H o) (has_trouble H o) (nat_lt (length (open_of H o)) 4) _ _
       (not_starting RollingBack _ _ (λ never. cc) step));
-  halts = λ step. rw e (working_halts (is_forced H o) (first_open H o) (has_trouble H o) _ (step.0) (step.1));
-  waits = λ step. rw e (working_waits (is_forced H o) (first_open H o) (has_trouble H o) _ (step.0) (step.1));
+  halts = λ step. rw e (working_halts (is_forced H o) (first_open H o) (has_trouble H o) (nat_lt (length (open_of H o)) 4) _ _ (step.0)
+      (step.1));
+  waits = λ step. rw e (working_waits (is_forced H o) (first_open H o) (has_trouble H o) (nat_lt (length (open_of H o)) 4) _ _ (step.0)
+      (step.1));
 }
 
 takes_in : (at : OpState) (H : List Event) (o : ℕ) → is_active at ≡ true → is_cancelled H o ≡ true → TakesStep at H o (next_in at H o)
