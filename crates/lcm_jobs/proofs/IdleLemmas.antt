@@ -46,11 +46,11 @@ use Rattle.lcm_jobs.proofs.Parts.{any_in, in_any, phase_back, phase_front}
 use Rattle.lcm_jobs.proofs.SoundLemmas.{sound_induction}
 
 -- what an attempt leaves of the definition
-leaves : List Event → ℕ → Def → Tag → Bool
+pub leaves : List Event → ℕ → Def → Tag → Bool
 leaves H i x t = option_map_or leaves_it (verb_on H i x t) false
 
 -- what is to stand among the jobs: what the history says, or what the open attempt left whose job was done
-abbrev expected : Bool → List Job → (Tag → Bool) → List Tag → Bool
+abbrev pub expected : Bool → List Job → (Tag → Bool) → List Tag → Bool
 expected s js left [] = s
 expected s js left (t ∷ ts) = if is_job_done js t then left t else s
 
@@ -122,7 +122,7 @@ tag_in j [] h = absurd h
 tag_in j (k ∷ js) (inl e) = inl (ap (λ (x : Job). x.tag) e)
 tag_in j (k ∷ js) (inr h) = inr (tag_in j js h)
 
-among_next : (width m : ℕ) (H : List Event) (time : ℕ) (k : EventKind) (i : ℕ) (x : Def) (js : List Job) → IsSoundWithin width m H js
+pub among_next : (width m : ℕ) (H : List Event) (time : ℕ) (k : EventKind) (i : ℕ) (x : Def) (js : List Job) → IsSoundWithin width m H js
     → IsAllowedWithin width m H k
     → stands_among (event time k ∷ H) i x js ≡ stands_among H i x js
 among_next width m H time k i x js sound allowed =
@@ -131,7 +131,7 @@ among_next width m H time k i x js sound allowed =
     (λ j h. work_next width m H time k i x j sound.legal allowed (jobs_known H js j.tag sound.begun (tag_in j js h))))
 
 -- what stands among the jobs is what is expected
-abbrev Expects : ℕ → Def → List Event → List Job → Type 0
+abbrev pub Expects : ℕ → Def → List Event → List Job → Type 0
 Expects i x H js = stands_among H i x js ≡ expected (stands H i x) js (leaves H i x) (open_on H i x)
 
 -- an event that leaves what stands and what is open
@@ -449,7 +449,7 @@ expects_job width m H time j i x js sound allowed h =
           subst (λ (y : Tag). is_on H i x y ≡ true) is on in cc)
           (λ other. other)
 
-expects : (width m : ℕ) (H : List Event) (js : List Job) → IsSoundWithin width m H js → (i : ℕ) (x : Def) → Expects i x H js
+pub expects : (width m : ℕ) (H : List Event) (js : List Job) → IsSoundWithin width m H js → (i : ℕ) (x : Def) → Expects i x H js
 expects width m H js sound i x =
     sound_induction width m (Expects i x) refl
     (λ H time k js sound allowed agreed h. expects_event width m H time k i x js sound allowed agreed h)

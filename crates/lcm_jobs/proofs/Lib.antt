@@ -1,3 +1,4 @@
+mod BesideLemmas
 pub mod Endings
 mod IdleLemmas
 pub mod KeepLemmas

@@ -4,12 +4,14 @@
 
 mod alternating;
 mod backing;
+mod beside;
 mod idle;
 mod keeping;
 mod standing;
 
 pub use alternating::{each_attempt_has_one_job, jobs_alternate, running_jobs_are_open};
 pub use backing::jobs_are_granted_work;
+pub use beside::computes_stand_beside_theirs;
 pub use idle::idle_instances_have_no_job_standing;
 pub use keeping::{
     endings_stay_agreed, fitting_events_may_come, jobs_may_arrive_behind_intents, jobs_may_end,
