@@ -1,5 +1,5 @@
 -- What a plan is asked with fits a record.
-use Rattle.std.proofs.Common.{◌≡◌, ◌≤◌, ℕ, List, refl, length, arith}
+use Rattle.std.proofs.Common.{◌≤◌, List, length, arith}
 use Rattle.std.proofs.lemmas.List.{length-append}
 use Rattle.lcm_events.specs.declared.asks.Ask.{Ask}
 use Rattle.lcm_events.specs.declared.changes.Change.{Change}

@@ -13,3 +13,4 @@ mod RecordLaws
 pub mod FitLaws
 pub mod SpanLaws
 pub mod StepLaws
+pub mod FreeLaws

@@ -4,3 +4,4 @@ pub mod Inventories
 pub mod Records
 pub mod Planning
 pub mod Rolls
+pub mod Free

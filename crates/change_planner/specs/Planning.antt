@@ -13,6 +13,7 @@ use Rattle.lcm_events.specs.declared.held.Holding.{Holding}
 use Rattle.lcm_events.specs.declared.states.Role.{Role}
 use Rattle.event_codec.specs.Spell.{spelling}
 use Rattle.event_codec.specs.Typed.{TypedAsk}
+use Rattle.vnfm_base.specs.declared.limits.TheConstants.{MAX_RECORD}
 use Rattle.change_planner.specs.Records.{NamesFew}
 use Rattle.lcm_model.specs.Instances.{inventory_of}
 use Rattle.lcm_model.specs.Levels.{count}
@@ -85,4 +86,4 @@ FitsRecord d ask changes =
       moment = time;
       kind = Asked
           (record { occ = occ; instance = instance; role = role; ask = ask; changes = changes });
-    })) ≤ 65536
+    })) ≤ MAX_RECORD

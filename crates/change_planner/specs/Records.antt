@@ -7,6 +7,7 @@ use Rattle.lcm_events.specs.declared.events.EventKind.TheVariants.{Asked}
 use Rattle.lcm_events.specs.declared.events.Operation.{Operation}
 use Rattle.event_codec.specs.Spell.{spelling}
 use Rattle.event_codec.specs.Typed.{TypedAsk}
+use Rattle.vnfm_base.specs.declared.limits.TheConstants.{MAX_RECORD}
 use Rattle.lcm_model.specs.Allowed.{IsAllowedWithin, IsLegalWithin}
 
 -- at most 512 machines are named (own limit)
@@ -21,4 +22,4 @@ abbrev pub AskedEventsFitRecords : Type 0
 AskedEventsFitRecords =
     (width m : ℕ) (H : List Event) (time : ℕ) (a : Operation) → IsLegalWithin width m H
     → IsAllowedWithin width m H (Asked a)
-    → TypedAsk a.ask → NamesFew a.ask → length (spelling (record { moment = time; kind = Asked a })) ≤ 65536
+    → TypedAsk a.ask → NamesFew a.ask → length (spelling (record { moment = time; kind = Asked a })) ≤ MAX_RECORD
