@@ -12,6 +12,7 @@ ghost use Rattle.lcm_model.specs.Notices.{is_small_filter};
 ghost use Rattle.lcm_model.specs.Operations.{occurrence_of, ongoing};
 ghost use Rattle.lcm_model.specs.Refusals.{delete_refusal};
 ghost use Rattle.lcm_model.specs.Words.{first};
+ghost use Rattle.lcm_model.specs.Work.{window};
 ghost use Rattle.lcm_tables.specs.Tables.{Judges, Says};
 
 use crate::tables::Tables;
@@ -37,7 +38,16 @@ fn is_small(filter: &Filter) -> bool
 }
 
 /// Attempts of an occurrence that may be open at one time.
-const WINDOW: usize = 1;
+///
+/// Source: own rule.
+pub const WINDOW: usize = 4;
+
+/// That the window is the model's. It does nothing, and its contract is the law.
+///
+/// Source: own rule.
+pub fn window_is_that_of_histories()
+    ensures { WINDOW ≡ window }
+{}
 
 /// Whether something of this number may be made: it is the next one, what it needs is there, and there is room.
 fn may_be_made(made: u64, number: u64, ready: bool, live: u64, limit: u64) -> bool

@@ -7,4 +7,5 @@ mod judges;
 mod notices;
 mod tables;
 
+pub use judges::{WINDOW, window_is_that_of_histories};
 pub use tables::Tables;

@@ -1,2 +1,3 @@
 pub mod ActiveLemmas
+mod RiseLemmas
 pub mod StepLemmas

@@ -1,10 +1,14 @@
 -- The next action of an active occurrence, by its row.
 use Rattle.std.proofs.Common.{◌≡◌, ◌<◌, ◌≤◌, ◌+◌, ◌||◌, ◌&&◌, ◌==◌, ◌++◌, ◌∙◌, ℕ, zero, suc, List, [], ◌∷◌, Bool, true, false, not, Option}
 use Rattle.std.proofs.Common.{None, Some, is_some, refl, ap, sym, subst, arith, length, map, filter, reverse, slice_get, option_map}
-use Rattle.std.proofs.Common.{eqb-true, eq-eqb}
-use Rattle.std.specs.List.{range_with_len}
+use Rattle.std.proofs.Common.{get_or, length-take-le, nat_lt, take}
+use Rattle.std.proofs.lemmas.List.{ext_get_or, get_or-take, length-map}
+use Rattle.std.proofs.lemmas.Option.{get_or_from_slice_get}
+use Rattle.std.proofs.lemmas.List.FromFn.{length-range_with_len}
+use Rattle.std.proofs.Math.ListN.{length-reverse}
+use Rattle.std.specs.List.{list_any, range_with_len}
 use Rattle.std.specs.Option.{option_map_or}
-use Rattle.std.specs.Prelude.{IfSome, if◌then◌else◌, option_and_then, unwrap_or}
+use Rattle.std.specs.Prelude.{if◌then◌else◌, option_and_then, unwrap_or}
 use mathlib.Core.List.{reverse-cons}
 use Rattle.lcm_events.specs.declared.attempts.Tag.{Tag}
 use Rattle.lcm_events.specs.declared.attempts.Way.{Way}
@@ -22,29 +26,32 @@ use Rattle.lcm_laws.proofs.GrantLaws.{granted_grant}
 use Rattle.lcm_laws.proofs.HoldLaws.{changes_of}
 use Rattle.lcm_laws.proofs.Lists.{by_test}
 use Rattle.lcm_model.specs.Allowed.{IsLegalWithin}
-use Rattle.lcm_model.specs.Attempts.{attempts, is_of, net, open_of}
+use Rattle.lcm_model.specs.Attempts.{attempts, is_of, is_of_occurrence, net, open_attempts, open_of, open_tags}
 use Rattle.lcm_model.specs.Grants.{grant, has_ended, is_granted, location}
 use Rattle.lcm_model.specs.Moves.{is_active, is_final, state}
-use Rattle.lcm_model.specs.Next.{begin_of, first_open, is_at_net, look_at, next_action, next_at_work, next_in, next_while_asking, with_net}
+use Rattle.lcm_model.specs.Next.{begin_of, chosen, end_of, first_open, free, goes_on, is_none_open, next_action, next_at_work, next_in}
+use Rattle.lcm_model.specs.Next.{next_while_asking, only_when}
 use Rattle.lcm_model.specs.Operations.{changes, operation, operations}
-use Rattle.lcm_model.specs.Since.{has_call_failed, has_trouble, is_cancelled, is_forced}
+use Rattle.lcm_model.specs.Since.{has_trouble, is_cancelled, is_forced}
 use Rattle.lcm_model.specs.Words.{first, first_some, last, when}
 use Rattle.lcm_model.specs.Work.{gives_up, window}
 use Rattle.lcm_model.specs.declared.actions.Action.{Action}
-use Rattle.lcm_model.specs.declared.actions.Action.TheVariants.{AskForGrant, Begin, MoveTo, Poll}
+use Rattle.lcm_model.specs.declared.actions.Action.TheVariants.{AbortAndLook, AskForGrant, Begin, Look, MoveTo, Poll}
+use Rattle.change_planner.specs.Free.{AreOfOccurrence, free_by}
+use Rattle.change_planner.proofs.FreeLaws.{chosen_in_history, chosen_known}
 use Rattle.occ_table.specs.Ended.{is_over, kept, kept_grant, kept_where}
 use Rattle.occ_table.specs.Rows.{cancel, numbers, occurrence, pending_of, pendings, row}
-use Rattle.occ_table.specs.Steps.{gives_up_row, is_forced_mode}
+use Rattle.occ_table.specs.Steps.{gives_up_row, has_open_at, is_forced_mode}
 use Rattle.occ_table.specs.declared.pending.Pending.{Pending}
 use Rattle.occ_table.specs.declared.rows.OccRow.{OccRow}
 use Rattle.occ_table.proofs.JudgeLaws.{found_in, found_row}
 use Rattle.occ_table.proofs.MoveLaws.{cancelled_row, forced_row}
-use Rattle.occ_table.proofs.PhaseLaws.{get-range}
+use Rattle.occ_table.proofs.PendingSteps.{any_reverse}
 use Rattle.occ_steps.specs.Active.{IsActive}
-use Rattle.occ_steps.specs.Steps.{FitsTags, asking_by_row, beginning_by_row, end_of, is_at_row, next_at, next_by_row, next_in_state}
-use Rattle.occ_steps.specs.Steps.{next_tag, with_net_in, working_by_row}
-use Rattle.rollback_plan.proofs.NetLaws.{last-is}
+use Rattle.occ_steps.specs.Steps.{IsWorkable, asking_by_row, begin_tag, busy_in, first_tag, goes_on_row, is_stopped_row, leaving_by_row}
+use Rattle.occ_steps.specs.Steps.{next_at, next_by_row, next_in_state, next_tag, working_by_row}
 use Rattle.occ_steps.proofs.ActiveLemmas.{active_on, active_state, has_row}
+use Rattle.occ_steps.proofs.RiseLemmas.{phases_rise}
 
 some_map : {A B : Type 0} → (f : A → B) (x : Option A) → is_some (option_map f x) ≡ is_some x
 some_map f None = refl
@@ -105,68 +112,70 @@ first_mapped f (x ∷ xs) =
 first_pending : (H : List Event) (o : ℕ) → first (pendings H o) ≡ option_map (pending_of H) (first_open H o)
 first_pending H o = first_mapped (pending_of H) (open_of H o)
 
-same_from : (p q : ℕ → Bool) (k n : ℕ) → ((c : ℕ) → k ≤ c → c < k + n → p c ≡ q c)
-    → filter p (range_with_len k n) ≡ filter q (range_with_len k n)
-same_from p q k zero f = refl
-same_from p q k (suc n) f =
-    let here : p k ≡ q k = f k (omega arith) (omega arith) in
-    let rest : filter p (range_with_len (k + 1) n) ≡ filter q (range_with_len (k + 1) n) =
-    same_from p q (k + 1) n (λ c low high. f c (omega (arith, low)) (omega (arith, high))) in
-    by_test (q k)
-    (λ holds. let too : p k ≡ true = here ∙ holds in rw (too, holds) (ap (λ (ns : List ℕ). k ∷ ns) rest))
-    (λ fails. let too : p k ≡ false = here ∙ fails in rw (too, fails) rest)
+-- the tag of the open attempt that began first
+first_row : (H : List Event) (a : Operation) → first_tag (row H a) ≡ first_open H a.occ
+first_row H a =
+    ap (λ (x : Option Pending). option_map (λ (p : Pending). p.tag) x) (first_pending H a.occ) ∙ again (first_open H a.occ) where
+      again : (x : Option Tag) → option_map (λ (p : Pending). p.tag) (option_map (pending_of H) x) ≡ x
+      again None = refl
+      again (Some t) = refl
 
--- the first of some numbers that passes a test is one of them
-first_within : (p : ℕ → Bool) (k n c : ℕ) → first (filter p (range_with_len k n)) ≡ Some c → c < k + n
-first_within p k zero c e = cc
-first_within p k (suc n) c e = by_test (p k)
-    (λ holds. let is : k ≡ c = some_same (sym (rw holds refl) ∙ e) in omega (arith, is))
-    (λ fails. let rest = first_within p (k + 1) n c (sym (rw fails refl) ∙ e) in omega (arith, rest)) where
-      some_same : {x y : ℕ} → Some x ≡ Some y → x ≡ y
-      some_same e = cc
+long_row : (H : List Event) (o : ℕ) → length (pendings H o) ≡ length (open_of H o)
+long_row H o = length-reverse (map (pending_of H) (open_of H o)) ∙ length-map (open_of H o) (pending_of H)
 
--- and so is the last
-last_of : (m k c : ℕ) (x : Option ℕ) → ((d : ℕ) → x ≡ Some d → d < m) → k < m → Some (unwrap_or x k) ≡ Some c → c < m
-last_of m k c None within here e = let is : k ≡ c = cc in omega (arith, is, here)
-last_of m k c (Some d) within here e = let is : d ≡ c = cc in let less = within d refl in omega (arith, is, less)
+stopped_row : (H : List Event) (a : Operation) → is_stopped_row (row H a) ≡ (has_trouble H a.occ || is_cancelled H a.occ)
+stopped_row H a = ap (λ (c : Bool). has_trouble H a.occ || c) (cancelled_row H a.occ)
 
-last_within : (p : ℕ → Bool) (k n c : ℕ) → last (filter p (range_with_len k n)) ≡ Some c → c < k + n
-last_within p k zero c e = cc
-last_within p k (suc n) c e = by_test (p k)
-    (λ holds.
-    last_of (k + suc n) k c (last (filter p (range_with_len (k + 1) n)))
-    (λ d is. let rest = last_within p (k + 1) n d is in omega (arith, rest)) (omega arith)
-    (sym (rw holds refl) ∙ e))
-    (λ fails. let rest = last_within p (k + 1) n c (sym (rw fails refl) ∙ e) in omega (arith, rest))
+goes_row : (H : List Event) (a : Operation) → goes_on_row (row H a) ≡ goes_on H a.occ
+goes_row H a =
+    ap (λ (b : Bool). not b && nat_lt (length (pendings H a.occ)) window) (stopped_row H a)
+    ∙ ap (λ (n : ℕ). not (has_trouble H a.occ || is_cancelled H a.occ) && nat_lt n window) (long_row H a.occ)
 
--- the change that is attempted next is one of the row
-next_within : (way : Way) (r : OccRow) (c : ℕ) → next_at way r ≡ Some c → c < length r.changes
-next_within Forward r c e = let within = first_within (is_at_row 0 r) 0 (length r.changes) c e in omega (arith, within)
-next_within Undo r c e = let within = last_within (is_at_row 1 r) 0 (length r.changes) c e in omega (arith, within)
+any_map : {A B : Type 0} → (p : B → Bool) (f : A → B) (xs : List A) → list_any p (map f xs) ≡ list_any (λ x. p (f x)) xs
+any_map p f [] = refl
+any_map p f (x ∷ xs) = ap (λ (b : Bool). p (f x) || b) (any_map p f xs)
 
--- a change has a net in the row where it has it
-has_net_row : (H : List Event) (a : Operation) (n c : ℕ) → c < length a.changes → is_at_row n (row H a) c ≡ is_at_net H a.occ n c
-unfolding is_at_net
-has_net_row H a n c within =
-    let zeroth : 0 + c ≡ c = omega arith in
-    ap (λ (x : Option ℕ). option_map_or (λ m. m == n) x false) (get-range (net H a.occ) 0 (length a.changes) c within
-    ∙ ap (λ (m : ℕ). Some (net H a.occ m)) zeroth)
+some_at : (o c : ℕ) (ts : List Tag) → list_any (λ t. t.change == c) (filter (is_of_occurrence o) ts)
+    ≡ not (is_none_open (filter (is_of o c) ts))
+some_at o c [] = refl
+some_at o c (t ∷ ts) = by_test (t.occ == o)
+    (λ own. by_test (t.change == c)
+    (λ same. rw (own, same) refl)
+    (λ other. rw (own, other) (some_at o c ts)))
+    (λ away. rw away (some_at o c ts))
 
--- the changes with a net are those of the row
-with_net_row : (H : List Event) (a : Operation) (n : ℕ) → operation H a.occ ≡ Some a → with_net_in n (row H a) ≡ with_net H a.occ n
-with_net_row H a n found =
-    same_from (is_at_row n (row H a)) (is_at_net H a.occ n) 0 (length a.changes) (λ c low high. has_net_row H a n c (omega (arith, high)))
-    ∙ ap (λ (xs : List Change). filter (is_at_net H a.occ n) (range_with_len 0 (length xs))) (sym (changes_of H a.occ a found))
+-- an attempt at a change is open where the row has one
+busy_row : (H : List Event) (o c : ℕ) → has_open_at c (pendings H o) ≡ not (is_none_open (open_attempts H o c))
+busy_row H o c =
+    any_reverse (λ (p : Pending). p.tag.change == c) (map (pending_of H) (open_of H o))
+    ∙ (any_map (λ (p : Pending). p.tag.change == c) (pending_of H) (open_of H o)
+    ∙ some_at o c (open_tags H))
 
--- the change that comes next in this way
-abbrev next_of : Way → List Event → ℕ → Option ℕ
-next_of Forward H o = first (with_net H o 0)
-next_of Undo H o = last (with_net H o 1)
+get_made : {A : Type 0} → (f : ℕ → A) (k n j : ℕ) → j < n → slice_get (map f (range_with_len k n)) j ≡ Some (f (k + j))
+get_made f k zero j h = absurd (omega (arith, h))
+get_made f k (suc n) zero h = let same : k ≡ k + 0 = omega arith in ap (λ (m : ℕ). Some (f m)) same
+get_made f k (suc n) (suc j) h =
+    let same : (k + 1) + j ≡ k + suc j = omega arith in
+    get_made f (k + 1) n j (omega (arith, h)) ∙ ap (λ (m : ℕ). Some (f m)) same
 
--- is that of the row
-next_row : (H : List Event) (a : Operation) (way : Way) → operation H a.occ ≡ Some a → next_at way (row H a) ≡ next_of way H a.occ
-next_row H a Forward found = ap first (with_net_row H a 0 found)
-next_row H a Undo found = ap last (with_net_row H a 1 found)
+-- the row has the changes of its occurrence, their nets, and which of them have an open attempt
+row_of_occurrence : (H : List Event) (a : Operation) → operation H a.occ ≡ Some a
+    → AreOfOccurrence H a.occ (row H a).changes (row H a).nets (busy_in (row H a))
+row_of_occurrence H a found = record {
+  changes = sym (changes_of H a.occ a found);
+  nets = λ c less. get_made (net H a.occ) 0 (length a.changes) c less ∙ ap (λ (n : ℕ). Some (net H a.occ n)) (zeroth c);
+  flags = λ c less.
+      get_made (λ n. has_open_at n (pendings H a.occ)) 0 (length a.changes) c less
+      ∙ (ap (λ (n : ℕ). Some (has_open_at n (pendings H a.occ))) (zeroth c) ∙ ap Some (busy_row H a.occ c));
+} where
+  zeroth : (n : ℕ) → 0 + n ≡ n
+  zeroth n = omega arith
+
+-- the change that is attempted next is that of the row
+next_row : (H : List Event) (a : Operation) (way : Way) → operation H a.occ ≡ Some a → next_at way (row H a) ≡ chosen way (free H a.occ way)
+next_row H a way found =
+    chosen_in_history way H a.occ (row H a).changes (row H a).nets (busy_in (row H a)) (next_at way (row H a)) (row_of_occurrence H a found)
+    refl
 
 -- how many attempts there were at a change
 abbrev tried : List Event → ℕ → ℕ → ℕ
@@ -178,7 +187,7 @@ tries_row : (H : List Event) (a : Operation) (c : ℕ) → is_over H a.occ ≡ f
 tries_row H a c on within =
     let zeroth : 0 + c ≡ c = omega arith in
     ap (λ (over : Bool). unwrap_or (slice_get (kept over (map (tried H a.occ) (numbers a))) c) 0) on
-    ∙ ap (λ (x : Option ℕ). unwrap_or x 0) (get-range (tried H a.occ) 0 (length a.changes) c within
+    ∙ ap (λ (x : Option ℕ). unwrap_or x 0) (get_made (tried H a.occ) 0 (length a.changes) c within
     ∙ ap (λ (m : ℕ). Some (tried H a.occ m)) zeroth)
 
 begin_row : (H : List Event) (a : Operation) (way : Way) (c : ℕ) → is_over H a.occ ≡ false → c < length a.changes
@@ -186,40 +195,51 @@ begin_row : (H : List Event) (a : Operation) (way : Way) (c : ℕ) → is_over H
 begin_row H a way c on within = ap (λ (n : ℕ). Begin (record { occ = a.occ; change = c; attempt = n + 1; way = way }))
     (sym (tries_row H a c on within))
 
--- the begin of the next change, or that none is left
-begins_row : (H : List Event) (a : Operation) (way : Way) (x : Option ℕ) → is_over H a.occ ≡ false → next_at way (row H a) ≡ x
-    → first_some (option_map (begin_of H a.occ way) x ∷ Some (MoveTo (end_of way)) ∷ [])
-    ≡ Some (option_map_or (λ c. Begin (next_tag a.occ way (row H a) c)) x (MoveTo (end_of way)))
-begins_row H a way None on is = refl
-begins_row H a way (Some c) on is = ap Some (begin_row H a way c on (next_within way (row H a) c is))
+-- the begin of the attempt that may begin next is that of the row
+begins_row : (H : List Event) (a : Operation) (way : Way) (goes : Bool) (x : Option ℕ) → is_over H a.occ ≡ false
+    → ((c : ℕ) → x ≡ Some c → c < length a.changes)
+    → only_when goes (option_map (begin_of H a.occ way) x) ≡ option_map Begin (only_when goes (option_map (next_tag a.occ way (row H a)) x))
+begins_row H a way false x on known = refl
+begins_row H a way true None on known = refl
+begins_row H a way true (Some c) on known = ap Some (begin_row H a way c on (known c refl))
 
--- the action by an open attempt, what stops the work, and what is done where there is neither
-at_work : (p : Option Tag) (forced : Bool) (failed : Tag → Bool) (stops : Bool) (lines : List (Option Action)) (last_line : Action)
-    → first_some lines ≡ Some last_line
-    → first_some (option_map (look_at forced) p ∷ when stops (MoveTo FailedTemp) ∷ lines)
-    ≡ Some (option_map_or (λ (q : Pending). look_at forced q.tag) (option_map (λ (t : Tag). record { tag = t; failed = failed t }) p)
-    (if stops then MoveTo FailedTemp else last_line))
-at_work (Some t) forced failed stops lines last_line e = refl
-at_work None forced failed true lines last_line e = refl
-at_work None forced failed false lines last_line e = e
+-- the action by a FORCEFUL cancel, the open attempt that began first, the one that begins, and what is left for
+tabled_work : (forced stops : Bool) (t b : Option Tag) (last : Action)
+    → first_some (only_when forced (option_map AbortAndLook t) ∷ option_map Begin b ∷ option_map Look t ∷ when stops (MoveTo FailedTemp)
+    ∷ Some last ∷ [])
+    ≡ Some (unwrap_or (first_some (only_when forced (option_map AbortAndLook t) ∷ option_map Begin b ∷ option_map Look t ∷ []))
+    (if stops then MoveTo FailedTemp else last))
+tabled_work true stops (Some t) b last = refl
+tabled_work true stops None (Some b) last = refl
+tabled_work true true None None last = refl
+tabled_work true false None None last = refl
+tabled_work false stops t (Some b) last = refl
+tabled_work false stops (Some t) None last = refl
+tabled_work false true None None last = refl
+tabled_work false false None None last = refl
+
+-- the table of a history's occurrence, by what its lines ask
+abbrev work_table : Bool → Option Tag → Option Action → Bool → Action → Option Action
+work_table forced t begin stops last =
+    first_some (only_when forced (option_map AbortAndLook t) ∷ begin ∷ option_map Look t ∷ when stops (MoveTo FailedTemp) ∷ Some last ∷ [])
 
 working_row : (H : List Event) (a : Operation) (way : Way) → operation H a.occ ≡ Some a → is_over H a.occ ≡ false
-    → next_at_work H a.occ (option_map (begin_of H a.occ way) (next_of way H a.occ) ∷ Some (MoveTo (end_of way)) ∷ [])
-    ≡ Some (working_by_row a.occ way (row H a))
+    → next_at_work H a.occ way ≡ Some (working_by_row a.occ way (row H a))
 working_row H a way found on =
     let o : ℕ = a.occ in
-    let forced : Bool = is_forced_mode (cancel H o) in
-    let lines : Option ℕ → List (Option Action) = λ x. option_map (begin_of H o way) x ∷ Some (MoveTo (end_of way)) ∷ [] in
-    ap (λ (f : Bool). first_some (option_map (look_at f) (first_open H o) ∷ when (has_trouble H o || is_cancelled H o) (MoveTo FailedTemp)
-    ∷ lines (next_of way H o))) (sym (forced_row H o))
-    ∙ (ap (λ (c : Bool). first_some (option_map (look_at forced) (first_open H o) ∷ when (has_trouble H o || c) (MoveTo FailedTemp)
-    ∷ lines (next_of way H o))) (sym (cancelled_row H o))
-    ∙ (ap (λ (x : Option ℕ). first_some (option_map (look_at forced) (first_open H o)
-    ∷ when (has_trouble H o || is_some (cancel H o)) (MoveTo FailedTemp) ∷ lines x)) (sym (next_row H a way found))
-    ∙ (at_work (first_open H o) forced (has_call_failed H) (has_trouble H o || is_some (cancel H o)) (lines (next_at way (row H a))) _
-    (begins_row H a way (next_at way (row H a)) on refl)
-    ∙ ap (λ (x : Option Pending). Some (option_map_or (λ (q : Pending). look_at forced q.tag) x (beginning_by_row o way (row H a))))
-    (sym (first_pending H o)))))
+    let r : OccRow = row H a in
+    let stops : Bool = has_trouble H o || is_cancelled H o in
+    let begin : Option Action = only_when (goes_on H o) (option_map (begin_of H o way) (chosen way (free H o way))) in
+    let begins : begin ≡ option_map Begin (begin_tag o way r) =
+    ap (λ (x : Option ℕ). only_when (goes_on H o) (option_map (begin_of H o way) x)) (sym (next_row H a way found))
+    ∙ (ap (λ (g : Bool). only_when g (option_map (begin_of H o way) (next_at way r))) (sym (goes_row H a))
+    ∙ begins_row H a way (goes_on_row r) (next_at way r) on (chosen_known way r.changes r.nets (busy_in r))) in
+    ap (λ (f : Bool). work_table f (first_open H o) begin stops (MoveTo (end_of way))) (sym (forced_row H o))
+    ∙ (ap (λ (t : Option Tag). work_table (is_forced_mode r.cancel) t begin stops (MoveTo (end_of way))) (sym (first_row H a))
+    ∙ (ap (λ (b : Option Action). work_table (is_forced_mode r.cancel) (first_tag r) b stops (MoveTo (end_of way))) begins
+    ∙ (ap (λ (s : Bool). work_table (is_forced_mode r.cancel) (first_tag r) (option_map Begin (begin_tag o way r)) s (MoveTo (end_of way)))
+    (sym (stopped_row H a))
+    ∙ tabled_work (is_forced_mode r.cancel) (is_stopped_row r) (first_tag r) (begin_tag o way r) (MoveTo (end_of way)))))
 
 by_state : (H : List Event) (a : Operation) (s : OpState) → operation H a.occ ≡ Some a → state H a.occ ≡ s → is_active s ≡ true
     → next_in s H a.occ ≡ Some (next_in_state s a.occ (row H a))
@@ -265,15 +285,17 @@ of_mapped f [] c n e = cc
 of_mapped f (m ∷ ns) zero n e = (m, cc)
 of_mapped f (m ∷ ns) (suc c) n e = of_mapped f ns c n e
 
--- the numbers of a row of a history of few events fit a tag
+-- the row of a history of few events can be worked on
 pub row_fits : PlansAreSmall → (m : ℕ) (H : List Event) (o : ℕ) (r : OccRow) → IsLegalWithin window m H → length H < 268435456
-    → occurrence H o ≡ Some r → FitsTags r
+    → occurrence H o ≡ Some r → IsWorkable r
 row_fits small m H o r legal few found =
     let mine = found_row H o r found in
     let a : Operation = mine.0 in
-    let plan = small window m H legal a (found_in (λ x. x.occ) (operations H) o a mine.1) in
-    subst FitsTags mine.3 (record {
-      changes = omega (arith, plan);
+    let among = found_in (λ x. x.occ) (operations H) o a mine.1 in
+    subst IsWorkable mine.3 (record {
+      few = small window m H legal a among;
+      phases = phases_rise window m H legal a among;
+      nets = length-map (numbers a) (net H a.occ) ∙ length-range_with_len 0 (length a.changes);
       attempts = λ c n at.
           let from = of_mapped (tried H a.occ) (numbers a) c n (of_kept (is_over H a.occ) (map (tried H a.occ) (numbers a)) c n at) in
           let most = few_tried H a.occ from.0 in
@@ -281,82 +303,39 @@ row_fits small m H o r legal few found =
           omega (arith, most, is, few);
     })
 
--- where none of some numbers passes a test, none is first
-none_passes : (p : ℕ → Bool) (k n : ℕ) → ((c : ℕ) → c < k + n → p c ≡ false) → first (filter p (range_with_len k n)) ≡ None
-none_passes p k zero fails = refl
-none_passes p k (suc n) fails = rw (fails k (omega arith)) (none_passes p (k + 1) n (λ c less. fails c (omega (arith, less))))
-
--- one that passes, above none that does, is first
-least_passes : (p : ℕ → Bool) (k n c : ℕ) → k ≤ c → c < k + n → p c ≡ true → ((j : ℕ) → j < c → p j ≡ false)
-    → first (filter p (range_with_len k n)) ≡ Some c
-least_passes p k zero c low high passes under = absurd (omega (arith, low, high))
-least_passes p k (suc n) c low high passes under = by_test (k == c)
-    (λ same. let is : k ≡ c = eqb-true k c same in let holds : p k ≡ true = ap p is ∙ passes in rw holds (ap Some is))
-    (λ other. let less : k < c = below k c low other in rw (under k less)
-    (least_passes p (k + 1) n c (omega (arith, less)) (omega (arith, high)) passes under)) where
-      below : (k c : ℕ) → k ≤ c → (k == c) ≡ false → k < c
-      below k c low other = grind (arith, low, other)
-
--- a net, where there is one, is this
-abbrev is_net : ℕ → Option ℕ → Bool
-is_net n x = option_map_or (λ m. m == n) x false
-
-is_some_net : (n : ℕ) (x : Option ℕ) → x ≡ Some n → is_net n x ≡ true
-is_some_net n x is = ap (is_net n) is ∙ eq-eqb n n refl
-
-not_net : (n : ℕ) (x : Option ℕ) → ¬ (x ≡ Some n) → is_net n x ≡ false
-not_net n None apart = refl
-not_net n (Some m) apart = by_test (m == n) (λ same. absurd (apart (ap Some (eqb-true m n same)))) (λ other. other)
-
-first_zero : (n : ℕ) (ns : List ℕ) (x : Option ℕ) → IfSome x (λ c. c < n) → IfSome x (λ c. slice_get ns c ≡ Some 0)
-    → IfSome x (λ c. (j : ℕ) → j < c → ¬ (slice_get ns j ≡ Some 0))
-    → (x ≡ None → (c : ℕ) → c < n → ¬ (slice_get ns c ≡ Some 0)) → first (filter (λ c. is_net 0 (slice_get ns c)) (range_with_len 0 n)) ≡ x
-first_zero n ns None known zeroth least none = none_passes (λ c. is_net 0 (slice_get ns c)) 0 n
-    (λ c less. not_net 0 (slice_get ns c) (none refl c (omega (arith, less))))
-first_zero n ns (Some c) known zeroth least none =
-    least_passes (λ c. is_net 0 (slice_get ns c)) 0 n c (omega arith) (omega (arith, known)) (is_some_net 0 (slice_get ns c) zeroth)
-    (λ j less. not_net 0 (slice_get ns j) (least j less))
-
-last_one : (n : ℕ) (ns : List ℕ) (x : Option ℕ) → IfSome x (λ c. c < n) → IfSome x (λ c. slice_get ns c ≡ Some 1)
-    → IfSome x (λ c. (j : ℕ) → c < j → j < n → ¬ (slice_get ns j ≡ Some 1)) → (x ≡ None → (c : ℕ) → c < n → ¬ (slice_get ns c ≡ Some 1))
-    → last (filter (λ c. is_net 1 (slice_get ns c)) (range_with_len 0 n)) ≡ x
-last_one n ns None known made greatest none =
-    sym (last-is (λ c. is_net 1 (slice_get ns c)) n None tt tt tt (λ e c less. not_net 1 (slice_get ns c) (none refl c less)))
-last_one n ns (Some c) known made greatest none =
-    sym (last-is (λ c. is_net 1 (slice_get ns c)) n (Some c) known (is_some_net 1 (slice_get ns c) made)
-    (λ j up less. not_net 1 (slice_get ns j) (greatest j up less)) (λ e j less. absurd cc))
-
--- the test of nets among the changes of a row
-of_row : (r : OccRow) (xs : List Change) (ns : List ℕ) (n : ℕ) → xs ≡ r.changes → ns ≡ r.nets
-    → with_net_in n r ≡ filter (λ c. is_net n (slice_get ns c)) (range_with_len 0 (length xs))
-of_row r xs ns n plan made =
-    ap (λ (ms : List ℕ). filter (λ c. is_net n (slice_get ms c)) (range_with_len 0 (length r.changes))) (sym made)
-    ∙ ap (λ (ys : List Change). filter (λ c. is_net n (slice_get ns c)) (range_with_len 0 (length ys))) (sym plan)
-
--- what is found among the changes of a row and their nets is the first that isn't made
-pub found_first : (r : OccRow) (xs : List Change) (ns : List ℕ) (x : Option ℕ) → xs ≡ r.changes → ns ≡ r.nets
-    → IfSome x (λ c. c < length xs) → IfSome x (λ c. slice_get ns c ≡ Some 0)
-    → IfSome x (λ c. (j : ℕ) → j < c → ¬ (slice_get ns j ≡ Some 0))
-    → (x ≡ None → (c : ℕ) → c < length xs → ¬ (slice_get ns c ≡ Some 0)) → next_at Forward r ≡ x
-found_first r xs ns x plan made known zeroth least none = ap first (of_row r xs ns 0 plan made)
-    ∙ first_zero (length xs) ns x known zeroth least none
-
--- or the last that is made
-pub found_last : (r : OccRow) (xs : List Change) (ns : List ℕ) (x : Option ℕ) → xs ≡ r.changes → ns ≡ r.nets
-    → IfSome x (λ c. c < length xs) → IfSome x (λ c. slice_get ns c ≡ Some 1)
-    → IfSome x (λ c. (j : ℕ) → c < j → j < length xs → ¬ (slice_get ns j ≡ Some 1))
-    → (x ≡ None → (c : ℕ) → c < length xs → ¬ (slice_get ns c ≡ Some 1)) → next_at Undo r ≡ x
-found_last r xs ns x plan made known ones greatest none = ap last (of_row r xs ns 1 plan made)
-    ∙ last_one (length xs) ns x known ones greatest none
-
 -- the next change is one of the row
 pub next_known : (way : Way) (r : OccRow) (x : Option ℕ) (c : ℕ) → x ≡ next_at way r → x ≡ Some c → c < length r.changes
-next_known way r x c is found = next_within way r c (sym is ∙ found)
+next_known way r x c is found = chosen_known way r.changes r.nets (busy_in r) c (sym is ∙ found)
 
--- the begin of the change that is found, or that none is left
-pub begins_found : (o : ℕ) (way : Way) (r : OccRow) (x : Option ℕ) → (r.trouble || is_some r.cancel) ≡ false → next_at way r ≡ x
-    → beginning_by_row o way r ≡ option_map_or (λ c. Begin (next_tag o way r c)) x (MoveTo (end_of way))
-begins_found o way r x calm found = rw (calm, found) refl
+-- the flags of the changes are those of the row
+busy_is : (n : ℕ) (bs : List Bool) (ps : List Pending) → n ≤ length bs → ((c : ℕ) → c < length bs → get_or bs c false ≡ has_open_at c ps)
+    → take n bs ≡ map (λ c. has_open_at c ps) (range_with_len 0 n)
+busy_is n bs ps enough marked =
+    let long : length (map (λ c. has_open_at c ps) (range_with_len 0 n)) ≡ n =
+    length-map (range_with_len 0 n) (λ c. has_open_at c ps) ∙ length-range_with_len 0 n in
+    let taken : length (take n bs) ≡ n = length-take-le n bs enough in
+    ext_get_or false (take n bs) (map (λ c. has_open_at c ps) (range_with_len 0 n)) (taken ∙ sym long)
+    (λ c less.
+    let within : c < n = omega (arith, less, taken) in
+    let zeroth : 0 + c ≡ c = omega arith in
+    get_or-take n bs c false within
+    ∙ (marked c (omega (arith, within, enough))
+    ∙ sym (get_or_from_slice_get (map (λ m. has_open_at m ps) (range_with_len 0 n)) c (has_open_at c ps) false
+    (get_made (λ m. has_open_at m ps) 0 n c within ∙ ap (λ (m : ℕ). Some (has_open_at m ps)) zeroth))))
+
+-- so that what is found by them is the change of the row that is attempted next
+pub found_next : (way : Way) (r : OccRow) (xs : List Change) (ns : List ℕ) (bs : List Bool) (ps : List Pending) (x : Option ℕ)
+    → xs ≡ r.changes → ns ≡ r.nets → ps ≡ r.pending → length r.changes ≤ length bs
+    → ((c : ℕ) → c < length bs → get_or bs c false ≡ has_open_at c ps)
+    → x ≡ chosen way (free_by way xs ns (take (length xs) bs)) → x ≡ next_at way r
+found_next way r xs ns bs ps x plan made begun enough marked is =
+    is
+    ∙ (ap (λ (ys : List Change). chosen way (free_by way ys ns (take (length ys) bs))) plan
+    ∙ (ap (λ (ms : List ℕ). chosen way (free_by way r.changes ms (take (length r.changes) bs))) made
+    ∙ (ap (λ (fs : List Bool). chosen way (free_by way r.changes r.nets fs)) (busy_is (length r.changes) bs ps enough marked)
+    ∙ ap (λ (qs : List Pending). chosen way (free_by way r.changes r.nets
+    (map (λ c. has_open_at c qs) (range_with_len 0 (length r.changes)))))
+    begun)))
 
 -- the location is that of the row
 pub location_of_row : (H : List Event) (o : ℕ) (r : OccRow) → IsActive H o → occurrence H o ≡ Some r → location H o ≡ r.location
@@ -366,6 +345,10 @@ location_of_row H o r is found =
     ∙ (sym (kept_location H mine.0 (ap (λ (n : ℕ). is_final (state H n)) mine.2 ∙ active_on H o is))
     ∙ ap (λ (x : OccRow). x.location) mine.3)
 
+not_leaving_polls : (way : Way) (stops : Bool) → (if stops then MoveTo FailedTemp else MoveTo (end_of way)) ≡ Poll → ⊥
+not_leaving_polls way true e = cc
+not_leaving_polls way false e = cc
+
 -- a location is known where the next action is to poll it
 polls_known : (o : ℕ) (r : OccRow) → next_by_row o r ≡ Poll → r.location ≡ None → ⊥
 polls_known o r polls none = in_state r.state polls where
@@ -374,25 +357,29 @@ polls_known o r polls none = in_state r.state polls where
   asking false true e = cc
   asking false false e = cc
 
-  beginning : (way : Way) (stops : Bool) (x : Option ℕ) → (if stops then MoveTo FailedTemp
-      else option_map_or (λ c. Begin (next_tag o way r c)) x (MoveTo (end_of way))) ≡ Poll → ⊥
-  beginning way true x e = cc
-  beginning way false None e = cc
-  beginning way false (Some c) e = cc
-
-  looking : (forced : Bool) (t : Tag) → look_at forced t ≡ Poll → ⊥
-  looking true t e = cc
-  looking false t e = cc
-
-  working : (way : Way) (x : Option Pending) → option_map_or (λ (p : Pending). look_at (is_forced_mode r.cancel) p.tag) x
-      (beginning_by_row o way r) ≡ Poll → ⊥
-  working way None e = beginning way (r.trouble || is_some r.cancel) (next_at way r) e
-  working way (Some p) e = looking (is_forced_mode r.cancel) p.tag e
+  working : (way : Way) (forced : Bool) (t b : Option Tag) → unwrap_or (first_some (only_when forced (option_map AbortAndLook t)
+      ∷ option_map Begin b ∷ option_map Look t ∷ [])) (leaving_by_row way r) ≡ Poll → ⊥
+  working way true (Some t) b e = cc
+  working way true None (Some b) e = cc
+  working way true None None e = not_leaving_polls way (is_stopped_row r) e
+  working way false t (Some b) e = cc
+  working way false (Some t) None e = cc
+  working way false None None e = not_leaving_polls way (is_stopped_row r) e
 
   in_state : (s : OpState) → next_in_state s o r ≡ Poll → ⊥
   in_state Starting e = asking (gives_up_row r) (is_some r.grant) (rw none at e)
-  in_state RollingBack e = working Undo (first r.pending) e
-  in_state _ e = working Forward (first r.pending) e
+  in_state RollingBack e = working Undo (is_forced_mode r.cancel) (first_tag r) (begin_tag o Undo r) e
+  in_state _ e = working Forward (is_forced_mode r.cancel) (first_tag r) (begin_tag o Forward r) e
+
+not_leaving_begins : (way : Way) (stops : Bool) (t : Tag) → (if stops then MoveTo FailedTemp else MoveTo (end_of way)) ≡ Begin t → ⊥
+not_leaving_begins way true t e = cc
+not_leaving_begins way false t e = cc
+
+begun_own : (o : ℕ) (way : Way) (r : OccRow) (goes : Bool) (x : Option ℕ) (t : Tag)
+    → only_when goes (option_map (next_tag o way r) x) ≡ Some t → t.occ ≡ o
+begun_own o way r true (Some c) t e = let same : next_tag o way r c ≡ t = cc in sym (ap (λ (u : Tag). u.occ) same)
+begun_own o way r true None t e = cc
+begun_own o way r false x t e = cc
 
 -- an attempt that begins is of the occurrence
 begins_of : (o : ℕ) (r : OccRow) (t : Tag) → next_by_row o r ≡ Begin t → t.occ ≡ o
@@ -404,26 +391,23 @@ begins_of o r t begins = in_state r.state begins where
   asking false false true e = cc
   asking false false false e = cc
 
-  beginning : (way : Way) (stops : Bool) (x : Option ℕ) → (if stops then MoveTo FailedTemp
-      else option_map_or (λ c. Begin (next_tag o way r c)) x (MoveTo (end_of way))) ≡ Begin t
+  working : (way : Way) (forced : Bool) (u b : Option Tag) → begin_tag o way r ≡ b
+      → unwrap_or (first_some (only_when forced (option_map AbortAndLook u) ∷ option_map Begin b ∷ option_map Look u ∷ []))
+      (leaving_by_row way r) ≡ Begin t
       → t.occ ≡ o
-  beginning way true x e = cc
-  beginning way false None e = cc
-  beginning way false (Some c) e = let same : next_tag o way r c ≡ t = cc in sym (ap (λ (x : Tag). x.occ) same)
-
-  looking : (forced : Bool) (u : Tag) → look_at forced u ≡ Begin t → t.occ ≡ o
-  looking true u e = cc
-  looking false u e = cc
-
-  working : (way : Way) (x : Option Pending) → option_map_or (λ (p : Pending). look_at (is_forced_mode r.cancel) p.tag) x
-      (beginning_by_row o way r) ≡ Begin t → t.occ ≡ o
-  working way None e = beginning way (r.trouble || is_some r.cancel) (next_at way r) e
-  working way (Some p) e = looking (is_forced_mode r.cancel) p.tag e
+  working way true (Some u) b is e = cc
+  working way true None (Some b) is e = let same : b ≡ t = cc in
+      begun_own o way r (goes_on_row r) (next_at way r) t (is ∙ ap Some same)
+  working way true None None is e = absurd (not_leaving_begins way (is_stopped_row r) t e)
+  working way false u (Some b) is e = let same : b ≡ t = cc in
+      begun_own o way r (goes_on_row r) (next_at way r) t (is ∙ ap Some same)
+  working way false (Some u) None is e = cc
+  working way false None None is e = absurd (not_leaving_begins way (is_stopped_row r) t e)
 
   in_state : (s : OpState) → next_in_state s o r ≡ Begin t → t.occ ≡ o
   in_state Starting e = asking (gives_up_row r) (is_some r.grant) (is_some r.location) e
-  in_state RollingBack e = working Undo (first r.pending) e
-  in_state _ e = working Forward (first r.pending) e
+  in_state RollingBack e = working Undo (is_forced_mode r.cancel) (first_tag r) (begin_tag o Undo r) refl e
+  in_state _ e = working Forward (is_forced_mode r.cancel) (first_tag r) (begin_tag o Forward r) refl e
 
 pub begins_own : (H : List Event) (o : ℕ) (t : Tag) → IsActive H o → next_action H o ≡ Some (Begin t) → t.occ ≡ o
 begins_own H o t is next = of (occurrence H o) refl where

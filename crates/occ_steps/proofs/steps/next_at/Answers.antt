@@ -1,18 +1,19 @@
--- What is found among the nets is the first change of the row that isn't made, or the last that is.
-use Rattle.std.proofs.Common.{ap, sym, ◌∙◌}
+-- What is found by the flags is the change of the row that is attempted next.
+use Rattle.std.proofs.Common.{ap, arith, sym, ◌∙◌}
 use Rattle.lcm_events.specs.declared.attempts.Way.{Way}
+use Rattle.lcm_events.specs.declared.attempts.Way.TheVariants.{Forward, Undo}
 use Rattle.occ_steps.specs.Steps.{next_at}
-use Rattle.occ_steps.proofs.StepLemmas.{found_first, found_last}
+use Rattle.occ_steps.proofs.StepLemmas.{found_next}
 use Rattle.occ_steps.proofs.steps.next_at.Goals as goal
 
 pub returns-in-Forward : goal.returns-in-Forward
 returns-in-Forward c =
-    sym (found_first c.args.row.now _ _ _ c.as_slice-changes.ensures c.as_slice-nets.ensures c.next_change.ensures.known
-    c.next_change.ensures.open c.next_change.ensures.least c.next_change.ensures.none)
+    found_next Forward c.args.row.now _ _ _ _ _ c.as_slice-changes.ensures c.as_slice-nets.ensures c.as_slice.ensures (omega arith)
+    c.busy_by-flags.ensures.busy c.next_free.ensures.least
     ∙ ap (λ (w : Way). next_at w c.args.row.now) (sym c.in-Forward.is)
 
 pub returns-in-Undo : goal.returns-in-Undo
 returns-in-Undo c =
-    sym (found_last c.args.row.now _ _ _ c.as_slice-changes.ensures c.as_slice-nets.ensures c.next_undo.ensures.known
-    c.next_undo.ensures.made c.next_undo.ensures.greatest c.next_undo.ensures.none)
+    found_next Undo c.args.row.now _ _ _ _ _ c.as_slice-changes.ensures c.as_slice-nets.ensures c.as_slice.ensures (omega arith)
+    c.busy_by-flags.ensures.busy c.next_free_undo.ensures.greatest
     ∙ ap (λ (w : Way). next_at w c.args.row.now) (sym c.in-Undo.is)
