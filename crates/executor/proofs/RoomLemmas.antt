@@ -1,5 +1,5 @@
 -- For which events the tables have room though nothing was reserved for them, or something else was.
-use Rattle.std.proofs.Common.{◌≡◌, ◌<◌, ℕ, List, Option, None, Some, length, refl, sym, true, true≢false}
+use Rattle.std.proofs.Common.{subst, ◌≡◌, ◌<◌, ℕ, List, Option, None, Some, length, refl, sym, true, true≢false}
 use Rattle.std.specs.Prelude.{option_map}
 use Rattle.executor.specs.Managed.{HasNoNotice, Keeps, Managed, needs_no_memory}
 use Rattle.instance_table.specs.Table as instances
@@ -69,6 +69,13 @@ pub laid_quiet : (m : Managed) (H : List Event) (time : ℕ) (t : Tag) → Keeps
     → HasRoom (record { moment = time; kind = Intent t }) m.tables → HasNoNotice m
 laid_quiet m H time t keeps few allowed room =
     no_facts _ m.tables.notice (room.laid m.ledger.manager H keeps.kept.legal keeps.tables few allowed).facts
+
+-- and so it is for an event that is the begin of an attempt
+pub intent_quiet : (m : Managed) (H : List Event) (e : Event) (t : Tag) → Keeps m H → length H < 4611686018427387903 → e.kind ≡ Intent t
+    → IsAllowed m.ledger.manager H e.kind → HasRoom e m.tables → HasNoNotice m
+intent_quiet m H e t keeps few is allowed room =
+    laid_quiet m H e.moment t keeps few (subst (λ (k : EventKind). IsAllowed m.ledger.manager H k) is allowed)
+    (subst (λ (k : EventKind). HasRoom (record { moment = e.moment; kind = k }) m.tables) is room)
 
 end_rows : (t : Tag) (name : List ℕ) (out : Outcome) (T : Tables)
     → instances.HasRoom (Settled t (Done name)) T.instances.rows T.instances.reserved

@@ -1,6 +1,8 @@
-//! What holds of every journal's file, as contracts of calls that do nothing.
+//! What holds of every journal's file, and how many attempts may be open, as contracts of calls that do nothing.
+ghost use Rattle.std.specs.Prelude.{◌≡◌};
 ghost use Rattle.executor.specs.Chain.{ChainsJoin, StandingStays};
 ghost use Rattle.executor.specs.Laws.{HasNoBadRecord, HasOneBadRecord, HasOneHistory};
+ghost use Rattle.lcm_model.specs.Work.{window};
 ghost use Rattle.site_traits.specs.Site.{KeepsJobs};
 ghost use Rattle.executor.specs.Work.{Follows, Idles, Joins, LeadsOn, LeavesJobs, Stays, WorksAreWithJobs};
 ghost use Rattle.executor.specs.Work.{WorksWithJobsJoin, WorksWithJobsLeadOn};
@@ -9,6 +11,20 @@ use event_codec::no_spelling_begins_another;
 use journal_core::files_are_one_thing;
 use lcm_jobs::jobs_may_end;
 use site_traits::Site;
+
+/// Attempts of an occurrence that may be open at one time.
+///
+/// Source: own rule, docs/MODEL.md.
+pub const WINDOW: usize = lcm_tables::WINDOW;
+
+/// That four attempts of an occurrence may be open at one time, which is the window of the model. It does nothing, and
+/// its contract is the law.
+///
+/// Source: own rule, docs/MODEL.md.
+pub fn window_is_fixed()
+    ensures model { WINDOW ≡ window }
+    ensures number { WINDOW ≡ 4 }
+{}
 
 /// A file has one history, and is one manager's.
 ///

@@ -10,7 +10,9 @@ ghost use Rattle.executor.specs.Room.{TellsRoom};
 ghost use Rattle.instance_table.specs.Rows.{StandsFor, instance, live};
 ghost use Rattle.instance_table.specs.Table.{is_counted};
 ghost use Rattle.journal_records.specs.declared.limits.TheConstants.{MAX_FILE};
+ghost use Rattle.lcm_events.specs.declared.attempts.Tag.{Tag};
 ghost use Rattle.lcm_events.specs.declared.events.Event.{Event};
+ghost use Rattle.lcm_events.specs.declared.events.EventKind.TheVariants as events;
 ghost use Rattle.vnfm_base.specs.Ident.{IsIdentNumber};
 ghost use Rattle.lcm_model.specs.Lives.{descriptor_named, descriptors, instances_made};
 ghost use Rattle.lcm_model.specs.Operations.{occurrences_made};
@@ -252,6 +254,36 @@ impl<S: Site> Manager<S> {
             self.record.as_slice(),
             e,
         )
+    }
+
+    /// Records an event that isn't a Settled, for which the tables have room, as `put` does. No memory is taken, so that
+    /// it may stand behind a call of the outside: what was reserved before the call records what it was answered.
+    ///
+    /// Conditions: those of `put`, and the event isn't a Settled, so that sound jobs stay sound.
+    /// Refusals: those of `put`.
+    /// Source: own format, docs/JOURNAL.md and docs/EVENTS.md.
+    pub fn put_unsettled(&mut self, site: &mut S, e: &Event, limit: u64) -> Result<(), WorkFault>
+        requires may { (H : List Event) × IsReady S.tells self.old H (S.state site.old)
+            × MayRecord self.old.ledger.manager H e.now }
+        requires reserved { HasRoom e.now self.old.tables }
+        requires within { limit ≤ MAX_FILE }
+        ensures event { IsEvent e.now }
+        ensures works { (H : List Event) → IsReady S.tells self.old H (S.state site.old)
+            → MayRecord self.old.ledger.manager H e.now
+            → Works S.tells self.old.ledger.manager H (recorded H e.now result) self.new (S.state site.old)
+            (S.state site.new) }
+        ensures refused { result ≢ Err WorkFault.Disk → OnErr result ((self.new ≡ self.old) × (site.new ≡ site.old)) }
+        ensures keeps { OnErr result (KeepsOn self.old self.new) }
+        ensures room { (H : List Event) → Keeps self.old H → TellsRoom limit H e.now result }
+        ensures memory { result ≢ Err WorkFault.Memory }
+        ensures quiet { HasNoNotice self.old → HasNoNotice self.new }
+        ensures intent { (t : Tag) → e.now.kind ≡ events.Intent t → HasNoNotice self.new }
+        ensures asks { CommitAsks result (S.counts site.old) (S.counts site.new) }
+        ensures counts { OnlyDiskFails (result ≡ Err WorkFault.Disk) (S.counts site.old) (S.counts site.new) }
+    {
+        // That a history has few events, by the contract of the call, is needed to see that no notice is laid aside.
+        let _table = self.occurrences();
+        self.put(site, e, limit)
     }
 
     /// Event n of the history, from 1, in the order in which the events happened: it is read back from the site's file.
