@@ -1,11 +1,6 @@
 -- The members of a grant request and of its entries as they are put, one after another.
-use Rattle.std.specs.Prelude.{List, ℕ, Option, None, Some, codes, false}
-use Rattle.serde_json.specs.Data.{Data, Members, boolean, member, no_members, put, string}
-
--- the members with this value under this name, where there is a value
-abbrev pub put_where : List ℕ → Option Data → Members → Members
-put_where name None rest = rest
-put_where name (Some d) rest = put name d rest
+use Rattle.std.specs.Prelude.{List, ℕ, codes, false}
+use Rattle.serde_json.specs.Data.{Members, boolean, member, no_members, string}
 
 -- the members that every entry has: its identifier, its template and its type
 abbrev pub needed_members : List ℕ → List ℕ → List ℕ → Members

@@ -7,16 +7,16 @@ ghost use Rattle.serde_json.specs.View.{members_view, view};
 ghost use Rattle.change_planner.specs.Acts.{template_name};
 ghost use Rattle.held_items.specs.Items.{AreInOrder, item_of};
 ghost use Rattle.lcm_model.specs.Grants.{change_id};
-ghost use Rattle.grant_desk.specs.Made.{needed_members, put_where};
+ghost use Rattle.grant_desk.specs.Made.{needed_members};
 ghost use Rattle.grant_desk.specs.Parts.{asks};
 ghost use Rattle.grant_desk.specs.Requests.{entries, entry, handle, resource_for, type_word, vdu_for};
 
 use crate::parts::{Part, asks};
 use held_items::find;
 use itoa::Buffer;
-use json_members::{put_text, text_value};
+use json_members::{put_text, put_where, text_value};
 use lcm_events::{Change, Def, DefKind, Held, Holding, Verb, Vnfd};
-use serde_json::{Map, Value, json, put};
+use serde_json::{Map, Value, json};
 use std::alloc::{AllocError, Global};
 
 /// What is asked for in a part, as a value.
@@ -94,22 +94,6 @@ fn needed_members(
     )?;
     put_text(&mut members, alloc, "type", type_word(def.kind))?;
     Ok(members)
-}
-
-/// Puts a member that is there where there is a value of it.
-fn put_where(
-    members: &mut Map<String, Value>,
-    alloc: Global,
-    name: &str,
-    value: Option<Value>,
-) -> Result<(), AllocError>
-    ensures { OnOk result (members_view members.new.entries
-        ≡ put_where name.now (option_map view value) (members_view members.old.entries)) }
-{
-    match value {
-        Some(value) => put(members, alloc, name, value),
-        None => Ok(()),
-    }
 }
 
 /// The identifier of a change.

@@ -10,7 +10,7 @@ ghost use Rattle.grant_desk.specs.Requests.{instance_id, links, occurrence_id, o
 
 use crate::entries::entries_value;
 use crate::parts::Part;
-use json_members::put_text;
+use json_members::{put_text, written};
 use lcm_events::{Ask, Change, Holding, OpKind, Vnfd};
 use lcm_model::op_kind;
 use serde_json::{Map, Value, json, put};
@@ -58,8 +58,7 @@ pub fn grant_body(
         ≡ Some (request vnfd.now holding.now who.now ask.now changes.now))) }
 {
     let value = request_value(alloc, vnfd, holding, who, ask, changes)?;
-    let text = value.to_vec(alloc)?;
-    Ok(Bytes::of_vec(text))
+    written(alloc, &value)
 }
 
 fn request_value(

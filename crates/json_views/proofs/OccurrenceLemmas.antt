@@ -24,9 +24,10 @@ use Rattle.json_views.specs.MadeOccurrence.{occurrence_members}
 use Rattle.json_views.specs.Occurrence.{cause_detail, cause_status, error_where, occurrence_id, occurrence_links, occurrence_path}
 use Rattle.json_views.specs.Occurrence.{occurrence_value, rollback_where, shows_error}
 use Rattle.json_views.specs.Params.{machine_value, named_where, params, stop_where}
-use Rattle.json_views.specs.Problem.{problem}
+use Rattle.json_members.specs.Problem.{problem}
 use Rattle.json_views.specs.Resources.{scale_info}
-use Rattle.json_views.specs.Views.{array_of, put_where}
+use Rattle.json_views.specs.Views.{array_of}
+use Rattle.json_members.specs.Members.{put_where}
 use Rattle.json_bodies.specs.Words.{cancel_word}
 use Rattle.json_views.specs.declared.affected.Affected.{Affected}
 use Rattle.json_views.proofs.ViewLemmas.{IsPlain, array_plain, or_false, text_plain, where_plain}

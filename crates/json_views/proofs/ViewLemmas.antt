@@ -18,7 +18,8 @@ use Rattle.json_views.specs.Links.{links}
 use Rattle.json_views.specs.Made.{needed_members}
 use Rattle.json_views.specs.Resources.{aspect_levels, compute_info, info_where, instantiated_info, link_info, scale_info, standing}
 use Rattle.json_views.specs.Resources.{standing_storages, storage_id, storage_ids, storage_info}
-use Rattle.json_views.specs.Views.{member_where, put_where}
+use Rattle.json_views.specs.Views.{member_where}
+use Rattle.json_members.specs.Members.{put_where}
 
 -- the members that may be absent, put to those that every instance has, are the members of the view
 pub members_made : (manager n : ℕ) (row : InstanceRow) (d : Vnfd) (info text name : Option Data)

@@ -8,7 +8,6 @@ pub mod Moments
 pub mod Occurrence
 pub mod Occurrences
 pub mod Params
-pub mod Problem
 pub mod Resources
 pub mod Showable
 pub mod Views

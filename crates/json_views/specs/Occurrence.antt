@@ -20,7 +20,7 @@ use Rattle.json_views.specs.Instance.{instance_id, instance_path}
 use Rattle.json_views.specs.Links.{link, task_link}
 use Rattle.json_views.specs.Moments.{moment_text}
 use Rattle.json_views.specs.Params.{params}
-use Rattle.json_views.specs.Problem.{problem}
+use Rattle.json_members.specs.Problem.{problem}
 use Rattle.json_views.specs.Views.{member_where}
 use Rattle.json_bodies.specs.Words.{cancel_word}
 use Rattle.json_views.specs.Words.{operation_word, state_word}

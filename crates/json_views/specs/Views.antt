@@ -1,17 +1,12 @@
 -- How views are made of members and lists (RFC 8259 4, Objects; 5, Arrays).
 use Rattle.std.specs.Prelude.{List, ℕ, Option, Some, None, map}
-use Rattle.serde_json.specs.Data.{Data, array, Members, member, put}
+use Rattle.serde_json.specs.Data.{Data, array, Members, member}
 use Rattle.serde_json.specs.View.{items_of}
 
 -- a member that is there where there is a value of it, and then the rest
 abbrev pub member_where : List ℕ → Option Data → Members → Members
 member_where name None rest = rest
 member_where name (Some d) rest = member name d rest
-
--- the members with this value under this name, where there is a value
-abbrev pub put_where : List ℕ → Option Data → Members → Members
-put_where name None rest = rest
-put_where name (Some d) rest = put name d rest
 
 -- the array of what each entry is shown as, in order
 abbrev pub array_of : {A : Type 0} → (A → Data) → List A → Data

@@ -2,10 +2,10 @@
 ghost use Rattle.std.specs.Prelude.{◌≡◌, ◌++◌, codes, decimal, string_bytes, IfOk, option_map};
 ghost use Rattle.serde_json.specs.View.{view};
 ghost use Rattle.json_views.specs.Occurrence.{cause_detail, cause_status, change_detail, error_where, shows_error};
-ghost use Rattle.json_views.specs.Problem.{problem};
+ghost use Rattle.json_members.specs.Problem.{problem};
 
-use crate::problem::problem_value;
 use itoa::Buffer;
+use json_members::problem_value;
 use lcm_events::OpState;
 use occ_table::{Cause, OccRow};
 use serde_json::Value;

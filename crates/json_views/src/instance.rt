@@ -16,6 +16,7 @@ use crate::members::{put_line_where, put_name_where, put_text, put_where};
 use crate::resources::info_where;
 use instance_table::InstanceRow;
 use json_bodies::CreateBody;
+use json_members::written;
 use lcm_events::{Holding, Listed, Vnfd};
 use serde_json::{Map, Value, put};
 use std::alloc::{AllocError, Global};
@@ -79,8 +80,7 @@ pub fn instance_view(
     ensures { IfOk result (λ body. body ≡ instance_text manager n row.now vnfd.now) }
 {
     let value = instance_value(alloc, manager, n, row, vnfd)?;
-    let text = value.to_vec(alloc)?;
-    Ok(Bytes::of_vec(text))
+    written(alloc, &value)
 }
 
 /// The view of instance `n`, which was just created with this body: that of its row. What product it is its descriptor

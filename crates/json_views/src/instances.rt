@@ -6,6 +6,7 @@ ghost use Rattle.json_views.specs.Instances.{CanBeShown, IsShowable, instances_t
 use crate::instance::instance_value;
 use crate::members::{Shows, array_of};
 use instance_table::{InstanceRow, InstanceTable};
+use json_members::written;
 use serde_json::Value;
 use std::alloc::{AllocError, Global};
 use vnfm_base::Bytes;
@@ -26,8 +27,7 @@ pub fn instances_view(
     ensures { IfOk result (λ body. body ≡ instances_text manager table.now.rows) }
 {
     let value = instances_value(alloc, manager, table)?;
-    let text = value.to_vec(alloc)?;
-    Ok(Bytes::of_vec(text))
+    written(alloc, &value)
 }
 
 fn instances_value(alloc: Global, manager: u32, table: &InstanceTable) -> Result<Value, AllocError>

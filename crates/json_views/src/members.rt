@@ -2,9 +2,10 @@
 ghost use Rattle.std.specs.Prelude.{◌≡◌, All, IfOk, OnOk, filter, map, option_map};
 ghost use Rattle.serde_json.specs.View.{items_of, members_view, view};
 ghost use Rattle.serde_json.specs.Data.{array, put as with_member, string};
-ghost use Rattle.json_views.specs.Views.{array_of, put_where};
+ghost use Rattle.json_views.specs.Views.{array_of};
+ghost use Rattle.json_members.specs.Members.{put_where};
 
-pub use json_members::{put_text, text_value};
+pub use json_members::{put_text, put_where, text_value};
 use serde_json::{Map, Value, put};
 use std::alloc::{AllocError, Global};
 use vnfm_base::{Line, Name};
@@ -37,22 +38,6 @@ pub fn put_line_where(
 {
     match value {
         Some(value) => put_text(members, alloc, name, value.as_str()),
-        None => Ok(()),
-    }
-}
-
-/// Puts a member that is there where there is a value of it.
-pub fn put_where(
-    members: &mut Map<String, Value>,
-    alloc: Global,
-    name: &str,
-    value: Option<Value>,
-) -> Result<(), AllocError>
-    ensures { OnOk result (members_view members.new.entries
-        ≡ put_where name.now (option_map view value) (members_view members.old.entries)) }
-{
-    match value {
-        Some(value) => put(members, alloc, name, value),
         None => Ok(()),
     }
 }

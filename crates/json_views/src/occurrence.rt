@@ -21,6 +21,7 @@ use crate::members::{put_text, put_where, text_value};
 use crate::occurrence_links::links_by_state;
 use crate::params::params_value;
 use crate::words::{cancel_word, operation_word, state_word};
+use json_members::written;
 use lcm_events::{Ask, CancelMode, Vnfd};
 use occ_table::{Grant, OccRow};
 use serde_json::{Map, Value, put};
@@ -73,8 +74,7 @@ pub fn occurrence_view(
     ensures { IfOk result (λ body. body ≡ occurrence_text manager n row.now vnfd.now) }
 {
     let value = occurrence_shown(alloc, manager, n, row, vnfd)?;
-    let text = value.to_vec(alloc)?;
-    Ok(Bytes::of_vec(text))
+    written(alloc, &value)
 }
 
 /// The value of the view, with the texts of the row's moments.

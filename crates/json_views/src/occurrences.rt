@@ -6,6 +6,7 @@ ghost use Rattle.json_views.specs.Occurrences.{occurrences_listed, occurrences_t
 
 use crate::occurrence::occurrence_shown;
 use instance_table::InstanceTable;
+use json_members::written;
 use occ_table::{OccRow, OccTable};
 use serde_json::Value;
 use std::alloc::{AllocError, Global};
@@ -33,8 +34,7 @@ pub fn occurrences_view(
     ensures { IfOk result (λ body. body ≡ occurrences_text manager instances.now.rows occurrences.now.rows) }
 {
     let value = occurrences_value(alloc, manager, instances, occurrences)?;
-    let text = value.to_vec(alloc)?;
-    Ok(Bytes::of_vec(text))
+    written(alloc, &value)
 }
 
 fn occurrences_value(

@@ -3,7 +3,7 @@ ghost use Rattle.std.specs.Prelude.{◌≡◌, [], IfOk, OnOk, codes, option_map
 ghost use Rattle.serde_json.specs.View.{members_view, view};
 ghost use Rattle.serde_json.specs.Data.{object};
 ghost use Rattle.lcm_events.specs.declared.asks.Aim.TheVariants.{Aspects, Level};
-ghost use Rattle.json_views.specs.Views.{put_where};
+ghost use Rattle.json_members.specs.Members.{put_where};
 ghost use Rattle.json_views.specs.Params.{aim_params, heal_params, instantiate_params, machine_value, named_where};
 ghost use Rattle.json_views.specs.Params.{operate_params, params, scale_params, stop_where, terminate_params};
 

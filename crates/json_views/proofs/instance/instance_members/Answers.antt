@@ -1,7 +1,7 @@
 -- What was put to the members that every instance has.
 use Rattle.std.proofs.Common.{ap, refl, ◌∙◌}
 use Rattle.serde_json.specs.Data.{object}
-use Rattle.json_views.specs.Views.{put_where}
+use Rattle.json_members.specs.Members.{put_where}
 use Rattle.json_views.proofs.ViewLemmas.{members_made}
 use Rattle.json_views.proofs.instance.instance_members.Goals as goal
 
