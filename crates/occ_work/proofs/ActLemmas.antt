@@ -7,7 +7,6 @@ use Rattle.executor.specs.declared.manager.WorkFault.TheVariants as fault
 use Rattle.executor.proofs.WorkLemmas.{with_jobs}
 use Rattle.lcm_events.specs.declared.events.Event.{Event}
 use Rattle.lcm_events.specs.declared.states.OpState.{OpState}
-use Rattle.lcm_model.specs.Grants.{location}
 use Rattle.lcm_model.specs.Next.{next_action}
 use Rattle.lcm_model.specs.Operations.{changes}
 use Rattle.lcm_model.specs.declared.actions.Action.TheVariants.{AskForGrant, MoveTo, Poll}
@@ -16,15 +15,14 @@ use Rattle.site_traits.specs.Advancing.{advances-refl}
 use Rattle.site_traits.specs.Answer.{Answer as Heard}
 use Rattle.site_traits.specs.Counts.{CallCounts, OnlyDiskFails, SiteCounts, one_more}
 use Rattle.site_traits.specs.Moments.{kept_jobs}
-use Rattle.site_traits.specs.Peers.{Asks, CallCause, OrchestratorState, Polls}
+use Rattle.site_traits.specs.Peers.{OrchestratorState}
 use Rattle.site_traits.specs.Site.{KeepsJobs, SiteState}
 use Rattle.site_traits.specs.declared.orchestrator.Call.{Call}
 use Rattle.occ_work.specs.Acting.{Acts, Records}
-use Rattle.occ_work.specs.Around.{Counts, DiskFails, Exchanges, ReachTells, reach}
+use Rattle.occ_work.specs.Around.{Calls, Counts, DiskFails, Exchanges, ReachTells, peer, reach}
 use Rattle.occ_work.specs.Attempting.{Attempts, IsWithoutPeer, shows}
-use Rattle.occ_work.specs.Deeds.{Deed, Exchange, aborted, answer_heard, asked, began, ending, looked, nothing, polled, point}
-use Rattle.occ_work.specs.Requests.{grant_request}
-use Rattle.occ_work.specs.Exchanges.{exchanging, kinds_for}
+use Rattle.occ_work.specs.Deeds.{Deed, Exchange, IsExchangeOf, aborted, answer_heard, asked, began, ending, looked, nothing, polled, point}
+use Rattle.occ_work.specs.Exchanges.{exchange_of, exchanging, kinds_for}
 use Rattle.occ_work.specs.declared.ends.Acted.{Acted}
 use Rattle.occ_work.specs.declared.ends.Acted.TheVariants.{Recorded}
 use Rattle.occ_work.proofs.AttemptLemmas.{alike_disk, alike_refl}
@@ -84,57 +82,46 @@ starved_act t m now H o false s i told counts idles ready next = (
   },
 )
 
--- the grant was asked for, and what was answered taken
-pub asking_act : (t : ReachTells) (m now : ℕ) (H : List Event) (o : ℕ) (body : List ℕ) (ended : Call) (heard : Heard)
-    (result : Result Acted WorkFault) (n : Managed)
-    (a b : SiteState) (i j : SiteCounts) (failed : Type 0) (x y : OrchestratorState) (c k : CallCounts) → next_action H o ≡ Some AskForGrant
-    → grant_request m H o ≡ Some body
-    → (t.orchestrator → Asks body heard ended x y) → CallCause ended c k → (t.site → KeepsJobs a b) → OnlyDiskFails failed i j
-    → Records t.site (point m now H) (kinds_for true o (answer_heard true (changes H o) ended heard)) result n a b
-    → IfOk result (λ done. done ≡ ending AskForGrant (answer_heard true (changes H o) ended heard))
+-- the orchestrator was called, and what was answered taken
+pub exchanging_act : (t : ReachTells) (m now : ℕ) (H : List Event) (o : ℕ) (asking : Bool) (words : List ℕ) (ended : Call) (heard : Heard)
+    (result : Result Acted WorkFault) (n : Managed) (a b : SiteState) (i j : SiteCounts) (failed : Type 0) (x y : OrchestratorState)
+    (c k : CallCounts) → next_action H o ≡ Some (exchanging asking)
+    → IsExchangeOf m H o (exchanging asking) (exchange_of asking words ended heard)
+    → Calls t.orchestrator (exchange_of asking words ended heard) (peer x c) (peer y k)
+    → (t.site → KeepsJobs a b) → OnlyDiskFails failed i j
+    → Records t.site (point m now H) (kinds_for asking o (answer_heard asking (changes H o) ended heard)) result n a b
+    → IfOk result (λ done. done ≡ ending (exchanging asking) (answer_heard asking (changes H o) ended heard))
     → (d : Deed) × (d.occ ≡ o) × Acts t (point m now H) d result n (reach a i x c) (reach b j y k)
-asking_act t m now H o body ended heard result n a b i j failed x y c k next request told counts alone only records ends = (
-  record { occ = o; action = AskForGrant; exchange = asked body ended heard },
+exchanging_act t m now H o true words ended heard result n a b i j failed x y c k next due calls alone only records ends = (
+  record { occ = o; action = AskForGrant; exchange = asked words ended heard },
   refl,
   record {
-    tried = record { next = next; exchange = inl request; ended = tt };
+    tried = record { next = next; exchange = inl due; ended = tt };
     exchanged = record {
-      told = told;
-      counts = counts;
+      told = calls.told;
+      counts = calls.counts;
       handled = record {
         jobs = λ tells. kept_jobs a b (alone tells);
         answers = λ tells. (alone tells).answers;
-        counts =
-            alike_disk failed i j only;
+        counts = alike_disk failed i j only;
       };
     };
     records = records;
     ended = ends;
   },
 )
-
--- the location was polled, and what was answered taken
-pub polling_act : (t : ReachTells) (m now : ℕ) (H : List Event) (o : ℕ) (at : List ℕ) (ended : Call) (heard : Heard)
-    (result : Result Acted WorkFault) (n : Managed)
-    (a b : SiteState) (i j : SiteCounts) (failed : Type 0) (x y : OrchestratorState) (c k : CallCounts) → next_action H o ≡ Some Poll
-    → location H o ≡ Some at
-    → (t.orchestrator → Polls at heard ended x y) → CallCause ended c k → (t.site → KeepsJobs a b) → OnlyDiskFails failed i j
-    → Records t.site (point m now H) (kinds_for false o (answer_heard false (changes H o) ended heard)) result n a b
-    → IfOk result (λ done. done ≡ ending Poll (answer_heard false (changes H o) ended heard))
-    → (d : Deed) × (d.occ ≡ o) × Acts t (point m now H) d result n (reach a i x c) (reach b j y k)
-polling_act t m now H o at ended heard result n a b i j failed x y c k next known told counts alone only records ends = (
-  record { occ = o; action = Poll; exchange = polled at ended heard },
+exchanging_act t m now H o false words ended heard result n a b i j failed x y c k next due calls alone only records ends = (
+  record { occ = o; action = Poll; exchange = polled words ended heard },
   refl,
   record {
-    tried = record { next = next; exchange = inl known; ended = tt };
+    tried = record { next = next; exchange = inl due; ended = tt };
     exchanged = record {
-      told = told;
-      counts = counts;
+      told = calls.told;
+      counts = calls.counts;
       handled = record {
         jobs = λ tells. kept_jobs a b (alone tells);
         answers = λ tells. (alone tells).answers;
-        counts =
-            alike_disk failed i j only;
+        counts = alike_disk failed i j only;
       };
     };
     records = records;

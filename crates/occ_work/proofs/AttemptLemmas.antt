@@ -1,6 +1,6 @@
 -- An attempt that was begun or looked at, by what was recorded and called in turn.
 use Rattle.std.proofs.Common.{◌≡◌, ◌≢◌, ◌∙◌, ℕ, List, [], ◌∷◌, Bool, false, true, Option, None, Some, ap, sym, subst, refl, inl, inr}
-use Rattle.std.proofs.Common.{Result, Ok, Err, IfOk, IsOk, OnOk, ⊎_elim, arith}
+use Rattle.std.proofs.Common.{Result, Ok, Err, IfOk, IsOk, OnOk, map, ⊎_elim, arith}
 use Rattle.change_planner.specs.Tags.{act_of}
 use Rattle.executor.specs.Managed.{IsReady, KeepsOn, Managed}
 use Rattle.journal_core.specs.Journal.{Ledger, Stands}
@@ -18,6 +18,7 @@ use Rattle.executor.specs.Room.{TellsRoom}
 use Rattle.journal_records.specs.declared.limits.TheConstants.{MAX_FILE}
 use Rattle.lcm_events.specs.declared.acts.Act.{Act}
 use Rattle.lcm_events.specs.declared.attempts.Tag.{Tag}
+use Rattle.lcm_events.specs.declared.changes.Change.{Change}
 use Rattle.lcm_events.specs.declared.events.Event.{Event}
 use Rattle.lcm_events.specs.declared.events.EventKind.{EventKind}
 use Rattle.lcm_events.specs.declared.events.EventKind.TheVariants.{Intent}
@@ -25,29 +26,31 @@ use Rattle.lcm_jobs.specs.Sound.{FitsJobs, IsNoneOrBroken, IsSound}
 use Rattle.lcm_jobs.proofs.KeepLemmas.{fresh_job, sound_more}
 use Rattle.lcm_laws.specs.Acting.{with_events}
 use Rattle.lcm_model.specs.Allowed.{IsAllowed, IsLegal}
-use Rattle.lcm_model.specs.Next.{BeginTaken, appended, beginning, look_at, looking, next_action}
+use Rattle.lcm_model.specs.Next.{Answer, BeginTaken, appended, beginning, looking, next_action}
+use Rattle.lcm_model.specs.Operations.{changes}
 use Rattle.lcm_model.specs.Work.{window}
 use Rattle.lcm_model.specs.declared.actions.Action.{Action}
 use Rattle.lcm_model.specs.declared.actions.Action.TheVariants.{AbortAndLook, Begin, Look}
 use Rattle.site_traits.specs.Advancing.{advances-refl, advances-then}
-use Rattle.site_traits.specs.Counts.{OnlyDiskFails, SiteCounts, abort_counts, begin_counts, look_counts, one_more}
-use Rattle.site_traits.specs.Jobs.{Advances, BeginsAs, Job, LooksAs, MayArrive, begin_answered, look_answered, phase_of}
+use Rattle.site_traits.specs.Counts.{OnlyDiskFails, SiteCounts, begin_counts, one_more}
+use Rattle.site_traits.specs.Jobs.{Advances, BeginsAs, Job, LooksAs, MayArrive, begin_answered, phase_of}
 use Rattle.site_traits.specs.declared.jobs.Phase.{Phase}
-use Rattle.site_traits.specs.Moments.{kept_jobs, passes-then}
-use Rattle.site_traits.specs.Site.{Aborts, Begins, JobStep, KeepsJobs, Looks, OnJobs, SiteState}
+use Rattle.site_traits.specs.Moments.{kept_jobs}
+use Rattle.site_traits.specs.Site.{Begins, KeepsJobs, OnJobs, SiteState}
 use Rattle.site_traits.specs.declared.jobs.AbortAnswer.{AbortAnswer}
 use Rattle.site_traits.specs.declared.jobs.BeginAnswer.{BeginAnswer}
 use Rattle.site_traits.specs.declared.jobs.BeginAnswer.TheVariants as begin
 use Rattle.site_traits.specs.declared.jobs.LookAnswer.{LookAnswer}
 use Rattle.site_traits.specs.declared.jobs.LookAnswer.TheVariants as look
 use Rattle.occ_work.specs.Acting.{Records, TellsRoomFor, recording}
-use Rattle.occ_work.specs.Around.{CountJobsAlike}
-use Rattle.occ_work.specs.Attempting.{Attempts, Puts, following, shows}
-use Rattle.occ_work.specs.Deeds.{Deed, IsUnexchanged, MayEnd, aborted, answer_begun, answer_looked, began, ending, looked, nothing, point}
+use Rattle.occ_work.specs.Around.{CountJobsAlike, JobsDo}
+use Rattle.occ_work.specs.Attempting.{Attempts, Inquires, IsWithoutPeer, Puts, following, shows}
+use Rattle.occ_work.specs.Deeds.{Deed, Exchange, IsExchangeOf, IsUnexchanged, MayEnd, answer_begun, answer_in, answer_looked, answered}
+use Rattle.occ_work.specs.Deeds.{began, ending, kinds_of, look_at, look_exchange, nothing, point}
 use Rattle.occ_work.specs.declared.ends.Acted.{Acted}
 use Rattle.occ_work.specs.declared.ends.Acted.TheVariants.{Recorded}
-use Rattle.occ_work.proofs.BeginLemmas.{begun_sound, jobs_alone, jobs_on, looked_sound}
-use Rattle.occ_work.proofs.JobLemmas.{begins_on, looks_before, looks_on, refused_broken}
+use Rattle.occ_work.proofs.BeginLemmas.{begun_sound, jobs_alone, looked_sound}
+use Rattle.occ_work.proofs.JobLemmas.{begins_on, looks_on, refused_broken}
 
 -- none or one
 abbrev pub AreFew : List EventKind → Type 0
@@ -311,6 +314,10 @@ IsStarving (Look t) = Unit {0}
 IsStarving (AbortAndLook t) = Unit {0}
 IsStarving _ = ⊥
 
+pub looks_starving : (forced : Bool) (t : Tag) → IsStarving (look_at forced t)
+looks_starving true t = tt
+looks_starving false t = tt
+
 -- an attempt for which there was no memory: nothing was done
 pub starved_attempt : (tells : Type 0) (m : Managed) (now : ℕ) (H : List Event) (o : ℕ) (action : Action) (n : Managed) (s : SiteState)
     (i : SiteCounts) → next_action H o ≡ Some action
@@ -363,24 +370,18 @@ few_looked t (look.Broken code) = tt
 few_looked t look.Aborted = tt
 few_looked t look.Failed = tt
 
--- how a look may end
-looked_ends : (t : Tag) (answer : LookAnswer) (result : Result Acted WorkFault) → (result ≡ Err fault.Memory → ⊥)
-    → MayEnd (looked t answer) result
-looked_ends t answer (Ok done) memory = tt
-looked_ends t answer (Err (fault.TooLong n)) memory = tt
-looked_ends t answer (Err (fault.Full end more)) memory = tt
-looked_ends t answer (Err fault.Memory) memory = memory refl
-looked_ends t answer (Err fault.Disk) memory = tt
-
--- and so may one behind aborts
-aborted_ends : (aborts : List (Tag × AbortAnswer)) (t : Tag) (answer : LookAnswer) (result : Result Acted WorkFault)
-    → (result ≡ Err fault.Memory → ⊥)
-    → MayEnd (aborted aborts t answer) result
-aborted_ends aborts t answer (Ok done) memory = tt
-aborted_ends aborts t answer (Err (fault.TooLong n)) memory = tt
-aborted_ends aborts t answer (Err (fault.Full end more)) memory = tt
-aborted_ends aborts t answer (Err fault.Memory) memory = memory refl
-aborted_ends aborts t answer (Err fault.Disk) memory = tt
+-- how a look may end, behind aborts or none
+looked_ends : (forced : Bool) (aborts : List (Tag × AbortAnswer)) (t : Tag) (answer : LookAnswer) (result : Result Acted WorkFault)
+    → (result ≡ Err fault.Memory → ⊥) → MayEnd (look_exchange forced aborts t answer) result
+looked_ends true aborts t answer (Ok done) memory = tt
+looked_ends false aborts t answer (Ok done) memory = tt
+looked_ends true aborts t answer (Err (fault.TooLong n)) memory = tt
+looked_ends false aborts t answer (Err (fault.TooLong n)) memory = tt
+looked_ends true aborts t answer (Err (fault.Full end more)) memory = tt
+looked_ends false aborts t answer (Err (fault.Full end more)) memory = tt
+looked_ends forced aborts t answer (Err fault.Memory) memory = absurd (memory refl)
+looked_ends true aborts t answer (Err fault.Disk) memory = tt
+looked_ends false aborts t answer (Err fault.Disk) memory = tt
 
 -- what is recorded of a job that was looked at, where running jobs may have ended before
 looked_records : (tells : Type 0) (m now : ℕ) (H : List Event) (t : Tag) (answer : LookAnswer) (result : Result Acted WorkFault)
@@ -410,97 +411,94 @@ looked_records tells m now H t answer result n p a b d legal number ready calls 
       room = puts.room;
     }
 
--- and what is told of the jobs
-looked_jobs : (tells : Type 0) (t : Tag) (answer : LookAnswer) (a b d : SiteState) → (tells → OnJobs Advances a b)
-    → (tells → LooksAs t answer a.jobs b.jobs) → (tells → KeepsJobs b d)
-    → tells → Advances a.jobs d.jobs × LooksAs t answer a.jobs d.jobs
-looked_jobs tells t answer a b d calls looks alone told = (
-  advances-then a.jobs b.jobs d.jobs (jobs_on Advances a b (calls told)) (kept_jobs b d (alone told)),
-  looks_on t answer a.jobs b.jobs d.jobs (looks told) (kept_jobs b d (alone told)),
-)
+-- one type for another
+as_told : {A B : Type 0} → A ≡ B → A → B
+as_told is a = subst (λ (X : Type 0). X) is a
 
--- an attempt whose job was looked at
-pub looked_attempt : (tells : Type 0) (m now : ℕ) (H : List Event) (o : ℕ) (t : Tag) (answer : LookAnswer) (result : Result Acted WorkFault)
-    (n p : Managed) (a b d : SiteState)
-    (two : Type 0) (i j k : SiteCounts) → next_action H o ≡ Some (Look t) → IsLegal m (with_events now (looking t (answer_looked answer)) H)
-    → n.ledger.manager ≡ m
-    → IsReady tells n H a → (tells → Looks t answer a b) → Puts tells (point m now H) (looking t (answer_looked answer)) result p b d
-    → (tells → KeepsJobs b d)
-    → (result ≡ Err fault.Memory → ⊥) → IfOk result (λ done. done ≡ ending (Look t) (answer_looked answer)) → j ≡ look_counts answer i
-    → OnlyDiskFails two j k
-    → (x : Deed) × (x.occ ≡ o) × Attempts tells (point m now H) x result p (shows a i) (shows d k)
-looked_attempt tells m now H o t answer result n p a b d two i j k next legal number ready looks puts alone memory ends called behind = (
-  record { occ = o; action = Look t; exchange = looked t answer },
-  refl,
-  record {
-    tried = record { next = next; exchange = inl refl; ended = looked_ends t answer result memory };
-    alone = tt;
-    handled = record {
-      jobs = looked_jobs tells t answer a b d (λ told. (looks told).on_jobs) (λ told. (looks told).looks) alone;
-      answers = λ told. (alone told).answers ∙ (looks told).answers;
-      counts = subst (λ (x : SiteCounts). CountJobsAlike x k) called (alike_disk two j k behind);
-    };
-    records = looked_records tells m now H t answer result n p a b d legal number ready (λ told. (looks told).on_jobs)
-        (λ told. (looks told).looks) puts alone;
-    ended = ends;
-  },
-)
+-- what is exchanged for a look, behind aborts or none
+look_due : (forced : Bool) (m : ℕ) (H : List Event) (o : ℕ) (aborts : List (Tag × AbortAnswer)) (t : Tag) (answer : LookAnswer)
+    → (forced ≡ true → map (λ a. a.0) aborts ≡ open_of H o)
+    → IsExchangeOf m H o (look_at forced t) (look_exchange forced aborts t answer)
+look_due true m H o aborts t answer all = (refl, all refl)
+look_due false m H o aborts t answer all = refl
 
--- an abort and then a look are one run over the jobs
-pub aborted_on : (t : Tag) (how : AbortAnswer) (answer : LookAnswer) (a b c : SiteState) → Aborts t how a b → Looks t answer b c
-    → OnJobs Advances a c
-aborted_on t how answer a b c aborts looks = record {
-  passes = passes-then (JobStep Advances) (JobStep Advances) (JobStep Advances) a b c aborts.on_jobs.passes looks.on_jobs.passes
-      (λ p. record { image = refl; jobs = advances-refl p.jobs }) (λ p. record { image = refl; jobs = advances-refl p.jobs })
-      (λ p q r one two. record { image = two.image ∙ one.image; jobs = advances-then p.jobs q.jobs r.jobs one.jobs two.jobs });
-  same = looks.on_jobs.same ∙ aborts.on_jobs.same;
-}
+look_alone : (forced : Bool) (aborts : List (Tag × AbortAnswer)) (t : Tag) (answer : LookAnswer)
+    → IsWithoutPeer (look_exchange forced aborts t answer)
+look_alone true aborts t answer = tt
+look_alone false aborts t answer = tt
 
-aborted_looks : (t : Tag) (how : AbortAnswer) (answer : LookAnswer) (a b c : SiteState) → Aborts t how a b → Looks t answer b c
-    → LooksAs t answer a.jobs c.jobs
-aborted_looks t how answer a b c aborts looks = looks_before t answer a.jobs b.jobs c.jobs (jobs_on Advances a b aborts.on_jobs) looks.looks
+-- it is answered as the look is, and what that appends, and how the act ends, is as of a look
+look_answered_so : (forced : Bool) (xs : List Change) (aborts : List (Tag × AbortAnswer)) (t : Tag) (answer : LookAnswer)
+    → answer_in xs (look_exchange forced aborts t answer) ≡ answer_looked answer
+look_answered_so true xs aborts t answer = refl
+look_answered_so false xs aborts t answer = refl
 
-same_ending : (t : Tag) (answer : LookAnswer) → ending (Look t) (answer_looked answer) ≡ ending (AbortAndLook t) (answer_looked answer)
-same_ending t look.Absent = refl
-same_ending t look.Running = refl
-same_ending t (look.Done name) = refl
-same_ending t (look.Broken code) = refl
-same_ending t look.Aborted = refl
-same_ending t look.Failed = refl
+look_appends : (forced : Bool) (o : ℕ) (t : Tag) (answer : Answer) → appended o (look_at forced t) answer ≡ looking t answer
+look_appends true o t answer = refl
+look_appends false o t answer = refl
+
+look_ending : (forced : Bool) (t : Tag) (answer : LookAnswer)
+    → ending (Look t) (answer_looked answer) ≡ ending (look_at forced t) (answer_looked answer)
+look_ending false t answer = refl
+look_ending true t look.Absent = refl
+look_ending true t look.Running = refl
+look_ending true t (look.Done name) = refl
+look_ending true t (look.Broken code) = refl
+look_ending true t look.Aborted = refl
+look_ending true t look.Failed = refl
+
+-- and the jobs are as of a look
+look_jobs : (forced : Bool) (aborts : List (Tag × AbortAnswer)) (t : Tag) (answer : LookAnswer) (xs ys : List Job)
+    → JobsDo (look_exchange forced aborts t answer) xs ys ≡ (Advances xs ys × LooksAs t answer xs ys)
+look_jobs true aborts t answer xs ys = refl
+look_jobs false aborts t answer xs ys = refl
 
 ends_alike : (result : Result Acted WorkFault) (one two : Acted) → one ≡ two → IfOk result (λ done. done ≡ one)
     → IfOk result (λ done. done ≡ two)
 ends_alike (Ok done) one two same ends = ends ∙ same
 ends_alike (Err why) one two same ends = tt
 
--- the attempt whose job was aborted and then looked at, which is the one that is open
-pub aborted_attempt : (tells : Type 0) (m now : ℕ) (H : List Event) (o : ℕ) (t : Tag) (how : AbortAnswer) (answer : LookAnswer)
-    (result : Result Acted WorkFault) (n p : Managed)
-    (a b c d : SiteState) (two : Type 0) (h i j k : SiteCounts) → next_action H o ≡ Some (AbortAndLook t) → open_of H o ≡ t ∷ []
+-- an attempt whose job was looked at, behind aborts or none
+pub inquired_attempt : (tells : Type 0) (m now : ℕ) (H : List Event) (o : ℕ) (forced : Bool) (aborts : List (Tag × AbortAnswer))
+    (t : Tag) (answer : LookAnswer) (result : Result Acted WorkFault) (n p : Managed) (a b d : SiteState) (two : Type 0)
+    (i j k : SiteCounts) → next_action H o ≡ Some (look_at forced t)
+    → (forced ≡ true → map (λ a. a.0) aborts ≡ open_of H o)
     → IsLegal m (with_events now (looking t (answer_looked answer)) H) → n.ledger.manager ≡ m → IsReady tells n H a
-    → (tells → Aborts t how a b) → (tells → Looks t answer b c)
-    → Puts tells (point m now H) (looking t (answer_looked answer)) result p c d → (tells → KeepsJobs c d) → (result ≡ Err fault.Memory → ⊥)
-    → IfOk result (λ done. done ≡ ending (Look t) (answer_looked answer)) → i ≡ abort_counts how h → j ≡ look_counts answer i
+    → Inquires tells (look_exchange forced aborts t answer) (shows a i) (shows b j)
+    → Puts tells (point m now H) (looking t (answer_looked answer)) result p b d → (tells → KeepsJobs b d)
+    → (result ≡ Err fault.Memory → ⊥) → IfOk result (λ done. done ≡ ending (Look t) (answer_looked answer))
     → OnlyDiskFails two j k
-    → (x : Deed) × (x.occ ≡ o) × Attempts tells (point m now H) x result p (shows a h) (shows d k)
-aborted_attempt tells m now H o t how answer result n p a b c d two h i j k next single legal number ready aborts looks puts alone memory
-    ends called then behind =
-    let calls : tells → OnJobs Advances a c = λ told. aborted_on t how answer a b c (aborts told) (looks told) in
-    let seen : tells → LooksAs t answer a.jobs c.jobs = λ told. aborted_looks t how answer a b c (aborts told) (looks told) in
-    let both : j ≡ look_counts answer (abort_counts how h) = then ∙ ap (look_counts answer) called in (
-      record { occ = o; action = AbortAndLook t; exchange = aborted ((t, how) ∷ []) t answer },
+    → (x : Deed) × (x.occ ≡ o) × Attempts tells (point m now H) x result p (shows a i) (shows d k)
+inquired_attempt tells m now H o forced aborts t answer result n p a b d two i j k next all legal number ready asks puts alone memory
+    ends behind =
+    let x : Exchange = look_exchange forced aborts t answer in
+    let done : Deed = record { occ = o; action = look_at forced t; exchange = x } in
+    let told : answered H done ≡ answer_looked answer = look_answered_so forced (changes H o) aborts t answer in
+    let kinds : kinds_of H done ≡ looking t (answer_looked answer) =
+    ap (appended o (look_at forced t)) told ∙ look_appends forced o t (answer_looked answer) in
+    let saw : tells → Advances a.jobs b.jobs × LooksAs t answer a.jobs b.jobs =
+    λ tells. as_told (look_jobs forced aborts t answer a.jobs b.jobs) (asks.jobs tells) in (
+      done,
       refl,
       record {
-        tried = record { next = next; exchange = inl (refl, sym single); ended = aborted_ends ((t, how) ∷ []) t answer result memory };
-        alone = tt;
-        handled = record {
-          jobs = looked_jobs tells t answer a c d calls seen alone;
-          answers = λ told. (alone told).answers ∙ ((looks told).answers ∙ ap (look_answered t answer) (aborts told).answers);
-          counts = subst (λ (x : SiteCounts). CountJobsAlike x k) both (alike_disk two j k behind);
+        tried = record {
+          next = next;
+          exchange = inl (look_due forced m H o aborts t answer all);
+          ended = looked_ends forced aborts t answer result memory;
         };
-        records = looked_records tells m now H t answer result n p a c d legal number ready calls seen puts alone;
-        ended = ends_alike result (ending (Look t) (answer_looked answer)) (ending (AbortAndLook t) (answer_looked answer))
-            (same_ending t answer) ends;
+        alone = look_alone forced aborts t answer;
+        handled = record {
+          jobs = λ tells. as_told (sym (look_jobs forced aborts t answer a.jobs d.jobs)) (
+            advances-then a.jobs b.jobs d.jobs (saw tells).0 (kept_jobs b d (alone tells)),
+            looks_on t answer a.jobs b.jobs d.jobs (saw tells).1 (kept_jobs b d (alone tells)),
+          );
+          answers = λ tells. (alone tells).answers ∙ asks.answers tells;
+          counts = subst (λ (c : SiteCounts). CountJobsAlike c k) asks.counts (alike_disk two j k behind);
+        };
+        records = subst (λ (ks : List EventKind). Records tells (point m now H) ks result p a d) (sym kinds)
+            (looked_records tells m now H t answer result n p a b d legal number ready asks.calls (λ tells. (saw tells).1) puts alone);
+        ended = ends_alike result (ending (Look t) (answer_looked answer)) (ending (look_at forced t) (answered H done))
+            (look_ending forced t answer ∙ ap (ending (look_at forced t)) (sym told)) ends;
       },
     )
 

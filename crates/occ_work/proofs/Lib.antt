@@ -7,7 +7,7 @@ mod BeginLemmas
 mod AttemptLemmas
 mod TakingLemmas
 mod ActLemmas
-mod OpenLemmas
+mod InquireLemmas
 mod OrderLemmas
 mod TurnLemmas
 mod CountLemmas

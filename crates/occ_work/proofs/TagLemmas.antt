@@ -1,9 +1,9 @@
 -- The tags of a history's attempts keep the format's rules, and so do the events about them that come next.
-use Rattle.std.proofs.Common.{◌≡◌, ◌||◌, ℕ, Bool, List, [], ◌∷◌, true, true≢false, arith, sym, subst}
+use Rattle.std.proofs.Common.{◌≡◌, ◌||◌, ℕ, Bool, List, [], ◌∷◌, false, true, true≢false, arith, sym, subst}
 use Rattle.std.specs.List.{AllByRecursion, list_any}
 use Rattle.event_codec.specs.Typed.{TypedEvent}
 use Rattle.event_codec.specs.Valid.{IsEvent, IsKind, IsTag}
-use Rattle.executor.specs.Managed.{MayPut}
+use Rattle.executor.specs.Managed.{MayPut, MayRecord, is_settled}
 use Rattle.lcm_events.proofs.SameLaws.{same_tag-true}
 use Rattle.lcm_events.specs.Same.{same_tag}
 use Rattle.lcm_events.specs.declared.attempts.Tag.{Tag}
@@ -45,3 +45,12 @@ attempt_rules m H now _ events allowed is typed = absurd (cc is)
 pub attempt_put : (m : ℕ) (H : List Event) (e : Event) → AllByRecursion IsEvent H → IsAllowed m H e.kind → is_of_attempt e.kind ≡ true
     → MayPut m H e
 attempt_put m H e events allowed is = record { rules = attempt_rules m H e.moment e.kind events allowed is; allowed = allowed }
+
+-- and recorded, where it isn't a Settled
+pub attempt_recorded : (m : ℕ) (H : List Event) (e : Event) → AllByRecursion IsEvent H → IsAllowed m H e.kind → is_of_attempt e.kind ≡ true
+    → is_settled e.kind ≡ false → MayRecord m H e
+attempt_recorded m H e events allowed is unsettled = record {
+  rules = attempt_rules m H e.moment e.kind events allowed is;
+  allowed = allowed;
+  unsettled = unsettled;
+}

@@ -19,6 +19,9 @@ pub record Peer : Type 0 where
   pub state : OrchestratorState
   pub counts : CallCounts
 
+abbrev pub peer : OrchestratorState → CallCounts → Peer
+peer state counts = record { state = state; counts = counts }
+
 -- what an infrastructure shows: its jobs and what it answered, where the site tells, and the site's counts
 pub record Infrastructure : Type 0 where
   pub jobs : List Job
@@ -45,8 +48,7 @@ abbrev pub reach : SiteState → SiteCounts → OrchestratorState → CallCounts
 reach site counts state calls = record {
   site = site;
   counts = counts;
-  orchestrator =
-      record { state = state; counts = calls };
+  orchestrator = peer state calls;
 }
 
 -- what is beside the journal of it
@@ -69,6 +71,11 @@ abbrev pub Counts : Exchange → CallCounts → CallCounts → Type 0
 Counts (asked body ended heard) a b = CallCause ended a b
 Counts (polled at ended heard) a b = CallCause ended a b
 Counts other a b = b ≡ a
+
+-- the exchange was made with the orchestrator, and no other call
+pub record Calls (tells : Type 0) (x : Exchange) (a b : Peer) : Type 0 where
+  pub told : tells → Exchanges x a.state b.state
+  pub counts : Counts x a.counts b.counts
 
 -- What an exchange does to the jobs: a begin puts its job, or doesn't, by the answer; a look tells how its job stands;
 -- beside that running jobs may end by themselves (own rule).

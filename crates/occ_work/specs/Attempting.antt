@@ -1,19 +1,20 @@
 -- What an act does that makes an attempt: it begins it, or looks at its job (own rule).
-use Rattle.std.specs.Prelude.{Bool, List, [], false, true, ℕ, ◌∷◌, ◌≡◌, Result, IfOk}
+use Rattle.std.specs.Prelude.{Bool, List, [], false, true, ◌∷◌, ◌≡◌, Result, IfOk}
 use Rattle.executor.specs.Managed.{Managed}
 use Rattle.executor.specs.Work.{WorksAtFile}
 use Rattle.executor.specs.declared.manager.WorkFault.{WorkFault}
 use Rattle.lcm_events.specs.declared.attempts.Outcome.TheVariants as outcome
 use Rattle.lcm_events.specs.declared.attempts.Tag.{Tag}
-use Rattle.lcm_events.specs.declared.events.Event.{Event}
 use Rattle.lcm_events.specs.declared.events.EventKind.{EventKind}
 use Rattle.lcm_events.specs.declared.events.EventKind.TheVariants.{CallFailed, Intent, Settled}
 use Rattle.site_traits.specs.Counts.{SiteCounts}
-use Rattle.site_traits.specs.Site.{SiteState}
+use Rattle.site_traits.specs.Jobs.{Advances}
+use Rattle.site_traits.specs.Site.{OnJobs, SiteState}
+use Rattle.site_traits.specs.declared.jobs.AbortAnswer.{AbortAnswer}
 use Rattle.site_traits.specs.declared.jobs.BeginAnswer.{BeginAnswer}
 use Rattle.site_traits.specs.declared.jobs.BeginAnswer.TheVariants as begin
 use Rattle.occ_work.specs.Acting.{Records, TellsRoomFor, recording}
-use Rattle.occ_work.specs.Around.{Handles, Infrastructure}
+use Rattle.occ_work.specs.Around.{Handles, Infrastructure, JobsDo, aborts_answered, aborts_counted, answers_after, counts_after}
 use Rattle.occ_work.specs.Deeds.{Deed, Exchange, IsTried, answered, asked, ending, kinds_of, polled, Point}
 use Rattle.occ_work.specs.declared.ends.Acted.{Acted}
 
@@ -34,6 +35,19 @@ abbrev pub IsWithoutPeer : Exchange → Type 0
 IsWithoutPeer (asked body ended heard) = ⊥
 IsWithoutPeer (polled at ended heard) = ⊥
 IsWithoutPeer x = Unit {0}
+
+-- The jobs of these attempts were aborted, the latest first, and no other call was made.
+pub record AbortsEach (tells : Type 0) (aborts : List (Tag × AbortAnswer)) (a b : SiteShown) : Type 0 where
+  pub calls : tells → OnJobs Advances a.state b.state
+  pub answers : tells → b.state.answers ≡ aborts_answered aborts a.state.answers
+  pub counts : b.counts ≡ aborts_counted aborts a.counts
+
+-- The exchange was made, in which no job is begun, and no other call; the file stays.
+pub record Inquires (tells : Type 0) (x : Exchange) (a b : SiteShown) : Type 0 where
+  pub calls : tells → OnJobs Advances a.state b.state
+  pub jobs : tells → JobsDo x a.state.jobs b.state.jobs
+  pub answers : tells → b.state.answers ≡ answers_after x a.state.answers
+  pub counts : b.counts ≡ counts_after x a.counts
 
 -- The deed was tried at this point of a manager, which is now n, with the infrastructure alone: its exchange was made
 -- and no other, what that appends was recorded, and the answer says so.

@@ -101,6 +101,16 @@ answer_in xs (began t work answer) = answer_begun answer
 answer_in xs (looked t answer) = answer_looked answer
 answer_in xs (aborted aborts t answer) = answer_looked answer
 
+-- the first open attempt is looked at, or all are aborted and then it is looked at (own rule)
+abbrev pub look_at : Bool → Tag → Action
+look_at true t = AbortAndLook t
+look_at false t = Look t
+
+-- what is exchanged for it: the aborts, the latest first, if there are to be any, and the look
+abbrev pub look_exchange : Bool → List (Tag × AbortAnswer) → Tag → LookAnswer → Exchange
+look_exchange true aborts t answer = aborted aborts t answer
+look_exchange false aborts t answer = looked t answer
+
 -- The exchange is that of the action of occurrence o, over history H of manager m: an ask has the body of its grant
 -- request, a poll the location that was told, a begin its attempt with the work that the history gives it, a look the
 -- attempt; and aborts are of all attempts of the occurrence that are open, one each, in the order of their intents,

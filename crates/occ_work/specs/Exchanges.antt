@@ -5,11 +5,19 @@ use Rattle.lcm_events.specs.declared.events.EventKind.TheVariants.{Denied, Grant
 use Rattle.lcm_model.specs.Next.{Answer, granting, polling}
 use Rattle.lcm_model.specs.declared.actions.Action.{Action}
 use Rattle.lcm_model.specs.declared.actions.Action.TheVariants.{AskForGrant, Poll}
+use Rattle.site_traits.specs.Answer.{Answer as Heard}
+use Rattle.site_traits.specs.declared.orchestrator.Call.{Call}
+use Rattle.occ_work.specs.Deeds.{Exchange, asked, polled}
 
 -- an ask, or else a poll
 abbrev pub exchanging : Bool → Action
 exchanging true = AskForGrant
 exchanging false = Poll
+
+-- what is exchanged for an ask with this body, or else for a poll of this location
+abbrev pub exchange_of : Bool → List ℕ → Call → Heard → Exchange
+exchange_of true words ended heard = asked words ended heard
+exchange_of false words ended heard = polled words ended heard
 
 -- the kinds of the events that the answer to an ask, or else to a poll, appends
 abbrev pub kinds_for : Bool → ℕ → Answer → List EventKind

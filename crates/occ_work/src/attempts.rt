@@ -1,30 +1,34 @@
 //! Attempts: that one begins is on the disk before its job is begun, and a job is looked at until it has ended.
-ghost use Rattle.std.specs.Prelude.{◌≡◌, ◌≢◌, ◌∷◌, [], ℕ, IfOk, IsOk, List, OnOk, Err, Some, true};
+ghost use Rattle.std.specs.Prelude.{◌≡◌, ◌≢◌, ◌∷◌, [], ℕ, IfOk, IsOk, List, OnOk, Err, Some, false, map, reverse, true};
 ghost use Rattle.executor.specs.Managed.{HasNoNotice, IsReady, Keeps};
 ghost use Rattle.executor.specs.Room.{TellsRoom};
 ghost use Rattle.executor.specs.Work.{Works, recorded};
 ghost use Rattle.journal_records.specs.declared.limits.TheConstants.{MAX_FILE};
+ghost use Rattle.lcm_events.specs.declared.attempts.Tag.{Tag};
 ghost use Rattle.lcm_events.specs.declared.events.Event.{Event};
 ghost use Rattle.lcm_events.specs.declared.events.EventKind.TheVariants as events;
 ghost use Rattle.lcm_laws.specs.Acting.{with_events};
 ghost use Rattle.lcm_model.specs.Allowed.{IsAllowed, IsLegal};
-ghost use Rattle.lcm_model.specs.Attempts.{is_open};
+ghost use Rattle.lcm_model.specs.Attempts.{is_open, open_of};
 ghost use Rattle.lcm_model.specs.Next.{looking, next_action};
 ghost use Rattle.lcm_model.specs.declared.actions.Action.TheVariants as actions;
 ghost use Rattle.lcm_tables.specs.Tables.{HasRoom};
 ghost use Rattle.site_traits.specs.Counts.{OnlyDiskFails};
 ghost use Rattle.site_traits.specs.Site.{KeepsJobs};
+ghost use Rattle.site_traits.specs.declared.jobs.AbortAnswer.{AbortAnswer};
 ghost use Rattle.occ_work.specs.Around.{DiskFails};
-ghost use Rattle.occ_work.specs.Attempting.{Attempts, Puts, following, is_of_attempt, shows};
-ghost use Rattle.occ_work.specs.Deeds.{Deed, answer_looked, ending, point};
+ghost use Rattle.occ_work.specs.Attempting.{AbortsEach, Attempts, Inquires, Puts, following, is_of_attempt, shows};
+ghost use Rattle.occ_work.specs.Deeds.{Deed, answer_looked, ending, look_at, look_exchange, point};
 ghost use Rattle.occ_steps.specs.Active.{IsActive};
 
 use crate::ends::Acted;
+use crate::steps::row_of;
 use crate::work::work_of;
 use executor::{Manager, WorkFault, works_add_up};
 use journal_core::MAX_FILE;
 use lcm_events::{Event, EventKind, Outcome, Tag};
-use lcm_laws::{next_actions_are_allowed, open_attempts_fit_the_window};
+use lcm_laws::next_actions_are_allowed;
+use occ_table::Pending;
 use site_traits::{BeginAnswer, LookAnswer, Site};
 use std::alloc::Global;
 use vnfm_base::{Moment, Name};
@@ -92,10 +96,8 @@ fn intend<S: Site>(
     ensures disk { OnlyDiskFails (result ≡ Err WorkFault.Disk) (S.counts site.old) (S.counts site.new) }
 {
     let intent = event_of(now, EventKind::Intent(*tag));
-    // That a history has few events, by the contract of the call, is needed to see that no notice is laid aside.
-    let _table = manager.occurrences();
     manager.reserve_for(alloc, &intent)?;
-    manager.put(site, &intent, MAX_FILE)
+    manager.put_unsettled(site, &intent, MAX_FILE)
 }
 
 /// Records what the begin of an attempt's job was answered, where there is something to record: a refusal ends the
@@ -170,23 +172,25 @@ fn no_name() -> Name
     Name::of(b"").unwrap()
 }
 
-/// Looks at the job of an open attempt, which is the next action of its occurrence, and records where it has ended. All
-/// memory is taken before.
+/// Looks at the job of the open attempt that began first, where `aborts` holds once the jobs of all the occurrence's open
+/// attempts were aborted. It is the next action of its occurrence, and where the job has ended that is recorded. All
+/// memory is taken before. An abort that failed or came too late is no end: the look says how the job stands.
 ///
-/// Refusals: `Memory`, after which nothing was recorded or asked; `Full` and `Disk` as of recording an event: the look
-/// was made.
+/// Refusals: `Memory`, after which nothing was recorded or asked; `Full` and `Disk` as of recording an event: the aborts
+/// and the look were made.
 pub fn look<S: Site>(
     alloc: Global,
     manager: &mut Manager<S>,
     site: &mut S,
     occ: u64,
     tag: &Tag,
+    aborts: bool,
     now: Moment,
 ) -> Result<Acted, WorkFault>
     requires ready { (H : List Event) × IsReady S.tells manager.old H (S.state site.old) × IsActive H occ
-        × (next_action H occ ≡ Some (actions.Look tag.now)) }
+        × (next_action H occ ≡ Some (look_at aborts tag.now)) }
     ensures attempts { (H : List Event) → IsReady S.tells manager.old H (S.state site.old) → IsActive H occ
-        → next_action H occ ≡ Some (actions.Look tag.now)
+        → next_action H occ ≡ Some (look_at aborts tag.now)
         → (d : Deed) × (d.occ ≡ occ) × Attempts S.tells (point manager.old.ledger.manager now H) d result manager.new
         (shows (S.state site.old) (S.counts site.old)) (shows (S.state site.new) (S.counts site.new)) }
     ensures short { (n : ℕ) → result ≢ Err (WorkFault.TooLong n) }
@@ -196,41 +200,42 @@ pub fn look<S: Site>(
     next_actions_are_allowed();
     let done = event_of(now, ended(*tag, Outcome::Done(no_name())));
     manager.reserve_for(alloc, &done)?;
-    let answer = site.look(tag);
+    let answer = inquire(manager, site, occ, tag, aborts);
     settle(manager, site, tag, answer, now)
 }
 
-/// Aborts the job of the occurrence's open attempt, of which the window lets it have one, and looks at it, which is the
-/// next action of its occurrence, and records where it has ended. All memory is taken before. An abort that failed or
-/// came too late is no end: the look says how the job stands.
-///
-/// Refusals: `Memory`, after which nothing was recorded or asked; `Full` and `Disk` as of recording an event: the abort
-/// and the look were made.
-pub fn abort_and_look<S: Site>(
-    alloc: Global,
-    manager: &mut Manager<S>,
+/// Asks the infrastructure how the job of this attempt stands, where `aborts` holds once the jobs of all the
+/// occurrence's open attempts were aborted.
+fn inquire<S: Site>(
+    manager: &Manager<S>,
     site: &mut S,
     occ: u64,
     tag: &Tag,
-    now: Moment,
-) -> Result<Acted, WorkFault>
-    requires ready { (H : List Event) × IsReady S.tells manager.old H (S.state site.old) × IsActive H occ
-        × (next_action H occ ≡ Some (actions.AbortAndLook tag.now)) }
-    ensures attempts { (H : List Event) → IsReady S.tells manager.old H (S.state site.old) → IsActive H occ
-        → next_action H occ ≡ Some (actions.AbortAndLook tag.now)
-        → (d : Deed) × (d.occ ≡ occ) × Attempts S.tells (point manager.old.ledger.manager now H) d result manager.new
+    aborts: bool,
+) -> LookAnswer
+    requires usable { manager.now.ledger.closed ≡ false }
+    requires active { (H : List Event) × Keeps manager.now H × IsActive H occ }
+    ensures asks { (H : List Event) → Keeps manager.now H → IsActive H occ
+        → (each : List (Tag × AbortAnswer)) × (aborts ≡ true → map (λ a. a.0) each ≡ open_of H occ)
+        × Inquires S.tells (look_exchange aborts each tag.now result)
         (shows (S.state site.old) (S.counts site.old)) (shows (S.state site.new) (S.counts site.new)) }
-    ensures short { (n : ℕ) → result ≢ Err (WorkFault.TooLong n) }
-    ensures disk { DiskFails (result ≡ Err WorkFault.Disk) (S.counts site.old) (S.counts site.new) }
+    ensures disk { (S.counts site.new).disk ≡ (S.counts site.old).disk }
 {
-    works_add_up::<S>();
-    next_actions_are_allowed();
-    open_attempts_fit_the_window();
-    let ending = event_of(now, ended(*tag, Outcome::Done(no_name())));
-    manager.reserve_for(alloc, &ending)?;
-    let _ended = site.abort(tag);
-    let told = site.look(tag);
-    settle(manager, site, tag, told, now)
+    if aborts {
+        abort_each(row_of(manager, occ).pending.as_slice(), site);
+    }
+    site.look(tag)
+}
+
+/// Aborts the jobs of these attempts, in order, whatever each is answered.
+fn abort_each<S: Site>(pending: &[Pending], site: &mut S)
+    ensures aborts { (each : List (Tag × AbortAnswer)) × (map (λ a. a.0) each ≡ map (λ p. p.tag) (reverse pending.now))
+        × AbortsEach S.tells each
+        (shows (S.state site.old) (S.counts site.old)) (shows (S.state site.new) (S.counts site.new)) }
+{
+    for attempt in pending {
+        let _answer = site.abort(&attempt.tag);
+    }
 }
 
 /// Records what a look at an attempt's job told, where the job has ended or there is none. No memory is taken.

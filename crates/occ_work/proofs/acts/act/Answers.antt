@@ -11,16 +11,6 @@ move_to-requires g c =
     let it = c.requires.ready in
     record { ready = (it.0, it.1, it.2, c.next_step.ensures it.0 it.1.keeps it.2 ∙ ap (λ (s : Step). Some (action_of s)) c.in-Move.is) }
 
-pub poll-requires : goal.poll-requires
-poll-requires g c =
-    let it = c.requires.ready in
-    record { ready = (it.0, it.1, it.2, c.next_step.ensures it.0 it.1.keeps it.2 ∙ ap (λ (s : Step). Some (action_of s)) c.in-Poll.is) }
-
-pub ask-requires : goal.ask-requires
-ask-requires g c =
-    let it = c.requires.ready in
-    record { ready = (it.0, it.1, it.2, c.next_step.ensures it.0 it.1.keeps it.2 ∙ ap (λ (s : Step). Some (action_of s)) c.in-Ask.is) }
-
 pub returns-in-Move-clause-acts : goal.returns-in-Move-clause-acts
 returns-in-Move-clause-acts g c = λ H ready is.
     let next = c.next_step.ensures H ready.keeps is ∙ ap (λ (s : Step). Some (action_of s)) c.in-Move.is in
@@ -29,14 +19,6 @@ returns-in-Move-clause-acts g c = λ H ready is.
 
 pub returns-in-Move-clause-disk : goal.returns-in-Move-clause-disk
 returns-in-Move-clause-disk g c = disk_of _ _ _ c.move_to.ensures.disk
-
-pub returns-in-Poll-clause-acts : goal.returns-in-Poll-clause-acts
-returns-in-Poll-clause-acts g c = λ H ready is. c.poll.ensures.acts H ready is
-    (c.next_step.ensures H ready.keeps is ∙ ap (λ (s : Step). Some (action_of s)) c.in-Poll.is)
-
-pub returns-in-Ask-clause-acts : goal.returns-in-Ask-clause-acts
-returns-in-Ask-clause-acts g c = λ H ready is. c.ask.ensures.acts H ready is
-    (c.next_step.ensures H ready.keeps is ∙ ap (λ (s : Step). Some (action_of s)) c.in-Ask.is)
 
 pub begin-requires : goal.begin-requires
 begin-requires g c =
@@ -52,11 +34,6 @@ returns-in-Begin-clause-acts g c = λ H ready is.
     let it = c.begin.ensures.attempts H ready there.0 there.1 in
     attempting_act _ _ _ H _ _ _ _ _ _ _ _ _ (it.0, it.1 ∙ begins_own H _ _ is next, it.2)
 
-pub look-requires : goal.look-requires
-look-requires g c =
-    let it = c.requires.ready in
-    record { ready = (it.0, it.1, it.2, c.next_step.ensures it.0 it.1.keeps it.2 ∙ ap (λ (s : Step). Some (action_of s)) c.in-Look.is) }
-
 pub returns-in-Look-clause-acts : goal.returns-in-Look-clause-acts
 returns-in-Look-clause-acts g c = λ H ready is.
     let next = c.next_step.ensures H ready.keeps is ∙ ap (λ (s : Step). Some (action_of s)) c.in-Look.is in
@@ -65,4 +42,4 @@ returns-in-Look-clause-acts g c = λ H ready is.
 pub returns-in-AbortAndLook-clause-acts : goal.returns-in-AbortAndLook-clause-acts
 returns-in-AbortAndLook-clause-acts g c = λ H ready is.
     let next = c.next_step.ensures H ready.keeps is ∙ ap (λ (s : Step). Some (action_of s)) c.in-AbortAndLook.is in
-    attempting_act _ _ _ H _ _ _ _ _ _ _ _ _ (c.abort_and_look.ensures.attempts H ready is next)
+    attempting_act _ _ _ H _ _ _ _ _ _ _ _ _ (c.look-in-AbortAndLook.ensures.attempts H ready is next)
