@@ -31,9 +31,9 @@ use Rattle.lcm_model.specs.declared.refusals.Refusal.{Refusal}
 use Rattle.lcm_api.specs.Asks.{accepted, ask_described, ask_judged, asking, operation_asked}
 use Rattle.lcm_api.specs.Recording.{IsPlanned}
 use Rattle.lcm_api.specs.Refusals.{refused_for}
-use Rattle.lcm_api.specs.Replies.{told}
+use Rattle.lcm_api.specs.Planning.{told}
 use Rattle.lcm_api.specs.declared.record.Planned.TheVariants.{Records, Told}
-use Rattle.lcm_api.specs.declared.reply.Reply.{Reply}
+use Rattle.lcm_replies.specs.declared.reply.Reply.{Reply}
 
 low_phase : (verb : Verb) (kind : DefKind) → phase verb kind ≤ 8
 low_phase Create Link = omega arith

@@ -24,9 +24,10 @@ use Rattle.lcm_api.specs.Instances.{asked_id, delete_found, delete_instance, del
 use Rattle.lcm_api.specs.Instances.{show_found}
 use Rattle.lcm_api.proofs.IdentLemmas.{IsReading, agrees, differs, find_none, find_same}
 use Rattle.lcm_api.specs.Recording.{IsPlanned}
-use Rattle.lcm_api.specs.Replies.{shown, told}
+use Rattle.lcm_api.specs.Planning.{told}
+use Rattle.lcm_replies.specs.Replies.{shown}
 use Rattle.lcm_api.specs.declared.record.Planned.TheVariants.{Records}
-use Rattle.lcm_api.specs.declared.reply.Reply.{Reply}
+use Rattle.lcm_replies.specs.declared.reply.Reply.{Reply}
 use Rattle.lcm_model.specs.Refusals.{delete_refusal}
 use Rattle.lcm_events.specs.declared.descriptor.Vnfd.{Vnfd}
 use Rattle.lcm_events.specs.declared.events.Event.{Event}

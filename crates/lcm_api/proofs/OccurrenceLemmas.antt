@@ -24,8 +24,9 @@ use Rattle.json_views.specs.Occurrence.{occurrence_id, occurrence_text}
 use Rattle.json_views.specs.Occurrences.{IsOccurrenceShowable}
 use Rattle.lcm_api.specs.Occurrences.{named_operation, occurrence_row_text, show_asked, show_row}
 use Rattle.lcm_api.specs.declared.record.Planned.{Planned}
-use Rattle.lcm_api.specs.Replies.{shown, told}
-use Rattle.lcm_api.specs.declared.reply.Reply.{Reply}
+use Rattle.lcm_api.specs.Planning.{told}
+use Rattle.lcm_replies.specs.Replies.{shown}
+use Rattle.lcm_replies.specs.declared.reply.Reply.{Reply}
 use Rattle.lcm_api.proofs.IdentLemmas.{IsReading, agrees, differs, find_none, find_same}
 
 -- each operation has a number that an identifier can carry

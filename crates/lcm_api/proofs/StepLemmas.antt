@@ -17,7 +17,7 @@ use Rattle.journal_records.specs.declared.limits.TheConstants.{MAX_RECORD}
 use Rattle.lcm_api.specs.Creating.{create_outcome, creation, created}
 use Rattle.lcm_api.specs.Recording.{IsPlanned}
 use Rattle.lcm_model.specs.declared.limits.TheConstants.{MAX_INSTANCES}
-use Rattle.lcm_api.specs.declared.reply.Reply.{Reply}
+use Rattle.lcm_replies.specs.declared.reply.Reply.{Reply}
 use Rattle.lcm_api.specs.declared.record.Planned.TheVariants.{Records}
 
 -- the creation of the instance of this number

@@ -38,10 +38,11 @@ use Rattle.occ_table.specs.Steps.{row_after}
 use Rattle.occ_table.specs.declared.rows.OccRow.{OccRow}
 use Rattle.lcm_api.specs.Occurrences.{occurrence_row_text, show_row, shown_row}
 use Rattle.lcm_api.specs.Recording.{IsPlanned}
-use Rattle.lcm_api.specs.Replies.{refusal, shown, told}
+use Rattle.lcm_api.specs.Planning.{told}
+use Rattle.lcm_replies.specs.Replies.{refusal, shown}
 use Rattle.lcm_api.specs.Tasks.{task_asked, task_event, task_judged, task_kind, task_of, task_refused, task_reply, task_taken}
 use Rattle.lcm_api.specs.declared.record.Planned.TheVariants.{Records, Told}
-use Rattle.lcm_api.specs.declared.reply.Reply.{Reply}
+use Rattle.lcm_replies.specs.declared.reply.Reply.{Reply}
 use Rattle.lcm_api.specs.declared.tasks.AskedTask.{AskedTask}
 use Rattle.lcm_api.specs.declared.tasks.AskedTask.TheVariants.{Cancel, Fail, Retry, Rollback}
 

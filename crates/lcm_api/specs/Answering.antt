@@ -8,8 +8,8 @@ use Rattle.lcm_events.specs.declared.events.Event.{Event}
 use Rattle.lcm_events.specs.declared.states.Role.{Role}
 use Rattle.site_traits.specs.Site.{Pair, SiteState}
 use Rattle.lcm_api.specs.Outcome.{outcome}
-use Rattle.lcm_api.specs.Replies.{Outcome}
-use Rattle.lcm_api.specs.declared.reply.Reply.{Reply}
+use Rattle.lcm_api.specs.Planning.{Outcome}
+use Rattle.lcm_replies.specs.declared.reply.Reply.{Reply}
 use Rattle.lcm_api.specs.declared.answering.ApiFault.{ApiFault}
 use Rattle.lcm_api.specs.declared.answering.ApiFault.TheVariants as fault
 

@@ -1,6 +1,6 @@
 -- What a request for a task of an instance comes to: it asks for an operation by its body (SOL 003 5.4.4 to 5.4.10).
 -- The order of the refusals and their texts are an own rule.
-use Rattle.std.specs.Prelude.{ℕ, ◌+◌, ◌≡◌, List, [], ◌∷◌, codes, if◌then◌else◌, Bool, false, Option, Some, None, Result}
+use Rattle.std.specs.Prelude.{ℕ, ◌+◌, ◌≡◌, List, [], codes, if◌then◌else◌, Bool, false, Option, Some, None, Result}
 use Rattle.std.specs.Prelude.{Ok, Err}
 use Rattle.http_wire.specs.declared.request.Request.{Request}
 use Rattle.instance_table.specs.declared.rows.InstanceRow.{InstanceRow}
@@ -25,14 +25,14 @@ use Rattle.lcm_api.specs.Bodies.{unread}
 use Rattle.lcm_api.specs.Instances.{asked_id, named_instance, no_instance}
 use Rattle.lcm_api.specs.Media.{is_json}
 use Rattle.lcm_api.specs.Refusals.{refused_for}
-use Rattle.lcm_api.specs.Replies.{refused, told}
+use Rattle.lcm_api.specs.Planning.{refused, told}
 use Rattle.lcm_api.specs.declared.asks.AskVerdict.{AskVerdict}
 use Rattle.lcm_api.specs.declared.asks.AskVerdict.TheVariants as verdict
 use Rattle.lcm_api.specs.declared.asks.AskedBody.{AskedBody}
 use Rattle.lcm_api.specs.declared.asks.AskedBody.TheVariants as bodies
 use Rattle.lcm_api.specs.declared.record.Planned.{Planned}
 use Rattle.lcm_api.specs.declared.record.Planned.TheVariants.{Records}
-use Rattle.lcm_api.specs.declared.reply.Reply.{Reply}
+use Rattle.lcm_replies.specs.declared.reply.Reply.{Reply}
 
 -- the operation that an instance with this descriptor is asked for: the next occurrence, with its plan (SOL 003 5.4.4
 -- to 5.4.10)

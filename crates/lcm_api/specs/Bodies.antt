@@ -2,8 +2,8 @@
 use Rattle.std.specs.Prelude.{◌≡◌, ◌++◌, Bool, codes}
 use Rattle.json_bodies.specs.declared.body.BodyFault.{BodyFault}
 use Rattle.json_bodies.specs.declared.body.BodyFault.TheVariants.{Malformed, Lacks, Wrong, Memory}
-use Rattle.lcm_api.specs.Replies.{refusal, starved}
-use Rattle.lcm_api.specs.declared.reply.Reply.{Reply}
+use Rattle.lcm_replies.specs.Replies.{refusal, starved}
+use Rattle.lcm_replies.specs.declared.reply.Reply.{Reply}
 
 -- the answer to a request whose body wasn't read for this
 abbrev pub unread : BodyFault → Bool → Reply

@@ -1,5 +1,5 @@
 -- What a request to create an instance comes to (SOL 003 5.4.2.3.1). The order of the refusals is an own rule.
-use Rattle.std.specs.Prelude.{ℕ, ◌+◌, List, ◌∷◌, length, codes, nat_le, if◌then◌else◌, Bool, false, Option, Some, None}
+use Rattle.std.specs.Prelude.{ℕ, ◌+◌, List, length, codes, nat_le, if◌then◌else◌, Bool, false, Option, Some, None}
 use Rattle.std.specs.Prelude.{Result, Ok, Err}
 use Rattle.lcm_events.specs.declared.events.Event.{Event}
 use Rattle.lcm_events.specs.declared.events.EventKind.TheVariants.{Created}
@@ -12,11 +12,11 @@ use Rattle.json_bodies.specs.declared.body.BodyFault.{BodyFault}
 use Rattle.http_wire.specs.declared.request.Request.{Request}
 use Rattle.lcm_api.specs.Bodies.{unread}
 use Rattle.lcm_api.specs.Media.{is_json}
-use Rattle.lcm_api.specs.Replies.{refused, told}
+use Rattle.lcm_api.specs.Planning.{refused, told}
 use Rattle.lcm_model.specs.declared.limits.TheConstants.{MAX_INSTANCES}
 use Rattle.lcm_api.specs.declared.record.Planned.{Planned}
 use Rattle.lcm_api.specs.declared.record.Planned.TheVariants.{Records}
-use Rattle.lcm_api.specs.declared.reply.Reply.{Reply}
+use Rattle.lcm_replies.specs.declared.reply.Reply.{Reply}
 
 -- the event of a create request: the next instance, with what the body says (SOL 003 5.4.2)
 abbrev pub creation : List Event → ℕ → CreateBody → Event

@@ -1,6 +1,6 @@
 -- What a request to list, show or delete instances comes to (SOL 003 5.4.2.3.2, 5.4.3.3). The order of the refusals and
 -- their texts are an own rule.
-use Rattle.std.specs.Prelude.{ℕ, List, [], ◌∷◌, codes, if◌then◌else◌, Bool, false, Option, Some, None, find}
+use Rattle.std.specs.Prelude.{ℕ, List, [], codes, if◌then◌else◌, Bool, false, Option, Some, None, find}
 use Rattle.std.specs.Str.{bytes_eq}
 use Rattle.http_wire.specs.declared.request.Request.{Request}
 use Rattle.instance_table.specs.Rows.{Rows, instance_rows, rows}
@@ -14,10 +14,11 @@ use Rattle.lcm_model.specs.declared.refusals.Refusal.{Refusal}
 use Rattle.serde_json.specs.Written.{compact_text}
 use Rattle.lcm_routes.specs.Targets.{asks_filter, identifier_in, path_of}
 use Rattle.lcm_api.specs.Refusals.{refused_for}
-use Rattle.lcm_api.specs.Replies.{refused, shown, told}
+use Rattle.lcm_api.specs.Planning.{refused, told}
+use Rattle.lcm_replies.specs.Replies.{shown}
 use Rattle.lcm_api.specs.declared.record.Planned.{Planned}
 use Rattle.lcm_api.specs.declared.record.Planned.TheVariants.{Records}
-use Rattle.lcm_api.specs.declared.reply.Reply.{Reply}
+use Rattle.lcm_replies.specs.declared.reply.Reply.{Reply}
 
 -- all live instances, in the order of their numbers; a filter isn't served (SOL 003 5.4.2.3.2)
 abbrev pub list_instances : ℕ → List Event → Request → Planned

@@ -2,7 +2,7 @@
 use Rattle.std.specs.Prelude.{◌≡◌, List, ℕ}
 use Rattle.http_wire.specs.declared.request.Request.{Request}
 use Rattle.lcm_api.specs.Creating.{create_instance, create_outcome}
-use Rattle.lcm_api.specs.Replies.{told}
+use Rattle.lcm_api.specs.Planning.{told}
 use Rattle.lcm_api.specs.declared.create.CreateVerdict.{CreateVerdict}
 use Rattle.lcm_api.specs.declared.create.CreateVerdict.TheVariants as verdict
 use Rattle.lcm_events.specs.declared.events.Event.{Event}

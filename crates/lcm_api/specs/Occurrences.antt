@@ -15,9 +15,10 @@ use Rattle.occ_table.specs.Rows.{row, rows}
 use Rattle.occ_table.specs.declared.rows.OccRow.{OccRow}
 use Rattle.serde_json.specs.Written.{compact_text}
 use Rattle.lcm_api.specs.Instances.{asked_id}
-use Rattle.lcm_api.specs.Replies.{refused, shown, told}
+use Rattle.lcm_api.specs.Planning.{refused, told}
+use Rattle.lcm_replies.specs.Replies.{shown}
 use Rattle.lcm_api.specs.declared.record.Planned.{Planned}
-use Rattle.lcm_api.specs.declared.reply.Reply.{Reply}
+use Rattle.lcm_replies.specs.declared.reply.Reply.{Reply}
 
 -- the occurrences, in the order of their numbers; a filter isn't served (SOL 003 5.4.12.3.2)
 abbrev pub list_occurrences : ℕ → List Event → Request → Planned

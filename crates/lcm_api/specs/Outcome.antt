@@ -8,7 +8,7 @@ use Rattle.lcm_api.specs.Asks.{instance_task}
 use Rattle.lcm_api.specs.Creating.{create_instance}
 use Rattle.lcm_api.specs.Instances.{delete_instance, list_instances, show_instance}
 use Rattle.lcm_api.specs.Occurrences.{list_occurrences, show_occurrence}
-use Rattle.lcm_api.specs.Replies.{Outcome, in_room, refused, told}
+use Rattle.lcm_api.specs.Planning.{Outcome, in_room, refused, told}
 use Rattle.lcm_api.specs.declared.record.Planned.{Planned}
 use Rattle.lcm_api.specs.Routes.{not_allowed, routing}
 use Rattle.lcm_api.specs.Tasks.{occurrence_task}

@@ -7,7 +7,7 @@ use Rattle.lcm_model.specs.declared.refusals.Refusal.TheVariants.{AspectTwice, L
 use Rattle.lcm_model.specs.declared.refusals.Refusal.TheVariants.{NotInstantiated, Ongoing, OutOfStep, Stopped}
 use Rattle.lcm_model.specs.declared.refusals.Refusal.TheVariants.{BelowZero, AboveMaximum, UnknownVnfc, NothingToDo}
 use Rattle.lcm_model.specs.declared.refusals.Refusal.TheVariants.{AboveProfile, TooManyResources}
-use Rattle.lcm_api.specs.Replies.{refused}
+use Rattle.lcm_api.specs.Planning.{refused}
 use Rattle.lcm_api.specs.declared.record.Planned.{Planned}
 
 -- the status: 409 for the state of an instance, 507 for what is too large, 422 for all else

@@ -4,13 +4,13 @@ use Rattle.std.specs.Prelude.{ℕ, List, [], ◌∷◌, ◌++◌, codes, map, fi
 use Rattle.std.specs.Option.{option_map_or}
 use Rattle.std.specs.Str.{bytes_eq}
 use Rattle.http_wire.specs.declared.request.Request.{Request}
-use Rattle.json_views.specs.Problem.{problem_text}
+use Rattle.json_members.specs.Problem.{problem_text}
 use Rattle.lcm_routes.specs.Paths.{resource_of}
 use Rattle.lcm_routes.specs.Targets.{path_of}
 use Rattle.lcm_routes.specs.declared.resources.Resource.{Resource}
 use Rattle.lcm_routes.specs.declared.resources.Resource.TheVariants.{Instances, Instance, InstanceTask, Occurrences}
 use Rattle.lcm_routes.specs.declared.resources.Resource.TheVariants.{Occurrence, OccurrenceTask}
-use Rattle.lcm_api.specs.declared.reply.Reply.{Reply}
+use Rattle.lcm_replies.specs.declared.reply.Reply.{Reply}
 use Rattle.lcm_api.specs.declared.route.Route.{Route}
 use Rattle.lcm_api.specs.declared.route.Route.TheVariants as routes
 use Rattle.lcm_api.specs.declared.route.Routing.{Routing}

@@ -24,10 +24,10 @@ use Rattle.lcm_api.specs.Bodies.{unread}
 use Rattle.lcm_api.specs.Instances.{asked_id}
 use Rattle.lcm_api.specs.Media.{is_json}
 use Rattle.lcm_api.specs.Occurrences.{named_operation, no_occurrence, shown_row}
-use Rattle.lcm_api.specs.Replies.{refused, told}
+use Rattle.lcm_api.specs.Planning.{refused, told}
 use Rattle.lcm_api.specs.declared.record.Planned.{Planned}
 use Rattle.lcm_api.specs.declared.record.Planned.TheVariants.{Records}
-use Rattle.lcm_api.specs.declared.reply.Reply.{Reply}
+use Rattle.lcm_replies.specs.declared.reply.Reply.{Reply}
 use Rattle.lcm_api.specs.declared.tasks.AskedTask.{AskedTask}
 use Rattle.lcm_api.specs.declared.tasks.AskedTask.TheVariants.{Cancel, Fail, Retry, Rollback}
 use Rattle.lcm_api.specs.declared.tasks.TaskVerdict.{TaskVerdict}

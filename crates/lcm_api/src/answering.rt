@@ -11,12 +11,12 @@ ghost use Rattle.site_traits.specs.Counts.{OnlyDiskFails};
 
 use crate::create::create;
 use crate::record::{Planned, carry_out};
-use crate::reply::{Reply, refusal};
 use crate::route::{Route, Routing, not_allowed, route_of};
 use crate::{asks, instances, occurrences, tasks};
 use executor::{Manager, works_add_up};
 use http_wire::Request;
 use lcm_events::Role;
+use lcm_replies::{Reply, refusal};
 use lcm_routes::Routes;
 use site_traits::Site;
 use std::alloc::{AllocError, Global};

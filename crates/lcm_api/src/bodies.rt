@@ -2,8 +2,8 @@
 ghost use Rattle.std.specs.Prelude.{IfOk};
 ghost use Rattle.lcm_api.specs.Bodies.{IsRefusedBody};
 
-use crate::reply::{Reply, refusal, refusal_about};
 use json_bodies::BodyFault;
+use lcm_replies::{Reply, refusal, refusal_about};
 use std::alloc::{AllocError, Global};
 
 /// The refusal of a body that wasn't read.

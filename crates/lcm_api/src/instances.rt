@@ -8,15 +8,16 @@ ghost use Rattle.json_views.specs.Instances.{IsShowable};
 ghost use Rattle.lcm_api.specs.Instances.{asked_id, delete_found, delete_instance, deleted, deletion, list_instances};
 ghost use Rattle.lcm_api.specs.Instances.{named_instance, no_instance, row_text, show_found, show_instance};
 ghost use Rattle.lcm_api.specs.Recording.{IsPlanned};
-ghost use Rattle.lcm_api.specs.Replies.{told};
+ghost use Rattle.lcm_api.specs.Planning.{told};
 
 use crate::record::Planned;
-use crate::reply::{Reply, refusal, refusal_for, shown};
+use crate::refusals::refusal_for;
 use executor::Manager;
 use http_wire::Request;
 use instance_table::InstanceRow;
 use json_views::{instance_view, instances_view, legal_rows_can_be_shown};
 use lcm_events::{Event, EventKind};
+use lcm_replies::{Reply, refusal, shown};
 use lcm_routes::{asks_filter, identifier_in, path_of};
 use site_traits::Site;
 use std::alloc::{AllocError, Global};

@@ -7,15 +7,15 @@ ghost use Rattle.json_views.specs.Occurrences.{IsOccurrenceShowable};
 ghost use Rattle.lcm_api.specs.Occurrences.{list_occurrences, named_operation, no_occurrence, show_asked};
 ghost use Rattle.lcm_api.specs.Occurrences.{show_occurrence, show_row};
 ghost use Rattle.lcm_api.specs.Recording.{IsPlanned};
-ghost use Rattle.lcm_api.specs.Replies.{told};
+ghost use Rattle.lcm_api.specs.Planning.{told};
 ghost use Rattle.lcm_model.specs.Operations.{operation};
 
 use crate::instances::asked_id;
 use crate::record::Planned;
-use crate::reply::{Reply, refusal, shown};
 use executor::Manager;
 use http_wire::Request;
 use json_views::{legal_occurrences_can_be_shown, occurrence_view, occurrences_view};
+use lcm_replies::{Reply, refusal, shown};
 use lcm_routes::asks_filter;
 use occ_table::OccRow;
 use site_traits::Site;

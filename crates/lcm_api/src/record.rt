@@ -7,12 +7,12 @@ ghost use Rattle.executor.specs.Room.{is_full};
 ghost use Rattle.executor.specs.Work.{Works};
 ghost use Rattle.lcm_api.specs.Answering.{answered};
 ghost use Rattle.lcm_api.specs.Recording.{FitsBehind, MayCarryOut};
-ghost use Rattle.lcm_api.specs.Replies.{in_room, recorded};
+ghost use Rattle.lcm_api.specs.Planning.{in_room, recorded};
 
 use crate::answering::ApiFault;
-use crate::reply::{Reply, refusal};
 use executor::{Manager, WorkFault, works_add_up};
 use lcm_events::Event;
+use lcm_replies::{Reply, refusal};
 use site_traits::Site;
 use std::alloc::Global;
 

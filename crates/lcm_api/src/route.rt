@@ -3,10 +3,10 @@ ghost use Rattle.std.specs.Prelude.{◌≡◌, IfOk, Some, true};
 ghost use Rattle.lcm_api.specs.Routes.{allow, not_allowed, routing, routing_to};
 ghost use Rattle.vnfm_base.specs.Text.{is_label};
 
-use crate::reply::Reply;
 use http_wire::Request;
-use json_views::problem_view;
+use json_members::problem_view;
 use lcm_events::{OpKind, Task};
+use lcm_replies::Reply;
 use lcm_routes::{Resource, Routes, path_of};
 use std::alloc::{AllocError, Global};
 use vnfm_base::Name;

@@ -2,10 +2,10 @@
 use Rattle.std.proofs.Common.{◌≡◌, ℕ, Bool, List, [], take, min, true, false, Result, Ok, Err, inl, inr, refl, ap, ◌∙◌, ⊎_elim}
 use Rattle.executor.specs.Managed.{Managed, IsReady}
 use Rattle.executor.specs.Work.{Idles, Works}
-use Rattle.lcm_api.specs.Failing.{counts_by}
-use Rattle.lcm_api.specs.Hearing.{heard_of}
-use Rattle.lcm_api.specs.Mouth.{MouthState}
-use Rattle.lcm_api.specs.World.{WorldTells, World, world}
+use Rattle.lcm_replies.specs.Failing.{counts_by}
+use Rattle.lcm_replies.specs.Hearing.{heard_of}
+use Rattle.lcm_mouth.specs.Mouth.{MouthState}
+use Rattle.lcm_mouth.specs.World.{WorldTells, World, world}
 use Rattle.lcm_events.specs.declared.events.Event.{Event}
 use Rattle.lcm_events.specs.declared.states.Role.{Role}
 use Rattle.lcm_sessions.specs.Doing.{Brings, BringsNothing, HearsDescriptor, OnboardingAtDoor, Onboards, OnlyDoorFails}

@@ -10,12 +10,12 @@ use Rattle.http_wire.specs.declared.request.Request.{Request}
 use Rattle.http_wire.specs.declared.request.Taken.{Taken}
 use Rattle.http_wire.specs.declared.request.WireFault.{WireFault}
 use Rattle.http_wire.specs.declared.request.WireFault.TheVariants as wire
-use Rattle.lcm_api.specs.Failing.{FailsOnce, counts_by}
-use Rattle.lcm_api.specs.Mouth.{MouthState, OnlyAtDoor, Takes}
-use Rattle.lcm_api.specs.Response.{text}
+use Rattle.lcm_replies.specs.Failing.{FailsOnce, counts_by}
+use Rattle.lcm_mouth.specs.Mouth.{MouthState, OnlyAtDoor, Takes}
+use Rattle.lcm_replies.specs.Response.{text}
 use Rattle.lcm_api.specs.Answering.{IsAcknowledged, IsOutcomeOf}
 use Rattle.lcm_api.specs.Outcome.{outcome}
-use Rattle.lcm_api.specs.Replies.{refusal, starved}
+use Rattle.lcm_replies.specs.Replies.{refusal, starved}
 use Rattle.lcm_sessions.specs.Session.{AreFor, Ask, Last, Closing, Talk, asked_last, behind_last, behind_told, counts_behind, has_reply}
 use Rattle.lcm_sessions.specs.Session.{is_breaking, is_cut, is_lost, unheard, once_answered, outcome_of, replies, reply_last, said}
 use Rattle.lcm_sessions.specs.Session.{taken_by, work_last}
@@ -23,13 +23,13 @@ use Rattle.lcm_sessions.specs.Step.{Responds, IsAbout, IsStep, answered_one, end
 use Rattle.lcm_sessions.specs.declared.session.Step.{Step}
 use Rattle.lcm_sessions.specs.declared.session.Step.TheVariants as step
 use Rattle.site_traits.specs.Clock.{Gives}
-use Rattle.lcm_api.specs.World as outside
-use Rattle.lcm_api.specs.World.{World, world}
+use Rattle.lcm_mouth.specs.World as outside
+use Rattle.lcm_mouth.specs.World.{World, world}
 use Rattle.lcm_sessions.specs.Talking.{Remains, remains_of, IsNext, AreRequests, GaveAll, Converses, IsSaid, SaysLast, Speaks, AsksLast}
 use Rattle.lcm_sessions.specs.Talking.{EndsFor, IsRejection, Talks}
-use Rattle.lcm_api.specs.Telling.{WorldTells}
-use Rattle.lcm_api.specs.declared.door.DoorFailed.{DoorFailed}
-use Rattle.lcm_api.specs.declared.reply.Reply.{Reply}
+use Rattle.lcm_replies.specs.Telling.{WorldTells}
+use Rattle.lcm_replies.specs.declared.door.DoorFailed.{DoorFailed}
+use Rattle.lcm_replies.specs.declared.reply.Reply.{Reply}
 use Rattle.lcm_sessions.proofs.TalkLemmas.{converses_then, converses_read, converses_told, converses_front, counts_left, counts_since}
 use Rattle.lcm_sessions.proofs.TalkLemmas.{counts_then, ends_since}
 use Rattle.lcm_events.specs.declared.events.Event.{Event}

@@ -8,18 +8,18 @@ use Rattle.executor.specs.Work.{Extends, Idles, Joins, LeadsOn, Works}
 use Rattle.http_wire.specs.declared.TheConstants.{CONNECTION_REQUESTS}
 use Rattle.http_wire.specs.Intake.{OnlyReads}
 use Rattle.http_wire.specs.Wire.{WireState}
-use Rattle.lcm_api.specs.Response.{text}
+use Rattle.lcm_replies.specs.Response.{text}
 use Rattle.lcm_sessions.specs.Session.{AreFor, Ask, Last, Closing, Talk, over, unheard, untold, starving, breaking, behind_last}
 use Rattle.lcm_sessions.specs.Session.{behind_replies, behind_told, counts_behind, life, once_answered, outcome_of, replies, said, asked_by}
 use Rattle.lcm_sessions.specs.Session.{work_by}
 use Rattle.lcm_sessions.specs.Step.{answered_one, ended_so}
-use Rattle.lcm_api.specs.World as outside
+use Rattle.lcm_mouth.specs.World as outside
 use Rattle.lcm_sessions.specs.Talking as talking
-use Rattle.lcm_api.specs.World.{World}
+use Rattle.lcm_mouth.specs.World.{World}
 use Rattle.lcm_sessions.specs.Talking.{Remains, IsNext, AreRequests, GaveAll, Converses, SaysLast, Speaks, AsksLast, EndsFor, Ends, Talks}
-use Rattle.lcm_api.specs.Telling.{WorldTells}
-use Rattle.lcm_api.specs.declared.door.DoorFailed.{DoorFailed}
-use Rattle.lcm_api.specs.declared.reply.Reply.{Reply}
+use Rattle.lcm_replies.specs.Telling.{WorldTells}
+use Rattle.lcm_replies.specs.declared.door.DoorFailed.{DoorFailed}
+use Rattle.lcm_replies.specs.declared.reply.Reply.{Reply}
 use Rattle.lcm_events.specs.declared.events.Event.{Event}
 use Rattle.lcm_events.specs.declared.states.Role.{Role}
 use Rattle.site_traits.specs.Door.{DoorState, DoorCounts, NoNextFault}

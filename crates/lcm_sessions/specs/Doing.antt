@@ -2,11 +2,11 @@
 use Rattle.std.specs.Prelude.{◌≡◌, ◌⊎◌, ℕ, List, [], Bool, true, false, min, take, Result, Ok, Err}
 use Rattle.executor.specs.Managed.{Managed}
 use Rattle.executor.specs.Work.{Works}
-use Rattle.lcm_api.specs.Failing.{FailsOnce}
-use Rattle.lcm_api.specs.Hearing.{Hears}
-use Rattle.lcm_api.specs.Mouth.{MouthState}
-use Rattle.lcm_api.specs.World.{WorldTells, Peers, World, peers_of}
-use Rattle.lcm_api.specs.Waiting.{IsNobody, IsUnreached}
+use Rattle.lcm_replies.specs.Failing.{FailsOnce}
+use Rattle.lcm_replies.specs.Hearing.{Hears}
+use Rattle.lcm_mouth.specs.Mouth.{MouthState}
+use Rattle.lcm_mouth.specs.World.{WorldTells, Peers, World, peers_of}
+use Rattle.lcm_mouth.specs.Waiting.{IsNobody, IsUnreached}
 use Rattle.lcm_events.specs.declared.events.Event.{Event}
 use Rattle.lcm_events.specs.declared.states.Role.{Role}
 use Rattle.lcm_sessions.specs.Onboarding.{Onboarding, unready, unheard, cut_off, heard, onboarding_work}

@@ -8,12 +8,13 @@ use Rattle.executor.specs.Work.{Work, went, broke, stood}
 use Rattle.http_wire.specs.declared.request.Request.{Request}
 use Rattle.http_wire.specs.declared.request.WireFault.{WireFault}
 use Rattle.http_wire.specs.declared.request.WireFault.TheVariants as fault
-use Rattle.lcm_api.specs.Failing.{counts_by}
+use Rattle.lcm_replies.specs.Failing.{counts_by}
 use Rattle.lcm_api.specs.Outcome.{outcome}
-use Rattle.lcm_api.specs.Replies.{Outcome, starved, faulted}
-use Rattle.lcm_api.specs.Response.{text}
-use Rattle.lcm_api.specs.declared.door.DoorFailed.{DoorFailed}
-use Rattle.lcm_api.specs.declared.reply.Reply.{Reply}
+use Rattle.lcm_api.specs.Planning.{Outcome}
+use Rattle.lcm_replies.specs.Replies.{starved, faulted}
+use Rattle.lcm_replies.specs.Response.{text}
+use Rattle.lcm_replies.specs.declared.door.DoorFailed.{DoorFailed}
+use Rattle.lcm_replies.specs.declared.reply.Reply.{Reply}
 use Rattle.lcm_sessions.specs.declared.session.Closed.{Closed}
 use Rattle.lcm_events.specs.declared.events.Event.{Event}
 use Rattle.lcm_events.specs.declared.states.Role.{Role}

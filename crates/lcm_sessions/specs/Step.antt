@@ -8,17 +8,17 @@ use Rattle.executor.specs.Managed.{Managed}
 use Rattle.executor.specs.Work.{Works}
 use Rattle.http_wire.specs.declared.TheConstants.{CONNECTION_REQUESTS}
 use Rattle.http_wire.specs.declared.request.Request.{Request}
-use Rattle.lcm_api.specs.Mouth.{MouthState, OnlyAtDoor}
-use Rattle.lcm_api.specs.Replies.{starved}
-use Rattle.lcm_api.specs.Response.{text}
-use Rattle.lcm_api.specs.Failing.{FailsOnce}
-use Rattle.lcm_api.specs.Telling.{WorldTells}
-use Rattle.lcm_api.specs.declared.door.DoorFailed.{DoorFailed}
-use Rattle.lcm_api.specs.declared.reply.Reply.{Reply}
+use Rattle.lcm_mouth.specs.Mouth.{MouthState, OnlyAtDoor}
+use Rattle.lcm_replies.specs.Replies.{starved}
+use Rattle.lcm_replies.specs.Response.{text}
+use Rattle.lcm_replies.specs.Failing.{FailsOnce}
+use Rattle.lcm_replies.specs.Telling.{WorldTells}
+use Rattle.lcm_replies.specs.declared.door.DoorFailed.{DoorFailed}
+use Rattle.lcm_replies.specs.declared.reply.Reply.{Reply}
 use Rattle.lcm_sessions.specs.Session.{Ask, Closing, Talk, life, once_answered, replies, said, taken_by, told_last}
 use Rattle.lcm_sessions.specs.Session.{behind_told, breaks, counts_behind, work_of}
-use Rattle.lcm_api.specs.World as outside
-use Rattle.lcm_api.specs.World.{World}
+use Rattle.lcm_mouth.specs.World as outside
+use Rattle.lcm_mouth.specs.World.{World}
 use Rattle.lcm_sessions.specs.Talking.{Converses, Ends, GaveAll, SaysLast}
 use Rattle.lcm_sessions.specs.declared.session.Step.{Step}
 use Rattle.lcm_sessions.specs.declared.session.Step.TheVariants as step

@@ -14,15 +14,15 @@ use Rattle.http_wire.specs.declared.request.Taken.{Taken}
 use Rattle.http_wire.specs.declared.request.Taken.TheVariants as taken
 use Rattle.http_wire.specs.declared.request.WireFault.{WireFault}
 use Rattle.http_wire.specs.declared.request.WireFault.TheVariants as fault
-use Rattle.lcm_api.specs.Failing.{counts_by}
-use Rattle.lcm_api.specs.Mouth.{MouthState, Takes}
-use Rattle.lcm_api.specs.World.{WorldTells, Peers, World, peers_of}
-use Rattle.lcm_api.specs.Replies.{malformed, too_large, starved}
-use Rattle.lcm_api.specs.Response.{text}
+use Rattle.lcm_replies.specs.Failing.{counts_by}
+use Rattle.lcm_mouth.specs.Mouth.{MouthState, Takes}
+use Rattle.lcm_mouth.specs.World.{WorldTells, Peers, World, peers_of}
+use Rattle.lcm_replies.specs.Replies.{malformed, too_large, starved}
+use Rattle.lcm_replies.specs.Response.{text}
 use Rattle.lcm_sessions.specs.Session.{AreFor, Ask, Last, Closing, Talk, over, unheard, untold, behind_told}
 use Rattle.lcm_sessions.specs.Session.{counts_behind, life, once_answered, replies, said, taken_by, reply_last, work_of}
-use Rattle.lcm_api.specs.declared.door.DoorFailed.{DoorFailed}
-use Rattle.lcm_api.specs.declared.reply.Reply.{Reply}
+use Rattle.lcm_replies.specs.declared.door.DoorFailed.{DoorFailed}
+use Rattle.lcm_replies.specs.declared.reply.Reply.{Reply}
 use Rattle.lcm_events.specs.declared.events.Event.{Event}
 use Rattle.site_traits.specs.Clock.{Gives}
 use Rattle.site_traits.specs.Door.{DoorState, HangsUp, NoNextFault, closed}

@@ -1,7 +1,7 @@
 //! Onboarding: a connection's bytes are heard, and their descriptor is taken in.
 ghost use Rattle.std.specs.Prelude.{◌≡◌, ◌≤◌, List, length, IfOk};
 ghost use Rattle.executor.specs.Managed.{IsReady};
-ghost use Rattle.lcm_api.specs.World.{telling, world};
+ghost use Rattle.lcm_mouth.specs.World.{telling, world};
 ghost use Rattle.lcm_events.specs.declared.events.Event.{Event};
 ghost use Rattle.lcm_sessions.specs.Doing.{HearsDescriptor, Onboards, OnlyDoorFails};
 ghost use Rattle.lcm_sessions.specs.Onboarding.{Onboarding, answer_of};
@@ -11,7 +11,7 @@ use crate::answer::{OnboardFault, Onboarded};
 use crate::judge::take_in;
 use crate::limits::MAX_READ;
 use executor::{Manager, works_add_up};
-use lcm_api::Mouth;
+use lcm_mouth::Mouth;
 use site_traits::{Clock, Door, NextAnswer, Site};
 use std::alloc::Global;
 use vnfm_base::Moment;

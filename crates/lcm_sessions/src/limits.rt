@@ -5,7 +5,7 @@ ghost use Rattle.std.specs.Prelude.{◌≡◌};
 pub const MAX_READ: usize = 1_048_577;
 
 /// Descriptors that a journal may have.
-pub const MAX_DESCRIPTORS: u64 = 256;
+pub const MAX_DESCRIPTORS: u64 = lcm_model::MAX_DESCRIPTORS;
 
 /// That the limits of onboarding are these. It does nothing, and its contract is the law.
 ///

@@ -6,7 +6,7 @@ use anyhow::{Result, bail};
 use edge_limits::Pulse;
 use host_calls::{StdFiles, StdTime};
 use http_peers::{RealCourier, RealOrchestrator, TargetFault};
-use lcm_api::Mouth;
+use lcm_mouth::Mouth;
 use net_calls::{StdNet, StdStopwatch};
 use net_door::RealDoor;
 use outside_edges::{FolderSync, RealClock, RealSink, RealSite};

@@ -4,8 +4,8 @@
 use edge_limits::Pulse;
 use host_calls::{StdFiles, StdTime};
 use http_peers::{RealCourier, RealOrchestrator, TargetFault};
-use lcm_api::Mouth;
 use lcm_events::Role;
+use lcm_mouth::Mouth;
 use net_calls::{StdNet, StdStopwatch};
 use outside_edges::{
     Jobs, NoCourier, NoJobs, NoOrchestrator, RealClock, RealDoor, RealSink, RealSite,

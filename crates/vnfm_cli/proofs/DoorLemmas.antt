@@ -4,10 +4,10 @@ use Rattle.std.proofs.Common.{◌∙◌}
 use Rattle.executor.specs.declared.manager.OpenFault.{OpenFault}
 use Rattle.executor.specs.declared.manager.OpenFault.TheVariants as opening
 use Rattle.journal_core.specs.declared.create.CreateFault.TheVariants as creating
-use Rattle.lcm_api.specs.Failing.{counts_by}
-use Rattle.lcm_api.specs.Mouth.{MouthState}
+use Rattle.lcm_replies.specs.Failing.{counts_by}
+use Rattle.lcm_mouth.specs.Mouth.{MouthState}
 use Rattle.lcm_sessions.specs.Session.{Closing, Talk, counts_behind, is_cut, is_lost, life}
-use Rattle.lcm_api.specs.World.{Peers, WorldTells}
+use Rattle.lcm_mouth.specs.World.{Peers, WorldTells}
 use Rattle.lcm_events.specs.declared.events.Event.{Event}
 use Rattle.lcm_events.specs.declared.states.Role.{Role}
 use Rattle.lcm_sessions.specs.Doing.{Brings, BringsNothing, OnboardingAtDoor}

@@ -2,13 +2,13 @@
 use Rattle.std.proofs.Common.{◌≡◌, ◌∙◌, ℕ, List, [], ◌++◌, ◌&&◌, Bool, true, false, arith, Option, Some, None, Result, Ok, Err, ap, refl}
 use Rattle.std.specs.Prelude.{is_some}
 use Rattle.std.specs.Result.{is_err}
-use Rattle.lcm_api.specs.Failing.{counts_by}
+use Rattle.lcm_replies.specs.Failing.{counts_by}
 use Rattle.lcm_sessions.specs.Session.{Closing, Last, over, unheard, untold, starving, breaking, counts_behind, has_reply, is_cut, is_lost}
 use Rattle.lcm_sessions.specs.Session.{life, once_answered, replies, reply_last, said}
-use Rattle.lcm_api.specs.World.{WorldTells}
+use Rattle.lcm_mouth.specs.World.{WorldTells}
 use Rattle.lcm_sessions.specs.Talking.{IsSaid, SaysLast}
-use Rattle.lcm_api.specs.declared.door.DoorFailed.{DoorFailed}
-use Rattle.lcm_api.specs.declared.reply.Reply.{Reply}
+use Rattle.lcm_replies.specs.declared.door.DoorFailed.{DoorFailed}
+use Rattle.lcm_replies.specs.declared.reply.Reply.{Reply}
 use Rattle.lcm_events.specs.declared.events.Event.{Event}
 use Rattle.site_traits.specs.Counts.{Rose}
 use Rattle.site_traits.specs.Door.{DoorCounts}

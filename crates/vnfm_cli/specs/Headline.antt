@@ -1,18 +1,22 @@
 -- What a stop leaves, whenever it comes in a run: a journal that has all that it had and all that was acknowledged
 -- before the stop, and resources that are just those of its history.
-use Rattle.std.specs.Prelude.{List, [], ◌∷◌, false, ℕ, ◌<◌, ◌≤◌, ◌≡◌}
+use Rattle.std.specs.Prelude.{List, [], ◌∷◌, Some, false, true, ℕ, ◌<◌, ◌≤◌, ◌≡◌}
 use Rattle.executor.specs.History.{HasHistory}
 use Rattle.executor.specs.Work.{Extends}
 use Rattle.journal_core.specs.Create.{IsMaking, MayBeMade}
 use Rattle.lcm_events.specs.declared.changes.Def.{Def}
+use Rattle.lcm_events.specs.declared.changes.DefKind.TheVariants.{Compute}
+use Rattle.lcm_events.specs.declared.descriptor.Vnfd.{Vnfd}
 use Rattle.lcm_events.specs.declared.events.Event.{Event}
 use Rattle.lcm_events.specs.declared.states.OpState.{OpState}
 use Rattle.lcm_events.specs.declared.states.OpState.TheVariants.{Completed, RolledBack}
 use Rattle.lcm_jobs.specs.Backing.{IsGrantedWork}
+use Rattle.lcm_jobs.specs.Beside.{IsBeside}
 use Rattle.lcm_jobs.specs.Idle.{stands_among}
 use Rattle.lcm_jobs.specs.Sound.{IsSound}
 use Rattle.lcm_jobs.specs.Standing.{EachStands, StandsAtMostOnce}
 use Rattle.lcm_model.specs.Instances.{is_instantiated}
+use Rattle.lcm_model.specs.Lives.{descriptor}
 use Rattle.lcm_model.specs.Moves.{state}
 use Rattle.lcm_model.specs.Operations.{ongoing}
 use Rattle.lcm_model.specs.Words.{IsIn}
@@ -40,11 +44,18 @@ abbrev pub IdleHaveNothing : List Event → List Job → Type 0
 IdleHaveNothing H jobs = (i : ℕ) → is_instantiated H i ≡ false → ongoing H i ≡ [] → (x : Def)
     → stands_among H i x jobs ≡ false
 
+-- where a compute of an instance stands among the jobs, so do its storages and all links of the instance (SOL 001,
+-- Vdu.Compute, VduCp)
+abbrev pub ComputesStandBeside : List Event → List Job → Type 0
+ComputesStandBeside H jobs = (i : ℕ) (d : Vnfd) → descriptor H i ≡ Some d → (x : Def) → x.kind ≡ Compute
+    → stands_among H i x jobs ≡ true → (y : Def) → IsBeside d x y → stands_among H i y jobs ≡ true
+
 -- What a stop leaves is sound, from history H of manager m on. The file has a history of that manager that begins with
 -- H, so that nothing of H is lost, and the jobs are sound with it. Each change stands at most once; each of an
 -- occurrence that is COMPLETED exactly once, and each of one that is ROLLED_BACK not at all; each job is granted work;
--- and nothing stands of an instance that is NOT_INSTANTIATED without an operation that goes on (SOL 003 5.6.2, 9.4.2,
--- 5.5.2.2; own rule).
+-- nothing stands of an instance that is NOT_INSTANTIATED without an operation that goes on; and each compute stands
+-- beside its storages and all links of its instance (SOL 003 5.6.2, 9.4.2, 5.5.2.2; SOL 001, Vdu.Compute, VduCp; own
+-- rule).
 pub record IsSoundPair (m : ℕ) (H : List Event) (p : Pair) : Type 0 where
   pub number : m < 4294967296
   pub history : List Event
@@ -56,6 +67,7 @@ pub record IsSoundPair (m : ℕ) (H : List Event) (p : Pair) : Type 0 where
   pub rolled_back : ChangesStand RolledBack 0 history p.jobs
   pub granted : AreGrantedWork history p.jobs
   pub idle : IdleHaveNothing history p.jobs
+  pub beside : ComputesStandBeside history p.jobs
 
 -- a file with a history from H on, and jobs that are sound with it, are such a pair (own rule)
 abbrev pub SoundJobsMakeSoundPairs : Type 0

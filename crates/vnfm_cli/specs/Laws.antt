@@ -2,11 +2,11 @@
 use Rattle.std.specs.Prelude.{◌≡◌, ◌<◌, ◌⊎◌, ℕ, List, [], ◌++◌, Option, Some, None}
 use Rattle.executor.specs.Work.{Extends}
 use Rattle.journal_core.specs.Create.{IsMade}
-use Rattle.lcm_api.specs.Response.{text}
+use Rattle.lcm_replies.specs.Response.{text}
 use Rattle.lcm_sessions.specs.Session.{Closing, Talk, life, once_answered, replies, reply_last, said}
-use Rattle.lcm_api.specs.World as session
-use Rattle.lcm_api.specs.World.{Peers}
-use Rattle.lcm_api.specs.declared.reply.Reply.{Reply}
+use Rattle.lcm_mouth.specs.World as session
+use Rattle.lcm_mouth.specs.World.{Peers}
+use Rattle.lcm_replies.specs.declared.reply.Reply.{Reply}
 use Rattle.lcm_events.specs.declared.events.Event.{Event}
 use Rattle.lcm_events.specs.declared.states.Role.{Role}
 use Rattle.occ_work.specs.Around.{DiskFails}

@@ -1,13 +1,14 @@
 //! What holds of every run, as contracts of calls that do nothing.
-ghost use Rattle.lcm_api.specs.World as session;
+ghost use Rattle.lcm_mouth.specs.World as session;
 ghost use Rattle.vnfm_cli.specs.Headline.{SoundJobsMakeSoundPairs};
 ghost use Rattle.vnfm_cli.specs.Laws.{AnswersAreWhole, DiskFaultsAreTold, DoorFaultsAreCounted, InitMakes, InitsGoOn};
 ghost use Rattle.vnfm_cli.specs.Laws.{LivesGoOn, MadeJournalsBeginSoundly, OneLineIsPut};
 ghost use Rattle.vnfm_commands.specs.Outside.{telling};
 
 use lcm_jobs::{
-    changes_stand_at_most_once, completed_stands_once, idle_instances_have_no_job_standing,
-    jobs_are_granted_work, jobs_may_end, rolled_back_stands_not,
+    changes_stand_at_most_once, completed_stands_once, computes_stand_beside_theirs,
+    idle_instances_have_no_job_standing, jobs_are_granted_work, jobs_may_end,
+    rolled_back_stands_not,
 };
 use site_traits::{Clock, Courier, Door, Orchestrator, Sink, Site};
 
@@ -60,6 +61,7 @@ pub fn sound_jobs_make_sound_pairs()
     rolled_back_stands_not();
     jobs_are_granted_work();
     idle_instances_have_no_job_standing();
+    computes_stand_beside_theirs();
 }
 
 /// A life goes on from whatever a stop left of the one before it, with all that it had and all that it had acknowledged

@@ -7,11 +7,11 @@ use Rattle.executor.specs.declared.manager.WorkFault.{WorkFault}
 use Rattle.executor.specs.declared.manager.WorkFault.TheVariants as working
 use Rattle.executor.specs.Work.{Idles, Work, Works, WorksAreWithJobs, WorksWithJobs, WorksWithJobsJoin, WorksWithJobsLeadOn, LeadsOn, went}
 use Rattle.executor.specs.Work.{stood}
-use Rattle.lcm_api.specs.Mouth.{MouthState, Begins}
+use Rattle.lcm_mouth.specs.Mouth.{MouthState, Begins}
 use Rattle.lcm_sessions.specs.Session.{Last, Closing, Talk, behind_told, over as no_more, unheard, untold, starving, breaking, breaks}
 use Rattle.lcm_sessions.specs.Session.{is_breaking, life, work_by, work_last, work_of}
-use Rattle.lcm_api.specs.World as session
-use Rattle.lcm_api.specs.World.{Peers, World, peers_of, world}
+use Rattle.lcm_mouth.specs.World as session
+use Rattle.lcm_mouth.specs.World.{Peers, World, peers_of, world}
 use Rattle.lcm_sessions.specs.Talking as talking
 use Rattle.lcm_events.specs.declared.events.Event.{Event}
 use Rattle.lcm_events.specs.declared.states.Role.{Role}

@@ -1,5 +1,5 @@
 -- Opening a journal, and what is then done with it.
-use Rattle.std.proofs.Common.{◌≡◌, ◌<◌, ℕ, List, Some, ap, subst}
+use Rattle.std.proofs.Common.{◌≡◌, ◌<◌, ℕ, List, Some, ap, refl, subst}
 use Rattle.executor.proofs.ChainLemmas.{told_since}
 use Rattle.executor.specs.Chain.{AreTold}
 use Rattle.executor.specs.History.{HasHistory}
@@ -8,15 +8,19 @@ use Rattle.executor.specs.Open.{Refuses}
 use Rattle.executor.specs.Work.{Follows, LeavesJobs, Stays, Work, WorksAreWithJobs, WorksWithJobs, stood}
 use Rattle.executor.specs.declared.manager.OpenFault.{OpenFault}
 use Rattle.journal_core.specs.Load.{SyncsAndReads}
-use Rattle.lcm_api.specs.World.{Peers}
+use Rattle.lcm_mouth.specs.World.{Peers}
 use Rattle.lcm_events.specs.declared.events.Event.{Event}
 use Rattle.lcm_sessions.specs.Onboarding.{onboarding_work}
-use Rattle.site_traits.specs.Site.{SiteState}
+use Rattle.lcm_mouth.specs.Mouth.{MouthState}
+use Rattle.site_traits.specs.Counts.{CallCounts, OnlyDiskFails, SiteCounts}
+use Rattle.site_traits.specs.Peers.{OrchestratorState, Post}
+use Rattle.site_traits.specs.Site.{KeepsJobs, SiteState}
 use Rattle.vnfm_commands.specs.Course.{Course, misused, starved, making, opened, unopened, Activity, serving, onboarding, IsOf, IsOfWords}
 use Rattle.vnfm_commands.specs.Course.{Opening, activity_work, told_by}
 use Rattle.command_line.specs.Words.{settings_of}
 use Rattle.command_line.specs.declared.options.Settings.{Settings}
-use Rattle.vnfm_commands.specs.Outside.{Outside, Tells, beside}
+use Rattle.vnfm_commands.specs.Outside.{Outside, Tells, beside, outside}
+use Rattle.vnfm_commands.proofs.RoundLemmas.{asks_nobody}
 use Rattle.vnfm_commands.specs.Rounds.{Rests}
 use Rattle.vnfm_commands.specs.Runs.{AtJobsBy, ActivityWorks, Pursues, Does, Recovers}
 
@@ -57,6 +61,15 @@ activity_jobs : (tells : Type 0) (m : ℕ) (H : List Event) (activity : Activity
     → AtJobsBy activity a e
 activity_jobs tells m H (serving service) n a b e leaves told reads works = tt
 activity_jobs tells m H (onboarding o) n a b e leaves told reads works = (leaves told reads).1 m H (onboarding_work H o) n works
+
+-- opening a journal does nothing beside its file
+pub rests_opened : (t : Tells) (failed : Type 0) (a b : SiteState) (i j : SiteCounts) (mouth : MouthState) (o : OrchestratorState)
+    (oc : CallCounts) (r : List Post) (rc : CallCounts) (k : List ℕ) → (t.site → KeepsJobs a b) → OnlyDiskFails failed i j
+    → Rests t (beside (outside a i mouth o oc r rc k)) (beside (outside b j mouth o oc r rc k))
+rests_opened t failed a b i j mouth o oc r rc k alone counts = record {
+  peers = refl;
+  asks = asks_nobody t failed (outside a i mouth o oc r rc k) (outside b j mouth o oc r rc k) refl refl alone counts;
+}
 
 -- an opened journal, and an activity of its manager
 pub does_activity : (t : Tells) (m n : Managed) (H : List Event) (activity : Activity) (w u v : Outside) → Stays u.site → Stays v.site

@@ -1,7 +1,7 @@
 -- All that a run works with but for its words and the sink of its line, as one value.
 use Rattle.std.specs.Prelude.{ℕ, List}
-use Rattle.lcm_api.specs.Mouth.{MouthState}
-use Rattle.lcm_api.specs.World as session
+use Rattle.lcm_mouth.specs.Mouth.{MouthState}
+use Rattle.lcm_mouth.specs.World as session
 use Rattle.occ_work.specs.Around as acting
 use Rattle.occ_work.specs.Around.{Around, Peer}
 use Rattle.site_traits.specs.Counts.{CallCounts, SiteCounts}

@@ -3,10 +3,10 @@ use Rattle.std.specs.Prelude.{◌≡◌, ℕ, true, false, List, [], ◌∷◌, 
 use Rattle.executor.specs.Chain.{AreTold}
 use Rattle.executor.specs.Managed.{Managed}
 use Rattle.executor.specs.Work.{Work, Works, WorksWithJobs, went}
-use Rattle.lcm_api.specs.Mouth.{MouthState, Begins}
-use Rattle.lcm_api.specs.Waiting.{IsNobody, IsUnreached}
-use Rattle.lcm_api.specs.World as session
-use Rattle.lcm_api.specs.World.{Peers, World, peers_of}
+use Rattle.lcm_mouth.specs.Mouth.{MouthState, Begins}
+use Rattle.lcm_mouth.specs.Waiting.{IsNobody, IsUnreached}
+use Rattle.lcm_mouth.specs.World as session
+use Rattle.lcm_mouth.specs.World.{Peers, World, peers_of}
 use Rattle.lcm_events.specs.declared.events.Event.{Event}
 use Rattle.lcm_events.specs.declared.states.Role.{Role}
 use Rattle.lcm_sessions.specs.Session.{Talk, breaks, life}

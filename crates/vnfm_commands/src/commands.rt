@@ -20,7 +20,7 @@ use crate::rounds::make_rounds;
 use command_line::{Command, Settings, settings};
 use executor::{Manager, works_add_up, works_with_jobs_add_up};
 use journal_core::{Journal, faults_are_counted};
-use lcm_api::Mouth;
+use lcm_mouth::Mouth;
 use lcm_sessions::onboard;
 use site_traits::{Clock, Courier, Door, Orchestrator, Site};
 use std::alloc::Global;
@@ -56,7 +56,8 @@ pub fn obey<S: Site, D: Door, O: Orchestrator, C: Courier, K: Clock>(
     perform(alloc, &settings, site, mouth, orchestrator, courier, clock)
 }
 
-/// Performs the command.
+/// Performs the command: makes the journal, or opens it, and then onboards a descriptor or makes the rounds that the
+/// words set.
 fn perform<S: Site, D: Door, O: Orchestrator, C: Courier, K: Clock>(
     alloc: Global,
     settings: &Settings,
@@ -78,10 +79,27 @@ fn perform<S: Site, D: Door, O: Orchestrator, C: Courier, K: Clock>(
     ensures disk { DiskFails (result ≡ Err Failure.SiteFault) (S.counts site.old) (S.counts site.new) }
     ensures untouched_jobs { settings.now.command ≢ Once → CountJobsAlike (S.counts site.old) (S.counts site.new) }
 {
+    works_add_up::<S>();
+    works_with_jobs_add_up::<S>();
     match settings.command {
         Command::Init => init(settings.manager, site),
-        Command::Onboard => open(alloc, settings, site, mouth, orchestrator, courier, clock),
-        Command::Once => open(alloc, settings, site, mouth, orchestrator, courier, clock),
+        Command::Onboard => {
+            let mut manager = Manager::load(alloc, site)?;
+            Ok(Report::Onboarded(onboard(alloc, &mut manager, site, mouth, clock)?))
+        }
+        Command::Once => {
+            let mut manager = Manager::load(alloc, site)?;
+            make_rounds(
+                alloc,
+                settings,
+                &mut manager,
+                site,
+                mouth,
+                orchestrator,
+                courier,
+                clock,
+            )
+        }
     }
 }
 
@@ -96,84 +114,4 @@ fn init<S: Site>(manager: u32, site: &mut S) -> Ending
     faults_are_counted();
     Journal::create(site, manager)?;
     Ok(Report::Made(manager))
-}
-
-/// Opens the journal, and does with it what the command says.
-fn open<S: Site, D: Door, O: Orchestrator, C: Courier, K: Clock>(
-    alloc: Global,
-    settings: &Settings,
-    site: &mut S,
-    mouth: &mut Mouth<D>,
-    orchestrator: &mut O,
-    courier: &mut C,
-    clock: &mut K,
-) -> Ending
-    requires loading { loads settings.now.command ≡ true }
-    ensures does { (course : Course) × IsOf settings.now course
-        × Does (telling S.tells D.tells O.tells C.tells K.tells) course
-        (outside (S.state site.old) (S.counts site.old) mouth.old (O.state orchestrator.old) (O.counts orchestrator.old)
-        (C.state courier.old) (C.counts courier.old) (K.state clock.old))
-        (outside (S.state site.new) (S.counts site.new) mouth.new (O.state orchestrator.new) (O.counts orchestrator.new)
-        (C.state courier.new) (C.counts courier.new) (K.state clock.new))
-        × (result ≡ ending_of course) }
-    ensures unasked { settings.now.command ≢ Once → orchestrator.new ≡ orchestrator.old }
-    ensures unposted { courier.new ≡ courier.old }
-    ensures disk { DiskFails (result ≡ Err Failure.SiteFault) (S.counts site.old) (S.counts site.new) }
-    ensures untouched_jobs { settings.now.command ≢ Once → CountJobsAlike (S.counts site.old) (S.counts site.new) }
-{
-    works_add_up::<S>();
-    works_with_jobs_add_up::<S>();
-    let mut manager = Manager::load(alloc, site)?;
-    work(
-        alloc,
-        settings,
-        &mut manager,
-        site,
-        mouth,
-        orchestrator,
-        courier,
-        clock,
-    )
-}
-
-/// Onboards a descriptor, or makes the rounds that the words set.
-fn work<S: Site, D: Door, O: Orchestrator, C: Courier, K: Clock>(
-    alloc: Global,
-    settings: &Settings,
-    manager: &mut Manager<S>,
-    site: &mut S,
-    mouth: &mut Mouth<D>,
-    orchestrator: &mut O,
-    courier: &mut C,
-    clock: &mut K,
-) -> Ending
-    requires loading { loads settings.now.command ≡ true }
-    requires ready { (H : List Event) × IsReady S.tells manager.old H (S.state site.old) }
-    ensures activity { (H : List Event) → IsReady S.tells manager.old H (S.state site.old)
-        → (activity : Activity) × IsActivityOf settings.now activity
-        × Pursues (telling S.tells D.tells O.tells C.tells K.tells) manager.old.ledger.manager H activity manager.new
-        (outside (S.state site.old) (S.counts site.old) mouth.old (O.state orchestrator.old) (O.counts orchestrator.old)
-        (C.state courier.old) (C.counts courier.old) (K.state clock.old))
-        (outside (S.state site.new) (S.counts site.new) mouth.new (O.state orchestrator.new) (O.counts orchestrator.new)
-        (C.state courier.new) (C.counts courier.new) (K.state clock.new))
-        × (result ≡ activity_ending H activity) }
-    ensures unasked { settings.now.command ≢ Once → orchestrator.new ≡ orchestrator.old }
-    ensures unposted { courier.new ≡ courier.old }
-    ensures disk { DiskFails (result ≡ Err Failure.SiteFault) (S.counts site.old) (S.counts site.new) }
-    ensures untouched_jobs { settings.now.command ≢ Once → CountJobsAlike (S.counts site.old) (S.counts site.new) }
-{
-    match settings.command {
-        Command::Init => unreachable!(),
-        Command::Onboard => Ok(Report::Onboarded(onboard(alloc, manager, site, mouth, clock)?)),
-        Command::Once => make_rounds(
-            alloc,
-            settings,
-            manager,
-            site,
-            mouth,
-            orchestrator,
-            courier,
-            clock,
-        ),
-    }
 }

@@ -1,7 +1,7 @@
 //! Rounds: in each the door is asked for a connection, which is served; then the clock is read, and a turn is made.
 ghost use Rattle.std.specs.Prelude.{◌≡◌, ◌≢◌, ℕ, List, Some, length, option_map};
 ghost use Rattle.executor.specs.Managed.{IsReady};
-ghost use Rattle.lcm_api.specs.World as session;
+ghost use Rattle.lcm_mouth.specs.World as session;
 ghost use Rattle.lcm_events.specs.declared.events.Event.{Event};
 ghost use Rattle.occ_work.specs.Around as acting;
 ghost use Rattle.occ_work.specs.Around.{DiskFails};
@@ -16,8 +16,8 @@ ghost use Rattle.occ_work.specs.Deeds.{point};
 use crate::ending::{Ending, Failure, Report};
 use command_line::Settings;
 use executor::{Manager, WorkFault, what_was_told_of_stays, works_add_up, works_with_jobs_add_up};
-use lcm_api::Mouth;
 use lcm_events::Role;
+use lcm_mouth::Mouth;
 use lcm_sessions::{Closed, answer_session};
 use occ_work::turn;
 use site_traits::{Clock, Courier, Door, NextAnswer, Orchestrator, Site};

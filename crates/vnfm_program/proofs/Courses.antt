@@ -1,7 +1,7 @@
 -- From what a part of the program did to what the program did.
 use Rattle.std.proofs.Common.{◌≡◌, ◌⊎◌, ℕ, List, Option, None, Result, Ok, Err, IfErr, inl, inr, sym, subst}
 use Rattle.host_calls.specs.Files.{FilesState, Hold}
-use Rattle.lcm_api.specs.Mouth.{MouthState}
+use Rattle.lcm_mouth.specs.Mouth.{MouthState}
 use Rattle.outside_edges.specs.Having.{LeavesAll, Seeks}
 use Rattle.outside_edges.specs.Site.{IsHeld}
 use Rattle.outside_edges.specs.declared.real_site.FolderSync.{FolderSync}

@@ -6,7 +6,7 @@ use Rattle.command_line.specs.declared.options.Command.{Command}
 use Rattle.command_line.specs.declared.options.Command.TheVariants.{Init, Onboard, Once}
 use Rattle.command_line.specs.declared.options.Settings.{Settings}
 use Rattle.host_calls.specs.Files.{FilesState, Hold}
-use Rattle.lcm_api.specs.Mouth.{MouthState}
+use Rattle.lcm_mouth.specs.Mouth.{MouthState}
 use Rattle.occ_work.specs.Around.{Peer}
 use Rattle.outside_edges.specs.Having.{LeavesAll, Seeks}
 use Rattle.outside_edges.specs.Site.{IsExplained, IsHeld, counts_of, state_in}

@@ -13,7 +13,7 @@ use crate::machine::Machine;
 use crate::output::{explain, print, starve};
 use crate::words::words_of;
 use host_calls::{HostFile, HostFiles, InStream, OutStream};
-use lcm_api::Mouth;
+use lcm_mouth::Mouth;
 use outside_edges::{FolderSync, Jobs, RealDoor, RealSite};
 use program_words::{Reason, page_of, reason_of};
 use site_traits::{Clock, Courier, Orchestrator, Sink};

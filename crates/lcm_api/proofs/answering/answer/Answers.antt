@@ -3,7 +3,7 @@ use Rattle.std.specs.Result.{IfOk}
 use Rattle.std.proofs.Common.{◌≡◌, subst}
 use Rattle.executor.specs.Work.{Works}
 use Rattle.lcm_api.specs.Answering.{answered}
-use Rattle.lcm_api.specs.Replies.{in_room}
+use Rattle.lcm_api.specs.Planning.{in_room}
 use Rattle.lcm_api.specs.declared.record.Planned.{Planned}
 use Rattle.lcm_api.proofs.PlanLemmas.{may_carry_out, planned_is}
 use Rattle.lcm_api.proofs.answering.answer.Goals as goal

@@ -1,5 +1,5 @@
 -- Each reply takes over whether the request is the last.
-use Rattle.std.proofs.Common.{◌≡◌, ◌+◌, ◌++◌, ℕ, List, [], ◌∷◌, length, Bool, true, false, Option, Some, None, Result, Ok, Err, refl}
+use Rattle.std.proofs.Common.{◌≡◌, ◌+◌, ◌++◌, ℕ, List, ◌∷◌, length, Bool, true, false, Option, Some, None, Result, Ok, Err, refl}
 use Rattle.std.specs.Prelude.{nat_le, codes, if◌then◌else◌}
 use Rattle.json_bodies.proofs.ByteLemmas.{IsOfBytes, both_of_bytes, cancel_of_bytes, create_of_bytes, instantiate_of_bytes}
 use Rattle.json_bodies.specs.Body.{cancel_of, create_of, instantiate_of}
@@ -26,17 +26,18 @@ use Rattle.lcm_events.specs.declared.events.Operation.{Operation}
 use Rattle.lcm_events.specs.declared.states.Role.{Role}
 use Rattle.lcm_model.specs.Lives.{descriptor}
 use Rattle.lcm_model.specs.Refusals.{ask_refusal, situation, task_refusal}
-use Rattle.lcm_api.specs.Asks.{accepted, ask_described, ask_found, ask_judged, ask_of, ask_read, asked_in, asking, instance_task}
+use Rattle.lcm_api.specs.Asks.{accepted, ask_described, ask_found, ask_judged, ask_of, ask_read, asked_in, instance_task}
 use Rattle.lcm_api.specs.Asks.{operation_asked, task_with, unserved_found}
 use Rattle.lcm_api.specs.declared.asks.AskedBody.{AskedBody}
 use Rattle.lcm_api.specs.Occurrences.{list_occurrences, named_operation, occurrence_row_text, show_asked}
 use Rattle.lcm_api.specs.Creating.{body_outcome, create_instance, described_outcome, created, creation}
-use Rattle.lcm_api.specs.Instances.{asked_id, delete_found, delete_judged, deleted, deletion, list_instances, named_instance, row_text}
+use Rattle.lcm_api.specs.Instances.{asked_id, delete_found, delete_judged, deleted, list_instances, named_instance, row_text}
 use Rattle.lcm_api.specs.Instances.{show_found}
 use Rattle.lcm_api.specs.Media.{is_json}
 use Rattle.lcm_api.specs.Outcome.{routed, served}
 use Rattle.lcm_api.specs.Refusals.{refusal_status, refusal_text}
-use Rattle.lcm_api.specs.Replies.{in_room, recorded, refusal, refused, shown, told}
+use Rattle.lcm_api.specs.Planning.{in_room, recorded, refused, told}
+use Rattle.lcm_replies.specs.Replies.{refusal, shown}
 use Rattle.lcm_api.specs.declared.record.Planned.{Planned}
 use Rattle.lcm_api.specs.declared.record.Planned.TheVariants.{Records, Told}
 use Rattle.lcm_api.specs.Routes.{not_allowed, routing}

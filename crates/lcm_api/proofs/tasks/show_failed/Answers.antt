@@ -7,7 +7,7 @@ use Rattle.lcm_model.specs.Work.{window}
 use Rattle.occ_table.specs.Rows as occurrences
 use Rattle.occ_table.specs.declared.rows.OccRow.{OccRow}
 use Rattle.lcm_api.specs.Occurrences.{show_row}
-use Rattle.lcm_api.specs.Replies.{told}
+use Rattle.lcm_api.specs.Planning.{told}
 use Rattle.lcm_api.proofs.TaskLemmas.{showable, shows_failed}
 use Rattle.lcm_api.proofs.tasks.show_failed.Goals as goal
 

@@ -1,7 +1,7 @@
 -- So many requests were answered, and all replies to them were told whole. No disk call failed.
 use Rattle.std.proofs.Common.{◌-◌, ◌≡◌}
 use Rattle.http_wire.specs.declared.TheConstants.{CONNECTION_REQUESTS}
-use Rattle.lcm_api.specs.World.{telling, world}
+use Rattle.lcm_mouth.specs.World.{telling, world}
 use Rattle.lcm_sessions.proofs.TalkLemmas.{TalksSoFar}
 use Rattle.site_traits.specs.Counts.{OnlyDiskFails}
 use Rattle.lcm_sessions.proofs.session.talk.Given as goal

@@ -13,4 +13,5 @@ returns c = λ m H K p small kept file sound. record {
   rolled_back = c.rolled_back_stands_not.ensures window m K p.jobs sound;
   granted = c.jobs_are_granted_work.ensures window m K p.jobs sound;
   idle = c.idle_instances_have_no_job_standing.ensures window m K p.jobs sound;
+  beside = c.computes_stand_beside_theirs.ensures window m K p.jobs sound;
 }

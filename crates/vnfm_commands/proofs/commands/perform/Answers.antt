@@ -1,9 +1,12 @@
--- A journal was to be made.
-use Rattle.std.proofs.Common.{refl}
-use Rattle.vnfm_commands.specs.Course.{making}
+-- A journal was to be made; or it was opened, and a descriptor onboarded or rounds made; or it wasn't opened.
+use Rattle.std.proofs.Common.{Err, ap, refl, ◌∙◌}
+use Rattle.std.proofs.lemmas.Result.{err_from_is_err_and}
+use Rattle.vnfm_commands.specs.Course.{making, onboarding, onboarding_ending, opened, serving, unopened}
 use Rattle.vnfm_commands.specs.Outside.{outside}
-use Rattle.vnfm_commands.proofs.DiskLemmas.{alike_of, disk_of}
+use Rattle.vnfm_commands.proofs.DiskLemmas.{alike_of, disk_last, disk_of, synced, unonboarded_fails, unopened_fails}
 use Rattle.vnfm_commands.proofs.RoundLemmas.{asks_nobody}
+use Rattle.vnfm_commands.proofs.RunLemmas.{does_activity, does_not_open, opening_of, rests_opened}
+use Rattle.vnfm_commands.specs.Words.{loads}
 use Rattle.vnfm_commands.proofs.commands.perform.Goals as goal
 
 pub returns-in-Init-clause-does : goal.returns-in-Init-clause-does
@@ -29,3 +32,115 @@ returns-in-Init-clause-disk g c = disk_of _ _ _ c.init.ensures.disk
 
 pub returns-in-Init-clause-untouched_jobs : goal.returns-in-Init-clause-untouched_jobs
 returns-in-Init-clause-untouched_jobs g c = λ other. alike_of _ _ _ c.init.ensures.disk
+
+pub returns-in_err-manager-in-Onboard-clause-does : goal.returns-in_err-manager-in-Onboard-clause-does
+returns-in_err-manager-in-Onboard-clause-does g c =
+    let why = c.in_err-manager-in-Onboard.field-0.0 in
+    let err = err_from_is_err_and c.from_residual.result c.from_residual.ensures.1 in
+    let leaves = c.works_add_up.ensures.jobs c.args.site.now c.load.new.site c.load.new.site in
+    let behind = outside (g.S.Site.state c.load.new.site) (g.S.Site.counts c.load.new.site) c.args.mouth.now
+    (g.O.Orchestrator.state c.args.orchestrator.now) (g.O.Orchestrator.counts c.args.orchestrator.now)
+    (g.C.Courier.state c.args.courier.now) (g.C.Courier.counts c.args.courier.now) (g.K.Clock.state c.args.clock.now) in (
+      unopened why,
+      ap loads c.in-Onboard.is,
+      does_not_open _ why _ behind leaves c.in_err-manager-in-Onboard.ensures.told c.in_err-manager-in-Onboard.ensures.opens
+          (rests_opened _ _ _ _ _ _ _ _ _ _ _ _ (λ told. (leaves told (c.in_err-manager-in-Onboard.ensures.told told)).0)
+          (unopened_fails why c.from_residual.result _ _ c.in_err-manager-in-Onboard.ensures.counts (err.1 ∙ ap Err err.2))),
+      err.1 ∙ ap Err err.2,
+    )
+
+pub returns-in_err-manager-in-Once-clause-does : goal.returns-in_err-manager-in-Once-clause-does
+returns-in_err-manager-in-Once-clause-does g c =
+    let why = c.in_err-manager-in-Once.field-0.0 in
+    let err = err_from_is_err_and c.from_residual-in_err-manager-in-Once.result c.from_residual-in_err-manager-in-Once.ensures.1 in
+    let leaves = c.works_add_up.ensures.jobs c.args.site.now c.load-in-Once.new.site c.load-in-Once.new.site in
+    let behind = outside (g.S.Site.state c.load-in-Once.new.site) (g.S.Site.counts c.load-in-Once.new.site) c.args.mouth.now
+    (g.O.Orchestrator.state c.args.orchestrator.now) (g.O.Orchestrator.counts c.args.orchestrator.now)
+    (g.C.Courier.state c.args.courier.now) (g.C.Courier.counts c.args.courier.now) (g.K.Clock.state c.args.clock.now) in (
+      unopened why,
+      ap loads c.in-Once.is,
+      does_not_open _ why _ behind leaves c.in_err-manager-in-Once.ensures.told c.in_err-manager-in-Once.ensures.opens
+          (rests_opened _ _ _ _ _ _ _ _ _ _ _ _ (λ told. (leaves told (c.in_err-manager-in-Once.ensures.told told)).0)
+          (unopened_fails why c.from_residual-in_err-manager-in-Once.result _ _ c.in_err-manager-in-Once.ensures.counts (err.1 ∙ ap Err err.2))),
+      err.1 ∙ ap Err err.2,
+    )
+
+pub returns-in_ok-onboard-in-Onboard-clause-does : goal.returns-in_ok-onboard-in-Onboard-clause-does
+returns-in_ok-onboard-in-Onboard-clause-does g c =
+    let start = c.in_ok-manager-in-Onboard.ensures.opens in
+    let it = c.in_ok-onboard-in-Onboard.ensures.onboards start.0 start.1 in
+    let clean = synced ⊥ _ _ (c.in_ok-manager-in-Onboard.ensures.counts.stays (λ wrong. cc wrong)) (λ never. never) in
+    let leaves = c.works_add_up.ensures.jobs c.args.site.now c.load.new.site c.onboard.new.site in
+    let middle = outside (g.S.Site.state c.load.new.site) (g.S.Site.counts c.load.new.site) c.args.mouth.now
+    (g.O.Orchestrator.state c.args.orchestrator.now) (g.O.Orchestrator.counts c.args.orchestrator.now)
+    (g.C.Courier.state c.args.courier.now) (g.C.Courier.counts c.args.courier.now) (g.K.Clock.state c.args.clock.now) in
+    let behind = outside (g.S.Site.state c.onboard.new.site) (g.S.Site.counts c.onboard.new.site) c.onboard.new.mouth
+    (g.O.Orchestrator.state c.args.orchestrator.now) (g.O.Orchestrator.counts c.args.orchestrator.now)
+    (g.C.Courier.state c.args.courier.now) (g.C.Courier.counts c.args.courier.now) (g.K.Clock.state c.onboard.new.clock) in (
+      opened (opening_of c.in_ok-manager-in-Onboard.manager start.0) (onboarding it.0),
+      c.in-Onboard.is,
+      does_activity _ c.in_ok-manager-in-Onboard.manager _ start.0 (onboarding it.0) _ middle _ (c.works_add_up.ensures.stays c.load.new.site)
+          (c.works_add_up.ensures.stays c.onboard.new.site)
+          (c.works_with_jobs_add_up.ensures.follows c.args.site.now c.load.new.site c.onboard.new.site) leaves
+          (c.works_with_jobs_add_up.ensures.works c.load.new.site c.onboard.new.site) c.in_ok-manager-in-Onboard.ensures.number
+          c.in_ok-manager-in-Onboard.ensures.told start.1
+          (record { works = it.1.works; does = (it.1.brings, asks_nobody _ _ middle behind refl refl it.1.works.jobs c.in_ok-onboard-in-Onboard.ensures.disk); told = it.1.brings.unnoted })
+          (rests_opened _ _ _ _ _ _ _ _ _ _ _ _ (λ told. (leaves told (c.in_ok-manager-in-Onboard.ensures.told told)).0) clean),
+      ap onboarding_ending it.2,
+    )
+
+pub returns-in_err-onboard-in-Onboard-clause-does : goal.returns-in_err-onboard-in-Onboard-clause-does
+returns-in_err-onboard-in-Onboard-clause-does g c =
+    let start = c.in_ok-manager-in-Onboard.ensures.opens in
+    let it = c.in_err-onboard-in-Onboard.ensures.onboards start.0 start.1 in
+    let err = err_from_is_err_and c.from_residual-in_err-onboard-in-Onboard.result
+    c.from_residual-in_err-onboard-in-Onboard.ensures.1 in
+    let clean = synced ⊥ _ _ (c.in_ok-manager-in-Onboard.ensures.counts.stays (λ wrong. cc wrong)) (λ never. never) in
+    let leaves = c.works_add_up.ensures.jobs c.args.site.now c.load.new.site c.onboard.new.site in
+    let middle = outside (g.S.Site.state c.load.new.site) (g.S.Site.counts c.load.new.site) c.args.mouth.now
+    (g.O.Orchestrator.state c.args.orchestrator.now) (g.O.Orchestrator.counts c.args.orchestrator.now)
+    (g.C.Courier.state c.args.courier.now) (g.C.Courier.counts c.args.courier.now) (g.K.Clock.state c.args.clock.now) in
+    let behind = outside (g.S.Site.state c.onboard.new.site) (g.S.Site.counts c.onboard.new.site) c.onboard.new.mouth
+    (g.O.Orchestrator.state c.args.orchestrator.now) (g.O.Orchestrator.counts c.args.orchestrator.now)
+    (g.C.Courier.state c.args.courier.now) (g.C.Courier.counts c.args.courier.now) (g.K.Clock.state c.onboard.new.clock) in (
+      opened (opening_of c.in_ok-manager-in-Onboard.manager start.0) (onboarding it.0),
+      c.in-Onboard.is,
+      does_activity _ c.in_ok-manager-in-Onboard.manager _ start.0 (onboarding it.0) _ middle _ (c.works_add_up.ensures.stays c.load.new.site)
+          (c.works_add_up.ensures.stays c.onboard.new.site)
+          (c.works_with_jobs_add_up.ensures.follows c.args.site.now c.load.new.site c.onboard.new.site) leaves
+          (c.works_with_jobs_add_up.ensures.works c.load.new.site c.onboard.new.site) c.in_ok-manager-in-Onboard.ensures.number
+          c.in_ok-manager-in-Onboard.ensures.told start.1
+          (record { works = it.1.works; does = (it.1.brings, asks_nobody _ _ middle behind refl refl it.1.works.jobs c.in_err-onboard-in-Onboard.ensures.disk); told = it.1.brings.unnoted })
+          (rests_opened _ _ _ _ _ _ _ _ _ _ _ _ (λ told. (leaves told (c.in_ok-manager-in-Onboard.ensures.told told)).0) clean),
+      err.1 ∙ ap Err err.2 ∙ ap onboarding_ending it.2,
+    )
+
+pub returns-in_err-onboard-in-Onboard-clause-disk : goal.returns-in_err-onboard-in-Onboard-clause-disk
+returns-in_err-onboard-in-Onboard-clause-disk g c =
+    let err = err_from_is_err_and c.from_residual-in_err-onboard-in-Onboard.result
+    c.from_residual-in_err-onboard-in-Onboard.ensures.1 in
+    disk_last _ _ _ _
+    (disk_of _ _ _ (synced _ _ _ (c.in_ok-manager-in-Onboard.ensures.counts.stays (λ wrong. cc wrong)) (λ never. never)))
+    (disk_of _ _ _ (unonboarded_fails c.in_err-onboard-in-Onboard.field-0.0 _ _ _ c.in_err-onboard-in-Onboard.ensures.disk
+    (err.1 ∙ ap Err err.2)))
+
+pub returns-in_ok-manager-in-Once-clause-does : goal.returns-in_ok-manager-in-Once-clause-does
+returns-in_ok-manager-in-Once-clause-does g c =
+    let start = c.in_ok-manager-in-Once.ensures.opens in
+    let it = c.make_rounds.ensures.makes start.0 start.1 in
+    let clean = synced ⊥ _ _ (c.in_ok-manager-in-Once.ensures.counts.stays (λ wrong. cc wrong)) (λ never. never) in
+    let leaves = c.works_add_up.ensures.jobs c.args.site.now c.load-in-Once.new.site c.make_rounds.new.site in
+    let middle = outside (g.S.Site.state c.load-in-Once.new.site) (g.S.Site.counts c.load-in-Once.new.site) c.args.mouth.now
+    (g.O.Orchestrator.state c.args.orchestrator.now) (g.O.Orchestrator.counts c.args.orchestrator.now)
+    (g.C.Courier.state c.args.courier.now) (g.C.Courier.counts c.args.courier.now) (g.K.Clock.state c.args.clock.now) in (
+      opened (opening_of c.in_ok-manager-in-Once.manager start.0) (serving it.0),
+      record { command = c.in-Once.is; role = it.2; count = it.3 },
+      does_activity _ c.in_ok-manager-in-Once.manager _ start.0 (serving it.0) _ middle _ (c.works_add_up.ensures.stays c.load-in-Once.new.site)
+          (c.works_add_up.ensures.stays c.make_rounds.new.site)
+          (c.works_with_jobs_add_up.ensures.follows c.args.site.now c.load-in-Once.new.site c.make_rounds.new.site) leaves
+          (c.works_with_jobs_add_up.ensures.works c.load-in-Once.new.site c.make_rounds.new.site) c.in_ok-manager-in-Once.ensures.number
+          c.in_ok-manager-in-Once.ensures.told start.1
+          (record { works = it.1.works; does = it.1.serves; told = it.1.told })
+          (rests_opened _ _ _ _ _ _ _ _ _ _ _ _ (λ told. (leaves told (c.in_ok-manager-in-Once.ensures.told told)).0) clean),
+      it.4,
+    )

@@ -1,6 +1,6 @@
 -- A connection came and was served, or none came, or waiting failed.
 use Rattle.std.proofs.Common.{false, inl, inr, refl, true}
-use Rattle.lcm_api.specs.World.{World, world}
+use Rattle.lcm_mouth.specs.World.{World, world}
 use Rattle.site_traits.specs.Counts.{fails_as}
 use Rattle.site_traits.specs.declared.door.NextAnswer.TheVariants.{Nobody, Ended}
 use Rattle.vnfm_commands.specs.Course.{served, stopped, unasked, unreached}

@@ -1,0 +1,3 @@
+pub mod Mouth
+pub mod Waiting
+pub mod World

@@ -1,0 +1,6 @@
+//! The connection at hand: requests are heard from it, and the replies to them are told.
+#![tactic(auto)]
+
+mod mouth;
+
+pub use mouth::Mouth;

@@ -1,0 +1,2 @@
+mod ListenLemmas
+pub mod TellLemmas

@@ -1,0 +1,5 @@
+pub mod Failing
+pub mod Hearing
+pub mod Replies
+pub mod Response
+pub mod Telling
