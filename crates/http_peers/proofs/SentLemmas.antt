@@ -1,37 +1,130 @@
--- What goes out on a connection that was opened to a target.
-use Rattle.std.proofs.Common.{◌≡◌, ◌∙◌, ℕ, Bool, List, ◌∷◌, Option, Some, None, ap, subst, inr}
-use Rattle.std.specs.Prelude.{IfSome, IsSomeAnd}
+-- What goes out on a connection to a target, and what doesn't.
+use Rattle.std.proofs.Common.{◌≡◌, ◌∙◌, ℕ, Bool, true, false, List, ◌∷◌, Option, Some, None, Result, Ok, Err, refl, sym, ap, subst}
+use Rattle.std.specs.Prelude.{IfSome, MatchBool}
 use Rattle.std.specs.String.{string_bytes}
+use Rattle.edge_limits.specs.declared.limits.Exchange.{Exchange}
 use Rattle.peer_exchange.specs.Exchanges.{SendsFront}
-use Rattle.url.specs.Parts.{Parts}
 use Rattle.http_peers.specs.Gone.{GoneOut}
-use Rattle.http_peers.specs.Sent.{HadGoneOut, Sends, SendsOn}
-use Rattle.http_peers.specs.Targets.{IsTargetOf}
+use Rattle.http_peers.specs.Sent.{IsConnected, IsHad, IsNotHad, IsOpenAt, IsOpenFor, IsOpenTo, IsWhyUnopened}
+use Rattle.http_peers.specs.Sent.{IsWhyUnopenedAt, IsWhyUnsent, Sends, SendsBy, SendsTo, fault_by}
+use Rattle.http_peers.specs.Targets.{Finds}
+use Rattle.http_peers.specs.declared.faults.CallFault.{CallFault}
+use Rattle.http_peers.specs.declared.faults.CallFault.TheVariants as fault
 use Rattle.http_peers.specs.declared.opened.Opened.{Opened}
 use Rattle.http_peers.specs.declared.targets.Target.{Target}
+use Rattle.http_peers.specs.declared.targets.TargetFault.{TargetFault}
+use Rattle.http_peers.specs.declared.targets.TargetFault.TheVariants as none
 
--- what goes out on a connection to a target's address is the request to that target
-pub sends_to : {C : Type 0} (outgoing : C → List ℕ) (was kept : Option (Opened C)) (offered : List ℕ → Option C)
-    (is_asked : Parts → Target → Type 0)
-    (request : List ℕ → List ℕ → List ℕ) (whole : Bool) (old new : List GoneOut) (url : Parts) (target : Target) (sent address : List ℕ)
-    (before : List GoneOut)
-    → is_asked url target → IsTargetOf url target → address ≡ string_bytes target.address → before ≡ old
-    → IsSomeAnd kept (λ o. string_bytes o.address ≡ address)
-    → IfSome kept (λ o. HadGoneOut outgoing was offered address (outgoing o.connection)) → sent ≡ request target.host target.path
-    → SendsOn outgoing sent whole kept before new
-    → Sends (HadGoneOut outgoing was offered) is_asked request whole old new
-sends_to outgoing was None offered is_asked request whole old new url target sent address before asked is_target is_address is_old at had
-    is_sent sends = absurd at
-sends_to outgoing was (Some o) offered is_asked request whole old new url target sent address before asked is_target is_address is_old at
-    had is_sent sends = inr (record {
-      url = url;
-      target = target;
-      before = outgoing o.connection;
-      bytes = sends.0;
-      asked = asked;
-      target_is = is_target;
-      gone = sends.1 ∙ ap (λ a. record { address = a; bytes = sends.0 } ∷ before) (at ∙ is_address)
-          ∙ ap (λ log. record { address = string_bytes target.address; bytes = sends.0 } ∷ log) is_old;
-      had_gone = subst (λ a. HadGoneOut outgoing was offered a (outgoing o.connection)) is_address had;
-      sent = subst (λ r. SendsFront whole r (outgoing o.connection) sends.0) is_sent sends.2;
-    })
+-- a call without an answer has none
+pub unanswered : {P : Type 0} → false ≡ true → P
+unanswered e = absurd (subst (λ b. MatchBool b ⊥ (Unit {0})) e tt)
+
+module _ {C : Type 0} (outgoing left : C → List ℕ) (was : Option (Opened C)) (offered : List ℕ → Option C) where
+  -- where no connection to a target could be opened, nothing goes out to it
+  pub sends_nothing : (request : List ℕ → List ℕ → List ℕ) (limits : Exchange) (hears : List ℕ → Type 0) (target : Target)
+      (address : List ℕ) (why : CallFault) (old new : List GoneOut) → address ≡ string_bytes target.address
+      → IsWhyUnopened was offered address why → new ≡ old
+      → Sends outgoing left was offered (λ t. t ≡ target) request limits hears (Some why) old new
+  sends_nothing request limits hears target address fault.NoTarget old new at unopened same = absurd unopened
+  sends_nothing request limits hears target address fault.Unreached old new at unopened same =
+      ((target, refl, subst (IsNotHad was offered) at unopened), same)
+  sends_nothing request limits hears target address (fault.Lost why) old new at unopened same = absurd unopened
+  sends_nothing request limits hears target address fault.Memory old new at unopened same = (tt, same)
+
+  -- the request that goes out on the connection that was opened to a target goes to this target
+  pub sends_one : (request : List ℕ → List ℕ → List ℕ) (limits : Exchange) (answered : Bool) (hears : List ℕ → Type 0) (target : Target)
+      (address sent bytes : List ℕ) (allowed : ℕ) (now : Option (Opened C)) (opened : Opened C) (old before new : List GoneOut)
+      → address ≡ string_bytes target.address → now ≡ Some opened → IsOpenTo address now → IfSome now (IsConnected was offered)
+      → sent ≡ request target.host target.path → SendsFront answered sent (outgoing opened.connection) bytes
+      → (answered ≡ true → hears (left opened.connection)) → before ≡ old
+      → new ≡ record { address = string_bytes opened.address; bytes = bytes; limits = limits; allowed = allowed } ∷ before
+      → SendsTo outgoing left was offered (λ t. t ≡ target) request limits answered hears old new
+  sends_one request limits answered hears target address sent bytes allowed now opened old before new at is is_open had is_sent front read
+      is_old is_new =
+      let there : string_bytes opened.address ≡ string_bytes target.address = subst (IsOpenTo address) is is_open ∙ at in
+      record {
+        target = target;
+        connection = opened.connection;
+        bytes = bytes;
+        allowed = allowed;
+        leads_to = refl;
+        had = subst (λ a. IsHad was offered a opened.connection) there (subst (λ o. IfSome o (IsConnected was offered)) is had);
+        gone = is_new
+            ∙ ap (λ a. record { address = a; bytes = bytes; limits = limits; allowed = allowed } ∷ before) there
+            ∙ ap (λ log. record { address = string_bytes target.address; bytes = bytes; limits = limits; allowed = allowed } ∷ log) is_old;
+        sent = subst (λ s. SendsFront answered s (outgoing opened.connection) bytes) is_sent front;
+        read = read;
+      }
+
+  -- what goes out to one target goes out to where that one leads
+  sends_where : (leads : Target → Type 0) (request : List ℕ → List ℕ → List ℕ) (limits : Exchange) (answered : Bool)
+      (hears heard : List ℕ → Type 0) (target : Target) (old new : List GoneOut) → leads target
+      → (answered ≡ true → (bytes : List ℕ) → heard bytes → hears bytes)
+      → SendsTo outgoing left was offered (λ t. t ≡ target) request limits answered heard old new
+      → SendsTo outgoing left was offered leads request limits answered hears old new
+  sends_where leads request limits answered hears heard target old new is same sends = record {
+    target = sends.target;
+    connection = sends.connection;
+    bytes = sends.bytes;
+    allowed = sends.allowed;
+    leads_to = subst leads (sym sends.leads_to) is;
+    had = sends.had;
+    gone = sends.gone;
+    sent = sends.sent;
+    read = λ came. same came (left sends.connection) (sends.read came);
+  }
+
+  -- what goes out for a call by what was found of its target
+  pub sends_for : (leads : Target → Type 0) (request : List ℕ → List ℕ → List ℕ) (limits : Exchange) (hears heard : List ℕ → Type 0)
+      (target : Result Target TargetFault) (why : Option CallFault) (old new : List GoneOut) → Finds leads target
+      → (why ≡ None → (bytes : List ℕ) → heard bytes → hears bytes)
+      → SendsBy outgoing left was offered target request limits heard why old new
+      → Sends outgoing left was offered leads request limits hears why old new
+  sends_for leads request limits hears heard (Ok target) None old new found same sends =
+      sends_where leads request limits _ hears heard target old new found (λ _. same refl) sends
+  sends_for leads request limits hears heard (Ok target) (Some fault.NoTarget) old new found same sends = absurd (sends.0 target refl)
+  sends_for leads request limits hears heard (Ok target) (Some fault.Unreached) old new found same sends =
+      ((sends.0.0, subst leads (sym sends.0.1) found, sends.0.2), sends.1)
+  sends_for leads request limits hears heard (Ok target) (Some (fault.Lost why)) old new found same sends =
+      sends_where leads request limits _ hears heard target old new found unanswered sends
+  sends_for leads request limits hears heard (Ok target) (Some fault.Memory) old new found same sends = sends
+  sends_for leads request limits hears heard (Err none.NoTarget) why old new found same sends =
+      subst (λ w. Sends outgoing left was offered leads request limits hears w old new) (sym sends.0) (found, sends.1)
+  sends_for leads request limits hears heard (Err none.Memory) why old new found same sends =
+      subst (λ w. Sends outgoing left was offered leads request limits hears w old new) (sym sends.0) (tt, sends.1)
+
+  -- what goes out to a target that was found
+  pub sends_found : (request : List ℕ → List ℕ → List ℕ) (limits : Exchange) (hears heard : List ℕ → Type 0)
+      (found : Result Target TargetFault) (target : Target) (why was_why : Option CallFault) (old new was_new : List GoneOut)
+      → found ≡ Ok target → hears ≡ heard → why ≡ was_why → new ≡ was_new
+      → Sends outgoing left was offered (λ t. t ≡ target) request limits heard was_why old was_new
+      → SendsBy outgoing left was offered found request limits hears why old new
+  sends_found request limits hears heard found target why was_why old new was_new is is_heard is_why is_new sends =
+      subst (λ f. SendsBy outgoing left was offered f request limits hears why old new) (sym is)
+      (subst (λ h. Sends outgoing left was offered (λ t. t ≡ target) request limits h why old new) (sym is_heard)
+      (subst (λ w. Sends outgoing left was offered (λ t. t ≡ target) request limits heard w old new) (sym is_why)
+      (subst (Sends outgoing left was offered (λ t. t ≡ target) request limits heard was_why old) (sym is_new) sends)))
+
+  -- nothing goes out where none was found
+  pub sends_none : (request : List ℕ → List ℕ → List ℕ) (limits : Exchange) (hears : List ℕ → Type 0) (found : Result Target TargetFault)
+      (fault : TargetFault) (why : Option CallFault) (old new : List GoneOut) → found ≡ Err fault → why ≡ Some (fault_by fault)
+      → new ≡ old → SendsBy outgoing left was offered found request limits hears why old new
+  sends_none request limits hears found fault why old new is is_why same =
+      subst (λ f. SendsBy outgoing left was offered f request limits hears why old new) (sym is) (is_why, same)
+
+  -- why no connection could be opened by what was found of a target
+  pub unopened_for : (leads : Target → Type 0) (target : Result Target TargetFault) (why : Option CallFault) → Finds leads target
+      → IfSome why (IsWhyUnopenedAt was offered target) → IfSome why (IsWhyUnsent was offered leads)
+  unopened_for leads target None found unopened = unopened
+  unopened_for leads (Ok target) (Some fault.NoTarget) found unopened = absurd unopened
+  unopened_for leads (Ok target) (Some fault.Unreached) found unopened = (target, found, unopened)
+  unopened_for leads (Ok target) (Some (fault.Lost why)) found unopened = absurd unopened
+  unopened_for leads (Ok target) (Some fault.Memory) found unopened = tt
+  unopened_for leads (Err none.NoTarget) (Some why) found unopened = subst (IsWhyUnsent was offered leads) (sym unopened) found
+  unopened_for leads (Err none.Memory) (Some why) found unopened = subst (IsWhyUnsent was offered leads) (sym unopened) tt
+
+-- a connection is open to the target that was found
+pub open_for : {C : Type 0} (leads : Target → Type 0) (target : Result Target TargetFault) (now : Option (Opened C)) → Finds leads target
+    → IsOpenAt target now → IsOpenFor leads now
+open_for leads (Ok target) now found is_open = (target, found, is_open)
+open_for leads (Err why) now found is_open = absurd is_open

@@ -1,16 +1,24 @@
--- Which request goes out to a peer over HTTP, and where (own rule).
-use Rattle.std.specs.Prelude.{◌≡◌, ◌⊎◌, ℕ, Bool, true, false, List, ◌∷◌, Option, Some, None, IsSomeAnd}
+-- Which request goes out to a peer over HTTP, and where, and why one doesn't (own rule).
+use Rattle.std.specs.Prelude.{◌≡◌, ◌⊎◌, ℕ, Bool, true, false, List, [], ◌∷◌, ◌++◌, Option, Some, None, IsSomeAnd}
+use Rattle.std.specs.Prelude.{Result, Ok, Err}
 use Rattle.std.specs.String.{string_bytes}
-use Rattle.peer_exchange.specs.Exchanges.{SendsFront}
+use Rattle.edge_limits.specs.declared.limits.Exchange.{Exchange}
+use Rattle.net_calls.specs.Network.{offers_after}
+use Rattle.peer_exchange.specs.Exchanges.{IsLost, SendsFront, WaitsBy}
+use Rattle.http_client.specs.Responses.{AreAnswer, whole}
+use Rattle.site_traits.specs.Answer.{Answer}
 use Rattle.site_traits.specs.declared.courier.PostAnswer.{PostAnswer}
 use Rattle.site_traits.specs.declared.courier.PostAnswer.TheVariants as post
 use Rattle.site_traits.specs.declared.orchestrator.Call.{Call}
 use Rattle.site_traits.specs.declared.orchestrator.Call.TheVariants as call
-use Rattle.url.specs.Parts.{Parts}
 use Rattle.http_peers.specs.Gone.{GoneOut}
-use Rattle.http_peers.specs.Targets.{IsTargetOf}
+use Rattle.http_peers.specs.Peers.{JudgedIs}
+use Rattle.http_peers.specs.declared.faults.CallFault.{CallFault}
+use Rattle.http_peers.specs.declared.faults.CallFault.TheVariants as fault
 use Rattle.http_peers.specs.declared.opened.Opened.{Opened}
 use Rattle.http_peers.specs.declared.targets.Target.{Target}
+use Rattle.http_peers.specs.declared.targets.TargetFault.{TargetFault}
+use Rattle.http_peers.specs.declared.targets.TargetFault.TheVariants as target
 
 -- whether an answer came
 abbrev pub has_come : Call → Bool
@@ -22,36 +30,128 @@ abbrev pub was_posted : PostAnswer → Bool
 was_posted (post.Status status) = true
 was_posted post.Failed = false
 
--- these are the bytes that had gone out on the connection that was open to this address, or on the one that the network
--- offers there next
-abbrev pub HadGoneOut : {C : Type 0} → (C → List ℕ) → Option (Opened C) → (List ℕ → Option C) → List ℕ → List ℕ → Type 0
-HadGoneOut outgoing was offered address bytes =
-    IsSomeAnd was (λ o. (string_bytes o.address ≡ address) × (outgoing o.connection ≡ bytes))
-    ⊎ IsSomeAnd (offered address) (λ c. outgoing c ≡ bytes)
+-- a connection to this address is open
+abbrev pub IsOpenTo : {C : Type 0} → List ℕ → Option (Opened C) → Type 0
+IsOpenTo address opened = IsSomeAnd opened (λ o. string_bytes o.address ≡ address)
 
--- a request goes out on the connection that is open, once, all of it or a front of it; where none is open it doesn't
-abbrev pub SendsOn : {C : Type 0} → (C → List ℕ) → List ℕ → Bool → Option (Opened C) → List GoneOut → List GoneOut
-    → Type 0
-SendsOn outgoing request whole None old new = (whole ≡ false) × (new ≡ old)
-SendsOn outgoing request whole (Some o) old new =
-    (bytes : List ℕ) × (new ≡ record { address = string_bytes o.address; bytes = bytes } ∷ old)
-    × SendsFront whole request (outgoing o.connection) bytes
+-- this is the connection to an address: the one that is open to it, and where none is, the one that the network offers
+-- there next
+abbrev pub IsHad : {C : Type 0} → Option (Opened C) → (List ℕ → Option C) → List ℕ → C → Type 0
+IsHad was offered address connection =
+    IsSomeAnd was (λ o. (string_bytes o.address ≡ address) × (o.connection ≡ connection))
+    ⊎ ((IsOpenTo address was → ⊥) × (offered address ≡ Some connection))
 
--- One request went out, all of it or a front of it, behind these bytes, on one connection to the target of a URL.
-pub record SendsTo (had : List ℕ → List ℕ → Type 0) (is_asked : Parts → Target → Type 0)
-    (request : List ℕ → List ℕ → List ℕ) (whole : Bool)
-    (old new : List GoneOut) : Type 0 where
-  pub url : Parts
+-- there is none: none is open, and the network offers none
+abbrev pub IsNotHad : {C : Type 0} → Option (Opened C) → (List ℕ → Option C) → List ℕ → Type 0
+IsNotHad was offered address = (IsOpenTo address was → ⊥) × (offered address ≡ None)
+
+-- a connection that is open is the one to its address
+abbrev pub IsConnected : {C : Type 0} → Option (Opened C) → (List ℕ → Option C) → Opened C → Type 0
+IsConnected was offered o = IsHad was offered (string_bytes o.address) o.connection
+
+-- the faults for which none is opened: the network gave none, or there was no memory
+abbrev pub IsUnopened : CallFault → Type 0
+IsUnopened why = (why ≡ fault.Unreached) ⊎ (why ≡ fault.Memory)
+
+-- why none could be opened to an address
+abbrev pub IsWhyUnopened : {C : Type 0} → Option (Opened C) → (List ℕ → Option C) → List ℕ → CallFault → Type 0
+IsWhyUnopened was offered address fault.NoTarget = ⊥
+IsWhyUnopened was offered address fault.Unreached = IsNotHad was offered address
+IsWhyUnopened was offered address (fault.Lost why) = ⊥
+IsWhyUnopened was offered address fault.Memory = IsOpenTo address was → ⊥
+
+-- one connection at most is asked of the network, by what it offers at an address
+abbrev pub ConnectsAtMostOnce : {C : Type 0} → List (Option C) → List (Option C) → Type 0
+ConnectsAtMostOnce old new = (new ≡ old) ⊎ (new ≡ offers_after old)
+
+-- Why no request goes out: it leads nowhere, or the network gives no connection to where it leads, or there was no
+-- memory.
+abbrev pub IsWhyUnsent : {C : Type 0} → Option (Opened C) → (List ℕ → Option C) → (Target → Type 0) → CallFault → Type 0
+IsWhyUnsent was offered leads fault.NoTarget = (target : Target) → leads target → ⊥
+IsWhyUnsent was offered leads fault.Unreached =
+    (target : Target) × leads target × IsNotHad was offered (string_bytes target.address)
+IsWhyUnsent was offered leads (fault.Lost why) = ⊥
+IsWhyUnsent was offered leads fault.Memory = Unit {0}
+
+-- a connection is open to where a request leads
+abbrev pub IsOpenFor : {C : Type 0} → (Target → Type 0) → Option (Opened C) → Type 0
+IsOpenFor leads opened = (target : Target) × leads target × IsOpenTo (string_bytes target.address) opened
+
+-- this answer was heard of these bytes, the first that were left to read on a connection: they are a whole one, and
+-- where they are it only at the connection's end, nothing more came
+pub record IsHeardFrom (came : List ℕ) (heard : Answer) (left : List ℕ) : Type 0 where
+  pub ended : Bool
+  pub are : AreAnswer ended came (whole heard)
+  pub more : List ℕ
+  pub first : left ≡ came ++ more
+  pub end : ended ≡ true → more ≡ []
+
+-- One request went out under these limits, all of it or a front of it, on one connection to where it leads. Where all
+-- of it did and an answer came, that was heard from this connection.
+pub record SendsTo {C : Type 0} (outgoing : C → List ℕ) (left : C → List ℕ) (was : Option (Opened C))
+    (offered : List ℕ → Option C) (leads : Target → Type 0) (request : List ℕ → List ℕ → List ℕ) (limits : Exchange)
+    (answered : Bool) (hears : List ℕ → Type 0) (old new : List GoneOut) : Type 0 where
   pub target : Target
-  pub before : List ℕ
+  pub connection : C
   pub bytes : List ℕ
-  pub asked : is_asked url target
-  pub target_is : IsTargetOf url target
-  pub gone : new ≡ record { address = string_bytes target.address; bytes = bytes } ∷ old
-  pub had_gone : had (string_bytes target.address) before
-  pub sent : SendsFront whole (request target.host target.path) before bytes
+  pub allowed : ℕ
+  pub leads_to : leads target
+  pub had : IsHad was offered (string_bytes target.address) connection
+  pub gone : new ≡ record {
+    address = string_bytes target.address;
+    bytes = bytes;
+    limits = limits;
+    allowed = allowed;
+  } ∷ old
+  pub sent : SendsFront answered (request target.host target.path) (outgoing connection) bytes
+  pub read : answered ≡ true → hears (left connection)
 
--- that request went out, or nothing did and the call failed
-abbrev pub Sends : (List ℕ → List ℕ → Type 0) → (Parts → Target → Type 0) → (List ℕ → List ℕ → List ℕ) → Bool
+-- What goes out for a call, by why it has no answer: the request once, all of it where an answer came; a front of it
+-- where the exchange was lost; and nothing for another cause.
+abbrev pub Sends : {C : Type 0} → (C → List ℕ) → (C → List ℕ) → Option (Opened C) → (List ℕ → Option C)
+    → (Target → Type 0) → (List ℕ → List ℕ → List ℕ) → Exchange → (List ℕ → Type 0) → Option CallFault
     → List GoneOut → List GoneOut → Type 0
-Sends had is_asked request whole old new = ((whole ≡ false) × (new ≡ old)) ⊎ SendsTo had is_asked request whole old new
+Sends outgoing left was offered leads request limits hears None old new =
+    SendsTo outgoing left was offered leads request limits true hears old new
+Sends outgoing left was offered leads request limits hears (Some (fault.Lost why)) old new =
+    SendsTo outgoing left was offered leads request limits false hears old new
+Sends outgoing left was offered leads request limits hears (Some why) old new =
+    IsWhyUnsent was offered leads why × (new ≡ old)
+
+-- why there is no answer, as the fault of a call
+abbrev pub fault_by : TargetFault → CallFault
+fault_by target.NoTarget = fault.NoTarget
+fault_by target.Memory = fault.Memory
+
+-- a connection is open to this target
+abbrev pub IsOpenAt : {C : Type 0} → Result Target TargetFault → Option (Opened C) → Type 0
+IsOpenAt (Ok target) opened = IsOpenTo (string_bytes target.address) opened
+IsOpenAt (Err why) opened = ⊥
+
+-- why none could be opened to this target, or to none
+abbrev pub IsWhyUnopenedAt : {C : Type 0} → Option (Opened C) → (List ℕ → Option C) → Result Target TargetFault
+    → CallFault → Type 0
+IsWhyUnopenedAt was offered (Ok target) why = IsWhyUnopened was offered (string_bytes target.address) why
+IsWhyUnopenedAt was offered (Err none) why = why ≡ fault_by none
+
+-- what goes out for a call to this target, or to none
+abbrev pub SendsBy : {C : Type 0} → (C → List ℕ) → (C → List ℕ) → Option (Opened C) → (List ℕ → Option C)
+    → Result Target TargetFault → (List ℕ → List ℕ → List ℕ) → Exchange → (List ℕ → Type 0) → Option CallFault
+    → List GoneOut → List GoneOut → Type 0
+SendsBy outgoing left was offered (Ok target) request limits hears why old new =
+    Sends outgoing left was offered (λ t. t ≡ target) request limits hears why old new
+SendsBy outgoing left was offered (Err none) request limits hears why old new =
+    (why ≡ Some (fault_by none)) × (new ≡ old)
+
+-- the fault of an exchange that was lost says what came
+abbrev pub IsLostBy : Answer → ℕ → List ℕ → CallFault → Type 0
+IsLostBy heard most bytes (fault.Lost why) =
+    IsLost (λ ended came judged. JudgedIs ended came heard judged) most bytes why
+IsLostBy heard most bytes why = Unit {0}
+
+-- the last read of the answer was allowed to wait just as long as was left of the two times, by what the stopwatch
+-- showed at the beginning and before that read
+abbrev pub IsInLimits : Exchange → Option ℕ → Option ℕ → List GoneOut → Type 0
+IsInLimits limits shows shown [] = ⊥
+IsInLimits limits shows shown (gone ∷ before) =
+    (began : ℕ) × (shows ≡ Some began) × WaitsBy limits began shown gone.allowed

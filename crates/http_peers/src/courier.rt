@@ -1,24 +1,21 @@
 //! A courier that posts over HTTP.
-ghost use Rattle.std.specs.Prelude.{◌≡◌, ℕ, [], codes, IfSome, if◌then◌else◌};
-ghost use Rattle.std.specs.Option.{is_some};
+ghost use Rattle.std.specs.Prelude.{◌≡◌, ℕ, [], codes, false, true, IfOk, IfSome, IsTrue, None, if◌then◌else◌};
+ghost use Rattle.std.specs.Option.{is_none};
 ghost use Rattle.http_client.specs.Requests.{request};
 ghost use Rattle.net_calls.specs.Network.{offer_of};
-ghost use Rattle.url.specs.Parts.{Parts};
-ghost use Rattle.site_traits.specs.Answer.{Answer};
 ghost use Rattle.site_traits.specs.Counts.{one_more};
 ghost use Rattle.site_traits.specs.Peers.{Posts, PostCause};
 ghost use Rattle.http_peers.specs.Peers.{counted, IsWholeAnswer};
-ghost use Rattle.http_peers.specs.Sent.{HadGoneOut, Sends, was_posted};
-ghost use Rattle.http_peers.specs.Targets.{IsTargetOf, TellsOf};
+ghost use Rattle.http_peers.specs.Sent.{IsConnected, IsHeardFrom, IsInLimits, IsLostBy, IsOpenFor, IsWhyUnsent};
+ghost use Rattle.http_peers.specs.Sent.{Sends, was_posted};
+ghost use Rattle.http_peers.specs.Targets.{Finds, IsCallbackTarget};
 
-use crate::caller::HttpCaller;
-use crate::counted::count_one;
-use crate::targets::{Target, target_of, url_of};
+use crate::faults::CallFault;
+use crate::peer::HttpPeer;
+use crate::targets::{Target, TargetFault, target_of, url_of};
 use edge_limits::{POST, Pulse};
 use http::Method;
-use http_client::request_bytes;
 use net_calls::{HostNet, Stopwatch};
-use peer_exchange::note_failed;
 use site_traits::{Courier, PostAnswer};
 use std::alloc::{AllocError, Global};
 use std::cell::Cell;
@@ -28,10 +25,7 @@ use vnfm_base::Line;
 #[derive(Drop)]
 pub struct RealCourier<'a, N: HostNet + Drop, T: Stopwatch + Drop> {
     alloc: Global,
-    caller: HttpCaller<N, T>,
-    pulse: &'a Cell<Pulse>,
-    calls: u64,
-    faults: u64,
+    peer: HttpPeer<'a, N, T>,
 }
 
 impl<'a, N: HostNet + Drop, T: Stopwatch + Drop> RealCourier<'a, N, T> {
@@ -41,74 +35,55 @@ impl<'a, N: HostNet + Drop, T: Stopwatch + Drop> RealCourier<'a, N, T> {
         net: N,
         watch: T,
         pulse: &'a Cell<Pulse>,
-    ) -> Result<RealCourier<'a, N, T>, AllocError> {
-        let caller = HttpCaller::new(alloc, net, watch)?;
-        Ok(RealCourier {
-            alloc,
-            caller,
-            pulse,
-            calls: 0,
-            faults: 0,
-        })
+    ) -> Result<RealCourier<'a, N, T>, AllocError>
+        ensures uncalled { IfOk result (λ c. (c.peer.calls ≡ 0) × (c.peer.faults ≡ 0) × (c.peer.fault ≡ None)) }
+        ensures nothing { IfOk result (λ c. (c.peer.caller.opened ≡ None) × (c.peer.caller.log.sent ≡ [])) }
+        ensures over { IfOk result (λ c. (c.peer.caller.net ≡ net) × (c.peer.caller.watch ≡ watch)) }
+    {
+        let peer = HttpPeer::made(alloc, net, watch, pulse)?;
+        Ok(RealCourier { alloc, peer })
     }
 
-    /// Opens a connection to this callback's address where none to it is open. It answers false only where a fault was
-    /// counted.
+    /// Opens a connection to this callback's address where none to it is open. Whether one is open then: where not,
+    /// none is, one fault is counted, and `fault` tells why.
     pub fn connect(&mut self, uri: &Line) -> bool
-        ensures calls { self.new.calls ≡ self.old.calls }
-        ensures faults { self.new.faults ≡ (if result then self.old.faults else one_more self.old.faults) }
+        ensures calls { self.new.peer.calls ≡ self.old.peer.calls }
+        ensures faults { self.new.peer.faults
+            ≡ (if result then self.old.peer.faults else one_more self.old.peer.faults) }
+        ensures fault { result ≡ is_none self.new.peer.fault }
+        ensures opens { IsTrue result → IsOpenFor (IsCallbackTarget uri.now) self.new.peer.caller.opened }
+        ensures none { result ≡ false → self.new.peer.caller.opened ≡ None }
+        ensures had { N.tells → IfSome self.new.peer.caller.opened (IsConnected self.old.peer.caller.opened
+            (λ a. offer_of (N.peers self.old.peer.caller.net a))) }
+        ensures why { N.tells → IfSome self.new.peer.fault (IsWhyUnsent self.old.peer.caller.opened
+            (λ a. offer_of (N.peers self.old.peer.caller.net a)) (IsCallbackTarget uri.now)) }
+        ensures sends_nothing { self.new.peer.caller.log ≡ self.old.peer.caller.log }
     {
-        let open = match target_at(self.alloc, uri) {
-            Some(target) => self.caller.connect(self.alloc, &target.address),
-            None => false,
-        };
-        if !open {
-            count_one(&mut self.faults);
-            note_failed(self.pulse);
-        }
-        open
+        let target = target_at(self.alloc, uri);
+        self.peer.connect(target)
     }
 
     /// How often a call failed.
     pub fn faults(&self) -> u64
-        ensures { result ≡ self.now.faults }
+        ensures { result ≡ self.now.peer.faults }
     {
-        self.faults
+        self.peer.faults
     }
 
-    /// Posts this body, and gives the status of the answer.
-    fn status_of(&mut self, uri: &Line, body: &[u8]) -> Option<u16>
-        ensures counts { (self.new.calls ≡ self.old.calls) × (self.new.faults ≡ self.old.faults) }
-        ensures heard { IfSome result (λ status. (answer : Answer)
-            × IsWholeAnswer self.new.caller.room.bytes.items answer × (answer.status ≡ status)) }
-        ensures sends { N.tells → N.Connection.tells → Sends
-            (HadGoneOut N.Connection.outgoing self.old.caller.opened (λ a. offer_of (N.peers self.old.caller.net a)))
-            (λ url _. TellsOf uri.now url) (λ host path. request (codes "POST") host path body.now)
-            (is_some result) self.old.caller.log.sent self.new.caller.log.sent }
+    /// Why the last call, or the last `connect`, failed; none where it didn't.
+    pub fn fault(&self) -> Option<CallFault>
+        ensures { result ≡ self.now.peer.fault }
     {
-        let Some(target) = target_at(self.alloc, uri) else {
-            return None;
-        };
-        let Ok(bytes) = request_bytes(self.alloc, &Method::POST, &target.host, &target.path, body)
-        else {
-            return None;
-        };
-        if !self.caller.connect(self.alloc, &target.address) {
-            return None;
-        }
-        match self.caller.call(bytes.as_slice(), POST) {
-            Ok(()) => Some(self.caller.reply.heard.status()),
-            Err(_) => None,
-        }
+        self.peer.fault
     }
 }
 
 /// The target of this callback.
-fn target_at(alloc: Global, uri: &Line) -> Option<Target>
-    ensures { IfSome result (λ target. (url : Parts) × TellsOf uri.now url × IsTargetOf url target) }
+fn target_at(alloc: Global, uri: &Line) -> Result<Target, TargetFault>
+    ensures { Finds (IsCallbackTarget uri.now) result }
 {
-    let url = url_of(alloc, uri.as_str()).ok()?;
-    target_of(alloc, &url).ok()
+    let url = url_of(alloc, uri.as_str())?;
+    target_of(alloc, &url)
 }
 
 impl<'a, N: HostNet + Drop, T: Stopwatch + Drop> Courier for RealCourier<'a, N, T> {
@@ -119,27 +94,34 @@ impl<'a, N: HostNet + Drop, T: Stopwatch + Drop> Courier for RealCourier<'a, N, 
 
     ghost state = { λ _. [] };
 
-    ghost counts = { λ c. counted c.calls c.faults };
+    ghost counts = { λ c. counted c.peer.calls c.peer.faults };
 
     fn post(&mut self, uri: &Line, body: &[u8]) -> PostAnswer
         ensures told { ⊥ → Posts uri.now body.now result [] [] }
         ensures heard { (status : ℕ) → result ≡ PostAnswer.Status status
-            → (answer : Answer) × IsWholeAnswer self.new.caller.room.bytes.items answer × (answer.status ≡ status) }
-        ensures sends { N.tells → N.Connection.tells → Sends
-            (HadGoneOut N.Connection.outgoing self.old.caller.opened (λ a. offer_of (N.peers self.old.caller.net a)))
-            (λ url _. TellsOf uri.now url) (λ host path. request (codes "POST") host path body.now)
-            (was_posted result) self.old.caller.log.sent self.new.caller.log.sent }
-        ensures cause { PostCause result (counted self.old.calls self.old.faults)
-            (counted self.new.calls self.new.faults) }
+            → IsWholeAnswer self.new.peer.caller.room.bytes.items self.new.peer.caller.reply.heard
+            × (self.new.peer.caller.reply.heard.status ≡ status) }
+        ensures fault { was_posted result ≡ is_none self.new.peer.fault }
+        ensures sends { N.tells → N.Connection.tells → Sends N.Connection.outgoing
+            (λ c. (N.Connection.incoming c).left)
+            self.old.peer.caller.opened (λ a. offer_of (N.peers self.old.peer.caller.net a))
+            (IsCallbackTarget uri.now) (λ host path. request (codes "POST") host path body.now) POST
+            (IsHeardFrom self.new.peer.caller.room.bytes.items self.new.peer.caller.reply.heard)
+            self.new.peer.fault self.old.peer.caller.log.sent self.new.peer.caller.log.sent }
+        ensures lost { IfSome self.new.peer.fault (IsLostBy self.new.peer.caller.reply.heard
+            self.new.peer.caller.room.most self.new.peer.caller.room.bytes.items) }
+        ensures in_limits { N.Connection.tells → T.tells → was_posted result ≡ true → IsInLimits POST
+            (T.shows self.old.peer.caller.watch) (T.shown self.new.peer.caller.watch)
+            self.new.peer.caller.log.sent }
+        ensures closed { self.new.peer.caller.opened ≡ None }
+        ensures cause { PostCause result (counted self.old.peer.calls self.old.peer.faults)
+            (counted self.new.peer.calls self.new.peer.faults) }
     {
-        count_one(&mut self.calls);
-        match self.status_of(uri, body) {
-            Some(status) => PostAnswer::Status(status),
-            None => {
-                count_one(&mut self.faults);
-                note_failed(self.pulse);
-                PostAnswer::Failed
-            }
+        let target = target_at(self.alloc, uri);
+        if self.peer.request(&Method::POST, target, body, POST) {
+            PostAnswer::Status(self.peer.caller.reply.heard.status())
+        } else {
+            PostAnswer::Failed
         }
     }
 }

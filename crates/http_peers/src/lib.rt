@@ -5,16 +5,20 @@
 mod caller;
 mod counted;
 mod courier;
+mod faults;
 mod opened;
 mod orchestrator;
+mod peer;
 mod replies;
 mod sent_log;
 mod targets;
 
 pub use caller::HttpCaller;
 pub use courier::RealCourier;
+pub use faults::CallFault;
 pub use opened::Opened;
 pub use orchestrator::RealOrchestrator;
+pub use peer::HttpPeer;
 pub use replies::HttpReply;
 pub use sent_log::SentLog;
-pub use targets::{Target, TargetFault};
+pub use targets::{Target, TargetFault, target_of, url_of};

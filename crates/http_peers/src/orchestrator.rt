@@ -1,23 +1,24 @@
 //! An orchestrator that is asked over HTTP.
-ghost use Rattle.std.specs.Prelude.{◌≡◌, [], codes, IfOk, IfSome, IsSomeAnd, IsTrue, None, OnErr, OnOk, Some};
-ghost use Rattle.std.specs.Prelude.{option_copied, if◌then◌else◌};
+ghost use Rattle.std.specs.Prelude.{◌≡◌, [], codes, false, IfOk, IfSome, IsErrOf, IsSomeAnd, IsTrue, None, OnErr};
+ghost use Rattle.std.specs.Option.{is_none};
+ghost use Rattle.std.specs.Prelude.{OnOk, Some, option_copied, if◌then◌else◌};
 ghost use Rattle.http_client.specs.Requests.{request};
 ghost use Rattle.net_calls.specs.Network.{offer_of};
 ghost use Rattle.url.specs.Parts.{Parts};
 ghost use Rattle.site_traits.specs.Counts.{one_more};
 ghost use Rattle.site_traits.specs.Peers.{Asks, Polls, CallCause};
 ghost use Rattle.http_peers.specs.Peers.{counted, silent, IsWholeAnswer};
-ghost use Rattle.http_peers.specs.Sent.{HadGoneOut, Sends, has_come};
-ghost use Rattle.http_peers.specs.Targets.{AreGrantsAt, AreGrantsOf, IsAskedAt, IsLocatedAt, IsTargetOf};
+ghost use Rattle.http_peers.specs.Sent.{IsConnected, IsHeardFrom, IsInLimits, IsLostBy, IsOpenFor, IsWhyUnsent};
+ghost use Rattle.http_peers.specs.Sent.{Sends, has_come};
+ghost use Rattle.http_peers.specs.Targets.{AreGrantsOf, CanBeAskedAt, Finds, IsGrantTarget, IsLocatedTarget};
 
-use crate::caller::HttpCaller;
-use crate::counted::count_one;
-use crate::targets::{Target, TargetFault, target_of, url_of};
+use crate::faults::CallFault;
+use crate::peer::HttpPeer;
+use crate::targets::{Target, TargetFault, refused_by, target_of, url_of};
 use edge_limits::{ORCHESTRATOR, Pulse};
 use http::Method;
-use http_client::request_bytes;
 use net_calls::{HostNet, Stopwatch};
-use peer_exchange::{note_asked, note_failed};
+use peer_exchange::note_asked;
 use site_traits::{Call, Heard, Orchestrator};
 use std::alloc::{AllocError, Global};
 use std::cell::Cell;
@@ -32,11 +33,9 @@ const GRANTS: &str = "/grant/v1/grants";
 #[derive(Drop)]
 pub struct RealOrchestrator<'a, N: HostNet + Drop, T: Stopwatch + Drop> {
     alloc: Global,
-    caller: HttpCaller<N, T>,
+    peer: HttpPeer<'a, N, T>,
     pulse: &'a Cell<Pulse>,
     at: Option<Url>,
-    calls: u64,
-    faults: u64,
 }
 
 impl<'a, N: HostNet + Drop, T: Stopwatch + Drop> RealOrchestrator<'a, N, T> {
@@ -47,26 +46,29 @@ impl<'a, N: HostNet + Drop, T: Stopwatch + Drop> RealOrchestrator<'a, N, T> {
         watch: T,
         pulse: &'a Cell<Pulse>,
     ) -> Result<RealOrchestrator<'a, N, T>, AllocError>
-        ensures { IfOk result (λ o. o.at ≡ None) }
+        ensures nowhere { IfOk result (λ o. o.at ≡ None) }
+        ensures uncalled { IfOk result (λ o. (o.peer.calls ≡ 0) × (o.peer.faults ≡ 0) × (o.peer.fault ≡ None)) }
+        ensures nothing { IfOk result (λ o. (o.peer.caller.opened ≡ None) × (o.peer.caller.log.sent ≡ [])) }
+        ensures over { IfOk result (λ o. (o.peer.caller.net ≡ net) × (o.peer.caller.watch ≡ watch)) }
     {
-        let caller = HttpCaller::new(alloc, net, watch)?;
+        let peer = HttpPeer::made(alloc, net, watch, pulse)?;
         Ok(RealOrchestrator {
             alloc,
-            caller,
+            peer,
             pulse,
             at: None,
-            calls: 0,
-            faults: 0,
         })
     }
 
     /// Asks at this address from now on: a literal address and port, or a URL of the scheme http with one, whose path
     /// is that of the grants. One that is neither leads nowhere.
     ///
-    /// Refusals: `NoTarget` where it leads nowhere; `Memory`.
+    /// Refusals: `NoTarget` exactly where it leads nowhere, but for want of memory; `Memory`. Behind both it has no
+    /// address.
     pub fn to(&mut self, address: &str) -> Result<(), TargetFault>
-        ensures counts { (self.new.calls ≡ self.old.calls) × (self.new.faults ≡ self.old.faults) }
-        ensures to { OnOk result (IsSomeAnd self.new.at (AreGrantsAt address.now)) }
+        ensures peer { self.new.peer ≡ self.old.peer }
+        ensures to { OnOk result (IsSomeAnd self.new.at (CanBeAskedAt address.now)) }
+        ensures no_target { IsErrOf result TargetFault.NoTarget → (url : Parts) → CanBeAskedAt address.now url → ⊥ }
         ensures nowhere { OnErr result (self.new.at ≡ None) }
     {
         match grants_at(self.alloc, address) {
@@ -81,67 +83,44 @@ impl<'a, N: HostNet + Drop, T: Stopwatch + Drop> RealOrchestrator<'a, N, T> {
         }
     }
 
-    /// Opens a connection to the orchestrator where none is open. It answers false only where a fault was counted.
+    /// Opens a connection to the orchestrator where none is open. Whether one to the target of the grants is open then:
+    /// where not, none is, one fault is counted, and `fault` tells why.
     pub fn connect(&mut self) -> bool
-        ensures calls { self.new.calls ≡ self.old.calls }
-        ensures faults { self.new.faults ≡ (if result then self.old.faults else one_more self.old.faults) }
+        ensures calls { self.new.peer.calls ≡ self.old.peer.calls }
+        ensures faults { self.new.peer.faults
+            ≡ (if result then self.old.peer.faults else one_more self.old.peer.faults) }
+        ensures fault { result ≡ is_none self.new.peer.fault }
+        ensures opens { IsTrue result → IsOpenFor (IsGrantTarget self.old.at None) self.new.peer.caller.opened }
+        ensures none { result ≡ false → self.new.peer.caller.opened ≡ None }
+        ensures had { N.tells → IfSome self.new.peer.caller.opened (IsConnected self.old.peer.caller.opened
+            (λ a. offer_of (N.peers self.old.peer.caller.net a))) }
+        ensures why { N.tells → IfSome self.new.peer.fault (IsWhyUnsent self.old.peer.caller.opened
+            (λ a. offer_of (N.peers self.old.peer.caller.net a)) (IsGrantTarget self.old.at None)) }
+        ensures sends_nothing { self.new.peer.caller.log ≡ self.old.peer.caller.log }
+        ensures at { self.new.at ≡ self.old.at }
     {
-        let open = match target_at(self.alloc, &self.at, None) {
-            Some(target) => self.caller.connect(self.alloc, &target.address),
-            None => false,
-        };
-        if !open {
-            count_one(&mut self.faults);
-            note_failed(self.pulse);
-        }
-        open
+        let target = target_at(self.alloc, &self.at, None);
+        self.peer.connect(target)
     }
 
     /// How often a call failed.
     pub fn faults(&self) -> u64
-        ensures { result ≡ self.now.faults }
+        ensures { result ≡ self.now.peer.faults }
     {
-        self.faults
+        self.peer.faults
     }
 
-    /// Makes this request, and hears the answer.
-    fn request(
-        &mut self,
-        method: &Method,
-        location: Option<&Line>,
-        body: &[u8],
-        heard: &mut Heard,
-    ) -> bool
-        ensures counts { (self.new.calls ≡ self.old.calls) × (self.new.faults ≡ self.old.faults) }
-        ensures heard { IsTrue result → IsWholeAnswer self.new.caller.room.bytes.items heard.new }
-        ensures sends { N.tells → N.Connection.tells → Sends
-            (HadGoneOut N.Connection.outgoing self.old.caller.opened (λ a. offer_of (N.peers self.old.caller.net a)))
-            (IsAskedAt self.old.at (option_copied location.entry))
-            (λ host path. request method.now host path body.now) result self.old.caller.log.sent
-            self.new.caller.log.sent }
+    /// Why the last call, or the last `connect`, failed; none where it didn't.
+    pub fn fault(&self) -> Option<CallFault>
+        ensures { result ≡ self.now.peer.fault }
     {
-        let Some(target) = target_at(self.alloc, &self.at, location) else {
-            return false;
-        };
-        let Ok(bytes) = request_bytes(self.alloc, method, &target.host, &target.path, body) else {
-            return false;
-        };
-        if !self.caller.connect(self.alloc, &target.address) {
-            return false;
-        }
-        match self.caller.call(bytes.as_slice(), ORCHESTRATOR) {
-            Ok(()) => {
-                mem::swap(&mut self.caller.reply.heard, heard);
-                true
-            }
-            Err(_) => false,
-        }
+        self.peer.fault
     }
 }
 
-/// The URL of the grants at this address.
+/// The URL of the grants at this address, for which a request can be made.
 fn grants_at(alloc: Global, address: &str) -> Result<Url, TargetFault>
-    ensures { IfOk result (AreGrantsAt address.now) }
+    ensures { Finds (CanBeAskedAt address.now) result }
 {
     let grants = grants_of(url_of(alloc, address)?)?;
     target_of(alloc, &grants)?;
@@ -150,12 +129,12 @@ fn grants_at(alloc: Global, address: &str) -> Result<Url, TargetFault>
 
 /// The URL of the grants, by that of an address.
 fn grants_of(told: Url) -> Result<Url, TargetFault>
-    ensures { IfOk result (AreGrantsOf told) }
+    ensures { Finds (AreGrantsOf told) result }
 {
     if told.path() == "/" && told.query().is_none() {
         match told.join(GRANTS) {
             Ok(grants) => Ok(grants),
-            Err(_) => Err(TargetFault::Memory),
+            Err(refusal) => Err(refused_by(refusal)),
         }
     } else {
         Ok(told)
@@ -163,35 +142,50 @@ fn grants_of(told: Url) -> Result<Url, TargetFault>
 }
 
 /// The target of a request to the orchestrator: that of the grants, or of this location.
-fn target_at(alloc: Global, at: &Option<Url>, location: Option<&Line>) -> Option<Target>
-    ensures { IfSome result (λ target. (url : Parts) × IsAskedAt at.now (option_copied location.entry) url target
-        × IsTargetOf url target) }
+fn target_at(
+    alloc: Global,
+    at: &Option<Url>,
+    location: Option<&Line>,
+) -> Result<Target, TargetFault>
+    ensures { Finds (IsGrantTarget at.now (option_copied location.entry)) result }
 {
-    let grants = at.as_ref()?;
+    let Some(grants) = at else {
+        return Err(TargetFault::NoTarget);
+    };
     match location {
         Some(location) => target_beside(alloc, grants, location),
-        None => target_of(alloc, grants).ok(),
+        None => target_of(alloc, grants),
     }
 }
 
 /// The target of this location beside the grants, which has to be at the same address.
-fn target_beside(alloc: Global, grants: &Url, location: &Line) -> Option<Target>
-    ensures { IfSome result (λ target. (url : Parts) × IsLocatedAt grants.now location.now url target
-        × IsTargetOf url target) }
+fn target_beside(alloc: Global, grants: &Url, location: &Line) -> Result<Target, TargetFault>
+    ensures { Finds (IsLocatedTarget grants.now location.now) result }
 {
-    let Ok(of_grants) = target_of(alloc, grants) else {
-        return None;
+    let of_grants = target_of(alloc, grants)?;
+    let url = match grants.join(location.as_str()) {
+        Ok(url) => url,
+        Err(refusal) => return Err(refused_by(refusal)),
     };
-    let Ok(url) = grants.join(location.as_str()) else {
-        return None;
-    };
-    let Ok(target) = target_of(alloc, &url) else {
-        return None;
-    };
+    let target = target_of(alloc, &url)?;
     if target.address.as_str() == of_grants.address.as_str() {
-        Some(target)
+        Ok(target)
     } else {
-        None
+        Err(TargetFault::NoTarget)
+    }
+}
+
+/// What a call comes to, whose answer is this reply where one came: it is heard.
+fn answer(came: bool, reply: &mut Heard, heard: &mut Heard) -> Call
+    ensures call { has_come result ≡ came }
+    ensures came { IsTrue came → heard.new ≡ reply.old }
+    ensures failed { came ≡ false → (heard.new ≡ heard.old) × (reply.new ≡ reply.old) }
+{
+    if came {
+        mem::swap(reply, heard);
+        Call::Came
+    } else {
+        Call::Failed
     }
 }
 
@@ -202,44 +196,60 @@ impl<'a, N: HostNet + Drop, T: Stopwatch + Drop> Orchestrator for RealOrchestrat
 
     ghost state = { λ _. silent };
 
-    ghost counts = { λ o. counted o.calls o.faults };
+    ghost counts = { λ o. counted o.peer.calls o.peer.faults };
 
     fn ask(&mut self, body: &[u8], heard: &mut Heard) -> Call
         ensures told { ⊥ → Asks body.now heard.new result silent silent }
-        ensures heard { result ≡ Call.Came → IsWholeAnswer self.new.caller.room.bytes.items heard.new }
-        ensures sends { N.tells → N.Connection.tells → Sends
-            (HadGoneOut N.Connection.outgoing self.old.caller.opened (λ a. offer_of (N.peers self.old.caller.net a)))
-            (IsAskedAt self.old.at None) (λ host path. request (codes "POST") host path body.now)
-            (has_come result) self.old.caller.log.sent self.new.caller.log.sent }
-        ensures cause { CallCause result (counted self.old.calls self.old.faults)
-            (counted self.new.calls self.new.faults) }
+        ensures heard { result ≡ Call.Came
+            → IsWholeAnswer self.new.peer.caller.room.bytes.items heard.new }
+        ensures kept { result ≡ Call.Failed → heard.new ≡ heard.old }
+        ensures fault { has_come result ≡ is_none self.new.peer.fault }
+        ensures sends { N.tells → N.Connection.tells → Sends N.Connection.outgoing
+            (λ c. (N.Connection.incoming c).left)
+            self.old.peer.caller.opened (λ a. offer_of (N.peers self.old.peer.caller.net a))
+            (IsGrantTarget self.old.at None) (λ host path. request (codes "POST") host path body.now)
+            ORCHESTRATOR (IsHeardFrom self.new.peer.caller.room.bytes.items heard.new) self.new.peer.fault
+            self.old.peer.caller.log.sent self.new.peer.caller.log.sent }
+        ensures lost { IfSome self.new.peer.fault (IsLostBy self.new.peer.caller.reply.heard
+            self.new.peer.caller.room.most self.new.peer.caller.room.bytes.items) }
+        ensures in_limits { N.Connection.tells → T.tells → result ≡ Call.Came → IsInLimits ORCHESTRATOR
+            (T.shows self.old.peer.caller.watch) (T.shown self.new.peer.caller.watch)
+            self.new.peer.caller.log.sent }
+        ensures closed { self.new.peer.caller.opened ≡ None }
+        ensures at { self.new.at ≡ self.old.at }
+        ensures cause { CallCause result (counted self.old.peer.calls self.old.peer.faults)
+            (counted self.new.peer.calls self.new.peer.faults) }
     {
-        count_one(&mut self.calls);
-        if self.request(&Method::POST, None, body, heard) {
-            return Call::Came;
-        }
-        count_one(&mut self.faults);
-        note_failed(self.pulse);
-        Call::Failed
+        let target = target_at(self.alloc, &self.at, None);
+        let came = self.peer.request(&Method::POST, target, body, ORCHESTRATOR);
+        answer(came, &mut self.peer.caller.reply.heard, heard)
     }
 
     fn poll(&mut self, location: &Line, heard: &mut Heard) -> Call
         ensures told { ⊥ → Polls location.now heard.new result silent silent }
-        ensures heard { result ≡ Call.Came → IsWholeAnswer self.new.caller.room.bytes.items heard.new }
-        ensures sends { N.tells → N.Connection.tells → Sends
-            (HadGoneOut N.Connection.outgoing self.old.caller.opened (λ a. offer_of (N.peers self.old.caller.net a)))
-            (IsAskedAt self.old.at (Some location.now)) (λ host path. request (codes "GET") host path [])
-            (has_come result) self.old.caller.log.sent self.new.caller.log.sent }
-        ensures cause { CallCause result (counted self.old.calls self.old.faults)
-            (counted self.new.calls self.new.faults) }
+        ensures heard { result ≡ Call.Came
+            → IsWholeAnswer self.new.peer.caller.room.bytes.items heard.new }
+        ensures kept { result ≡ Call.Failed → heard.new ≡ heard.old }
+        ensures fault { has_come result ≡ is_none self.new.peer.fault }
+        ensures sends { N.tells → N.Connection.tells → Sends N.Connection.outgoing
+            (λ c. (N.Connection.incoming c).left)
+            self.old.peer.caller.opened (λ a. offer_of (N.peers self.old.peer.caller.net a))
+            (IsGrantTarget self.old.at (Some location.now)) (λ host path. request (codes "GET") host path [])
+            ORCHESTRATOR (IsHeardFrom self.new.peer.caller.room.bytes.items heard.new) self.new.peer.fault
+            self.old.peer.caller.log.sent self.new.peer.caller.log.sent }
+        ensures lost { IfSome self.new.peer.fault (IsLostBy self.new.peer.caller.reply.heard
+            self.new.peer.caller.room.most self.new.peer.caller.room.bytes.items) }
+        ensures in_limits { N.Connection.tells → T.tells → result ≡ Call.Came → IsInLimits ORCHESTRATOR
+            (T.shows self.old.peer.caller.watch) (T.shown self.new.peer.caller.watch)
+            self.new.peer.caller.log.sent }
+        ensures closed { self.new.peer.caller.opened ≡ None }
+        ensures at { self.new.at ≡ self.old.at }
+        ensures cause { CallCause result (counted self.old.peer.calls self.old.peer.faults)
+            (counted self.new.peer.calls self.new.peer.faults) }
     {
-        count_one(&mut self.calls);
         note_asked(self.pulse);
-        if self.request(&Method::GET, Some(location), &[], heard) {
-            return Call::Came;
-        }
-        count_one(&mut self.faults);
-        note_failed(self.pulse);
-        Call::Failed
+        let target = target_at(self.alloc, &self.at, Some(location));
+        let came = self.peer.request(&Method::GET, target, &[], ORCHESTRATOR);
+        answer(came, &mut self.peer.caller.reply.heard, heard)
     }
 }

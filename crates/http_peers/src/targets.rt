@@ -1,10 +1,11 @@
 //! Where a request goes, by a text from outside.
-ghost use Rattle.std.specs.Prelude.{◌≡◌, IfOk, None, Ok};
-ghost use Rattle.url.specs.Parser.{parse_url};
-ghost use Rattle.http_peers.specs.Targets.{IsTargetOf, TellsOf, path_of};
+ghost use Rattle.std.specs.Prelude.{◌≡◌, ◌↔◌, None, Ok};
+ghost use Rattle.vnfm_base.specs.Text.{IsLine};
+ghost use Rattle.url.specs.Parser.{parse_url, IsOutOfRoom};
+ghost use Rattle.http_peers.specs.Targets.{Finds, IsTargetOf, TellsOf, path_of};
 
 use std::alloc::Global;
-use url::Url;
+use url::{ParseError, Url};
 use vnfm_base::{Line, LineFault, Name};
 
 /// Where a request goes.
@@ -21,17 +22,19 @@ pub struct Target {
 /// Why a text tells of no target.
 #[derive(Clone, Copy, PartialEq, Eq, Debug, Drop)]
 pub enum TargetFault {
-    /// It is no URL of the scheme http with a host, or a part of it is too long.
+    /// It is no URL of the scheme http with a host, or a part of it is too long or has a control character.
     NoTarget,
     /// There was no memory.
     Memory,
 }
 
-/// The URL of this text, which may lack its scheme.
+/// The URL of this text; one in which `://` doesn't stand lacks `http://`.
+///
+/// Refusals: `NoTarget` where it is none; `Memory`, which may come before that is known.
 pub fn url_of(alloc: Global, text: &str) -> Result<Url, TargetFault>
-    ensures { IfOk result (TellsOf text.now) }
+    ensures { Finds (TellsOf text.now) result }
 {
-    if text.starts_with("http://") {
+    if text.contains("://") {
         return parsed(alloc, text);
     }
     match format!(in alloc; "http://{text}") {
@@ -42,18 +45,30 @@ pub fn url_of(alloc: Global, text: &str) -> Result<Url, TargetFault>
 
 /// The URL that is this text.
 fn parsed(alloc: Global, text: &str) -> Result<Url, TargetFault>
-    ensures { IfOk result (λ url. parse_url None text.now ≡ Ok url) }
+    ensures { Finds (λ url. parse_url None text.now ≡ Ok url) result }
 {
     match Url::parse(alloc, text) {
         Ok(url) => Ok(url),
-        Err(url::ParseError::OutOfMemory) => Err(TargetFault::Memory),
-        Err(_) => Err(TargetFault::NoTarget),
+        Err(refusal) => Err(refused_by(refusal)),
+    }
+}
+
+/// Why there is no URL, by the refusal of its parser: one of 4 GB is one for which there is no memory.
+pub fn refused_by(refusal: ParseError) -> TargetFault
+    ensures { (result ≡ TargetFault.Memory) ↔ IsOutOfRoom refusal }
+{
+    match refusal {
+        ParseError::OutOfMemory | ParseError::Overflow => TargetFault::Memory,
+        _ => TargetFault::NoTarget,
     }
 }
 
 /// The target of this URL.
+///
+/// Refusals: `NoTarget` where it has none, since it isn't of the scheme http, has no host, or its host or its path are
+/// too long or have a control character; `Memory`, which may come before that is known.
 pub fn target_of(alloc: Global, url: &Url) -> Result<Target, TargetFault>
-    ensures { IfOk result (IsTargetOf url.now) }
+    ensures { Finds (IsTargetOf url.now) result }
 {
     let Some(host) = url.host_str() else {
         return Err(TargetFault::NoTarget);
@@ -81,7 +96,7 @@ pub fn target_of(alloc: Global, url: &Url) -> Result<Target, TargetFault>
 
 /// The path and query of this URL.
 fn path_of(alloc: Global, url: &Url) -> Result<Line, TargetFault>
-    ensures { IfOk result (λ path. path ≡ path_of url.now) }
+    ensures { Finds (λ path. (path ≡ path_of url.now) × IsLine path) result }
 {
     let found = match url.query() {
         Some(query) => match format!(in alloc; "{}?{query}", url.path()) {

@@ -4,6 +4,7 @@
 
 mod net;
 mod peers;
+mod targets;
 mod texts;
 
 use anyhow::Result;
@@ -12,8 +13,11 @@ fn main(rt: HostRuntime) -> Result<()> {
     texts::read_texts(&rt)?;
     texts::exchange_texts(&rt)?;
     texts::exchange_limits(&rt)?;
+    targets::lead_texts(&rt)?;
     peers::ask_orchestrators(&rt)?;
+    peers::connect_orchestrators(&rt)?;
     peers::post_notices(&rt)?;
+    peers::connect_couriers(&rt)?;
     peers::call_infrastructures(&rt)?;
     peers::lose_infrastructures(&rt)
 }

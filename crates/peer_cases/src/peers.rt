@@ -2,7 +2,7 @@
 use crate::net::{CaseNet, connection};
 use anyhow::{Result, bail};
 use edge_limits::Pulse;
-use http_peers::{RealCourier, RealOrchestrator};
+use http_peers::{CallFault, RealCourier, RealOrchestrator};
 use lcm_events::{Act, DefKind, Names, Tag, Verb, Way};
 use net_calls::StepWatch;
 use outside_edges::{Jobs, RealSite};
@@ -35,7 +35,14 @@ fn net_of<'a>(alloc: Global, texts: &[&[&str]], had: &'a Cell<u32>) -> Result<Ca
 }
 
 /// What a call of an orchestrator gave.
-fn told(rt: &impl Print, name: &str, call: Call, heard: &Heard, faults: u64) -> Result<()> {
+fn told(
+    rt: &impl Print,
+    name: &str,
+    call: Call,
+    heard: &Heard,
+    faults: u64,
+    fault: Option<CallFault>,
+) -> Result<()> {
     match call {
         Call::Came => {
             let location = match heard.location() {
@@ -48,7 +55,7 @@ fn told(rt: &impl Print, name: &str, call: Call, heard: &Heard, faults: u64) -> 
                 str::from_utf8(heard.body())?
             )?;
         }
-        Call::Failed => println!(rt; "{name}: failed, {faults} faults")?,
+        Call::Failed => println!(rt; "{name}: failed, {fault:?}, {faults} faults")?,
     }
     Ok(())
 }
@@ -64,7 +71,8 @@ fn ask<'a>(
     heard: &mut Heard,
 ) -> Result<()> {
     let call = orchestrator.ask(b"{}", heard);
-    told(rt, name, call, heard, orchestrator.faults())
+    let faults = orchestrator.faults();
+    told(rt, name, call, heard, faults, orchestrator.fault())
 }
 
 /// Polls a grant.
@@ -78,7 +86,8 @@ fn poll<'a>(
         bail!("no line");
     };
     let call = orchestrator.poll(&location, heard);
-    told(rt, name, call, heard, orchestrator.faults())
+    let faults = orchestrator.faults();
+    told(rt, name, call, heard, faults, orchestrator.fault())
 }
 
 /// Asks and polls orchestrators.
@@ -113,6 +122,52 @@ pub fn ask_orchestrators(rt: &(impl Print + AllocGlobal)) -> Result<()> {
     Ok(())
 }
 
+/// Connects to an orchestrator, and prints what came of it.
+fn connect<'a>(
+    rt: &impl Print,
+    name: &str,
+    orchestrator: &mut Asked<'a>,
+    had: &Cell<u32>,
+) -> Result<()> {
+    let connected = orchestrator.connect();
+    println!(rt;
+        "{name}: connected {connected}, {:?}, {} faults, had {}",
+        orchestrator.fault(),
+        orchestrator.faults(),
+        had.get()
+    )?;
+    Ok(())
+}
+
+/// Connects to orchestrators: a connection is had once for each address, and again behind a call.
+pub fn connect_orchestrators(rt: &(impl Print + AllocGlobal)) -> Result<()> {
+    let alloc = rt.alloc();
+    let had = Cell::new(0);
+    let pulse = Cell::new(NOTHING);
+    let texts: [&[&str]; 3] = [
+        &["HTTP/1.1 204 No Content\r\n\r\n"],
+        &["HTTP/1.1 204 No Content\r\n\r\n"],
+        &[],
+    ];
+    let net = net_of(alloc, &texts, &had)?;
+    let mut orchestrator = RealOrchestrator::made(alloc, net, StepWatch::of(0, 1), &pulse)?;
+    let mut heard = Heard::new(alloc)?;
+    connect(rt, "no address", &mut orchestrator, &had)?;
+    println!(rt; "to: {:?}", orchestrator.to("127.0.0.1:9000"))?;
+    connect(rt, "one", &mut orchestrator, &had)?;
+    connect(rt, "the same", &mut orchestrator, &had)?;
+    println!(rt; "to: {:?}", orchestrator.to("http://127.0.0.1:9002/grants"))?;
+    connect(rt, "another", &mut orchestrator, &had)?;
+    ask(rt, "ask", &mut orchestrator, &mut heard)?;
+    connect(rt, "behind it", &mut orchestrator, &had)?;
+    ask(rt, "ask", &mut orchestrator, &mut heard)?;
+    connect(rt, "none is left", &mut orchestrator, &had)?;
+    println!(rt; "to: {:?}", orchestrator.to("ftp://127.0.0.1:9000"))?;
+    connect(rt, "nowhere", &mut orchestrator, &had)?;
+    println!(rt; "failed {}", pulse.get().failed)?;
+    Ok(())
+}
+
 /// A courier over memory.
 type Carrier<'a> = RealCourier<'a, CaseNet<'a>, StepWatch>;
 
@@ -126,7 +181,11 @@ fn post<'a>(rt: &(impl Print + AllocGlobal), courier: &mut Carrier<'a>, uri: &st
             "post to {uri}: {status}, {} faults",
             courier.faults()
         )?,
-        PostAnswer::Failed => println!(rt; "post to {uri}: failed, {} faults", courier.faults())?,
+        PostAnswer::Failed => println!(rt;
+            "post to {uri}: failed, {:?}, {} faults",
+            courier.fault(),
+            courier.faults()
+        )?,
     }
     Ok(())
 }
@@ -148,6 +207,42 @@ pub fn post_notices(rt: &(impl Print + AllocGlobal)) -> Result<()> {
     post(rt, &mut courier, "http://127.0.0.1:9900/n")?;
     println!(rt; "had {}, failed {}", had.get(), pulse.get().failed)?;
     Ok(())
+}
+
+/// Connects to this callback, and prints what came of it.
+fn connect_to<'a>(
+    rt: &(impl Print + AllocGlobal),
+    courier: &mut Carrier<'a>,
+    uri: &str,
+    had: &Cell<u32>,
+) -> Result<()> {
+    let Ok(line) = Line::of(rt.alloc(), uri.as_bytes()) else {
+        bail!("no line");
+    };
+    let connected = courier.connect(&line);
+    println!(rt;
+        "{uri}: connected {connected}, {:?}, {} faults, had {}",
+        courier.fault(),
+        courier.faults(),
+        had.get()
+    )?;
+    Ok(())
+}
+
+/// Connects to callbacks: those at one address have one connection.
+pub fn connect_couriers(rt: &(impl Print + AllocGlobal)) -> Result<()> {
+    let alloc = rt.alloc();
+    let had = Cell::new(0);
+    let pulse = Cell::new(NOTHING);
+    let texts: [&[&str]; 2] = [&["HTTP/1.1 204 No Content\r\n\r\n"], &[]];
+    let net = net_of(alloc, &texts, &had)?;
+    let mut courier = RealCourier::made(alloc, net, StepWatch::of(0, 1), &pulse)?;
+    connect_to(rt, &mut courier, "http://127.0.0.1:9900/n", &had)?;
+    connect_to(rt, &mut courier, "http://127.0.0.1:9900/m", &had)?;
+    connect_to(rt, &mut courier, "http://127.0.0.1:9901/n", &had)?;
+    post(rt, &mut courier, "http://127.0.0.1:9901/n")?;
+    connect_to(rt, &mut courier, "https://127.0.0.1:9901/n", &had)?;
+    connect_to(rt, &mut courier, "http://127.0.0.1:9901/n", &had)
 }
 
 /// The name of this text.
