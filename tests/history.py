@@ -4,7 +4,7 @@
 and others that are written out by hand.
 
 Instances of one descriptor live side by side: each is created, asked for operations of all six kinds, and maybe deleted. Subscriptions of both
-roles come and go, and their notices are posted; one attempt of an occurrence may be open at once. An entry is a byte, 1 where the event happens, 0
+roles come and go, and their notices are posted; four attempts of an occurrence may be open at once. An entry is a byte, 1 where the event happens, 0
 where it doesn't; the length of its spelling in four bytes, the high one first; and the spelling. The history is the same each time: its numbers are
 drawn from one seed.
 """
@@ -14,7 +14,7 @@ import struct
 import uuid
 
 EVENTS = 600
-SEED = 291
+SEED = 752
 FIRST_MOMENT = 1_700_000_000_000
 
 u8 = lambda n: struct.pack(">B", n)
@@ -40,6 +40,7 @@ DELIVERED, NOT_TAKEN = range(2)
 MANAGER = 7
 VALUES = 64
 POSTS = 5
+WINDOW = 4
 OPERATIONS = {"instantiate": 1, "scale": 2, "level": 3, "aspects": 3, "heal": 4, "operate": 5, "terminate": 6}
 
 # The descriptor: an edge router of two machines, one aspect and two levels.
@@ -294,10 +295,15 @@ class Occurrence:
         through = 1 if way == FORWARD else 0
         return self.nets[number] == 1 - through and all(self.nets[n] == through for n in before)
 
-    def may_begin(self, t):
+    def is_busy(self, number):
+        """Whether an attempt at this change is open."""
+        return any(t.change == number for t in self.open)
+
+    def may_begin(self, t, width=WINDOW):
         return (
-            self.state == (PROCESSING if t.way == FORWARD else ROLLING_BACK) and not self.trouble and self.cancel is None and not self.open
-            and t.change < len(self.changes) and t.attempt == self.attempts[t.change] + 1 and self.is_turn(t.change, t.way))
+            self.state == (PROCESSING if t.way == FORWARD else ROLLING_BACK) and not self.trouble and self.cancel is None
+            and len(self.open) < width and t.change < len(self.changes) and not self.is_busy(t.change)
+            and t.attempt == self.attempts[t.change] + 1 and self.is_turn(t.change, t.way))
 
     def may_move(self, to):
         rests = not self.open and not self.trouble and self.cancel is None
@@ -458,7 +464,7 @@ class History:
         occurrence = self.occurrence(t.occ if isinstance(t, Tag) else t)
         return {
             "tried": lambda: (kind, fields[1], occurrence.tries == 4),
-            "intent": lambda: (kind, t.way),
+            "intent": lambda: (kind, t.way, len(occurrence.open)),
             "settled": lambda: (kind, fields[1][0], occurrence.open[t]),
             "moved": lambda: (kind, occurrence.state, fields[1]),
             "cancel": lambda: (kind, fields[1], occurrence.state),
@@ -476,6 +482,12 @@ class History:
             self.put(0, kind, fields)
             self.wrong += 1
             self.seen["wrong " + kind] += 1
+            self.seen["fifth", kind == "intent" and self.is_a_fifth(fields[0])] += 1
+
+    def is_a_fifth(self, t):
+        """Whether it is the window alone that lets this attempt not begin."""
+        occurrence = self.occurrence(t.occ)
+        return occurrence is not None and not occurrence.may_begin(t) and occurrence.may_begin(t, WINDOW + 1)
 
     def happen(self, kind, *fields):
         """An event happens, which is allowed."""
@@ -667,12 +679,11 @@ class History:
             yield {FAILED: 15, ROLLING_BACK: 60}.get(to, 80), "moved", number, to
         for mode in (GRACEFUL, FORCEFUL):
             yield 0.5, "cancel", number, mode
-        for change in range(len(o.changes)):
-            for way in (FORWARD, UNDO):
-                yield 25, "intent", Tag(number, change, o.attempts[change] + 1, way)
+        for t in self.next_attempts(number):
+            yield 25, "intent", t
         for t in o.open:
             yield 5, "call failed", t
-            yield 60, "settled", t, self.drawn_outcome()
+            yield 30, "settled", t, self.drawn_outcome()
 
     def wrong_about(self, number):
         """Events about an occurrence that are often not allowed."""
@@ -695,6 +706,10 @@ class History:
             ("call failed", draw.choice([t, *o.open])),
             ("settled", t, self.drawn_outcome()),
         ]
+
+    def next_attempts(self, number):
+        """The next attempt at each change of an occurrence, in either way."""
+        return [Tag(number, change, made + 1, way) for change, made in enumerate(self.occurrence(number).attempts) for way in (FORWARD, UNDO)]
 
     def drawn_filter(self):
         """What a subscription asks to be told."""
@@ -768,6 +783,9 @@ class History:
         going = [n for n, o in enumerate(self.occurrences, 1) if o.state not in FINAL]
         if len(going) < 2 or draw.random() < 0.05:
             return self.ask()
+        fifths = [t for n in going for t in self.next_attempts(n) if self.is_a_fifth(t)]
+        if fifths:
+            self.refuse("intent", draw.choice(fifths))
         events = [e for e in self.events_about(draw.choice(going)) if self.is_allowed(*e[1:])]
         weights = [e[0] if self.seen[self.feature(*e[1:])] else 10 * e[0] for e in events]
         self.happen(*draw.choices(events, weights)[0][1:])
@@ -783,7 +801,8 @@ WANTED = (
     + [("posted", how, last) for how in (DELIVERED, NOT_TAKEN) for last in (False, True)]
     + [("subscribed", role) for role in range(2)]
     + [("notice", which, heard) for which in (OCCURRENCE, CREATION, DELETION) for heard in (False, True)]
-    + [("tried", 0, False), ("tried", 1, False), ("tried", 1, True), ("tried", 2, False), ("intent", FORWARD), ("intent", UNDO)]
+    + [("tried", 0, False), ("tried", 1, False), ("tried", 1, True), ("tried", 2, False), ("fifth", True)]
+    + [("intent", way, count) for way in (FORWARD, UNDO) for count in range(WINDOW)]
     + [("ask", "instantiate", False), ("ask", "instantiate", True), ("ask", "scale", 0), ("ask", "scale", 1), ("ask", "level", True),
         ("ask", "aspects", True), ("ask", "heal", False), ("ask", "heal", True), ("ask", "operate", True), ("ask", "operate", False),
         ("ask", "terminate", GRACEFUL), ("ask", "terminate", FORCEFUL)]

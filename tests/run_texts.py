@@ -95,6 +95,7 @@ MOVED_2 = {state: let("TO_%s_2" % state, moved(state, 2)) for state in ("PROCESS
 NO_VDU = 65_535
 PLAN = [(0, 0, NO_VDU, 0), (0, 1, NO_VDU, 0), (1, 0, 0, 1), (1, 0, 0, 2), (1, 1, 1, 1), (2, 0, 0, 1), (2, 0, 0, 2), (2, 0, 1, 1)]
 PLAN += [(3, 0, 0, 1), (3, 1, 0, 1), (3, 0, 0, 2), (3, 1, 0, 2), (3, 2, 1, 1)]
+PHASES = [it[0] for it in PLAN]
 
 
 def change(kind, template, vdu, serial):
@@ -275,28 +276,145 @@ def held(count):
 
 # ---- Steps of occurrence 1, as crates/case_lives/src/steps.rt reads them
 
-def each_step(steps):
-    """The steps, each by itself: those of an attempt as their way, change, end and job."""
-    for step in steps:
-        if step[0] == "made":
-            yield from ["asked", "granted", "PROCESSING"]
-            yield from each_step([["make", 0, step[1], 1, 1]])
-        elif step[0] in ("make", "unmake"):
-            way, first, last, _, job = step
-            order = range(first, last) if way == "make" else reversed(range(first, last))
-            yield from (("forward" if way == "make" else "undo", it, "done", job + n) for n, it in enumerate(order))
-        elif isinstance(step, list):
-            yield step[0], step[1], *step[3:]
+def forward(change, attempt, *at):
+    return ["forward", change, attempt, *at]
+
+
+def undo(change, attempt, *at):
+    return ["undo", change, attempt, *at]
+
+
+def in_order(way, first, last):
+    """The changes from this one to before that one, in the order in which they are attempted: the last is undone first."""
+    return range(first, last) if way == "forward" else reversed(range(first, last))
+
+
+def intents(first, last, attempt=1, way="forward"):
+    """The changes from this one to before that one are each attempted."""
+    return [[way, it, attempt, "intent"] for it in in_order(way, first, last)]
+
+
+def ends(first, last, job, attempt=1, way="forward"):
+    """They are each done, by this job and those behind it."""
+    return [[way, it, attempt, "done", job + n] for n, it in enumerate(in_order(way, first, last))]
+
+
+# The instantiation of the edge router to its end, step by step: changes of one phase are attempted as long as fewer than four attempts are open, and
+# else the attempt that began first is looked at. A phase begins once all before it is done.
+WHOLE = ["asked", "granted", "PROCESSING"]
+WHOLE += [*intents(0, 2), *ends(0, 2, 1), *intents(2, 5), *ends(2, 5, 3), *intents(5, 8), *ends(5, 8, 6)]
+WHOLE += [*intents(8, 12), *ends(8, 9, 9), *intents(12, 13), *ends(9, 13, 10), "COMPLETED"]
+
+
+def intents_back(first, last):
+    return intents(first, last, 2, "undo")
+
+
+def ends_back(first, last, job):
+    return ends(first, last, job, 2, "undo")
+
+
+# All of it undone: the fifth of the ports is begun once the first is removed.
+WHOLE_BACK = ["ROLLING_BACK", *intents_back(9, 13), *ends_back(12, 13, 14), *intents_back(8, 9), *ends_back(8, 12, 15)]
+WHOLE_BACK += [*intents_back(5, 8), *ends_back(5, 8, 19), *intents_back(2, 5), *ends_back(2, 5, 22), *intents_back(0, 2), *ends_back(0, 2, 25)]
+WHOLE_BACK += ["ROLLED_BACK"]
+
+
+def made(count):
+    """The operation with so many changes made, each phase of them to its end, and none begun of the next."""
+    assert count in (0, 2, 5, 8, 13)
+    return WHOLE[: 3 + 2 * count]
+
+
+def worked(way, attempts, job, lost=None, phases=PHASES):
+    """These changes, each with the number of its attempt, are made or undone, by this job and those behind it; nothing is open before and behind. The
+    first attempt at the change that is lost has no job, which a look tells, and the change is attempted once more."""
+    attempts, steps, open_, left = dict(attempts), [], [], list(attempts if way == "forward" else reversed(attempts))
+    while left or open_:
+        if left and len(open_) < 4 and all(phases[it] == phases[left[0]] for it, _ in open_):
+            change = left.pop(0)
+            open_.append((change, job if change != lost else None))
+            steps.append([way, change, attempts[change], "intent"])
+            job += change != lost
+        else:
+            change, by = open_.pop(0)
+            steps.append([way, change, attempts[change], *(["done", by] if by else ["not begun"])])
+            if by is None:
+                lost = None
+                attempts[change] += 1
+                left.insert(0, change)
+    return steps
+
+
+def make(first, last, attempt, job):
+    """The changes from this one to before that one are made, each at that attempt, by this job and those behind it."""
+    return worked("forward", dict.fromkeys(range(first, last), attempt), job)
+
+
+def unmake(first, last, attempt, job):
+    """The same changes are undone, the last of them first."""
+    return worked("undo", dict.fromkeys(range(first, last), attempt), job)
+
+
+assert make(0, 13, 1, 1) == WHOLE[3:-1] and unmake(0, 13, 2, 14) == WHOLE_BACK[1:-1]
+
+
+def step_behind(step):
+    """The step that goes on with this one within several that are spelled in one: of the next change in its way, the next job's where it is done."""
+    way, change, attempt, at, *job = step
+    return [way, change + (1 if way == "forward" else -1), attempt, at, *[it + 1 for it in job]]
+
+
+def row_of(all_steps, width):
+    """How many of these steps, in groups of so many, go on with those of the first group."""
+    count = width
+    while all_steps[count : count + width] == [step_behind(it) for it in all_steps[count - width : count]]:
+        count += width
+    return count
+
+
+def spelled(all_steps):
+    """The steps as they are stored: of several that go on with each other, intents, ends that are done, or ends and intents in turn, each row in one."""
+    spelled_, rest = [], list(all_steps)
+    while rest:
+        front = [it[3] if isinstance(it, list) else it for it in rest[:2]]
+        of, width = rest[0], 2 if front == ["done", "intent"] and rest[0][0] == rest[1][0] and rest[0][2] == rest[1][2] else 1
+        count = 1 if front[0] not in ("done", "intent") else row_of(rest, width)
+        if count == width == 2:
+            count = width = 1
+        if count == 1:
+            spelled_.append(of)
+        else:
+            changes = [it[1] for it in rest[:count:width]]
+            ahead = [abs(rest[1][1] - rest[0][1])] if width == 2 else []
+            word = {1: "intents" if front[0] == "intent" else "done", 2: "in turn"}[width]
+            spelled_.append([word, of[0], min(changes), max(changes) + 1, of[2], *of[4:], *ahead])
+        rest = rest[count:]
+    return spelled_
+
+
+def each_step(all_steps):
+    """The steps, each by itself."""
+    for step in all_steps:
+        if step[0] == "intents":
+            yield from intents(*step[2:5], step[1])
+        elif step[0] == "done":
+            _, way, first, last, attempt, job = step
+            yield from ends(first, last, job, attempt, way)
+        elif step[0] == "in turn":
+            _, way, first, last, attempt, job, ahead = step
+            for end in ends(first, last, job, attempt, way):
+                yield from (end, [way, end[1] + (ahead if way == "forward" else -ahead), attempt, "intent"])
         else:
             yield step
 
 
-def jobs_by(steps):
+def jobs_by(all_steps):
     """For each change the job on whose resource it stands, or 0."""
     jobs = [0] * CHANGES
-    for step in each_step(steps):
-        if isinstance(step, tuple) and step[2] == "done":
-            jobs[step[1]] = step[3] if step[0] == "forward" else 0
+    for step in all_steps:
+        if isinstance(step, list) and step[3] == "done":
+            jobs[step[1]] = step[4] if step[0] == "forward" else 0
     return jobs
 
 
@@ -323,7 +441,7 @@ def in_pieces_of(view):
 def face(state, steps, detail="", mode=None):
     """That occurrence 1, of which these are the steps, is shown so; each view has a name."""
     error = (detail, 500) if detail else None
-    granted = "granted" in list(each_step(steps))
+    granted = "granted" in steps
     view = occurrence_view(state, error, mode, granted, changed(jobs_by(steps)))
     if compact(view) not in FACES:
         front = showing_front(len(compact(view)))
@@ -339,24 +457,6 @@ idle = ["instance", IDLE]
 
 def instantiated(count):
     return ["instance", HOLDINGS[count]]
-
-
-def forward(change, attempt, *at):
-    return ["forward", change, attempt, *at]
-
-
-def undo(change, attempt, *at):
-    return ["undo", change, attempt, *at]
-
-
-def make(first, last, attempt, job):
-    """The changes from this one to before that one are made, each at that attempt, by this job and those behind it."""
-    return [["make", first, last, attempt, job]] if first < last else []
-
-
-def unmake(first, last, attempt, job):
-    """The same changes are undone, the last of them first."""
-    return [["unmake", first, last, attempt, job]] if first < last else []
 
 
 # ---- Acts
@@ -395,8 +495,14 @@ def talk(count, *pairs):
     return rounds(count, [it[0] for it in pairs], [it[1] for it in pairs])
 
 
-def steps(*spelled):
-    return ["steps", *spelled]
+def steps(*all_steps):
+    return ["steps", *spelled(all_steps)]
+
+
+def life(before, all_steps, *lost):
+    """What was done since the site was made or renewed is a whole life of these steps, behind those before; and where an attempt of it had no job when it
+    was stopped, all steps of it are these instead, attempt by attempt."""
+    return ["life", *map(spelled, [before, all_steps]), *([list(map(spelled, lost))] if lost else [])]
 
 
 def turns(expected):

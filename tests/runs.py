@@ -3,7 +3,9 @@
 
 usage, from the top of the repository:
     tests/runs.py              writes crates/lcm_cases/stdin
-    tests/runs.py --check      tells how what is stored differs from what is written here, and ends with 1 where it does
+    tests/runs.py --check      tells how what is stored differs from what is written here, and which runs the model of working.py doesn't come to, at some
+                               moments of long lives; ends with 1 where there is something to tell
+    tests/runs.py --play       tells the same of the model, at each moment of each life, in half a minute
     tests/runs.py TITLE        prints the run of this title alone, behind the texts and the runs that it needs; ends with 1 where there is none
     tests/runs.py --titles     prints each title behind the name of its module
 
@@ -17,12 +19,13 @@ import re
 import sys
 
 sys.dont_write_bytecode = True
+import played
 import run_parts
 
 # The modules in the order in which they are played. A run may take what an earlier one kept.
 ORDER = (
     *["run_texts", "runs_commands", "runs_sessions", "runs_routes", "runs_instantiations", "runs_descriptors", "runs_tasks", "runs_forward"],
-    *["runs_rollbacks", "runs_cancels", "runs_stops", "runs_command_line", "runs_turns", "runs_histories", "runs_journals", "runs_plans"],
+    *["runs_rollbacks", "runs_cancels", "runs_stops", "runs_windows", "runs_command_line", "runs_turns", "runs_histories", "runs_journals", "runs_plans"],
     *["runs_grants", "runs_words", "runs_edges", "runs_framing", "runs_wrong"],
 )
 TOP = pathlib.Path(__file__).resolve().parent.parent
@@ -170,11 +173,18 @@ def table_faults():
     yield from ("tests/README.md: the row of %s doesn't name its call %s" % it for it in main_calls() if it[0] in rows and "`%s`" % it[1] not in rows[it[0]][0])
 
 
+def tell(faults):
+    """Prints these, and ends with 1 where there are some."""
+    print("".join(it + "\n" for it in faults), end="")
+    sys.exit(1 if faults else 0)
+
+
 def main(words):
     if words == ["--check"]:
-        faults = [*differences(), *table_faults()]
-        print("".join(it + "\n" for it in faults), end="")
-        sys.exit(1 if faults else 0)
+        tell([*differences(), *table_faults(), *played.faults(is_patient=False)])
+    if words == ["--play"]:
+        modules()
+        tell([*played.faults(is_patient=True)])
     if words == ["--titles"]:
         print("".join("%s: %s\n" % (module.title, it[0]) for module in modules() for it in module.runs), end="")
     elif words:

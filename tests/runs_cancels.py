@@ -1,7 +1,7 @@
 """The runs that cancel an instantiation in each state and mode, at each moment."""
 from run_texts import *
 from runs_forward import SITE, blind_site, refused_steps
-from runs_rollbacks import comes_to
+from runs_rollbacks import FIRST_TIME, comes_to
 
 begin(__name__)
 
@@ -41,6 +41,7 @@ for number, (grants, acts, recorded, shown) in enumerate(
 INTENT, DONE, ABORTED, BROKEN_7 = forward(0, 1, "intent"), forward(0, 1, "done", 1), forward(0, 1, "aborted"), forward(0, 1, "broken", 7)
 CALL_FAILED, NOT_BEGUN = forward(0, 1, "call failed"), forward(0, 1, "not begun")
 ABORTED_FACE, CANCELLED_FACE, FAILED_FACE = "change 0: aborted", "cancelled", "change 0: call failed"
+LINKS_MADE = [*intents(0, 2), *ends(0, 2, 1)]
 # What comes of the begins, the lives, the steps behind the move to PROCESSING, the begins, looks and aborts, and the state, detail and mode that are
 # shown.
 IN_PROCESSING_CANCELS = [
@@ -61,9 +62,15 @@ IN_PROCESSING_CANCELS = [
     ([SLOW], [asks(3), task(1, CANCEL)], [INTENT, "graceful"], (1, 1, 0), ("PROCESSING", CANCELLED_FACE, "GRACEFUL")),
     ([SLOW], [asks(3), task(9, CANCEL)], [INTENT, "graceful", DONE, "FAILED_TEMP"], (1, 2, 0), ("FAILED_TEMP", CANCELLED_FACE)),
     ([BREAKING], [asks(3), task(9, CANCEL)], [INTENT, "graceful", BROKEN_7, "FAILED_TEMP"], (1, 1, 0), ("FAILED_TEMP", "change 0: broken 7")),
-    # No attempt is open.
-    ([], [asks(4), task(9, CANCEL)], [INTENT, DONE, "graceful", "FAILED_TEMP"], (1, 1, 0), ("FAILED_TEMP", CANCELLED_FACE)),
-    ([], [asks(4), task(9, ABORT)], [INTENT, DONE, "forceful", "FAILED_TEMP"], (1, 1, 0), ("FAILED_TEMP", CANCELLED_FACE)),
+    # No attempt is open: both changes of the first phase are made.
+    ([], [asks(6), task(9, CANCEL)], [*LINKS_MADE, "graceful", "FAILED_TEMP"], (2, 2, 0), ("FAILED_TEMP", CANCELLED_FACE)),
+    ([], [asks(6), task(9, ABORT)], [*LINKS_MADE, "forceful", "FAILED_TEMP"], (2, 2, 0), ("FAILED_TEMP", CANCELLED_FACE)),
+    # Two are: both are left to end, or aborted, the second once more before it is looked at.
+    ([], [asks(4), task(9, CANCEL)], [*intents(0, 2), "graceful", *ends(0, 2, 1), "FAILED_TEMP"], (2, 2, 0), ("FAILED_TEMP", CANCELLED_FACE)),
+    (
+        *[[], [asks(4), task(9, ABORT)], [*intents(0, 2), "forceful", ABORTED, forward(1, 1, "aborted"), "FAILED_TEMP"], (2, 2, 3)],
+        ("FAILED_TEMP", "change 1: aborted"),
+    ),
     ([], [asks(2), task(9, ABORT)], ["forceful", "FAILED_TEMP"], (0, 0, 0), ("FAILED_TEMP", CANCELLED_FACE)),
     # The begin failed, so that only a look tells whether there is a job.
     (
@@ -101,8 +108,8 @@ IN_PROCESSING_CANCELS = [
     ),
     # An occurrence whose work has stopped has nothing to cancel.
     (
-        *[[], [asks(4), task(1, CANCEL), talk(1, (CANCEL, IS["FAILED_TEMP"]), (ABORT, IS["FAILED_TEMP"]))]],
-        *[[INTENT, DONE, "graceful", "FAILED_TEMP"], (1, 1, 0), ("FAILED_TEMP", CANCELLED_FACE)],
+        *[[], [asks(6), task(1, CANCEL), talk(1, (CANCEL, IS["FAILED_TEMP"]), (ABORT, IS["FAILED_TEMP"]))]],
+        *[[*LINKS_MADE, "graceful", "FAILED_TEMP"], (2, 2, 0), ("FAILED_TEMP", CANCELLED_FACE)],
     ),
     # A retry leaves the cancel behind.
     (
@@ -112,7 +119,7 @@ IN_PROCESSING_CANCELS = [
     ),
 ]
 for number, (plans, acts, recorded, calls, shown) in enumerate(IN_PROCESSING_CANCELS, 1):
-    whole = [["made", 0], *recorded]
+    whole = [*made(0), *recorded]
     run(
         "a cancel while the first change is made, %d" % number,
         *[work(0, *plans), SITE, *acts, ["grants", 1], steps(*whole), ["calls", *calls], face(shown[0], whole, *shown[1:])],
@@ -138,7 +145,11 @@ IN_ROLLING_BACK_CANCELS = [
         *[[BREAKING], [task(1, ROLLBACK), task(9, CANCEL)], [UNDO, "graceful", undo(4, 2, "broken", 7), "FAILED_TEMP"], (7, 6, 0)],
         ("FAILED_TEMP", "change 4: broken 7"),
     ),
-    ([], [task(2, ROLLBACK), task(9, CANCEL)], [UNDO, UNDONE, "graceful", "FAILED_TEMP"], (7, 6, 0), ("FAILED_TEMP", CANCELLED_FACE)),
+    # (no attempt is open: the storages are removed)
+    (
+        *[[], [task(6, ROLLBACK), task(9, CANCEL)], [*intents_back(2, 5), *ends_back(2, 5, 6), "graceful", "FAILED_TEMP"], (9, 8, 0)],
+        ("FAILED_TEMP", CANCELLED_FACE),
+    ),
     (
         *[[SLOW], [task(1, ROLLBACK), talk(9, (CANCEL, TAKEN_UP), (ABORT, TAKEN_UP))]],
         *[[UNDO, "graceful", "forceful", UNDO_ABORTED, "FAILED_TEMP"], (7, 6, 1), ("FAILED_TEMP", UNDO_ABORTED_FACE)],
@@ -160,14 +171,14 @@ AGAIN = ["FAILED_TEMP", "PROCESSING"]
 for title, job, acts, recorded, jobs in [
     (
         *["its job did its work in spite of the cancel", FIRM, [*ON_TIME, task(25, RETRY)]],
-        *[[["made", 0], INTENT, "forceful", DONE, *AGAIN, *make(1, 13, 1, 2)], 13],
+        *[[*made(0), INTENT, "forceful", DONE, *AGAIN, *make(1, 13, 1, 2)], 13],
     ),
     (
         *["its job was aborted", SLOW, [*ON_TIME, task(27, RETRY)]],
-        *[[["made", 0], INTENT, "forceful", ABORTED, *AGAIN, *make(0, 1, 2, 2), *make(1, 13, 1, 3)], 14],
+        *[[*made(0), INTENT, "forceful", ABORTED, *AGAIN, *worked("forward", {0: 2, **dict.fromkeys(range(1, 13), 1)}, 2)], 14],
     ),
-    ("the cancel came before its first change", TAKEN, [*EARLY, task(27, RETRY)], [["made", 0], "graceful", *AGAIN, *make(0, 13, 1, 1)], 13),
-    ("the cancel came behind its last change", TAKEN, [asks(28), task(1, CANCEL), task(1, RETRY)], [["made", 13], "graceful", *AGAIN], 13),
+    ("the cancel came before its first change", TAKEN, [*EARLY, task(27, RETRY)], [*made(0), "graceful", *AGAIN, *make(0, 13, 1, 1)], 13),
+    ("the cancel came behind its last change", TAKEN, [asks(28), task(1, CANCEL), task(1, RETRY)], [*made(13), "graceful", *AGAIN], 13),
 ]:
     whole = [*recorded, "COMPLETED"]
     comes_to("a cancelled operation is completed by a retry: %s" % title, work(0, job), acts, whole, (jobs, 13), ("COMPLETED", ""))
@@ -177,7 +188,7 @@ for title, plans, acts, recorded, jobs, detail in [
     ("the cancel came before its first change", [], [*EARLY, task(1, ROLLBACK)], ["graceful"], 0, CANCELLED_FACE),
 ]:
     undone = unmake(0, 1, 2, 2) if jobs == 2 else []
-    whole = [["made", 0], *recorded, "FAILED_TEMP", "ROLLING_BACK", *undone, "ROLLED_BACK"]
+    whole = [*made(0), *recorded, "FAILED_TEMP", "ROLLING_BACK", *undone, "ROLLED_BACK"]
     comes_to("a cancelled operation is rolled back: %s" % title, work(0, *plans), acts, whole, (jobs, 0), ("ROLLED_BACK", detail))
 ALL_UNDONE = [*refused_steps(5), "ROLLING_BACK", *unmake(0, 5, 2, 6), "graceful", "FAILED_TEMP"]
 LATE = [asks(14), task(10, ROLLBACK), task(1, CANCEL)]
@@ -188,7 +199,7 @@ comes_to(
 comes_to(
     "a cancel behind the last undo leaves the way forward open",
     *[work(5, REFUSED), [*LATE, task(27, RETRY)]],
-    [*ALL_UNDONE, "PROCESSING", *make(0, 5, 3, 11), *make(5, 6, 2, 16), *make(6, 13, 1, 17), "COMPLETED"],
+    [*ALL_UNDONE, "PROCESSING", *make(0, 5, 3, 11), *worked("forward", {5: 2, **FIRST_TIME}, 16), "COMPLETED"],
     *[(23, 13), ("COMPLETED", "")],
 )
 # A call that fails, from 1 over aborts and looks, what comes of the begin, the rounds of the cancel, the calls that came through, and the end.
@@ -198,7 +209,7 @@ for call, job, count, calls, end in [
     run(
         "an abort or a look that fails is made up for by the next look: call %d of a job that is %s" % (call, " ".join(map(str, job))),
         *[work(0, job), *blind_site(call), asks(3), task(count, ABORT), ["grants", 1]],
-        *[steps(["made", 0], INTENT, "forceful", end, "FAILED_TEMP"), ["calls", *calls], ["faults", 0, 1, call - 1, 0]],
+        *[steps(*made(0), INTENT, "forceful", end, "FAILED_TEMP"), ["calls", *calls], ["faults", 0, 1, call - 1, 0]],
     )
 
 # ---- The calls on jobs, by their tags and what came of them

@@ -306,9 +306,10 @@ def attempts_moves_and_cancels():
     )
     story.happen("intent", tag(0, 1))
     moves(story)
-    story.judge_each(True, ("call failed", tag(0, 1)), *[settled(tag(0, 1), *end) for end in ENDS])
+    # (the other change of the phase may be attempted meanwhile, none of a higher one)
+    story.judge_each(True, ("call failed", tag(0, 1)), *[settled(tag(0, 1), *end) for end in ENDS], ("intent", tag(1, 1)))
     story.judge_each(
-        False, ("intent", tag(0, 1)), ("intent", tag(0, 2)), ("intent", tag(1, 1)), ("call failed", tag(0, 2)), settled(tag(0, 2), DONE, "r1"),
+        False, ("intent", tag(0, 1)), ("intent", tag(0, 2)), ("intent", tag(2, 1)), ("call failed", tag(0, 2)), settled(tag(0, 2), DONE, "r1"),
         settled(tag(1, 1), DONE, "r1"), settled(tag(0, 1, UNDO), DONE, "r1"), settled(tag(0, 1, FORWARD, 2), DONE, "r1"),
     )
     story.happen("call failed", tag(0, 1))
@@ -362,6 +363,78 @@ def attempts_moves_and_cancels():
     moves(story)
     story.judge_each(False, ("cancel", 1, GRACEFUL), ("intent", tag(0, 5)), ("intent", tag(0, 5, UNDO)))
     story.judge(True, "deleted", 1)
+    return story
+
+
+def four_attempts():
+    """Four attempts of an occurrence are open, in each order of their ends: a fifth may not begin, nor a move be made, whatever the others come to."""
+    story = Operations()
+    story.begin(BEGIN)
+    for first, last in (0, 2), (2, 5), (5, 8):
+        # (all changes of a phase at once, and none of the next)
+        story.happen_each(*[("intent", tag(it, 1)) for it in range(first, last)])
+        story.judge(False, "intent", tag(last, 1))
+        for it in reversed(range(first, last)):
+            story.judge(False, "intent", tag(last, 1))
+            story.happen(*settled(tag(it, 1), DONE, "r%d" % it))
+    for it in 10, 8, 11:
+        story.happen("intent", tag(it, 1))
+    story.judge_each(True, ("intent", tag(9, 1)), ("intent", tag(12, 1)))
+    story.happen("intent", tag(12, 1))
+    story.judge_each(False, ("intent", tag(9, 1)), ("intent", tag(8, 1)), ("intent", tag(8, 2)), ("intent", tag(10, 2)))
+    moves(story)
+    story.happen_each(("call failed", tag(8, 1)))
+    story.judge(False, "intent", tag(9, 1))
+    story.happen(*settled(tag(11, 1), DONE, "r11"))
+    story.judge(True, "intent", tag(9, 1))
+    story.happen("intent", tag(9, 1))
+    story.judge_each(False, ("intent", tag(11, 2)), ("call failed", tag(11, 1)), settled(tag(11, 1), DONE, "r11"))
+    story.judge_each(True, *[settled(tag(it, 1), *end) for it in (8, 9, 10, 12) for end in ENDS])
+    # (the third in order is broken: none may begin, each other may end, and only then the work stops)
+    story.happen(*settled(tag(10, 1), BROKEN, 9))
+    for it, end in (12, (DONE, "r12")), (8, (NOT_BEGUN,)), (9, (ABORTED,)):
+        moves(story)
+        story.judge_each(False, ("intent", tag(10, 2)), ("intent", tag(11, 2)))
+        story.happen(*settled(tag(it, 1), *end))
+    moves(story, FAILED_TEMP)
+    story.happen_each(("moved", 1, FAILED_TEMP), ("moved", 1, PROCESSING))
+    for it in 8, 9, 10:
+        story.happen("intent", tag(it, 2))
+    story.judge_each(False, ("intent", tag(11, 2)), ("intent", tag(12, 2)), ("intent", tag(8, 3)))
+    # (behind a cancel too they may end, and none begins)
+    story.happen("cancel", 1, FORCEFUL)
+    story.happen_each(*[settled(tag(it, 2), *end) for it, end in ((9, (DONE, "r9")), (8, (ABORTED,)))])
+    story.judge_each(False, ("intent", tag(8, 3)), ("intent", tag(11, 2)))
+    moves(story)
+    story.happen(*settled(tag(10, 2), DONE, "r10"))
+    moves(story, FAILED_TEMP)
+    story.happen_each(("moved", 1, FAILED_TEMP), ("moved", 1, ROLLING_BACK))
+    # (8 isn't made, and four others are: they are undone at once, and no machine before all of them)
+    for it in 9, 12, 11, 10:
+        attempt = 3 if it in (9, 10) else 2
+        story.judge_each(True, ("intent", tag(it, attempt, UNDO)))
+        story.judge_each(False, ("intent", tag(8, 3, UNDO)), ("intent", tag(7, 2, UNDO)))
+        story.happen("intent", tag(it, attempt, UNDO))
+    for it in 12, 9, 10, 11:
+        story.judge(False, "intent", tag(7, 2, UNDO))
+        story.happen(*settled(tag(it, 3 if it in (9, 10) else 2, UNDO), DONE, ""))
+    story.judge_each(True, *[("intent", tag(it, 2, UNDO)) for it in (5, 6, 7)])
+    story.judge_each(False, ("intent", tag(4, 2, UNDO)), ("intent", tag(12, 3, UNDO)))
+    return story
+
+
+def fifth_on_the_way_back():
+    """Five ports stand: four of them are undone at once, and the fifth once one is removed."""
+    story = Operations()
+    story.begin(BEGIN)
+    story.make()
+    story.happen_each(("cancel", 1, GRACEFUL), ("moved", 1, FAILED_TEMP), ("moved", 1, ROLLING_BACK))
+    story.happen_each(*[("intent", tag(it, 2, UNDO)) for it in (12, 11, 10, 9)])
+    story.judge_each(False, ("intent", tag(8, 2, UNDO)), ("intent", tag(7, 2, UNDO)))
+    moves(story)
+    story.happen(*settled(tag(10, 2, UNDO), DONE, ""))
+    story.judge(True, "intent", tag(8, 2, UNDO))
+    story.judge(False, "intent", tag(7, 2, UNDO))
     return story
 
 
@@ -712,6 +785,7 @@ def write():
         stories("in STARTING, behind %s, these may follow: %s" % (happened or "nothing", may or "none"), in_starting(happened, may))
     stories("a grant is judged by its places", grants_with_places())
     stories("attempts, moves and cancels are judged by what came before them", attempts_moves_and_cancels())
+    stories("four attempts of an occurrence may be open, and a fifth may not", four_attempts(), fifth_on_the_way_back())
     stories("an instance follows the ends of its operations", ends_of_operations())
     stories("an instance has the levels that its operations aimed at", levels_of_operations())
     stories("an instance keeps its greatest serials", greatest_serials())

@@ -9,6 +9,7 @@ import json
 import cases
 from cases import aspect, heal, instantiate, latin, level, operate, port, scale, scale_aspects, scale_to, storage, terminate, u8, u16, u32, vdu
 from run_parts import HEADER, begin, does, in_record, let, run
+from run_texts import worked
 
 begin(__name__)
 
@@ -434,11 +435,20 @@ run(
 
 # ---- Work: what the jobs of an operation do, of which each turn records an event
 
+def attempted(number, changes, way, attempt, count):
+    """The events of attempts at the first so many changes, in the order in which the manager makes them, where each job is done at the first look."""
+    events = []
+    for _, place, _, at, *job in worked(way, {it: attempt for it in range(count)}, 1, phases=[it[0] for it in changes]):
+        tag = cases.tag(number, place, attempt, way)
+        events.append(cases.done(tag, "r%d" % job[0]) if job else cases.intent(tag))
+    return events
+
+
 def plays(story, ask, changes, *acts):
     """Turns over an operation that is asked for behind this history lead to its end, and its jobs do this."""
-    begun = story.asks(ask, changes)
-    done = Story([], 0, story.operations + 1).works(changes, spelled="r%d")
-    events = [granted_first(story.operations + 1, len(changes)), *done.parts[1:]]
+    number, begun = story.operations + 1, story.asks(ask, changes)
+    events = [cases.moved(number, "PROCESSING"), *attempted(number, changes, "forward", 1, len(changes)), cases.moved(number, "COMPLETED")]
+    events = [granted_first(number, len(changes)), *map(in_record, events)]
     turns = [["times", 2 * len(changes) + 3, ["turn", 1, 0, 0]], ["turn", 0, 0, 0]]
     return [["site", begun.journal()], *turns, *acts, ["file", begun.journal(*events)]]
 
@@ -491,11 +501,7 @@ def undone(story, ask, changes, made, *acts):
         tag = cases.tag(number, place, 1)
         stopped += [cases.intent(tag), cases.done(tag, "m%d" % place)]
     stopped = begun.behind(*stopped, *ended(number, made, len(changes), "ROLLING_BACK"))
-    events = []
-    for job, place in enumerate(reversed(range(made)), 1):
-        tag = cases.tag(number, place, 2, "undo")
-        events += [cases.intent(tag), cases.done(tag, "r%d" % job)]
-    events = map(in_record, [*events, cases.moved(number, "ROLLED_BACK")])
+    events = map(in_record, [*attempted(number, changes, "undo", 2, made), cases.moved(number, "ROLLED_BACK")])
     turns = [["times", 2 * made + 1, ["turn", 1, 0, 0]], ["turn", 0, 0, 0]]
     return [["site", stopped.journal()], *turns, *acts, ["file", stopped.journal(*events)]]
 

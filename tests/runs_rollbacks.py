@@ -1,6 +1,6 @@
 """The runs that retry and roll back the edge router's instantiation, from each change."""
 from run_texts import *
-from runs_forward import SECOND_COMPLETED, SITE, refused_steps
+from runs_forward import SECOND_COMPLETED, SITE, refused_steps, rounds_refused
 
 begin(__name__)
 
@@ -9,7 +9,7 @@ begin(__name__)
 
 def refused_at(n):
     """A site on which the operation is in FAILED_TEMP, since the begin for this change was refused."""
-    return [work(n, REFUSED), SITE, asks(2 * n + 4)]
+    return [work(n, REFUSED), SITE, asks(rounds_refused(n))]
 
 
 def rolled_back(n):
@@ -31,10 +31,8 @@ for n in range(CHANGES):
         *[talk(3, *refusals, (INSTANTIATE, INSTANTIATED), (DELETE, INSTANTIATED)), steps(*given_up), ["jobs", n, n]],
         *[failed_face, instantiated(n)],
     )
-BACK = ["ROLLING_BACK"]
-for n in reversed(range(5)):
-    BACK += [undo(n, 2, "intent"), undo(n, 2, "done", 10 - n)]
-BACK += ["ROLLED_BACK"]
+# The storages first, and only then the links.
+BACK = ["ROLLING_BACK", *intents_back(2, 5), *ends_back(2, 5, 6), *intents_back(0, 2), *ends_back(0, 2, 9), "ROLLED_BACK"]
 for count in range(1, 14):
     some = [*refused_steps(5), *BACK[: count + 1]]
     state = "ROLLING_BACK" if count < 11 else "ROLLED_BACK"
@@ -60,6 +58,8 @@ def undone_until(end, mode):
 
 
 WORK = work(5, REFUSED, SLOW)
+# The changes that weren't attempted before the one that was refused.
+FIRST_TIME = dict.fromkeys(range(6, 13), 1)
 LET_END, STOPPED_UNDO = undone_until(["done", 6], "graceful"), undone_until(["aborted"], "forceful")
 TO_CANCEL, TO_ABORT = [asks(14), task(1, ROLLBACK), task(3, CANCEL)], [asks(14), task(1, ROLLBACK), task(2, ABORT)]
 comes_to(
@@ -70,18 +70,18 @@ comes_to(
 comes_to(
     "a rollback whose first undo was aborted by a cancel is taken up again",
     *[WORK, [*TO_ABORT, task(11, ROLLBACK)]],
-    [*STOPPED_UNDO, "ROLLING_BACK", undo(4, 3, "intent"), undo(4, 3, "done", 7), *unmake(0, 4, 2, 8), "ROLLED_BACK"],
+    [*STOPPED_UNDO, "ROLLING_BACK", *worked("undo", {0: 2, 1: 2, 2: 2, 3: 2, 4: 3}, 7), "ROLLED_BACK"],
     *[(11, 0), ("ROLLED_BACK", "change 4: aborted")],
 )
 comes_to(
     "a rollback whose first undo was let end by a cancel is turned back by a retry",
     *[WORK, [*TO_CANCEL, task(19, RETRY)]],
-    [*LET_END, "PROCESSING", *make(4, 5, 3, 7), *make(5, 6, 2, 8), *make(6, 13, 1, 9), "COMPLETED"],
+    [*LET_END, "PROCESSING", *worked("forward", {4: 3, 5: 2, **FIRST_TIME}, 7), "COMPLETED"],
     *[(15, 13), ("COMPLETED", "")],
 )
 comes_to(
     "a rollback whose first undo was aborted by a cancel is turned back by a retry",
-    *[WORK, [*TO_ABORT, task(17, RETRY)], [*STOPPED_UNDO, "PROCESSING", *make(5, 6, 2, 7), *make(6, 13, 1, 8), "COMPLETED"]],
+    *[WORK, [*TO_ABORT, task(17, RETRY)], [*STOPPED_UNDO, "PROCESSING", *worked("forward", {5: 2, **FIRST_TIME}, 7), "COMPLETED"]],
     *[(14, 13), ("COMPLETED", "")],
 )
 run(

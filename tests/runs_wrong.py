@@ -13,20 +13,20 @@ run("to go wrong: a text that is nowhere", ["site", ""], ["once"], ["told part",
 run("to go wrong: a record", ["site", JOURNAL], once(CREATE, CREATED[1]), ["file", [HEADER, ONBOARDED, CREATION[2], "\0"]])
 run("to go wrong: a record too few", ["site", JOURNAL], once(CREATE, CREATED[1]), ["file", JOURNALS[2]])
 
-# Jobs, by their tags and how they stand; numbers, all of an act. Five rounds record the begin of the second job, which no look has found done.
+# Jobs, by their tags and how they stand; numbers, all of an act. Five rounds begin two jobs and look at the first; no look has found the second done.
 FIVE = [SITE, asks(5)]
 run("to go wrong: a job", *FIVE, ["job", 1, 1, 2, 1, "forward"])
 run("to go wrong: how a job stands", *FIVE, ["stands", 0, "1 0 1 forward, done r1"], ["stands", 1, "1 1 1 forward, broken 7"])
 run("to go wrong: a job that isn't done", *FIVE, ["done jobs", 0, 1])
 run("to go wrong: a job that isn't there", *FIVE, ["job", 2, 1, 2, 1, "forward"])
 run("to go wrong: numbers", *FIVE, ["jobs", 2, 2])
-run("to go wrong: calls on jobs", *FIVE, ["calls on jobs", "begin 1 0 1 forward: taken\nlook 1 0 1 forward: running\n"])
+run("to go wrong: calls on jobs", *FIVE, ["calls on jobs", "begin 1 0 1 forward: taken\nbegin 1 1 1 forward: taken\nlook 1 0 1 forward: running\n"])
 
 # Acts within acts, by the first stop or front, with the number of the others. Behind the eight calls that open the journal, four records are four
 # calls each, and then a job is begun: of the moments 0 to 25 only the last has it.
 run(
     "to go wrong: the job at each stop but the last",
-    *[SITE, asks(3), ["life", [], [["made", 0], forward(0, 1, "intent")]], ["each stop", "old", ["left"], ["job count", 1]]],
+    *[SITE, asks(3), life([], [*made(0), forward(0, 1, "intent")]), ["each stop", "old", ["left"], ["job count", 1]]],
 )
 run("to go wrong: one front of two", ["each front", "FRONT", "ab", ["site", "$FRONT"], ["file", "a"]])
 

@@ -77,3 +77,47 @@ def journal(starting, operations, workers):
     for at, (kind, fields) in enumerate(events(starting, operations, workers)):
         records += u8(1) + u32(9 + len(fields)) + u8(kind) + u64(FIRST_MOMENT + at) + fields
     return records + none
+
+
+# ---- Many machines of one kind, with nothing else: of all operations the termination of such has the most changes, a stop and a removal of each
+
+INTENT, SETTLED, COMPLETED = 8, 10, 2
+STOP, REMOVE = 3, 1
+
+
+def tag(occurrence, change):
+    return u64(occurrence) + u16(change) + u32(1) + u8(0)
+
+
+def machine(phase, verb, serial):
+    return u8(phase) + u8(verb) + u8(COMPUTE) + u16(0) + u16(0) + u32(serial)
+
+
+def begun(occurrence, ask, asked, made, opened):
+    """An operation that was granted, of which so many changes were made and so many attempts behind them are open."""
+    yield ASKED, u64(occurrence) + u64(1) + u8(0) + ask + many(asked)
+    yield GRANTED, u64(occurrence) + name("g1") + u8(1) + name("vim1") + name("") + many([u8(0)] * len(asked))
+    yield MOVED, u64(occurrence) + u8(PROCESSING)
+    for change in range(made):
+        yield INTENT, tag(occurrence, change)
+        yield SETTLED, tag(occurrence, change) + u8(0) + name("r%d" % change)
+    for change in range(made, made + opened):
+        yield INTENT, tag(occurrence, change)
+
+
+def machines(count, terminated, made, opened=4):
+    """The bytes behind the header of a journal with so many machines, which are made, or were and are terminated gracefully: so many changes of that are
+    made, and the attempts at the next ones are open."""
+    vdu = name("VDU") + u64(1) + u32(1) + u32(count) + u32(count) + many([])
+    texts = b"".join(map(name, ["vnfd-1", "Example", "Machines", "1.0", "1.0", "simple"]))
+    instantiate, serials = u8(1) + name("simple") + none, range(1, count + 1)
+    creates = [machine(2, CREATE, it) for it in serials]
+    told = [(ONBOARDED, texts + many([vdu]) + many([]) * 4 + many([name("only")]) + u16(0)), (CREATED, u64(1) + name("vnfd-1") + none + none)]
+    if terminated:
+        told += [*begun(1, instantiate, creates, count, 0), (MOVED, u64(1) + u8(COMPLETED))]
+        removes = [machine(4, STOP, it) for it in serials] + [machine(6, REMOVE, it) for it in serials]
+        told += begun(2, u8(6) + u8(0) + none, removes, made, opened)
+    else:
+        told += begun(1, instantiate, creates, made, opened)
+    records = [u8(1) + u32(9 + len(fields)) + u8(kind) + u64(FIRST_MOMENT + at) + fields for at, (kind, fields) in enumerate(told)]
+    return b"".join(records) + none

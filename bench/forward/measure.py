@@ -7,9 +7,12 @@ usage: bench/forward/measure.py [LCM_CASES]
 import pathlib
 import sys
 
-sys.path.append(str(pathlib.Path(__file__).resolve().parent.parent))
+HERE = pathlib.Path(__file__).resolve().parent
+sys.path += [str(HERE.parent), str(HERE.parent.parent / "tests")]
+sys.dont_write_bytecode = True
 import journal
 import measuring
+import working
 
 # The operations, the workers of each, and the most rounds, each of which makes an act for each operation; a file in memory has room for 200,000 bytes.
 OPERATIONS = [(1, 10, 96), (10, 10, 96), (50, 10, 24), (100, 10, 24)]
@@ -22,7 +25,15 @@ lcm_cases = measuring.built("lcm_cases")
 
 def acts(rounds, sites=1):
     """So many rounds over the journal, on each of so many sites, one behind the other. Each has room for the same number of jobs."""
-    return [["room", 1_300]] + [["site", "$START"], ["rounds", rounds], ["status", 0]] * sites
+    return [["room", 1_500]] + [["site", "$START"], ["rounds", rounds], ["status", 0]] * sites
+
+
+def begins_and_looks(workers, rounds):
+    """The jobs that so many rounds begin, and that they look at, by the model of the manager's work."""
+    site = working.Site([(1, it) for it in ("asked", "granted", "PROCESSING")], room=1 << 30)
+    for manager in [working.Manager(site, working.router(workers + 1))] * rounds:
+        manager.turn()
+    return site.calls()[1:3]
 
 
 class Operations:
@@ -38,9 +49,9 @@ class Operations:
         measuring.write_run(path, ["forward", self.named, *acts])
         return measuring.cases_seconds(lcm_cases, path)
 
-    def check(self, rounds, jobs):
-        """Makes so many rounds, in which so many jobs of each operation are begun, and as many looked at, and no call fails."""
-        self.play([*acts(rounds), ["calls", jobs * self.operations, jobs * self.operations, 0], ["faults", 0, 0, 0, 0]])
+    def check(self, rounds, begins, looks):
+        """Makes so many rounds, in which so many jobs of each operation are begun, and so many looked at, and no call fails."""
+        self.play([*acts(rounds), ["calls", begins * self.operations, looks * self.operations, 0], ["faults", 0, 0, 0, 0]])
 
     def seconds(self, rounds):
         return self.play(acts(rounds, self.sites)) / self.sites / self.operations
@@ -51,7 +62,7 @@ def rows(room, title, sizes):
     measuring.head("Operations", "Changes of each", "Rounds, from", "to", "us an act")
     for operations, workers, rounds in sizes:
         going = Operations(room, False, operations, workers, ACTS // rounds // operations)
-        going.check(rounds, rounds // 2)
+        going.check(rounds, *begins_and_looks(workers, rounds))
         for less, more, found in measuring.slopes(going.seconds, [0, rounds // 3, 2 * rounds // 3, rounds]):
             measuring.row(operations, 4 * workers + 9, less, more, measuring.cell(found))
 

@@ -84,13 +84,16 @@ fn attempts(steps: &[Step]) -> usize {
     count
 }
 
-/// The change whose attempt is the last of so many records, and has no job yet, where so many jobs were begun.
-pub fn not_begun(steps: &[Step], records: usize, begins: usize) -> Option<u16> {
+/// The attempt, by its number from 0 among those of these steps, that is the last of so many records, and has no job
+/// yet, where so many jobs were begun.
+pub fn not_begun(steps: &[Step], records: usize, begins: usize) -> Option<usize> {
     let some = steps.get(..records)?;
     let last = some.last()?;
+    let begun = attempts(some);
     match last {
-        Step::Forward(change, _, At::Intent) | Step::Undo(change, _, At::Intent)
-            if attempts(some) > begins => { Some(*change) }
+        Step::Forward(_, _, At::Intent) | Step::Undo(_, _, At::Intent) if begun > begins => {
+            begun.checked_sub(1)
+        }
         _ => None,
     }
 }

@@ -7,9 +7,6 @@ use lcm_events::{Tag, Way};
 use site_traits::{MemSite, Phase};
 use std::alloc::{AllocError, Global};
 
-/// The changes of the edge router's plan.
-const CHANGES: u16 = 13;
-
 /// The tag of this attempt of occurrence 1.
 fn tag_of(way: Way, change: u16, attempt: u32) -> Tag {
     Tag {
@@ -143,6 +140,32 @@ fn are_sound(alloc: Global, site: &MemSite, steps: &[Step]) -> Result<(), ActFau
     Ok(())
 }
 
+/// One more than this change, or that number where it is greater.
+fn above(change: u16, number: u16) -> u16 {
+    number.max(change.saturating_add(1))
+}
+
+/// One more than the greatest change that the jobs of this site are for; 0 where there is none.
+fn changes_of_jobs(site: &MemSite) -> u16 {
+    let mut number = 0;
+    for place in 0..site.jobs() {
+        let (tag, _, _) = site.job(place);
+        number = above(tag.change, number);
+    }
+    number
+}
+
+/// One more than the greatest change that these steps attempt; 0 where there is none.
+fn changes_of_steps(steps: &[Step]) -> u16 {
+    let mut number = 0;
+    for step in steps {
+        if let Some((tag, _)) = attempt_of(*step) {
+            number = above(tag.change, number);
+        }
+    }
+    number
+}
+
 /// How many jobs of this change in this way are done, whether that is recorded or not.
 fn jobs_done(site: &MemSite, change: u16, way: Way) -> usize {
     let mut count: usize = 0;
@@ -155,7 +178,7 @@ fn jobs_done(site: &MemSite, change: u16, way: Way) -> usize {
     count
 }
 
-/// Whether the attempt that these steps leave open, at this change in this way, has a job that is done.
+/// Whether an attempt that these steps leave open, at this change in this way, has a job that is done.
 fn open_is_done(site: &MemSite, steps: &[Step], change: u16, way: Way) -> bool {
     for place in 0..site.jobs() {
         let (tag, _, phase) = site.job(place);
@@ -214,7 +237,7 @@ fn stands_by_its_net(
 /// change there stands what is made by the steps, or by these and the open attempt whose job is done. Else the first
 /// change or job that doesn't is told.
 pub fn agrees(alloc: Global, site: &MemSite, steps: &[Step]) -> Result<(), ActFault> {
-    for change in 0..CHANGES {
+    for change in 0..changes_of_jobs(site).max(changes_of_steps(steps)) {
         stands_by_its_net(alloc, site, steps, change)?;
     }
     are_sound(alloc, site, steps)
@@ -223,7 +246,7 @@ pub fn agrees(alloc: Global, site: &MemSite, steps: &[Step]) -> Result<(), ActFa
 /// How many changes stand by the done jobs of this site.
 pub fn changes_standing(site: &MemSite) -> usize {
     let mut count: usize = 0;
-    for change in 0..CHANGES {
+    for change in 0..changes_of_jobs(site) {
         let made = jobs_done(site, change, Way::Forward);
         if made > jobs_done(site, change, Way::Undo) {
             count = count.saturating_add(1);

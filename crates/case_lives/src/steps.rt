@@ -1,16 +1,16 @@
 //! The steps of an operation, as runs spell them.
 //!
 //! A step is a word or an array: `asked`, `granted`, a state, which it moved to, `graceful` and `forceful`;
-//! `["forward", CHANGE, ATTEMPT, AT]` and
-//! `["undo", CHANGE, ATTEMPT, AT]`, where AT is `intent`, `call failed`, `done` with its job behind it, `broken` with
-//! its code, `aborted` or
-//! `not begun`. Several stand for `["made", N]`, an operation up to N changes made in PROCESSING; `["make", FROM, TO,
-//! ATTEMPT, JOB]`, the changes from FROM to before TO, each made at that attempt, by that job and those behind it;
-//! `["unmake", FROM, TO, ATTEMPT, JOB]`, the same changes undone, the last of them first.
+//! `[WAY, CHANGE, ATTEMPT, AT]`, where WAY is `forward` or `undo`, and AT is `intent`, `call failed`, `done` with its
+//! job behind it, `broken` with its code, `aborted` or `not begun`. Several stand for the same attempt at each of the
+//! changes from FROM to before TO, in turn forward, and the last of them first where they are undone: `["intents", WAY,
+//! FROM, TO, ATTEMPT]`, their intents; `["done", WAY, FROM, TO, ATTEMPT, JOB]`, that they are done, by that job and
+//! those behind it;
+//! `["in turn", WAY, FROM, TO, ATTEMPT, JOB, AHEAD]`, the same, and behind each the intent of the change so many ahead.
 
 use crate::records::{At, Step};
 use crate::words::{CaseFault, code, entries, small, word};
-use lcm_events::{CancelMode, OpState};
+use lcm_events::{CancelMode, OpState, Way};
 use serde_json::Value;
 use std::alloc::Global;
 
@@ -44,24 +44,48 @@ fn at(step: &[Value]) -> Result<At, CaseFault> {
     })
 }
 
-/// Changes that are attempted one after the other: from this one to before that one, each by the attempt of this
-/// number, by this job and those behind it.
+/// The same attempt at each of several changes: from this one to before that one.
 #[derive(Clone, Copy)]
 struct Attempts {
+    way: Way,
     from: u16,
     to: u16,
     attempt: u32,
-    first: u16,
+}
+
+/// The way of the word at this place.
+fn way_at(step: &[Value], place: usize) -> Result<Way, CaseFault> {
+    match word(step, place)? {
+        "forward" => Ok(Way::Forward),
+        "undo" => Ok(Way::Undo),
+        _ => Err(CaseFault::Spelling),
+    }
 }
 
 /// The attempts that a step spells from its second place on.
 fn attempts_of(step: &[Value]) -> Result<Attempts, CaseFault> {
     Ok(Attempts {
-        from: small(step, 1)?,
-        to: small(step, 2)?,
-        attempt: code(step, 3)?,
-        first: small(step, 4)?,
+        way: way_at(step, 1)?,
+        from: small(step, 2)?,
+        to: small(step, 3)?,
+        attempt: code(step, 4)?,
     })
+}
+
+/// The change of this number of these attempts, from 0, in their order.
+fn change_of(attempts: Attempts, number: u16) -> u16 {
+    match attempts.way {
+        Way::Forward => attempts.from.saturating_add(number),
+        Way::Undo => attempts.to.saturating_sub(number).saturating_sub(1),
+    }
+}
+
+/// What is recorded of an attempt at this change.
+fn step_of(way: Way, change: u16, attempt: u32, at: At) -> Step {
+    match way {
+        Way::Forward => Step::Forward(change, attempt, at),
+        Way::Undo => Step::Undo(change, attempt, at),
+    }
 }
 
 /// Puts a step.
@@ -70,66 +94,72 @@ fn put(steps: &mut Vec<Step>, step: Step) -> Result<(), CaseFault> {
     Ok(())
 }
 
-/// These changes are made.
-fn make(steps: &mut Vec<Step>, attempts: Attempts) -> Result<(), CaseFault> {
-    let mut job = attempts.first;
-    for change in attempts.from..attempts.to {
-        put(steps, Step::Forward(change, attempts.attempt, At::Intent))?;
-        put(
-            steps,
-            Step::Forward(change, attempts.attempt, At::Done(job)),
-        )?;
-        job = job.saturating_add(1);
+/// Puts what is recorded of the same attempt at this change.
+fn put_step_of(
+    steps: &mut Vec<Step>,
+    attempts: Attempts,
+    change: u16,
+    at: At,
+) -> Result<(), CaseFault> {
+    put(steps, step_of(attempts.way, change, attempts.attempt, at))
+}
+
+/// Puts the intent of each of these attempts.
+fn put_intents(steps: &mut Vec<Step>, attempts: Attempts) -> Result<(), CaseFault> {
+    for number in 0..attempts.to.saturating_sub(attempts.from) {
+        put_step_of(steps, attempts, change_of(attempts, number), At::Intent)?;
     }
     Ok(())
 }
 
-/// They are undone, the last of them first.
-fn unmake(steps: &mut Vec<Step>, attempts: Attempts) -> Result<(), CaseFault> {
-    let mut job = attempts.first;
-    let mut change = attempts.to;
-    for _ in attempts.from..attempts.to {
-        change = change.saturating_sub(1);
-        put(steps, Step::Undo(change, attempts.attempt, At::Intent))?;
-        put(steps, Step::Undo(change, attempts.attempt, At::Done(job)))?;
-        job = job.saturating_add(1);
+/// Puts that each of these attempts is done, by this job and those behind it.
+fn put_done(steps: &mut Vec<Step>, attempts: Attempts, first: u16) -> Result<(), CaseFault> {
+    for number in 0..attempts.to.saturating_sub(attempts.from) {
+        let done = At::Done(first.saturating_add(number));
+        put_step_of(steps, attempts, change_of(attempts, number), done)?;
     }
     Ok(())
 }
 
-/// The operation up to PROCESSING, with so many changes made.
-fn made(steps: &mut Vec<Step>, changes: u16) -> Result<(), CaseFault> {
-    put(steps, Step::Asked)?;
-    put(steps, Step::Granted)?;
-    put(steps, Step::Moved(OpState::Processing))?;
-    let attempts = Attempts {
-        from: 0,
-        to: changes,
-        attempt: 1,
-        first: 1,
-    };
-    make(steps, attempts)
+/// The change that is so many ahead of this one in this way.
+fn ahead_of(way: Way, change: u16, ahead: u16) -> u16 {
+    match way {
+        Way::Forward => change.saturating_add(ahead),
+        Way::Undo => change.saturating_sub(ahead),
+    }
 }
 
-/// The step of an attempt forward that a list spells.
-fn forward_of(step: &[Value]) -> Result<Step, CaseFault> {
-    Ok(Step::Forward(small(step, 1)?, code(step, 2)?, at(step)?))
+/// Puts that each of these attempts is done, by this job and those behind it, and behind each the intent of the same
+/// attempt at the change that is so many ahead.
+fn put_in_turn(
+    steps: &mut Vec<Step>,
+    attempts: Attempts,
+    first: u16,
+    ahead: u16,
+) -> Result<(), CaseFault> {
+    for number in 0..attempts.to.saturating_sub(attempts.from) {
+        let change = change_of(attempts, number);
+        let done = At::Done(first.saturating_add(number));
+        put_step_of(steps, attempts, change, done)?;
+        let next = ahead_of(attempts.way, change, ahead);
+        put_step_of(steps, attempts, next, At::Intent)?;
+    }
+    Ok(())
 }
 
-/// The step of an attempt to undo that a list spells.
-fn undo_of(step: &[Value]) -> Result<Step, CaseFault> {
-    Ok(Step::Undo(small(step, 1)?, code(step, 2)?, at(step)?))
+/// The step of an attempt that a list spells.
+fn attempt_of(step: &[Value]) -> Result<Step, CaseFault> {
+    let way = way_at(step, 0)?;
+    Ok(step_of(way, small(step, 1)?, code(step, 2)?, at(step)?))
 }
 
 /// Puts the step or the steps of this list.
 fn put_listed(steps: &mut Vec<Step>, step: &[Value]) -> Result<(), CaseFault> {
     match word(step, 0)? {
-        "made" => made(steps, small(step, 1)?),
-        "make" => make(steps, attempts_of(step)?),
-        "unmake" => unmake(steps, attempts_of(step)?),
-        "forward" => put(steps, forward_of(step)?),
-        "undo" => put(steps, undo_of(step)?),
-        _ => Err(CaseFault::Spelling),
+        "intents" => put_intents(steps, attempts_of(step)?),
+        "done" => put_done(steps, attempts_of(step)?, small(step, 5)?),
+        "in turn" => put_in_turn(steps, attempts_of(step)?, small(step, 5)?, small(step, 6)?),
+        _ => put(steps, attempt_of(step)?),
     }
 }
 

@@ -3,7 +3,7 @@
 
 use crate::calls::{calls_of, calls_until, left_behind, not_begun, opening, records_standing};
 use crate::plan::plain_site;
-use crate::records::{At, Step};
+use crate::records::Step;
 use site_traits::{Choice, MemSite};
 use std::alloc::{AllocError, Global};
 
@@ -47,6 +47,9 @@ pub struct Whole {
     pub before: Vec<Step>,
     /// Its steps.
     pub steps: Vec<Step>,
+    /// For each attempt that it begins, in order, its steps where that attempt had no job when it was stopped; none
+    /// where no run goes on from such a stop.
+    pub lost: Vec<Vec<Step>>,
     /// The lives before it.
     pub earlier: Earlier,
 }
@@ -58,6 +61,7 @@ impl Drop for Whole {
             site: _,
             before: _,
             steps: _,
+            lost: _,
             earlier: _,
         } = self;
     }
@@ -70,6 +74,7 @@ impl Whole {
             site: plain_site(alloc, &[])?,
             before: Vec::new(alloc),
             steps: Vec::new(alloc),
+            lost: Vec::new(alloc),
             earlier: Earlier::none(),
         })
     }
@@ -114,42 +119,31 @@ impl Whole {
 
     /// The steps of it and of the lives before it, up to so many of its own.
     pub fn steps_to(&self, alloc: Global, records: usize) -> Result<Vec<Step>, AllocError> {
-        let mut steps = self.before.to_vec(alloc)?;
-        steps.extend_from_slice(self.steps.get(..records).unwrap_or(&self.steps))?;
-        Ok(steps)
+        self.steps_with(alloc, self.steps.get(..records).unwrap_or(&self.steps))
     }
 
-    /// All of these steps, where the attempt at this change had no job yet: that attempt is ended by the look at it,
-    /// and there is another.
-    pub fn steps_again(&self, alloc: Global, lost: Option<u16>) -> Result<Vec<Step>, AllocError> {
-        let mut steps = self.before.to_vec(alloc)?;
-        for step in &self.steps {
-            put_again(&mut steps, *step, lost)?;
+    /// All steps of it and of the lives before it, where this attempt of it had no job when it was stopped, or each had
+    /// one: then a look tells that, and the change is attempted once more. There are none where no steps say what comes
+    /// of that attempt.
+    pub fn steps_again(
+        &self,
+        alloc: Global,
+        lost: Option<usize>,
+    ) -> Result<Option<Vec<Step>>, AllocError> {
+        match lost {
+            None => Ok(Some(self.steps_with(alloc, &self.steps)?)),
+            Some(attempt) => match self.lost.get(attempt) {
+                Some(steps) => Ok(Some(self.steps_with(alloc, steps)?)),
+                None => Ok(None),
+            },
         }
-        Ok(steps)
     }
-}
 
-/// Puts a step of a life, where the attempt at this change was lost: it isn't begun, and the next one is done.
-fn put_again(steps: &mut Vec<Step>, step: Step, lost: Option<u16>) -> Result<(), AllocError> {
-    match step {
-        Step::Forward(change, attempt, At::Done(job)) if lost == Some(change) => {
-            let next = attempt.saturating_add(1);
-            steps.extend_from_slice(&[
-                Step::Forward(change, attempt, At::NotBegun),
-                Step::Forward(change, next, At::Intent),
-                Step::Forward(change, next, At::Done(job)),
-            ])
-        }
-        Step::Undo(change, attempt, At::Done(job)) if lost == Some(change) => {
-            let next = attempt.saturating_add(1);
-            steps.extend_from_slice(&[
-                Step::Undo(change, attempt, At::NotBegun),
-                Step::Undo(change, next, At::Intent),
-                Step::Undo(change, next, At::Done(job)),
-            ])
-        }
-        _ => steps.extend_from_slice(&[step]),
+    /// The steps of the lives before it, and these.
+    fn steps_with(&self, alloc: Global, steps: &[Step]) -> Result<Vec<Step>, AllocError> {
+        let mut all = self.before.to_vec(alloc)?;
+        all.extend_from_slice(steps)?;
+        Ok(all)
     }
 }
 
@@ -166,8 +160,8 @@ pub struct Stop {
     pub records: usize,
     /// Its begins.
     pub begins: usize,
-    /// The change whose attempt has no job yet.
-    pub lost: Option<u16>,
+    /// The attempt of the life, by its number from 0, that has no job yet.
+    pub lost: Option<usize>,
 }
 
 impl Stop {

@@ -3,9 +3,9 @@
 use crate::objects::{Ran, ask};
 use crate::stage::Stage;
 use case_lives::{
-    ActFault, Step, agrees, behind, calls_on_jobs, change_done, count, differs, front_of,
-    front_with, job_text, journal_with, number, part, plain_site, quoted, same_file, same_text,
-    same_word, steps_of, tag_text, word, work_text,
+    ActFault, CaseFault, Step, agrees, behind, calls_on_jobs, change_done, count, differs,
+    front_of, front_with, job_text, journal_with, number, part, plain_site, quoted, same_file,
+    same_text, same_word, steps_of, tag_text, word, work_text,
 };
 use lcm_events::Act;
 use serde_json::Value;
@@ -348,9 +348,12 @@ impl Stage {
     }
 
     /// `["again"]`: the file has all steps of the whole life, behind the records that were there before the last
-    /// command, where an attempt that had no job yet is made again; and the jobs agree with them.
+    /// command, or, where an attempt had no job yet, those that the life has for that; and the jobs agree with them.
     pub fn is_again(&mut self, alloc: Global) -> Result<(), ActFault> {
-        self.steps = self.whole.steps_again(alloc, self.stop.lost)?;
+        let Some(steps) = self.whole.steps_again(alloc, self.stop.lost)? else {
+            return Err(ActFault::Unread(CaseFault::Spelling));
+        };
+        self.steps = steps;
         self.keeps_records(alloc)?;
         self.has_left(alloc, &self.steps)
     }

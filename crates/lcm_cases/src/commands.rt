@@ -9,8 +9,8 @@ use case_lives::{
 };
 use executor::Manager;
 use grant_desk::GrantAll;
-use lcm_api::Mouth;
 use lcm_events::Role;
+use lcm_mouth::Mouth;
 use lcm_sessions::answer_session;
 use occ_work::{Turn, turn};
 use serde_json::Value;

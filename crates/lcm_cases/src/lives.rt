@@ -3,8 +3,8 @@
 
 use crate::stage::Stage;
 use case_lives::{
-    ActFault, CaseFault, calls_of, count, differs, front_of, list, opening, part, plain_site,
-    quoted, same_text, steps_of,
+    ActFault, CaseFault, Step, calls_of, count, differs, entries, front_of, list, opening, part,
+    plain_site, quoted, same_text, steps_of,
 };
 use grant_desk::GrantAll;
 use serde_json::Value;
@@ -26,13 +26,27 @@ fn length_of(life: usize) -> usize {
     turned.saturating_add(5)
 }
 
+/// What stands at the fourth place of an act, each a list of steps; nothing where it is left out.
+fn lost_of(alloc: Global, act: &[Value]) -> Result<Vec<Vec<Step>>, CaseFault> {
+    let mut lost = Vec::new(alloc);
+    if act.len() > 3 {
+        for steps in list(act, 3)? {
+            lost.push(steps_of(alloc, entries(steps)?)?)?;
+        }
+    }
+    Ok(lost)
+}
+
 impl Stage {
-    /// `["life", [STEP..], [STEP..]]`: what was done on the site, since it was made or renewed, is a whole life of the
-    /// second steps, behind the first ones.
+    /// `["life", [STEP..], [STEP..], [[STEP..]..]]`: what was done on the site, since it was made or renewed, is a
+    /// whole life of the second steps, behind the first ones. The third may be left out: for each attempt that the life
+    /// begins, in order, the steps in place of the second ones, where that attempt had no job when the life was
+    /// stopped.
     pub fn take_life(&mut self, alloc: Global, act: &[Value]) -> Result<(), CaseFault> {
         let (before, steps) = (list(act, 1)?, list(act, 2)?);
         self.whole.before = steps_of(alloc, before)?;
         self.whole.steps = steps_of(alloc, steps)?;
+        self.whole.lost = lost_of(alloc, act)?;
         self.whole.site = mem::replace(&mut self.site, plain_site(alloc, &[])?);
         self.whole.earlier = self.earlier;
         Ok(())

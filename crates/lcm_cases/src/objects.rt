@@ -1,7 +1,7 @@
 //! The objects in memory that a run of a command is made over, and what it did to them.
 
-use lcm_api::Mouth;
 use lcm_events::Role;
+use lcm_mouth::Mouth;
 use site_traits::{
     DoorPlan, MemConn, MemCourier, MemDoor, MemOrchestrator, MemSink, MemSite, Orchestrator,
     SetClock,
