@@ -256,8 +256,8 @@ impl<S: Site> Manager<S> {
         )
     }
 
-    /// Records an event that isn't a Settled, for which the tables have room, as `put` does. No memory is taken, so that
-    /// it may stand behind a call of the outside: what was reserved before the call records what it was answered.
+    /// Records an event that isn't a Settled, for which the tables have room, as `put` does. No memory is taken, so
+    /// that it may stand behind a call of the outside: what was reserved before the call records what it was answered.
     ///
     /// Conditions: those of `put`, and the event isn't a Settled, so that sound jobs stay sound.
     /// Refusals: those of `put`.

@@ -4,6 +4,7 @@ ghost use Rattle.std.specs.Prelude.{◌↔◌, length, take, drop, get_or, []};
 ghost use Rattle.site_traits.specs.Counts.{DiskCause};
 ghost use Rattle.site_traits.specs.Site.{Reads};
 ghost use Rattle.journal_records.specs.File.{framed, records, size, IsRecord};
+ghost use Rattle.journal_records.specs.declared.limits.TheConstants.{MAX_RECORD};
 ghost use Rattle.journal_core.specs.Marks.{IsMark};
 ghost use Rattle.journal_core.specs.Back.{HasAt, FitsAt, HasRecord, IsFound};
 
@@ -42,7 +43,7 @@ pub fn record_from<S: Site>(
     requires before { from.before < n }
     requires near { (n - 1 - from.before) * 196608 ≤ end }
     requires small { end < 268435456 }
-    requires room { 65536 ≤ length buffer.old }
+    requires room { MAX_RECORD ≤ length buffer.old }
     requires told { S.tells → HasRecord n end (S.state site.old).image
         × IsMark (records (S.state site.old).image) from }
 

@@ -5,6 +5,7 @@ ghost use Rattle.std.specs.Prelude.{take, length, OnOk};
 ghost use Rattle.site_traits.specs.Site.{KeepsJobs};
 ghost use Rattle.journal_core.specs.Asking.{AppendAsks, FailsWhere};
 ghost use Rattle.journal_records.specs.File.{piece};
+ghost use Rattle.journal_records.specs.declared.limits.TheConstants.{MAX_RECORD};
 ghost use Rattle.journal_core.specs.Journal.{Stands, Appends};
 ghost use Rattle.journal_core.specs.Marks.{IsMark, first_mark};
 ghost use Rattle.journal_core.specs.Back.{ReadsBack, KeepsRecords};
@@ -55,6 +56,7 @@ impl<S: Site> Drop for Journal<S> {
 impl<S: Site> Model for Journal<S> {
     ghost use Rattle.std.specs.Prelude.{◌≡◌, ◌≤◌, ◌<◌, ◌*◌, ◌∷◌, length, take};
     ghost use Rattle.journal_core.specs.Journal.{Ledger};
+    ghost use Rattle.journal_records.specs.declared.limits.TheConstants.{MAX_RECORD};
 
     ghost Value = { Ledger };
 
@@ -69,7 +71,7 @@ impl<S: Site> Model for Journal<S> {
     } };
 
     ghost invariant = { λ j. (length j.buffer.items ≡ 65541) × (j.end < 268435456) × (j.count * 6 ≤ j.end)
-        × (j.size ≤ 65536) × (j.marks.seen ≡ j.count) };
+        × (j.size ≤ MAX_RECORD) × (j.marks.seen ≡ j.count) };
 }
 
 /// Why a record could not be appended.
@@ -163,7 +165,7 @@ impl<S: Site> Journal<S> {
     /// Source: own format, docs/JOURNAL.md.
     pub fn append(&mut self, site: &mut S, bytes: &[u8]) -> Result<(), AppendFault>
         requires some { 1 ≤ length bytes.now }
-        requires fits { length bytes.now ≤ 65536 }
+        requires fits { length bytes.now ≤ MAX_RECORD }
         requires usable { self.old.closed ≡ false }
         requires stands { S.tells → Stands (S.state site.old) self.old }
 
@@ -266,7 +268,7 @@ impl<S: Site> Journal<S> {
 // Puts what is written behind a closed gate to the front of the buffer, and gives the number of its bytes.
 fn frame(buffer: &mut [u8], bytes: &[u8]) -> usize
     requires room { length bytes.now + 5 ≤ length buffer.old }
-    requires fits { length bytes.now ≤ 65536 }
+    requires fits { length bytes.now ≤ MAX_RECORD }
     ensures total { result ≡ length bytes.now + 5 }
     ensures framed { take result buffer.new ≡ piece bytes.now }
 {

@@ -78,6 +78,7 @@ impl<S: Site> Model for Loading<S> {
     ghost use Rattle.std.specs.Prelude.{◌≡◌, ◌≤◌, ◌<◌, ◌*◌, take, length};
     ghost use Rattle.journal_core.specs.Judged.{Judged, LongEnough, FrontIs};
     ghost use Rattle.journal_core.specs.Load.{Progress};
+    ghost use Rattle.journal_records.specs.declared.limits.TheConstants.{MAX_RECORD};
 
     ghost Value = { Progress };
 
@@ -93,7 +94,7 @@ impl<S: Site> Model for Loading<S> {
     } };
 
     ghost invariant = { λ l. (length l.buffer.items ≡ 65541) × (l.end < 268435456) × (l.count * 6 ≤ l.end)
-        × (l.end ≤ l.len) × (l.size ≤ 65536) × (l.marks.seen ≡ l.count) };
+        × (l.end ≤ l.len) × (l.size ≤ MAX_RECORD) × (l.marks.seen ≡ l.count) };
 }
 
 impl<S: Site> Journal<S> {

@@ -29,7 +29,7 @@ use Rattle.lcm_model.specs.Work.{window}
 use Rattle.executor.specs.Room.{TellsRoom}
 use Rattle.executor.specs.declared.manager.WorkFault.{WorkFault}
 use Rattle.executor.specs.declared.manager.WorkFault.TheVariants as fault
-use Rattle.journal_records.specs.declared.limits.TheConstants.{MAX_FILE}
+use Rattle.journal_records.specs.declared.limits.TheConstants.{MAX_FILE, MAX_RECORD}
 use Rattle.occ_work.specs.Attempting.{is_of_attempt}
 use Rattle.occ_work.specs.Exchanges.{is_of_act}
 
@@ -76,7 +76,7 @@ length-many xs = omega (arith, length-append (spell.u16 (length xs)) (flat_map s
 -- a grant of at most 32 places for at most 5,000 changes
 pub granted_fits : (time o : ℕ) (grant : List ℕ) (places : List Place) (spots : List ℕ) → IsName grant → AllByRecursion IsPlace places
     → length places ≤ 32 → length spots ≤ 5000
-    → length (spelling (record { moment = time; kind = Granted o grant places spots })) ≤ 65536
+    → length (spelling (record { moment = time; kind = Granted o grant places spots })) ≤ MAX_RECORD
 unfolding spelling
 granted_fits time o grant places spots name all few small =
     let a = most_name grant name in
@@ -101,7 +101,7 @@ granted_fits time o grant places spots name all few small =
 
 -- a try that told a location
 pub tried_fits : (time o : ℕ) (at : List ℕ) → IsLine at → length (spelling (record { moment = time; kind = GrantTried o (Later at) }))
-    ≤ 65536
+    ≤ MAX_RECORD
 unfolding spelling
 tried_fits time o at line =
     let a = most_line at line in
@@ -131,7 +131,7 @@ few_changes small m H o None legal is = omega arith
 few_changes small m H o (Some a) legal is = small window m H legal a (found_in (λ a. a.occ == o) (operations H) a is)
 
 tries_fit : (time o : ℕ) (answer : GrantTry) → IsGrantTry answer
-    → length (spelling (record { moment = time; kind = GrantTried o answer })) ≤ 65536
+    → length (spelling (record { moment = time; kind = GrantTried o answer })) ≤ MAX_RECORD
 unfolding spelling
 tries_fit time o (Later at) line = tried_fits time o at line
 tries_fit time o Trouble line = omega (
@@ -149,11 +149,11 @@ tries_fit time o NotCovering line = omega (
   length-u64 o,
 )
 
-denied_fits : (time o : ℕ) → length (spelling (record { moment = time; kind = Denied o })) ≤ 65536
+denied_fits : (time o : ℕ) → length (spelling (record { moment = time; kind = Denied o })) ≤ MAX_RECORD
 unfolding spelling
 denied_fits time o = omega (arith, length-append (spell.u64 time) (spell.u64 o), length-u64 time, length-u64 o)
 
-moved_fits : (time o : ℕ) (to : OpState) → length (spelling (record { moment = time; kind = Moved o to })) ≤ 65536
+moved_fits : (time o : ℕ) (to : OpState) → length (spelling (record { moment = time; kind = Moved o to })) ≤ MAX_RECORD
 unfolding spelling
 moved_fits time o to =
     let last : List ℕ = spell.u8 (number.op_state to) in
@@ -162,7 +162,7 @@ moved_fits time o to =
 -- what an act records fits a record
 pub acts_fit : PlansAreSmall → (m : ℕ) (H : List Event) (time : ℕ) (kind : EventKind) → IsLegal m H → IsAllowed m H kind
     → IsEvent (record { moment = time; kind = kind }) → is_of_act kind ≡ true
-    → length (spelling (record { moment = time; kind = kind })) ≤ 65536
+    → length (spelling (record { moment = time; kind = kind })) ≤ MAX_RECORD
 acts_fit small m H time (GrantTried o answer) legal allowed event is = tries_fit time o answer event.1.1
 acts_fit small m H time (Granted o grant places spots) legal allowed event is =
     let few = few_changes small m H o (operation H o) legal refl in
@@ -193,7 +193,7 @@ most_outcome outcomes.NotBegun is = omega arith
 
 -- what is recorded of an attempt fits a record
 pub attempts_fit : (time : ℕ) (kind : EventKind) → IsEvent (record { moment = time; kind = kind }) → is_of_attempt kind ≡ true
-    → length (spelling (record { moment = time; kind = kind })) ≤ 65536
+    → length (spelling (record { moment = time; kind = kind })) ≤ MAX_RECORD
 unfolding spelling
 attempts_fit time (Intent t) event is = omega (arith, length-append (spell.u64 time) (spell.tag t), length-u64 time, most_tag t)
 attempts_fit time (CallFailed t) event is = omega (arith, length-append (spell.u64 time) (spell.tag t), length-u64 time, most_tag t)
@@ -210,7 +210,7 @@ attempts_fit time (Settled t how) event is =
 attempts_fit time _ event is = absurd (cc is)
 
 -- an event that fits isn't too long
-pub not_too_long : (H : List Event) (e : Event) (why : WorkFault) (n : ℕ) → length (spelling e) ≤ 65536 → TellsRoom MAX_FILE H e (Err why)
+pub not_too_long : (H : List Event) (e : Event) (why : WorkFault) (n : ℕ) → length (spelling e) ≤ MAX_RECORD → TellsRoom MAX_FILE H e (Err why)
     → why ≡ fault.TooLong n → ⊥
 not_too_long H e why n fits tells is =
     let told : TellsRoom MAX_FILE H e (Err (fault.TooLong n)) = subst (λ (f : WorkFault). TellsRoom MAX_FILE H e (Err f)) is tells in
@@ -218,7 +218,7 @@ not_too_long H e why n fits tells is =
     omega (arith, long, fits)
 
 -- the same of an answer
-pub never_long : (H : List Event) (e : Event) (result : Result (Unit {0}) WorkFault) (n : ℕ) → length (spelling e) ≤ 65536
+pub never_long : (H : List Event) (e : Event) (result : Result (Unit {0}) WorkFault) (n : ℕ) → length (spelling e) ≤ MAX_RECORD
     → TellsRoom MAX_FILE H e result
     → result ≡ Err (fault.TooLong n) → ⊥
 never_long H e result n fits tells is = not_too_long H e (fault.TooLong n) n fits

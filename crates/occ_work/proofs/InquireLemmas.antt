@@ -1,5 +1,6 @@
 -- Aborts of open attempts' jobs, and the look behind them.
-use Rattle.std.proofs.Common.{◌≡◌, ◌≤◌, ◌<◌, ◌∙◌, ◌+◌, ◌++◌, ℕ, List, [], ◌∷◌, true, false, Some, add-one, ap, sym, refl, length, map, reverse, take}
+use Rattle.std.proofs.Common.{◌≡◌, ◌≤◌, ◌<◌, ◌∙◌, ◌+◌, ◌++◌, ℕ, List, [], ◌∷◌, true, false, Some, add-one, ap, sym, refl, length, map}
+use Rattle.std.proofs.Common.{reverse, take}
 use Rattle.std.proofs.Common.{slice_index_or}
 use Rattle.std.proofs.Math.Seq.{take-suc}
 use Rattle.std.proofs.lemmas.List.{reverse-append, reverse-reverse, take_all}
@@ -46,7 +47,8 @@ aborts_none tells a i = record {
 }
 
 -- one more was aborted
-pub aborts_more : (tells : Type 0) (each : List (Tag × AbortAnswer)) (t : Tag) (answer : AbortAnswer) (a b c : SiteState) (i j k : SiteCounts)
+pub aborts_more : (tells : Type 0) (each : List (Tag × AbortAnswer)) (t : Tag) (answer : AbortAnswer) (a b c : SiteState)
+    (i j k : SiteCounts)
     → AbortsEach tells each (shows a i) (shows b j) → (tells → Aborts t answer b c) → k ≡ abort_counts answer j
     → AbortsEach tells ((t, answer) ∷ each) (shows a i) (shows c k)
 aborts_more tells each t answer a b c i j k before aborts called = record {
@@ -67,7 +69,8 @@ looks_alone tells each t answer a b i j looks called = record {
 }
 
 -- the look behind aborts
-pub looks_behind : (tells : Type 0) (each : List (Tag × AbortAnswer)) (t : Tag) (answer : LookAnswer) (a b c : SiteState) (i j k : SiteCounts)
+pub looks_behind : (tells : Type 0) (each : List (Tag × AbortAnswer)) (t : Tag) (answer : LookAnswer) (a b c : SiteState)
+    (i j k : SiteCounts)
     → AbortsEach tells each (shows a i) (shows b j) → (tells → Looks t answer b c) → k ≡ look_counts answer j
     → Inquires tells (look_exchange true each t answer) (shows a i) (shows c k)
 looks_behind tells each t answer a b c i j k before looks called = record {

@@ -14,7 +14,8 @@ use Rattle.site_traits.specs.declared.jobs.AbortAnswer.{AbortAnswer}
 use Rattle.site_traits.specs.declared.jobs.BeginAnswer.{BeginAnswer}
 use Rattle.site_traits.specs.declared.jobs.BeginAnswer.TheVariants as begin
 use Rattle.occ_work.specs.Acting.{Records, TellsRoomFor, recording}
-use Rattle.occ_work.specs.Around.{Handles, Infrastructure, JobsDo, aborts_answered, aborts_counted, answers_after, counts_after}
+use Rattle.occ_work.specs.Around.{Handles, Infrastructure, JobsDo, aborts_answered, aborts_counted, answers_after}
+use Rattle.occ_work.specs.Around.{counts_after}
 use Rattle.occ_work.specs.Deeds.{Deed, Exchange, IsTried, answered, asked, ending, kinds_of, polled, Point}
 use Rattle.occ_work.specs.declared.ends.Acted.{Acted}
 

@@ -23,7 +23,8 @@ use vnfm_base::Moment;
 
 /// Does the next action of an occurrence, and no other call: the occurrence is moved on, its grant is asked for, the
 /// location is polled that was told for it, an attempt at a change is begun, which makes or undoes it, or the job of
-/// the open attempt that began first is looked at, after a FORCEFUL cancel once those of all open attempts were aborted.
+/// the open attempt that began first is looked at, after a FORCEFUL cancel once those of all open attempts were
+/// aborted.
 ///
 /// State: needs STARTING, PROCESSING or ROLLING_BACK, and a manager that isn't closed and whose file has its history.
 /// Refusals: `Memory`; `Full {end, more}` (bytes), exactly where the spelling of the event that is recorded next and

@@ -172,12 +172,12 @@ fn no_name() -> Name
     Name::of(b"").unwrap()
 }
 
-/// Looks at the job of the open attempt that began first, where `aborts` holds once the jobs of all the occurrence's open
-/// attempts were aborted. It is the next action of its occurrence, and where the job has ended that is recorded. All
-/// memory is taken before. An abort that failed or came too late is no end: the look says how the job stands.
+/// Looks at the job of the open attempt that began first, where `aborts` holds once the jobs of all the occurrence's
+/// open attempts were aborted. It is the next action of its occurrence, and where the job has ended that is recorded.
+/// All memory is taken before. An abort that failed or came too late is no end: the look says how the job stands.
 ///
-/// Refusals: `Memory`, after which nothing was recorded or asked; `Full` and `Disk` as of recording an event: the aborts
-/// and the look were made.
+/// Refusals: `Memory`, after which nothing was recorded or asked; `Full` and `Disk` as of recording an event: the
+/// aborts and the look were made.
 pub fn look<S: Site>(
     alloc: Global,
     manager: &mut Manager<S>,

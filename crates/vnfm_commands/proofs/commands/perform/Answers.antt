@@ -61,7 +61,8 @@ returns-in_err-manager-in-Once-clause-does g c =
       ap loads c.in-Once.is,
       does_not_open _ why _ behind leaves c.in_err-manager-in-Once.ensures.told c.in_err-manager-in-Once.ensures.opens
           (rests_opened _ _ _ _ _ _ _ _ _ _ _ _ (λ told. (leaves told (c.in_err-manager-in-Once.ensures.told told)).0)
-          (unopened_fails why c.from_residual-in_err-manager-in-Once.result _ _ c.in_err-manager-in-Once.ensures.counts (err.1 ∙ ap Err err.2))),
+          (unopened_fails why c.from_residual-in_err-manager-in-Once.result _ _ c.in_err-manager-in-Once.ensures.counts
+          (err.1 ∙ ap Err err.2))),
       err.1 ∙ ap Err err.2,
     )
 
@@ -79,12 +80,21 @@ returns-in_ok-onboard-in-Onboard-clause-does g c =
     (g.C.Courier.state c.args.courier.now) (g.C.Courier.counts c.args.courier.now) (g.K.Clock.state c.onboard.new.clock) in (
       opened (opening_of c.in_ok-manager-in-Onboard.manager start.0) (onboarding it.0),
       c.in-Onboard.is,
-      does_activity _ c.in_ok-manager-in-Onboard.manager _ start.0 (onboarding it.0) _ middle _ (c.works_add_up.ensures.stays c.load.new.site)
+      does_activity _ c.in_ok-manager-in-Onboard.manager _ start.0 (onboarding it.0) _ middle _
+          (c.works_add_up.ensures.stays c.load.new.site)
           (c.works_add_up.ensures.stays c.onboard.new.site)
           (c.works_with_jobs_add_up.ensures.follows c.args.site.now c.load.new.site c.onboard.new.site) leaves
           (c.works_with_jobs_add_up.ensures.works c.load.new.site c.onboard.new.site) c.in_ok-manager-in-Onboard.ensures.number
           c.in_ok-manager-in-Onboard.ensures.told start.1
-          (record { works = it.1.works; does = (it.1.brings, asks_nobody _ _ middle behind refl refl it.1.works.jobs c.in_ok-onboard-in-Onboard.ensures.disk); told = it.1.brings.unnoted })
+          (record {
+            works = it.1.works;
+            does = (
+              it.1.brings,
+              asks_nobody _ _ middle behind refl refl it.1.works.jobs
+                  c.in_ok-onboard-in-Onboard.ensures.disk,
+            );
+            told = it.1.brings.unnoted;
+          })
           (rests_opened _ _ _ _ _ _ _ _ _ _ _ _ (λ told. (leaves told (c.in_ok-manager-in-Onboard.ensures.told told)).0) clean),
       ap onboarding_ending it.2,
     )
@@ -105,12 +115,21 @@ returns-in_err-onboard-in-Onboard-clause-does g c =
     (g.C.Courier.state c.args.courier.now) (g.C.Courier.counts c.args.courier.now) (g.K.Clock.state c.onboard.new.clock) in (
       opened (opening_of c.in_ok-manager-in-Onboard.manager start.0) (onboarding it.0),
       c.in-Onboard.is,
-      does_activity _ c.in_ok-manager-in-Onboard.manager _ start.0 (onboarding it.0) _ middle _ (c.works_add_up.ensures.stays c.load.new.site)
+      does_activity _ c.in_ok-manager-in-Onboard.manager _ start.0 (onboarding it.0) _ middle _
+          (c.works_add_up.ensures.stays c.load.new.site)
           (c.works_add_up.ensures.stays c.onboard.new.site)
           (c.works_with_jobs_add_up.ensures.follows c.args.site.now c.load.new.site c.onboard.new.site) leaves
           (c.works_with_jobs_add_up.ensures.works c.load.new.site c.onboard.new.site) c.in_ok-manager-in-Onboard.ensures.number
           c.in_ok-manager-in-Onboard.ensures.told start.1
-          (record { works = it.1.works; does = (it.1.brings, asks_nobody _ _ middle behind refl refl it.1.works.jobs c.in_err-onboard-in-Onboard.ensures.disk); told = it.1.brings.unnoted })
+          (record {
+            works = it.1.works;
+            does = (
+              it.1.brings,
+              asks_nobody _ _ middle behind refl refl it.1.works.jobs
+                  c.in_err-onboard-in-Onboard.ensures.disk,
+            );
+            told = it.1.brings.unnoted;
+          })
           (rests_opened _ _ _ _ _ _ _ _ _ _ _ _ (λ told. (leaves told (c.in_ok-manager-in-Onboard.ensures.told told)).0) clean),
       err.1 ∙ ap Err err.2 ∙ ap onboarding_ending it.2,
     )
@@ -135,7 +154,8 @@ returns-in_ok-manager-in-Once-clause-does g c =
     (g.C.Courier.state c.args.courier.now) (g.C.Courier.counts c.args.courier.now) (g.K.Clock.state c.args.clock.now) in (
       opened (opening_of c.in_ok-manager-in-Once.manager start.0) (serving it.0),
       record { command = c.in-Once.is; role = it.2; count = it.3 },
-      does_activity _ c.in_ok-manager-in-Once.manager _ start.0 (serving it.0) _ middle _ (c.works_add_up.ensures.stays c.load-in-Once.new.site)
+      does_activity _ c.in_ok-manager-in-Once.manager _ start.0 (serving it.0) _ middle _
+          (c.works_add_up.ensures.stays c.load-in-Once.new.site)
           (c.works_add_up.ensures.stays c.make_rounds.new.site)
           (c.works_with_jobs_add_up.ensures.follows c.args.site.now c.load-in-Once.new.site c.make_rounds.new.site) leaves
           (c.works_with_jobs_add_up.ensures.works c.load-in-Once.new.site c.make_rounds.new.site) c.in_ok-manager-in-Once.ensures.number
