@@ -1,9 +1,11 @@
 -- What goes out on a connection to a target, and what doesn't.
-use Rattle.std.proofs.Common.{◌≡◌, ◌∙◌, ℕ, Bool, true, false, List, ◌∷◌, Option, Some, None, Result, Ok, Err, refl, sym, ap, subst}
-use Rattle.std.specs.Prelude.{IfSome, MatchBool}
+use Rattle.std.proofs.Common.{◌≡◌, ◌∙◌, ℕ, List, ◌∷◌, Option, Some, None, Result, Ok, Err, refl, sym, ap, subst}
+use Rattle.std.specs.Prelude.{IfSome, MatchOption}
 use Rattle.std.specs.String.{string_bytes}
 use Rattle.edge_limits.specs.declared.limits.Exchange.{Exchange}
-use Rattle.peer_exchange.specs.Exchanges.{SendsFront}
+use Rattle.net_calls.specs.Connections.{Vain}
+use Rattle.peer_exchange.specs.Exchanges.{Counts, IsSent}
+use Rattle.peer_exchange.specs.declared.exchanging.Lost.{Lost}
 use Rattle.http_peers.specs.Gone.{GoneOut}
 use Rattle.http_peers.specs.Sent.{IsConnected, IsHad, IsNotHad, IsOpenAt, IsOpenFor, IsOpenTo, IsWhyUnopened}
 use Rattle.http_peers.specs.Sent.{IsWhyUnopenedAt, IsWhyUnsent, Sends, SendsBy, SendsTo, fault_by}
@@ -15,16 +17,16 @@ use Rattle.http_peers.specs.declared.targets.Target.{Target}
 use Rattle.http_peers.specs.declared.targets.TargetFault.{TargetFault}
 use Rattle.http_peers.specs.declared.targets.TargetFault.TheVariants as none
 
--- a call without an answer has none
-pub unanswered : {P : Type 0} → false ≡ true → P
-unanswered e = absurd (subst (λ b. MatchBool b ⊥ (Unit {0})) e tt)
+-- a call that was lost has no answer
+pub unanswered : {P : Type 0} {why : Lost} → Some why ≡ None → P
+unanswered e = absurd (subst (λ (w : Option Lost). MatchOption w ⊥ (λ _. Unit {0})) e tt)
 
-module _ {C : Type 0} (outgoing left : C → List ℕ) (was : Option (Opened C)) (offered : List ℕ → Option C) where
+module _ {C : Type 0} (outgoing left : C → List ℕ) (vain : C → Vain) (was : Option (Opened C)) (offered : List ℕ → Option C) where
   -- where no connection to a target could be opened, nothing goes out to it
   pub sends_nothing : (request : List ℕ → List ℕ → List ℕ) (limits : Exchange) (hears : List ℕ → Type 0) (target : Target)
       (address : List ℕ) (why : CallFault) (old new : List GoneOut) → address ≡ string_bytes target.address
       → IsWhyUnopened was offered address why → new ≡ old
-      → Sends outgoing left was offered (λ t. t ≡ target) request limits hears (Some why) old new
+      → Sends outgoing left vain was offered (λ t. t ≡ target) request limits hears (Some why) old new
   sends_nothing request limits hears target address fault.NoTarget old new at unopened same = absurd unopened
   sends_nothing request limits hears target address fault.Unreached old new at unopened same =
       ((target, refl, subst (IsNotHad was offered) at unopened), same)
@@ -32,45 +34,56 @@ module _ {C : Type 0} (outgoing left : C → List ℕ) (was : Option (Opened C))
   sends_nothing request limits hears target address fault.Memory old new at unopened same = (tt, same)
 
   -- the request that goes out on the connection that was opened to a target goes to this target
-  pub sends_one : (request : List ℕ → List ℕ → List ℕ) (limits : Exchange) (answered : Bool) (hears : List ℕ → Type 0) (target : Target)
-      (address sent bytes : List ℕ) (allowed : ℕ) (now : Option (Opened C)) (opened : Opened C) (old before new : List GoneOut)
-      → address ≡ string_bytes target.address → now ≡ Some opened → IsOpenTo address now → IfSome now (IsConnected was offered)
-      → sent ≡ request target.host target.path → SendsFront answered sent (outgoing opened.connection) bytes
-      → (answered ≡ true → hears (left opened.connection)) → before ≡ old
-      → new ≡ record { address = string_bytes opened.address; bytes = bytes; limits = limits; allowed = allowed } ∷ before
-      → SendsTo outgoing left was offered (λ t. t ≡ target) request limits answered hears old new
-  sends_one request limits answered hears target address sent bytes allowed now opened old before new at is is_open had is_sent front read
-      is_old is_new =
+  pub sends_one : (request : List ℕ → List ℕ → List ℕ) (limits : Exchange) (why : Option Lost) (hears : List ℕ → Type 0) (target : Target)
+      (address sent bytes : List ℕ) (allowed : ℕ) (in_vain : Vain) (now : Option (Opened C)) (opened : Opened C)
+      (old before new : List GoneOut) → address ≡ string_bytes target.address → now ≡ Some opened → IsOpenTo address now
+      → IfSome now (IsConnected was offered)
+      → sent ≡ request target.host target.path → IsSent why sent (outgoing opened.connection) bytes
+      → Counts why (vain opened.connection) in_vain → (why ≡ None → hears (left opened.connection)) → before ≡ old
+      → new ≡ record { address = string_bytes opened.address; bytes = bytes; limits = limits; allowed = allowed; vain = in_vain } ∷ before
+      → SendsTo outgoing left vain was offered (λ t. t ≡ target) request limits why hears old new
+  sends_one request limits why hears target address sent bytes allowed in_vain now opened old before new at is is_open had is_sent front
+      counts read is_old is_new =
       let there : string_bytes opened.address ≡ string_bytes target.address = subst (IsOpenTo address) is is_open ∙ at in
       record {
         target = target;
         connection = opened.connection;
         bytes = bytes;
         allowed = allowed;
+        in_vain = in_vain;
         leads_to = refl;
         had = subst (λ a. IsHad was offered a opened.connection) there (subst (λ o. IfSome o (IsConnected was offered)) is had);
         gone = is_new
-            ∙ ap (λ a. record { address = a; bytes = bytes; limits = limits; allowed = allowed } ∷ before) there
-            ∙ ap (λ log. record { address = string_bytes target.address; bytes = bytes; limits = limits; allowed = allowed } ∷ log) is_old;
-        sent = subst (λ s. SendsFront answered s (outgoing opened.connection) bytes) is_sent front;
+            ∙ ap (λ a. record { address = a; bytes = bytes; limits = limits; allowed = allowed; vain = in_vain } ∷ before) there
+            ∙ ap (λ log. record {
+              address = string_bytes target.address;
+              bytes = bytes;
+              limits = limits;
+              allowed = allowed;
+              vain = in_vain;
+            } ∷ log) is_old;
+        sent = subst (λ s. IsSent why s (outgoing opened.connection) bytes) is_sent front;
+        counts = counts;
         read = read;
       }
 
   -- what goes out to one target goes out to where that one leads
-  sends_where : (leads : Target → Type 0) (request : List ℕ → List ℕ → List ℕ) (limits : Exchange) (answered : Bool)
+  sends_where : (leads : Target → Type 0) (request : List ℕ → List ℕ → List ℕ) (limits : Exchange) (why : Option Lost)
       (hears heard : List ℕ → Type 0) (target : Target) (old new : List GoneOut) → leads target
-      → (answered ≡ true → (bytes : List ℕ) → heard bytes → hears bytes)
-      → SendsTo outgoing left was offered (λ t. t ≡ target) request limits answered heard old new
-      → SendsTo outgoing left was offered leads request limits answered hears old new
-  sends_where leads request limits answered hears heard target old new is same sends = record {
+      → (why ≡ None → (bytes : List ℕ) → heard bytes → hears bytes)
+      → SendsTo outgoing left vain was offered (λ t. t ≡ target) request limits why heard old new
+      → SendsTo outgoing left vain was offered leads request limits why hears old new
+  sends_where leads request limits why hears heard target old new is same sends = record {
     target = sends.target;
     connection = sends.connection;
     bytes = sends.bytes;
     allowed = sends.allowed;
+    in_vain = sends.in_vain;
     leads_to = subst leads (sym sends.leads_to) is;
     had = sends.had;
     gone = sends.gone;
     sent = sends.sent;
+    counts = sends.counts;
     read = λ came. same came (left sends.connection) (sends.read came);
   }
 
@@ -78,8 +91,8 @@ module _ {C : Type 0} (outgoing left : C → List ℕ) (was : Option (Opened C))
   pub sends_for : (leads : Target → Type 0) (request : List ℕ → List ℕ → List ℕ) (limits : Exchange) (hears heard : List ℕ → Type 0)
       (target : Result Target TargetFault) (why : Option CallFault) (old new : List GoneOut) → Finds leads target
       → (why ≡ None → (bytes : List ℕ) → heard bytes → hears bytes)
-      → SendsBy outgoing left was offered target request limits heard why old new
-      → Sends outgoing left was offered leads request limits hears why old new
+      → SendsBy outgoing left vain was offered target request limits heard why old new
+      → Sends outgoing left vain was offered leads request limits hears why old new
   sends_for leads request limits hears heard (Ok target) None old new found same sends =
       sends_where leads request limits _ hears heard target old new found (λ _. same refl) sends
   sends_for leads request limits hears heard (Ok target) (Some fault.NoTarget) old new found same sends = absurd (sends.0 target refl)
@@ -89,28 +102,28 @@ module _ {C : Type 0} (outgoing left : C → List ℕ) (was : Option (Opened C))
       sends_where leads request limits _ hears heard target old new found unanswered sends
   sends_for leads request limits hears heard (Ok target) (Some fault.Memory) old new found same sends = sends
   sends_for leads request limits hears heard (Err none.NoTarget) why old new found same sends =
-      subst (λ w. Sends outgoing left was offered leads request limits hears w old new) (sym sends.0) (found, sends.1)
+      subst (λ w. Sends outgoing left vain was offered leads request limits hears w old new) (sym sends.0) (found, sends.1)
   sends_for leads request limits hears heard (Err none.Memory) why old new found same sends =
-      subst (λ w. Sends outgoing left was offered leads request limits hears w old new) (sym sends.0) (tt, sends.1)
+      subst (λ w. Sends outgoing left vain was offered leads request limits hears w old new) (sym sends.0) (tt, sends.1)
 
   -- what goes out to a target that was found
   pub sends_found : (request : List ℕ → List ℕ → List ℕ) (limits : Exchange) (hears heard : List ℕ → Type 0)
       (found : Result Target TargetFault) (target : Target) (why was_why : Option CallFault) (old new was_new : List GoneOut)
       → found ≡ Ok target → hears ≡ heard → why ≡ was_why → new ≡ was_new
-      → Sends outgoing left was offered (λ t. t ≡ target) request limits heard was_why old was_new
-      → SendsBy outgoing left was offered found request limits hears why old new
+      → Sends outgoing left vain was offered (λ t. t ≡ target) request limits heard was_why old was_new
+      → SendsBy outgoing left vain was offered found request limits hears why old new
   sends_found request limits hears heard found target why was_why old new was_new is is_heard is_why is_new sends =
-      subst (λ f. SendsBy outgoing left was offered f request limits hears why old new) (sym is)
-      (subst (λ h. Sends outgoing left was offered (λ t. t ≡ target) request limits h why old new) (sym is_heard)
-      (subst (λ w. Sends outgoing left was offered (λ t. t ≡ target) request limits heard w old new) (sym is_why)
-      (subst (Sends outgoing left was offered (λ t. t ≡ target) request limits heard was_why old) (sym is_new) sends)))
+      subst (λ f. SendsBy outgoing left vain was offered f request limits hears why old new) (sym is)
+      (subst (λ h. Sends outgoing left vain was offered (λ t. t ≡ target) request limits h why old new) (sym is_heard)
+      (subst (λ w. Sends outgoing left vain was offered (λ t. t ≡ target) request limits heard w old new) (sym is_why)
+      (subst (Sends outgoing left vain was offered (λ t. t ≡ target) request limits heard was_why old) (sym is_new) sends)))
 
   -- nothing goes out where none was found
   pub sends_none : (request : List ℕ → List ℕ → List ℕ) (limits : Exchange) (hears : List ℕ → Type 0) (found : Result Target TargetFault)
       (fault : TargetFault) (why : Option CallFault) (old new : List GoneOut) → found ≡ Err fault → why ≡ Some (fault_by fault)
-      → new ≡ old → SendsBy outgoing left was offered found request limits hears why old new
+      → new ≡ old → SendsBy outgoing left vain was offered found request limits hears why old new
   sends_none request limits hears found fault why old new is is_why same =
-      subst (λ f. SendsBy outgoing left was offered f request limits hears why old new) (sym is) (is_why, same)
+      subst (λ f. SendsBy outgoing left vain was offered f request limits hears why old new) (sym is) (is_why, same)
 
   -- why no connection could be opened by what was found of a target
   pub unopened_for : (leads : Target → Type 0) (target : Result Target TargetFault) (why : Option CallFault) → Finds leads target

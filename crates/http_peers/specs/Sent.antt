@@ -3,8 +3,11 @@ use Rattle.std.specs.Prelude.{◌≡◌, ◌⊎◌, ℕ, Bool, true, false, List
 use Rattle.std.specs.Prelude.{Result, Ok, Err}
 use Rattle.std.specs.String.{string_bytes}
 use Rattle.edge_limits.specs.declared.limits.Exchange.{Exchange}
+use Rattle.net_calls.specs.Connections.{Vain}
 use Rattle.net_calls.specs.Network.{offers_after}
-use Rattle.peer_exchange.specs.Exchanges.{IsLost, SendsFront, WaitsBy}
+use Rattle.peer_exchange.specs.Exchanges.{Counts, IsLost, IsSent, IsTimed}
+use Rattle.peer_exchange.specs.declared.exchanging.Lost.{Lost}
+use Rattle.peer_exchange.specs.declared.looking.Look.{Look}
 use Rattle.http_client.specs.Responses.{AreAnswer, whole}
 use Rattle.site_traits.specs.Answer.{Answer}
 use Rattle.site_traits.specs.declared.courier.PostAnswer.{PostAnswer}
@@ -86,15 +89,17 @@ pub record IsHeardFrom (came : List ℕ) (heard : Answer) (left : List ℕ) : Ty
   pub first : left ≡ came ++ more
   pub end : ended ≡ true → more ≡ []
 
--- One request went out under these limits, all of it or a front of it, on one connection to where it leads. Where all
--- of it did and an answer came, that was heard from this connection.
-pub record SendsTo {C : Type 0} (outgoing : C → List ℕ) (left : C → List ℕ) (was : Option (Opened C))
+-- One request went out under these limits on one connection to where it leads: all of it, or as much as by then where
+-- the exchange was lost for this cause. As many calls on it were in vain as the cause says. Where an answer came, that
+-- was heard from this connection.
+pub record SendsTo {C : Type 0} (outgoing : C → List ℕ) (left : C → List ℕ) (vain : C → Vain) (was : Option (Opened C))
     (offered : List ℕ → Option C) (leads : Target → Type 0) (request : List ℕ → List ℕ → List ℕ) (limits : Exchange)
-    (answered : Bool) (hears : List ℕ → Type 0) (old new : List GoneOut) : Type 0 where
+    (why : Option Lost) (hears : List ℕ → Type 0) (old new : List GoneOut) : Type 0 where
   pub target : Target
   pub connection : C
   pub bytes : List ℕ
   pub allowed : ℕ
+  pub in_vain : Vain
   pub leads_to : leads target
   pub had : IsHad was offered (string_bytes target.address) connection
   pub gone : new ≡ record {
@@ -102,20 +107,22 @@ pub record SendsTo {C : Type 0} (outgoing : C → List ℕ) (left : C → List �
     bytes = bytes;
     limits = limits;
     allowed = allowed;
+    vain = in_vain;
   } ∷ old
-  pub sent : SendsFront answered (request target.host target.path) (outgoing connection) bytes
-  pub read : answered ≡ true → hears (left connection)
+  pub sent : IsSent why (request target.host target.path) (outgoing connection) bytes
+  pub counts : Counts why (vain connection) in_vain
+  pub read : why ≡ None → hears (left connection)
 
--- What goes out for a call, by why it has no answer: the request once, all of it where an answer came; a front of it
--- where the exchange was lost; and nothing for another cause.
-abbrev pub Sends : {C : Type 0} → (C → List ℕ) → (C → List ℕ) → Option (Opened C) → (List ℕ → Option C)
-    → (Target → Type 0) → (List ℕ → List ℕ → List ℕ) → Exchange → (List ℕ → Type 0) → Option CallFault
-    → List GoneOut → List GoneOut → Type 0
-Sends outgoing left was offered leads request limits hears None old new =
-    SendsTo outgoing left was offered leads request limits true hears old new
-Sends outgoing left was offered leads request limits hears (Some (fault.Lost why)) old new =
-    SendsTo outgoing left was offered leads request limits false hears old new
-Sends outgoing left was offered leads request limits hears (Some why) old new =
+-- What goes out for a call, by why it has no answer: the request once, all of it where an answer came; as much of it as
+-- the cause says where the exchange was lost; and nothing for another cause.
+abbrev pub Sends : {C : Type 0} → (C → List ℕ) → (C → List ℕ) → (C → Vain) → Option (Opened C)
+    → (List ℕ → Option C) → (Target → Type 0) → (List ℕ → List ℕ → List ℕ) → Exchange → (List ℕ → Type 0)
+    → Option CallFault → List GoneOut → List GoneOut → Type 0
+Sends outgoing left vain was offered leads request limits hears None old new =
+    SendsTo outgoing left vain was offered leads request limits None hears old new
+Sends outgoing left vain was offered leads request limits hears (Some (fault.Lost why)) old new =
+    SendsTo outgoing left vain was offered leads request limits (Some why) hears old new
+Sends outgoing left vain was offered leads request limits hears (Some why) old new =
     IsWhyUnsent was offered leads why × (new ≡ old)
 
 -- why there is no answer, as the fault of a call
@@ -135,12 +142,12 @@ IsWhyUnopenedAt was offered (Ok target) why = IsWhyUnopened was offered (string_
 IsWhyUnopenedAt was offered (Err none) why = why ≡ fault_by none
 
 -- what goes out for a call to this target, or to none
-abbrev pub SendsBy : {C : Type 0} → (C → List ℕ) → (C → List ℕ) → Option (Opened C) → (List ℕ → Option C)
-    → Result Target TargetFault → (List ℕ → List ℕ → List ℕ) → Exchange → (List ℕ → Type 0) → Option CallFault
-    → List GoneOut → List GoneOut → Type 0
-SendsBy outgoing left was offered (Ok target) request limits hears why old new =
-    Sends outgoing left was offered (λ t. t ≡ target) request limits hears why old new
-SendsBy outgoing left was offered (Err none) request limits hears why old new =
+abbrev pub SendsBy : {C : Type 0} → (C → List ℕ) → (C → List ℕ) → (C → Vain) → Option (Opened C)
+    → (List ℕ → Option C) → Result Target TargetFault → (List ℕ → List ℕ → List ℕ) → Exchange → (List ℕ → Type 0)
+    → Option CallFault → List GoneOut → List GoneOut → Type 0
+SendsBy outgoing left vain was offered (Ok target) request limits hears why old new =
+    Sends outgoing left vain was offered (λ t. t ≡ target) request limits hears why old new
+SendsBy outgoing left vain was offered (Err none) request limits hears why old new =
     (why ≡ Some (fault_by none)) × (new ≡ old)
 
 -- the fault of an exchange that was lost says what came
@@ -149,9 +156,14 @@ IsLostBy heard most bytes (fault.Lost why) =
     IsLost (λ ended came judged. JudgedIs ended came heard judged) most bytes why
 IsLostBy heard most bytes why = Unit {0}
 
--- the last read of the answer was allowed to wait just as long as was left of the two times, by what the stopwatch
--- showed at the beginning and before that read
-abbrev pub IsInLimits : Exchange → Option ℕ → Option ℕ → List GoneOut → Type 0
-IsInLimits limits shows shown [] = ⊥
-IsInLimits limits shows shown (gone ∷ before) =
-    (began : ℕ) × (shows ≡ Some began) × WaitsBy limits began shown gone.allowed
+-- the last look and the last call of the exchange that went out last, by why it was lost, none where it wasn't
+abbrev pub IsTimedBy : ℕ → Option Look → Option Lost → List GoneOut → Type 0
+IsTimedBy most look why [] = ⊥
+IsTimedBy most look why (gone ∷ before) = IsTimed most look gone.allowed why
+
+-- The last read of an answer was allowed to wait just as long as the last look says; where the exchange was lost, that
+-- says what its last call was allowed, or that the time was over; and for another cause there was no exchange.
+abbrev pub IsInLimits : ℕ → Option Look → Option CallFault → List GoneOut → Type 0
+IsInLimits most look None sent = IsTimedBy most look None sent
+IsInLimits most look (Some (fault.Lost why)) sent = IsTimedBy most look (Some why) sent
+IsInLimits most look (Some why) sent = Unit {0}

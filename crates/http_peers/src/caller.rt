@@ -4,6 +4,7 @@ ghost use Rattle.std.specs.Result.{result_err};
 ghost use Rattle.std.specs.String.{string_bytes};
 ghost use Rattle.http_client.specs.Requests.{request};
 ghost use Rattle.net_calls.specs.Network.{offer_of};
+ghost use Rattle.peer_exchange.specs.Exchanges.{last_look};
 ghost use Rattle.http_peers.specs.Peers.{IsWholeAnswer};
 ghost use Rattle.http_peers.specs.Sent.{ConnectsAtMostOnce, IsConnected, IsInLimits, IsLostBy, IsOpenTo};
 ghost use Rattle.http_peers.specs.Sent.{IsHeardFrom, IsUnopened, IsWhyUnopened, Sends};
@@ -111,13 +112,15 @@ impl<N: HostNet + Drop, T: Stopwatch + Drop> HttpCaller<N, T> {
         requires { limits.silence < 2 ^ 32 }
         ensures heard { OnOk result (IsWholeAnswer self.new.room.bytes.items self.new.reply.heard) }
         ensures sends { N.tells → N.Connection.tells → Sends N.Connection.outgoing
-            (λ c. (N.Connection.incoming c).left) self.old.opened (λ a. offer_of (N.peers self.old.net a))
+            (λ c. (N.Connection.incoming c).left) N.Connection.vain self.old.opened
+            (λ a. offer_of (N.peers self.old.net a))
             (λ t. t ≡ target.now) (λ host path. request method.now host path body.now) limits
             (IsHeardFrom self.new.room.bytes.items self.new.reply.heard) (result_err result)
             self.old.log.sent self.new.log.sent }
         ensures lost { IfErr result (IsLostBy self.new.reply.heard self.new.room.most self.new.room.bytes.items) }
-        ensures in_limits { N.Connection.tells → T.tells → OnOk result (IsInLimits limits (T.shows self.old.watch)
-            (T.shown self.new.watch) self.new.log.sent) }
+        ensures in_limits { N.Connection.tells → T.tells → IsInLimits self.new.room.most
+            (last_look limits (T.shows self.old.watch) (T.shown self.new.watch)) (result_err result)
+            self.new.log.sent }
         ensures closed { self.new.opened ≡ None }
     {
         let Ok(bytes) = request_bytes(alloc, method, &target.host, &target.path, body) else {

@@ -3,6 +3,7 @@ ghost use Rattle.std.specs.Prelude.{◌≡◌, ℕ, [], codes, false, true, IfOk
 ghost use Rattle.std.specs.Option.{is_none};
 ghost use Rattle.http_client.specs.Requests.{request};
 ghost use Rattle.net_calls.specs.Network.{offer_of};
+ghost use Rattle.peer_exchange.specs.Exchanges.{last_look};
 ghost use Rattle.site_traits.specs.Counts.{one_more};
 ghost use Rattle.site_traits.specs.Peers.{Posts, PostCause};
 ghost use Rattle.http_peers.specs.Peers.{counted, IsWholeAnswer};
@@ -103,16 +104,16 @@ impl<'a, N: HostNet + Drop, T: Stopwatch + Drop> Courier for RealCourier<'a, N, 
             × (self.new.peer.caller.reply.heard.status ≡ status) }
         ensures fault { was_posted result ≡ is_none self.new.peer.fault }
         ensures sends { N.tells → N.Connection.tells → Sends N.Connection.outgoing
-            (λ c. (N.Connection.incoming c).left)
+            (λ c. (N.Connection.incoming c).left) N.Connection.vain
             self.old.peer.caller.opened (λ a. offer_of (N.peers self.old.peer.caller.net a))
             (IsCallbackTarget uri.now) (λ host path. request (codes "POST") host path body.now) POST
             (IsHeardFrom self.new.peer.caller.room.bytes.items self.new.peer.caller.reply.heard)
             self.new.peer.fault self.old.peer.caller.log.sent self.new.peer.caller.log.sent }
         ensures lost { IfSome self.new.peer.fault (IsLostBy self.new.peer.caller.reply.heard
             self.new.peer.caller.room.most self.new.peer.caller.room.bytes.items) }
-        ensures in_limits { N.Connection.tells → T.tells → was_posted result ≡ true → IsInLimits POST
-            (T.shows self.old.peer.caller.watch) (T.shown self.new.peer.caller.watch)
-            self.new.peer.caller.log.sent }
+        ensures in_limits { N.Connection.tells → T.tells → IsInLimits self.new.peer.caller.room.most
+            (last_look POST (T.shows self.old.peer.caller.watch) (T.shown self.new.peer.caller.watch))
+            self.new.peer.fault self.new.peer.caller.log.sent }
         ensures closed { self.new.peer.caller.opened ≡ None }
         ensures cause { PostCause result (counted self.old.peer.calls self.old.peer.faults)
             (counted self.new.peer.calls self.new.peer.faults) }

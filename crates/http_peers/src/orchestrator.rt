@@ -5,6 +5,7 @@ ghost use Rattle.std.specs.Prelude.{OnOk, Some, option_copied, if◌then◌else�
 ghost use Rattle.http_client.specs.Requests.{request};
 ghost use Rattle.net_calls.specs.Network.{offer_of};
 ghost use Rattle.url.specs.Parts.{Parts};
+ghost use Rattle.peer_exchange.specs.Exchanges.{last_look};
 ghost use Rattle.site_traits.specs.Counts.{one_more};
 ghost use Rattle.site_traits.specs.Peers.{Asks, Polls, CallCause};
 ghost use Rattle.http_peers.specs.Peers.{counted, silent, IsWholeAnswer};
@@ -205,16 +206,16 @@ impl<'a, N: HostNet + Drop, T: Stopwatch + Drop> Orchestrator for RealOrchestrat
         ensures kept { result ≡ Call.Failed → heard.new ≡ heard.old }
         ensures fault { has_come result ≡ is_none self.new.peer.fault }
         ensures sends { N.tells → N.Connection.tells → Sends N.Connection.outgoing
-            (λ c. (N.Connection.incoming c).left)
+            (λ c. (N.Connection.incoming c).left) N.Connection.vain
             self.old.peer.caller.opened (λ a. offer_of (N.peers self.old.peer.caller.net a))
             (IsGrantTarget self.old.at None) (λ host path. request (codes "POST") host path body.now)
             ORCHESTRATOR (IsHeardFrom self.new.peer.caller.room.bytes.items heard.new) self.new.peer.fault
             self.old.peer.caller.log.sent self.new.peer.caller.log.sent }
         ensures lost { IfSome self.new.peer.fault (IsLostBy self.new.peer.caller.reply.heard
             self.new.peer.caller.room.most self.new.peer.caller.room.bytes.items) }
-        ensures in_limits { N.Connection.tells → T.tells → result ≡ Call.Came → IsInLimits ORCHESTRATOR
-            (T.shows self.old.peer.caller.watch) (T.shown self.new.peer.caller.watch)
-            self.new.peer.caller.log.sent }
+        ensures in_limits { N.Connection.tells → T.tells → IsInLimits self.new.peer.caller.room.most
+            (last_look ORCHESTRATOR (T.shows self.old.peer.caller.watch) (T.shown self.new.peer.caller.watch))
+            self.new.peer.fault self.new.peer.caller.log.sent }
         ensures closed { self.new.peer.caller.opened ≡ None }
         ensures at { self.new.at ≡ self.old.at }
         ensures cause { CallCause result (counted self.old.peer.calls self.old.peer.faults)
@@ -232,16 +233,16 @@ impl<'a, N: HostNet + Drop, T: Stopwatch + Drop> Orchestrator for RealOrchestrat
         ensures kept { result ≡ Call.Failed → heard.new ≡ heard.old }
         ensures fault { has_come result ≡ is_none self.new.peer.fault }
         ensures sends { N.tells → N.Connection.tells → Sends N.Connection.outgoing
-            (λ c. (N.Connection.incoming c).left)
+            (λ c. (N.Connection.incoming c).left) N.Connection.vain
             self.old.peer.caller.opened (λ a. offer_of (N.peers self.old.peer.caller.net a))
             (IsGrantTarget self.old.at (Some location.now)) (λ host path. request (codes "GET") host path [])
             ORCHESTRATOR (IsHeardFrom self.new.peer.caller.room.bytes.items heard.new) self.new.peer.fault
             self.old.peer.caller.log.sent self.new.peer.caller.log.sent }
         ensures lost { IfSome self.new.peer.fault (IsLostBy self.new.peer.caller.reply.heard
             self.new.peer.caller.room.most self.new.peer.caller.room.bytes.items) }
-        ensures in_limits { N.Connection.tells → T.tells → result ≡ Call.Came → IsInLimits ORCHESTRATOR
-            (T.shows self.old.peer.caller.watch) (T.shown self.new.peer.caller.watch)
-            self.new.peer.caller.log.sent }
+        ensures in_limits { N.Connection.tells → T.tells → IsInLimits self.new.peer.caller.room.most
+            (last_look ORCHESTRATOR (T.shows self.old.peer.caller.watch) (T.shown self.new.peer.caller.watch))
+            self.new.peer.fault self.new.peer.caller.log.sent }
         ensures closed { self.new.peer.caller.opened ≡ None }
         ensures at { self.new.at ≡ self.old.at }
         ensures cause { CallCause result (counted self.old.peer.calls self.old.peer.faults)

@@ -5,6 +5,7 @@ ghost use Rattle.std.specs.Result.{is_ok, result_err};
 ghost use Rattle.http_client.specs.Requests.{request};
 ghost use Rattle.net_calls.specs.Network.{offer_of};
 ghost use Rattle.site_traits.specs.Counts.{one_more};
+ghost use Rattle.peer_exchange.specs.Exchanges.{last_look};
 ghost use Rattle.http_peers.specs.Peers.{IsWholeAnswer};
 ghost use Rattle.http_peers.specs.Sent.{IsConnected, IsHeardFrom, IsInLimits, IsLostBy, IsOpenAt, IsWhyUnopenedAt};
 ghost use Rattle.http_peers.specs.Sent.{SendsBy};
@@ -97,15 +98,16 @@ impl<'a, N: HostNet + Drop, T: Stopwatch + Drop> HttpPeer<'a, N, T> {
         ensures heard { IsTrue result
             → IsWholeAnswer self.new.caller.room.bytes.items self.new.caller.reply.heard }
         ensures sends { N.tells → N.Connection.tells → SendsBy N.Connection.outgoing
-            (λ c. (N.Connection.incoming c).left) self.old.caller.opened
+            (λ c. (N.Connection.incoming c).left) N.Connection.vain self.old.caller.opened
             (λ a. offer_of (N.peers self.old.caller.net a)) target
             (λ host path. request method.now host path body.now) limits
             (IsHeardFrom self.new.caller.room.bytes.items self.new.caller.reply.heard) self.new.fault
             self.old.caller.log.sent self.new.caller.log.sent }
         ensures lost { IfSome self.new.fault (IsLostBy self.new.caller.reply.heard self.new.caller.room.most
             self.new.caller.room.bytes.items) }
-        ensures in_limits { N.Connection.tells → T.tells → IsTrue result → IsInLimits limits
-            (T.shows self.old.caller.watch) (T.shown self.new.caller.watch) self.new.caller.log.sent }
+        ensures in_limits { N.Connection.tells → T.tells → IsInLimits self.new.caller.room.most
+            (last_look limits (T.shows self.old.caller.watch) (T.shown self.new.caller.watch)) self.new.fault
+            self.new.caller.log.sent }
         ensures closed { self.new.caller.opened ≡ None }
     {
         count_one(&mut self.calls);

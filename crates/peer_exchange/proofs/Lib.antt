@@ -1,1 +1,3 @@
+pub mod LostLaws
 pub mod PieceLaws
+pub mod SentLaws

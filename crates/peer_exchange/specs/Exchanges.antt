@@ -1,9 +1,10 @@
 -- One exchange on a connection: a request goes out, its reply comes in (own rules).
 use Rattle.std.specs.Prelude.{◌≡◌, ◌⊎◌, ℕ, ◌+◌, ◌-◌, ◌<◌, ◌≤◌, Bool, true, false, List, [], ◌++◌, length, take, Result}
-use Rattle.std.specs.Prelude.{Ok, Err, Option, Some, None, OnErr, IfOk, option_map}
+use Rattle.std.specs.Prelude.{Ok, Err, Option, Some, None, OnErr, IfOk, option_and_then, option_map, zero, suc}
 use Rattle.edge_limits.specs.declared.limits.Exchange.{Exchange}
 use Rattle.edge_limits.specs.Waits.{left, shorter}
 use Rattle.host_calls.specs.Streams.{Incoming, Got, GotNothing}
+use Rattle.net_calls.specs.Connections.{Vain, silent, faulted}
 use Rattle.peer_exchange.specs.declared.replies.Judged.{Judged}
 use Rattle.peer_exchange.specs.declared.replies.Judged.TheVariants as judged
 use Rattle.peer_exchange.specs.declared.looking.Look.{Look}
@@ -34,6 +35,38 @@ look_at limits began (Some now) = option_map (λ wait. record { wait = wait; now
 -- a call that was made behind a look was allowed to wait just as long as the look says
 abbrev pub WaitsBy : Exchange → ℕ → Option ℕ → ℕ → Type 0
 WaitsBy limits began shown allowed = option_map (λ look. look.wait) (look_at limits began shown) ≡ Some allowed
+
+-- the last look of an exchange, by what the watch showed at its beginning and at that look
+abbrev pub last_look : Exchange → Option ℕ → Option ℕ → Option Look
+last_look limits shows shown = option_and_then (λ began. look_at limits began shown) shows
+
+-- The last look and the last call, by why there was no reply, none where there was one: the time was over at that
+-- look, or the call was allowed to wait just as long as the look says. Where there is no room for a byte, no call may
+-- have been made.
+abbrev pub IsTimed : ℕ → Option Look → ℕ → Option Lost → Type 0
+IsTimed most look allowed (Some lost.Late) = look ≡ None
+IsTimed most look allowed (Some lost.TooLong) = 1 ≤ most → option_map (λ l. l.wait) look ≡ Some allowed
+IsTimed most look allowed why = option_map (λ l. l.wait) look ≡ Some allowed
+
+-- the calls in vain behind so many that signals interrupted, each of which counts as a fault
+abbrev pub interrupted : ℕ → Vain → Vain
+interrupted zero v = v
+interrupted (suc times) v = faulted (interrupted times v)
+
+-- no call waited in vain, and those that failed were interrupted
+abbrev pub IsInterrupted : Vain → Vain → Type 0
+IsInterrupted old new = (times : ℕ) × (new ≡ interrupted times old)
+
+-- the last call failed: it waited in vain, or failed in another way; those before it are as above
+abbrev pub HasFailed : Vain → Vain → Type 0
+HasFailed old new = (before : Vain) × IsInterrupted old before × ((new ≡ silent before) ⊎ (new ≡ faulted before))
+
+-- the calls in vain, by why there was no reply, none where there was one: a write or a read failed, or none did but
+-- those that were interrupted
+abbrev pub Counts : Option Lost → Vain → Vain → Type 0
+Counts (Some lost.Unsent) old new = HasFailed old new
+Counts (Some lost.Unread) old new = HasFailed old new
+Counts why old new = IsInterrupted old new
 
 -- the last call of an exchange that began then was made at this moment, before the whole time was over
 abbrev pub EndsInTime : Exchange → ℕ → ℕ → Type 0
@@ -76,10 +109,13 @@ Receives is tells most limits began bytes old new (Ok last) =
     IsReplied is tells bytes old new × EndsInTime limits began last
 Receives is tells most limits began bytes old new (Err why) = IsLost is most bytes why
 
--- the request went out: all of it, once, or, where the exchange failed, a front of it
-abbrev pub Sends : {T E : Type 0} → List ℕ → List ℕ → List ℕ → Result T E → Type 0
-Sends request old new (Ok t) = new ≡ old ++ request
-Sends request old new (Err e) = (k : ℕ) × (new ≡ old ++ take k request)
+-- How much of the request went out behind what was sent before, by why there was no reply, none where there was one:
+-- all of it, once; but where it couldn't be sent whole, a front that lacks some of it; and where the time was over, a
+-- front.
+abbrev pub IsSent : Option Lost → List ℕ → List ℕ → List ℕ → Type 0
+IsSent (Some lost.Unsent) request old new = (k : ℕ) × (k < length request) × (new ≡ old ++ take k request)
+IsSent (Some lost.Late) request old new = (k : ℕ) × (new ≡ old ++ take k request)
+IsSent why request old new = new ≡ old ++ request
 
 -- all of a request goes out behind what was sent before, once, or a front of it
 abbrev pub SendsFront : Bool → List ℕ → List ℕ → List ℕ → Type 0

@@ -1,7 +1,9 @@
 //! One exchange on a connection.
-ghost use Rattle.std.specs.Prelude.{◌≡◌, ◌⊎◌, ◌≤◌, ◌<◌, ◌^◌, [], IfOk, IfErr, Some, length, vec_len};
-ghost use Rattle.host_calls.specs.Streams.{Takes, TakesAll};
-ghost use Rattle.peer_exchange.specs.Exchanges.{EndsInTime, GivesAt, IsLost, IsReplied, Receives, Sends, WaitsBy};
+ghost use Rattle.std.specs.Prelude.{◌≡◌, ◌⊎◌, ◌≤◌, ◌<◌, ◌^◌, ◌≢◌, [], IfOk, IfErr, Some, length, vec_len};
+ghost use Rattle.std.specs.Result.{result_err};
+ghost use Rattle.host_calls.specs.Streams.{Takes};
+ghost use Rattle.peer_exchange.specs.Exchanges.{Counts, EndsInTime, GivesAt, IsLost, IsReplied, IsSent, IsTimed};
+ghost use Rattle.peer_exchange.specs.Exchanges.{Receives, last_look, look_at};
 
 use crate::looking::look_now;
 use crate::replies::{Judged, Reply};
@@ -20,9 +22,9 @@ const TRIES: u32 = 16;
 /// Why there was no reply.
 #[derive(Clone, Copy, PartialEq, Eq, Debug)]
 pub enum Lost {
-    /// The request couldn't be sent whole.
+    /// A write failed, took nothing, or found no room in its time, so that the request wasn't sent whole.
     Unsent,
-    /// The time was over.
+    /// The time was over, or the stopwatch showed nothing.
     Late,
     /// A read failed, or no byte came in its time.
     Unread,
@@ -72,7 +74,7 @@ impl Room {
 /// goes on behind it is refused. What came stands in the room.
 ///
 /// Each call waits as long as the look at the stopwatch before it says, and isn't made where nothing of its time is
-/// left.
+/// left. One that a signal interrupts is made again.
 ///
 /// Condition: nothing was judged of a reply before.
 /// Where it failed, the connection is of no use: a reply may still come on it.
@@ -86,12 +88,14 @@ pub fn exchange<R: Reply, C: Connection, T: Stopwatch>(
 ) -> Result<Spent, Lost>
     requires limits { limits.silence < 2 ^ 32 }
     requires fresh { R.judged reply.old [] }
-    ensures sends { C.tells → Sends request.now (C.outgoing connection.old) (C.outgoing connection.new) result }
+    ensures sends { C.tells → IsSent (result_err result) request.now (C.outgoing connection.old)
+        (C.outgoing connection.new) }
     ensures replied { IfOk result (λ spent. IsReplied (R.is reply.new) C.tells room.new.bytes.items
         (C.incoming connection.old) (C.incoming connection.new)) }
     ensures in_time { IfOk result (λ spent. EndsInTime limits spent.began spent.last) }
-    ensures waits { C.tells → T.tells → IfOk result (λ spent.
-        WaitsBy limits spent.began (T.shown watch.new) (C.allowed connection.new)) }
+    ensures timed { C.tells → T.tells → IsTimed room.new.most (last_look limits (T.shows watch.old) (T.shown watch.new))
+        (C.allowed connection.new) (result_err result) }
+    ensures counts { C.tells → Counts (result_err result) (C.vain connection.old) (C.vain connection.new) }
     ensures began { T.tells → IfOk result (λ spent. T.shows watch.old ≡ Some spent.began) }
     ensures lost { IfErr result (IsLost (R.is reply.new) room.new.most room.new.bytes.items) }
     ensures room { room.new.most ≡ room.old.most }
@@ -119,9 +123,13 @@ fn send<C: Connection, T: Stopwatch>(
     began: u64,
 ) -> Result<(), Lost>
     requires { limits.silence < 2 ^ 32 }
-    ensures sent { C.tells → TakesAll bytes.now result (C.outgoing connection.old) (C.outgoing connection.new) }
+    ensures sent { C.tells → IsSent (result_err result) bytes.now (C.outgoing connection.old)
+        (C.outgoing connection.new) }
     ensures kept { C.tells → C.incoming connection.new ≡ C.incoming connection.old }
     ensures why { IfErr result (λ lost. (lost ≡ Lost.Unsent) ⊎ (lost ≡ Lost.Late)) }
+    ensures timed { C.tells → T.tells → IfErr result (λ lost.
+        IsTimed 1 (look_at limits began (T.shown watch.new)) (C.allowed connection.new) (Some lost)) }
+    ensures counts { C.tells → Counts (result_err result) (C.vain connection.old) (C.vain connection.new) }
 {
     let mut sent = 0;
     'writes: while sent < bytes.len() {
@@ -144,11 +152,13 @@ fn write_some<C: Connection, T: Stopwatch>(
 ) -> Result<usize, Lost>
     requires { limits.silence < 2 ^ 32 }
     ensures most { IfOk result (λ n. n ≤ length bytes.now) }
+    ensures some { C.tells → 1 ≤ length bytes.now → IfOk result (λ n. 1 ≤ n) }
     ensures told { C.tells → Takes bytes.now result (C.outgoing connection.old) (C.outgoing connection.new) }
     ensures kept { C.tells → C.incoming connection.new ≡ C.incoming connection.old }
     ensures why { IfErr result (λ lost. (lost ≡ Lost.Unsent) ⊎ (lost ≡ Lost.Late)) }
-    ensures waits { C.tells → T.tells → IfOk result (λ n.
-        WaitsBy limits began (T.shown watch.new) (C.allowed connection.new)) }
+    ensures timed { C.tells → T.tells → IsTimed 1 (look_at limits began (T.shown watch.new))
+        (C.allowed connection.new) (result_err result) }
+    ensures counts { C.tells → Counts (result_err result) (C.vain connection.old) (C.vain connection.new) }
 {
     'tries: for _ in 0..TRIES {
         let Some(look) = look_now(watch, limits, began) else {
@@ -176,11 +186,13 @@ fn receive<R: Reply, C: Connection, T: Stopwatch>(
     requires fresh { R.judged reply.old [] }
     requires nothing { room.old.bytes.items ≡ [] }
     ensures kept { C.tells → C.outgoing connection.new ≡ C.outgoing connection.old }
-    ensures waits { C.tells → T.tells → IfOk result (λ last.
-        WaitsBy limits began (T.shown watch.new) (C.allowed connection.new)) }
+    ensures timed { C.tells → T.tells → IsTimed room.new.most (look_at limits began (T.shown watch.new))
+        (C.allowed connection.new) (result_err result) }
+    ensures counts { C.tells → Counts (result_err result) (C.vain connection.old) (C.vain connection.new) }
     ensures receives { Receives (R.is reply.new) C.tells room.new.most limits began room.new.bytes.items
         (C.incoming connection.old) (C.incoming connection.new) result }
     ensures room { room.new.most ≡ room.old.most }
+    ensures why { IfErr result (λ lost. lost ≢ Lost.Unsent) }
 {
     'reads: while room.bytes.len() < room.most {
         let (count, now) = match read_some(connection, watch, &mut room.piece, limits, began) {
@@ -216,8 +228,9 @@ fn read_some<C: Connection, T: Stopwatch>(
     ensures kept { C.tells → C.outgoing connection.new ≡ C.outgoing connection.old }
     ensures in_time { IfOk result (λ x. EndsInTime limits began x.1) }
     ensures why { IfErr result (λ lost. (lost ≡ Lost.Unread) ⊎ (lost ≡ Lost.Late)) }
-    ensures waits { C.tells → T.tells → IfOk result (λ x.
-        WaitsBy limits began (T.shown watch.new) (C.allowed connection.new)) }
+    ensures timed { C.tells → T.tells → IsTimed 1 (look_at limits began (T.shown watch.new))
+        (C.allowed connection.new) (result_err result) }
+    ensures counts { C.tells → Counts (result_err result) (C.vain connection.old) (C.vain connection.new) }
 {
     'tries: for _ in 0..TRIES {
         let Some(look) = look_now(watch, limits, began) else {

@@ -1,7 +1,12 @@
 -- What goes out of a line.
-use Rattle.std.proofs.Common.{◌≡◌, ℕ, Bool, true, false, List, ◌++◌, length, Option, Some, None, refl, sym, ap, subst, ◌∙◌, arith, inl}
+use Rattle.std.proofs.Common.{◌≡◌, ℕ, Bool, true, false, List, ◌++◌, length, Option, Some, None, Result, Ok, Err}
+use Rattle.std.proofs.Common.{refl, sym, ap, subst, ◌∙◌, arith, inl}
 use Rattle.std.proofs.lemmas.List.{append-nil, take_all}
-use Rattle.peer_exchange.specs.Exchanges.{SendsFront}
+use Rattle.std.specs.Prelude.{is_ok}
+use Rattle.std.specs.Result.{result_err}
+use Rattle.peer_exchange.specs.Exchanges.{IsSent, SendsFront}
+use Rattle.peer_exchange.specs.declared.exchanging.Lost.{Lost}
+use Rattle.peer_exchange.specs.declared.exchanging.Lost.TheVariants as lost
 use Rattle.vim_peers.specs.Sent.{GoesOut}
 use Rattle.vim_peers.specs.declared.opened.Opened.{Opened}
 
@@ -9,6 +14,18 @@ use Rattle.vim_peers.specs.declared.opened.Opened.{Opened}
 pub front_of_whole : (whole : Bool) (line old new : List ℕ) → SendsFront true line old new → SendsFront whole line old new
 front_of_whole true line old new sent = sent
 front_of_whole false line old new sent = (length line, sent ∙ sym (ap (λ x. old ++ x) (take_all (length line) line (omega arith))))
+
+-- as much of a line as went out by then is a front of it, and all of it where a reply came
+pub sent_front : {T : Type 0} (result : Result T Lost) (line old new : List ℕ) → IsSent (result_err result) line old new
+    → SendsFront (is_ok result) line old new
+sent_front (Ok reply) line old new sent = sent
+sent_front (Err lost.Unsent) line old new sent = (sent.0, sent.2)
+sent_front (Err lost.Late) line old new sent = sent
+sent_front (Err lost.Unread) line old new sent = front_of_whole false line old new sent
+sent_front (Err lost.Ended) line old new sent = front_of_whole false line old new sent
+sent_front (Err lost.NoReply) line old new sent = front_of_whole false line old new sent
+sent_front (Err lost.TooLong) line old new sent = front_of_whole false line old new sent
+sent_front (Err lost.Memory) line old new sent = front_of_whole false line old new sent
 
 -- where all of it went out, a front of it did, whatever the reply says
 goes_out_whole : {C : Type 0} (outgoing : C → List ℕ) (line : List ℕ) (whole : Bool) (old : Option (Opened C)) (offered : Option C)

@@ -1,5 +1,5 @@
 -- The one connection to an infrastructure (own rules).
-use Rattle.std.specs.Prelude.{◌≡◌, ◌⊎◌, ℕ, List, [], true, false, Option, Some, None, IfSome}
+use Rattle.std.specs.Prelude.{◌≡◌, ◌⊎◌, ℕ, Bool, List, [], true, false, Option, Some, None, IfSome}
 use Rattle.host_calls.specs.Streams.{Incoming}
 use Rattle.site_traits.specs.declared.jobs.BeginAnswer.{BeginAnswer}
 use Rattle.site_traits.specs.declared.jobs.BeginAnswer.TheVariants as begin
@@ -35,6 +35,12 @@ EndsBeforeNext incoming (Some old) (Some new) = IsStill old new ⊎ WasReadOut i
 abbrev pub IsReady : {C : Type 0} → Option (Opened C) → Type 0
 IsReady None = ⊥
 IsReady (Some o) = o.failed ≡ false
+
+-- no connection has to end before a call is made: none is open; or no call failed on the one that is, and none was made
+-- on it, or it has neither ended nor did something come that no call asked for
+abbrev pub IsFree : {C : Type 0} → (C → Bool) → Option (Opened C) → Type 0
+IsFree quiet None = Unit {0}
+IsFree quiet (Some o) = (o.failed ≡ false) × ((o.used ≡ false) ⊎ (quiet o.connection ≡ true))
 
 -- behind a call that failed there is no connection, or one that failed
 abbrev pub IsSpent : {C : Type 0} → Option (Opened C) → Type 0

@@ -6,7 +6,7 @@ ghost use Rattle.outside_edges.specs.Jobs.{JobCall};
 ghost use Rattle.vim_wire.specs.Lines.{call_line};
 ghost use Rattle.vim_wire.specs.declared.lines.VimCall.TheVariants as calls;
 ghost use Rattle.vim_peers.specs.Links.{IsReady, IsSaid, abort_by, begin_by, look_by};
-ghost use Rattle.vim_peers.specs.Sent.{GoesOut, HadGoneOut, has_aborted, has_begun, has_looked};
+ghost use Rattle.vim_peers.specs.Sent.{GoesOut, HadShown, has_aborted, has_begun, has_looked};
 
 use crate::link::VimLink;
 use edge_limits::Pulse;
@@ -85,7 +85,7 @@ impl<'a, N: HostNet + Drop, T: Stopwatch + Drop> Jobs<File> for VimPeer<'a, N, T
         ensures asks { self.new.log.calls ≡ JobCall.connecting result ∷ self.old.log.calls }
         ensures ready { IsTrue result → IsReady self.new.link.opened }
         ensures sends_nothing { N.tells → N.Connection.tells
-            → IfSome self.new.link.opened (λ o. HadGoneOut N.Connection.outgoing self.old.link.opened
+            → IfSome self.new.link.opened (λ o. HadShown N.Connection.outgoing self.old.link.opened
             (offer_of (N.peers self.old.link.net (string_bytes self.old.link.address)))
             (N.Connection.outgoing o.connection)) }
     {

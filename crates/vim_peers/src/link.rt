@@ -1,12 +1,13 @@
 //! The one connection to an infrastructure.
-ghost use Rattle.std.specs.Prelude.{◌≡◌, ◌≤◌, ◌<◌, ◌^◌, [], IsTrue, IfOk, IfSome, OnErr, OnOk, None, Some, true, false};
-ghost use Rattle.std.specs.Result.{is_ok};
+ghost use Rattle.std.specs.Prelude.{◌≡◌, ◌≤◌, ◌<◌, ◌^◌, ◌≢◌, [], IsTrue, IfOk, IfSome, OnErr, OnOk, None, Some, true};
+ghost use Rattle.std.specs.Prelude.{false};
+ghost use Rattle.std.specs.Result.{is_ok, result_err};
 ghost use Rattle.std.specs.String.{string_bytes};
 ghost use Rattle.net_calls.specs.Network.{offer_of};
-ghost use Rattle.peer_exchange.specs.Exchanges.{SendsFront};
+ghost use Rattle.peer_exchange.specs.Exchanges.{Counts, IsSent, IsTimed, last_look};
 ghost use Rattle.vim_peers.specs.Lines.{IsLineOf, IsNoLine};
-ghost use Rattle.vim_peers.specs.Links.{EndsBeforeNext, IsReady, IsSpent};
-ghost use Rattle.vim_peers.specs.Sent.{ConnectsAtMostOnce, GoesOut, HadGoneOut};
+ghost use Rattle.vim_peers.specs.Links.{EndsBeforeNext, IsFree, IsReady, IsSpent};
+ghost use Rattle.vim_peers.specs.Sent.{ConnectsAtMostOnce, CountsOn, GoesOut, HadShown};
 
 use crate::opened::Opened;
 use crate::replies::LineReply;
@@ -72,11 +73,18 @@ impl<N: HostNet + Drop, T: Stopwatch + Drop> VimLink<N, T> {
         ensures room { self.new.room ≡ self.old.room }
         ensures one { N.Connection.tells → EndsBeforeNext N.Connection.incoming self.old.opened self.new.opened }
         ensures sends_nothing { N.tells → N.Connection.tells
-            → IfSome self.new.opened (λ o. HadGoneOut N.Connection.outgoing self.old.opened
+            → IfSome self.new.opened (λ o. HadShown N.Connection.outgoing self.old.opened
             (offer_of (N.peers self.old.net (string_bytes self.old.address))) (N.Connection.outgoing o.connection)) }
         ensures once { N.tells → ConnectsAtMostOnce (N.peers self.old.net (string_bytes self.old.address))
             (N.peers self.new.net (string_bytes self.old.address)) }
         ensures address { self.new.address ≡ self.old.address }
+        ensures unreached { N.tells → self.new.opened ≡ None
+            → offer_of (N.peers self.old.net (string_bytes self.old.address)) ≡ None }
+        ensures counts_nothing { N.tells → N.Connection.tells → IsFree N.Connection.quiet self.old.opened
+            → IfSome self.new.opened (λ o. HadShown N.Connection.vain self.old.opened
+            (offer_of (N.peers self.old.net (string_bytes self.old.address))) (N.Connection.vain o.connection)) }
+        ensures at_once { N.Connection.tells → IsFree N.Connection.quiet self.old.opened
+            → (self.new.watch ≡ self.old.watch) × (self.new.opened ≢ None → IsTrue result) }
     {
         if let Some(opened) = &mut self.opened {
             if is_ready(opened) {
@@ -112,6 +120,15 @@ impl<N: HostNet + Drop, T: Stopwatch + Drop> VimLink<N, T> {
         ensures once { N.tells → ConnectsAtMostOnce (N.peers self.old.net (string_bytes self.old.address))
             (N.peers self.new.net (string_bytes self.old.address)) }
         ensures address { self.new.address ≡ self.old.address }
+        ensures unreached { N.tells → self.new.opened ≡ None
+            → offer_of (N.peers self.old.net (string_bytes self.old.address)) ≡ None }
+        ensures in_limits { N.Connection.tells → T.tells → IsFree N.Connection.quiet self.old.opened
+            → IfSome self.new.opened (λ o. IsTimed self.new.room.most
+            (last_look INFRASTRUCTURE (T.shows self.old.watch) (T.shown self.new.watch))
+            (N.Connection.allowed o.connection) (result_err result)) }
+        ensures counts { N.tells → N.Connection.tells → IsFree N.Connection.quiet self.old.opened
+            → IfSome self.new.opened (CountsOn N.Connection.vain (result_err result) self.old.opened
+            (offer_of (N.peers self.old.net (string_bytes self.old.address)))) }
     {
         self.forget();
         if !self.connect() {
@@ -137,8 +154,13 @@ fn call_on<C: Connection + Drop, T: Stopwatch>(
     ensures failed { OnErr result (opened.new.failed ≡ true) }
     ensures sound { OnOk result (opened.new.failed ≡ false) }
     ensures used { opened.new.used ≡ true }
-    ensures sends { C.tells → SendsFront (is_ok result) line.now (C.outgoing opened.old.connection)
+    ensures sends { C.tells → IsSent (result_err result) line.now (C.outgoing opened.old.connection)
         (C.outgoing opened.new.connection) }
+    ensures in_limits { C.tells → T.tells → IsTimed room.new.most
+        (last_look INFRASTRUCTURE (T.shows watch.old) (T.shown watch.new))
+        (C.allowed opened.new.connection) (result_err result) }
+    ensures counts { C.tells → Counts (result_err result) (C.vain opened.old.connection)
+        (C.vain opened.new.connection) }
 {
     opened.used = true;
     let mut reply = LineReply::new();
@@ -170,6 +192,8 @@ fn is_ready<C: Connection + Drop>(opened: &mut Opened<C>) -> bool
     ensures kept { (opened.new.used ≡ opened.old.used) × (opened.new.failed ≡ opened.old.failed) }
     ensures bytes { C.tells → C.incoming opened.new.connection ≡ C.incoming opened.old.connection }
     ensures sends_nothing { C.tells → C.outgoing opened.new.connection ≡ C.outgoing opened.old.connection }
+    ensures counts_nothing { C.tells → C.vain opened.new.connection ≡ C.vain opened.old.connection }
+    ensures free { C.tells → IsFree C.quiet (Some opened.old) → IsTrue result }
 {
     !opened.failed && (!opened.used || opened.connection.is_quiet())
 }

@@ -8,7 +8,7 @@ use Rattle.http_peers.proofs.caller.HttpCaller.call.Goals as goal
 
 pub returns-in-Err-clause-sends : goal.returns-in-Err-clause-sends
 returns-in-Err-clause-sends g c = λ tells told.
-    sends_nothing g.N.Connection.Connection.outgoing (λ x. (g.N.Connection.Connection.incoming x).left)
+    sends_nothing g.N.Connection.Connection.outgoing (λ x. (g.N.Connection.Connection.incoming x).left) g.N.Connection.Connection.vain
     c.args.self.now.opened (λ a. offer_of (g.N.HostNet.peers c.args.self.now.net a))
     (λ host path. request c.args.method.now host path c.args.body.now) c.args.limits
     (IsHeardFrom c.connect.new.self.room.bytes.items c.connect.new.self.reply.heard) _ _ _ _ _
@@ -19,9 +19,9 @@ exchange-done-requires-clause-fresh g c = c.renew.ensures []
 
 pub returns-in-Ok-done-clause-sends : goal.returns-in-Ok-done-clause-sends
 returns-in-Ok-done-clause-sends g c = λ tells told. let replied = c.in-Ok-done.ensures.replied in
-    sends_one _ _ _ _ _ _ _ _ _ _ _ _ _ _ _ _ _ _ c.deref.ensures (sym c.take.ensures.value ∙ c.in-Some.is)
+    sends_one _ _ _ _ _ _ _ _ _ _ _ _ _ _ _ _ _ _ _ _ c.deref.ensures (sym c.take.ensures.value ∙ c.in-Some.is)
     c.in_default-connect.ensures.opens (c.connect.ensures.had tells) (c.as_slice.ensures ∙ c.in-Ok.ensures)
-    (c.in-Ok-done.ensures.sends told) (λ _. record {
+    (c.in-Ok-done.ensures.sends told) (c.in-Ok-done.ensures.counts told) (λ _. record {
       ended = replied.ended;
       are = replied.whole;
       more = _;
@@ -32,7 +32,7 @@ returns-in-Ok-done-clause-sends g c = λ tells told. let replied = c.in-Ok-done.
 
 pub returns-clause-sends : goal.returns-clause-sends
 returns-clause-sends g c = λ tells told.
-    sends_one _ _ _ _ _ _ _ _ _ _ _ _ _ _ _ _ _ _ c.deref.ensures (sym c.take.ensures.value ∙ c.in-Some.is)
+    sends_one _ _ _ _ _ _ _ _ _ _ _ _ _ _ _ _ _ _ _ _ c.deref.ensures (sym c.take.ensures.value ∙ c.in-Some.is)
     c.in_default-connect.ensures.opens (c.connect.ensures.had tells) (c.as_slice.ensures ∙ c.in-Ok.ensures)
-    (c.in-Err-done.ensures.sends told) unanswered (ap (λ s. s.log.sent) c.connect.ensures.rest)
+    (c.in-Err-done.ensures.sends told) (c.in-Err-done.ensures.counts told) unanswered (ap (λ s. s.log.sent) c.connect.ensures.rest)
     c.with-self.ensures

@@ -8,4 +8,5 @@ ghost-with g a = record {
   bytes = g.N.Connection.Connection.outgoing a.object.now.0.connection;
   limits = a.object.now.1;
   allowed = g.N.Connection.Connection.allowed a.object.now.0.connection;
+  vain = g.N.Connection.Connection.vain a.object.now.0.connection;
 }

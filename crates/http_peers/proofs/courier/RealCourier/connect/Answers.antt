@@ -11,7 +11,7 @@ returns-clause-opens g c = λ is.
 
 pub returns-clause-why : goal.returns-clause-why
 returns-clause-why g c = λ tells.
-    unopened_for g.N.Connection.Connection.outgoing (λ x. (g.N.Connection.Connection.incoming x).left)
+    unopened_for g.N.Connection.Connection.outgoing (λ x. (g.N.Connection.Connection.incoming x).left) g.N.Connection.Connection.vain
     c.args.self.now.peer.caller.opened (λ a. offer_of (g.N.HostNet.peers c.args.self.now.peer.caller.net a))
     (IsCallbackTarget c.args.uri.now) c.target_at-target.result c.connect.new.self.fault c.target_at-target.ensures
     (c.connect.ensures.why tells)

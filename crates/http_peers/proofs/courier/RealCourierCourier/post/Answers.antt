@@ -10,7 +10,7 @@ use Rattle.http_peers.proofs.courier.RealCourierCourier.post.Goals as goal
 
 pub returns-then-request-clause-sends : goal.returns-then-request-clause-sends
 returns-then-request-clause-sends g c = λ tells told.
-    sends_for g.N.Connection.Connection.outgoing (λ x. (g.N.Connection.Connection.incoming x).left)
+    sends_for g.N.Connection.Connection.outgoing (λ x. (g.N.Connection.Connection.incoming x).left) g.N.Connection.Connection.vain
     c.args.self.now.peer.caller.opened (λ a. offer_of (g.N.HostNet.peers c.args.self.now.peer.caller.net a))
     (IsCallbackTarget c.args.uri.now) (λ host path. request (codes "POST") host path c.args.body.now) POST
     (IsHeardFrom c.request.new.self.caller.room.bytes.items c.request.new.self.caller.reply.heard)
@@ -21,7 +21,7 @@ returns-then-request-clause-sends g c = λ tells told.
 
 pub returns-else-request-clause-sends : goal.returns-else-request-clause-sends
 returns-else-request-clause-sends g c = λ tells told.
-    sends_for g.N.Connection.Connection.outgoing (λ x. (g.N.Connection.Connection.incoming x).left)
+    sends_for g.N.Connection.Connection.outgoing (λ x. (g.N.Connection.Connection.incoming x).left) g.N.Connection.Connection.vain
     c.args.self.now.peer.caller.opened (λ a. offer_of (g.N.HostNet.peers c.args.self.now.peer.caller.net a))
     (IsCallbackTarget c.args.uri.now) (λ host path. request (codes "POST") host path c.args.body.now) POST
     (IsHeardFrom c.request.new.self.caller.room.bytes.items c.request.new.self.caller.reply.heard)

@@ -12,7 +12,7 @@ use Rattle.http_peers.proofs.orchestrator.RealOrchestratorOrchestrator.poll.Goal
 
 pub returns-clause-sends : goal.returns-clause-sends
 returns-clause-sends g c = λ tells told.
-    sends_for g.N.Connection.Connection.outgoing (λ x. (g.N.Connection.Connection.incoming x).left)
+    sends_for g.N.Connection.Connection.outgoing (λ x. (g.N.Connection.Connection.incoming x).left) g.N.Connection.Connection.vain
     c.args.self.now.peer.caller.opened (λ a. offer_of (g.N.HostNet.peers c.args.self.now.peer.caller.net a))
     (IsGrantTarget c.args.self.now.at (Some c.args.location.now)) (λ host path. request (codes "GET") host path []) ORCHESTRATOR
     (IsHeardFrom c.request-came.new.self.caller.room.bytes.items c.answer.new.heard)

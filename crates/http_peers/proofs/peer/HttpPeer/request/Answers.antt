@@ -11,8 +11,8 @@ use Rattle.http_peers.proofs.peer.HttpPeer.request.Goals as goal
 pub returns-clause-sends : goal.returns-clause-sends
 returns-clause-sends g c = elim c.match-target.branch [
   | in-Ok w ↦ λ tells told.
-      sends_found g.N.Connection.Connection.outgoing (λ x. (g.N.Connection.Connection.incoming x).left) c.args.self.now.caller.opened
-      (λ a. offer_of (g.N.HostNet.peers c.args.self.now.caller.net a))
+      sends_found g.N.Connection.Connection.outgoing (λ x. (g.N.Connection.Connection.incoming x).left) g.N.Connection.Connection.vain
+      c.args.self.now.caller.opened (λ a. offer_of (g.N.HostNet.peers c.args.self.now.caller.net a))
       (λ host path. request c.args.method.now host path c.args.body.now) c.args.limits
       (IsHeardFrom c.note.new.self.caller.room.bytes.items c.note.new.self.caller.reply.heard)
       (IsHeardFrom w.call-done.new.self.room.bytes.items w.call-done.new.self.reply.heard) c.args.target w.in-Ok.target
@@ -24,8 +24,8 @@ returns-clause-sends g c = elim c.match-target.branch [
       (ap (λ s. s.caller.log.sent) c.note.ensures.rest ∙ ap (λ s. s.caller.log.sent) w.self-is)
       (w.call-done.ensures.sends tells told)
   | in-Err w ↦ λ tells told.
-      sends_none g.N.Connection.Connection.outgoing (λ x. (g.N.Connection.Connection.incoming x).left) c.args.self.now.caller.opened
-      (λ a. offer_of (g.N.HostNet.peers c.args.self.now.caller.net a))
+      sends_none g.N.Connection.Connection.outgoing (λ x. (g.N.Connection.Connection.incoming x).left) g.N.Connection.Connection.vain
+      c.args.self.now.caller.opened (λ a. offer_of (g.N.HostNet.peers c.args.self.now.caller.net a))
       (λ host path. request c.args.method.now host path c.args.body.now) c.args.limits
       (IsHeardFrom c.note.new.self.caller.room.bytes.items c.note.new.self.caller.reply.heard) c.args.target
       w.in-Err.fault c.note.new.self.fault c.args.self.now.caller.log.sent c.note.new.self.caller.log.sent w.in-Err.is
