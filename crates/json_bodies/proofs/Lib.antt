@@ -1,4 +1,5 @@
 pub mod ByteLemmas
 mod DocumentLemmas
+mod ListLemmas
 mod TableLemmas
 mod TextLemmas

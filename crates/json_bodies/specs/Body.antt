@@ -1,8 +1,8 @@
 -- What a request body says. A body is a JSON object; a member that is null is as if absent, and members that aren't
 -- asked for are passed over (SOL 003 5.5.2; RFC 8259).
-use Rattle.std.specs.Prelude.{◌≡◌, ℕ, List, [], ◌∷◌, find, length, nat_le, codes, if◌then◌else◌, Option, Some, None}
+use Rattle.std.specs.Prelude.{◌≡◌, ℕ, List, [], ◌∷◌, length, nat_le, codes, if◌then◌else◌, Option, Some, None}
 use Rattle.std.specs.Prelude.{option_and_then, Result, Ok, Err, is_some}
-use Rattle.std.specs.Str.{bytes_eq, is_utf8}
+use Rattle.std.specs.Str.{is_utf8}
 use Rattle.lcm_events.specs.declared.states.CancelMode.{CancelMode}
 use Rattle.lcm_events.specs.declared.states.CancelMode.TheVariants.{Forceful, Graceful}
 use Rattle.serde_json.specs.Data.{Data}
@@ -13,7 +13,7 @@ use Rattle.json_bodies.specs.declared.body.BodyFault.{BodyFault}
 use Rattle.json_bodies.specs.declared.body.BodyFault.TheVariants.{Malformed, Lacks, Wrong, Memory}
 use Rattle.json_bodies.specs.declared.body.CreateBody.{CreateBody}
 use Rattle.json_bodies.specs.declared.tasks.InstantiateBody.{InstantiateBody}
-use Rattle.json_bodies.specs.Words.{cancel_word}
+use Rattle.json_bodies.specs.Words.{cancel_word, of_word}
 
 -- the value is there, where an object is asked for (RFC 8259 4)
 abbrev pub only_object : Data → Option Data
@@ -45,7 +45,7 @@ line_text text = if is_short_text 2048 text then Some text else None
 
 -- the way to cancel that the text is the word of (SOL 003 5.5.4, CancelModeType)
 abbrev pub cancel_mode_text : List ℕ → Option CancelMode
-cancel_mode_text text = find (λ mode. bytes_eq text (cancel_word mode)) (Graceful ∷ Forceful ∷ [])
+cancel_mode_text text = of_word cancel_word (Graceful ∷ Forceful ∷ []) text
 
 -- the forms of a value: what it says, where it has the form (own rule)
 abbrev pub name_in : Data → Option (List ℕ)
@@ -60,11 +60,15 @@ line_in d = option_and_then line_text (as_str d)
 abbrev pub cancel_mode_in : Data → Option CancelMode
 cancel_mode_in d = option_and_then cancel_mode_text (as_str d)
 
--- a member that is needed: what its value says by its form; missing, or of another form (own rule)
+-- what a value says by a form, or that the member of this name is wrong, where it has another (own rule)
 abbrev pub needed_value : {A : Type 0} → List ℕ → Option A → Result A BodyFault
 needed_value name None = Err (Wrong name)
 needed_value name (Some a) = Ok a
 
+abbrev pub by_form : {A : Type 0} → (Data → Option A) → List ℕ → Data → Result A BodyFault
+by_form form name d = needed_value name (form d)
+
+-- a member that is needed: it is missing, or what its value says by its form (own rule)
 abbrev pub needed_member : {A : Type 0} → (Data → Option A) → List ℕ → Option Data → Result A BodyFault
 needed_member form name None = Err (Lacks name)
 needed_member form name (Some d) = needed_value name (form d)
@@ -72,22 +76,20 @@ needed_member form name (Some d) = needed_value name (form d)
 abbrev pub needed : {A : Type 0} → (Data → Option A) → List ℕ → Data → Result A BodyFault
 needed form name d = needed_member form name (member_of name d)
 
--- a member that may be absent (own rule)
-abbrev pub optional_value : {A : Type 0} → List ℕ → Option A → Result (Option A) BodyFault
-optional_value name None = Err (Wrong name)
-optional_value name (Some a) = Ok (Some a)
-
-abbrev pub optional_member : {A : Type 0} → (Data → Option A) → List ℕ → Option Data → Result (Option A) BodyFault
-optional_member form name None = Ok None
-optional_member form name (Some d) = optional_value name (form d)
-
-abbrev pub optional : {A : Type 0} → (Data → Option A) → List ℕ → Data → Result (Option A) BodyFault
-optional form name d = optional_member form name (member_of name d)
-
 -- the first of two readings that fails, or what both give
 abbrev pub and_then : {A B : Type 0} → Result A BodyFault → (A → Result B BodyFault) → Result B BodyFault
 and_then (Ok a) next = next a
 and_then (Err fault) next = Err fault
+
+-- a member that may be absent, by what is read of its value (own rule)
+abbrev pub optional_read : {A : Type 0} → (List ℕ → Data → Result A BodyFault) → List ℕ → Option Data
+    → Result (Option A) BodyFault
+optional_read inside name None = Ok None
+optional_read inside name (Some d) = and_then (inside name d) (λ a. Ok (Some a))
+
+-- a member that may be absent: what its value says by its form (own rule)
+abbrev pub optional : {A : Type 0} → (Data → Option A) → List ℕ → Data → Result (Option A) BodyFault
+optional form name d = optional_read (by_form form) name (member_of name d)
 
 -- a create request's body: the first member that is missing or wrong, in this order, or what it says (SOL 003 5.5.2.3
 -- CreateVnfRequest)

@@ -1,37 +1,52 @@
 -- The table of a body's members, in the order in which they are checked, and what is wrong first (own rule over SOL 003
 -- 5.5.2).
 use Rattle.std.specs.Prelude.{◌≡◌, List, [], ◌∷◌, ℕ, codes, filter_map, if◌then◌else◌, is_some, option_and_then}
-use Rattle.std.specs.Prelude.{slice_get, Option, Some, None, Result, Ok, Err}
+use Rattle.std.specs.Prelude.{slice_get, Bool, true, false, Option, Some, None, Result, Ok, Err}
 use Rattle.std.specs.Option.{option_map_or}
 use Rattle.serde_json.specs.Data.{Data}
 use Rattle.json_bodies.specs.Body.{cancel_mode_in, line_in, member_of, name_in, some_name_in}
+use Rattle.json_bodies.specs.Forms.{list_in, objects_in, power_in, stop_in, way_in, whole_in}
 use Rattle.json_bodies.specs.declared.body.BodyFault.{BodyFault}
 use Rattle.json_bodies.specs.declared.body.BodyFault.TheVariants.{Lacks, Wrong}
 
--- a member of a body: its name, and what is wrong with its value, or with its absence, where something is
-pub record Row : Type 0 where
-  pub name : List ℕ
-  pub fault : Option Data → Option BodyFault
+-- a row of a body's table: what is wrong with an object in one respect, where something is
+abbrev pub Row : Type 0
+Row = Data → Option BodyFault
 
 -- what is wrong with the value of the member of this name: it hasn't this form
 abbrev pub of_form : {A : Type 0} → (Data → Option A) → List ℕ → Data → Option BodyFault
 of_form form name d = if is_some (form d) then None else Some (Wrong name)
 
+-- the first fault of some things, by what is wrong with each
+abbrev pub first_of : {A : Type 0} → (A → Option BodyFault) → List A → Option BodyFault
+first_of fault xs = slice_get (filter_map fault xs) 0
+
+-- what is wrong first with an object, in the table's order
+abbrev pub first_fault : List Row → Data → Option BodyFault
+first_fault table d = first_of (λ row. row d) table
+
+-- what is wrong inside the value of the member of this name: it is no list of objects, or what is wrong first with the
+-- first of them that has a fault by this table
+abbrev pub of_objects : List Row → List ℕ → Data → Option BodyFault
+of_objects table name d = option_map_or (first_of (first_fault table)) (objects_in d) (Some (Wrong name))
+
 -- a member that is needed, by what may be wrong with its value: it is missing, or that
 abbrev pub needed_row : (List ℕ → Data → Option BodyFault) → List ℕ → Row
-needed_row inside name = record { name = name; fault = λ value. option_map_or (inside name) value (Some (Lacks name)) }
+needed_row inside name d = option_map_or (inside name) (member_of name d) (Some (Lacks name))
 
 -- a member that may be absent, by what may be wrong with its value
 abbrev pub optional_row : (List ℕ → Data → Option BodyFault) → List ℕ → Row
-optional_row inside name = record { name = name; fault = option_and_then (inside name) }
+optional_row inside name d = option_and_then (inside name) (member_of name d)
 
--- what is wrong with a member of an object
-abbrev pub member_fault : Data → Row → Option BodyFault
-member_fault d row = row.fault (member_of row.name d)
+-- exactly one of two members is there: with neither the first is missing, with both the second is wrong
+abbrev pub one_of : List ℕ → List ℕ → Bool → Bool → Option BodyFault
+one_of first second false false = Some (Lacks first)
+one_of first second true false = None
+one_of first second false true = None
+one_of first second true true = Some (Wrong second)
 
--- what is wrong first, in the table's order
-abbrev pub first_fault : List Row → Data → Option BodyFault
-first_fault table d = slice_get (filter_map (member_fault d) table) 0
+abbrev pub one_of_row : List ℕ → List ℕ → Row
+one_of_row first second d = one_of first second (is_some (member_of first d)) (is_some (member_of second d))
 
 -- the fault of a reading, where it has one
 abbrev pub fault_in : {A : Type 0} → Result A BodyFault → Option BodyFault
@@ -56,6 +71,50 @@ instantiate_table =
 -- the table of a cancel request's body (SOL 003 5.5.2.14, CancelMode)
 abbrev pub cancel_table : List Row
 cancel_table = needed_row (of_form cancel_mode_in) (codes "cancelMode") ∷ []
+
+-- the table of a scale request's body (SOL 003 5.5.2.5, ScaleVnfRequest)
+abbrev pub scale_table : List Row
+scale_table =
+    needed_row (of_form way_in) (codes "type")
+    ∷ needed_row (of_form some_name_in) (codes "aspectId")
+    ∷ optional_row (of_form whole_in) (codes "numberOfSteps")
+    ∷ []
+
+-- the table of the level of an aspect (SOL 003 5.5.2.6, ScaleVnfToLevelRequest, scaleInfo)
+abbrev pub aspect_level_table : List Row
+aspect_level_table =
+    needed_row (of_form some_name_in) (codes "aspectId")
+    ∷ needed_row (of_form whole_in) (codes "scaleLevel")
+    ∷ []
+
+-- the table of a body that asks to scale to a level (SOL 003 5.5.2.6, ScaleVnfToLevelRequest)
+abbrev pub scale_to_level_table : List Row
+scale_to_level_table =
+    optional_row (of_form name_in) (codes "instantiationLevelId")
+    ∷ optional_row (of_objects aspect_level_table) (codes "scaleInfo")
+    ∷ one_of_row (codes "instantiationLevelId") (codes "scaleInfo")
+    ∷ []
+
+-- the table of a heal request's body (SOL 003 5.5.2.9, HealVnfRequest; SOL 002 for vnfcInstanceId; own limit)
+abbrev pub heal_table : List Row
+heal_table =
+    optional_row (of_form line_in) (codes "cause")
+    ∷ optional_row (of_form (list_in 512 name_in)) (codes "vnfcInstanceId")
+    ∷ []
+
+-- the table of an operate request's body (SOL 003 5.5.2.10, OperateVnfRequest)
+abbrev pub operate_table : List Row
+operate_table =
+    needed_row (of_form power_in) (codes "changeStateTo")
+    ∷ optional_row (of_form stop_in) (codes "stopType")
+    ∷ []
+
+-- the table of a terminate request's body (SOL 003 5.5.2.8, TerminateVnfRequest)
+abbrev pub terminate_table : List Row
+terminate_table =
+    needed_row (of_form stop_in) (codes "terminationType")
+    ∷ optional_row (of_form whole_in) (codes "gracefulTerminationTimeout")
+    ∷ []
 
 -- an object is refused as a body for what is wrong first by its table, and for nothing else
 abbrev pub RefusesFirstFault : {A : Type 0} → (Data → Result A BodyFault) → List Row → Type 0

@@ -1,16 +1,16 @@
 //! Members of a body, each of one form.
-ghost use Rattle.std.specs.Prelude.{◌≡◌, IfErr, IfOk, IsOk, IsSome, false, option_map, true};
+ghost use Rattle.std.specs.Prelude.{◌≡◌, IfErr, IfOk, IsOk, IsSome, false, is_some, option_map, true};
+ghost use Rattle.std.specs.List.{list_all};
 ghost use Rattle.serde_json.specs.View.{view};
-ghost use Rattle.vnfm_base.specs.Text.{is_label};
-ghost use Rattle.json_bodies.specs.Body.{Gives, cancel_mode_in, cancel_mode_text, line_in, line_text, member_of};
-ghost use Rattle.json_bodies.specs.Body.{name_in, name_text, needed, needed_value, optional, some_name_in};
-ghost use Rattle.json_bodies.specs.Body.{some_name_text};
+ghost use Rattle.vnfm_base.specs.Text.{is_label, is_plain, is_short_text};
+ghost use Rattle.json_bodies.specs.Body.{Gives, line_in, line_text, member_of, name_in, name_text, needed};
+ghost use Rattle.json_bodies.specs.Body.{needed_value, optional, some_name_in, some_name_text};
+ghost use Rattle.json_bodies.specs.Tables.{fault_in};
 
 use crate::body::BodyFault;
-use lcm_events::CancelMode;
 use serde_json::Value;
 use std::alloc::{AllocError, Global};
-use vnfm_base::{Line, LineFault, Name};
+use vnfm_base::{LINE_MAX, Line, LineFault, Name};
 
 /// What the value of a member may be, and what it says.
 pub trait Form<T> {
@@ -20,6 +20,10 @@ pub trait Form<T> {
     ghost says: { Self → Data → Option T };
 
     ghost asks_memory: { Self → Bool };
+
+    /// Whether the value has this form.
+    fn fits(&self, value: &Value) -> bool
+        ensures { result ≡ is_some (says self.now (view value.now)) };
 
     /// What a value of this form says; `None` where it has another. An error is want of memory, for a value of this
     /// form.
@@ -72,6 +76,23 @@ pub fn optional<T, F: Form<T>>(
     }
 }
 
+/// Refuses a member that may be absent where it has another form, without memory.
+pub fn check_optional<T, F: Form<T>>(value: &Value, name: &str, form: &F) -> Result<(), BodyFault>
+    requires { is_label name.now ≡ true }
+    ensures { fault_in result ≡ fault_in (optional (F.says form.now) name.now (view value.now)) }
+{
+    match member(value, name) {
+        Some(found) => {
+            if form.fits(found) {
+                Ok(())
+            } else {
+                Err(BodyFault::Wrong(label(name)))
+            }
+        }
+        None => Ok(()),
+    }
+}
+
 /// What the value of this member says.
 fn of_form<T, F: Form<T>>(
     alloc: Global,
@@ -92,7 +113,7 @@ fn of_form<T, F: Form<T>>(
 }
 
 /// The member of this name, unless it is null.
-fn member<'a>(value: &'a Value, name: &str) -> Option<&'a Value>
+pub fn member<'a>(value: &'a Value, name: &str) -> Option<&'a Value>
     ensures { option_map (λ v. view v.now) result ≡ member_of name.now (view value.now) }
 {
     let found = value.get(name)?;
@@ -100,7 +121,7 @@ fn member<'a>(value: &'a Value, name: &str) -> Option<&'a Value>
 }
 
 /// The name of a member, as a fault carries it.
-fn label(text: &str) -> Name
+pub fn label(text: &str) -> Name
     requires { is_label text.now ≡ true }
     ensures { result ≡ text.now }
 {
@@ -111,6 +132,7 @@ fn label(text: &str) -> Name
 }
 
 /// A name.
+#[derive(Drop)]
 pub struct AnyName {}
 
 impl Form<Name> for AnyName {
@@ -118,8 +140,12 @@ impl Form<Name> for AnyName {
 
     ghost asks_memory = { λ f. false };
 
+    fn fits(&self, value: &Value) -> bool {
+        name_in(value).is_some()
+    }
+
     fn read(&self, _alloc: Global, value: &Value) -> Result<Option<Name>, AllocError> {
-        Ok(value.as_str().and_then(|text| name_from(text.as_bytes())))
+        Ok(name_in(value))
     }
 }
 
@@ -131,12 +157,12 @@ impl Form<Name> for SomeName {
 
     ghost asks_memory = { λ f. false };
 
+    fn fits(&self, value: &Value) -> bool {
+        some_name_in(value).is_some()
+    }
+
     fn read(&self, _alloc: Global, value: &Value) -> Result<Option<Name>, AllocError> {
-        Ok(
-            value
-                .as_str()
-                .and_then(|text| some_name_from(text.as_bytes())),
-        )
+        Ok(some_name_in(value))
     }
 }
 
@@ -148,6 +174,13 @@ impl Form<Line> for AnyLine {
 
     ghost asks_memory = { λ f. true };
 
+    fn fits(&self, value: &Value) -> bool {
+        match value.as_str() {
+            Some(text) => is_line(text),
+            None => false,
+        }
+    }
+
     fn read(&self, alloc: Global, value: &Value) -> Result<Option<Line>, AllocError> {
         match value.as_str() {
             Some(text) => line_from(alloc, text.as_bytes()),
@@ -156,17 +189,18 @@ impl Form<Line> for AnyLine {
     }
 }
 
-/// A way to cancel, by its word.
-pub struct AnyCancelMode {}
+fn name_in(value: &Value) -> Option<Name>
+    ensures { result ≡ name_in (view value.now) }
+{
+    value.as_str().and_then(|text| name_from(text.as_bytes()))
+}
 
-impl Form<CancelMode> for AnyCancelMode {
-    ghost says = { λ f d. cancel_mode_in d };
-
-    ghost asks_memory = { λ f. false };
-
-    fn read(&self, _alloc: Global, value: &Value) -> Result<Option<CancelMode>, AllocError> {
-        Ok(value.as_str().and_then(|text| cancel_mode_from(text)))
-    }
+fn some_name_in(value: &Value) -> Option<Name>
+    ensures { result ≡ some_name_in (view value.now) }
+{
+    value
+        .as_str()
+        .and_then(|text| some_name_from(text.as_bytes()))
 }
 
 fn name_from(bytes: &[u8]) -> Option<Name>
@@ -196,12 +230,15 @@ fn line_from(alloc: Global, bytes: &[u8]) -> Result<Option<Line>, AllocError>
     }
 }
 
-fn cancel_mode_from(text: &str) -> Option<CancelMode>
-    ensures { result ≡ cancel_mode_text text.now }
+/// Whether the text is a line, found without memory.
+fn is_line(text: &str) -> bool
+    ensures { result ≡ is_short_text 2048 text.now }
 {
-    match text {
-        "GRACEFUL" => Some(CancelMode::Graceful),
-        "FORCEFUL" => Some(CancelMode::Forceful),
-        _ => None,
-    }
+    text.len() <= LINE_MAX && are_plain(text.as_bytes())
+}
+
+fn are_plain(bytes: &[u8]) -> bool
+    ensures { result ≡ list_all is_plain bytes.now }
+{
+    bytes.iter().all(|byte| 32 <= *byte && *byte != 127)
 }

@@ -3,9 +3,17 @@
 
 mod body;
 mod forms;
+mod healing;
 mod laws;
+mod lists;
+mod scaling;
+mod stopping;
 mod tasks;
+mod words;
 
 pub use body::{BodyFault, CreateBody, read_create};
+pub use healing::{HealBody, read_heal};
 pub use laws::the_first_failing_member_is_told;
+pub use scaling::{ScaleBody, read_scale, read_scale_to_level};
+pub use stopping::{OperateBody, TerminateBody, read_operate, read_terminate};
 pub use tasks::{InstantiateBody, read_cancel, read_instantiate};

@@ -4,7 +4,8 @@ ghost use Rattle.serde_json.specs.View.{view};
 ghost use Rattle.json_bodies.specs.Body.{Gives, cancel_in, cancel_of, instantiate_in, instantiate_of};
 
 use crate::body::{BodyFault, object};
-use crate::forms::{AnyCancelMode, AnyName, SomeName, needed, optional};
+use crate::forms::{AnyName, SomeName, needed, optional};
+use crate::words::AnyCancelMode;
 use lcm_events::CancelMode;
 use serde_json::Value;
 use std::alloc::Global;
