@@ -121,10 +121,11 @@ sooner_parts x y e =
       | inl less ↦ inl less
       | inr same ↦ inr (
         same.0,
-        (elim (leads x.def.serial y.def.serial (kind_number x.def.kind ∷ x.def.item ∷ []) (kind_number y.def.kind ∷ y.def.item ∷ []) same.1) [
-          | inl less ↦ omega (arith, less)
-          | inr equal ↦ (let e = equal.0 in omega (arith, e))
-        ]),
+        (elim (leads x.def.serial y.def.serial (kind_number x.def.kind ∷ x.def.item ∷ [])
+            (kind_number y.def.kind ∷ y.def.item ∷ []) same.1) [
+              | inl less ↦ omega (arith, less)
+              | inr equal ↦ (let e = equal.0 in omega (arith, e))
+            ]),
       )
     ]
 

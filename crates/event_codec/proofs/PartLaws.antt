@@ -80,8 +80,8 @@ reads_aim =
     reads_sum spell.aim IsAim aim_cases (
       case_by reads_name 0 aims.Level spell.aim IsAim (λ x h. refl) (λ x h. h),
       (
-        case_by (reads_many spell.aspect_level IsAspectLevel aspect_level_at reads_aspect_level) 1 aims.Aspects spell.aim IsAim (λ x h. refl)
-            (λ x h. h),
+        case_by (reads_many spell.aspect_level IsAspectLevel aspect_level_at reads_aspect_level) 1 aims.Aspects spell.aim IsAim
+            (λ x h. refl) (λ x h. h),
         tt,
       ),
     )

@@ -38,7 +38,8 @@ put_twice w x y =
     ≡ (if nat_lt MAX_RECORD (w.len + length (x ++ y)) then [] else w.kept ++ (x ++ y)) =
     ap (λ (b : Bool). if b then [] else (if nat_lt MAX_RECORD (w.len + length x) then [] else w.kept ++ x) ++ y) test
     ∙ kept_twice (nat_lt MAX_RECORD (w.len + length x)) (nat_lt MAX_RECORD (w.len + length (x ++ y))) w.kept x y
-    (λ e. le-ltb MAX_RECORD (w.len + length x) (let k : w.len + length (x ++ y) ≤ MAX_RECORD = ltb-false MAX_RECORD (w.len + length (x ++ y)) e in
+    (λ e. le-ltb MAX_RECORD (w.len + length x)
+    (let k : w.len + length (x ++ y) ≤ MAX_RECORD = ltb-false MAX_RECORD (w.len + length (x ++ y)) e in
     omega (arith, length-append x y))) in
     λ i. record { len = count i; kept = texts i }
 

@@ -548,14 +548,15 @@ fine_work width m H o now answer action w wide legal asked is e =
           → IsFine width m H o now answer action
       stop none left (inl h) =
           subst (λ (a : Action). IsFine width m H o now answer a) h.1
-          (fine_move width m H o now answer (works_in w) FailedTemp legal asked is (may_stop H o w (record { none_open = none; cause = h.0 })))
+          (fine_move width m H o now answer (works_in w) FailedTemp legal asked is
+          (may_stop H o w (record { none_open = none; cause = h.0 })))
       stop none left (inr h) =
           let same : MoveTo (end_of w) ≡ action = cc in
           subst (λ (a : Action). IsFine width m H o now answer a) same (done none left h.0)
 
       look : (goes_on H o ≡ true → chosen w (free H o w) ≡ None) → ((t : Tag) × (first_open H o ≡ Some t) × (Look t ≡ action))
-          ⊎ ((first_open H o ≡ None) × (first_some (when (has_trouble H o || is_cancelled H o) (MoveTo FailedTemp) ∷ Some (MoveTo (end_of w))
-          ∷ []) ≡ Some action))
+          ⊎ ((first_open H o ≡ None)
+          × (first_some (when (has_trouble H o || is_cancelled H o) (MoveTo FailedTemp) ∷ Some (MoveTo (end_of w)) ∷ []) ≡ Some action))
           → IsFine width m H o now answer action
       look left (inl h) = subst (λ (a : Action). IsFine width m H o now answer a) h.2 (looks h.0 h.1)
       look left (inr h) = stop (last-none (open_of H o) h.0) left (pick_when (has_trouble H o || is_cancelled H o)
@@ -571,7 +572,8 @@ fine_work width m H o now answer action w wide legal asked is e =
           subst (λ (a : Action). IsFine width m H o now answer a) it.2
           (legal_beginning width m H now (new_tag H o w it.0) answer legal
           (may_begin width H o w it.0 wide is h.0 (chosen_in w (free H o w) it.0 it.1)))
-      begin (inr h) = look (λ on. none_mapped (begin_of H o w) (chosen w (free H o w)) (h.0 on)) (pick_map Look (first_open H o) action _ h.1)
+      begin (inr h) = look (λ on. none_mapped (begin_of H o w) (chosen w (free H o w)) (h.0 on))
+          (pick_map Look (first_open H o) action _ h.1)
 
       abort : ((is_forced H o ≡ true) × (option_map AbortAndLook (first_open H o) ≡ Some action))
           ⊎ ((is_forced H o ≡ true → option_map AbortAndLook (first_open H o) ≡ None)

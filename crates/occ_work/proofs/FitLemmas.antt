@@ -210,8 +210,8 @@ attempts_fit time (Settled t how) event is =
 attempts_fit time _ event is = absurd (cc is)
 
 -- an event that fits isn't too long
-pub not_too_long : (H : List Event) (e : Event) (why : WorkFault) (n : ℕ) → length (spelling e) ≤ MAX_RECORD → TellsRoom MAX_FILE H e (Err why)
-    → why ≡ fault.TooLong n → ⊥
+pub not_too_long : (H : List Event) (e : Event) (why : WorkFault) (n : ℕ) → length (spelling e) ≤ MAX_RECORD
+    → TellsRoom MAX_FILE H e (Err why) → why ≡ fault.TooLong n → ⊥
 not_too_long H e why n fits tells is =
     let told : TellsRoom MAX_FILE H e (Err (fault.TooLong n)) = subst (λ (f : WorkFault). TellsRoom MAX_FILE H e (Err f)) is tells in
     let long = told.long in
