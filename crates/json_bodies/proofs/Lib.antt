@@ -1,5 +1,6 @@
 pub mod ByteLemmas
 mod DocumentLemmas
 mod ListLemmas
+mod MachineLemmas
 mod TableLemmas
 mod TextLemmas

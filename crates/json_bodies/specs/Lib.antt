@@ -1,5 +1,6 @@
 pub mod Body
 pub mod Forms
+pub mod Machines
 pub mod Operations
 pub mod Tables
 pub mod Words

@@ -1,5 +1,5 @@
 //! The body that asks for an instance to be healed.
-ghost use Rattle.std.specs.Prelude.{[], ◌≡◌, IsOk, unwrap_or};
+ghost use Rattle.std.specs.Prelude.{[], ◌≡◌, ◌≤◌, IfOk, IsOk, length, unwrap_or};
 ghost use Rattle.serde_json.specs.View.{view};
 ghost use Rattle.json_bodies.specs.Body.{Gives};
 ghost use Rattle.json_bodies.specs.Operations.{heal_in, heal_of};
@@ -34,7 +34,8 @@ pub struct HealBody {
 /// read the bytes as JSON, or for a body that would be taken: 256 bytes for each text of the list.
 /// Source: SOL 003 5.5.2.9 (HealVnfRequest); SOL 002 for `vnfcInstanceId`; own limit.
 pub fn read_heal(alloc: Global, bytes: &[u8]) -> Result<HealBody, BodyFault>
-    ensures { Gives result (heal_of bytes.now) }
+    ensures gives { Gives result (heal_of bytes.now) }
+    ensures few { IfOk result (λ body. length body.named ≤ 512) }
 {
     let value = object(alloc, bytes)?;
     heal_body(alloc, &value)
@@ -42,6 +43,7 @@ pub fn read_heal(alloc: Global, bytes: &[u8]) -> Result<HealBody, BodyFault>
 
 fn heal_body(alloc: Global, value: &Value) -> Result<HealBody, BodyFault>
     ensures gives { Gives result (heal_in (view value.now)) }
+    ensures few { IfOk result (λ body. length body.named ≤ 512) }
     ensures memory { result ≡ Err BodyFault.Memory → IsOk (heal_in (view value.now)) }
 {
     check_optional(value, "cause", &AnyLine {})?;

@@ -10,9 +10,9 @@ use Rattle.lcm_events.specs.declared.asks.ScaleWay.{ScaleWay}
 use Rattle.lcm_events.specs.declared.asks.StopType.{StopType}
 use Rattle.lcm_events.specs.declared.asks.Vnfc.{Vnfc}
 use Rattle.lcm_events.specs.declared.descriptor.Vnfd.{Vnfd}
-use Rattle.json_views.specs.Resources.{machine_id, scale_info, vnf_state}
+use Rattle.json_views.specs.Resources.{machine_id, scale_info}
+use Rattle.json_bodies.specs.Words.{power_word, stop_word, way_word}
 use Rattle.json_views.specs.Views.{array_of, member_where}
-use Rattle.json_views.specs.Words.{stop_word, way_word}
 
 -- a machine by its identifier (SOL 003 5.5.2.9, HealVnfRequest, vnfcInstanceId)
 abbrev pub machine_value : Vnfd → Vnfc → Data
@@ -56,7 +56,7 @@ heal_params d cause named =
 -- what OPERATE was asked with (SOL 003 5.5.2.10, OperateVnfRequest)
 abbrev pub operate_params : Bool → Option StopType → Members
 operate_params started stop =
-    member (codes "changeStateTo") (string (vnf_state started))
+    member (codes "changeStateTo") (string (power_word started))
     (member_where (codes "stopType") (stop_where stop)
     no_members)
 

@@ -1,7 +1,7 @@
 -- What stands of an instance, as its view shows it (SOL 003 5.5.2.2, instantiatedVnfInfo; 5.5.3, the resource infos of
 -- an instance). Members stand in byte order of their names.
 use Rattle.std.specs.Option.{option_map_or}
-use Rattle.std.specs.Prelude.{Bool, List, [], Option, Some, None, ℕ, ◌++◌, codes, decimal, filter, if◌then◌else◌}
+use Rattle.std.specs.Prelude.{List, [], Option, Some, None, ℕ, ◌++◌, codes, filter, if◌then◌else◌}
 use Rattle.std.specs.Prelude.{is_some, map, slice_get, unwrap_or, zip}
 use Rattle.serde_json.specs.Data.{Data, array, member, no_items, no_members, number, object, string, unsigned}
 use Rattle.held_items.specs.Items.{item_of}
@@ -14,6 +14,8 @@ use Rattle.lcm_events.specs.declared.descriptor.Vnfd.{Vnfd}
 use Rattle.lcm_events.specs.declared.held.Held.{Held}
 use Rattle.lcm_events.specs.declared.held.Holding.{Holding}
 use Rattle.lcm_model.specs.Vnfcs.{def_of, storages_of}
+use Rattle.json_bodies.specs.Machines.{machine_text}
+use Rattle.json_bodies.specs.Words.{power_word}
 use Rattle.json_views.specs.Views.{array_of}
 
 -- the name of a VDU (SOL 001, Vdu.Compute), empty where the descriptor has none of this number
@@ -30,7 +32,7 @@ link_name d k = unwrap_or (slice_get d.links k) []
 
 -- the identifier of a machine: its VDU's name, `-` and its serial number (own rule)
 unfoldable pub machine_id : Vnfd → ℕ → ℕ → List ℕ
-machine_id d v s = vdu_name d v ++ codes "-" ++ decimal s
+machine_id d v s = machine_text (vdu_name d v) s
 
 -- the identifier of a storage of a machine: the machine's, `/` and the storage's name (own rule)
 unfoldable pub storage_id : Vnfd → ℕ → ℕ → ℕ → List ℕ
@@ -98,10 +100,6 @@ abbrev pub scale_info : AspectLevel → Data
 scale_info x = object (member (codes "aspectId") (string x.aspect)
     (member (codes "scaleLevel") (number (unsigned x.level)) no_members))
 
--- whether the instance is started (SOL 003 5.5.2.2, vnfState)
-abbrev pub vnf_state : Bool → List ℕ
-vnf_state started = if started then codes "STARTED" else codes "STOPPED"
-
 -- what stands of an instance (SOL 003 5.5.2.2, instantiatedVnfInfo)
 abbrev pub instantiated_info : Vnfd → Holding → Data
 instantiated_info d h =
@@ -110,7 +108,7 @@ instantiated_info d h =
     (member (codes "flavourId") (string d.flavour_id)
     (member (codes "scaleStatus") (array_of scale_info (aspect_levels d h))
     (member (codes "virtualStorageResourceInfo") (array_of (storage_info d) (standing Storage h))
-    (member (codes "vnfState") (string (vnf_state h.started))
+    (member (codes "vnfState") (string (power_word h.started))
     (member (codes "vnfVirtualLinkResourceInfo") (array_of (link_info d) (standing Link h))
     (member (codes "vnfcResourceInfo") (array_of (compute_info d h) (standing Compute h))
     no_members)))))))

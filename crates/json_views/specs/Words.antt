@@ -2,10 +2,6 @@
 use Rattle.std.specs.Prelude.{List, ℕ, codes}
 use Rattle.lcm_events.specs.declared.asks.Ask.{Ask}
 use Rattle.lcm_events.specs.declared.asks.Ask.TheVariants.{Heal, Instantiate, Operate, Scale, ScaleToLevel, Terminate}
-use Rattle.lcm_events.specs.declared.asks.ScaleWay.{ScaleWay}
-use Rattle.lcm_events.specs.declared.asks.ScaleWay.TheVariants.{In, Out}
-use Rattle.lcm_events.specs.declared.asks.StopType.{StopType}
-use Rattle.lcm_events.specs.declared.asks.StopType.TheVariants as stops
 use Rattle.lcm_events.specs.declared.changes.Verb.{Verb}
 use Rattle.lcm_events.specs.declared.changes.Verb.TheVariants.{Create, Remove, Start, Stop}
 use Rattle.lcm_events.specs.declared.states.OpState.{OpState}
@@ -30,16 +26,6 @@ state_word FailedTemp = codes "FAILED_TEMP"
 state_word Failed = codes "FAILED"
 state_word RollingBack = codes "ROLLING_BACK"
 state_word RolledBack = codes "ROLLED_BACK"
-
--- how what runs is stopped (SOL 003 5.5.4, StopType)
-abbrev pub stop_word : StopType → List ℕ
-stop_word stops.Forceful = codes "FORCEFUL"
-stop_word stops.Graceful = codes "GRACEFUL"
-
--- out or in (SOL 003 5.5.2.5, ScaleVnfRequest, type)
-abbrev pub way_word : ScaleWay → List ℕ
-way_word Out = codes "SCALE_OUT"
-way_word In = codes "SCALE_IN"
 
 -- what a change did to its resource (SOL 003 5.5.3, the affected resources, changeType)
 abbrev pub change_word : Verb → List ℕ

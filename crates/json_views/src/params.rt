@@ -10,9 +10,8 @@ ghost use Rattle.json_views.specs.Params.{operate_params, params, scale_params, 
 use crate::members::{
     Shows, put_array, put_line_where, put_name_where, put_text, put_where, text_value,
 };
-use crate::resources::vnf_state;
 use crate::rows::{Levels, machine_id};
-use crate::words::{stop_word, way_word};
+use crate::words::{power_word, stop_word, way_word};
 use lcm_events::{Aim, Ask, AspectLevel, ScaleWay, StopType, Vnfc, Vnfd};
 use serde_json::{Map, Value, put};
 use std::alloc::{AllocError, Global};
@@ -138,7 +137,7 @@ fn put_operate(
     requires empty { members.old.entries ≡ [] }
     ensures { OnOk result (members_view members.new.entries ≡ operate_params started stop) }
 {
-    put_text(members, alloc, "changeStateTo", vnf_state(started))?;
+    put_text(members, alloc, "changeStateTo", power_word(started))?;
     put_stop(members, alloc, stop)
 }
 

@@ -8,10 +8,11 @@ ghost use Rattle.lcm_events.specs.declared.changes.DefKind.TheVariants.{Compute,
 ghost use Rattle.json_views.specs.Views.{array_of};
 ghost use Rattle.json_views.specs.Resources.{aspect_levels, compute_info, handle, info_where, instantiated_info};
 ghost use Rattle.json_views.specs.Resources.{link_info, link_name, machine_id, scale_info, standing, standing_storages};
-ghost use Rattle.json_views.specs.Resources.{storage_id, storage_info, storage_name, vdu_name, vnf_state};
+ghost use Rattle.json_views.specs.Resources.{storage_id, storage_info, storage_name, vdu_name};
 
 use crate::members::{put_array, put_text};
 use crate::rows::{Computes, Levels, Links, Storages};
+use crate::words::power_word;
 use lcm_events::{AspectLevel, Holding, Vnfd};
 use serde_json::{Map, Value, put};
 use std::alloc::{AllocError, Global};
@@ -52,7 +53,7 @@ fn instantiated_info(alloc: Global, vnfd: &Vnfd, holding: &Holding) -> Result<Va
         items,
         &Storages { vnfd },
     )?;
-    put_text(&mut members, alloc, "vnfState", vnf_state(holding.started))?;
+    put_text(&mut members, alloc, "vnfState", power_word(holding.started))?;
     put_array(
         &mut members,
         alloc,
@@ -68,13 +69,6 @@ fn instantiated_info(alloc: Global, vnfd: &Vnfd, holding: &Holding) -> Result<Va
         &Computes { vnfd, holding },
     )?;
     Ok(Value::Object(members))
-}
-
-/// Whether it is started.
-pub fn vnf_state(started: bool) -> &'static str
-    ensures { result.now ≡ vnf_state started }
-{
-    if started { "STARTED" } else { "STOPPED" }
 }
 
 /// Puts the levels of the aspects.

@@ -1,7 +1,7 @@
 //! The words of the standard for operations, states and modes.
 ghost use Rattle.std.specs.Prelude.{◌≡◌};
-ghost use Rattle.json_bodies.specs.Words.{cancel_word};
-ghost use Rattle.json_views.specs.Words.{change_word, operation_word, state_word, stop_word, way_word};
+ghost use Rattle.json_bodies.specs.Words.{cancel_word, power_word, stop_word, way_word};
+ghost use Rattle.json_views.specs.Words.{change_word, operation_word, state_word};
 
 use lcm_events::{Ask, CancelMode, OpState, ScaleWay, StopType, Verb};
 
@@ -52,6 +52,13 @@ pub fn stop_word(stop: StopType) -> &'static str
         StopType::Forceful => "FORCEFUL",
         StopType::Graceful => "GRACEFUL",
     }
+}
+
+/// Started, or else stopped.
+pub fn power_word(started: bool) -> &'static str
+    ensures { result.now ≡ power_word started }
+{
+    if started { "STARTED" } else { "STOPPED" }
 }
 
 /// Out or in.
