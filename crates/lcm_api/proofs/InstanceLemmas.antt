@@ -1,7 +1,7 @@
 -- The live instance that an identifier names.
 use Rattle.std.proofs.Common.{◌≡◌, ◌≤◌, ◌==◌, ◌∙◌, arith, length, ℕ, Bool, true, false, List, [], ◌∷◌, Option, Some, None, ap, refl, sym}
 use Rattle.std.proofs.Common.{subst}
-use Rattle.std.specs.Prelude.{find, option_copied, unwrap_or, if◌then◌else◌}
+use Rattle.std.specs.Prelude.{find, option_and_then, option_copied, option_map, unwrap_or, if◌then◌else◌}
 use Rattle.std.specs.List.{AllByRecursion}
 use Rattle.std.specs.Str.{bytes_eq}
 use Rattle.std.proofs.Common.{IfSome, Bor}
@@ -10,7 +10,7 @@ use Rattle.std.proofs.lemmas.Option.{none-some}
 use Rattle.vnfm_base.specs.Ident.{IsIdentNumber}
 use Rattle.vnfm_base.specs.declared.identifier.Kind.TheVariants.{Instance}
 use Rattle.json_views.specs.Instance.{instance_id}
-use Rattle.instance_table.specs.Rows.{Rows, instance, instance_rows, rows}
+use Rattle.instance_table.specs.Rows.{Rows, instance, instance_row, instance_rows, rows}
 use Rattle.instance_table.specs.Table.{vnfd_named}
 use Rattle.instance_table.specs.declared.rows.InstanceRow.{InstanceRow}
 use Rattle.json_views.specs.Instance.{instance_text}
@@ -31,7 +31,7 @@ use Rattle.lcm_replies.specs.declared.reply.Reply.{Reply}
 use Rattle.lcm_model.specs.Refusals.{delete_refusal}
 use Rattle.lcm_events.specs.declared.descriptor.Vnfd.{Vnfd}
 use Rattle.lcm_events.specs.declared.events.Event.{Event}
-use Rattle.lcm_model.specs.Lives.{is_live}
+use Rattle.lcm_model.specs.Lives.{CreatedInstance, creation, descriptor, descriptor_named, is_live}
 
 -- what stands behind a test is the entry, or what was found behind it
 found_at : {A : Type 0} (P : A → Type 0) (b : Bool) (y : A) (o : Option A) (x : A) → (if b then Some y else o) ≡ Some x → P y
@@ -135,3 +135,17 @@ deletes m H now r row reply event named found accepted event_is reply_is =
         fits = λ is. deletion_fits now row.number;
       },
     )
+
+-- what a test lets through
+let_through : {A : Type 0} (b : Bool) (x : Option A) (r : A) → (if b then x else None) ≡ Some r → x ≡ Some r
+let_through true x r e = e
+let_through false x r e = cc
+
+-- an instance has the descriptor that its row names
+pub named_by_row : (H : List Event) (i : ℕ) (r : InstanceRow) → instance H i ≡ Some r → descriptor H i ≡ descriptor_named H r.vnfd
+named_by_row H i r e = by (creation H i) refl (let_through (is_live H i) (option_map (instance_row H) (creation H i)) r e) where
+  by : (o : Option CreatedInstance) → creation H i ≡ o → option_map (instance_row H) o ≡ Some r → descriptor H i ≡ descriptor_named H r.vnfd
+  by None is none = cc
+  by (Some x) is some =
+      let same : instance_row H x ≡ r = cc in
+      ap (option_and_then (λ (y : CreatedInstance). descriptor_named H y.vnfd)) is ∙ ap (λ (y : InstanceRow). descriptor_named H y.vnfd) same

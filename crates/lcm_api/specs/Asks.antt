@@ -4,13 +4,10 @@ use Rattle.std.specs.Prelude.{ℕ, ◌+◌, ◌≡◌, List, [], codes, if◌the
 use Rattle.std.specs.Prelude.{Ok, Err}
 use Rattle.http_wire.specs.declared.request.Request.{Request}
 use Rattle.instance_table.specs.declared.rows.InstanceRow.{InstanceRow}
-use Rattle.json_bodies.specs.Body.{Gives, and_then, instantiate_of}
 use Rattle.json_views.specs.Occurrence.{occurrence_path}
 use Rattle.json_bodies.specs.declared.body.BodyFault.{BodyFault}
 use Rattle.lcm_events.specs.declared.asks.Ask.{Ask}
-use Rattle.lcm_events.specs.declared.asks.Ask.TheVariants.{Instantiate}
 use Rattle.lcm_events.specs.declared.asks.OpKind.{OpKind}
-use Rattle.lcm_events.specs.declared.asks.OpKind.TheVariants as kinds
 use Rattle.lcm_events.specs.declared.descriptor.Vnfd.{Vnfd}
 use Rattle.lcm_events.specs.declared.events.Event.{Event}
 use Rattle.lcm_events.specs.declared.events.EventKind.TheVariants.{Asked}
@@ -21,6 +18,7 @@ use Rattle.lcm_model.specs.Operations.{occurrences_made}
 use Rattle.lcm_model.specs.Plans.{plan}
 use Rattle.lcm_model.specs.Refusals.{ask_refusal, case_in, situation}
 use Rattle.lcm_model.specs.declared.refusals.Refusal.{Refusal}
+use Rattle.lcm_api.specs.Asked.{NamesFewTexts, ask_by, asked_in}
 use Rattle.lcm_api.specs.Bodies.{unread}
 use Rattle.lcm_api.specs.Instances.{asked_id, named_instance, no_instance}
 use Rattle.lcm_api.specs.Media.{is_json}
@@ -28,8 +26,7 @@ use Rattle.lcm_api.specs.Refusals.{refused_for}
 use Rattle.lcm_api.specs.Planning.{refused, told}
 use Rattle.lcm_api.specs.declared.asks.AskVerdict.{AskVerdict}
 use Rattle.lcm_api.specs.declared.asks.AskVerdict.TheVariants as verdict
-use Rattle.lcm_api.specs.declared.asks.AskedBody.{AskedBody}
-use Rattle.lcm_api.specs.declared.asks.AskedBody.TheVariants as bodies
+use Rattle.lcm_api.specs.declared.asked.AskedBody.{AskedBody}
 use Rattle.lcm_api.specs.declared.record.Planned.{Planned}
 use Rattle.lcm_api.specs.declared.record.Planned.TheVariants.{Records}
 use Rattle.lcm_replies.specs.declared.reply.Reply.{Reply}
@@ -66,20 +63,20 @@ abbrev pub ask_judged : ℕ → List Event → ℕ → Operation → Bool → Op
 ask_judged m H now a last (Some why) = refused_for why last
 ask_judged m H now a last None = Records (asking now a) (accepted m a.occ last)
 
--- an instance with this descriptor is asked; each that is live has one
-abbrev pub ask_described : ℕ → List Event → ℕ → Role → ℕ → Ask → Bool → Option Vnfd → Planned
-ask_described m H now role i ask last None = no_instance last
-ask_described m H now role i ask last (Some d) = ask_judged m H now (operation_asked H i role ask d) last
+-- an instance with this descriptor is asked for this
+abbrev pub asked_of : ℕ → List Event → ℕ → Role → ℕ → Vnfd → Bool → Ask → Planned
+asked_of m H now role i d last ask = ask_judged m H now (operation_asked H i role ask d) last
     (ask_refusal d (situation d H i) ask)
 
--- what a body asks for (SOL 003 5.5.2.4)
-abbrev pub ask_of : AskedBody → Ask
-ask_of (bodies.Instantiate body) = Instantiate body.flavour body.level
+-- an instance is asked for what depends on its descriptor; each that is live has one
+abbrev pub ask_described : ℕ → List Event → ℕ → Role → ℕ → (Vnfd → Ask) → Bool → Option Vnfd → Planned
+ask_described m H now role i ask last None = no_instance last
+ask_described m H now role i ask last (Some d) = asked_of m H now role i d last (ask d)
 
 -- the live instance of this row is asked for what a body says: the ask is made once the instance is found
 abbrev pub ask_found : ℕ → List Event → ℕ → Role → AskedBody → Bool → Option InstanceRow → Planned
 ask_found m H now role body last None = no_instance last
-ask_found m H now role body last (Some row) = ask_described m H now role row.number (ask_of body) last
+ask_found m H now role body last (Some row) = ask_described m H now role row.number (λ d. ask_by d body) last
     (descriptor H row.number)
 
 -- the instance that a request names is asked for this (SOL 003 5.4.4 to 5.4.10)
@@ -107,26 +104,18 @@ task_with m H now role r (Some read) =
     if is_json r.media then ask_read m H now role read r
     else refused 415 (codes "body must be application/json") r.last
 
--- what a body says of this operation, where it is served (SOL 003 5.5.2.4)
-abbrev pub asked_in : OpKind → List ℕ → Option (Result AskedBody BodyFault)
-asked_in kinds.Instantiate bytes = Some (and_then (instantiate_of bytes) (λ body. Ok (bodies.Instantiate body)))
-asked_in kind bytes = None
-
 -- what a request for this task of an instance comes to
 abbrev pub instance_task : ℕ → List Event → ℕ → Role → OpKind → Request → Planned
 instance_task m H now role kind r = task_with m H now role r (asked_in kind r.body)
 
--- what was read is what is expected, unless there was no memory for it
-abbrev pub GivesAsked : Option (Result AskedBody BodyFault) → Option (Result AskedBody BodyFault) → Type 0
-GivesAsked None expected = expected ≡ None
-GivesAsked (Some read) expected = (whole : Result AskedBody BodyFault) × (expected ≡ Some whole) × Gives read whole
-
--- whatever the history, a request for this task is refused with this reply, asks for what a body says, or asks for what
--- isn't served yet
+-- whatever the history, a request for this task is refused with this reply, asks for what a body says, which names few
+-- machines, or asks for what isn't served yet
 abbrev pub IsAskVerdict : OpKind → Request → AskVerdict → Type 0
 IsAskVerdict kind r (verdict.Refused reply) = (m : ℕ) (H : List Event) (now : ℕ) (role : Role)
     → instance_task m H now role kind r ≡ told reply
 IsAskVerdict kind r (verdict.Asks body) =
-    (m : ℕ) (H : List Event) (now : ℕ) (role : Role) → instance_task m H now role kind r ≡ ask_named m H now role body r
+    NamesFewTexts body
+    × ((m : ℕ) (H : List Event) (now : ℕ) (role : Role)
+    → instance_task m H now role kind r ≡ ask_named m H now role body r)
 IsAskVerdict kind r verdict.Unserved = (m : ℕ) (H : List Event) (now : ℕ) (role : Role)
     → instance_task m H now role kind r ≡ unserved m H r

@@ -1,4 +1,5 @@
 pub mod Answering
+pub mod Asked
 pub mod Asks
 pub mod Bodies
 pub mod Creating

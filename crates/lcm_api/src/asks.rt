@@ -1,19 +1,17 @@
 //! Asking an instance for an operation: its tasks, one route for all.
-ghost use Rattle.std.specs.Prelude.{◌≡◌, List, IfOk, Ok, false, is_some, ℕ};
+ghost use Rattle.std.specs.Prelude.{◌≡◌, List, IfOk, Some, false};
 ghost use Rattle.lcm_events.specs.declared.events.Event.{Event};
 ghost use Rattle.lcm_events.specs.declared.events.Operation.{Operation};
-ghost use Rattle.event_codec.specs.Typed.{TypedAsk};
-ghost use Rattle.event_codec.specs.Valid.{IsAsk};
 ghost use Rattle.executor.specs.Managed.{Keeps};
 ghost use Rattle.executor.specs.Operating.{IsRowOf};
-ghost use Rattle.json_bodies.specs.Body.{and_then};
-ghost use Rattle.lcm_api.specs.Asks.{GivesAsked, IsAskVerdict, accepted, ask_described, ask_named, ask_of, asked_in};
-ghost use Rattle.lcm_api.specs.Asks.{asking, instance_task, unserved};
+ghost use Rattle.lcm_api.specs.Asked.{NamesFewTexts};
+ghost use Rattle.lcm_api.specs.Asks.{IsAskVerdict, accepted, ask_described, ask_named, asking, instance_task, unserved};
 ghost use Rattle.lcm_api.specs.Recording.{IsPlanned};
 ghost use Rattle.change_planner.specs.Records.{NamesFew};
 ghost use Rattle.lcm_model.specs.Lives.{descriptor};
 ghost use Rattle.vnfm_base.specs.Ident.{IsIdentNumber};
 
+use crate::asked::{AskedBody, ask_by, read_asked};
 use crate::bodies::refused_body;
 use crate::instances::{asked_id, named_instance, no_instance};
 use crate::media::is_json;
@@ -22,10 +20,9 @@ use crate::refusals::refusal_for;
 use change_planner::asked_events_fit_records;
 use executor::{AskFault, Manager};
 use http_wire::Request;
-use instance_table::InstanceRow;
-use json_bodies::{BodyFault, InstantiateBody, read_instantiate};
+use instance_table::{InstanceRow, rows_have_holdings};
 use json_views::occurrence_path;
-use lcm_events::{Ask, Event, EventKind, OpKind, Operation, Role};
+use lcm_events::{Ask, Event, EventKind, OpKind, Operation, Role, Vnfd};
 use lcm_laws::{plans_are_exact, plans_are_small};
 use lcm_replies::{Reply, location, refusal};
 use site_traits::Site;
@@ -36,9 +33,9 @@ use vnfm_base::{Bytes, Moment};
 /// is recorded with its plan, and its occurrence is STARTING.
 ///
 /// Refusals of the request are replies, in this order: 415 for its media type, 400 for its body, 404 for the instance,
-/// 422 for what the descriptor hasn't, 409 for the state of the instance, 422 for more machines than a VDU may have,
-/// 507 for too many resources. An operation that isn't served yet is refused with 404, for the instance first, and its
-/// body isn't read. The call's one refusal is want of memory.
+/// 422 for what the descriptor hasn't or what the body asks by itself, 409 for the state of the instance, 422 for what
+/// stands, and for more machines than a VDU may have, 507 for too many resources. CHANGE_FLAVOUR, which isn't served
+/// yet, is refused with 404, for the instance first, and its body isn't read. The call's one refusal is want of memory.
 /// Source: SOL 003 5.4.4 to 5.4.10 (the tasks of an individual VNF instance).
 pub fn task<S: Site>(
     alloc: Global,
@@ -49,6 +46,7 @@ pub fn task<S: Site>(
     now: Moment,
 ) -> Result<Planned, AllocError>
     requires usable { manager.now.ledger.closed ≡ false }
+    requires kept { (H : List Event) × Keeps manager.now H }
     ensures { (H : List Event) → Keeps manager.now H → IfOk result
         (IsPlanned (instance_task manager.now.ledger.manager H now role kind request.now) manager.now H) }
 {
@@ -57,13 +55,6 @@ pub fn task<S: Site>(
         AskVerdict::Asks(body) => ask(alloc, manager, role, request, body, now),
         AskVerdict::Unserved => refuse_unserved(alloc, manager, request),
     }
-}
-
-/// What the body of a request for a task of an instance says.
-#[derive(Drop)]
-enum AskedBody {
-    /// It is that of an instantiate request.
-    Instantiate(InstantiateBody),
 }
 
 /// What a request for a task of an instance asks for, as far as it says by itself.
@@ -81,7 +72,7 @@ enum AskVerdict {
 fn judge(alloc: Global, kind: OpKind, request: &Request) -> Result<AskVerdict, AllocError>
     ensures { IfOk result (IsAskVerdict kind request.now) }
 {
-    if !is_served(kind) {
+    if matches!(kind, OpKind::ChangeFlavour) {
         return Ok(AskVerdict::Unserved);
     }
     if !is_json(&request.media) {
@@ -92,47 +83,6 @@ fn judge(alloc: Global, kind: OpKind, request: &Request) -> Result<AskVerdict, A
         Some(Ok(body)) => Ok(AskVerdict::Asks(body)),
         Some(Err(fault)) => Ok(AskVerdict::Refused(refused_body(alloc, &fault, request.last)?)),
         None => Ok(AskVerdict::Unserved),
-    }
-}
-
-/// Whether the operation is served.
-fn is_served(kind: OpKind) -> bool
-    ensures { (bytes : List ℕ) → result ≡ is_some (asked_in kind bytes) }
-{
-    matches!(kind, OpKind::Instantiate)
-}
-
-/// Reads the body of a request for this operation; none exactly where it isn't served.
-fn read_asked(alloc: Global, kind: OpKind, bytes: &[u8]) -> Option<Result<AskedBody, BodyFault>>
-    ensures { GivesAsked result (asked_in kind bytes.now) }
-{
-    match kind {
-        OpKind::Instantiate => Some(instantiation(read_instantiate(alloc, bytes))),
-        _ => None,
-    }
-}
-
-/// The body of an instantiate request as one of a task.
-fn instantiation(read: Result<InstantiateBody, BodyFault>) -> Result<AskedBody, BodyFault>
-    ensures { result ≡ and_then read (λ body. Ok (AskedBody.Instantiate body)) }
-{
-    match read {
-        Ok(body) => Ok(AskedBody::Instantiate(body)),
-        Err(fault) => Err(fault),
-    }
-}
-
-/// What a body asks for.
-fn ask_of(body: &AskedBody) -> Ask
-    ensures ask { result ≡ ask_of body.now }
-    ensures rules { TypedAsk result → IsAsk result }
-    ensures few { NamesFew result }
-{
-    match body {
-        AskedBody::Instantiate(body) => Ask::Instantiate {
-            flavour: body.flavour,
-            level: body.level,
-        },
     }
 }
 
@@ -164,13 +114,31 @@ fn ask<S: Site>(
     now: Moment,
 ) -> Result<Planned, AllocError>
     requires usable { manager.now.ledger.closed ≡ false }
+    requires kept { (H : List Event) × Keeps manager.now H }
+    requires few { NamesFewTexts body }
     ensures { (H : List Event) → Keeps manager.now H → IfOk result
         (IsPlanned (ask_named manager.now.ledger.manager H now role body request.now) manager.now H) }
 {
     let Some(row) = named_instance(manager, asked_id(request)) else {
         return Ok(Planned::Told(no_instance(alloc, request.last)?));
     };
-    ask_row(alloc, manager, role, row, ask_of(&body), now, request.last)
+    let ask = ask_by(alloc, vnfd_of(manager, row), body)?;
+    ask_row(alloc, manager, role, row, ask, now, request.last)
+}
+
+/// The descriptor of the live instance of this row.
+fn vnfd_of<'a, S: Site>(manager: &'a Manager<S>, row: &InstanceRow) -> &'a Vnfd
+    requires usable { manager.now.ledger.closed ≡ false }
+    requires kept { (H : List Event) × Keeps manager.now H }
+    requires own { IsRowOf manager.now row.now }
+    ensures { (H : List Event) → Keeps manager.now H → descriptor H row.now.number ≡ Some result.now }
+{
+    rows_have_holdings();
+    match manager.vnfd(&row.vnfd) {
+        Some(vnfd) => vnfd,
+        // The row of each live instance names a descriptor that was onboarded.
+        None => unreachable!(),
+    }
 }
 
 /// What asking the live instance of this row comes to.
@@ -184,11 +152,10 @@ fn ask_row<S: Site>(
     last: bool,
 ) -> Result<Planned, AllocError>
     requires usable { manager.now.ledger.closed ≡ false }
-    requires rules { TypedAsk ask → IsAsk ask }
     requires few { NamesFew ask }
     requires own { IsRowOf manager.now row.now }
     ensures { (H : List Event) → Keeps manager.now H
-        → IfOk result (IsPlanned (ask_described manager.now.ledger.manager H now role row.now.number ask last
+        → IfOk result (IsPlanned (ask_described manager.now.ledger.manager H now role row.now.number (λ d. ask) last
         (descriptor H row.now.number)) manager.now H) }
 {
     asked_events_fit_records();

@@ -2,6 +2,7 @@
 #![tactic(auto)]
 
 mod answering;
+mod asked;
 mod asks;
 mod bodies;
 mod create;

@@ -2,7 +2,9 @@
 use Rattle.std.proofs.Common.{◌≡◌, ◌+◌, ◌++◌, ℕ, List, ◌∷◌, length, Bool, true, false, Option, Some, None, Result, Ok, Err, refl}
 use Rattle.std.specs.Prelude.{nat_le, codes, if◌then◌else◌}
 use Rattle.json_bodies.proofs.ByteLemmas.{IsOfBytes, both_of_bytes, cancel_of_bytes, create_of_bytes, instantiate_of_bytes}
+use Rattle.json_bodies.proofs.ByteLemmas.{heal_of_bytes, operate_of_bytes, scale_of_bytes, scale_to_level_of_bytes, terminate_of_bytes}
 use Rattle.json_bodies.specs.Body.{cancel_of, create_of, instantiate_of}
+use Rattle.json_bodies.specs.Operations.{heal_of, operate_of, scale_of, scale_to_level_of, terminate_of}
 use Rattle.json_bodies.specs.declared.body.BodyFault.{BodyFault}
 use Rattle.json_bodies.specs.declared.body.BodyFault.TheVariants.{Malformed, Lacks, Wrong, Memory}
 use Rattle.json_bodies.specs.declared.body.CreateBody.{CreateBody}
@@ -26,9 +28,10 @@ use Rattle.lcm_events.specs.declared.events.Operation.{Operation}
 use Rattle.lcm_events.specs.declared.states.Role.{Role}
 use Rattle.lcm_model.specs.Lives.{descriptor}
 use Rattle.lcm_model.specs.Refusals.{ask_refusal, situation, task_refusal}
-use Rattle.lcm_api.specs.Asks.{accepted, ask_described, ask_found, ask_judged, ask_of, ask_read, asked_in, instance_task}
+use Rattle.lcm_api.specs.Asked.{ask_by, asked_in}
+use Rattle.lcm_api.specs.Asks.{accepted, ask_described, ask_found, ask_judged, ask_read, instance_task}
 use Rattle.lcm_api.specs.Asks.{operation_asked, task_with, unserved_found}
-use Rattle.lcm_api.specs.declared.asks.AskedBody.{AskedBody}
+use Rattle.lcm_api.specs.declared.asked.AskedBody.{AskedBody}
 use Rattle.lcm_api.specs.Occurrences.{list_occurrences, named_operation, occurrence_row_text, show_asked}
 use Rattle.lcm_api.specs.Creating.{body_outcome, create_instance, described_outcome, created, creation}
 use Rattle.lcm_api.specs.Instances.{asked_id, delete_found, delete_judged, deleted, list_instances, named_instance, row_text}
@@ -154,16 +157,17 @@ ask_judged_ends : (m : ℕ) (H : List Event) (now : ℕ) (a : Operation) (last :
 ask_judged_ends m H now a last (Some why) = refusal_ends (refusal_status why) (refusal_text why) last
 ask_judged_ends m H now a last None = accepted_ends m a.occ last
 
-ask_described_ends : (m : ℕ) (H : List Event) (now : ℕ) (role : Role) (i : ℕ) (ask : Ask) (last : Bool) (found : Option Vnfd)
+ask_described_ends : (m : ℕ) (H : List Event) (now : ℕ) (role : Role) (i : ℕ) (ask : Vnfd → Ask) (last : Bool) (found : Option Vnfd)
     → EndsAs last (ask_described m H now role i ask last found)
 ask_described_ends m H now role i ask last None = refusal_ends 404 (codes "no such instance") last
-ask_described_ends m H now role i ask last (Some d) = ask_judged_ends m H now (operation_asked H i role ask d) last
-    (ask_refusal d (situation d H i) ask)
+ask_described_ends m H now role i ask last (Some d) = ask_judged_ends m H now (operation_asked H i role (ask d) d) last
+    (ask_refusal d (situation d H i) (ask d))
 
 ask_ends : (m : ℕ) (H : List Event) (now : ℕ) (role : Role) (body : AskedBody) (last : Bool) (found : Option InstanceRow)
     → EndsAs last (ask_found m H now role body last found)
 ask_ends m H now role body last None = refusal_ends 404 (codes "no such instance") last
-ask_ends m H now role body last (Some row) = ask_described_ends m H now role row.number (ask_of body) last (descriptor H row.number)
+ask_ends m H now role body last (Some row) = ask_described_ends m H now role row.number (λ d. ask_by d body) last
+    (descriptor H row.number)
 
 ask_read_ends : (m : ℕ) (H : List Event) (now : ℕ) (role : Role) (read : Result AskedBody BodyFault) (r : Request) → IsOfBytes read
     → EndsAs r.last (ask_read m H now role read r)
@@ -184,11 +188,11 @@ AreOfBytes (Some read) = IsOfBytes read
 
 asked_of_bytes : (kind : OpKind) (bytes : List ℕ) → AreOfBytes (asked_in kind bytes)
 asked_of_bytes kinds.Instantiate bytes = both_of_bytes (instantiate_of bytes) _ (instantiate_of_bytes bytes) (λ body. tt)
-asked_of_bytes kinds.Scale bytes = tt
-asked_of_bytes kinds.ScaleToLevel bytes = tt
-asked_of_bytes kinds.Heal bytes = tt
-asked_of_bytes kinds.Operate bytes = tt
-asked_of_bytes kinds.Terminate bytes = tt
+asked_of_bytes kinds.Scale bytes = both_of_bytes (scale_of bytes) _ (scale_of_bytes bytes) (λ body. tt)
+asked_of_bytes kinds.ScaleToLevel bytes = both_of_bytes (scale_to_level_of bytes) _ (scale_to_level_of_bytes bytes) (λ body. tt)
+asked_of_bytes kinds.Heal bytes = both_of_bytes (heal_of bytes) _ (heal_of_bytes bytes) (λ body. tt)
+asked_of_bytes kinds.Operate bytes = both_of_bytes (operate_of bytes) _ (operate_of_bytes bytes) (λ body. tt)
+asked_of_bytes kinds.Terminate bytes = both_of_bytes (terminate_of bytes) _ (terminate_of_bytes bytes) (λ body. tt)
 asked_of_bytes kinds.ChangeFlavour bytes = tt
 
 task_with_ends : (m : ℕ) (H : List Event) (now : ℕ) (role : Role) (r : Request) (asked : Option (Result AskedBody BodyFault))
