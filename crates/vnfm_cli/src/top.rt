@@ -23,12 +23,12 @@ use vnfm_commands::{finish, obey};
 /// - `onboard --journal PATH` opens the journal, reads the door's first connection, then the clock, and records the
 ///   descriptor.
 /// - `once --journal PATH` opens the journal and makes as many rounds as `--rounds` says, or one: in each it serves one
-///   connection of the door, where one comes, whose requests are answered one by one for the role of `--role`, reads
-///   the clock once for each request and once for the round, and makes a turn: one act, in the order of their numbers,
-///   for each active occurrence: in STARTING, PROCESSING or ROLLING_BACK, under a cancel or not. An act asks the
-///   orchestrator for a grant or polls it, begins the job of an attempt behind its intent, which makes a change or
-///   undoes it, looks at a job, under a FORCEFUL cancel once it was asked to abort, or moves the occurrence on by what
-///   was answered. Rounds go on where nobody comes any more.
+///   connection of the door, where one comes, whose requests are answered one by one for the role of `--role`, whatever
+///   the door says of it, reads the clock once for each request and once for the round, and makes a turn: one act, in
+///   the order of their numbers, for each active occurrence: in STARTING, PROCESSING or ROLLING_BACK, under a cancel or
+///   not. An act asks the orchestrator for a grant or polls it, begins the job of an attempt behind its intent, which
+///   makes a change or undoes it, looks at a job, under a FORCEFUL cancel once it was asked to abort, or moves the
+///   occurrence on by what was answered. Rounds go on where nobody comes any more.
 ///
 /// From a sound beginning a stop leaves, whenever it comes, a journal with all that it had and jobs that are sound with
 /// it: each change stands at most once, and none ungranted. From the moment at which a reply was told on, whenever a

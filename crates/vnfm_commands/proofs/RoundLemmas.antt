@@ -36,6 +36,7 @@ use Rattle.vnfm_commands.specs.Rounds.{VisitDoes}
 use Rattle.vnfm_commands.proofs.ToldLemmas.{rounds_within, visit_within}
 use Rattle.vnfm_commands.specs.declared.ending.Failure.{Failure}
 use Rattle.vnfm_commands.specs.declared.ending.Failure.TheVariants.{DoorFault}
+use Rattle.vnfm_commands.specs.declared.rounds.ServedRole.{ServedRole}
 use Rattle.occ_work.specs.Deeds.{point}
 
 unbroken_last : (m : ℕ) (H : List Event) (last : Last) → is_breaking last ≡ false → work_last m H last ≡ went (stood (work_last m H last))
@@ -170,7 +171,7 @@ round_halted t m H visit turn ended why n o w u v joins chains first second fail
     }
 
 -- what came of a round in which a visit was made, by what the turn answered
-round_turned : (t : Tells) (m : ℕ) (H : List Event) (role : Role) (visit : Visit) (turn : Turning) (ended : TurnEnd)
+round_turned : (t : Tells) (m : ℕ) (H : List Event) (role : ServedRole) (visit : Visit) (turn : Turning) (ended : TurnEnd)
     (answer : Result (Unit {0}) Failure) (n o : Managed) (w u v : Outside) → WorksWithJobsJoin t.site w.site u.site v.site
     → ChainsJoin t.site w.site u.site v.site
     → Went t m H visit n w u → Goes t m (once_served m H visit) turn ended o u v → IsTurned answer ended → IsVisitFor role visit
@@ -199,7 +200,7 @@ the_visit (visited v) is = (v, refl)
 the_visit (over c) is = absurd is
 
 -- behind a visit the manager is ready for the turn
-pub ready_met : (t : session.WorldTells) (role : Role) (m n : Managed) (w u : World) → LeadsOn t.site w.site u.site
+pub ready_met : (t : session.WorldTells) (role : ServedRole) (m n : Managed) (w u : World) → LeadsOn t.site w.site u.site
     → ((H : List Event) → IsReady t.site m H w.site → (met : Met) × Meets t m.ledger.manager H met n w u × MetFor role met
     × IsMet (Ok tt) met)
     → (H : List Event) × IsReady t.site m H w.site → (H : List Event) × IsReady t.site n H u.site
@@ -212,7 +213,7 @@ ready_met t role m n w u leads meets ready =
     (G, leads m.ledger.manager ready.0 (went G) n met.works refl)
 
 -- what came of a round in which a visit was made
-pub made_by : (t : Tells) (role : Role) (m n o : Managed) (answer : Result (Unit {0}) Failure) (failed : Type 0) (w u v : Outside)
+pub made_by : (t : Tells) (role : ServedRole) (m n o : Managed) (answer : Result (Unit {0}) Failure) (failed : Type 0) (w u v : Outside)
     → LeadsOn t.site w.site u.site → WorksAreWithJobs t.site w.site u.site → ChainsJoin t.site w.site u.site v.site
     → WorksWithJobsJoin t.site w.site u.site v.site
     → ((H : List Event) → IsReady t.site m H w.site → (met : Met) × Meets (session_tells t) m.ledger.manager H met n (session_world w)
@@ -288,7 +289,7 @@ met_unreached t m H s c d ks idles ready same counts unnoted = record {
 }
 
 -- what came of the door in a round that the door ended is what ended it, and nobody was asked
-pub round_over : (t : Tells) (m : ℕ) (H : List Event) (role : Role) (why : Failure) (failed : Type 0) (met : Met) (n : Managed)
+pub round_over : (t : Tells) (m : ℕ) (H : List Event) (role : ServedRole) (why : Failure) (failed : Type 0) (met : Met) (n : Managed)
     (w v : Outside)
     → WorksAreWithJobs t.site w.site v.site → Meets (session_tells t) m H met n (session_world w) (session_world v) → MetFor role met
     → IsMet (Err why) met
@@ -317,19 +318,19 @@ round_over t m H role why failed (over (halted visit turn ended cause)) n w v al
     absurd is
 
 -- the rounds so far: all were made
-pub record RoundsSoFar (t : Tells) (role : Role) (m n : Managed) (made : ℕ) (w v : Outside) : Type 0 where
+pub record RoundsSoFar (t : Tells) (role : ServedRole) (m n : Managed) (made : ℕ) (w v : Outside) : Type 0 where
   pub each : (H : List Event) → IsReady t.site m H w.site → (rounds : List Round)
       × WorksWithJobs t.site m.ledger.manager H (went (life (once_made m.ledger.manager) H rounds)) n w.site v.site
       × RoundsDo t m.ledger.manager H rounds (beside w) (beside v) × AreFor role rounds × (made ≡ length rounds)
       × AreTold t.site m.ledger.manager (told_in_rounds m.ledger.manager H rounds) w.mouth.told v.mouth.told w.site v.site
 
-pub none_made : (t : Tells) (role : Role) (m : Managed) (w : Outside) → Idles t.site w.site → WorksAreWithJobs t.site w.site w.site
+pub none_made : (t : Tells) (role : ServedRole) (m : Managed) (w : Outside) → Idles t.site w.site → WorksAreWithJobs t.site w.site w.site
     → RoundsSoFar t role m m 0 w w
 none_made t role m w idles alone = record {
   each = λ H ready. ([], alone m.ledger.manager H (went H) m (idles m H ready), refl, tt, refl, refl);
 }
 
-pub ready_so_far : (t : Tells) (role : Role) (m n : Managed) (made : ℕ) (w v : Outside) → RoundsSoFar t role m n made w v
+pub ready_so_far : (t : Tells) (role : ServedRole) (m n : Managed) (made : ℕ) (w v : Outside) → RoundsSoFar t role m n made w v
     → WorksWithJobsLeadOn t.site w.site v.site
     → (H : List Event) × IsReady t.site m H w.site → (H : List Event) × IsReady t.site n H v.site
 ready_so_far t role m n made w v so_far leads ready =
@@ -348,7 +349,7 @@ the_end why (round r) is = absurd is
 the_end why (end c) is = (c, refl, is)
 
 -- one round more
-pub one_round_more : (t : Tells) (role : Role) (m n o : Managed) (made : ℕ) (w u v : Outside) → RoundsSoFar t role m n made w u
+pub one_round_more : (t : Tells) (role : ServedRole) (m n o : Managed) (made : ℕ) (w u v : Outside) → RoundsSoFar t role m n made w u
     → WorksWithJobsLeadOn t.site w.site u.site
     → WorksWithJobsJoin t.site w.site u.site v.site → ChainsJoin t.site w.site u.site v.site
     → ((H : List Event) → IsReady t.site n H u.site → (one : One) × MakesOne t n.ledger.manager H one o u v × OneFor role one
@@ -377,8 +378,8 @@ one_round_more t role m n o made w u v so_far leads joins chains step = record {
 }
 
 -- all were made
-pub all_made : (t : Tells) (role : Role) (m n : Managed) (made count : ℕ) (w v : Outside) → RoundsSoFar t role m n made w v → made ≡ count
-    → (H : List Event) → IsReady t.site m H w.site
+pub all_made : (t : Tells) (role : ServedRole) (m n : Managed) (made count : ℕ) (w v : Outside) → RoundsSoFar t role m n made w v
+    → made ≡ count → (H : List Event) → IsReady t.site m H w.site
     → (service : Service) × Makes t m.ledger.manager H service n w v × (service.role ≡ role)
     × IsCount count (length service.rounds) service.close × (made ≡ length service.rounds) × (service.close ≡ finished)
 all_made t role m n made count w v so_far all H ready =
@@ -397,7 +398,7 @@ all_made t role m n made count w v so_far all H ready =
     )
 
 -- the rounds ended for this failure
-pub rounds_ended : (t : Tells) (role : Role) (m n o : Managed) (made count : ℕ) (why : Failure) (w u v : Outside)
+pub rounds_ended : (t : Tells) (role : ServedRole) (m n o : Managed) (made count : ℕ) (why : Failure) (w u v : Outside)
     → RoundsSoFar t role m n made w u → WorksWithJobsLeadOn t.site w.site u.site
     → WorksWithJobsJoin t.site w.site u.site v.site → ChainsJoin t.site w.site u.site v.site → made < count
     → ((H : List Event) → IsReady t.site n H u.site → (one : One) × MakesOne t n.ledger.manager H one o u v × OneFor role one

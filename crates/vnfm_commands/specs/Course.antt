@@ -24,6 +24,8 @@ use Rattle.vnfm_commands.specs.declared.ending.Failure.TheVariants.{Usage, SiteF
 use Rattle.vnfm_commands.specs.declared.ending.Failure.TheVariants.{NoMemory, BadRecord, JournalFull, DescriptorRefused}
 use Rattle.vnfm_commands.specs.declared.ending.Failure.TheVariants.{Taken}
 use Rattle.vnfm_commands.specs.declared.ending.Report.TheVariants.{Done, Made, Onboarded}
+use Rattle.vnfm_commands.specs.declared.rounds.ServedRole.{ServedRole}
+use Rattle.vnfm_commands.specs.declared.rounds.ServedRole.TheVariants.{Stated, ByDoor}
 use Rattle.command_line.specs.declared.options.Command.TheVariants.{Init, Onboard, Once}
 use Rattle.command_line.specs.declared.options.Settings.{Settings}
 use Rattle.command_line.specs.declared.options.SettingsFault.{SettingsFault}
@@ -58,9 +60,14 @@ pub data Close : Type 0 where
   stopped : Role → Talk → Close
   halted : Visit → Turning → TurnEnd → Halt → Close
 
+-- the role for which a connection is served, by the one that the door told of it: the stated one, or else that
+abbrev pub role_for : ServedRole → Role → Role
+role_for (Stated role) came = role
+role_for ByDoor came = came
+
 -- the rounds that were made for whoever asks, the latest first, and how they ended
 pub record Service : Type 0 where
-  pub role : Role
+  pub role : ServedRole
   pub rounds : List Round
   pub close : Close
 
@@ -216,7 +223,7 @@ IsCount wanted n other = n < wanted
 -- the activity is one of these settings
 pub record ServesAs (s : Settings) (service : Service) : Type 0 where
   pub command : s.command ≡ Once
-  pub role : service.role ≡ s.role
+  pub role : service.role ≡ Stated s.role
   pub count : IsCount s.rounds (length service.rounds) service.close
 
 abbrev pub IsActivityOf : Settings → Activity → Type 0

@@ -19,10 +19,11 @@ use Rattle.site_traits.specs.Door.{Comes, opened as has_come}
 use Rattle.vnfm_commands.specs.Course.{Halt, halt_of, halting, Visit, unasked, served, Turning, Round, Close, finished}
 use Rattle.vnfm_commands.specs.Course.{unreached, stopped, halted, Service, close_ending, close_work, moment_of}
 use Rattle.vnfm_commands.specs.Course.{once_made, once_served, service_work, serving, told_at_close, told_by}
-use Rattle.vnfm_commands.specs.Course.{told_in_visit}
+use Rattle.vnfm_commands.specs.Course.{role_for, told_in_visit}
 use Rattle.vnfm_commands.specs.Outside.{Beside, Outside, Tells, acting_tells, beside, session_peers, session_tells}
 use Rattle.vnfm_commands.specs.declared.ending.Failure.{Failure}
 use Rattle.vnfm_commands.specs.declared.ending.Failure.TheVariants.{DoorFault, SiteFault}
+use Rattle.vnfm_commands.specs.declared.rounds.ServedRole.{ServedRole}
 
 -- nobody was asked: the orchestrator and the courier are as they were, and running jobs may have ended by themselves
 pub record AsksNobody (t : Tells) (a b : Beside) : Type 0 where
@@ -116,23 +117,23 @@ CloseDoes t m H (stopped came talk) a b = DoorEnds (session_tells t) m H (stoppe
 CloseDoes t m H (halted visit turn end why) a c =
     (b : Beside) × VisitDoes t m H visit a b × TurnDoes t m (once_served m H visit) turn end b c × FailsBy end why
 
--- the talk of this visit, where there was one, was held for this role
-abbrev pub IsVisitFor : Role → Visit → Type 0
+-- the talk of this visit, where there was one, was held for the stated role, or else for the one that the door told
+abbrev pub IsVisitFor : ServedRole → Visit → Type 0
 IsVisitFor role unasked = Unit {0}
-IsVisitFor role (served came talk) = talk.role ≡ role
+IsVisitFor role (served came talk) = talk.role ≡ role_for role came
 
--- all talks of these rounds were held for this role
-abbrev pub AreFor : Role → List Round → Type 0
+-- all talks of these rounds were held for the stated role, or else each for the one that the door told
+abbrev pub AreFor : ServedRole → List Round → Type 0
 AreFor role [] = Unit {0}
 AreFor role (r ∷ before) = IsVisitFor role r.visit × AreFor role before
 
-abbrev pub ClosesFor : Role → Close → Type 0
-ClosesFor role (stopped came talk) = talk.role ≡ role
+abbrev pub ClosesFor : ServedRole → Close → Type 0
+ClosesFor role (stopped came talk) = talk.role ≡ role_for role came
 ClosesFor role (halted visit turn end why) = IsVisitFor role visit
 ClosesFor role other = Unit {0}
 
 -- what rounds do to all that stands beside the journal: they were made, and ended so, and all talks were held for the
--- role of the words
+-- stated role, or else each for the one that the door told
 pub record Serves (t : Tells) (m : ℕ) (H : List Event) (service : Service) (a b : Beside) : Type 0 where
   pub between : Beside
   pub rounds : RoundsDo t m H service.rounds a between
@@ -166,8 +167,8 @@ abbrev pub MetDoes : session.WorldTells → ℕ → List Event → Met → Peers
 MetDoes t m H (visited visit) a b = Visits t m H visit a b
 MetDoes t m H (over c) a b = DoorEnds t m H c a b
 
--- its talk was held for this role
-abbrev pub MetFor : Role → Met → Type 0
+-- its talk was held for the stated role, or else for the one that the door told
+abbrev pub MetFor : ServedRole → Met → Type 0
 MetFor role (visited visit) = IsVisitFor role visit
 MetFor role (over c) = ClosesFor role c
 
@@ -209,8 +210,8 @@ abbrev pub OneDoes : Tells → ℕ → List Event → One → Beside → Beside 
 OneDoes t m H (round r) a b = RoundDoes t m H r a b
 OneDoes t m H (end c) a b = CloseDoes t m H c a b
 
--- its talk was held for this role
-abbrev pub OneFor : Role → One → Type 0
+-- its talk was held for the stated role, or else for the one that the door told
+abbrev pub OneFor : ServedRole → One → Type 0
 OneFor role (round r) = IsVisitFor role r.visit
 OneFor role (end c) = ClosesFor role c
 

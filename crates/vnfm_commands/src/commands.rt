@@ -16,7 +16,7 @@ ghost use Rattle.vnfm_commands.specs.Runs.{Pursues, Does, Runs};
 ghost use Rattle.vnfm_commands.specs.Words.{AreWordsOf, loads};
 
 use crate::ending::{Ending, Failure, Report};
-use crate::rounds::make_rounds;
+use crate::rounds::{ServedRole, make_rounds};
 use command_line::{Command, Settings, settings};
 use executor::{Manager, works_add_up, works_with_jobs_add_up};
 use journal_core::{Journal, faults_are_counted};
@@ -91,7 +91,8 @@ fn perform<S: Site, D: Door, O: Orchestrator, C: Courier, K: Clock>(
             let mut manager = Manager::load(alloc, site)?;
             make_rounds(
                 alloc,
-                settings,
+                settings.rounds,
+                ServedRole::Stated(settings.role),
                 &mut manager,
                 site,
                 mouth,

@@ -9,12 +9,12 @@ ghost use Rattle.occ_work.specs.Turns.{TurnEnd, Turns};
 ghost use Rattle.site_traits.specs.Clock.{Gives};
 ghost use Rattle.site_traits.specs.Counts.{OnlyDiskFails};
 ghost use Rattle.vnfm_commands.specs.Course.{IsCount, Service, Turning, close_ending, halt_of, halting, moment_of};
+ghost use Rattle.vnfm_commands.specs.Course.{role_for};
 ghost use Rattle.vnfm_commands.specs.Outside.{outside, telling};
 ghost use Rattle.vnfm_commands.specs.Rounds.{IsMet, IsOne, Makes, MakesOne, Meets, Met, MetFor, One, OneFor, IsTurned};
 ghost use Rattle.occ_work.specs.Deeds.{point};
 
 use crate::ending::{Ending, Failure, Report};
-use command_line::Settings;
 use executor::{Manager, WorkFault, what_was_told_of_stays, works_add_up, works_with_jobs_add_up};
 use lcm_events::Role;
 use lcm_mouth::Mouth;
@@ -24,7 +24,28 @@ use site_traits::{Clock, Courier, Door, NextAnswer, Orchestrator, Site};
 use std::alloc::Global;
 use vnfm_base::Moment;
 
-/// Makes as many rounds as the settings say, for whoever asks in their role, and says how the run ends.
+/// The role for which connections are served.
+#[derive(Clone, Copy)]
+pub enum ServedRole {
+    /// This one, whatever the door says of a connection.
+    Stated(Role),
+    /// The one that the door says of each connection.
+    ByDoor,
+}
+
+impl ServedRole {
+    /// The role for which a connection is served, by the one that the door says of it.
+    fn for_connection(self, came: Role) -> Role
+        ensures { result ≡ role_for self came }
+    {
+        match self {
+            ServedRole::Stated(role) => role,
+            ServedRole::ByDoor => came,
+        }
+    }
+}
+
+/// Makes as many rounds as are wanted, whose connections are served for this role, and says how the run ends.
 ///
 /// A round is: the door is asked for a connection once; one that came is served; then the clock is read, and a turn is
 /// made: one act for each occurrence whose grant is asked for or whose changes are made. The first round in which
@@ -32,7 +53,8 @@ use vnfm_base::Moment;
 /// acts before that stand. Source: SOL 003 clauses 5 and 9; rounds are an own rule, docs/FORMATS.md.
 pub fn make_rounds<S: Site, D: Door, O: Orchestrator, C: Courier, K: Clock>(
     alloc: Global,
-    settings: &Settings,
+    wanted: u32,
+    role: ServedRole,
     manager: &mut Manager<S>,
     site: &mut S,
     mouth: &mut Mouth<D>,
@@ -47,7 +69,7 @@ pub fn make_rounds<S: Site, D: Door, O: Orchestrator, C: Courier, K: Clock>(
         (C.state courier.old) (C.counts courier.old) (K.state clock.old))
         (outside (S.state site.new) (S.counts site.new) mouth.new (O.state orchestrator.new) (O.counts orchestrator.new)
         (C.state courier.new) (C.counts courier.new) (K.state clock.new))
-        × (service.role ≡ settings.now.role) × IsCount settings.now.rounds (length service.rounds) service.close
+        × (service.role ≡ role) × IsCount wanted (length service.rounds) service.close
         × (result ≡ close_ending (length service.rounds) service.close) }
     ensures unposted { courier.new ≡ courier.old }
     ensures disk { DiskFails (result ≡ Err Failure.SiteFault) (S.counts site.old) (S.counts site.new) }
@@ -55,7 +77,6 @@ pub fn make_rounds<S: Site, D: Door, O: Orchestrator, C: Courier, K: Clock>(
     works_add_up::<S>();
     works_with_jobs_add_up::<S>();
     what_was_told_of_stays::<S>();
-    let wanted = settings.rounds;
     let mut made = 0;
     'rounds: while made < wanted {
         match make_round(
@@ -66,7 +87,7 @@ pub fn make_rounds<S: Site, D: Door, O: Orchestrator, C: Courier, K: Clock>(
             orchestrator,
             courier,
             clock,
-            settings.role,
+            role,
         ) {
             Ok(()) => made += 1,
             Err(why) => return Err(why),
@@ -84,7 +105,7 @@ fn make_round<S: Site, D: Door, O: Orchestrator, C: Courier, K: Clock>(
     orchestrator: &mut O,
     courier: &mut C,
     clock: &mut K,
-    role: Role,
+    role: ServedRole,
 ) -> Result<(), Failure>
     requires ready { (H : List Event) × IsReady S.tells manager.old H (S.state site.old) }
     ensures makes { (H : List Event) → IsReady S.tells manager.old H (S.state site.old) → (one : One)
@@ -113,7 +134,7 @@ fn meet<S: Site, D: Door, K: Clock>(
     site: &mut S,
     mouth: &mut Mouth<D>,
     clock: &mut K,
-    role: Role,
+    role: ServedRole,
 ) -> Result<(), Failure>
     requires ready { (H : List Event) × IsReady S.tells manager.old H (S.state site.old) }
     ensures meets { (H : List Event) → IsReady S.tells manager.old H (S.state site.old) → (met : Met)
@@ -126,10 +147,13 @@ fn meet<S: Site, D: Door, K: Clock>(
 {
     works_add_up::<S>();
     match mouth.next() {
-        NextAnswer::Came(_) => match answer_session(alloc, manager, site, mouth, clock, role) {
-            Ok(_) => Ok(()),
-            Err(Closed) => Err(Failure::SiteFault),
-        },
+        NextAnswer::Came(came) => {
+            let role = role.for_connection(came);
+            match answer_session(alloc, manager, site, mouth, clock, role) {
+                Ok(_) => Ok(()),
+                Err(Closed) => Err(Failure::SiteFault),
+            }
+        }
         NextAnswer::Nobody => Ok(()),
         NextAnswer::Ended => Ok(()),
         NextAnswer::Failed => Err(Failure::DoorFault),

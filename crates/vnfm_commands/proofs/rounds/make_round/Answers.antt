@@ -7,7 +7,7 @@ use Rattle.vnfm_commands.proofs.rounds.make_round.Goals as goal
 
 pub take_turn-requires : goal.take_turn-requires
 take_turn-requires g c = record {
-  ready = ready_met _ _ _ _ _ _ (c.works_add_up.ensures.leads c.args.site.now c.meet.new.site)
+  ready = ready_met _ c.args.role _ _ _ _ (c.works_add_up.ensures.leads c.args.site.now c.meet.new.site)
       (λ H ready. c.in-Ok.ensures.meets H ready) c.requires.ready;
 }
 

@@ -7,7 +7,7 @@ use Rattle.vnfm_commands.proofs.rounds.make_rounds.Goals as goal
 
 pub rounds-init : goal.rounds-init
 rounds-init g c = (
-  none_made _ c.args.settings.now.role c.args.manager.now _ (c.works_add_up.ensures.idles c.args.site.now)
+  none_made _ c.args.role c.args.manager.now _ (c.works_add_up.ensures.idles c.args.site.now)
       (c.works_with_jobs_add_up.ensures.works c.args.site.now c.args.site.now),
   disk_untouched ⊥ _ (λ never. never),
   omega arith,
@@ -34,7 +34,7 @@ rounds-preserved g c =
 
 pub returns-in-Err-clause-makes : goal.returns-in-Err-clause-makes
 returns-in-Err-clause-makes g c = λ H ready.
-    rounds_ended _ c.args.settings.now.role _ _ _ _ c.args.settings.now.rounds _ _ _ _ c.rounds.invariant.0
+    rounds_ended _ c.args.role _ _ _ _ c.args.wanted _ _ _ _ c.rounds.invariant.0
     (c.works_with_jobs_add_up.ensures.leads c.args.site.now c.rounds.site)
     (c.works_with_jobs_add_up.ensures.joins c.args.site.now c.rounds.site c.make_round.new.site)
     (c.what_was_told_of_stays.ensures.joins c.args.site.now c.rounds.site c.make_round.new.site) c.rounds-test.true
@@ -44,7 +44,7 @@ pub returns-clause-makes : goal.returns-clause-makes
 returns-clause-makes g c = λ H ready.
     let most = c.rounds.invariant.2 in
     let over = c.rounds-test.false in
-    let it = all_made _ c.args.settings.now.role _ _ _ c.args.settings.now.rounds _ _ c.rounds.invariant.0
+    let it = all_made _ c.args.role _ _ _ c.args.wanted _ _ c.rounds.invariant.0
     (omega (arith, most, over)) H ready in
     (it.0, it.1, it.2, it.3, rw it.5 (ap (λ n. Ok (Done n)) it.4))
 

@@ -7,15 +7,15 @@ use Rattle.vnfm_commands.proofs.rounds.make_rounds.Given as goal
 
 abbrev pub invariant-rounds : goal.invariant-rounds
 invariant-rounds g l = RoundsSoFar (telling g.S.Site.tells g.D.Door.tells g.O.Orchestrator.tells g.C.Courier.tells g.K.Clock.tells)
-    l.fn.settings.role l.fn.manager l.manager l.made
+    l.fn.role l.fn.manager l.manager l.made
     (outside (g.S.Site.state l.fn.site) (g.S.Site.counts l.fn.site) l.fn.mouth (g.O.Orchestrator.state l.fn.orchestrator)
     (g.O.Orchestrator.counts l.fn.orchestrator) (g.C.Courier.state l.fn.courier) (g.C.Courier.counts l.fn.courier)
     (g.K.Clock.state l.fn.clock))
     (outside (g.S.Site.state l.site) (g.S.Site.counts l.site) l.mouth (g.O.Orchestrator.state l.orchestrator)
     (g.O.Orchestrator.counts l.orchestrator) (g.C.Courier.state l.courier) (g.C.Courier.counts l.courier) (g.K.Clock.state l.clock))
     × DiskFails ⊥ (g.S.Site.counts l.fn.site) (g.S.Site.counts l.site)
-    × (l.made ≤ l.fn.settings.rounds)
+    × (l.made ≤ l.fn.wanted)
     × (l.courier ≡ l.fn.courier)
 
 abbrev pub decreases-rounds : goal.decreases-rounds
-decreases-rounds g l = l.fn.settings.rounds - l.made
+decreases-rounds g l = l.fn.wanted - l.made

@@ -1,5 +1,5 @@
 -- A connection came and was served, or none came, or waiting failed.
-use Rattle.std.proofs.Common.{false, inl, inr, refl, true}
+use Rattle.std.proofs.Common.{◌∙◌, false, inl, inr, refl, true}
 use Rattle.lcm_mouth.specs.World.{World, world}
 use Rattle.site_traits.specs.Counts.{fails_as}
 use Rattle.site_traits.specs.declared.door.NextAnswer.TheVariants.{Nobody, Ended}
@@ -13,10 +13,10 @@ returns-in-Ok-clause-meets g c = λ H ready.
     let it = c.in-Ok.ensures.serves H ready in
     let v : World = world (g.S.Site.state c.answer_session.new.site) c.answer_session.new.mouth
     (g.K.Clock.state c.answer_session.new.clock) in (
-      visited (served c.in-Came.field-0 it.0),
-      met_served _ _ H false c.in-Came.field-0 it.0 _ _ c.args.mouth.now c.next.new.self _ v c.in-Came.ensures.told c.in-Came.ensures.cause
+      visited (served c.in-Came.came it.0),
+      met_served _ _ H false c.in-Came.came it.0 _ _ c.args.mouth.now c.next.new.self _ v c.in-Came.ensures.told c.in-Came.ensures.cause
           c.next.ensures.begins c.next.ensures.unnoted it.1 it.3.1,
-      it.2,
+      it.2 ∙ c.for_connection-role.ensures,
       tt,
     )
 
@@ -25,10 +25,10 @@ returns-in-Err-clause-meets g c = λ H ready.
     let it = c.in-Err.ensures.serves H ready in
     let v : World = world (g.S.Site.state c.answer_session.new.site) c.answer_session.new.mouth
     (g.K.Clock.state c.answer_session.new.clock) in (
-      over (stopped c.in-Came.field-0 it.0),
-      met_served _ _ H true c.in-Came.field-0 it.0 _ _ c.args.mouth.now c.next.new.self _ v c.in-Came.ensures.told c.in-Came.ensures.cause
+      over (stopped c.in-Came.came it.0),
+      met_served _ _ H true c.in-Came.came it.0 _ _ c.args.mouth.now c.next.new.self _ v c.in-Came.ensures.told c.in-Came.ensures.cause
           c.next.ensures.begins c.next.ensures.unnoted it.1 it.3,
-      it.2,
+      it.2 ∙ c.for_connection-role.ensures,
       refl,
     )
 
