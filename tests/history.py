@@ -50,6 +50,8 @@ LINKS = ["net_data", "net_mgmt"]
 PORTS = [("CP_A_data", 0, 0), ("CP_A_mgmt", 0, 1), ("CP_B_mgmt", 1, 1)]
 MAXIMUM = 10
 LEVELS = {"normal": 1, "small": 0}
+# Those that an ask may name: some runs have a descriptor with one more.
+NAMED_LEVELS = {**LEVELS, "large": 10}
 DESCRIPTOR = (
     name("vnfd-1") + name("Example") + name("Edge Router") + name("1.0") + name("1.0") + name("simple")
     + many(lambda v: name(v[0]) + u64(v[1]) + u32(v[2]) + u32(v[3]) + u32(v[4]) + many(u16, v[5]), VDUS)
@@ -192,11 +194,11 @@ def target(level, ask):
     """The level of the workers that an ask aims at."""
     kind, *what = ask
     if kind == "instantiate":
-        return LEVELS[what[1] or "normal"]
+        return NAMED_LEVELS[what[1] or "normal"]
     if kind == "scale":
         return max(0, level - what[2]) if what[0] else min(MAXIMUM, level + what[2])
     if kind == "level":
-        return LEVELS[what[0]]
+        return NAMED_LEVELS[what[0]]
     if kind == "aspects":
         return dict(what[0]).get("workers", level)
     return level
@@ -240,24 +242,56 @@ def plan(held, ask):
     return changes
 
 
-def refuses(held, busy, ask):
-    """Whether an ask with names of the descriptor is refused."""
+def content_refusal(ask):
+    """Why an ask is refused against the descriptor or by itself, where it is."""
     kind, *what = ask
-    if (kind == "scale" and what[2] == 0) or (kind == "aspects" and any(n > MAXIMUM for _, n in what[0])):
-        return True
-    if (kind == "instantiate") == held.instantiated or busy:
-        return True
-    if kind in ("scale", "level", "aspects", "operate") and not is_in_step(held):
-        return True
-    if kind in ("scale", "level", "aspects") and not held.started:
-        return True
-    if kind == "scale":
-        return what[2] > (held.level if what[0] else MAXIMUM - held.level)
-    if kind == "heal":
-        return any(s not in there(held, v) for v, s in what[1])
-    if kind in ("level", "aspects"):
-        return target(held.level, ask) == held.level
-    return kind == "operate" and what[0] == held.started
+    if kind == "instantiate" and what[0] != "simple":
+        return "flavourId is not in the descriptor"
+    level = {"instantiate": what[-1], "level": what[0]}.get(kind)
+    if level is not None and level not in NAMED_LEVELS:
+        return "instantiationLevelId is not in the descriptor"
+    named = {"scale": what[1:2], "aspects": [it[0] for it in what[0]] if kind == "aspects" else []}.get(kind, [])
+    if any(it != "workers" for it in named):
+        return "aspectId is not in the descriptor"
+    if kind == "scale" and what[2] == 0:
+        return "numberOfSteps is 0"
+    if len(named) > 1:
+        return "scaleInfo names an aspect twice"
+    if kind == "aspects" and any(n > MAXIMUM for _, n in what[0]):
+        return "scaleLevel is above the maximum"
+    return None
+
+
+def state_refusal(held, busy, ask):
+    """Why it is refused by the state of its instance."""
+    kind = ask[0]
+    scales = kind in ("scale", "level", "aspects")
+    if kind == "instantiate" and held.instantiated:
+        return "instance is INSTANTIATED"
+    if kind != "instantiate" and not held.instantiated:
+        return "instance is not INSTANTIATED"
+    if busy:
+        return "an operation is ongoing"
+    if (scales or kind == "operate") and not is_in_step(held):
+        return "instance is out of step"
+    return "instance is STOPPED" if scales and not held.started else None
+
+
+def step_refusal(held, ask):
+    """Why it is refused by what stands."""
+    kind, *what = ask
+    if kind == "scale" and what[2] > (held.level if what[0] else MAXIMUM - held.level):
+        return "scale level below zero" if what[0] else "scale level above the maximum"
+    if kind == "heal" and any(v >= len(VDUS) or s not in there(held, v) for v, s in what[1]):
+        return "vnfcInstanceId names no VNFC"
+    if (kind in ("level", "aspects") and target(held.level, ask) == held.level) or (kind == "operate" and what[0] == held.started):
+        return "nothing to do"
+    return None
+
+
+def refusal(held, busy, ask):
+    """The first cause for which an ask is refused, where there is one."""
+    return content_refusal(ask) or state_refusal(held, busy, ask) or step_refusal(held, ask)
 
 
 class Occurrence:
@@ -420,7 +454,7 @@ class History:
             number, instance, _, ask, changes = fields
             held = self.instance(instance)
             return (
-                number == len(self.occurrences) + 1 and held is not None and not refuses(held, self.is_busy(instance), ask)
+                number == len(self.occurrences) + 1 and held is not None and refusal(held, self.is_busy(instance), ask) is None
                 and changes == plan(held, ask))
         if kind == "subscribed":
             return fields[0] == len(self.subscriptions) + 1 and all(len(values) <= VALUES for values in fields[3])

@@ -1,23 +1,31 @@
 """Plays the runs of operations over the model of the manager's work in working.py: what a run is to come to, as its module says it by hand, has to be what
 the model comes to as well. `tests/runs.py --check` plays those of the modules in PLAYED.
 
-It has the acts that these modules use, each as the files of crates/lcm_cases/src tell it; of an answer it compares the status alone, and of what shows the
-occurrence the state, the cause and the changes. Acts that say nothing of the manager's work are passed over.
+It has the acts that these modules use, each as the files of crates/lcm_cases/src tell it. Files, answers and views are compared to the byte; acts that say
+nothing of the manager's work are passed over.
 """
 import json
-import re
 
+import answering
+import history
 import run_parts
 import run_texts
-from working import ACTIVE, OVER, ROUTER, DiskFailed, Manager, Site, Tag, router
+import views
+import working
+from working import CREATED, DONE, ONBOARDED, WAYS, DiskFailed, Grants, Manager, Site
 
-PLAYED = "runs_forward", "runs_rollbacks", "runs_cancels", "runs_stops", "runs_windows"
+PLAYED = (
+    *["runs_forward", "runs_rollbacks", "runs_cancels", "runs_stops", "runs_windows", "runs_asks", "runs_scaling", "runs_healing", "runs_powers"],
+    *["runs_terminations", "runs_troubles", "runs_lives"],
+)
 # What lcm_cases has of its short lives (src/lives.rt): rounds of each, how many there are at most, and where each is stopped.
 SHORT_LIFE, LIVES = 7, 60
 # A life of more calls than that is long, and each of so many of its moments is played where not all are.
 LONG, STRIDE = 300, 23
+# Of these modules, which have many runs of one form, one of so many is played where not all are asked for.
+SAMPLED = {"runs_troubles": 5, "runs_lives": 5}
 length_of = lambda life: life * 7 % 23 + 5
-PASSED_OVER = "answered", "clock", "does", "door", "file end", "go", "instance", "let", "once", "printed", "stays"
+PASSED_OVER = "clock", "let", "once", "printed"
 
 
 class Differs(Exception):
@@ -33,6 +41,35 @@ def explicit(steps):
     return [tuple(it) if isinstance(it, list) else it for it in run_texts.each_step(steps)]
 
 
+def step_of(event):
+    """What a record says of its operation, as steps are spelled; of an attempt its way, its change, its number and what became of it."""
+    kind, of, *more = event
+    if kind in ("asked", "granted"):
+        return kind
+    if kind == "moved":
+        return views.STATES[more[0]]
+    if kind == "cancel":
+        return views.MODES[more[0]].lower()
+    attempt = WAYS[of.way], of.change, of.attempt
+    if kind != "settled":
+        return (*attempt, kind)
+    (outcome, *what) = more[0]
+    ends = {DONE: lambda: ("done", int(what[0][1:])), working.BROKEN: lambda: ("broken", *what), working.ABORTED: lambda: ("aborted",)}
+    return (*attempt, *ends.get(outcome, lambda: ("not begun",))())
+
+
+def number_of(event):
+    """The number of the occurrence that a record is about; none where it is about something else."""
+    if event[0] in ("asked", "granted", "moved", "cancel"):
+        return event[1]
+    return event[1].occ if event[0] in ("intent", "call failed", "settled") else None
+
+
+def in_file(records):
+    """The bytes of these records behind the header, each behind its open gate."""
+    return "".join(run_parts.in_record(working.spelled(it)) for it in records)
+
+
 class Life:
     """A whole life: its site, the steps before it and its own, where an attempt had no job all steps instead, and what the lives before it did."""
 
@@ -43,15 +80,39 @@ class Life:
         return calls // 4 + (calls % 4 == 3)
 
 
+def same_file(wanted, came):
+    """These bytes are the same, or the place of the first that differs is told."""
+    if wanted != came:
+        place = next((at for at, (a, b) in enumerate(zip(wanted, came)) if a != b), min(len(wanted), len(came)))
+        raise Differs("at byte %d: wanted %r, the model comes to %r" % (place, wanted[place - 20 : place + 60], came[place - 20 : place + 60]))
+
+
+class Answers:
+    """An orchestrator that answers as is planned, each time with a grant of what is asked for: what it was asked with."""
+
+    def __init__(self, says):
+        self.says, self.bodies = list(says), []
+
+    def grant(self, number, h):
+        o = h.occurrence(number)
+        self.bodies.append(views.written(views.grant_request(number, h)) + "\n")
+        _, text = self.says.pop(0)
+        grant = json.loads(text)
+        at = {it["resourceDefinitionId"]: it for title in ("addResources", "removeResources", "updateResources") for it in grant.get(title, [])}
+        each = [(at["d%d" % it].get("vimConnectionId", ""), at["d%d" % it].get("zoneId", "")) for it in range(len(o.changes))]
+        places = list(dict.fromkeys(each))
+        return "granted", number, grant["id"], places, [places.index(it) for it in each]
+
+
 class Stage:
     """What the acts of a run have before them."""
 
     def __init__(self, kept=None, is_patient=True):
         self.is_patient = is_patient
-        self.phases, self.plans, self.room, self.failing, self.blind_call = ROUTER, [], 40, [], None
-        self.site, self.base, self.kept, self.grants, self.lost_count = Site(), 0, {} if kept is None else kept, 0, 0
-        self.instances = {}
-        self.status, self.told, self.expected = 0, [], []
+        self.plans, self.room, self.failing, self.blind_call = [], 40, [], None
+        self.site, self.base, self.kept, self.granting, self.lost_count = Site(), 0, {} if kept is None else kept, Grants(), 0
+        self.doors, self.says = [], []
+        self.status, self.told, self.bodies, self.expected, self.before = 0, "", "", [], []
         self.earlier, self.whole = (0, 0, 0), None
         self.place = self.records = self.begins = 0
         self.calls_behind = self.lost = None
@@ -65,91 +126,70 @@ class Stage:
             return self.text(TEXTS[value[1:]]) if value[1:] in TEXTS else ""
         return value if isinstance(value, str) else ""
 
-    def codes(self, text):
-        return re.findall(r"HTTP/1\.1 (\d+)", self.text(text))
-
     # -- commands
 
-    def asked(self, manager, method, path, body):
-        """The event of a request, and its status."""
-        occurrence = re.search(r"-8002-\w+-0*(\d+)", path)
-        instance = re.search(r"-8001-\w+-0*(\d+)", path)
-        task = path.rsplit("/", 1)[1]
-        if method == "GET":
-            return None, 200
-        if occurrence:
-            number = int(occurrence[1])
-            state = manager.occurrences[number - 1].state
-            if task == "cancel":
-                return ((number, re.search(r'"cancelMode":"(\w+)"', body)[1].lower()), 202) if state in ACTIVE else (None, 409)
-            to = {"retry": "PROCESSING", "rollback": "ROLLING_BACK", "fail": "FAILED"}[task]
-            return ((number, to), 200 if task == "fail" else 202) if state == "FAILED_TEMP" else (None, 409)
-        if instance is None:
-            return "created", 201
-        # (each instance has operations of its own; those of the second come behind those of the first)
-        held = int(instance[1])
-        own = [it for it in manager.occurrences if self.instances.get(it.number, 1) == held]
-        is_idle = all(it.state in OVER for it in own)
-        is_held = any(it.state in ("COMPLETED", "FAILED") for it in own)
-        if not is_idle or is_held:
-            return None, 409
-        if method == "DELETE":
-            return "deleted", 204
-        if '"large"' in body:
-            manager.phases = self.phases = LARGE
-        self.instances[len(manager.occurrences) + 1] = held
-        return (len(manager.occurrences) + 1, "asked"), 202
-
-    def answer(self, manager, text):
-        """Answers the requests of a connection: their statuses."""
-        for method, path, body in re.findall(r"(GET|POST|DELETE) (\S+) HTTP/1\.1(?:\r\n[^\r\n]+)*\r\n\r\n(\{[^}]*\})?", self.text(text)):
-            event, status = self.asked(manager, method, path, body)
+    def answer(self, manager, text, role=0):
+        """Answers the requests of a connection."""
+        for request in answering.requests_of(self.text(text)):
+            told, event = answering.answer(manager.history, role, *request)
             if event is not None:
                 try:
-                    self.site.append(event)
+                    manager.record(*event)
                 except DiskFailed:
-                    self.told.append("500")
+                    self.told += self.text("$FAULT")
                     raise
-                manager.follow(event)
-            self.told.append(str(status))
+            self.told += told
 
-    def command(self, text, rounds):
-        """So many rounds, the first with a connection of this text where there is one."""
-        self.told, self.status, self.before = [], 0, list(self.site.records)
-        manager = None
+    def command(self, rounds, orchestrator, role=0):
+        """So many rounds, each with the connection that is planned for it, where one is."""
+        self.told, self.status, self.before = "", 0, list(self.site.records)
+        doors, self.doors = self.doors, []
         try:
-            manager = Manager(self.site, self.phases)
+            manager = Manager(self.site, orchestrator)
             for number in range(rounds):
-                if text is not None and number == 0:
-                    self.answer(manager, text)
+                if number < len(doors) and doors[number] is not None:
+                    self.told = ""
+                    self.answer(manager, doors[number], role)
                 manager.turn()
         except DiskFailed:
             self.status = 3
-        finally:
-            self.grants += manager.grants if manager else 0
 
     def rounds(self, count, text=None, told=None):
-        self.command(text, count)
+        self.doors += [] if text is None else [text]
+        self.command(count, self.granting)
         if told is not None:
-            same("status", 0, self.status)
-            same("answers", self.codes(told), self.told)
+            self.is_answered(told)
+
+    def is_answered(self, told):
+        same("status", 0, self.status)
+        same("answers", self.text(told), self.told)
+
+    def go(self, *words):
+        """A command; of those that don't work on operations the file is that which is there without them."""
+        named = dict(zip(words[1::2], words[2::2]))
+        if words[0] == "once":
+            says, self.says = self.says, []
+            orchestrator = Answers(says)
+            self.command(int(named.get("--rounds", 1)), orchestrator, 1 if named.get("--role") == "em" else 0)
+            self.bodies = "".join(orchestrator.bodies)
+        else:
+            self.doors = []
 
     def turn(self, *counts):
-        manager = Manager(self.site, self.phases)
-        same("turn", counts, manager.turn())
-        self.grants += manager.grants
+        self.before = list(self.site.records)
+        same("turn", counts, Manager(self.site, self.granting).turn())
 
     def answers(self, now, text, told):
-        self.told = []
-        self.answer(Manager(self.site, self.phases), text)
-        same("answers", self.codes(told), self.told)
+        self.told, self.before = "", list(self.site.records)
+        self.answer(Manager(self.site, self.granting), text)
+        same("answers", self.text(told), self.told)
 
     # -- sites
 
     def make_site(self, text):
         # (a file that wasn't kept comes to be one with a descriptor and an instance of it by acts that are passed over)
         name = text[1:] if isinstance(text, str) else ""
-        records, self.phases = self.kept.get(name, (["onboarded", "created"], ROUTER))
+        records = self.kept.get(name) or run_parts.SITES.get(name, [ONBOARDED, CREATED])
         self.site = Site(records, (), self.plans, self.room, self.failing, self.blind_call)
         self.take_base()
 
@@ -157,54 +197,59 @@ class Stage:
         self.base = len(self.site.records)
 
     def has_file(self, text):
-        same("the records", self.kept.get(text[1:], ([],))[0], self.site.records)
+        if isinstance(text, str) and text[1:] in self.kept:
+            return same("the records", self.kept[text[1:]], self.site.records)
+        same_file(self.text(text), self.file())
 
-    def own_steps(self, records, occ=1):
-        return [it[1] for it in records if not isinstance(it, str) and it[0] == occ]
+    def is_opened(self, text):
+        h = Manager(self.site).history
+        live = sum(it.live for it in h.instances)
+        same("what is opened", text, run_parts.says(len(self.site.records), 1, len(h.instances), live))
+
+    def file(self):
+        return self.text(run_parts.HEADER) + in_file(self.site.records) + "\0"
 
     def steps_left(self):
-        return self.own_steps(self.site.records[self.base :])
+        return [step_of(it) for it in self.site.records[self.base :] if number_of(it) == 1]
 
     def has_steps(self, wanted):
         same("steps", wanted, self.steps_left())
-        others = [it for it in self.site.records[self.base :] if isinstance(it, str) or it[0] != 1]
+        others = [it for it in self.site.records[self.base :] if number_of(it) != 1]
         same("other records", [], others)
         self.expected = wanted
         self.agrees()
 
     def agrees(self):
         """The jobs are sound with the records."""
-        manager, jobs = Manager.of(self.site.records, self.phases), {it.tag: it for it in self.site.jobs}
+        h, jobs = Manager.of(self.site.records).history, {it.tag: it for it in self.site.jobs}
         places = {}
-        for place, record in enumerate(self.site.records):
-            if not isinstance(record, str) and isinstance(record[1], tuple):
-                way, change, attempt, at, *more = record[1]
-                tag = Tag(record[0], change, attempt, way)
-                if at == "intent":
-                    places[tag] = place
-                elif at in ("done", "aborted"):
-                    same("how %s stands" % (tag,), (at, *more), jobs[tag].phase())
+        for place, (kind, tag, *more) in enumerate(self.site.records):
+            if kind == "intent":
+                places[tag] = place
+            elif kind == "settled":
+                _, _, _, at, *what = step_of((kind, tag, *more))
+                if at in ("done", "aborted"):
+                    same("how %s stands" % (tag,), (at, *what), jobs[tag].phase())
                 elif at == "not begun":
                     same("whether there is a job of %s" % (tag,), False, tag in jobs)
         order = [places[it.tag] for it in self.site.jobs]
         same("the order of the jobs", sorted(order), order)
         stands = self.site.standing_by_jobs()
-        for occurrence in manager.occurrences:
-            nets = list(occurrence.nets)
-            for tag in occurrence.open:
+        for number, o in enumerate(h.occurrences, 1):
+            nets = list(o.nets)
+            for tag in o.open:
                 if tag in jobs and jobs[tag].is_done():
-                    nets[tag.change] = 1 if tag.way == "forward" else 0
-            same("how often each change stands", nets, [stands[occurrence.number, it] for it in range(len(nets))])
+                    nets[tag.change] = 1 if tag.way == history.FORWARD else 0
+            same("how often each change stands", nets, [stands[number, it] for it in range(len(nets))])
 
     def face(self, text):
-        """The view shows the occurrence behind the steps that were compared last: its state, the cancel in force, why it stopped, and what stands."""
-        it = Manager.of([(1, step) for step in self.expected], self.phases).occurrences[0]
-        view = json.loads(self.text(text).split("\r\n\r\n", 1)[1])
-        error = view.get("error", {"detail": "", "status": 500})
-        same("state and mode", (view["operationState"], view.get("cancelMode")), (it.state, it.cancel.upper() if it.cancel else None))
-        same("cause", (error["detail"], error["status"]), ("" if it.state in ("STARTING", "COMPLETED") else it.cause, 500))
-        jobs = run_texts.jobs_by([list(step) if isinstance(step, tuple) else step for step in self.expected])
-        same("changes", view["resourceChanges"], run_texts.changed(jobs))
+        """The view shows occurrence 1 behind the steps that were compared last, which the records are."""
+        h = Manager.of(self.site.records).history
+        same("the occurrence", self.text(text), answering.answer(h, 0, "GET", views.path(1, 2), {}, "")[0])
+
+    def instance(self, text):
+        h = Manager.of(self.site.records).history
+        same("the instance", self.text(text), answering.answer(h, 0, "GET", views.path(1, 1), {}, "")[0])
 
     def renew(self):
         disk, begins, _, _ = self.site.calls()
@@ -212,7 +257,7 @@ class Stage:
         self.site = self.site.stopped(len(self.site.log), "old")
 
     def keep(self, name):
-        self.kept[name] = list(self.site.records), self.phases
+        self.kept[name] = list(self.site.records)
 
     def stop_behind(self, calls):
         self.site = self.site.stopped(min(self.site.opening() + calls, len(self.site.log)), "old")
@@ -234,7 +279,7 @@ class Stage:
         self.lost = begun - 1 if is_lost else None
 
     def stop_at(self, moment, choice):
-        self.grants = 0
+        self.granting = Grants()
         self.site = self.whole.site.stopped(moment, choice)
         disk, begins, _, _ = self.whole.site.calls(moment)
         behind = disk - self.whole.site.opening()
@@ -245,14 +290,14 @@ class Stage:
     def fail_at(self, call):
         self.failing = [self.whole.earlier[2] + call + 1]
         behind = call - self.whole.site.opening()
-        self.grants = 0
+        self.granting = Grants()
         self.at_stop(call, behind if behind >= 0 else None, self.whole.standing(max(behind, 0)), 0)
 
     def fallen(self):
         begins = self.site.calls()[1] - self.whole.earlier[1]
         behind = self.calls_behind
         self.at_stop(self.place, behind, self.whole.standing(behind or 0), begins)
-        self.grants = 0
+        self.granting = Grants()
         same("status", 3, self.status)
 
     def left(self):
@@ -297,10 +342,10 @@ class Stage:
     def lives(self, first, choice, text):
         end = next(state for state, name in run_texts.MOVED.items() if name == text)
         for life in range(LIVES):
-            if self.site.records[-1] == (1, end):
+            if self.site.records[-1] == ("moved", 1, views.STATES.index(end)):
                 return
-            self.grants = 0
-            self.command(None, SHORT_LIFE)
+            self.granting = Grants()
+            self.command(SHORT_LIFE, self.granting)
             before = self.before
             last = self.site.opening() + length_of(first + life)
             self.site = self.site.stopped(min(last, len(self.site.log)), choice)
@@ -311,6 +356,10 @@ class Stage:
 
     def play(self, act):
         word, *of = act
+        if word in ("at records", "at calls"):
+            first, last, inner = of
+            at = self.records if word == "at records" else self.calls_behind
+            return self.play(inner) if first <= (-1 if at is None else at) <= last else None
         site = self.site
         played = {
             "work": lambda before, *plans: setattr(self, "plans", [("taken",)] * before + [tuple(it) for it in plans]),
@@ -323,23 +372,33 @@ class Stage:
             "stop behind": self.stop_behind, "stop behind the begin": self.stop_behind_the_begin,
             "each stop": self.each_stop, "each fault": self.each_fault, "fallen": self.fallen, "left": self.left, "again": self.again,
             "times": lambda count, inner: [self.play(inner) for _ in range(count)],
-            "at records": lambda first, last, inner: self.play(inner) if first <= self.records <= last else None,
-            "at calls": lambda first, last, inner: self.play(inner) if first <= (-1 if self.calls_behind is None else self.calls_behind) <= last else None,
             "unopened": lambda inner: self.play(inner) if self.calls_behind is None else None,
             "at first": lambda inner: self.play(inner) if self.place == 0 else None,
             "at last": lambda inner: self.play(inner) if self.place == len(self.whole.site.log) else None,
             "steps": lambda *steps: self.has_steps(explicit(steps)),
             "status": lambda *wanted: same("status", True, self.status in wanted),
-            "told": lambda text: same("told", self.codes(text), self.told),
-            "told front": lambda text: same("told", self.codes(text), self.told[:1]),
+            "told": lambda text: same("told", self.text(text), self.told),
+            "told front": lambda text: same("told", self.text(text), self.told[: len(self.text(text))]),
+            "answered": self.is_answered,
+            "only answered": lambda text: (self.is_answered(text), same("the records", self.before, site.records)),
+            "stays": lambda: same("the records", self.before, site.records),
+            "file front": lambda text: same_file(self.text(text), self.file()[: len(self.text(text))]),
+            "file end": lambda text: same_file(self.text(text), self.file()[-len(self.text(text)) :]),
+            "door": lambda text: self.doors.append(text),
+            "nobody": lambda: self.doors.append(None),
+            "says": lambda status, location, text: self.says.append((status, self.text(text))),
+            "bodies": lambda text: same_file(self.text(text), self.bodies),
+            "go": self.go, "instance": self.instance, "opened": self.is_opened,
+            "moment": lambda wanted: same("moment", wanted, len(site.log)),
+            "does": lambda place, text: same("work", text, site.jobs[place].does),
             "jobs": lambda *wanted: same("jobs", wanted, (len(site.jobs), site.changes_standing())),
             "job count": lambda wanted: same("jobs", wanted, len(site.jobs)),
             "calls": lambda *wanted: same("calls", wanted, site.calls()[1:]),
             "faults": lambda *wanted: same("faults", wanted, (site.faults, site.vim_faults, site.look_faults, site.refusals)),
-            "grants": lambda wanted: same("grants", wanted, self.grants),
+            "grants": lambda wanted: same("grants", wanted, self.granting.asked),
             "lost": lambda wanted: same("lost", wanted, wanted if self.lost_count is None else self.lost_count),
             "done jobs": lambda *wanted: same("jobs", list(wanted), [it.tag.change if it.is_done() else None for it in site.jobs]),
-            "job": lambda place, *wanted: same("job", tuple(wanted), tuple(site.jobs[place].tag)),
+            "job": lambda place, *wanted: same("job", " ".join(map(str, wanted)), told_tag(site.jobs[place].tag)),
             "stands": lambda place, text: same("job", text, told_job(site.jobs[place])),
             "calls on jobs": lambda text: same("calls", self.text(text), "".join(map(told_call, site.log))),
         }
@@ -350,7 +409,7 @@ class Stage:
 
 
 def told_tag(tag):
-    return "%d %d %d %s" % tag
+    return "%d %d %d %s" % (tag.occ, tag.change, tag.attempt, WAYS[tag.way])
 
 
 def told_job(job):
@@ -368,7 +427,6 @@ def told_call(call):
 
 
 TEXTS = {}
-LARGE = router(11)
 
 
 def behind(*acts):
@@ -390,7 +448,7 @@ def faults(is_patient):
     TEXTS.update({name: text for module in run_parts.MODULES for name, text in module.texts})
     kept = {}
     for module in run_parts.MODULES:
-        for title, *acts in module.runs if module.title in PLAYED else ():
+        for title, *acts in module.runs[:: 1 if is_patient else SAMPLED.get(module.title, 1)] if module.title in PLAYED else ():
             stage = Stage(kept, is_patient)
             for number, act in enumerate(acts, 1):
                 try:

@@ -35,6 +35,8 @@ def let(title, text):
 
 
 NAMED = {}
+# The records of journals that runs begin with, by the names of their texts, for the model.
+SITES = {}
 
 
 def shared(title, text):

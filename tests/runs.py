@@ -3,15 +3,16 @@
 
 usage, from the top of the repository:
     tests/runs.py              writes crates/lcm_cases/stdin
-    tests/runs.py --check      tells how what is stored differs from what is written here, and which runs the model of working.py doesn't come to, at some
-                               moments of long lives; ends with 1 where there is something to tell
-    tests/runs.py --play       tells the same of the model, at each moment of each life, in half a minute
+    tests/runs.py --check      tells how what is stored differs from what is written here, and which runs the model of working.py doesn't come to, of those of one
+                               form some, at some moments of long lives; ends with 1 where there is something to tell
+    tests/runs.py --play       tells the same of the model, of each run and at each moment of each life, in minutes
     tests/runs.py TITLE        prints the run of this title alone, behind the texts and the runs that it needs; ends with 1 where there is none
     tests/runs.py --titles     prints each title behind the name of its module
 
 What is to be told, printed and left is written out by hand in the modules runs_*.py beside this one, or by the rules of docs/FORMATS.md and
 docs/EVENTS.md in another language; nothing of it comes from the program. tests/README.md says how a run is written and where which are.
 """
+import collections
 import importlib
 import json
 import pathlib
@@ -26,7 +27,7 @@ import run_parts
 ORDER = (
     *["run_texts", "runs_commands", "runs_sessions", "runs_routes", "runs_instantiations", "runs_descriptors", "runs_tasks", "runs_forward"],
     *["runs_rollbacks", "runs_cancels", "runs_stops", "runs_windows", "runs_command_line", "runs_turns", "runs_histories", "runs_journals", "runs_plans"],
-    *["runs_grants", "runs_words", "runs_edges", "runs_framing", "runs_wrong"],
+    *["runs_grants", "runs_words", "runs_edges", "runs_framing", "run_operations", "runs_asks", "runs_scaling", "runs_healing", "runs_powers", "runs_terminations", "runs_troubles", "runs_lives", "runs_wrong"],
 )
 TOP = pathlib.Path(__file__).resolve().parent.parent
 STDIN, STDOUT = (TOP / "crates" / "lcm_cases" / name for name in ("stdin", "stdout"))
@@ -41,7 +42,7 @@ def modules():
             run_parts.begin(name)
             run_parts.MODULES[-1].runs.extend(it.RUNS)
     for what, names in ("title", [it[0] for it in all_runs()]), ("text", [it[0] for module in run_parts.MODULES for it in module.texts]):
-        twice = sorted({it for it in names if names.count(it) > 1})
+        twice = sorted(it for it, count in collections.Counter(names).items() if count > 1)
         if twice:
             sys.exit("runs.py: the %s stands twice: %s" % (what, "; ".join(twice)))
     return run_parts.MODULES
@@ -167,7 +168,7 @@ def table_faults():
         named |= set(re.findall(r"`(runs_\w+)`", tested))
         yield from ("tests/README.md: there is no %s" % it for it in re.findall(r"\b\w+\.sh\b", tested) if not (TOP / "tests" / it).exists())
     yield from ("tests/README.md: there is no module %s" % it for it in sorted(named - titles))
-    yield from ("tests/README.md: no row names %s" % it for it in sorted(titles - named - {"run_texts"}))
+    yield from ("tests/README.md: no row names %s" % it for it in sorted(titles - named - {"run_texts", "run_operations"}))
     listed = {line.split(":")[0] for line in (TOP / "crates.txt").read_text().splitlines() if re.match(r"\w+:", line)}
     yield from ("tests/README.md: no row of the crate %s" % it for it in sorted(listed - set(rows)))
     yield from ("tests/README.md: the row of %s doesn't name its call %s" % it for it in main_calls() if it[0] in rows and "`%s`" % it[1] not in rows[it[0]][0])

@@ -38,9 +38,11 @@ for line, detail, targets in [
         ["GET /vnflcm/v1/vnf_instances/x", "GET " + INSTANCE % 2, "GET " + INSTANCE % 0, "GET " + INSTANCES + (OCCURRENCE % 1)[len(OCCURRENCES) :]]
         + ["GET /vnflcm/v1/vnf_instances/00000008-766d-8001-8000-000000000001"]
         + ["GET /vnflcm/v1/vnf_instances/00000007-766D-8001-8000-000000000001"]
-        + ["GET /vnflcm/v1/vnf_instances/00000007766d80018000000000000001", "DELETE " + INSTANCE % 2, "POST " + INSTANCE % 2 + "/heal"],
+        + ["GET /vnflcm/v1/vnf_instances/00000007766d80018000000000000001", "DELETE " + INSTANCE % 2]
+        + ["POST " + INSTANCE % 2 + "/change_flavour"],
     ),
-    (NOT_FOUND, "task is not supported", ["POST " + INSTANCE % 1 + "/heal", "POST " + INSTANCE % 1 + "/change_flavour?x"]),
+    (NOT_FOUND, "task is not supported", ["POST " + INSTANCE % 1 + "/change_flavour", "POST " + INSTANCE % 1 + "/change_flavour?x"]),
+    (BAD, "malformed JSON", ["POST " + INSTANCE % 1 + "/heal", "POST " + INSTANCE % 2 + "/scale?x"]),
 ]:
     acts = [act for it in targets for act in (once(request(*it.split(" "), head=HOST)), refused(line, detail))]
     run("a path or a method is refused: %s (%s)" % (detail, line[:3] + line[27:]), ["site", JOURNALS[1]], *acts)

@@ -7,7 +7,6 @@ from runs_cancels import CANCELLED_FACE
 from runs_commands import INIT, ONBOARD
 from runs_forward import SECOND, SITE, TROUBLES, acts_of, attempted, blind_site, rounds_to_trouble, troubled_in
 from runs_instantiations import LARGE, router, router_site
-from working import router as phases_of
 
 begin(__name__)
 
@@ -47,7 +46,8 @@ run(
 
 # ---- An operation of 49 changes
 
-LARGE_PHASES = phases_of(11)
+# Its phases, where there are eleven of VDU_A: links; of each a storage, the machine and two ports, and of VDU_B a storage, the machine and a port.
+LARGE_PHASES = [0] * 2 + [1] * 12 + [2] * 12 + [3] * 23
 COUNT = len(LARGE_PHASES)
 LARGE_ROUTER = let("LARGE_ROUTER", router(large=(10, 11)))
 LARGE_ASK = let("LARGE_ASK", request("POST", INSTANCE % 1 + "/instantiate", LARGE))

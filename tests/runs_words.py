@@ -9,7 +9,7 @@ import json
 from cases import *
 from run_parts import HEADER, NOW, begin, in_record, let, opens, problem, run, showing, told_back
 from run_texts import ACCEPTED, BAD, EMPTY_LIST, INSTANCE, INSTANCES, INSTANTIATE, JOURNAL, JOURNALS, MADE, NOT_ALLOWED, NO_FILTER, NO_INSTANCE
-from run_texts import NO_OCCURRENCE, NO_RESOURCE, NO_TASK, OCCURRENCE, OCCURRENCES, ONLY_DELETE_GET, ONLY_POST, answers, idle, occurrence_view
+from run_texts import NO_JSON, NO_OCCURRENCE, NO_RESOURCE, NO_TASK, OCCURRENCE, OCCURRENCES, ONLY_DELETE_GET, ONLY_POST, answers, idle, occurrence_view
 from run_texts import once, refused, request
 from runs_commands import ONBOARD, not_onboarded
 from runs_sessions import creation
@@ -667,7 +667,8 @@ run(
     *[each_told("PUT", [OCCURRENCES, OCCURRENCES + "/o", OCCURRENCES + "/retry"], ONLY_GET)],
     *[each_told("PUT", [*(OCCURRENCES + "/o/" + it for it in OCCURRENCE_TASKS), OCCURRENCES + "/retry/retry"], ONLY_POST)],
     *[each_told("GET", ["/vnflcm/v1/subscriptions", "/vnflcm/v1/subscriptions/s"], NO_RESOURCE)],
-    *[each_told("POST", [INSTANCE % 1 + "/" + it for it in TASKS[1:]], NO_TASK), each_told("GET", NAMED[:1] + NAMED[2:], NO_INSTANCE)],
+    *[each_told("POST", [INSTANCE % 1 + "/" + it for it in TASKS if it != "change_flavour"], NO_JSON)],
+    *[each_told("POST", [INSTANCE % 1 + "/change_flavour"], NO_TASK), each_told("GET", NAMED[:1] + NAMED[2:], NO_INSTANCE)],
     *[each_told("GET", [OCCURRENCES + "/o", OCCURRENCES + "/retry"], NO_OCCURRENCE), idle],
 )
 OTHERS = (

@@ -138,6 +138,36 @@ def occurrence(number, o):
     return view
 
 
+TYPES = ["VL", "STORAGE", "COMPUTE", "LINKPORT"]
+
+
+def grant_request(number, h):
+    """What the orchestrator is asked for an occurrence: what is made, removed, and started or stopped."""
+    o = h.occurrence(number)
+    held = h.instance(o.instance)
+
+    def entry(place, change):
+        kind, item, vdu, _ = part = change[2:]
+        template = [history.LINKS, history.STORAGES, history.VDUS, history.PORTS][kind][vdu if kind == COMPUTE else item]
+        view = {"id": "d%d" % place, "resourceTemplateId": template if kind == LINK else template[0], "type": TYPES[kind]}
+        if vdu != history.NO_VDU:
+            view["vduId"] = history.VDUS[vdu][0]
+        if change.verb != history.CREATE:
+            called, (vim, _) = held.known(part)
+            view["resource"] = {"resourceId": called, "vimConnectionId": vim}
+        return view
+
+    def of(*verbs):
+        return [entry(place, it) for place, it in enumerate(o.changes) if it.verb in verbs]
+
+    return {
+        "_links": {"vnfInstance": {"href": path(o.instance, 1)}, "vnfLcmOpOcc": {"href": path(number, 2)}}, "addResources": of(history.CREATE),
+        "flavourId": "simple", "isAutomaticInvocation": False, "operation": OPERATIONS[o.ask[0]], "removeResources": of(history.REMOVE),
+        "updateResources": of(history.START, history.STOP), "vnfInstanceId": history.identifier(o.instance, 1),
+        "vnfLcmOpOccId": history.identifier(number, 2), "vnfdId": "vnfd-1",
+    }
+
+
 def written(views):
     return json.dumps(views, sort_keys=True, separators=(",", ":"))
 

@@ -1,101 +1,98 @@
 """What a manager does for operations by itself, by the rules of docs/FORMATS.md, docs/JOBS.md and docs/JOURNAL.md in another language: its acts, the
-calls that they make on a site, the records that they leave, and what a stop among the calls leaves.
+calls that they make on a site, the work of the jobs that these begin, the records that they leave, and what a stop among the calls leaves.
 
-A step is what is recorded of an occurrence: a word, as `asked`, `granted`, a state or the mode of a cancel, or an attempt's way, change and number with
-`intent`, `call failed`, `done` and its job, `broken` and its code, `aborted` or `not begun`. tests/played.py plays runs over this.
+A record is an event of tests/history.py, whose history says what is so of instances and of operations of all kinds. tests/played.py plays runs over this.
 """
 import collections
 
-# How many attempts of an occurrence are open at once, at most.
-WINDOW = 4
-# The phases of the changes that instantiate the edge router at its default level: links, storages, machines, ports.
-ROUTER = [0] * 2 + [1] * 3 + [2] * 3 + [3] * 5
+import history
+from history import COMPLETED, COMPUTE, CREATE, FAILED_TEMP, FORCEFUL, FORWARD, LINK, NO_VDU, PORT, PROCESSING, ROLLED_BACK, ROLLING_BACK
+from history import STARTING, STORAGE, Tag, u8, u64
 
-
-def router(machines):
-    """Those where there are so many of VDU_A: of each a storage, the machine and two ports, and of VDU_B a storage, the machine and a port."""
-    return [0] * 2 + [1] * (machines + 1) + [2] * (machines + 1) + [3] * (2 * machines + 1)
-
-
-ACTIVE = "STARTING", "PROCESSING", "ROLLING_BACK"
-OVER = "COMPLETED", "FAILED", "ROLLED_BACK"
-WAY = {"PROCESSING": "forward", "ROLLING_BACK": "undo"}
-END = {"PROCESSING": "COMPLETED", "ROLLING_BACK": "ROLLED_BACK"}
+NOW = history.FIRST_MOMENT
+# The edge router, and an instance of it that was created.
+ONBOARDED, CREATED = ("onboarded", history.DESCRIPTOR), ("created", 1, "vnfd-1", "edge-1", None)
+WAYS = "forward", "undo"
+VERBS = "create", "remove", "start", "stop"
+KINDS = "link", "storage", "compute", "port"
+DONE, BROKEN, ABORTED, NOT_BEGUN = range(4)
+END = {PROCESSING: COMPLETED, ROLLING_BACK: ROLLED_BACK}
 ACTED, WAITS, UNREACHED = range(3)
-
-Tag = collections.namedtuple("Tag", "occ change attempt way")
 
 
 class DiskFailed(Exception):
     """A call on the disk failed."""
 
 
-# ---- An occurrence
+def spelled(event, moment=NOW):
+    """The bytes of an event."""
+    kind, *fields = event
+    number, fields_of = history.SPELLED[kind]
+    return u8(number) + u64(moment) + fields_of(*fields)
 
-class Occurrence:
-    """What the steps of an occurrence say of it."""
 
-    def __init__(self, number, phases):
-        self.number, self.phases = number, phases
-        self.state, self.cancel, self.trouble, self.granted, self.cause = "STARTING", None, False, False, ""
-        self.nets, self.attempts = [0] * len(phases), [0] * len(phases)
-        self.open = {}  # the attempts that are open, in the order of their intents, and whether the call of each failed
+# ---- The next action
 
-    def follow(self, step):
-        if step == "granted":
-            self.granted = True
-        elif step in ("graceful", "forceful"):
-            self.cancel = step if self.cancel != "forceful" else self.cancel
-            self.cause = "cancelled"
-        elif isinstance(step, str):
-            if step != "asked":
-                self.state, self.cancel, self.trouble = step, None, False
-        else:
-            way, change, attempt, at, *more = step
-            self.follow_attempt(Tag(self.number, change, attempt, way), at, *more)
+def free(o):
+    """The changes of an operation that may be attempted: each waits and isn't busy, and all that go before its phase are through."""
+    way = FORWARD if o.state == PROCESSING else history.UNDO
+    waiting = [it for it, net in enumerate(o.nets) if net == way]
+    if not waiting:
+        return []
+    # (plans have their changes in the order of their phases)
+    phase = o.changes[waiting[0 if way == FORWARD else -1]].phase
+    return [it for it in waiting if not o.is_busy(it) and o.changes[it].phase == phase]
 
-    def follow_attempt(self, tag, at, *more):
-        if at == "intent":
-            self.attempts[tag.change] = tag.attempt
-            self.open[tag] = False
-        elif at == "call failed":
-            self.open[tag] = True
-        else:
-            failed = self.open.pop(tag)
-            if at == "done":
-                self.nets[tag.change] = 1 if tag.way == "forward" else 0
-            cause = {"broken": "broken %s" % more[0] if more else "", "aborted": "aborted", "not begun": "call failed" if failed else ""}.get(at)
-            if cause:
-                self.trouble, self.cause = True, "change %d: %s" % (tag.change, cause)
 
-    def free(self):
-        """The changes that may be attempted: each waits and isn't busy, and all that go before its phase are through."""
-        forward = self.state == "PROCESSING"
-        waiting = [it for it, net in enumerate(self.nets) if net == (0 if forward else 1)]
-        if not waiting:
-            return []
-        # (plans have their changes in the order of their phases)
-        phase = self.phases[waiting[0 if forward else -1]]
-        busy = {tag.change for tag in self.open}
-        return [it for it in waiting if it not in busy and self.phases[it] == phase]
+def next_action(number, o):
+    """The next action of an active occurrence."""
+    first = next(iter(o.open), None)
+    if o.state == STARTING:
+        if o.gives_up():
+            return "move", ROLLED_BACK
+        return ("move", PROCESSING) if o.grant is not None else ("ask",)
+    if o.cancel == FORCEFUL and first:
+        return "abort and look", first
+    stopped = o.trouble or o.cancel is not None
+    ready = free(o)
+    if not stopped and len(o.open) < history.WINDOW and ready:
+        way = FORWARD if o.state == PROCESSING else history.UNDO
+        change = ready[0 if way == FORWARD else -1]
+        return "begin", Tag(number, change, o.attempts[change] + 1, way)
+    if first:
+        return "look", first
+    return "move", FAILED_TEMP if stopped else END[o.state]
 
-    def next(self):
-        """The next action of an active occurrence."""
-        first = next(iter(self.open), None)
-        if self.state == "STARTING":
-            if self.cancel == "forceful" or (self.granted and self.cancel):
-                return "move", "ROLLED_BACK"
-            return ("move", "PROCESSING") if self.granted else ("ask",)
-        if self.cancel == "forceful" and first:
-            return "abort and look", first
-        stopped = self.trouble or self.cancel is not None
-        free = self.free()
-        if not stopped and len(self.open) < WINDOW and free:
-            change = free[0] if self.state == "PROCESSING" else free[-1]
-            return "begin", Tag(self.number, change, self.attempts[change] + 1, WAY[self.state])
-        if first:
-            return "look", first
-        return "move", "FAILED_TEMP" if stopped else END[self.state]
+
+def made_on(held, part):
+    """The names of the resources that a part is made on: a machine on its disks, and a port on its machine and on its network."""
+    kind, item, vdu, serial = part
+    if kind == COMPUTE:
+        return [held.names[it] for it in history.parts(STORAGE, vdu, serial)]
+    return [held.names[COMPUTE, 0, vdu, serial], held.names[LINK, history.PORTS[item][2], NO_VDU, 0]] if kind == PORT else []
+
+
+def work(h, tag):
+    """The work of an attempt: its verb, its kind, its template, the VDU, the serial number, the place, the size, the processors, and on what it is done. An
+    undo does the opposite: it makes what was removed at the place where that stood last."""
+    o = h.occurrence(tag.occ)
+    held, change = h.instance(o.instance), o.changes[tag.change]
+    part = kind, item, vdu, serial = change[2:]
+    verb = change.verb if tag.way == FORWARD else history.UNDONE[change.verb]
+    if verb == CREATE and tag.way == FORWARD:
+        _, places, spots = o.grant
+        vim, zone = places[spots[tag.change]]
+    else:
+        vim, zone = held.places[part]
+    machine = "" if vdu == NO_VDU else history.VDUS[vdu][0]
+    template, size, cpus = {
+        LINK: lambda: (history.LINKS[item], 0, 0),
+        STORAGE: lambda: (*history.STORAGES[item], 0),
+        COMPUTE: lambda: history.VDUS[vdu][:3],
+        PORT: lambda: (history.PORTS[item][0], 0, 0),
+    }[kind]()
+    on = made_on(held, part) if verb == CREATE else [held.names[part]]
+    return " ".join([VERBS[verb], KINDS[kind], template, machine, str(serial), vim, zone, str(size), str(cpus), *on])
 
 
 # ---- The site: a file of records, and jobs
@@ -117,8 +114,10 @@ class Plan:
 
 
 class Job:
-    def __init__(self, tag, place, plan, at):
-        self.tag, self.place, self.at = tag, place, at
+    """A job: its attempt, its work, its place from 1, and how it goes on."""
+
+    def __init__(self, tag, does, place, plan, at):
+        self.tag, self.does, self.place, self.at = tag, does, place, at
         self.looks, self.end, self.abortable, self.ended, self.aborted = plan.looks, plan.end, plan.abortable, None, False
 
     def ending(self):
@@ -134,7 +133,7 @@ class Job:
         """The job as it stood at this moment, with the looks that are left of it now."""
         plan = Plan()
         plan.looks, plan.end, plan.abortable = self.looks, self.end, self.abortable
-        job = Job(self.tag, self.place, plan, 0)
+        job = Job(self.tag, self.does, self.place, plan, 0)
         if self.ended is not None and self.ended <= moment:
             job.ended, job.aborted = 0, self.aborted
         return job
@@ -174,13 +173,13 @@ class Site:
     def job_of(self, tag):
         return next((it for it in reversed(self.jobs) if it.tag == tag), None)
 
-    def begin(self, tag):
+    def begin(self, tag, does):
         plan = Plan(self.plans[self.begins]) if self.begins < len(self.plans) else Plan()
         self.begins += 1
         came = plan.came if len(self.jobs) < self.room else "refused 1"
         self.log.append(("begin", tag, came))
         if came in ("taken", "arrived"):
-            self.jobs.append(Job(tag, len(self.jobs) + 1, plan, len(self.log)))
+            self.jobs.append(Job(tag, does, len(self.jobs) + 1, plan, len(self.log)))
         self.refusals += came.startswith("refused")
         self.vim_faults += came in ("lost", "arrived")
         return came
@@ -241,85 +240,95 @@ class Site:
         """How often each change of each occurrence stands by the done jobs."""
         stands = collections.Counter()
         for job in self.jobs:
-            if job.ended is not None and job.is_done():
-                stands[job.tag[:2]] += 1 if job.tag.way == "forward" else -1
+            if job.is_done():
+                stands[job.tag[:2]] += 1 if job.tag.way == FORWARD else -1
         return stands
 
     def changes_standing(self):
-        return len({change for (_, change), times in self.standing_by_jobs().items() if times > 0})
+        """How many numbers of changes were made more often than undone, over all operations."""
+        stands = collections.Counter()
+        for (_, change), times in self.standing_by_jobs().items():
+            stands[change] += times
+        return sum(times > 0 for times in stands.values())
 
 
 # ---- The manager
 
-class Manager:
-    """A manager of a site: the occurrences that its records tell of. A record is the number of an occurrence and a step, or else a word."""
+class Grants:
+    """An orchestrator that grants all at one place: how many it granted."""
 
-    def __init__(self, site, phases=ROUTER):
-        self.site, self.phases, self.occurrences, self.grants = site, phases, [], 0
+    def __init__(self, asked=0):
+        self.asked = asked
+
+    def grant(self, number, h):
+        o = h.occurrence(number)
+        self.asked += 1
+        return "granted", number, "g%d" % self.asked, [("vim1", "")] if o.changes else [], [0] * len(o.changes)
+
+
+class Manager:
+    """A manager of a site, whose records make its history."""
+
+    def __init__(self, site, orchestrator=None):
+        self.site, self.orchestrator, self.history = site, orchestrator or Grants(), history.History(None)
         site.load()
         self.follow_all(site.records)
 
     @classmethod
-    def of(cls, records, phases):
+    def of(cls, records):
         """A manager that knows these records, of no site."""
-        manager = cls(Site(), phases)
+        manager = cls(Site())
         manager.follow_all(records)
         return manager
 
     def follow_all(self, records):
         for record in records:
-            self.follow(record)
+            self.history.follow(*record)
 
-    def follow(self, record):
-        if isinstance(record, str):
-            return
-        number, step = record
-        if step == "asked":
-            self.occurrences.append(Occurrence(number, self.phases))
-        self.occurrences[number - 1].follow(step)
+    def record(self, *event):
+        """An event is recorded, which the rules allow behind the others."""
+        assert self.history.is_allowed(*event), event
+        self.site.append(event)
+        self.history.follow(*event)
 
-    def record(self, number, step):
-        self.site.append((number, step))
-        self.follow((number, step))
-
-    def act(self, occurrence):
+    def act(self, number, o):
         """The next action of an active occurrence: whether something was recorded, its job goes on, or nobody was reached."""
-        site, number = self.site, occurrence.number
-        what, *of = occurrence.next()
+        what, *of = next_action(number, o)
         if what == "ask":
-            self.grants += 1
-            self.record(number, "granted")
+            self.record(*self.orchestrator.grant(number, self.history))
         elif what == "move":
-            self.record(number, of[0])
+            self.record("moved", number, of[0])
         elif what == "begin":
-            self.begin(occurrence, of[0])
+            self.begin(of[0])
         else:
             if what == "abort and look":
-                for tag in list(occurrence.open):
-                    site.abort(tag)
-            return self.settle(of[0], site.look(of[0]))
+                for tag in list(o.open):
+                    self.site.abort(tag)
+            return self.settle(of[0], self.site.look(of[0]))
         return ACTED
 
-    def begin(self, occurrence, tag):
-        step = tag.way, tag.change, tag.attempt
-        self.record(tag.occ, (*step, "intent"))
-        came = self.site.begin(tag)
+    def begin(self, tag):
+        does = work(self.history, tag)
+        self.record("intent", tag)
+        came = self.site.begin(tag, does)
         if came.startswith("refused"):
-            self.record(tag.occ, (*step, "broken", int(came.split()[1])))
+            self.record("settled", tag, (BROKEN, int(came.split()[1])))
         elif came != "taken":
-            self.record(tag.occ, (*step, "call failed"))
+            self.record("call failed", tag)
 
     def settle(self, tag, found):
         if found is None:
             return UNREACHED
         if found == ("running",):
             return WAITS
-        self.record(tag.occ, (tag.way, tag.change, tag.attempt, *(("not begun",) if found == ("absent",) else found)))
+        what, *of = found
+        outcome = {"done": lambda: (DONE, "r%d" % of[0]), "broken": lambda: (BROKEN, *of), "aborted": lambda: (ABORTED,), "absent": lambda: (NOT_BEGUN,)}
+        self.record("settled", tag, outcome[what]())
         return ACTED
 
     def turn(self):
         """One act for each occurrence that is active now: how many were recorded, wait and reached nobody."""
         counts = [0, 0, 0]
-        for occurrence in [it for it in self.occurrences if it.state in ACTIVE]:
-            counts[self.act(occurrence)] += 1
+        for number, o in [it for it in enumerate(self.history.occurrences, 1) if it[1].is_active()]:
+            counts[self.act(number, o)] += 1
         return tuple(counts)
