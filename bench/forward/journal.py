@@ -93,9 +93,9 @@ def machine(phase, verb, serial):
     return u8(phase) + u8(verb) + u8(COMPUTE) + u16(0) + u16(0) + u32(serial)
 
 
-def begun(occurrence, ask, asked, made, opened):
+def begun(occurrence, ask, asked, made, opened, instance=1):
     """An operation that was granted, of which so many changes were made and so many attempts behind them are open."""
-    yield ASKED, u64(occurrence) + u64(1) + u8(0) + ask + many(asked)
+    yield ASKED, u64(occurrence) + u64(instance) + u8(0) + ask + many(asked)
     yield GRANTED, u64(occurrence) + name("g1") + u8(1) + name("vim1") + name("") + many([u8(0)] * len(asked))
     yield MOVED, u64(occurrence) + u8(PROCESSING)
     for change in range(made):
