@@ -1,12 +1,14 @@
 -- What bytes say as a body is never want of memory: that is the reader's alone.
-use Rattle.std.proofs.Common.{List, [], ◌∷◌, ℕ, Option, Some, None, Result, Ok, Err}
-use Rattle.std.specs.Prelude.{codes}
+use Rattle.std.proofs.Common.{List, [], ◌∷◌, ℕ, Bool, true, false, Option, Some, None, Result, Ok, Err}
+use Rattle.std.specs.Prelude.{codes, if◌then◌else◌, is_some}
 use Rattle.lcm_events.specs.declared.asks.AspectLevel.{AspectLevel}
 use Rattle.serde_json.specs.Data.{Data}
 use Rattle.json_bodies.specs.Body.{and_then, by_form, cancel_in, cancel_mode_in, cancel_of, create_in, create_of, document}
 use Rattle.json_bodies.specs.Body.{instantiate_in, instantiate_of, line_in, member_of, name_in, needed, needed_member, needed_value}
 use Rattle.json_bodies.specs.Body.{object_read, optional, optional_read, some_name_in}
-use Rattle.json_bodies.specs.Forms.{list_in, objects_in, power_in, stop_in, way_in, whole_in}
+use Rattle.json_bodies.specs.Forms.{list_in, notice_in, objects_in, operation_type_in, power_in, state_in, stop_in, way_in, whole_in}
+use Rattle.json_bodies.specs.Subscribing.{about_in, filter_in, inside_object, instances_in, subscription_in, subscription_of, values_in}
+use Rattle.serde_json.specs.Find.{as_object}
 use Rattle.json_bodies.specs.Operations.{aspect_level_in, each_read, heal_in, heal_of, levels_in, objects_read, one_aim, operate_in}
 use Rattle.json_bodies.specs.Operations.{operate_of, scale_in, scale_of, scale_to_level_in, scale_to_level_of, terminate_in, terminate_of}
 use Rattle.json_bodies.specs.declared.body.BodyFault.{BodyFault}
@@ -118,3 +120,40 @@ terminate_of_bytes bytes = object_of_bytes terminate_in (document bytes) (λ d.
 
 pub cancel_of_bytes : (bytes : List ℕ) → IsOfBytes (cancel_of bytes)
 cancel_of_bytes bytes = object_of_bytes cancel_in (document bytes) (λ d. needed_of_bytes cancel_mode_in (codes "cancelMode") d)
+
+-- of an object
+inside_object_of_bytes : {A : Type 0} (members : Data → Result A BodyFault) (name : List ℕ) (d : Data)
+    → ((e : Data) → IsOfBytes (members e)) → IsOfBytes (inside_object members name d)
+inside_object_of_bytes members name d each = by (is_some (as_object d)) where
+  by : (b : Bool) → IsOfBytes (and_then (if b then Ok (tt {0}) else Err (Wrong name)) (λ is. members d))
+  by true = each d
+  by false = tt
+
+-- of the values of a list
+values_of_bytes : {A : Type 0} (form : Data → Option A) (name : List ℕ) (d : Data) → IsOfBytes (values_in form name d)
+values_of_bytes form name d = both_of_bytes _ _ (optional_of_bytes (list_in 64 form) name d) (λ values. tt)
+
+instances_of_bytes : (d : Data) → IsOfBytes (instances_in d)
+instances_of_bytes d =
+    both_of_bytes _ _ (values_of_bytes name_in (codes "vnfdIds") d) (λ vnfds.
+    both_of_bytes _ _ (values_of_bytes name_in (codes "vnfInstanceIds") d) (λ instances.
+    both_of_bytes _ _ (values_of_bytes name_in (codes "vnfInstanceNames") d) (λ names. tt)))
+
+about_of_bytes : (d : Data) → IsOfBytes (about_in d)
+about_of_bytes d =
+    both_of_bytes _ _ (inside_of_bytes (inside_object instances_in) (codes "vnfInstanceSubscriptionFilter")
+    (member_of (codes "vnfInstanceSubscriptionFilter") d) (λ value.
+    inside_object_of_bytes instances_in (codes "vnfInstanceSubscriptionFilter") value instances_of_bytes)) (λ about. tt)
+
+pub filter_of_bytes : (d : Data) → IsOfBytes (filter_in d)
+filter_of_bytes d =
+    both_of_bytes _ _ (about_of_bytes d) (λ about.
+    both_of_bytes _ _ (values_of_bytes notice_in (codes "notificationTypes") d) (λ notices.
+    both_of_bytes _ _ (values_of_bytes operation_type_in (codes "operationTypes") d) (λ operations.
+    both_of_bytes _ _ (values_of_bytes state_in (codes "operationStates") d) (λ states. tt))))
+
+pub subscription_of_bytes : (bytes : List ℕ) → IsOfBytes (subscription_of bytes)
+subscription_of_bytes bytes = object_of_bytes subscription_in (document bytes) (λ d.
+    both_of_bytes _ _ (needed_of_bytes line_in (codes "callbackUri") d) (λ callback.
+    both_of_bytes _ _ (inside_of_bytes (inside_object filter_in) (codes "filter") (member_of (codes "filter") d) (λ value.
+    inside_object_of_bytes filter_in (codes "filter") value filter_of_bytes)) (λ asked. tt)))

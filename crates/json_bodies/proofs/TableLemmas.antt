@@ -19,7 +19,7 @@ value_fault name None = refl
 value_fault name (Some a) = refl
 
 -- what is done with what was read is no fault
-fault_stays : {A B : Type 0} (read : Result A BodyFault) (h : A → B) → fault_in (and_then read (λ a. Ok (h a))) ≡ fault_in read
+pub fault_stays : {A B : Type 0} (read : Result A BodyFault) (h : A → B) → fault_in (and_then read (λ a. Ok (h a))) ≡ fault_in read
 fault_stays (Ok a) h = refl
 fault_stays (Err fault) h = refl
 

@@ -2,13 +2,22 @@
 use Rattle.std.specs.List.{filter_map, list_all}
 use Rattle.std.specs.Prelude.{[], ◌∷◌, Bool, List, None, Option, Some, false, if◌then◌else◌, is_some, length, nat_le}
 use Rattle.std.specs.Prelude.{option_and_then, option_map, true, ℕ}
+use Rattle.lcm_events.specs.declared.asks.OpKind.TheVariants as kinds
 use Rattle.lcm_events.specs.declared.asks.ScaleWay.{ScaleWay}
 use Rattle.lcm_events.specs.declared.asks.ScaleWay.TheVariants.{In, Out}
 use Rattle.lcm_events.specs.declared.asks.StopType.{StopType}
 use Rattle.lcm_events.specs.declared.asks.StopType.TheVariants.{Forceful, Graceful}
+use Rattle.lcm_events.specs.declared.filters.NoticeKind.{NoticeKind}
+use Rattle.lcm_events.specs.declared.filters.NoticeKind.TheVariants.{Creation, Deletion, Occurrence}
+use Rattle.lcm_events.specs.declared.filters.OperationType.{OperationType}
+use Rattle.lcm_events.specs.declared.filters.OperationType.TheVariants.{ChangeExtConn, ModifyInfo, Of}
+use Rattle.lcm_events.specs.declared.states.OpState.{OpState}
+use Rattle.lcm_events.specs.declared.states.OpState.TheVariants.{Completed, Failed, FailedTemp, Processing, RolledBack}
+use Rattle.lcm_events.specs.declared.states.OpState.TheVariants.{RollingBack, Starting}
 use Rattle.serde_json.specs.Data.{Data, Items, item, no_items}
 use Rattle.serde_json.specs.Find.{as_array, as_number, as_object, as_str, as_u64}
-use Rattle.json_bodies.specs.Words.{of_word, power_word, stop_word, way_word}
+use Rattle.json_bodies.specs.Words.{notice_word, of_word, operation_type_word, power_word, state_word, stop_word}
+use Rattle.json_bodies.specs.Words.{way_word}
 
 -- the number, where it is at most 4,294,967,295
 abbrev pub whole_number : ℕ → Option ℕ
@@ -38,6 +47,30 @@ power_text text = of_word power_word (true ∷ false ∷ []) text
 
 abbrev pub power_in : Data → Option Bool
 power_in d = option_and_then power_text (as_str d)
+
+-- the kind of notification that the text is the word of (SOL 003 5.5.2.17 to 5.5.2.19, notificationType)
+abbrev pub notice_text : List ℕ → Option NoticeKind
+notice_text text = of_word notice_word (Occurrence ∷ Creation ∷ Deletion ∷ []) text
+
+abbrev pub notice_in : Data → Option NoticeKind
+notice_in d = option_and_then notice_text (as_str d)
+
+-- the operation type that the text is the word of (SOL 003 5.5.4, LcmOperationType)
+abbrev pub operation_type_text : List ℕ → Option OperationType
+operation_type_text text =
+    of_word operation_type_word (Of kinds.Instantiate ∷ Of kinds.Scale ∷ Of kinds.ScaleToLevel ∷ Of kinds.Heal
+    ∷ Of kinds.Operate ∷ Of kinds.Terminate ∷ Of kinds.ChangeFlavour ∷ ChangeExtConn ∷ ModifyInfo ∷ []) text
+
+abbrev pub operation_type_in : Data → Option OperationType
+operation_type_in d = option_and_then operation_type_text (as_str d)
+
+-- the state that the text is the word of (SOL 003 5.5.4, LcmOperationStateType)
+abbrev pub state_text : List ℕ → Option OpState
+state_text text =
+    of_word state_word (Starting ∷ Processing ∷ Completed ∷ FailedTemp ∷ Failed ∷ RollingBack ∷ RolledBack ∷ []) text
+
+abbrev pub state_in : Data → Option OpState
+state_in d = option_and_then state_text (as_str d)
 
 -- the values of a list, in order (RFC 8259 5)
 abbrev pub items_in : Items → List Data

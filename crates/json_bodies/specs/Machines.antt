@@ -1,10 +1,9 @@
 -- Machines by their identifiers (SOL 003 5.5.2.9, HealVnfRequest; SOL 002 for vnfcInstanceId; the form of the
 -- identifiers is an own rule).
 use Rattle.std.specs.List.{enumerate_from, list_any}
-use Rattle.std.specs.Prelude.{◌&&◌, ◌++◌, ◌+◌, ◌<◌, ◌==◌, ◌≡◌, ◌∷◌, [], Bool, List, None, Option, Some, codes, decimal}
+use Rattle.std.specs.Prelude.{◌&&◌, ◌++◌, ◌+◌, ◌<◌, ◌==◌, ◌≡◌, ◌≢◌, ◌∷◌, [], Bool, List, None, Option, Some, codes}
 use Rattle.std.specs.Prelude.{drop, filter_map, if◌then◌else◌, length, map, nat_le, option_map, slice_get, take}
-use Rattle.std.specs.Prelude.{unwrap_or}
-use Rattle.std.specs.Prelude.{ℕ}
+use Rattle.std.specs.Prelude.{decimal, unwrap_or, ℕ}
 use Rattle.std.specs.Str.{bytes_eq}
 use Rattle.std.specs.Str.Parse.{digits_value}
 use Rattle.lcm_events.specs.declared.asks.Vnfc.{Vnfc}
@@ -58,3 +57,11 @@ distinct_machines machines = machines_after [] machines
 -- the machines of a descriptor that these texts name, each once, where it comes first (own rule)
 abbrev pub machines_named : Vnfd → List (List ℕ) → List Vnfc
 machines_named d texts = distinct_machines (map (machine_named d) texts)
+
+-- the identifier of a machine is read as that machine, where its VDU has a number, its serial number has four bytes and
+-- no VDU before its own has that one's name (own rule)
+abbrev pub MachinesAreReadBack : Type 0
+MachinesAreReadBack =
+    (d : Vnfd) (x : Vnfc) (vdu : Vdu) → slice_get d.vdus x.vdu ≡ Some vdu → x.vdu < 65535 → x.serial < 4294967296
+    → ((k : ℕ) (other : Vdu) → k < x.vdu → slice_get d.vdus k ≡ Some other → other.name ≢ vdu.name)
+    → machine_named d (machine_text vdu.name x.serial) ≡ x

@@ -5,7 +5,9 @@ use Rattle.std.specs.Prelude.{slice_get, Bool, true, false, Option, Some, None, 
 use Rattle.std.specs.Option.{option_map_or}
 use Rattle.serde_json.specs.Data.{Data}
 use Rattle.json_bodies.specs.Body.{cancel_mode_in, line_in, member_of, name_in, some_name_in}
-use Rattle.json_bodies.specs.Forms.{list_in, objects_in, power_in, stop_in, way_in, whole_in}
+use Rattle.json_bodies.specs.Forms.{list_in, notice_in, objects_in, operation_type_in, power_in, state_in, stop_in}
+use Rattle.json_bodies.specs.Forms.{way_in, whole_in}
+use Rattle.serde_json.specs.Find.{as_object}
 use Rattle.json_bodies.specs.declared.body.BodyFault.{BodyFault}
 use Rattle.json_bodies.specs.declared.body.BodyFault.TheVariants.{Lacks, Wrong}
 
@@ -29,6 +31,11 @@ first_fault table d = first_of (λ row. row d) table
 -- first of them that has a fault by this table
 abbrev pub of_objects : List Row → List ℕ → Data → Option BodyFault
 of_objects table name d = option_map_or (first_of (first_fault table)) (objects_in d) (Some (Wrong name))
+
+-- what is wrong with the value of the member of this name: it is no object, or what is wrong first with that by this
+-- table
+abbrev pub of_object : List Row → List ℕ → Data → Option BodyFault
+of_object table name d = if is_some (as_object d) then first_fault table d else Some (Wrong name)
 
 -- a member that is needed, by what may be wrong with its value: it is missing, or that
 abbrev pub needed_row : (List ℕ → Data → Option BodyFault) → List ℕ → Row
@@ -114,6 +121,30 @@ abbrev pub terminate_table : List Row
 terminate_table =
     needed_row (of_form stop_in) (codes "terminationType")
     ∷ optional_row (of_form whole_in) (codes "gracefulTerminationTimeout")
+    ∷ []
+
+-- the table of the instances that a filter is about (SOL 003 5.5.3, VnfInstanceSubscriptionFilter; own limit)
+abbrev pub instances_table : List Row
+instances_table =
+    optional_row (of_form (list_in 64 name_in)) (codes "vnfdIds")
+    ∷ optional_row (of_form (list_in 64 name_in)) (codes "vnfInstanceIds")
+    ∷ optional_row (of_form (list_in 64 name_in)) (codes "vnfInstanceNames")
+    ∷ []
+
+-- the table of a filter (SOL 003 5.5.3, LifecycleChangeNotificationsFilter; own limit)
+abbrev pub filter_table : List Row
+filter_table =
+    optional_row (of_object instances_table) (codes "vnfInstanceSubscriptionFilter")
+    ∷ optional_row (of_form (list_in 64 notice_in)) (codes "notificationTypes")
+    ∷ optional_row (of_form (list_in 64 operation_type_in)) (codes "operationTypes")
+    ∷ optional_row (of_form (list_in 64 state_in)) (codes "operationStates")
+    ∷ []
+
+-- the table of the body of a request to subscribe (SOL 003 5.5.2.15, LccnSubscriptionRequest)
+abbrev pub subscription_table : List Row
+subscription_table =
+    needed_row (of_form line_in) (codes "callbackUri")
+    ∷ optional_row (of_object filter_table) (codes "filter")
     ∷ []
 
 -- an object is refused as a body for what is wrong first by its table, and for nothing else

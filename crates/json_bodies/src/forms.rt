@@ -93,6 +93,23 @@ pub fn check_optional<T, F: Form<T>>(value: &Value, name: &str, form: &F) -> Res
     }
 }
 
+/// Refuses a member that is needed where it is absent, null or has another form, without memory.
+pub fn check_needed<T, F: Form<T>>(value: &Value, name: &str, form: &F) -> Result<(), BodyFault>
+    requires { is_label name.now ≡ true }
+    ensures { fault_in result ≡ fault_in (needed (F.says form.now) name.now (view value.now)) }
+{
+    match member(value, name) {
+        Some(found) => {
+            if form.fits(found) {
+                Ok(())
+            } else {
+                Err(BodyFault::Wrong(label(name)))
+            }
+        }
+        None => Err(BodyFault::Lacks(label(name))),
+    }
+}
+
 /// What the value of this member says.
 fn of_form<T, F: Form<T>>(
     alloc: Global,

@@ -5,4 +5,5 @@ mod OccurrenceLists
 mod PathLemmas
 mod RangeLemmas
 mod ShowLaws
+mod SubscriptionLemmas
 mod ViewLemmas

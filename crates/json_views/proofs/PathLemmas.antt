@@ -10,12 +10,13 @@ use Rattle.std.proofs.lemmas.Str.Ascii.{IsAscii-from_all}
 use Rattle.std.specs.List.{list_all}
 use Rattle.json_views.specs.Instance.{instance_id}
 use Rattle.json_views.specs.Occurrence.{occurrence_id}
+use Rattle.json_views.specs.Subscription.{subscription_id}
 use Rattle.uuid.proofs.TextLemmas.{hyphenated_ascii, nibble_small}
 use Rattle.uuid.specs.Text.{by_index, digit_place, hex_digit, hyphenated_text, is_hyphen_place, lower, nibble}
 use Rattle.vnfm_base.proofs.IdentLemmas.{length_hyphenated}
 use Rattle.vnfm_base.specs.Ident.{ident, ident_text}
 use Rattle.vnfm_base.specs.Text.{IsLine, IsPlain, IsShortText}
-use Rattle.vnfm_base.specs.declared.identifier.Kind.TheVariants.{Instance, Occurrence}
+use Rattle.vnfm_base.specs.declared.identifier.Kind.TheVariants.{Instance, Occurrence, Subscription}
 
 -- what holds at each place holds of the list of these places
 all_by_index : (P : ℕ → Type 0) (f : ℕ → ℕ) → ((k : ℕ) → P (f k)) → (n : ℕ) → All P (by_index n f)
@@ -85,3 +86,10 @@ pub occurrence_line : (there : Bool) (m n : ℕ) → IsLine (if there then codes
 unfolding occurrence_id ident_text
 occurrence_line there m n = line_with there _ _ (short_root (codes "/vnflcm/v1/vnf_lcm_op_occs/") (omega arith) refl)
     (short_id (ident m Occurrence n))
+
+-- and that of a subscription
+pub subscription_line : (there : Bool) (m n : ℕ) → IsLine (if there then codes "/vnflcm/v1/subscriptions/" ++ subscription_id m n
+    else codes "/vnflcm/v1/subscriptions/")
+unfolding subscription_id ident_text
+subscription_line there m n = line_with there _ _ (short_root (codes "/vnflcm/v1/subscriptions/") (omega arith) refl)
+    (short_id (ident m Subscription n))

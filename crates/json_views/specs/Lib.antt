@@ -10,5 +10,6 @@ pub mod Occurrences
 pub mod Params
 pub mod Resources
 pub mod Showable
+pub mod Subscription
 pub mod Views
 pub mod Words

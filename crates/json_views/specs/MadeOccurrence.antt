@@ -5,14 +5,15 @@ use Rattle.lcm_events.specs.declared.descriptor.Vnfd.{Vnfd}
 use Rattle.occ_table.specs.declared.rows.OccRow.{OccRow}
 use Rattle.json_views.specs.Affected.{resource_changes}
 use Rattle.json_views.specs.Params.{params}
-use Rattle.json_views.specs.Words.{operation_word, state_word}
+use Rattle.json_bodies.specs.Words.{kind_word, state_word}
+use Rattle.lcm_model.specs.Operations.{kind_of}
 
 -- the members on the operation put to these
 unfoldable pub with_operation : Vnfd → OccRow → Members → Members
 with_operation d row members =
     put (codes "operationState") (string (state_word row.state))
     (put (codes "operationParams") (object (params d row.ask))
-    (put (codes "operation") (string (operation_word row.ask)) members))
+    (put (codes "operation") (string (kind_word (kind_of row.ask))) members))
 
 -- the members on the moments put to these
 unfoldable pub with_moments : List ℕ → List ℕ → Members → Members
@@ -27,7 +28,7 @@ occurrence_members id links instance row d start entered =
     (member (codes "id") (string id)
     (member (codes "isAutomaticInvocation") (boolean false)
     (member (codes "isCancelPending") (boolean (is_some row.cancel))
-    (member (codes "operation") (string (operation_word row.ask))
+    (member (codes "operation") (string (kind_word (kind_of row.ask)))
     (member (codes "operationParams") (object (params d row.ask))
     (member (codes "operationState") (string (state_word row.state))
     (member (codes "resourceChanges") (resource_changes d row)

@@ -23,7 +23,8 @@ use Rattle.json_views.specs.Params.{params}
 use Rattle.json_members.specs.Problem.{problem}
 use Rattle.json_views.specs.Views.{member_where}
 use Rattle.json_bodies.specs.Words.{cancel_word}
-use Rattle.json_views.specs.Words.{operation_word, state_word}
+use Rattle.json_bodies.specs.Words.{kind_word, state_word}
+use Rattle.lcm_model.specs.Operations.{kind_of}
 
 -- the text of the identifier of occurrence n (RFC 9562 4)
 unfoldable pub occurrence_id : ℕ → ℕ → List ℕ
@@ -107,7 +108,7 @@ occurrence_value manager n row d start entered =
     (member (codes "id") (string (occurrence_id manager n))
     (member (codes "isAutomaticInvocation") (boolean false)
     (member (codes "isCancelPending") (boolean (is_some row.cancel))
-    (member (codes "operation") (string (operation_word row.ask))
+    (member (codes "operation") (string (kind_word (kind_of row.ask)))
     (member (codes "operationParams") (object (params d row.ask))
     (member (codes "operationState") (string (state_word row.state))
     (member (codes "resourceChanges") (resource_changes d row)

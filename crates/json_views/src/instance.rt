@@ -35,7 +35,10 @@ pub fn instance_id(alloc: Global, manager: u32, n: u64) -> Result<String, AllocE
     identifier(alloc, manager, Kind::Instance, n)
 }
 
-/// The text of an identifier.
+/// The text of the identifier of this kind and number at this manager.
+///
+/// Condition: the number is from 1 to 2^62 - 1.
+/// Source: RFC 9562 4.
 #[tactic(auto, unfolding(vnfm_base::specs::Ident::ident_text))]
 pub fn identifier(alloc: Global, manager: u32, kind: Kind, n: u64) -> Result<String, AllocError>
     requires { IsIdentNumber n }

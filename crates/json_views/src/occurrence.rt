@@ -12,7 +12,8 @@ ghost use Rattle.json_views.specs.Occurrence.{error_where, occurrence_id, occurr
 ghost use Rattle.json_views.specs.Occurrence.{occurrence_shown, occurrence_text, occurrence_value};
 ghost use Rattle.json_views.specs.Affected.{resource_changes};
 ghost use Rattle.json_views.specs.Params.{params};
-ghost use Rattle.json_views.specs.Words.{operation_word};
+ghost use Rattle.json_bodies.specs.Words.{kind_word};
+ghost use Rattle.lcm_model.specs.Operations.{kind_of};
 
 use crate::affected::resource_changes;
 use crate::errors::error_where;
@@ -348,7 +349,7 @@ fn put_ask(
 ) -> Result<(), AllocError>
     ensures { OnOk result (members_view members.new.entries
         ≡ with_member (codes "operationParams") (object (params vnfd.now ask.now))
-        (with_member (codes "operation") (string (operation_word ask.now)) (members_view members.old.entries))) }
+        (with_member (codes "operation") (string (kind_word (kind_of ask.now))) (members_view members.old.entries))) }
 {
     put_text(members, alloc, "operation", operation_word(ask))?;
     let params = params_value(alloc, vnfd, ask)?;

@@ -1,21 +1,62 @@
 //! The words of the standard for operations, states and modes.
 ghost use Rattle.std.specs.Prelude.{◌≡◌};
-ghost use Rattle.json_bodies.specs.Words.{cancel_word, power_word, stop_word, way_word};
-ghost use Rattle.json_views.specs.Words.{change_word, operation_word, state_word};
+ghost use Rattle.json_bodies.specs.Words.{cancel_word, kind_word, notice_word, operation_type_word, power_word};
+ghost use Rattle.json_bodies.specs.Words.{state_word, stop_word, way_word};
+ghost use Rattle.json_views.specs.Words.{change_word};
+ghost use Rattle.lcm_model.specs.Operations.{kind_of};
 
-use lcm_events::{Ask, CancelMode, OpState, ScaleWay, StopType, Verb};
+use lcm_events::{
+    Ask, CancelMode, NoticeKind, OpKind, OpState, OperationType, ScaleWay, StopType, Verb,
+};
 
 /// The kind of an operation.
 pub fn operation_word(ask: &Ask) -> &'static str
-    ensures { result.now ≡ operation_word ask.now }
+    ensures { result.now ≡ kind_word (kind_of ask.now) }
 {
     match ask {
-        Ask::Instantiate { .. } => "INSTANTIATE",
-        Ask::Scale { .. } => "SCALE",
-        Ask::ScaleToLevel(_) => "SCALE_TO_LEVEL",
-        Ask::Heal { .. } => "HEAL",
-        Ask::Operate { .. } => "OPERATE",
-        Ask::Terminate { .. } => "TERMINATE",
+        Ask::Instantiate { .. } => kind_word(OpKind::Instantiate),
+        Ask::Scale { .. } => kind_word(OpKind::Scale),
+        Ask::ScaleToLevel(_) => kind_word(OpKind::ScaleToLevel),
+        Ask::Heal { .. } => kind_word(OpKind::Heal),
+        Ask::Operate { .. } => kind_word(OpKind::Operate),
+        Ask::Terminate { .. } => kind_word(OpKind::Terminate),
+    }
+}
+
+/// A kind of operation.
+pub fn kind_word(kind: OpKind) -> &'static str
+    ensures { result.now ≡ kind_word kind }
+{
+    match kind {
+        OpKind::Instantiate => "INSTANTIATE",
+        OpKind::Scale => "SCALE",
+        OpKind::ScaleToLevel => "SCALE_TO_LEVEL",
+        OpKind::Heal => "HEAL",
+        OpKind::Operate => "OPERATE",
+        OpKind::Terminate => "TERMINATE",
+        OpKind::ChangeFlavour => "CHANGE_FLAVOUR",
+    }
+}
+
+/// An operation type that a filter may name.
+pub fn operation_type_word(operation: OperationType) -> &'static str
+    ensures { result.now ≡ operation_type_word operation }
+{
+    match operation {
+        OperationType::Of(kind) => kind_word(kind),
+        OperationType::ChangeExtConn => "CHANGE_EXT_CONN",
+        OperationType::ModifyInfo => "MODIFY_INFO",
+    }
+}
+
+/// A kind of notification.
+pub fn notice_word(kind: NoticeKind) -> &'static str
+    ensures { result.now ≡ notice_word kind }
+{
+    match kind {
+        NoticeKind::Occurrence => "VnfLcmOperationOccurrenceNotification",
+        NoticeKind::Creation => "VnfIdentifierCreationNotification",
+        NoticeKind::Deletion => "VnfIdentifierDeletionNotification",
     }
 }
 

@@ -126,7 +126,8 @@ asks fit exact small m H now i role ask d last reply event legal judged few even
     let a : Operation = operation_asked H i role ask d in
     let may : MayAsk H a = may_ask H i role ask d judged in
     let allowed : IsAllowed m.ledger.manager H (Asked a) = may in
-    let fits : TypedAsk ask → length (spelling (asking now a)) ≤ MAX_RECORD = λ typed. fit window m.ledger.manager H now a legal allowed typed few in
+    let fits : TypedAsk ask → length (spelling (asking now a)) ≤ MAX_RECORD =
+    λ typed. fit window m.ledger.manager H now a legal allowed typed few in
     let kept : TypedAsk ask → IsAsk ask = λ typed. (let fitting = fits typed in let within = ask_within now a in
     kept_ask ask typed few (omega (arith, fitting, within))) in
     let short : length a.changes ≤ 5000 = small window m.ledger.manager (asking now a ∷ H) (allowed, legal) a (inl refl) in

@@ -148,4 +148,5 @@ named_by_row H i r e = by (creation H i) refl (let_through (is_live H i) (option
   by None is none = cc
   by (Some x) is some =
       let same : instance_row H x ≡ r = cc in
-      ap (option_and_then (λ (y : CreatedInstance). descriptor_named H y.vnfd)) is ∙ ap (λ (y : InstanceRow). descriptor_named H y.vnfd) same
+      ap (option_and_then (λ (y : CreatedInstance). descriptor_named H y.vnfd)) is
+      ∙ ap (λ (y : InstanceRow). descriptor_named H y.vnfd) same

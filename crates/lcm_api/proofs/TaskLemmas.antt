@@ -10,7 +10,7 @@ use Rattle.executor.specs.Managed.{Managed, is_settled}
 use Rattle.instance_table.specs.Rows as instances
 use Rattle.journal_records.specs.declared.limits.TheConstants.{MAX_RECORD}
 use Rattle.json_views.specs.Occurrences.{IsOccurrenceShowable}
-use Rattle.json_views.specs.Words.{state_word}
+use Rattle.json_bodies.specs.Words.{state_word}
 use Rattle.lcm_events.proofs.SameLaws.{same_state-true}
 use Rattle.lcm_events.specs.declared.asks.Ask.{Ask}
 use Rattle.lcm_events.specs.declared.asks.Ask.TheVariants.{Heal, Instantiate, Operate, Scale, ScaleToLevel, Terminate}

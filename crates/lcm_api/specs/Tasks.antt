@@ -4,7 +4,7 @@ use Rattle.std.specs.Prelude.{◌≡◌, ◌++◌, ℕ, List, [], ◌∷◌, cod
 use Rattle.std.specs.Prelude.{Result, Ok, Err}
 use Rattle.http_wire.specs.declared.request.Request.{Request}
 use Rattle.json_bodies.specs.Body.{cancel_of}
-use Rattle.json_views.specs.Words.{state_word}
+use Rattle.json_bodies.specs.Words.{state_word}
 use Rattle.json_bodies.specs.declared.body.BodyFault.{BodyFault}
 use Rattle.lcm_events.specs.declared.events.Event.{Event}
 use Rattle.lcm_events.specs.declared.events.EventKind.{EventKind}

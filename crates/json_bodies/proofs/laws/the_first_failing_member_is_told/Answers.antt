@@ -1,12 +1,17 @@
 -- Each table, row by row.
-use Rattle.std.proofs.Common.{refl}
-use Rattle.std.specs.Prelude.{codes}
-use Rattle.json_bodies.proofs.TableLemmas.{aim_fault, first_alone, first_then, inside_fault, is_there, needed_fault, objects_fault}
-use Rattle.json_bodies.proofs.TableLemmas.{optional_fault}
-use Rattle.json_bodies.specs.Body.{by_form, cancel_mode_in, line_in, member_of, name_in, some_name_in}
-use Rattle.json_bodies.specs.Forms.{list_in, power_in, stop_in, way_in, whole_in}
+use Rattle.std.proofs.Common.{◌≡◌, ◌∙◌, Bool, List, Option, Result, [], false, refl, true, ℕ}
+use Rattle.std.specs.Prelude.{codes, is_some, unwrap_or}
+use Rattle.serde_json.specs.Data.{Data}
+use Rattle.serde_json.specs.Find.{as_object}
+use Rattle.json_bodies.proofs.TableLemmas.{aim_fault, fault_stays, first_alone, first_then, inside_fault, is_there, needed_fault}
+use Rattle.json_bodies.proofs.TableLemmas.{objects_fault, optional_fault}
+use Rattle.json_bodies.specs.Body.{by_form, cancel_mode_in, line_in, member_of, name_in, optional, optional_read, some_name_in}
+use Rattle.json_bodies.specs.declared.body.BodyFault.{BodyFault}
+use Rattle.json_bodies.specs.Forms.{list_in, notice_in, operation_type_in, power_in, state_in, stop_in, way_in, whole_in}
+use Rattle.json_bodies.specs.Subscribing.{about_in, all_instances, filter_in, inside_object, instances_in, values_in}
 use Rattle.json_bodies.specs.Operations.{aspect_level_in, levels_in}
-use Rattle.json_bodies.specs.Tables.{RefusesFirstFault, aspect_level_table, of_objects}
+use Rattle.json_bodies.specs.Tables.{RefusesFirstFault, Row, aspect_level_table, fault_in, filter_table, instances_table, of_form}
+use Rattle.json_bodies.specs.Tables.{of_object, of_objects, optional_row}
 use Rattle.json_bodies.proofs.laws.the_first_failing_member_is_told.Goals as goal
 
 pub returns-clause-create : goal.returns-clause-create
@@ -57,3 +62,42 @@ returns-clause-terminate c d =
 
 pub returns-clause-cancel : goal.returns-clause-cancel
 returns-clause-cancel c d = first_alone _ _ (needed_fault cancel_mode_in (codes "cancelMode") d)
+
+values_fault : {A : Type 0} (form : Data → Option A) (name : List ℕ) (d : Data)
+    → fault_in (values_in form name d) ≡ optional_row (of_form (list_in 64 form)) name d
+values_fault form name d =
+    fault_stays (optional (list_in 64 form) name d) (λ values. unwrap_or values []) ∙ optional_fault (list_in 64 form) name d
+
+object_fault : {A : Type 0} (members : Data → Result A BodyFault) (table : List Row) → RefusesFirstFault members table
+    → (name : List ℕ) (d : Data) → fault_in (inside_object members name d) ≡ of_object table name d
+object_fault members table same name d = by (is_some (as_object d)) refl where
+  by : (b : Bool) → is_some (as_object d) ≡ b → fault_in (inside_object members name d) ≡ of_object table name d
+  by true is = rw is (same d)
+  by false is = rw is refl
+
+instances_fault : RefusesFirstFault instances_in instances_table
+instances_fault d =
+    first_then _ _ _ _ (values_fault name_in (codes "vnfdIds") d) (λ vnfds _.
+    first_then _ _ _ _ (values_fault name_in (codes "vnfInstanceIds") d) (λ instances _.
+    first_then _ _ _ _ (values_fault name_in (codes "vnfInstanceNames") d) (λ names _. refl)))
+
+about_fault : (d : Data) → fault_in (about_in d) ≡ optional_row (of_object instances_table) (codes "vnfInstanceSubscriptionFilter") d
+about_fault d =
+    fault_stays (optional_read (inside_object instances_in) (codes "vnfInstanceSubscriptionFilter")
+    (member_of (codes "vnfInstanceSubscriptionFilter") d)) (λ about. unwrap_or about all_instances)
+    ∙ inside_fault (inside_object instances_in) (of_object instances_table) (codes "vnfInstanceSubscriptionFilter")
+    (member_of (codes "vnfInstanceSubscriptionFilter") d)
+    (λ value. object_fault instances_in instances_table instances_fault (codes "vnfInstanceSubscriptionFilter") value)
+
+filter_fault : RefusesFirstFault filter_in filter_table
+filter_fault d =
+    first_then _ _ _ _ (about_fault d) (λ about _.
+    first_then _ _ _ _ (values_fault notice_in (codes "notificationTypes") d) (λ notices _.
+    first_then _ _ _ _ (values_fault operation_type_in (codes "operationTypes") d) (λ operations _.
+    first_then _ _ _ _ (values_fault state_in (codes "operationStates") d) (λ states _. refl))))
+
+pub returns-clause-subscription : goal.returns-clause-subscription
+returns-clause-subscription c d =
+    first_then _ _ _ _ (needed_fault line_in (codes "callbackUri") d) (λ callback _.
+    first_then _ _ _ _ (inside_fault (inside_object filter_in) (of_object filter_table) (codes "filter") (member_of (codes "filter") d)
+    (λ value. object_fault filter_in filter_table filter_fault (codes "filter") value)) (λ asked _. refl))

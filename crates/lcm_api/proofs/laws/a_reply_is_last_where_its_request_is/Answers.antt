@@ -55,7 +55,7 @@ use Rattle.lcm_model.specs.Moves.{state}
 use Rattle.lcm_model.specs.Operations.{kind_of}
 use Rattle.lcm_model.specs.declared.refusals.TaskRefusal.{TaskRefusal}
 use Rattle.lcm_model.specs.declared.refusals.TaskRefusal.TheVariants.{NotSupported, WrongState}
-use Rattle.json_views.specs.Words.{state_word}
+use Rattle.json_bodies.specs.Words.{state_word}
 use Rattle.lcm_routes.specs.declared.resources.Resource.{Resource}
 use Rattle.lcm_api.specs.declared.route.Route.{Route}
 use Rattle.lcm_api.specs.declared.route.Route.TheVariants.{ListInstances, CreateInstance, ShowInstance, DeleteInstance, InstanceTask}
