@@ -18,6 +18,7 @@ ghost use Rattle.lcm_model.specs.Lives.{descriptor_named, descriptors, instances
 ghost use Rattle.lcm_model.specs.Operations.{occurrences_made};
 ghost use Rattle.lcm_model.specs.Refusals.{delete_refusal};
 ghost use Rattle.occ_table.specs.Table.{IsTableOf};
+ghost use Rattle.notice_table.specs.Queues.{first_waiting};
 ghost use Rattle.lcm_tables.specs.Tables.{HasRoom};
 ghost use Rattle.executor.specs.Operating.{IsRowOf, TellsAsk};
 ghost use Rattle.executor.specs.Questions.{is_made, made};
@@ -389,6 +390,18 @@ impl<S: Site> Manager<S> {
     {
         let _records = self.journal.count();
         &self.tables.occurrences
+    }
+
+    /// The place in the journal, from 1, of the event of the first notice that waits for the subscription of this
+    /// number; none where it isn't live, and where none waits. Condition: the manager isn't closed.
+    ///
+    /// Source: SOL 003 5.4.20 (Notification endpoint).
+    pub fn first_notice(&self, subscription: u64) -> Option<u64>
+        requires { self.now.ledger.closed ≡ false }
+        ensures { (H : List Event) → Keeps self.now H → result ≡ first_waiting self.now.ledger.manager H subscription }
+    {
+        let _records = self.journal.count();
+        self.tables.notices.first(subscription)
     }
 
     /// Why the deletion of the live instance of this row is refused, where it is: it is INSTANTIATED, or one of its

@@ -1,0 +1,4 @@
+pub mod Made
+pub mod Notice
+pub mod Words
+pub mod Worked

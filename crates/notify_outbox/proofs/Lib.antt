@@ -1,0 +1,5 @@
+mod DeliverLemmas
+mod NoticeLemmas
+mod ReadLemmas
+mod RoomLemmas
+mod RoundLemmas
