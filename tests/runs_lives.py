@@ -165,7 +165,7 @@ BEGUN = [["room", 200], ["site", ONBOARDED_SITE]]
 ORCHESTRATORS, MANAGERS = Life(0), Life(1)
 LIVES = {"the orchestrator": ORCHESTRATORS, "the element manager": MANAGERS}
 # Of how many records, and of how many begins of jobs, each first is one behind which a life goes on. tests/whole_lives.py has all.
-STRIDE, BEGIN_STRIDE = 14, 7
+STRIDE, BEGIN_STRIDE = 7, 7
 assert (ORCHESTRATORS.jobs, ORCHESTRATORS.records, ORCHESTRATORS.rounds) == (145, 352, 337)
 
 

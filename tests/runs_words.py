@@ -667,6 +667,7 @@ run(
     *[each_told("PUT", [OCCURRENCES, OCCURRENCES + "/o", OCCURRENCES + "/retry"], ONLY_GET)],
     *[each_told("PUT", [*(OCCURRENCES + "/o/" + it for it in OCCURRENCE_TASKS), OCCURRENCES + "/retry/retry"], ONLY_POST)],
     *[each_told("GET", ["/vnflcm/v1/subscriptions", "/vnflcm/v1/subscriptions/s"], NO_RESOURCE)],
+    # (the body of a change of flavour isn't read; those of the others are, and none is there)
     *[each_told("POST", [INSTANCE % 1 + "/" + it for it in TASKS if it != "change_flavour"], NO_JSON)],
     *[each_told("POST", [INSTANCE % 1 + "/change_flavour"], NO_TASK), each_told("GET", NAMED[:1] + NAMED[2:], NO_INSTANCE)],
     *[each_told("GET", [OCCURRENCES + "/o", OCCURRENCES + "/retry"], NO_OCCURRENCE), idle],
