@@ -1,7 +1,7 @@
 -- The body of a notice (SOL 003 5.5.2.17, VnfLcmOperationOccurrenceNotification; 5.5.2.18,
 -- VnfIdentifierCreationNotification; 5.5.2.19, VnfIdentifierDeletionNotification). Members stand in byte order of their
 -- names.
-use Rattle.std.specs.Prelude.{List, ℕ, codes, false, ◌++◌}
+use Rattle.std.specs.Prelude.{List, ℕ, codes, false}
 use Rattle.serde_json.specs.Data.{Data, Members, boolean, member, no_members, object, string}
 use Rattle.serde_json.specs.Written.{compact_text}
 use Rattle.json_views.specs.Instance.{instance_id, instance_path}
