@@ -16,7 +16,7 @@ use Rattle.lcm_laws.specs.Serials.{SerialsAreCounted, changes_asked}
 use Rattle.lcm_tables.specs.Tables.{IsSmall}
 use Rattle.lcm_model.specs.Allowed.{IsLegal}
 use Rattle.lcm_model.specs.Work.{window}
-use Rattle.lcm_model.specs.Lives.{instances_made, created_in}
+use Rattle.lcm_model.specs.Lives.{created_in, instances_made, subscribed_in, subscriptions_made}
 use Rattle.lcm_model.specs.Operations.{asked_in, occurrences_made}
 use Rattle.executor.specs.History.{spellings}
 use Rattle.executor.specs.Room.{journal_end}
@@ -32,6 +32,10 @@ filter_map-short {Y = Y} h (x ∷ xs) = of (h x) refl (filter_map-short h xs) wh
 -- no more instances were made than events happened
 pub made_within : (H : List Event) → instances_made H ≤ length H
 made_within H = filter_map-short (λ (e : Event). created_in e.kind) H
+
+-- no more subscriptions were made than events happened
+pub subscribed_within : (H : List Event) → subscriptions_made H ≤ length H
+subscribed_within H = filter_map-short (λ (e : Event). subscribed_in e.kind) H
 
 -- no more operations were asked for than events happened
 pub asked_within : (H : List Event) → occurrences_made H ≤ length H

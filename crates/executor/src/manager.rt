@@ -14,7 +14,7 @@ ghost use Rattle.lcm_events.specs.declared.attempts.Tag.{Tag};
 ghost use Rattle.lcm_events.specs.declared.events.Event.{Event};
 ghost use Rattle.lcm_events.specs.declared.events.EventKind.TheVariants as events;
 ghost use Rattle.vnfm_base.specs.Ident.{IsIdentNumber};
-ghost use Rattle.lcm_model.specs.Lives.{descriptor_named, descriptors, instances_made};
+ghost use Rattle.lcm_model.specs.Lives.{descriptor_named, descriptors, instances_made, subscriptions_made};
 ghost use Rattle.lcm_model.specs.Operations.{occurrences_made};
 ghost use Rattle.lcm_model.specs.Refusals.{delete_refusal};
 ghost use Rattle.occ_table.specs.Table.{IsTableOf};
@@ -302,6 +302,7 @@ impl<S: Site> Manager<S> {
         ensures ready { (H : List Event) → IsReady S.tells self.old H (S.state site.old) → result ≢ Err ReadFault.Disk
             → IsReady S.tells self.new H (S.state site.new) }
         ensures keeps { KeepsOn self.old self.new }
+        ensures number { self.new.ledger.manager ≡ self.old.ledger.manager }
         ensures bad { (k : ℕ) → result ≡ Err (ReadFault.BadRecord k) → k ≡ n }
         ensures closed { result ≡ Err ReadFault.Disk → self.new.ledger.closed ≡ true }
         ensures counts { FailsWhere (result ≡ Err ReadFault.Disk) (S.counts site.old) (S.counts site.new) }
@@ -438,6 +439,19 @@ impl<S: Site> Manager<S> {
     {
         let records = self.journal.count();
         let made = self.tables.occurrences.made();
+        after(made, records)
+    }
+
+    /// The number of the next subscription. Condition: the manager isn't closed.
+    ///
+    /// Source: SOL 003 5.4.18 (Subscriptions).
+    pub fn next_subscription(&self) -> u64
+        requires { self.now.ledger.closed ≡ false }
+        ensures number { (H : List Event) → Keeps self.now H → result ≡ subscriptions_made H + 1 }
+        ensures identifier { IsIdentNumber result }
+    {
+        let records = self.journal.count();
+        let made = self.tables.instances.made(Kind::Subscription);
         after(made, records)
     }
 

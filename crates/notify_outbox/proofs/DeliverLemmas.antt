@@ -13,7 +13,7 @@ use Rattle.notify_outbox.specs.Delivering.{Course, Delivers, IsHeldBy, TellsPost
 use Rattle.notify_outbox.specs.Dispatches.{Dispatch, body_at, callback, outcome_of, posted_event}
 use Rattle.notify_outbox.specs.Lent.{Carrier, Lent, LentTell, point}
 use Rattle.notify_outbox.specs.Preparing.{TellsRoomBefore, recorded_post}
-use Rattle.notify_outbox.specs.Reading.{IsLeft, IsUnread, ReadsBody}
+use Rattle.notify_outbox.specs.Reading.{IsUnread, ReadsBody}
 use Rattle.notify_outbox.specs.declared.faults.DeliveryFault.{DeliveryFault}
 use Rattle.notify_outbox.specs.declared.faults.DeliveryFault.TheVariants as fault
 use Rattle.notify_outbox.proofs.NoticeLemmas.{waits_next}
@@ -83,22 +83,12 @@ pub held_unread : (t : LentTell) (m n : Managed) (now : ℕ) (H : List Event) (s
 held_unread t m n now H s place why w v waits read same = (
   held place,
   record {
-    course = (waits, held_by t place why read.3);
+    course = (waits, held_by t place why read.1);
     carries = same;
-    left = read.0;
-    works = read.1;
-    leaves = read.2;
-    room = untold_room t now H s place why read.3;
+    works = read.0;
+    room = untold_room t now H s place why read.1;
   },
 )
-
-left_itself : (tells : Type 0) (k : ℕ) (n : Managed) (H : List Event) (a b : SiteState) → Works tells k H (went H) n a b
-    → IsLeft tells H n n b
-left_itself tells k n H a b works = record {
-  keeps = works.keeps;
-  closed = refl;
-  ready = λ open_. record { usable = open_; keeps = works.keeps; stands = λ told. (works.site told).stands refl };
-}
 
 -- its post couldn't be recorded
 pub held_unprepared : (t : LentTell) (k : ℕ) (n : Managed) (now : ℕ) (H : List Event) (s place : ℕ) (why : DeliveryFault) (w v : Lent)
@@ -110,9 +100,7 @@ held_unprepared t k n now H s place fault.Memory w v waits works same room = (
   record {
     course = (waits, tt);
     carries = same;
-    left = n;
     works = works;
-    leaves = left_itself t.site k n H w.site v.site works;
     room = tt;
   },
 )
@@ -121,9 +109,7 @@ held_unprepared t k n now H s place (fault.Full end more) w v waits works same r
   record {
     course = (waits, tt);
     carries = same;
-    left = n;
     works = works;
-    leaves = left_itself t.site k n H w.site v.site works;
     room = room;
   },
 )
@@ -149,11 +135,9 @@ sent_well t j k m n now H s place answer body e b w v number waits same first se
       record {
         course = (refl, refl);
         carries = record { uri = posted.0; body = body; next = waits; to = posted.1; of = of; posts = posted.2; counts = cause };
-        left = n;
         works = joins k H H (went (posted_event now s place (outcome_of answer) ∷ H)) m n first
             (subst (λ (x : Event). Works t.site k H (recorded_post H x (Ok tt)) n b v.site) same
             (subst (λ (i : ℕ). Works t.site i H (recorded_post H e (Ok tt)) n b v.site) number second));
-        leaves = refl;
         room = subst (λ (x : Event). HasRoomFor MAX_FILE H x) same room;
       },
     )
@@ -172,11 +156,9 @@ sent_broken t j k m n now H s place answer body e fault.Disk b w v number is wai
       record {
         course = refl;
         carries = record { uri = posted.0; body = body; next = waits; to = posted.1; of = of; posts = posted.2; counts = cause };
-        left = n;
         works = joins k H H _ m n first
             (subst (λ (x : Event). Works t.site k H (recorded_post H x (Err fault.Disk)) n b v.site) same
             (subst (λ (i : ℕ). Works t.site i H (recorded_post H e (Err fault.Disk)) n b v.site) number second));
-        leaves = refl;
         room = subst (λ (x : Event). HasRoomFor MAX_FILE H x) same room;
       },
     )

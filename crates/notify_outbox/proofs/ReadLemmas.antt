@@ -23,32 +23,6 @@ use Rattle.notify_outbox.specs.declared.faults.DeliveryFault.TheVariants as faul
 use Rattle.site_traits.specs.Moments as moments
 use Rattle.site_traits.specs.Site.{FileStep, KeepsJobs, LeavesOnly, Reads, Same, SiteState}
 
--- what a manager stands for it stands for behind a read
-stands_read : (m : Managed) (H : List Event) (a b : SiteState) → StandsFor m H a → Reads a b → StandsFor m H b
-stands_read m H a b stands reads =
-    let back : a.image ≡ b.image = sym reads.same in
-    let j = stands.journal in
-    record {
-      journal = record {
-        settled = reads.settled j.settled;
-        file = subst (λ (i : List ℕ). HasRecords m.ledger.manager (records i) i) back j.file;
-        count = j.count ∙ ap (λ (i : List ℕ). length (records i)) back;
-        end = j.end ∙ ap (λ (i : List ℕ). size (records i)) back;
-        marks = subst (λ (i : List ℕ). All (IsMark (records i)) m.ledger.marks) back j.marks;
-      };
-      records = ap records (sym back) ∙ stands.records;
-      events = stands.events;
-    }
-
--- so it is ready as it was
-ready_read : (tells : Type 0) (m : Managed) (H : List Event) (a b : SiteState) → IsReady tells m H a → (tells → Reads a b)
-    → IsReady tells m H b
-ready_read tells m H a b ready reads = record {
-  usable = ready.usable;
-  keeps = ready.keeps;
-  stands = λ told. stands_read m H a b (ready.stands told) (reads told);
-}
-
 -- at each moment of a read a stop leaves the history
 left_read : (m : Managed) (H : List Event) (a b : SiteState) → StandsFor m H a → Reads a b → LeavesOnly (HasSome m.ledger.manager H H) a b
 left_read m H a b stands reads =
@@ -97,27 +71,13 @@ read_works tells m n H a b ready again number reads jobs =
       jobs = jobs;
     }
 
--- the manager once its journal is closed
-abbrev pub shut : Managed → Managed
-shut m = record m { ledger = record m.ledger { closed = true } }
-
-keeps_shut : (m : Managed) (H : List Event) → Keeps m H → Keeps (shut m) H
-keeps_shut m H keeps = record {
-  kept = record {
-    legal = keeps.kept.legal;
-    events = keeps.kept.events;
-    count = λ open_. absurd (true≢false open_);
-    end = λ open_. absurd (true≢false open_);
-  };
-  tables = keeps.tables;
-}
-
-broke_at_file : (tells : Type 0) (m : Managed) (H : List Event) (a b : SiteState) → IsReady tells m H a → (tells → Reads a b)
-    → WorksAtFile tells m.ledger.manager H (broke H H) (shut m) a b
-broke_at_file tells m H a b ready reads = record {
-  number = refl;
-  keeps = keeps_shut m H ready.keeps;
-  closed = refl;
+broke_at_file : (tells : Type 0) (m n : Managed) (H : List Event) (a b : SiteState) → IsReady tells m H a → Keeps n H
+    → n.ledger.closed ≡ true → n.ledger.manager ≡ m.ledger.manager → (tells → Reads a b)
+    → WorksAtFile tells m.ledger.manager H (broke H H) n a b
+broke_at_file tells m n H a b ready keeps closed number reads = record {
+  number = number;
+  keeps = keeps;
+  closed = closed;
   grows = record { to_stood = extends_refl H; to_aimed = extends_refl H; legal = ready.keeps.kept.legal };
   site = λ told.
       let left = left_read m H a b (ready.stands told) (reads told) in
@@ -129,10 +89,11 @@ broke_at_file tells m H a b ready reads = record {
 }
 
 -- where the disk fails it is work that breaks there
-broke_works : (tells : Type 0) (m : Managed) (H : List Event) (a b : SiteState) → IsReady tells m H a → (tells → Reads a b)
-    → (tells → KeepsJobs a b) → Works tells m.ledger.manager H (broke H H) (shut m) a b
-broke_works tells m H a b ready reads jobs =
-    let file = broke_at_file tells m H a b ready reads in
+broke_works : (tells : Type 0) (m n : Managed) (H : List Event) (a b : SiteState) → IsReady tells m H a → Keeps n H
+    → n.ledger.closed ≡ true → n.ledger.manager ≡ m.ledger.manager → (tells → Reads a b) → (tells → KeepsJobs a b)
+    → Works tells m.ledger.manager H (broke H H) n a b
+broke_works tells m n H a b ready keeps closed number reads jobs =
+    let file = broke_at_file tells m n H a b ready keeps closed number reads in
     record {
       number = file.number;
       keeps = file.keeps;
@@ -140,58 +101,35 @@ broke_works tells m H a b ready reads jobs =
       grows = file.grows;
       site = file.site;
       sound = λ told sound.
-          kept_sound tells m.ledger.manager H (broke H H) (shut m) a b told file (jobs told) (only_one m.ledger.manager H a sound);
+          kept_sound tells m.ledger.manager H (broke H H) n a b told file (jobs told) (only_one m.ledger.manager H a sound);
       jobs = jobs;
     }
-
--- a manager that is ready is left as ready as another that is
-left_ready : (tells : Type 0) (m n : Managed) (H : List Event) (a b : SiteState) → IsReady tells m H a → IsReady tells n H b
-    → IsLeft tells H m n b
-left_ready tells m n H a b ready again = record {
-  keeps = again.keeps;
-  closed = again.usable ∙ sym ready.usable;
-  ready = λ _. again;
-}
 
 abbrev ErrOf : ReadFault → Result Event ReadFault
 ErrOf why = Err why
 
 -- the event wasn't read back
 pub unread : (tells : Type 0) (m n : Managed) (H : List Event) (s place : ℕ) (result : Result Event ReadFault) (why : ReadFault)
-    (a b : SiteState) → result ≡ Err why → IsReady tells m H a
+    (a b : SiteState) → result ≡ Err why → IsReady tells m H a → n.ledger.manager ≡ m.ledger.manager
     → (tells → ReadsEvent H place result a b) → ((result ≡ Err reading.Disk → ⊥) → IsReady tells n H b) → KeepsOn m n
     → ((k : ℕ) → result ≡ Err (reading.BadRecord k) → k ≡ place) → (result ≡ Err reading.Disk → n.ledger.closed ≡ true)
     → ReadsBody tells m H s place (Err (delivery_fault why)) n a b
-unread tells m n H s place result (reading.BadRecord k) a b is ready reads again keeps bad closed =
-    let back = again (λ e. other k (sym is ∙ e)) in (
-      m,
-      read_works tells m m H a b ready (ready_read tells m H a b ready (λ told. (reads told).reads)) refl (λ told. (reads told).reads)
-          (λ told. (reads told).jobs),
-      left_ready tells m n H a b ready back,
-      (bad k is, λ told. (reads told).whole k is),
-    ) where
-      other : (k : ℕ) → ErrOf (reading.BadRecord k) ≡ ErrOf reading.Disk → ⊥
-      other k e = cc
-unread tells m n H s place result reading.Disk a b is ready reads again keeps bad closed = (
-  shut m,
-  broke_works tells m H a b ready (λ told. (reads told).reads) (λ told. (reads told).jobs),
-  record {
-    keeps = keeps H ready.keeps;
-    closed = closed is;
-    ready = λ open_. absurd (true≢false (sym (closed is) ∙ open_));
-  },
+unread tells m n H s place result (reading.BadRecord k) a b is ready number reads again keeps bad closed = (
+  read_works tells m n H a b ready (again (λ e. other k (sym is ∙ e))) number (λ told. (reads told).reads) (λ told. (reads told).jobs),
+  (bad k is, λ told. (reads told).whole k is),
+) where
+  other : (k : ℕ) → ErrOf (reading.BadRecord k) ≡ ErrOf reading.Disk → ⊥
+  other k e = cc
+unread tells m n H s place result reading.Disk a b is ready number reads again keeps bad closed = (
+  broke_works tells m n H a b ready (keeps H ready.keeps) (closed is) number (λ told. (reads told).reads) (λ told. (reads told).jobs),
   tt,
 )
-unread tells m n H s place result reading.Memory a b is ready reads again keeps bad closed =
-    let back = again (λ e. other (sym is ∙ e)) in (
-      m,
-      read_works tells m m H a b ready (ready_read tells m H a b ready (λ told. (reads told).reads)) refl (λ told. (reads told).reads)
-          (λ told. (reads told).jobs),
-      left_ready tells m n H a b ready back,
-      tt,
-    ) where
-      other : ErrOf reading.Memory ≡ ErrOf reading.Disk → ⊥
-      other e = cc
+unread tells m n H s place result reading.Memory a b is ready number reads again keeps bad closed = (
+  read_works tells m n H a b ready (again (λ e. other (sym is ∙ e))) number (λ told. (reads told).reads) (λ told. (reads told).jobs),
+  tt,
+) where
+  other : ErrOf reading.Memory ≡ ErrOf reading.Disk → ⊥
+  other e = cc
 
 abbrev OkOf : Event → Result Event ReadFault
 OkOf e = Ok e
@@ -201,27 +139,6 @@ pub read_well : (result : Result Event ReadFault) (e : Event) (why : ReadFault) 
 read_well result e why well ill = never (sym well ∙ ill) where
   never : OkOf e ≡ ErrOf why → ⊥
   never h = cc
-
--- the file of a site that tells is one manager's
-pub one_manager : (tells : Type 0) (m n : Managed) (H : List Event) (a b : SiteState) → HasOneHistory → Stays a → Stays b → tells
-    → m.ledger.manager < 4294967296 → n.ledger.manager < 4294967296
-    → IsReady tells m H a → IsReady tells n H b → Reads a b → n.ledger.manager ≡ m.ledger.manager
-one_manager tells m n H a b once before behind told small also ready again reads =
-    let mine = (before m H (ready.stands told)).here in
-    let its = (behind n H (again.stands told)).here in
-    (once n.ledger.manager m.ledger.manager H H b.image also small its
-    (subst (λ (i : List ℕ). HasHistory m.ledger.manager H i) (sym reads.same) mine)).0
-
--- the event was read back as another manager's
-pub read_amiss : (tells : Type 0) (m n : Managed) (H : List Event) (s place : ℕ) (a b : SiteState) → IsReady tells m H a
-    → IsReady tells n H b → (tells → Reads a b) → (tells → KeepsJobs a b) → ¬ tells
-    → ReadsBody tells m H s place (Err (fault.BadRecord place)) n a b
-read_amiss tells m n H s place a b ready again reads jobs never = (
-  m,
-  read_works tells m m H a b ready (ready_read tells m H a b ready reads) refl reads jobs,
-  left_ready tells m n H a b ready again,
-  (refl, never),
-)
 
 -- what the body is, or why there is none
 pub body_read : (tells : Type 0) (m n : Managed) (H : List Event) (s place : ℕ) (result : Result (List ℕ) DeliveryFault) (a b : SiteState)
@@ -235,15 +152,11 @@ body_read tells m n H s place (Ok body) a b ready again number reads jobs is goo
   λ told. subst (λ (k : ℕ). body_at k H s place ≡ Some body) number (is told),
 )
 body_read tells m n H s place (Err (fault.BadRecord k)) a b ready again number reads jobs is good bad disk full = (
-  m,
-  read_works tells m m H a b ready (ready_read tells m H a b ready reads) refl reads jobs,
-  left_ready tells m n H a b ready again,
+  read_works tells m n H a b ready again number reads jobs,
   (bad k refl, λ told. good told k refl),
 )
 body_read tells m n H s place (Err fault.Memory) a b ready again number reads jobs is good bad disk full = (
-  m,
-  read_works tells m m H a b ready (ready_read tells m H a b ready reads) refl reads jobs,
-  left_ready tells m n H a b ready again,
+  read_works tells m n H a b ready again number reads jobs,
   tt,
 )
 body_read tells m n H s place (Err fault.Disk) a b ready again number reads jobs is good bad disk full = absurd (disk refl)

@@ -264,8 +264,7 @@ by_course t m n p now k s made done H w u v it at still few joins idle did =
     let none : waits i H s ≡ false = ap is_some (sym still ∙ did.course.0) in
     record {
       dispatches = it.dispatches;
-      works = joins i H G (went G) n p it.works
-          (subst (λ (x : Managed). Works t.site i G (went G) x u.site v.site) did.leaves did.works);
+      works = joins i H G (went G) n p it.works did.works;
       dispatches_do = subst (λ (x : Carrier). DispatchesDo t i now H it.dispatches w.carrier x) (sym did.carries) it.dispatches_do;
       order = it.order ∙ (sym (nil_right (filter (waits i H) (take k (live_numbers H))))
           ∙ sym (front_more (waits i H) (live_numbers H) k s false at none));
@@ -281,8 +280,7 @@ by_course t m n p now k s made done H w u v it at still few joins (sent d) did =
     let less = few_dispatches (waits i H) (live_numbers H) k it.dispatches it.order in
     record {
       dispatches = d ∷ it.dispatches;
-      works = joins i H G (went (once_dispatched now G d)) n p it.works
-          (subst (λ (x : Managed). Works t.site i G (went (once_dispatched now G d)) x u.site v.site) did.leaves did.works);
+      works = joins i H G (went (once_dispatched now G d)) n p it.works did.works;
       dispatches_do = (u.carrier, it.dispatches_do, did.carries);
       order = reverse-cons d.subscription (map (λ (x : Dispatch). x.subscription) it.dispatches)
           ∙ (ap (λ (ns : List ℕ). ns ++ d.subscription ∷ []) it.order
@@ -320,9 +318,7 @@ went_through t m n now k made w v so_far over H ready =
       it.dispatches,
       through,
       record {
-        left = n;
         works = it.works;
-        leaves = refl;
         between = v.carrier;
         dispatches_do = it.dispatches_do;
         end_does = refl;
@@ -368,9 +364,7 @@ was_stopped t m n p now k s made why w u v so_far leads joins next deliver H rea
       it.dispatches,
       stopped s c why,
       record {
-        left = did.left;
-        works = joins i H G (course_work now G c (Err why)) n did.left it.works did.works;
-        leaves = did.leaves;
+        works = joins i H G (course_work now G c (Err why)) n p it.works did.works;
         between = u.carrier;
         dispatches_do = it.dispatches_do;
         end_does = (did.course, did.carries, did.room);

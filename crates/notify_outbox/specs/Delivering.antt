@@ -11,12 +11,11 @@ use Rattle.lcm_events.specs.declared.events.PostOutcome.TheVariants as outcome
 use Rattle.notice_table.specs.Queues.{first_waiting}
 use Rattle.notify_outbox.specs.Dispatches.{Dispatch, once_dispatched, outcome_of, posted_event}
 use Rattle.notify_outbox.specs.Lent.{Carrier, Lent, LentTell, Point, PostsNotice}
-use Rattle.notify_outbox.specs.Reading.{IsLeft, IsUnread, nothing_recorded}
+use Rattle.notify_outbox.specs.Reading.{IsUnread, nothing_recorded}
 use Rattle.notify_outbox.specs.declared.faults.Delivery.{Delivery}
 use Rattle.notify_outbox.specs.declared.faults.Delivery.TheVariants.{Delivered, Idle, NotTaken}
 use Rattle.notify_outbox.specs.declared.faults.DeliveryFault.{DeliveryFault}
 use Rattle.notify_outbox.specs.declared.faults.DeliveryFault.TheVariants as fault
-use Rattle.site_traits.specs.Site.{SiteState}
 
 -- How far a delivery came: no notice waits; the notice at this place wasn't posted; it was posted, and this was
 -- answered.
@@ -65,18 +64,10 @@ TellsPostRoom now H s (held place) (Err (fault.Full end more)) =
 TellsPostRoom now H s (sent p) result = HasRoomFor MAX_FILE H (posted_event now s p.place (outcome_of p.answer))
 TellsPostRoom now H s _ result = Unit {0}
 
--- the manager behind a delivery is the one that its work left; where the notice was held that is known but for its
--- number
-abbrev pub Leaves : LentTell → List Event → Course → Managed → Managed → SiteState → Type 0
-Leaves t H (held place) left n b = IsLeft t.site H left n b
-Leaves t H _ left n b = left ≡ n
-
 -- A delivery to subscription s was made at this point of a manager, which is now n, took this course, and ended so.
 pub record Delivers (t : LentTell) (p : Point) (s : ℕ) (c : Course) (result : Result Delivery DeliveryFault)
     (n : Managed) (w v : Lent) : Type 0 where
   pub course : IsCourse t p.manager p.history s c result
   pub carries : Carries t p.manager p.history c w.carrier v.carrier
-  pub left : Managed
-  pub works : Works t.site p.manager p.history (course_work p.moment p.history c result) left w.site v.site
-  pub leaves : Leaves t p.history c left n v.site
+  pub works : Works t.site p.manager p.history (course_work p.moment p.history c result) n w.site v.site
   pub room : TellsPostRoom p.moment p.history s c result

@@ -1,6 +1,6 @@
 -- What reading the event of a notice back does, and gives.
-use Rattle.std.specs.Prelude.{Err, List, Ok, Result, Some, false, ℕ, ◌≡◌}
-use Rattle.executor.specs.Managed.{IsReady, Keeps, Managed}
+use Rattle.std.specs.Prelude.{Err, List, Ok, Result, Some, ℕ, ◌≡◌}
+use Rattle.executor.specs.Managed.{Managed}
 use Rattle.executor.specs.Work.{Work, Works, broke, went}
 use Rattle.lcm_events.specs.declared.events.Event.{Event}
 use Rattle.notify_outbox.specs.Dispatches.{body_at}
@@ -13,13 +13,6 @@ use Rattle.site_traits.specs.Site.{SiteState}
 abbrev pub nothing_recorded : List Event → DeliveryFault → Work
 nothing_recorded H fault.Disk = broke H H
 nothing_recorded H _ = went H
-
--- What is known of a manager behind reading back that ended in a fault: it keeps the history that stands, and is closed
--- or ready for more as the work says. Whose manager it is then isn't told by reading back.
-pub record IsLeft (tells : Type 0) (H : List Event) (left n : Managed) (b : SiteState) : Type 0 where
-  pub keeps : Keeps n H
-  pub closed : n.ledger.closed ≡ left.ledger.closed
-  pub ready : n.ledger.closed ≡ false → IsReady tells n H b
 
 -- why a notice wasn't read: its record, which a site that tells has; the disk; or want of memory
 abbrev pub IsUnread : Type 0 → ℕ → DeliveryFault → Type 0
@@ -35,5 +28,4 @@ abbrev pub ReadsBody : Type 0 → Managed → List Event → ℕ → ℕ → Res
 ReadsBody tells m H s place (Ok body) n a b =
     Works tells m.ledger.manager H (went H) n a b × (tells → body_at m.ledger.manager H s place ≡ Some body)
 ReadsBody tells m H s place (Err why) n a b =
-    (left : Managed) × Works tells m.ledger.manager H (nothing_recorded H why) left a b × IsLeft tells H left n b
-    × IsUnread tells place why
+    Works tells m.ledger.manager H (nothing_recorded H why) n a b × IsUnread tells place why

@@ -8,7 +8,7 @@ use Rattle.instance_table.specs.Rows.{subscription_rows}
 use Rattle.lcm_events.specs.declared.events.Event.{Event}
 use Rattle.lcm_model.specs.Notices.{is_delivered}
 use Rattle.notice_table.specs.Queues.{first_waiting}
-use Rattle.notify_outbox.specs.Delivering.{Carries, Course, IsCourse, Leaves, TellsPostRoom, course_work}
+use Rattle.notify_outbox.specs.Delivering.{Carries, Course, IsCourse, TellsPostRoom, course_work}
 use Rattle.notify_outbox.specs.Dispatches.{Dispatch, once_dispatched, outcome_of}
 use Rattle.notify_outbox.specs.Lent.{Carrier, Lent, LentTell, Point, PostsNotice}
 use Rattle.notify_outbox.specs.declared.faults.Delivery.{Delivery}
@@ -16,7 +16,6 @@ use Rattle.notify_outbox.specs.declared.faults.Delivery.TheVariants.{Delivered, 
 use Rattle.notify_outbox.specs.declared.faults.DeliveryFault.{DeliveryFault}
 use Rattle.notify_outbox.specs.declared.rounds.Deliveries.{Deliveries}
 use Rattle.site_traits.specs.Counts.{one_more}
-use Rattle.site_traits.specs.Site.{SiteState}
 
 -- the numbers of the live subscriptions, the least first (SOL 003 5.4.18)
 abbrev pub live_numbers : List Event → List ℕ
@@ -59,11 +58,6 @@ EndDoes t m now H through a b = b ≡ a
 EndDoes t m now H (stopped s c why) a b = IsCourse t m H s c (Err why) × Carries t m H c a b
     × TellsPostRoom now H s c (Err why)
 
--- the manager behind the end of a round
-abbrev pub EndLeaves : LentTell → List Event → RoundEnd → Managed → Managed → SiteState → Type 0
-EndLeaves t H through left n b = left ≡ n
-EndLeaves t H (stopped s c why) left n b = Leaves t H c left n b
-
 -- the numbers of the subscriptions to which these were dispatched, the first one first
 abbrev pub numbers_of : List Dispatch → List ℕ
 numbers_of ps = reverse (map (λ p. p.subscription) ps)
@@ -102,10 +96,8 @@ EndsRound _ ps _ = ⊥
 -- for the subscriptions for which a notice waits there, in order, each behind what those before it left.
 pub record DeliversAll (t : LentTell) (p : Point) (ps : List Dispatch) (end : RoundEnd) (n : Managed)
     (w v : Lent) : Type 0 where
-  pub left : Managed
-  pub works : Works t.site p.manager p.history (end_work p.moment (once_all_dispatched p.moment p.history ps) end) left
+  pub works : Works t.site p.manager p.history (end_work p.moment (once_all_dispatched p.moment p.history ps) end) n
       w.site v.site
-  pub leaves : EndLeaves t (once_all_dispatched p.moment p.history ps) end left n v.site
   pub between : Carrier
   pub dispatches_do : DispatchesDo t p.manager p.moment p.history ps w.carrier between
   pub end_does : EndDoes t p.manager p.moment (once_all_dispatched p.moment p.history ps) end between v.carrier

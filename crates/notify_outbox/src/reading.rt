@@ -14,7 +14,7 @@ ghost use Rattle.site_traits.specs.Counts.{OnlyDiskFails};
 ghost use Rattle.vnfm_base.specs.Ident.{IsIdentNumber};
 
 use crate::faults::DeliveryFault;
-use executor::{Manager, a_file_has_one_history, works_add_up};
+use executor::Manager;
 use lcm_events::{Event, EventKind, OpState};
 use lcm_model::op_kind;
 use notice_views::{Notice, Subject, notice_body};
@@ -47,14 +47,7 @@ pub fn read_body<S: Site>(
         → ReadsBody S.tells manager.old H subscription place result manager.new (S.state site.old) (S.state site.new) }
     ensures disk { OnlyDiskFails (result ≡ Err DeliveryFault.Disk) (S.counts site.old) (S.counts site.new) }
 {
-    a_file_has_one_history();
-    works_add_up::<S>();
-    let number = manager.number();
     let event = manager.event_at(alloc, site, place)?;
-    // That the number stays isn't told by reading back, where the site doesn't tell its content.
-    if manager.number() != number {
-        return Err(DeliveryFault::BadRecord(place));
-    }
     body_of(alloc, manager, subscription, place, &event)
 }
 

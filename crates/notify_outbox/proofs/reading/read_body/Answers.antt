@@ -21,24 +21,13 @@ returns-in_err-event-clause-reads g c = λ H ready waits.
     let err = err_from_is_err_and c.from_residual.result c.from_residual.ensures.1 in
     rw (err.1 ∙ ap Err err.2)
     (unread _ _ _ H c.args.subscription c.args.place c.event_at.result c.in_err-event.field-0.0 _ _
-    c.in_err-event.was ready (c.event_at.ensures.reads H ready)
+    c.in_err-event.was ready c.event_at.ensures.number (c.event_at.ensures.reads H ready)
     (c.event_at.ensures.ready H ready) c.event_at.ensures.keeps c.event_at.ensures.bad c.event_at.ensures.closed)
-
-pub returns-then-number-clause-reads : goal.returns-then-number-clause-reads
-returns-then-number-clause-reads g c = λ H ready waits.
-    let again = c.event_at.ensures.ready H ready (λ e. read_well c.event_at.result _ _ c.in_ok-event.was e) in
-    let number = subst (λ (k : ℕ). k < 4294967296) c.number-number.ensures c.number-number.type_inv in
-    let later = subst (λ (k : ℕ). k < 4294967296) c.number.ensures c.number.type_inv in
-    read_amiss _ _ _ H c.args.subscription _ _ _ ready again (λ told. (c.event_at.ensures.reads H ready told).reads)
-    (λ told. (c.event_at.ensures.reads H ready told).jobs)
-    (λ told. c.if-number.true (c.number.ensures ∙ (one_manager _ _ _ H _ _ c.a_file_has_one_history.ensures
-    (c.works_add_up.ensures.stays c.args.site.now) (c.works_add_up.ensures.stays c.event_at.new.site) told number later ready again
-    (c.event_at.ensures.reads H ready told).reads ∙ sym c.number-number.ensures)))
 
 pub returns-clause-reads : goal.returns-clause-reads
 returns-clause-reads g c = λ H ready waits.
     let again = c.event_at.ensures.ready H ready (λ e. read_well c.event_at.result _ _ c.in_ok-event.was e) in
-    let same = sym c.number.ensures ∙ (c.if-number.false ∙ c.number-number.ensures) in
+    let same = c.event_at.ensures.number in
     let still = subst (λ (k : ℕ). first_waiting k H c.args.subscription ≡ Some c.args.place) (sym same) waits in
     body_read _ _ _ H _ _ c.body_of.result _ _ ready again same (λ told. (c.event_at.ensures.reads H ready told).reads)
     (λ told. (c.event_at.ensures.reads H ready told).jobs)

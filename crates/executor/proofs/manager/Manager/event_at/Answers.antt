@@ -34,3 +34,6 @@ returns-clause-keeps g c = λ H keeps.
     let begins = rw (← c.self.view_is) at c.requires.ready in
     let kept = rw (← c.self.view_is) at keeps in
     keeps_read m n begins.1.usable c.in_ok-read_back.ensures.kept refl H kept
+
+pub returns-clause-number : goal.returns-clause-number
+returns-clause-number g c = rw (← c.self.view_is) (c.in_ok-read_back.ensures.kept.manager)
