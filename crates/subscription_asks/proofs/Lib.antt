@@ -1,1 +1,2 @@
+mod FilterLemmas
 pub mod SizeLemmas

@@ -4,5 +4,5 @@
 mod records;
 mod refusals;
 
-pub use records::subscribed_events_fit_records;
+pub use records::{asked_filters_are_small, subscribed_events_fit_records};
 pub use refusals::{SubscriptionRefusal, content_refusal, is_http_uri};
