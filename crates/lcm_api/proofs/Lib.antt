@@ -5,4 +5,5 @@ mod InstanceLemmas
 mod OccurrenceLemmas
 mod PlanLemmas
 mod StepLemmas
+mod SubscriptionLemmas
 mod TaskLemmas

@@ -13,4 +13,5 @@ pub mod Planning
 pub mod Recording
 pub mod Refusals
 pub mod Routes
+pub mod Subscriptions
 pub mod Tasks

@@ -11,11 +11,13 @@ use Rattle.lcm_api.specs.Occurrences.{list_occurrences, show_occurrence}
 use Rattle.lcm_api.specs.Planning.{Outcome, in_room, refused, told}
 use Rattle.lcm_api.specs.declared.record.Planned.{Planned}
 use Rattle.lcm_api.specs.Routes.{not_allowed, routing}
+use Rattle.lcm_api.specs.Subscriptions.{create_subscription, end_subscription, list_subscriptions, show_subscription}
 use Rattle.lcm_api.specs.Tasks.{occurrence_task}
 use Rattle.lcm_api.specs.declared.route.Route.{Route}
 use Rattle.lcm_api.specs.declared.route.Route.TheVariants.{ListInstances, CreateInstance, ShowInstance, DeleteInstance}
 use Rattle.lcm_api.specs.declared.route.Route.TheVariants.{InstanceTask, ListOccurrences, ShowOccurrence}
-use Rattle.lcm_api.specs.declared.route.Route.TheVariants.{OccurrenceTask}
+use Rattle.lcm_api.specs.declared.route.Route.TheVariants.{OccurrenceTask, ListSubscriptions, CreateSubscription}
+use Rattle.lcm_api.specs.declared.route.Route.TheVariants.{ShowSubscription, EndSubscription}
 use Rattle.lcm_api.specs.declared.route.Routing.{Routing}
 use Rattle.lcm_api.specs.declared.route.Routing.TheVariants.{Nowhere, NotAllowed, Served}
 
@@ -29,6 +31,10 @@ served (InstanceTask kind) m H now role r = instance_task m H now role kind r
 served ListOccurrences m H now role r = list_occurrences m H r
 served ShowOccurrence m H now role r = show_occurrence m H r
 served (OccurrenceTask task) m H now role r = occurrence_task m H now task r
+served ListSubscriptions m H now role r = list_subscriptions m H role r
+served CreateSubscription m H now role r = create_subscription m H now role r
+served ShowSubscription m H now role r = show_subscription m H role r
+served EndSubscription m H now role r = end_subscription m H now role r
 
 -- what a request that goes there comes to, where there is room for its event
 abbrev pub routed : Routing → ℕ → List Event → ℕ → Role → Request → Planned

@@ -9,7 +9,8 @@ use Rattle.lcm_routes.specs.Paths.{resource_of}
 use Rattle.lcm_routes.specs.Targets.{path_of}
 use Rattle.lcm_routes.specs.declared.resources.Resource.{Resource}
 use Rattle.lcm_routes.specs.declared.resources.Resource.TheVariants.{Instances, Instance, InstanceTask, Occurrences}
-use Rattle.lcm_routes.specs.declared.resources.Resource.TheVariants.{Occurrence, OccurrenceTask}
+use Rattle.lcm_routes.specs.declared.resources.Resource.TheVariants.{Occurrence, OccurrenceTask, Subscription}
+use Rattle.lcm_routes.specs.declared.resources.Resource.TheVariants.{Subscriptions}
 use Rattle.lcm_replies.specs.declared.reply.Reply.{Reply}
 use Rattle.lcm_api.specs.declared.route.Route.{Route}
 use Rattle.lcm_api.specs.declared.route.Route.TheVariants as routes
@@ -24,7 +25,7 @@ pub record Method : Type 0 where
 abbrev pub by : List ℕ → Route → Method
 by name route = record { name = name; route = route }
 
--- the methods of each resource that is served, in byte order (SOL 003 5.4.2.3 to 5.4.17.3)
+-- the methods of each resource, in byte order (SOL 003 5.4.2.3 to 5.4.19.3)
 abbrev pub methods : Resource → List Method
 methods Instances = by (codes "GET") routes.ListInstances ∷ by (codes "POST") routes.CreateInstance ∷ []
 methods Instance = by (codes "DELETE") routes.DeleteInstance ∷ by (codes "GET") routes.ShowInstance ∷ []
@@ -32,17 +33,14 @@ methods (InstanceTask kind) = by (codes "POST") (routes.InstanceTask kind) ∷ [
 methods Occurrences = by (codes "GET") routes.ListOccurrences ∷ []
 methods Occurrence = by (codes "GET") routes.ShowOccurrence ∷ []
 methods (OccurrenceTask task) = by (codes "POST") (routes.OccurrenceTask task) ∷ []
-methods _ = []
+methods Subscriptions = by (codes "GET") routes.ListSubscriptions ∷ by (codes "POST") routes.CreateSubscription ∷ []
+methods Subscription = by (codes "DELETE") routes.EndSubscription ∷ by (codes "GET") routes.ShowSubscription ∷ []
 
--- where a request with this method to a resource with these methods goes: a resource without a method isn't served yet
-abbrev pub routing_in : Resource → List ℕ → List Method → Routing
-routing_in x name [] = Nowhere
-routing_in x name (first ∷ rest) = option_map_or (λ method. Served method.route)
-    (find (λ method. bytes_eq name method.name) (first ∷ rest)) (NotAllowed x)
-
+-- where a request with this method to a resource goes
 abbrev pub routing_to : List ℕ → Option Resource → Routing
 routing_to name None = Nowhere
-routing_to name (Some x) = routing_in x name (methods x)
+routing_to name (Some x) = option_map_or (λ method. Served method.route)
+    (find (λ method. bytes_eq name method.name) (methods x)) (NotAllowed x)
 
 -- where a request goes
 abbrev pub routing : Request → Routing

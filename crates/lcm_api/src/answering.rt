@@ -12,7 +12,7 @@ ghost use Rattle.site_traits.specs.Counts.{OnlyDiskFails};
 use crate::create::create;
 use crate::record::{Planned, carry_out};
 use crate::route::{Route, Routing, not_allowed, route_of};
-use crate::{asks, instances, occurrences, tasks};
+use crate::{asks, instances, occurrences, subscribing, subscriptions, tasks};
 use executor::{Manager, works_add_up};
 use http_wire::Request;
 use lcm_events::Role;
@@ -110,6 +110,10 @@ fn plan_on<S: Site>(
         Route::ListOccurrences => occurrences::list(alloc, manager, request),
         Route::ShowOccurrence => occurrences::show(alloc, manager, request),
         Route::OccurrenceTask(task) => tasks::task(alloc, manager, task, request, now),
+        Route::ListSubscriptions => subscriptions::list(alloc, manager, role, request),
+        Route::CreateSubscription => subscribing::create(alloc, manager, role, request, now),
+        Route::ShowSubscription => subscriptions::show(alloc, manager, role, request),
+        Route::EndSubscription => subscriptions::end(alloc, manager, role, request, now),
     }
 }
 

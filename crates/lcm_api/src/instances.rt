@@ -145,9 +145,9 @@ fn deletion(moment: Moment, instance: u64) -> Event
     }
 }
 
-/// The answer to a deletion.
+/// The answer to a deletion, also of a subscription.
 #[tactic(auto, unfolding(crate::specs::Instances::deleted))]
-fn deleted(alloc: Global, last: bool) -> Reply
+pub fn deleted(alloc: Global, last: bool) -> Reply
     ensures { result ≡ deleted last }
 {
     Reply {

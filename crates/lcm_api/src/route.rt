@@ -13,7 +13,7 @@ use vnfm_base::Name;
 
 /// What a request asks for.
 ///
-/// Source: SOL 003 5.4.2.3 to 5.4.17.3.
+/// Source: SOL 003 5.4.2.3 to 5.4.19.3.
 #[derive(Clone, Copy, PartialEq, Eq)]
 pub enum Route {
     /// It lists the instances.
@@ -32,6 +32,14 @@ pub enum Route {
     ShowOccurrence,
     /// It asks for this task of an occurrence.
     OccurrenceTask(Task),
+    /// It lists the subscriptions of the asking role.
+    ListSubscriptions,
+    /// It subscribes.
+    CreateSubscription,
+    /// It shows a subscription.
+    ShowSubscription,
+    /// It ends a subscription.
+    EndSubscription,
 }
 
 /// Where a request goes.
@@ -89,7 +97,16 @@ fn routing_to(resource: Resource, method: &str) -> Routing
             "POST" => Routing::Served(Route::OccurrenceTask(task)),
             _ => Routing::NotAllowed(resource),
         },
-        Resource::Subscriptions | Resource::Subscription => Routing::Nowhere,
+        Resource::Subscriptions => match method {
+            "GET" => Routing::Served(Route::ListSubscriptions),
+            "POST" => Routing::Served(Route::CreateSubscription),
+            _ => Routing::NotAllowed(resource),
+        },
+        Resource::Subscription => match method {
+            "DELETE" => Routing::Served(Route::EndSubscription),
+            "GET" => Routing::Served(Route::ShowSubscription),
+            _ => Routing::NotAllowed(resource),
+        },
     }
 }
 
@@ -109,11 +126,10 @@ fn allow_text(resource: Resource) -> &'static str
     ensures label { is_label result.now ≡ true }
 {
     match resource {
-        Resource::Instances => "GET, POST",
-        Resource::Instance => "DELETE, GET",
+        Resource::Instances | Resource::Subscriptions => "GET, POST",
+        Resource::Instance | Resource::Subscription => "DELETE, GET",
         Resource::InstanceTask(_) | Resource::OccurrenceTask(_) => "POST",
         Resource::Occurrences | Resource::Occurrence => "GET",
-        Resource::Subscriptions | Resource::Subscription => "",
     }
 }
 

@@ -60,6 +60,18 @@ use Rattle.lcm_routes.specs.declared.resources.Resource.{Resource}
 use Rattle.lcm_api.specs.declared.route.Route.{Route}
 use Rattle.lcm_api.specs.declared.route.Route.TheVariants.{ListInstances, CreateInstance, ShowInstance, DeleteInstance, InstanceTask}
 use Rattle.lcm_api.specs.declared.route.Route.TheVariants.{ListOccurrences, ShowOccurrence, OccurrenceTask}
+use Rattle.lcm_api.specs.declared.route.Route.TheVariants.{ListSubscriptions, CreateSubscription, ShowSubscription, EndSubscription}
+use Rattle.instance_table.specs.Rows.{subscription_rows}
+use Rattle.json_bodies.proofs.ByteLemmas.{subscription_of_bytes}
+use Rattle.json_bodies.specs.Subscribing.{subscription_of}
+use Rattle.json_bodies.specs.declared.subscribing.SubscriptionBody.{SubscriptionBody}
+use Rattle.json_views.specs.Subscription.{subscription_text, subscriptions_text}
+use Rattle.lcm_model.specs.Lives.{Subscription, live_subscriptions, subscriptions_made}
+use Rattle.lcm_model.specs.declared.limits.TheConstants.{MAX_SUBSCRIPTIONS}
+use Rattle.lcm_api.specs.Subscriptions.{content_text, create_subscription, end_subscribed, list_subscriptions, named_subscription}
+use Rattle.lcm_api.specs.Subscriptions.{show_subscribed, subscribe_judged, subscribe_read, subscribed, subscription_asked}
+use Rattle.subscription_asks.specs.Refusals.{content_refusal}
+use Rattle.subscription_asks.specs.declared.refusals.SubscriptionRefusal.{SubscriptionRefusal}
 use Rattle.lcm_api.specs.declared.route.Routing.{Routing}
 use Rattle.lcm_api.specs.declared.route.Routing.TheVariants.{Nowhere, NotAllowed, Served}
 use Rattle.executor.specs.Room.{is_full}
@@ -271,6 +283,53 @@ occurrence_task_ends m H now tasks.Rollback r = task_named_ends m H now Rollback
 occurrence_task_ends m H now tasks.Fail r = task_named_ends m H now Fail r
 occurrence_task_ends m H now tasks.Cancel r = cancel_ends m H now r
 
+list_subscriptions_ends : (m : ℕ) (H : List Event) (role : Role) (r : Request) → EndsAs r.last (list_subscriptions m H role r)
+list_subscriptions_ends m H role r =
+    elim (asks_filter r.target) as (λ filtered. EndsAs r.last (if filtered then refused 400 (codes "filter is not served") r.last
+    else told (shown (subscriptions_text m role (subscription_rows H)) r.last))) [
+      | true ↦ refusal_ends 400 (codes "filter is not served") r.last
+      | false ↦ shown_ends (subscriptions_text m role (subscription_rows H)) r.last
+    ]
+
+show_subscribed_ends : (m : ℕ) (last : Bool) (found : Option Subscription) → EndsAs last (show_subscribed m last found)
+show_subscribed_ends m last None = refusal_ends 404 (codes "no such subscription") last
+show_subscribed_ends m last (Some x) = shown_ends (subscription_text m x.number x.callback x.filter) last
+
+end_subscribed_ends : (now : ℕ) (last : Bool) (found : Option Subscription) → EndsAs last (end_subscribed now last found)
+end_subscribed_ends now last None = refusal_ends 404 (codes "no such subscription") last
+end_subscribed_ends now last (Some x) = deletion_ends last
+
+subscribed_ends : (m n : ℕ) (body : SubscriptionBody) (last : Bool) → (subscribed m n body last).last ≡ last
+unfolding subscribed
+subscribed_ends m n body last = refl
+
+subscribe_judged_ends : (m : ℕ) (H : List Event) (now : ℕ) (role : Role) (body : SubscriptionBody) (last : Bool)
+    (why : Option SubscriptionRefusal) → EndsAs last (subscribe_judged m H now role body last why)
+subscribe_judged_ends m H now role body last (Some why) = refusal_ends 422 (content_text why) last
+subscribe_judged_ends m H now role body last None =
+    elim (nat_le MAX_SUBSCRIPTIONS (length (live_subscriptions H role))) as (λ crowded.
+    EndsAs last (if crowded then refused 507 (codes "too many subscriptions") last
+    else Records (subscription_asked H now role body) (subscribed m (subscriptions_made H + 1) body last))) [
+      | true ↦ refusal_ends 507 (codes "too many subscriptions") last
+      | false ↦ subscribed_ends m (subscriptions_made H + 1) body last
+    ]
+
+subscribe_read_ends : (m : ℕ) (H : List Event) (now : ℕ) (role : Role) (body : Result SubscriptionBody BodyFault) (last : Bool)
+    → IsOfBytes body → EndsAs last (subscribe_read m H now role body last)
+subscribe_read_ends m H now role (Ok body) last is = subscribe_judged_ends m H now role body last (content_refusal body)
+subscribe_read_ends m H now role (Err Malformed) last is = refusal_ends 400 (codes "malformed JSON") last
+subscribe_read_ends m H now role (Err (Lacks name)) last is = refusal_ends 400 (codes "missing " ++ name) last
+subscribe_read_ends m H now role (Err (Wrong name)) last is = refusal_ends 400 (codes "bad " ++ name) last
+subscribe_read_ends m H now role (Err Memory) last is = absurd is
+
+subscription_ends : (m : ℕ) (H : List Event) (now : ℕ) (role : Role) (r : Request) → EndsAs r.last (create_subscription m H now role r)
+subscription_ends m H now role r =
+    elim (is_json r.media) as (λ json. EndsAs r.last (if json then subscribe_read m H now role (subscription_of r.body) r.last
+    else refused 415 (codes "body must be application/json") r.last)) [
+      | true ↦ subscribe_read_ends m H now role (subscription_of r.body) r.last (subscription_of_bytes r.body)
+      | false ↦ refusal_ends 415 (codes "body must be application/json") r.last
+    ]
+
 served_ends : (route : Route) (m : ℕ) (H : List Event) (now : ℕ) (role : Role) (r : Request) → EndsAs r.last (served route m H now role r)
 served_ends ListInstances m H now role r = list_ends m H r
 served_ends CreateInstance m H now role r = create_ends m H now r
@@ -280,6 +339,10 @@ served_ends (InstanceTask kind) m H now role r = task_ends m H now role kind r
 served_ends ListOccurrences m H now role r = list_occurrences_ends m H r
 served_ends ShowOccurrence m H now role r = show_asked_ends m H r.last (named_operation m H (asked_id r))
 served_ends (OccurrenceTask task) m H now role r = occurrence_task_ends m H now task r
+served_ends ListSubscriptions m H now role r = list_subscriptions_ends m H role r
+served_ends CreateSubscription m H now role r = subscription_ends m H now role r
+served_ends ShowSubscription m H now role r = show_subscribed_ends m r.last (named_subscription m H role (asked_id r))
+served_ends EndSubscription m H now role r = end_subscribed_ends now r.last (named_subscription m H role (asked_id r))
 
 routed_ends : (to : Routing) (m : ℕ) (H : List Event) (now : ℕ) (role : Role) (r : Request) → EndsAs r.last (routed to m H now role r)
 routed_ends Nowhere m H now role r = refusal_ends 404 (codes "no such resource") r.last
