@@ -142,9 +142,9 @@ class Journal:
     def settle(self, attempt, outcome, change=0):
         self.put(SETTLED, self.tag(attempt, change) + outcome)
 
-    def subscribe(self, role=0, values=0):
+    def subscribe(self, role=0, values=0, callback="http://receiver.example/"):
         self.subscription += 1
-        self.put(SUBSCRIBED, u64(self.subscription) + u8(role) + line("http://receiver.example/") + filter_of(values))
+        self.put(SUBSCRIBED, u64(self.subscription) + u8(role) + line(callback) + filter_of(values))
 
     def live(self, subscribes):
         """The whole life of an instance, which maybe has a subscription of its own."""
